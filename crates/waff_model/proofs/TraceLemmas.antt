@@ -1,0 +1,45 @@
+-- A trace with one message more.
+use Rattle.std.proofs.Common.{◌≡◌, ℕ, zero, suc, ◌<◌, ◌==◌, Bool, true, List, [], ◌∷◌, ◌++◌, length, slice_index, arith, length-append, subst, refl, eq-eqb}
+use Rattle.std.specs.List.{list_all, zip}
+use Rattle.std.proofs.lemmas.Bool.{and_parts}
+use Rattle.std.proofs.lemmas.Bool.Decides.{nat_tests}
+use Rattle.std.proofs.lemmas.List.Elements.{All-push}
+use Rattle.waff_model.specs.declared.limits.TheConstants.{MAX_MESSAGES}
+use Rattle.waff_model.specs.declared.message.Message.{Message}
+use Rattle.waff_model.specs.declared.cell.Cell.{Cell}
+use Rattle.waff_model.specs.Cells.{LiesIn}
+use Rattle.waff_model.specs.Layout.{Space, IsCell, size_at}
+use Rattle.waff_model.specs.Messages.{Arrivals, IsMessage, IsTrace, sizes_of}
+
+pub is_trace-push : (trace : Arrivals) (message : Message) → IsTrace trace → IsMessage trace.version trace.sizes message → length trace.messages < MAX_MESSAGES → IsTrace (record trace { messages = trace.messages ++ message ∷ [] })
+is_trace-push trace message is_trace is_message room = record {
+  messages = All-push (IsMessage trace.version trace.sizes) trace.messages message is_trace.messages is_message;
+  few = omega (arith, length-append trace.messages (message ∷ []));
+}
+
+abbrev has_size : ℕ × Space → Bool
+has_size pair = pair.0 == pair.1.size
+
+-- sizes that pass one by one are the sizes of the spaces
+pub sizes_pass : (sizes : List ℕ) (spaces : List Space) → length sizes ≡ length spaces → list_all has_size (zip sizes spaces) ≡ true → sizes ≡ sizes_of spaces
+sizes_pass [] [] same pass = refl
+sizes_pass [] (space ∷ spaces) same pass = absurd (omega arith)
+sizes_pass (size ∷ sizes) [] same pass = absurd (omega arith)
+sizes_pass (size ∷ sizes) (space ∷ spaces) same pass =
+    let parts = and_parts (size == space.size) (list_all has_size (zip sizes spaces)) pass in
+    let here : size ≡ space.size = grind (arith, nat_tests, parts.0) in
+    let more : sizes ≡ sizes_of spaces = sizes_pass sizes spaces (omega arith) parts.1 in
+    cc
+
+pub sizes_of-pass : (spaces : List Space) → list_all has_size (zip (sizes_of spaces) spaces) ≡ true
+sizes_of-pass [] = refl
+sizes_of-pass (space ∷ spaces) = rw (eq-eqb space.size space.size refl) (sizes_of-pass spaces)
+
+slice_index-sizes_of : (spaces : List Space) (s : ℕ) → slice_index (sizes_of spaces) s ≡ size_at spaces s
+slice_index-sizes_of [] s = refl
+slice_index-sizes_of (space ∷ spaces) zero = refl
+slice_index-sizes_of (space ∷ spaces) (suc s) = slice_index-sizes_of spaces s
+
+-- a cell that lies in spaces of these sizes is a cell of the spaces
+pub lies_in-sizes_of : (spaces : List Space) (cell : Cell) → LiesIn (sizes_of spaces) cell → IsCell spaces cell
+lies_in-sizes_of spaces cell lies = subst (λ n. cell.index < n) (slice_index-sizes_of spaces cell.space) lies

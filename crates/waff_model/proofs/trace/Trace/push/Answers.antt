@@ -1,0 +1,12 @@
+use Rattle.std.proofs.Common.{◌<◌, length, subst, sym}
+use Rattle.waff_model.specs.declared.limits.TheConstants.{MAX_MESSAGES}
+use Rattle.waff_model.specs.Messages.{Arrivals, IsMessage}
+use Rattle.waff_model.proofs.TraceLemmas.{is_trace-push}
+use Rattle.waff_model.proofs.trace.Trace.push.Goals as goal
+
+pub invariant_of-self-2 : goal.invariant_of-self-2
+invariant_of-self-2 c =
+    let here = sym c.self.view_is in
+    rw c.in_ok-push.ensures.items (is_trace-push _ c.args.message c.self.invariant
+    (subst (λ (t : Arrivals). IsMessage t.version t.sizes c.args.message) here c.requires.message)
+    (subst (λ (t : Arrivals). length t.messages < MAX_MESSAGES) here c.requires.room))

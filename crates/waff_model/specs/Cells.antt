@@ -1,0 +1,21 @@
+use Rattle.std.specs.Prelude.{ℕ, ◌<◌, List, [], ◌∷◌, slice_index}
+use Rattle.std.specs.List.{flat_map}
+use Rattle.waff_model.specs.declared.cell.Cell.{Cell}
+use Rattle.waff_model.specs.declared.op.Op.{Op}
+use Rattle.waff_model.specs.declared.op.Op.TheVariants.{Set, Add, Copy, Swap, Read}
+
+-- the cells that an operation names
+abbrev pub cells_of_op : Op → List Cell
+cells_of_op (Set cell value) = cell ∷ []
+cells_of_op (Add cell value) = cell ∷ []
+cells_of_op (Copy cell source) = cell ∷ source ∷ []
+cells_of_op (Swap cell other) = cell ∷ other ∷ []
+cells_of_op (Read cell) = cell ∷ []
+
+-- the cells that operations name, in order
+abbrev pub cells_of : List Op → List Cell
+cells_of ops = flat_map cells_of_op ops
+
+-- the cell lies in spaces of these sizes: its space is one of them, and its index is below the size
+abbrev pub LiesIn : List ℕ → Cell → Type 0
+LiesIn sizes cell = cell.index < slice_index sizes cell.space

@@ -1,0 +1,64 @@
+use Rattle.std.specs.Prelude.{◌≢◌, ℕ, ◌/◌, ◌%◌, ◌<◌, ◌≤◌, IsTrue, List, length, Option, option_map, unwrap_or, slice_get, slice_index, position, sum_by, All, AllPairs}
+use Rattle.std.specs.Str.{bytes_eq}
+use Rattle.waff_model.specs.Names.{is_name}
+use Rattle.waff_model.specs.Tree.{Node, IsTree}
+use Rattle.waff_model.specs.declared.limits.TheConstants.{MAX_SPACES, MAX_SIZE, MAX_CELLS, MAX_UNIT, MAX_OWNERS}
+use Rattle.waff_model.specs.declared.cell.Cell.{Cell}
+use Rattle.waff_model.specs.declared.kind.Kind.{Kind}
+
+-- a space of cells with its map: runs of `unit` cells go to the affinities of `to` in turn, over and over
+pub record Space : Type 0 where
+  pub name : List ℕ
+  pub size : ℕ
+  pub unit : ℕ
+  pub to : List ℕ
+
+-- what a layout stands for: its kind, its tree of affinities, and its spaces, numbered from 0
+pub record Hierarchy : Type 0 where
+  pub kind : Kind
+  pub tree : List Node
+  pub spaces : List Space
+
+-- the name of the space s
+abbrev pub name_at : List Space → ℕ → Option (List ℕ)
+name_at spaces s = option_map (λ space. space.name) (slice_get spaces s)
+
+-- the size of the space s, and 0 where there is no such space
+abbrev pub size_at : List Space → ℕ → ℕ
+size_at spaces s = unwrap_or (option_map (λ space. space.size) (slice_get spaces s)) 0
+
+-- the number of the space with this name
+abbrev pub space_named : List Space → List ℕ → Option ℕ
+space_named spaces name = position (λ space. bytes_eq name space.name) spaces
+
+-- the cell lies in one of the spaces: its index is below the size of its space
+abbrev pub IsCell : List Space → Cell → Type 0
+IsCell spaces cell = cell.index < size_at spaces cell.space
+
+-- the owner of the cell with this index: `to[(index / unit) mod len(to)]`
+abbrev pub owner_at : Space → ℕ → ℕ
+owner_at space index = slice_index space.to ((index / space.unit) % length space.to)
+
+-- the affinity that owns the cell
+abbrev pub owner_of : List Space → Cell → ℕ
+owner_of spaces cell = unwrap_or (option_map (λ space. owner_at space cell.index) (slice_get spaces cell.space)) 0
+
+-- a space whose numbers are within the limits, and whose owners are affinities of the tree
+pub record IsSpace (tree : List Node) (space : Space) : Type 0 where
+  pub named : IsTrue (is_name space.name)
+  pub filled : 0 < space.size
+  pub size : space.size ≤ MAX_SIZE
+  pub whole : 0 < space.unit
+  pub unit : space.unit ≤ MAX_UNIT
+  pub owned : 0 < length space.to
+  pub owners : length space.to ≤ MAX_OWNERS
+  pub affinities : All (λ a. a < length tree) space.to
+
+-- a layout: a tree, and spaces of different names over it, within the limits
+pub record IsLayout (layout : Hierarchy) : Type 0 where
+  pub tree : IsTree layout.tree
+  pub some : 0 < length layout.spaces
+  pub few : length layout.spaces ≤ MAX_SPACES
+  pub each : All (IsSpace layout.tree) layout.spaces
+  pub different : AllPairs (λ s t. s.name ≢ t.name) layout.spaces
+  pub cells : sum_by (λ s. s.size) layout.spaces ≤ MAX_CELLS

@@ -1,0 +1,39 @@
+use Rattle.std.specs.Prelude.{ℕ, List, [], Option, Some, None, option_map, unwrap_or, map, find, Result, Ok, Err}
+use Rattle.std.specs.Str.{bytes_eq}
+use Rattle.waff_model.specs.Tree.{Node, number_of}
+use Rattle.waff_model.specs.Layout.{Space, Hierarchy}
+use Rattle.waff_model.specs.LayoutRefusal.{within, size_of, layout_refusal}
+use Rattle.waff_model.specs.declared.limits.TheConstants.{MAX_UNIT}
+use Rattle.waff_model.specs.declared.kind.Kind.{Kind}
+use Rattle.waff_model.specs.declared.layout_rows.SpaceSpec.{SpaceSpec}
+use Rattle.waff_model.specs.declared.layout_rows.MapSpec.{MapSpec}
+use Rattle.waff_model.specs.declared.layout_rows.LayoutError.{LayoutError}
+
+-- the numbers of the affinities with these names
+abbrev pub owners_of : List Node → List (List ℕ) → List ℕ
+owners_of tree names = map (λ name. unwrap_or (number_of tree name) 0) names
+
+-- the map of the space with this name
+abbrev pub map_of : List MapSpec → List ℕ → Option MapSpec
+map_of maps name = find (λ m. bytes_eq m.space name) maps
+
+-- the space of a row, with its map
+abbrev pub space_of : List Node → List MapSpec → SpaceSpec → Space
+space_of tree maps space = record {
+  name = space.name;
+  size = size_of space;
+  unit = unwrap_or (option_map (λ m. unwrap_or (within m.unit MAX_UNIT) 0) (map_of maps space.name)) 0;
+  to = unwrap_or (option_map (λ m. owners_of tree m.to) (map_of maps space.name)) [];
+}
+
+-- the layout of these rows over the tree, where none of them is refused
+abbrev pub hierarchy_of : Kind → List Node → List SpaceSpec → List MapSpec → Hierarchy
+hierarchy_of kind tree spaces maps = record { kind = kind; tree = tree; spaces = map (space_of tree maps) spaces }
+
+-- the layout of these rows over the tree, or why they give none
+abbrev pub layout_of : Kind → List Node → List SpaceSpec → List MapSpec → Result Hierarchy LayoutError
+layout_of kind tree spaces maps = answer (layout_refusal tree spaces maps)
+  where
+    answer : Option LayoutError → Result Hierarchy LayoutError
+    answer None = Ok (hierarchy_of kind tree spaces maps)
+    answer (Some refusal) = Err refusal

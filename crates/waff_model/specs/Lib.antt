@@ -1,0 +1,10 @@
+pub mod Names
+pub mod Refusals
+pub mod Tree
+pub mod TreeRefusal
+pub mod Nodes
+pub mod Cells
+pub mod Layout
+pub mod LayoutOf
+pub mod LayoutRefusal
+pub mod Messages

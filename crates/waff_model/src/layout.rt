@@ -1,0 +1,329 @@
+//! Layouts: spaces of cells over a tree of affinities, and which affinity owns each cell.
+
+ghost use Rattle.std.specs.Prelude.{◌≡◌, ◌↔◌, ◌<◌, [], length, map, find, option_map, unwrap_or, None, Some, IsTrue, IfOk, IfErr, IfSome, OnOk};
+ghost use Rattle.waff_model.specs.Tree.{number_of};
+ghost use Rattle.waff_model.specs.Layout.{IsLayout, IsCell, name_at, size_at, space_named, owner_of};
+ghost use Rattle.waff_model.specs.LayoutOf.{owners_of, map_of, space_of, hierarchy_of};
+ghost use Rattle.waff_model.specs.LayoutRefusal.{layout_refusal};
+
+use crate::cell::Cell;
+use crate::kind::Kind;
+use crate::layout_rows::{LayoutError, MapSpec, SpaceSpec, refusal, size_of, within};
+use crate::limits::MAX_UNIT;
+use crate::name::Text;
+use crate::space::Space;
+use crate::tree::{AffinityId, Tree};
+use std::alloc::{AllocError, Global};
+use std::marker::Model;
+
+/// Spaces of cells, numbered from 0, each with a map that gives its cells to affinities of a tree.
+#[derive(Drop)]
+pub struct Layout {
+    kind: Kind,
+    tree: Tree,
+    spaces: Vec<Space>,
+}
+
+impl Model for Layout {
+    ghost use Rattle.waff_model.specs.Layout.{Hierarchy, IsLayout};
+
+    ghost Value = { Hierarchy };
+
+    ghost view = { λ l. record { kind = l.kind; tree = l.tree; spaces = l.spaces.items } };
+
+    ghost invariant = { λ l. IsLayout (record { kind = l.kind; tree = l.tree; spaces = l.spaces.items }) };
+}
+
+impl Layout {
+    /// The layout of these spaces and maps over the tree. Spaces are numbered from 0 in the order given.
+    pub fn new(
+        alloc: Global,
+        kind: Kind,
+        tree: Tree,
+        spaces: &[SpaceSpec],
+        maps: &[MapSpec],
+    ) -> Result<Layout, LayoutError>
+        ensures kept { IfOk result (λ layout. layout ≡ hierarchy_of kind tree spaces.now maps.now) }
+        ensures accepted { OnOk result (layout_refusal tree spaces.now maps.now ≡ None) }
+
+        // Memory is answered only where nothing else is to be refused.
+        ensures refused { IfErr result (λ e. e ≡ unwrap_or (layout_refusal tree spaces.now maps.now) LayoutError.Memory) }
+    {
+        if let Some(refusal) = refusal(&tree, spaces, maps) {
+            return Err(refusal);
+        }
+        match spaces_of(alloc, &tree, spaces, maps) {
+            Ok(spaces) => Ok(Layout { kind, tree, spaces }),
+            Err(_) => Err(LayoutError::Memory),
+        }
+    }
+
+    pub fn kind(&self) -> Kind
+        ensures { result ≡ self.now.kind }
+    {
+        self.kind
+    }
+
+    pub fn tree(&self) -> &Tree
+        ensures { result.now ≡ self.now.tree }
+    {
+        &self.tree
+    }
+
+    pub fn space_count(&self) -> u32
+        ensures count { result ≡ length self.now.spaces }
+        ensures layout { IsLayout self.now }
+    {
+        self.spaces.len() as u32
+    }
+
+    pub fn space_name(&self, s: u32) -> &str
+        requires { s < length self.now.spaces }
+        ensures { name_at self.now.spaces s ≡ Some result.now }
+    {
+        let space = &self.spaces[s as usize];
+        space.name()
+    }
+
+    /// The size of the space, in cells.
+    pub fn space_size(&self, s: u32) -> u32
+        requires { s < length self.now.spaces }
+        ensures { result ≡ size_at self.now.spaces s }
+    {
+        let space = &self.spaces[s as usize];
+        space.size()
+    }
+
+    /// The space with this name.
+    pub fn find_space(&self, name: &str) -> Option<u32>
+        ensures found { result ≡ space_named self.now.spaces name.now }
+        ensures within { IfSome result (λ s. s < length self.now.spaces) }
+    {
+        match position(&self.spaces, name) {
+            Some(s) => Some(s as u32),
+            None => None,
+        }
+    }
+
+    pub(crate) fn spaces(&self) -> &[Space]
+        ensures { result.now ≡ self.now.spaces }
+    {
+        &self.spaces
+    }
+
+    /// Whether the cell lies in one of the spaces.
+    pub fn has(&self, cell: Cell) -> bool
+        ensures { IsTrue result ↔ IsCell self.now.spaces cell }
+    {
+        match self.spaces.get(cell.space as usize) {
+            Some(space) => cell.index < space.size(),
+            None => false,
+        }
+    }
+
+    /// The affinity that owns the cell.
+    pub fn owner(&self, cell: Cell) -> AffinityId
+        requires { IsCell self.now.spaces cell }
+        ensures owner { result.0 ≡ owner_of self.now.spaces cell }
+        ensures within { result.0 < length self.now.tree }
+    {
+        let space = &self.spaces[cell.space as usize];
+        AffinityId(space.owner(cell.index))
+    }
+}
+
+/// The spaces with their maps.
+fn spaces_of(
+    alloc: Global,
+    tree: &Tree,
+    spaces: &[SpaceSpec],
+    maps: &[MapSpec],
+) -> Result<Vec<Space>, AllocError>
+    ensures { IfOk result (λ v. v.items ≡ map (space_of tree.now maps.now) spaces.now) }
+{
+    let mut made = Vec::with_capacity(alloc, spaces.len())?;
+    for space in spaces {
+        made.push(make_space(alloc, tree, maps, space)?)?;
+    }
+    Ok(made)
+}
+
+/// The space of a row, with its map.
+fn make_space(
+    alloc: Global,
+    tree: &Tree,
+    maps: &[MapSpec],
+    space: &SpaceSpec,
+) -> Result<Space, AllocError>
+    ensures { IfOk result (λ s. s ≡ space_of tree.now maps.now space.now) }
+{
+    let name = Text::of(alloc, space.name.as_str())?;
+    let size = size_of(space);
+    match find_map(maps, space.name.as_str()) {
+        Some(map) => Ok(Space {
+            name,
+            size,
+            unit: within(map.unit, MAX_UNIT).unwrap_or(0),
+            to: owners(alloc, tree, map.to.as_slice())?,
+        }),
+        None => Ok(Space {
+            name,
+            size,
+            unit: 0,
+            to: Vec::new(alloc),
+        }),
+    }
+}
+
+fn find_map<'a>(maps: &'a [MapSpec], name: &str) -> Option<&'a MapSpec>
+    ensures { option_map (λ m. m.now) result ≡ map_of maps.now name.now }
+{
+    maps.iter().find(|m| m.space.as_str() == name)
+}
+
+/// The numbers of the affinities with these names.
+fn owners(alloc: Global, tree: &Tree, names: &[Text]) -> Result<Vec<u16>, AllocError>
+    ensures { IfOk result (λ v. v.items ≡ owners_of tree.now names.now) }
+{
+    names
+        .iter()
+        .map(|name| number(tree, name.as_str()))
+        .collect(alloc)
+}
+
+/// The number of the affinity with this name, 0 where there is none.
+fn number(tree: &Tree, name: &str) -> u16
+    ensures { result ≡ unwrap_or (number_of tree.now name.now) 0 }
+{
+    match tree.find(name) {
+        Some(affinity) => affinity.0,
+        None => 0,
+    }
+}
+
+/// The place of the space with this name.
+fn position(spaces: &[Space], name: &str) -> Option<usize>
+    ensures found { result ≡ space_named spaces.now name.now }
+    ensures within { IfSome result (λ s. s < length spaces.now) }
+{
+    spaces.iter().position(|space| name == space.name())
+}
+
+#[cfg(test)]
+mod tests {
+    use super::*;
+    use crate::texts::Texts;
+    use crate::tree::TreeBuilder;
+    use std::test::Fail;
+
+    type Map<'a> = (&'a str, i64, &'a [&'a str]);
+
+    fn layout(
+        alloc: Global,
+        spaces: &[(&str, i64)],
+        maps: &[Map],
+    ) -> Result<Result<Layout, LayoutError>, Fail> {
+        let mut tree = TreeBuilder::new(alloc);
+        let root = tree.add(alloc, "root", None)?;
+        tree.add(alloc, "v1", Some(root))?;
+        tree.add(alloc, "v2", Some(root))?;
+        let tree = tree.build()?;
+        let mut space_rows = Vec::new(alloc);
+        for (name, size) in spaces {
+            let name = Text::of(alloc, name)?;
+            space_rows.push(SpaceSpec { name, size: *size })?;
+        }
+        let mut map_rows = Vec::new(alloc);
+        for (space, unit, owners) in maps {
+            let space = Text::of(alloc, space)?;
+            let mut to = Texts::new(alloc);
+            for owner in *owners {
+                to.push(Text::of(alloc, owner)?)?;
+            }
+            map_rows.push(MapSpec {
+                space,
+                unit: *unit,
+                to,
+            })?;
+        }
+        let kind = Kind::Hierarchical;
+        Ok(Layout::new(alloc, kind, tree, &space_rows, &map_rows))
+    }
+
+    #[test]
+    fn shows_what_it_was_made_of(rt: HostRuntime) -> Result<(), Fail> {
+        let maps: [Map; 2] = [("g", 1, &["root"]), ("f", 2, &["v1", "v2"])];
+        let layout = layout(rt.alloc(), &[("f", 8), ("g", 4)], &maps)??;
+        assert_eq!(rt; layout.kind(), Kind::Hierarchical);
+        assert_eq!(rt; layout.tree().len(), 3);
+        assert_eq!(rt; layout.space_count(), 2);
+        assert_eq!(rt; layout.space_name(1), "g");
+        assert_eq!(rt; layout.space_size(0), 8);
+        assert_eq!(rt; layout.find_space("g"), Some(1));
+        assert_eq!(rt; layout.find_space("h"), None);
+        let third = Cell { space: 0, index: 2 };
+        assert!(rt; layout.has(third));
+        assert_eq!(rt; layout.owner(third).0, 2);
+        let fifth = Cell { space: 0, index: 4 };
+        assert!(rt; layout.has(fifth));
+        assert_eq!(rt; layout.owner(fifth).0, 1);
+        assert!(rt; !layout.has(Cell { space: 1, index: 4 }));
+        assert!(rt; !layout.has(Cell { space: 2, index: 0 }));
+        Ok(())
+    }
+
+    #[test]
+    fn refuses_bad_rows(rt: HostRuntime) -> Result<(), Fail> {
+        let a = rt.alloc();
+        let one: &[&str] = &["v1"];
+        let f: &[(&str, i64)] = &[("f", 1)];
+        let both: &[(&str, i64)] = &[("f", 262144), ("g", 1)];
+        assert_eq!(rt; layout(a, &[], &[])?.err(), Some(LayoutError::Space));
+        assert_eq!(rt;
+            layout(a, &[("a b", 1)], &[])?.err(),
+            Some(LayoutError::Space)
+        );
+        assert_eq!(rt;
+            layout(a, f, &[("f", 1, one), ("g", 1, one)])?.err(),
+            Some(LayoutError::Space)
+        );
+        assert_eq!(rt;
+            layout(a, &[("f", -1)], &[])?.err(),
+            Some(LayoutError::Size)
+        );
+        assert_eq!(rt;
+            layout(a, &[("f", 262145)], &[])?.err(),
+            Some(LayoutError::Size)
+        );
+        assert_eq!(rt;
+            layout(a, &[("f", 1), ("f", 2)], &[])?.err(),
+            Some(LayoutError::SpaceTwice)
+        );
+        assert_eq!(rt;
+            layout(a, both, &[("f", 0, one)])?.err(),
+            Some(LayoutError::NoMap)
+        );
+        assert_eq!(rt;
+            layout(a, f, &[("f", 1, one), ("f", 0, one)])?.err(),
+            Some(LayoutError::MapTwice)
+        );
+        assert_eq!(rt;
+            layout(a, f, &[("f", 0, &[])])?.err(),
+            Some(LayoutError::Unit)
+        );
+        assert_eq!(rt;
+            layout(a, f, &[("f", 1, &[])])?.err(),
+            Some(LayoutError::To)
+        );
+        assert_eq!(rt;
+            layout(a, f, &[("f", 1, &["v1", "v3"])])?.err(),
+            Some(LayoutError::To)
+        );
+        let maps: [Map; 2] = [("f", 1, one), ("g", 1, one)];
+        assert_eq!(rt;
+            layout(a, both, &maps)?.err(),
+            Some(LayoutError::TooManyCells)
+        );
+        Ok(())
+    }
+}

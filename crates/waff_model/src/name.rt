@@ -1,0 +1,87 @@
+//! Names, and texts that need not be names.
+
+ghost use Rattle.std.specs.Prelude.{◌≡◌, IfOk};
+ghost use Rattle.std.specs.List.{list_all};
+ghost use Rattle.waff_model.specs.Names as names;
+
+use crate::limits::MAX_NAME;
+use std::alloc::{AllocError, Global};
+use std::marker::Model;
+
+/// Whether the text is a name: 1 to 32 bytes of `A-Z a-z 0-9 . _ -`.
+pub fn is_name(text: &str) -> bool
+    ensures { result ≡ names.is_name text.now }
+{
+    let bytes = text.as_bytes();
+    1 <= bytes.len() && bytes.len() <= MAX_NAME && has_name_bytes(bytes)
+}
+
+fn has_name_bytes(bytes: &[u8]) -> bool
+    ensures { result ≡ list_all names.is_name_byte bytes.now }
+{
+    bytes.iter().all(|byte| is_name_byte(*byte))
+}
+
+fn is_name_byte(byte: u8) -> bool
+    ensures { result ≡ names.is_name_byte byte }
+{
+    byte.is_ascii_alphanumeric() || byte == b'.' || byte == b'_' || byte == b'-'
+}
+
+/// A text of its own.
+#[derive(Debug, Drop)]
+pub struct Text {
+    text: String,
+}
+
+impl Model for Text {
+    ghost use Rattle.std.specs.Prelude.{List, ℕ, string_bytes};
+
+    ghost Value = { List ℕ };
+
+    ghost view = { λ t. string_bytes t.text };
+}
+
+impl Text {
+    /// A copy of the text.
+    pub fn of(alloc: Global, text: &str) -> Result<Self, AllocError>
+        ensures { IfOk result (λ t. t ≡ text.now) }
+    {
+        Ok(Text {
+            text: String::from_str(alloc, text)?,
+        })
+    }
+
+    pub fn as_str(&self) -> &str
+        ensures { result.now ≡ self.now }
+    {
+        self.text.as_str()
+    }
+}
+
+#[cfg(test)]
+mod tests {
+    use super::*;
+    use std::test::Fail;
+
+    #[test]
+    fn tells_names(rt: HostRuntime) {
+        for (text, is) in [
+            ("f", true),
+            ("A-Z_a.z09", true),
+            ("", false),
+            ("m 1", false),
+            ("caf\u{e9}", false),
+            ("0123456789abcdef0123456789abcdef", true),
+            ("0123456789abcdef0123456789abcdef0", false),
+        ] {
+            assert_eq!(rt; is_name(text), is, "{text}");
+        }
+    }
+
+    #[test]
+    fn keeps_a_text(rt: HostRuntime) -> Result<(), Fail> {
+        assert_eq!(rt; Text::of(rt.alloc(), "m 1")?.as_str(), "m 1");
+        Ok(())
+    }
+}

@@ -1,0 +1,47 @@
+//! A space with its map.
+
+ghost use Rattle.std.specs.Prelude.{◌≡◌, ◌<◌, length};
+ghost use Rattle.waff_model.specs.Layout.{owner_at};
+
+use crate::name::Text;
+use std::marker::Model;
+
+#[derive(Drop)]
+pub(crate) struct Space {
+    pub(crate) name: Text,
+    pub(crate) size: u32,
+    pub(crate) unit: u32,
+    pub(crate) to: Vec<u16>,
+}
+
+impl Model for Space {
+    ghost use Rattle.waff_model.specs.Layout.{Space as Mapped};
+
+    ghost Value = { Mapped };
+
+    ghost view = { λ s. record { name = s.name; size = s.size; unit = s.unit; to = s.to.items } };
+}
+
+impl Space {
+    pub(crate) fn name(&self) -> &str
+        ensures { result.now ≡ self.now.name }
+    {
+        self.name.as_str()
+    }
+
+    pub(crate) fn size(&self) -> u32
+        ensures { result ≡ self.now.size }
+    {
+        self.size
+    }
+
+    /// The number of the affinity that owns the cell with this index.
+    pub(crate) fn owner(&self, index: u32) -> u16
+        requires unit { 0 < self.now.unit }
+        requires owners { 0 < length self.now.to }
+        ensures { result ≡ owner_at self.now index }
+    {
+        let turn = (index / self.unit) as usize;
+        self.to[turn % self.to.len()]
+    }
+}

@@ -1,0 +1,75 @@
+//! Lists of texts.
+
+ghost use Rattle.std.specs.Prelude.{◌≡◌, ◌∷◌, [], ◌++◌, ◌<◌, length, slice_get, Some, OnOk, OnErr};
+
+use crate::name::Text;
+use std::alloc::{AllocError, Global};
+use std::marker::Model;
+
+/// Texts in a row, numbered from 0.
+#[derive(Debug, Drop)]
+pub struct Texts {
+    texts: Vec<Text>,
+}
+
+impl Model for Texts {
+    ghost use Rattle.std.specs.Prelude.{List, ℕ};
+
+    ghost Value = { List (List ℕ) };
+
+    ghost view = { λ t. t.texts.items };
+}
+
+impl Texts {
+    pub fn new(alloc: Global) -> Self
+        ensures { result ≡ [] }
+    {
+        Texts {
+            texts: Vec::new(alloc),
+        }
+    }
+
+    pub fn push(&mut self, text: Text) -> Result<(), AllocError>
+        ensures added { OnOk result (self.new ≡ self.old ++ text ∷ []) }
+        ensures unchanged { OnErr result (self.new ≡ self.old) }
+    {
+        self.texts.push(text)?;
+        Ok(())
+    }
+
+    pub fn len(&self) -> usize
+        ensures { result ≡ length self.now }
+    {
+        self.texts.len()
+    }
+
+    pub fn get(&self, i: usize) -> &Text
+        requires { i < length self.now }
+        ensures { slice_get self.now i ≡ Some result.now }
+    {
+        &self.texts[i]
+    }
+
+    pub(crate) fn as_slice(&self) -> &[Text]
+        ensures { result.now ≡ self.now }
+    {
+        self.texts.as_slice()
+    }
+}
+
+#[cfg(test)]
+mod tests {
+    use super::*;
+    use std::test::Fail;
+
+    #[test]
+    fn keeps_texts_in_order(rt: HostRuntime) -> Result<(), Fail> {
+        let mut texts = Texts::new(rt.alloc());
+        texts.push(Text::of(rt.alloc(), "v1")?)?;
+        texts.push(Text::of(rt.alloc(), "")?)?;
+        assert_eq!(rt; texts.len(), 2);
+        assert_eq!(rt; texts.get(0).as_str(), "v1");
+        assert_eq!(rt; texts.get(1).as_str(), "");
+        Ok(())
+    }
+}

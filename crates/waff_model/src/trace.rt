@@ -1,0 +1,168 @@
+//! Traces.
+
+ghost use Rattle.std.specs.Prelude.{◌≡◌, ◌+◌, ◌-◌, ◌<◌, ◌≤◌, ◌↔◌, [], ◌∷◌, ◌++◌, length, Some, IsTrue, IfOk, OnOk, OnErr, slice_get};
+ghost use Rattle.std.specs.Prelude.{◌==◌};
+ghost use Rattle.std.specs.List.{list_all, zip};
+ghost use Rattle.waff_model.specs.Messages.{sizes_of};
+ghost use Rattle.waff_model.specs.declared.limits.TheConstants.{MAX_MESSAGES};
+
+use crate::layout::Layout;
+use crate::message::{Message, Version};
+use crate::space::Space;
+use std::alloc::{AllocError, Global};
+use std::marker::Model;
+
+/// Messages in the order of arrival, numbered from 1.
+#[derive(Drop)]
+pub struct Trace {
+    version: Version,
+    sizes: Vec<u32>,
+    messages: Vec<Message>,
+}
+
+impl Model for Trace {
+    ghost use Rattle.waff_model.specs.Messages.{Arrivals, IsTrace};
+
+    ghost Value = { Arrivals };
+
+    ghost view = { λ t. record { version = t.version; sizes = t.sizes.items; messages = t.messages.items } };
+
+    ghost invariant = { λ t. IsTrace (record { version = t.version; sizes = t.sizes.items; messages = t.messages.items }) };
+}
+
+impl Trace {
+    ghost use Rattle.waff_model.specs.Messages.{sizes_of, IsMessage, IsTrace};
+    ghost use Rattle.waff_model.specs.declared.message.Version.TheVariants.{V1};
+
+    /// A trace of the first version for cells of the layout, with no message.
+    pub fn new(alloc: Global, layout: &Layout) -> Result<Self, AllocError>
+        ensures { IfOk result (λ t. t ≡ record { version = V1; sizes = sizes_of layout.now.spaces; messages = [] }) }
+    {
+        Trace::with_version(alloc, layout, Version::V1)
+    }
+
+    /// A trace for cells of the layout, with no message.
+    pub fn with_version(
+        alloc: Global,
+        layout: &Layout,
+        version: Version,
+    ) -> Result<Self, AllocError>
+        ensures { IfOk result (λ t. t ≡ record { version = version; sizes = sizes_of layout.now.spaces; messages = [] }) }
+    {
+        Ok(Trace {
+            version,
+            sizes: sizes(alloc, layout.spaces())?,
+            messages: Vec::new(alloc),
+        })
+    }
+
+    /// Whether the trace is one for cells of this layout: the sizes of the spaces are equal.
+    pub fn fits(&self, layout: &Layout) -> bool
+        ensures { IsTrue result ↔ (self.now.sizes ≡ sizes_of layout.now.spaces) }
+    {
+        have_sizes(layout.spaces(), &self.sizes)
+    }
+
+    pub fn version(&self) -> Version
+        ensures { result ≡ self.now.version }
+    {
+        self.version
+    }
+
+    /// Appends a message.
+    pub fn push(&mut self, message: Message) -> Result<(), AllocError>
+        requires message { IsMessage self.old.version self.old.sizes message }
+        requires room { length self.old.messages < MAX_MESSAGES }
+        ensures pushed { OnOk result (self.new ≡ record self.old { messages = self.old.messages ++ message ∷ [] }) }
+        ensures unchanged { OnErr result (self.new ≡ self.old) }
+    {
+        self.messages.push(message)?;
+        Ok(())
+    }
+
+    pub fn len(&self) -> u32
+        ensures count { result ≡ length self.now.messages }
+        ensures trace { IsTrace self.now }
+    {
+        self.messages.len() as u32
+    }
+
+    /// The message with this number, from 1.
+    pub fn message(&self, number: u32) -> &Message
+        requires from { 1 ≤ number }
+        requires to { number ≤ length self.now.messages }
+        ensures message { slice_get self.now.messages (number - 1) ≡ Some result.now }
+        ensures within { IsMessage self.now.version self.now.sizes result.now }
+    {
+        &self.messages[number as usize - 1]
+    }
+}
+
+fn sizes(alloc: Global, spaces: &[Space]) -> Result<Vec<u32>, AllocError>
+    ensures { IfOk result (λ v. v.items ≡ sizes_of spaces.now) }
+{
+    spaces.iter().map(|space| space.size()).collect(alloc)
+}
+
+/// Whether these are the sizes of the spaces.
+fn have_sizes(spaces: &[Space], sizes: &[u32]) -> bool
+    ensures { IsTrue result ↔ (sizes.now ≡ sizes_of spaces.now) }
+{
+    sizes.len() == spaces.len() && each_has_size(spaces, sizes)
+}
+
+fn each_has_size(spaces: &[Space], sizes: &[u32]) -> bool
+    ensures { result ≡ list_all (λ pair. pair.0 == pair.1.size) (zip sizes.now spaces.now) }
+{
+    sizes
+        .iter()
+        .zip(spaces)
+        .all(|(size, space)| *size == space.size())
+}
+
+#[cfg(test)]
+mod tests {
+    use super::*;
+    use crate::cell::Cell;
+    use crate::kind::Kind;
+    use crate::layout_rows::{MapSpec, SpaceSpec};
+    use crate::name::Text;
+    use crate::op::{Op, Ops};
+    use crate::texts::Texts;
+    use crate::tree::TreeBuilder;
+    use std::test::Fail;
+
+    /// One affinity over one space of this size.
+    fn layout(alloc: Global, size: i64) -> Result<Layout, Fail> {
+        let mut builder = TreeBuilder::new(alloc);
+        builder.add(alloc, "Serial", None)?;
+        let mut to = Texts::new(alloc);
+        to.push(Text::of(alloc, "Serial")?)?;
+        let space = SpaceSpec {
+            name: Text::of(alloc, "f")?,
+            size,
+        };
+        let map = MapSpec {
+            space: Text::of(alloc, "f")?,
+            unit: 1,
+            to,
+        };
+        let tree = builder.build()?;
+        Ok(Layout::new(alloc, Kind::Classical, tree, &[space], &[map])?)
+    }
+
+    #[test]
+    fn keeps_messages_of_its_layout(rt: HostRuntime) -> Result<(), Fail> {
+        let alloc = rt.alloc();
+        let eight = layout(alloc, 8)?;
+        assert_eq!(rt; eight.space_count(), 1);
+        assert_eq!(rt; eight.space_size(0), 8);
+        let mut trace = Trace::with_version(alloc, &eight, Version::V2)?;
+        assert_eq!(rt; trace.version(), Version::V2);
+        assert_eq!(rt; Trace::new(alloc, &eight)?.version(), Version::V1);
+        assert!(rt; trace.fits(&eight));
+        assert!(rt; !trace.fits(&layout(alloc, 4)?));
+        assert_eq!(rt; trace.len(), 0);
+        Ok(())
+    }
+}

@@ -1,0 +1,273 @@
+//! Trees of affinities.
+
+ghost use Rattle.std.specs.Prelude.{◌≡◌, ◌+◌, ◌<◌, ◌↔◌, [], ◌∷◌, ◌++◌, length, option_map, unwrap_or, None, IsTrue, IfOk, IfErr, IfSome, OnOk, OnErr};
+ghost use Rattle.waff_model.specs.Tree.{parent_of, number_of, name_of, AtOrAbove, Excludes, IsTree};
+ghost use Rattle.waff_model.specs.TreeRefusal.{node_of, refusal_of};
+
+use crate::limits::MAX_AFFINITIES;
+use crate::name::is_name;
+use crate::nodes::Nodes;
+use std::alloc::{AllocError, Global};
+use std::marker::Model;
+use thiserror::Error;
+
+/// An affinity, by its number: affinities are numbered from 0 in the order in which they were added.
+#[derive(Clone, Copy, Debug, PartialEq, Eq)]
+pub struct AffinityId(pub u16);
+
+/// Why an affinity was refused. Where several hold, the first is answered.
+#[derive(Clone, Copy, Debug, PartialEq, Eq, Error)]
+pub enum TreeError {
+    #[error("not a name")]
+    Name,
+    #[error("an affinity of this name is there")]
+    Twice,
+    #[error("a second affinity without parent")]
+    SecondRoot,
+    #[error("no affinity")]
+    NoRoot,
+    #[error("the parent is no affinity that was added")]
+    ParentUnknown,
+    #[error("too many affinities")]
+    TooMany,
+    #[error("out of memory")]
+    Memory,
+}
+
+/// A tree of affinities while it is built.
+#[derive(Drop)]
+pub struct TreeBuilder {
+    nodes: Nodes,
+}
+
+impl Model for TreeBuilder {
+    ghost use Rattle.std.specs.Prelude.{List};
+    ghost use Rattle.waff_model.specs.Tree.{Node, IsRooted};
+
+    ghost Value = { List Node };
+
+    ghost view = { λ b. b.nodes };
+
+    ghost invariant = { λ b. IsRooted b.nodes };
+}
+
+impl TreeBuilder {
+    pub fn new(alloc: Global) -> Self
+        ensures { result ≡ [] }
+    {
+        TreeBuilder {
+            nodes: Nodes::new(alloc),
+        }
+    }
+
+    /// Adds an affinity under its parent, or as the root, and answers its number.
+    pub fn add(
+        &mut self,
+        alloc: Global,
+        name: &str,
+        parent: Option<AffinityId>,
+    ) -> Result<AffinityId, TreeError>
+        ensures added { OnOk result (self.new ≡ self.old ++ node_of name.now parent ∷ []) }
+        ensures number { IfOk result (λ a. a.0 ≡ length self.old) }
+        ensures accepted { OnOk result (refusal_of self.old (node_of name.now parent) ≡ None) }
+
+        // Memory is answered only where nothing else is to be refused.
+        ensures refused { IfErr result (λ e. e ≡ unwrap_or (refusal_of self.old (node_of name.now parent)) TreeError.Memory) }
+        ensures unchanged { OnErr result (self.new ≡ self.old) }
+    {
+        let parent = parent.map(|p| p.0);
+        if let Some(refusal) = refusal(&self.nodes, name, parent) {
+            return Err(refusal);
+        }
+        let number = self.nodes.len() as u16;
+        match self.nodes.push(alloc, name, parent) {
+            Ok(()) => Ok(AffinityId(number)),
+            Err(_) => Err(TreeError::Memory),
+        }
+    }
+
+    /// The tree of the affinities that were added.
+    pub fn build(self) -> Result<Tree, TreeError>
+        ensures kept { IfOk result (λ tree. tree ≡ self) }
+        ensures refused { IfErr result (λ e. (e ≡ TreeError.NoRoot) × (self ≡ [])) }
+    {
+        if self.nodes.len() == 0 {
+            return Err(TreeError::NoRoot);
+        }
+        let TreeBuilder { nodes } = self;
+        Ok(Tree { nodes })
+    }
+}
+
+fn refusal(nodes: &Nodes, name: &str, parent: Option<u16>) -> Option<TreeError>
+    ensures { result ≡ refusal_of nodes.now (record { name = name.now; parent = parent }) }
+{
+    if !is_name(name) {
+        return Some(TreeError::Name);
+    }
+    if nodes.number(name).is_some() {
+        return Some(TreeError::Twice);
+    }
+    match parent {
+        None if nodes.len() > 0 => return Some(TreeError::SecondRoot),
+        Some(p) if p as usize >= nodes.len() => return Some(TreeError::ParentUnknown),
+        _ => {}
+    }
+    if nodes.len() >= MAX_AFFINITIES {
+        return Some(TreeError::TooMany);
+    }
+    None
+}
+
+/// A tree of affinities.
+#[derive(Drop)]
+pub struct Tree {
+    nodes: Nodes,
+}
+
+impl Model for Tree {
+    ghost use Rattle.std.specs.Prelude.{List};
+    ghost use Rattle.waff_model.specs.Tree.{Node, IsTree};
+
+    ghost Value = { List Node };
+
+    ghost view = { λ t. t.nodes };
+
+    ghost invariant = { λ t. IsTree t.nodes };
+}
+
+impl Tree {
+    pub fn len(&self) -> u32
+        ensures count { result ≡ length self.now }
+        ensures tree { IsTree self.now }
+    {
+        self.nodes.len() as u32
+    }
+
+    pub fn root(&self) -> AffinityId
+        ensures number { result.0 ≡ 0 }
+        ensures root { parent_of self.now result.0 ≡ None }
+    {
+        let _ = &self.nodes;
+        AffinityId(0)
+    }
+
+    pub fn parent(&self, affinity: AffinityId) -> Option<AffinityId>
+        requires { affinity.0 < length self.now }
+        ensures { option_map (λ p. p.0) result ≡ parent_of self.now affinity.0 }
+    {
+        self.nodes.parent(affinity.0 as usize).map(AffinityId)
+    }
+
+    pub fn name(&self, affinity: AffinityId) -> &str
+        requires { affinity.0 < length self.now }
+        ensures { result.now ≡ name_of self.now affinity.0 }
+    {
+        self.nodes.name(affinity.0 as usize)
+    }
+
+    /// The affinity with this name.
+    pub fn find(&self, name: &str) -> Option<AffinityId>
+        ensures found { option_map (λ a. a.0) result ≡ number_of self.now name.now }
+        ensures within { IfSome result (λ a. a.0 < length self.now) }
+    {
+        match self.nodes.number(name) {
+            Some(number) => Some(AffinityId(number as u16)),
+            None => None,
+        }
+    }
+
+    /// Whether `below` leads to `above` by zero or more steps to the parent.
+    pub fn at_or_above(&self, above: AffinityId, below: AffinityId) -> bool
+        requires above { above.0 < length self.now }
+        requires below { below.0 < length self.now }
+        ensures answer { IsTrue result ↔ AtOrAbove self.now above.0 below.0 }
+        ensures tree { IsTree self.now }
+    {
+        let mut at = below.0;
+        while above.0 < at {
+            match self.nodes.parent(at as usize) {
+                Some(parent) => at = parent,
+                None => return false,
+            }
+        }
+        at == above.0
+    }
+
+    /// Whether one of the two is at or above the other, so that their messages never run at the same time.
+    pub fn excludes(&self, one: AffinityId, other: AffinityId) -> bool
+        requires one { one.0 < length self.now }
+        requires other { other.0 < length self.now }
+        ensures { IsTrue result ↔ Excludes self.now one.0 other.0 }
+    {
+        self.at_or_above(one, other) || self.at_or_above(other, one)
+    }
+}
+
+#[cfg(test)]
+mod tests {
+    use super::*;
+    use std::test::Fail;
+
+    /// A root with two children, the second of which has one.
+    fn builder(alloc: Global) -> Result<TreeBuilder, Fail> {
+        let mut builder = TreeBuilder::new(alloc);
+        builder.add(alloc, "Serial", None)?;
+        builder.add(alloc, "VolA", Some(AffinityId(0)))?;
+        builder.add(alloc, "VolB", Some(AffinityId(0)))?;
+        builder.add(alloc, "B0", Some(AffinityId(2)))?;
+        Ok(builder)
+    }
+
+    #[test]
+    fn keeps_names_and_parents(rt: HostRuntime) -> Result<(), Fail> {
+        let tree = builder(rt.alloc())?.build()?;
+        assert_eq!(rt; tree.len(), 4);
+        assert_eq!(rt; tree.name(AffinityId(3)), "B0");
+        assert_eq!(rt; tree.parent(AffinityId(3)), Some(AffinityId(2)));
+        assert_eq!(rt; tree.parent(tree.root()), None);
+        assert_eq!(rt; tree.find("VolB"), Some(AffinityId(2)));
+        assert_eq!(rt; tree.find("B1"), None);
+        assert!(rt; tree.at_or_above(AffinityId(0), AffinityId(3)));
+        assert!(rt; !tree.at_or_above(AffinityId(1), AffinityId(3)));
+        assert!(rt; tree.excludes(AffinityId(3), AffinityId(2)));
+        assert!(rt; !tree.excludes(AffinityId(3), AffinityId(1)));
+        Ok(())
+    }
+
+    #[test]
+    fn refuses_in_order(rt: HostRuntime) -> Result<(), Fail> {
+        let alloc = rt.alloc();
+        let mut builder = builder(alloc)?;
+        for (name, parent, refusal) in [
+            ("B 1", None, TreeError::Name),
+            ("VolB", None, TreeError::Twice),
+            ("B1", None, TreeError::SecondRoot),
+            ("B1", Some(AffinityId(4)), TreeError::ParentUnknown),
+        ] {
+            assert_eq!(rt; builder.add(alloc, name, parent), Err(refusal));
+        }
+        assert_eq!(rt;
+            builder.add(alloc, "B1", Some(AffinityId(2))),
+            Ok(AffinityId(4))
+        );
+        Ok(())
+    }
+
+    #[test]
+    fn has_a_root_and_a_limit(rt: HostRuntime) -> Result<(), Fail> {
+        let alloc = rt.alloc();
+        assert!(rt; matches!(TreeBuilder::new(alloc).build(), Err(TreeError::NoRoot)));
+        let mut builder = TreeBuilder::new(alloc);
+        builder.add(alloc, "n0", None)?;
+        for n in 1..4096u16 {
+            let name = format!(in alloc; "n{n}")?;
+            builder.add(alloc, name.as_str(), Some(AffinityId(n - 1)))?;
+        }
+        assert_eq!(rt;
+            builder.add(alloc, "n4096", Some(AffinityId(4095))),
+            Err(TreeError::TooMany)
+        );
+        Ok(())
+    }
+}

@@ -1,0 +1,56 @@
+//! The sample files.
+
+/// The hierarchical sample: Serial; VolA and VolB below it; A0 and A1 below VolA; B0 and B1 below VolB.
+pub const H1: &str = "model = \"hierarchical\"\n\
+[[space]]\n\
+name = \"f\"\n\
+size = 8\n\
+[[space]]\n\
+name = \"m\"\n\
+size = 2\n\
+[[space]]\n\
+name = \"g\"\n\
+size = 8\n\
+[[affinity]]\n\
+name = \"Serial\"\n\
+[[affinity]]\n\
+name = \"VolA\"\n\
+parent = \"Serial\"\n\
+[[affinity]]\n\
+name = \"VolB\"\n\
+parent = \"Serial\"\n\
+[[affinity]]\n\
+name = \"A0\"\n\
+parent = \"VolA\"\n\
+[[affinity]]\n\
+name = \"A1\"\n\
+parent = \"VolA\"\n\
+[[affinity]]\n\
+name = \"B0\"\n\
+parent = \"VolB\"\n\
+[[affinity]]\n\
+name = \"B1\"\n\
+parent = \"VolB\"\n\
+[[map]]\n\
+space = \"f\"\n\
+unit = 2\n\
+to = [\"A0\", \"A1\"]\n\
+[[map]]\n\
+space = \"m\"\n\
+unit = 1\n\
+to = [\"VolA\"]\n\
+[[map]]\n\
+space = \"g\"\n\
+unit = 4\n\
+to = [\"B0\", \"B1\"]\n\
+";
+
+/// The first trace, of version 1.
+pub const X1: &str = "message,cost,ops\n\
+m1,4,set f:0 5\n\
+m2,3,set g:0 7\n\
+m3,2,copy f:2 f:0\n\
+m4,5,add g:4 1\n\
+m5,1,swap f:2 g:0\n\
+m6,2,add f:4 1\n\
+";
