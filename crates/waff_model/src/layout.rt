@@ -224,9 +224,9 @@ mod tests {
         maps: &[Map],
     ) -> Result<Result<Layout, LayoutError>, Fail> {
         let mut tree = TreeBuilder::new(alloc);
-        let root = tree.add(alloc, "root", None)?;
-        tree.add(alloc, "v1", Some(root))?;
-        tree.add(alloc, "v2", Some(root))?;
+        let root = tree.add("root", None)?;
+        tree.add("v1", Some(root))?;
+        tree.add("v2", Some(root))?;
         let tree = tree.build()?;
         let mut space_rows = Vec::new(alloc);
         for (name, size) in spaces {

@@ -135,7 +135,7 @@ mod tests {
     /// One affinity over one space of this size.
     fn layout(alloc: Global, size: i64) -> Result<Layout, Fail> {
         let mut builder = TreeBuilder::new(alloc);
-        builder.add(alloc, "Serial", None)?;
+        builder.add("Serial", None)?;
         let mut to = Texts::new(alloc);
         to.push(Text::of(alloc, "Serial")?)?;
         let space = SpaceSpec {

@@ -61,12 +61,7 @@ impl TreeBuilder {
     }
 
     /// Adds an affinity under its parent, or as the root, and answers its number.
-    pub fn add(
-        &mut self,
-        alloc: Global,
-        name: &str,
-        parent: Option<AffinityId>,
-    ) -> Result<AffinityId, TreeError>
+    pub fn add(&mut self, name: &str, parent: Option<AffinityId>) -> Result<AffinityId, TreeError>
         ensures added { OnOk result (self.new ≡ self.old ++ node_of name.now parent ∷ []) }
         ensures number { IfOk result (λ a. a.0 ≡ length self.old) }
         ensures accepted { OnOk result (refusal_of self.old (node_of name.now parent) ≡ None) }
@@ -80,7 +75,7 @@ impl TreeBuilder {
             return Err(refusal);
         }
         let number = self.nodes.len() as u16;
-        match self.nodes.push(alloc, name, parent) {
+        match self.nodes.push(name, parent) {
             Ok(()) => Ok(AffinityId(number)),
             Err(_) => Err(TreeError::Memory),
         }
@@ -212,10 +207,10 @@ mod tests {
     /// A root with two children, the second of which has one.
     fn builder(alloc: Global) -> Result<TreeBuilder, Fail> {
         let mut builder = TreeBuilder::new(alloc);
-        builder.add(alloc, "Serial", None)?;
-        builder.add(alloc, "VolA", Some(AffinityId(0)))?;
-        builder.add(alloc, "VolB", Some(AffinityId(0)))?;
-        builder.add(alloc, "B0", Some(AffinityId(2)))?;
+        builder.add("Serial", None)?;
+        builder.add("VolA", Some(AffinityId(0)))?;
+        builder.add("VolB", Some(AffinityId(0)))?;
+        builder.add("B0", Some(AffinityId(2)))?;
         Ok(builder)
     }
 
@@ -245,12 +240,9 @@ mod tests {
             ("B1", None, TreeError::SecondRoot),
             ("B1", Some(AffinityId(4)), TreeError::ParentUnknown),
         ] {
-            assert_eq!(rt; builder.add(alloc, name, parent), Err(refusal));
+            assert_eq!(rt; builder.add(name, parent), Err(refusal));
         }
-        assert_eq!(rt;
-            builder.add(alloc, "B1", Some(AffinityId(2))),
-            Ok(AffinityId(4))
-        );
+        assert_eq!(rt; builder.add("B1", Some(AffinityId(2))), Ok(AffinityId(4)));
         Ok(())
     }
 
@@ -259,13 +251,13 @@ mod tests {
         let alloc = rt.alloc();
         assert!(rt; matches!(TreeBuilder::new(alloc).build(), Err(TreeError::NoRoot)));
         let mut builder = TreeBuilder::new(alloc);
-        builder.add(alloc, "n0", None)?;
+        builder.add("n0", None)?;
         for n in 1..4096u16 {
             let name = format!(in alloc; "n{n}")?;
-            builder.add(alloc, name.as_str(), Some(AffinityId(n - 1)))?;
+            builder.add(name.as_str(), Some(AffinityId(n - 1)))?;
         }
         assert_eq!(rt;
-            builder.add(alloc, "n4096", Some(AffinityId(4095))),
+            builder.add("n4096", Some(AffinityId(4095))),
             Err(TreeError::TooMany)
         );
         Ok(())

@@ -29,7 +29,7 @@ pub fn layout(alloc: Global) -> Result<Layout, Fail> {
         ("B0", Some(2)),
         ("B1", Some(2)),
     ] {
-        builder.add(alloc, name, parent.map(AffinityId))?;
+        builder.add(name, parent.map(AffinityId))?;
     }
     let tree = builder.build()?;
     let spaces = [
