@@ -160,13 +160,3 @@ fn lies(layout: &Layout, op: Op) -> bool
         Op::Swap { cell, other } => layout.has(cell) && layout.has(other),
     }
 }
-
-#[test]
-fn is_made_of_parts(rt: HostRuntime) -> Result<(), Fail> {
-    let alloc = rt.alloc();
-    let layout = layout(alloc)?;
-    assert_eq!(rt; layout.space_count(), 3);
-    let trace = trace(&rt, alloc, &layout)?;
-    assert_eq!(rt; trace.len(), 6);
-    Ok(())
-}

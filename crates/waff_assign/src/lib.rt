@@ -1,0 +1,12 @@
+//! The affinity of each message of a trace: the lowest that covers its footprint.
+#![tactic(auto)]
+
+mod assigned;
+mod assignment;
+mod covering;
+mod order;
+
+pub use assigned::Assigned;
+pub use assignment::assign;
+pub use covering::lowest;
+pub use order::is_ordered;

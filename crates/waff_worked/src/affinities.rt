@@ -1,0 +1,37 @@
+//! Affinities of messages.
+
+use crate::building::{layout, trace};
+use std::test::Fail;
+use waff_assign::{assign, lowest};
+use waff_model::Cell;
+
+#[test]
+fn are_the_lowest_that_cover(rt: HostRuntime) -> Result<(), Fail> {
+    let layout = layout(rt.alloc())?;
+    let trace = trace(&rt, rt.alloc(), &layout)?;
+    assert!(rt; trace.fits(&layout));
+    let assigned = assign(rt.alloc(), &layout, &trace)?;
+    assert_eq!(rt; assigned.len(), 6);
+    let names = ["A0", "B0", "VolA", "B1", "Serial", "A0"];
+    for n in 1..7u32 {
+        let affinity = assigned.of(n);
+        assert_eq!(rt;
+            layout.tree().name(affinity),
+            names[n as usize - 1],
+            "message {n}"
+        );
+    }
+    Ok(())
+}
+
+#[test]
+fn of_two_volumes_is_the_root(rt: HostRuntime) -> Result<(), Fail> {
+    let layout = layout(rt.alloc())?;
+    let f = Cell { space: 0, index: 2 };
+    let g = Cell { space: 2, index: 0 };
+    assert!(rt; layout.has(f));
+    assert!(rt; layout.has(g));
+    let affinity = lowest(&layout, &[f, g]);
+    assert_eq!(rt; layout.tree().name(affinity), "Serial");
+    Ok(())
+}
