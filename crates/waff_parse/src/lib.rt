@@ -1,0 +1,27 @@
+//! What the readers of traces, hierarchies and plan texts share.
+//!
+//! - `stop`: a reader stops for memory or for a fault.
+//! - `refusals`: where several faults hold, the one of least rank is told.
+//! - `text`: the parts of a text, and numbers.
+//! - `rows`: records of CSV, one after the other, as text.
+//! - `fields`: records of a known number of fields.
+//!
+//! The words that contracts cite stand in `specs/`: `Stopping` (what an answer says of a reading), `Refusals`
+//! (readings one after the other and side by side), `Walks` (readings of lists), `Texts`, `Rows` and `Fields`. Laws of these
+//! for proofs above stand in `proofs/`: `Laws`, `TextLaws` and `RowLaws`.
+#![tactic(auto)]
+
+mod fields;
+mod refusals;
+mod rows;
+mod stop;
+mod text;
+
+pub use fields::{five_fields, four_fields, three_fields, two_fields};
+pub use refusals::{Ranked, keep_least, least, pair};
+pub use rows::{NotText, next_text, text_rows};
+pub use stop::Stop;
+pub use text::{cut, number, number_within};
+
+#[cfg(test)]
+mod tests;

@@ -1,0 +1,152 @@
+-- The latest of the messages that one thing or another holds of.
+use Rattle.std.proofs.Common.{◌≡◌, ◌≢◌, ◌⊎◌, ℕ, ◌+◌, ◌<◌, ◌≤◌, true, false, Option, Some, None, arith, sym, ◌∙◌, ap, subst, inl, inr, ⊎_elim}
+use Rattle.std.proofs.lemmas.Bool.{cond_both, cases_eq}
+use Rattle.std.proofs.lemmas.Bool.Decides.{nat_tests}
+use Rattle.waff_plan.specs.Latest.{is_later, later_of, IsFound}
+use Rattle.waff_plan.specs.Table.{IsUpTo}
+use Rattle.waff_plan.specs.declared.latest.Latest.{Latest}
+
+is_later_true : (f g m n : ℕ) → let one : Latest = record { finish = f; number = m } in let other : Latest = record { finish = g; number = n } in
+    is_later one other ≡ true → (f ≤ g) × (f ≡ g → n < m)
+is_later_true f g m n h = (grind (arith, nat_tests), λ same. grind (arith, nat_tests))
+
+is_later_false : (f g m n : ℕ) → let one : Latest = record { finish = f; number = m } in let other : Latest = record { finish = g; number = n } in
+    is_later one other ≡ false → (g ≤ f) × (g ≡ f → m ≤ n)
+is_later_false f g m n h = (grind (arith, nat_tests), λ same. grind (arith, nat_tests))
+
+-- the same messages have the same latest
+pub found_same : (P Q : ℕ → Type 0) (finish : ℕ → ℕ) (latest : Option Latest) → ((i : ℕ) → P i → Q i) → ((i : ℕ) → Q i → P i)
+    → IsFound P finish latest → IsFound Q finish latest
+found_same P Q finish None to from h = λ i q. h i (from i q)
+found_same P Q finish (Some latest) to from h = record {
+  number = record {
+    one = to latest.number h.number.one;
+    latest = λ i q. h.number.latest i (from i q);
+    lowest = λ i q same. h.number.lowest i (from i q) same;
+  };
+  finish_is = h.finish_is;
+}
+
+-- with the same finishes the latest is the same
+pub found_again : (P : ℕ → Type 0) (finish again : ℕ → ℕ) (latest : Option Latest) → ((i : ℕ) → P i → again i ≡ finish i)
+    → IsFound P finish latest → IsFound P again latest
+found_again P finish again None same h = h
+found_again P finish again (Some latest) same h =
+    let here : again latest.number ≡ finish latest.number = same latest.number h.number.one in
+    record {
+      number = record {
+        one = h.number.one;
+        latest = λ i p. let there : again i ≡ finish i = same i p in let bound : finish i ≤ finish latest.number = h.number.latest i p in omega arith;
+        lowest = λ i p equal. let there : again i ≡ finish i = same i p in h.number.lowest i p (sym there ∙ equal ∙ here);
+      };
+      finish_is = h.finish_is ∙ sym here;
+    }
+
+-- the latest of all that one or another thing holds of
+pub found_either : (P Q : ℕ → Type 0) (finish : ℕ → ℕ) (one other : Option Latest) → IsFound P finish one → IsFound Q finish other
+    → IsFound (λ i. P i ⊎ Q i) finish (later_of one other)
+found_either P Q finish None other none h =
+    found_same Q (λ i. P i ⊎ Q i) finish other (λ i q. inr q) (λ i either. ⊎_elim (λ p. absurd (none i p)) (λ q. q) either) h
+found_either P Q finish (Some one) None h none =
+    found_same P (λ i. P i ⊎ Q i) finish (Some one) (λ i p. inl p) (λ i either. ⊎_elim (λ p. p) (λ q. absurd (none i q)) either) h
+found_either P Q finish (Some one) (Some other) h g =
+    let one_finish : one.finish ≡ finish one.number = h.finish_is in
+    let other_finish : other.finish ≡ finish other.number = g.finish_is in
+    cond_both (is_later one other) (Some other) (Some one) (λ x. IsFound (λ i. P i ⊎ Q i) finish x)
+    (λ later.
+    let order = is_later_true one.finish other.finish one.number other.number later in
+    let no_earlier : one.finish ≤ other.finish = order.0 in
+    record {
+      number = record {
+        one = inr g.number.one;
+        latest = λ i either.
+            ⊎_elim {C = finish i ≤ finish other.number}
+            (λ (p : P i). let bound : finish i ≤ finish one.number = h.number.latest i p in omega arith)
+            (λ (q : Q i). g.number.latest i q)
+            either;
+        lowest = λ i either same.
+            ⊎_elim {C = other.number ≤ i}
+            (λ (p : P i).
+            let bound : finish i ≤ finish one.number = h.number.latest i p in
+            let equal : one.finish ≡ other.finish = omega arith in
+            let lower : other.number < one.number = order.1 equal in
+            let lowest : one.number ≤ i = h.number.lowest i p (omega arith) in
+            omega arith)
+            (λ (q : Q i). g.number.lowest i q same)
+            either;
+      };
+      finish_is = g.finish_is;
+    })
+    (λ not_later.
+    let order = is_later_false one.finish other.finish one.number other.number not_later in
+    let no_earlier : other.finish ≤ one.finish = order.0 in
+    record {
+      number = record {
+        one = inl h.number.one;
+        latest = λ i either.
+            ⊎_elim {C = finish i ≤ finish one.number}
+            (λ (p : P i). h.number.latest i p)
+            (λ (q : Q i). let bound : finish i ≤ finish other.number = g.number.latest i q in omega arith)
+            either;
+        lowest = λ i either same.
+            ⊎_elim {C = one.number ≤ i}
+            (λ (p : P i). h.number.lowest i p same)
+            (λ (q : Q i).
+            let bound : finish i ≤ finish other.number = g.number.latest i q in
+            let equal : other.finish ≡ one.finish = omega arith in
+            let lower : one.number ≤ other.number = order.1 equal in
+            let lowest : other.number ≤ i = g.number.lowest i q (omega arith) in
+            omega arith)
+            either;
+      };
+      finish_is = h.finish_is;
+    })
+
+-- one message is the latest of itself
+pub found_one : (finish : ℕ → ℕ) (message : Latest) (n : ℕ) → message.number ≡ n → finish n ≡ message.finish
+    → IsFound (λ i. i ≡ n) finish (Some message)
+found_one finish message n number is = record {
+  number = record {
+    one = number;
+    latest = λ i same. let equal : finish i ≡ finish message.number = ap finish (same ∙ sym number) in omega arith;
+    lowest = λ i same equal. omega arith;
+  };
+  finish_is = sym is ∙ ap finish (sym number);
+}
+
+-- one more message of which P holds
+pub found_noted : (P : ℕ → Type 0) (finish : ℕ → ℕ) (n : ℕ) (latest : Option Latest) (message : Latest) → message.number ≡ n + 1
+    → finish (n + 1) ≡ message.finish → P (n + 1) → IsFound (λ i. IsUpTo n i × P i) finish latest
+    → IsFound (λ i. IsUpTo (n + 1) i × P i) finish (later_of latest (Some message))
+found_noted P finish n latest message number is holds h =
+    found_same (λ i. (IsUpTo n i × P i) ⊎ (i ≡ n + 1)) (λ i. IsUpTo (n + 1) i × P i) finish (later_of latest (Some message))
+    (λ i either.
+    ⊎_elim {C = IsUpTo (n + 1) i × P i}
+    (λ (old : IsUpTo n i × P i).
+    let from : 1 ≤ i = old.0.from in let to : i ≤ n = old.0.to in
+    (record { from = from; to = omega arith }, old.1))
+    (λ (last : i ≡ n + 1). (record { from = omega arith; to = omega arith }, subst P (sym last) holds))
+    either)
+    (λ i new.
+    let from : 1 ≤ i = new.0.from in let to : i ≤ n + 1 = new.0.to in
+    ⊎_elim {C = (IsUpTo n i × P i) ⊎ (i ≡ n + 1)}
+    (λ (last : i ≡ n + 1). inr last)
+    (λ (other : i ≢ n + 1). inl (record { from = from; to = omega arith }, new.1))
+    (cases_eq i (n + 1)))
+    (found_either (λ i. IsUpTo n i × P i) (λ i. i ≡ n + 1) finish latest (Some message) h (found_one finish message (n + 1) number is))
+
+-- one more message of which P does not hold
+pub found_passed : (P : ℕ → Type 0) (finish : ℕ → ℕ) (n : ℕ) (latest : Option Latest) → (P (n + 1) → ⊥)
+    → IsFound (λ i. IsUpTo n i × P i) finish latest → IsFound (λ i. IsUpTo (n + 1) i × P i) finish latest
+found_passed P finish n latest fails h =
+    found_same (λ i. IsUpTo n i × P i) (λ i. IsUpTo (n + 1) i × P i) finish latest
+    (λ i old.
+    let from : 1 ≤ i = old.0.from in let to : i ≤ n = old.0.to in
+    (record { from = from; to = omega arith }, old.1))
+    (λ i new.
+    let from : 1 ≤ i = new.0.from in let to : i ≤ n + 1 = new.0.to in
+    ⊎_elim {C = IsUpTo n i × P i}
+    (λ (last : i ≡ n + 1). absurd (fails (subst P last new.1)))
+    (λ (other : i ≢ n + 1). (record { from = from; to = omega arith }, new.1))
+    (cases_eq i (n + 1)))
+    h

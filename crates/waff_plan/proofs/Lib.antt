@@ -1,0 +1,9 @@
+pub mod Longest
+pub mod ChainLemmas
+pub mod Ticks
+pub mod Steps
+pub mod Forward
+pub mod Latests
+pub mod Tables
+pub mod Planned
+pub mod Linkings

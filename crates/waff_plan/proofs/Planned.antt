@@ -1,0 +1,153 @@
+-- The starts of the least plan, one message after another, by the table of the latest messages.
+use Rattle.std.proofs.Common.{◌≡◌, ◌≢◌, ℕ, ◌+◌, ◌-◌, ◌*◌, ◌^◌, ◌<◌, ◌≤◌, max, List, [], ◌∷◌, ◌++◌, length, get_or, Option, Some, None, MatchOption, All, arith, sym, ◌∙◌, ap, subst, ⊎_elim}
+use Rattle.std.proofs.lemmas.Bool.{cases_eq}
+use Rattle.std.proofs.lemmas.List.{get_or_append_left, get_or_push, get_or_default, length_push}
+use Rattle.waff_model.specs.Tree.{Node, AtOrAbove}
+use Rattle.waff_assign.specs.Order.{affinity_of, IsOrdered}
+use Rattle.waff_plan.specs.Work.{Work, finish_of}
+use Rattle.waff_plan.specs.Obeys.{IsForward, IsEarliest}
+use Rattle.waff_plan.specs.Table.{IsUpTo, IsTable, IsLatestExcluding}
+use Rattle.waff_plan.specs.Timing.{start_of}
+use Rattle.waff_plan.specs.declared.latest.Latest.{Latest}
+use Rattle.waff_plan.specs.declared.timing.TheConstants.{MAX_TICK}
+use Rattle.waff_plan.proofs.Forward.{IsOrdered_forward}
+use Rattle.waff_plan.proofs.Latests.{found_again}
+use Rattle.waff_plan.proofs.Steps.{IsLeastUpTo, up_to_more}
+
+-- with the same finishes the table is the same
+pub table_again : (tree : List Node) (assigned : List ℕ) (finish again : ℕ → ℕ) (n : ℕ) (own under : List (Option Latest))
+    → ((i : ℕ) → 1 ≤ i → i ≤ n → again i ≡ finish i) → IsTable tree assigned finish n own under → IsTable tree assigned again n own under
+table_again tree assigned finish again n own under same table = record {
+  own_each = λ a within.
+      found_again (λ i. IsUpTo n i × (affinity_of assigned i ≡ a)) finish again (get_or own a None)
+      (λ i is. same i is.0.from is.0.to) (table.own_each a within);
+  under_each = λ a within.
+      found_again (λ i. IsUpTo n i × AtOrAbove tree a (affinity_of assigned i)) finish again (get_or under a None)
+      (λ i is. same i is.0.from is.0.to) (table.under_each a within);
+}
+
+-- a message starts at its release or at the finish of the latest message that excludes it
+pub earliest_after : (tree : List Node) (assigned : List ℕ) (work : Work) (start : ℕ → ℕ) (n s : ℕ) (latest : Option Latest) → n + 1 ≤ length assigned
+    → IsLatestExcluding tree assigned (finish_of work start) n (affinity_of assigned (n + 1)) latest
+    → MatchOption latest (s ≡ work.release (n + 1)) (λ l. s ≡ max (work.release (n + 1)) l.finish)
+    → IsEarliest (IsOrdered tree assigned) work start (n + 1) s
+earliest_after tree assigned work start n s None room none is = record {
+  released = omega arith;
+  after = λ i h.
+      let earlier : i < n + 1 = h.earlier in
+      absurd (none i (record { from = h.from; to = omega arith }, h.excludes));
+  least = λ t released after. omega arith;
+}
+earliest_after tree assigned work start n s (Some latest) room found is =
+    let finish_is : latest.finish ≡ finish_of work start latest.number = found.finish_is in
+    record {
+      released = omega arith;
+      after = λ i h.
+          let earlier : i < n + 1 = h.earlier in
+          let bound : finish_of work start i ≤ finish_of work start latest.number
+          = found.number.latest i (record { from = h.from; to = omega arith }, h.excludes) in
+          omega arith;
+      least = λ t released after.
+          let number = found.number.one in
+          let last : latest.number ≤ n = number.0.to in
+          let bound : finish_of work start latest.number ≤ t
+          = after latest.number (record { from = number.0.from; earlier = omega arith; to = room; excludes = number.1 }) in
+          omega arith;
+    }
+
+-- what is known of the first n starts
+pub record IsPlanned (tree : List Node) (assigned : List ℕ) (work : Work) (starts : List ℕ) (n : ℕ) (own under : List (Option Latest)) : Type 0 where
+  pub count : length starts ≡ n
+  pub least : IsLeastUpTo (IsOrdered tree assigned) work (start_of starts) n
+  pub table : IsTable tree assigned (finish_of work (start_of starts)) n own under
+  pub early : (i : ℕ) → 1 ≤ i → i ≤ n → finish_of work (start_of starts) i ≤ 2 ^ 32 * (i + 1)
+
+-- the latest message that message m waits for
+pub found_at : (tree : List Node) (assigned : List ℕ) (finish : ℕ → ℕ) (m a : ℕ) (own under : List (Option Latest)) (latest : Option Latest)
+    → a ≡ affinity_of assigned m → IsTable tree assigned finish (m - 1) own under
+    → ((assigned : List ℕ) (finish : ℕ → ℕ) (n : ℕ) → IsTable tree assigned finish n own under → IsLatestExcluding tree assigned finish n a latest)
+    → IsLatestExcluding tree assigned finish (m - 1) (affinity_of assigned m) latest
+found_at tree assigned finish m a own under latest is table answer =
+    subst (λ x. IsLatestExcluding tree assigned finish (m - 1) x latest) is (answer assigned finish (m - 1) table)
+
+-- the start of the next message is early
+pub start_early : (tree : List Node) (assigned : List ℕ) (work : Work) (starts : List ℕ) (m s : ℕ) (own under : List (Option Latest)) (latest : Option Latest)
+    → 1 ≤ m → IsPlanned tree assigned work starts (m - 1) own under → work.release m < 2 ^ 32
+    → IsLatestExcluding tree assigned (finish_of work (start_of starts)) (m - 1) (affinity_of assigned m) latest
+    → MatchOption latest (s ≡ work.release m) (λ l. s ≡ max (work.release m) l.finish)
+    → s ≤ 2 ^ 32 * m
+start_early tree assigned work starts m s own under None from planned small none is = omega arith
+start_early tree assigned work starts m s own under (Some latest) from planned small found is =
+    let finish_is : latest.finish ≡ finish_of work (start_of starts) latest.number = found.finish_is in
+    let to : latest.number ≤ m - 1 = found.number.one.0.to in
+    let bound : finish_of work (start_of starts) latest.number ≤ 2 ^ 32 * (latest.number + 1)
+    = planned.early latest.number found.number.one.0.from to in
+    omega arith
+
+-- the earlier starts stay
+kept : (starts : List ℕ) (n s i : ℕ) → length starts ≡ n → 1 ≤ i → i ≤ n → start_of (starts ++ s ∷ []) i ≡ start_of starts i
+kept starts n s i count from to = get_or_append_left starts (s ∷ []) 0 (i - 1) (omega arith)
+
+-- one more start
+pub planned_more : (tree : List Node) (assigned : List ℕ) (work : Work) (starts : List ℕ) (n s : ℕ) (own under more_own more_under : List (Option Latest))
+    → IsForward (IsOrdered tree assigned) work → n + 1 ≤ work.count → work.cost (n + 1) < 2 ^ 32 → s ≤ 2 ^ 32 * (n + 1)
+    → IsPlanned tree assigned work starts n own under → IsEarliest (IsOrdered tree assigned) work (start_of starts) (n + 1) s
+    → ((finish : ℕ → ℕ) → IsTable tree assigned finish n own under → finish (n + 1) ≡ s + work.cost (n + 1) → IsTable tree assigned finish (n + 1) more_own more_under)
+    → IsPlanned tree assigned work (starts ++ s ∷ []) (n + 1) more_own more_under
+planned_more tree assigned work starts n s own under more_own more_under forward room small early planned earliest note =
+    let later = starts ++ s ∷ [] in
+    let last : start_of later (n + 1) ≡ s = get_or_push starts s 0 (n + 1 - 1) (omega (arith, planned.count)) in
+    record {
+      count = grind (arith, length_push starts s, planned.count);
+      least = up_to_more (IsOrdered tree assigned) work (start_of starts) (start_of later) n forward room planned.least
+          (λ i from to. kept starts n s i planned.count from to)
+          (subst (λ x. IsEarliest (IsOrdered tree assigned) work (start_of starts) (n + 1) x) (sym last) earliest);
+      table = note (finish_of work (start_of later))
+          (table_again tree assigned (finish_of work (start_of starts)) (finish_of work (start_of later)) n own under
+          (λ i from to. ap (λ x. x + work.cost i) (kept starts n s i planned.count from to)) planned.table)
+          (ap (λ x. x + work.cost (n + 1)) last);
+      early = λ i from to.
+          ⊎_elim {C = finish_of work (start_of later) i ≤ 2 ^ 32 * (i + 1)}
+          (λ (new : i ≡ n + 1).
+          let cost : work.cost i ≡ work.cost (n + 1) = ap work.cost new in
+          let at : start_of later i ≡ s = ap (start_of later) new ∙ last in
+          omega arith)
+          (λ (old : i ≢ n + 1).
+          let within : i ≤ n = omega arith in
+          let same : start_of later i ≡ start_of starts i = kept starts n s i planned.count from within in
+          let bound : finish_of work (start_of starts) i ≤ 2 ^ 32 * (i + 1) = planned.early i from within in
+          omega arith)
+          (cases_eq i (n + 1));
+    }
+
+-- the same by the number of the message
+pub planned_next : (tree : List Node) (assigned : List ℕ) (work : Work) (starts : List ℕ) (m s : ℕ) (own under more_own more_under : List (Option Latest))
+    (latest : Option Latest) → length assigned ≡ work.count → 1 ≤ m → m ≤ work.count → work.cost m < 2 ^ 32 → s ≤ 2 ^ 32 * m
+    → IsPlanned tree assigned work starts (m - 1) own under
+    → IsLatestExcluding tree assigned (finish_of work (start_of starts)) (m - 1) (affinity_of assigned m) latest
+    → MatchOption latest (s ≡ work.release m) (λ l. s ≡ max (work.release m) l.finish)
+    → ((finish : ℕ → ℕ) → IsTable tree assigned finish (m - 1) own under → finish m ≡ s + work.cost m → IsTable tree assigned finish m more_own more_under)
+    → IsPlanned tree assigned work (starts ++ s ∷ []) (m + 1 - 1) more_own more_under
+planned_next tree assigned work starts m s own under more_own more_under latest same from to small early planned found is note =
+    let n = m - 1 in
+    let this : m ≡ n + 1 = omega arith in
+    let next : n + 1 ≡ m + 1 - 1 = omega arith in
+    let forward = IsOrdered_forward tree assigned work same in
+    let earliest : IsEarliest (IsOrdered tree assigned) work (start_of starts) (n + 1) s
+    = earliest_after tree assigned work (start_of starts) n s latest (omega arith)
+    (subst (λ x. IsLatestExcluding tree assigned (finish_of work (start_of starts)) n (affinity_of assigned x) latest) this found)
+    (subst (λ x. MatchOption latest (s ≡ work.release x) (λ l. s ≡ max (work.release x) l.finish)) this is) in
+    subst (λ x. IsPlanned tree assigned work (starts ++ s ∷ []) x more_own more_under) next
+    (planned_more tree assigned work starts n s own under more_own more_under forward (omega arith)
+    (subst (λ x. work.cost x < 2 ^ 32) this small) (omega arith) planned earliest
+    (subst (λ x. (finish : ℕ → ℕ) → IsTable tree assigned finish n own under → finish x ≡ s + work.cost x → IsTable tree assigned finish x more_own more_under) this note))
+
+-- early starts of few messages are printable
+pub early_is_printable : (tree : List Node) (assigned : List ℕ) (work : Work) (starts : List ℕ) (n : ℕ) (own under : List (Option Latest)) → n ≤ 65536
+    → IsPlanned tree assigned work starts n own under → All (λ start. start ≤ MAX_TICK) starts
+early_is_printable tree assigned work starts n own under few planned k d within =
+    let same : get_or starts k d ≡ get_or starts k 0 = get_or_default starts k d 0 within in
+    let count : length starts ≡ n = planned.count in
+    let one_more : start_of starts (k + 1) ≡ get_or starts k 0 = ap (λ x. get_or starts x 0) (omega arith) in
+    let bound : finish_of work (start_of starts) (k + 1) ≤ 2 ^ 32 * (k + 1 + 1) = planned.early (k + 1) (omega arith) (omega arith) in
+    omega arith

@@ -1,0 +1,29 @@
+use Rattle.std.proofs.Common.{◌≡◌, ℕ, ◌+◌, ◌-◌, List, [], ◌∷◌, ◌++◌, Some, take, slice_get, arith, sym, ◌∙◌, ap, option_map}
+use Rattle.std.proofs.lemmas.List.{take_more}
+use Rattle.std.proofs.lemmas.Option.{slice_get-map, slice_get_within, get_or_from_slice_get}
+use Rattle.waff_model.specs.declared.message.Message.{Message}
+use Rattle.waff_plan.specs.declared.timing.Timing.{Timing}
+use Rattle.waff_plan.specs.Timetable.{timings_of}
+use Rattle.waff_plan.proofs.timing.timings.Goals as goal
+
+-- one more timing
+timings_more : (messages : List Message) (i : ℕ) (message : Message) → slice_get messages i ≡ Some message
+    → take (i + 1) (timings_of messages) ≡ take i (timings_of messages) ++ record { cost = message.cost; release = message.release } ∷ []
+timings_more messages i message is =
+    let timing : Timing = record { cost = message.cost; release = message.release } in
+    let all = timings_of messages in
+    let at : slice_get all i ≡ Some timing
+    = slice_get-map (λ (m : Message). let t : Timing = record { cost = m.cost; release = m.release } in t) messages i
+    ∙ ap (λ o. option_map (λ (m : Message). let t : Timing = record { cost = m.cost; release = m.release } in t) o) is in
+    take_more all i timing (slice_get_within all i timing at)
+    ∙ ap (λ x. take i all ++ x ∷ []) (get_or_from_slice_get all i timing timing at)
+
+pub loop-n-preserved : goal.loop-n-preserved
+loop-n-preserved c =
+    let i = c.loop-n.n - 1 in
+    let all = timings_of c.args.trace.now.messages in
+    let next : i + 1 ≡ c.loop-n.n + 1 - 1 = omega arith in
+    c.in_ok-push.ensures.items
+    ∙ ap (λ xs. xs ++ record { cost = c.message-message.result.now.cost; release = c.message-message.result.now.release } ∷ []) c.loop-n.invariant
+    ∙ sym (timings_more c.args.trace.now.messages i c.message-message.result.now c.message-message.ensures.message)
+    ∙ ap (λ k. take k all) next

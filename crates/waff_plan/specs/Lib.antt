@@ -1,0 +1,11 @@
+pub mod Work
+pub mod Obeys
+pub mod Chain
+pub mod Workers
+pub mod Laws
+pub mod Timing
+pub mod Timetable
+pub mod Latest
+pub mod Table
+pub mod Links
+pub mod CostedChain

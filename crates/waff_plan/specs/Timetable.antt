@@ -1,0 +1,20 @@
+-- A plan as a table: the timing and the start of each message, in the order of arrival.
+use Rattle.std.specs.Prelude.{◌≡◌, ℕ, ◌≤◌, List, length, map, All}
+use Rattle.waff_model.specs.declared.limits.TheConstants.{MAX_MESSAGES}
+use Rattle.waff_model.specs.declared.message.Message.{Message}
+use Rattle.waff_plan.specs.declared.timing.Timing.{Timing}
+use Rattle.waff_plan.specs.declared.timing.TheConstants.{MAX_TICK}
+
+pub record Timetable : Type 0 where
+  pub timings : List Timing
+  pub starts : List ℕ
+
+-- each message has a start, and no start is too late to be printed
+pub record IsTimetable (table : Timetable) : Type 0 where
+  pub lengths : length table.starts ≡ length table.timings
+  pub few : length table.timings ≤ MAX_MESSAGES
+  pub printable : All (λ start. start ≤ MAX_TICK) table.starts
+
+-- the timings of the messages of a trace
+abbrev pub timings_of : List Message → List Timing
+timings_of messages = map (λ message. record { cost = message.cost; release = message.release }) messages

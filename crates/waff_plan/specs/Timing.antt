@@ -1,0 +1,24 @@
+-- The timings and the starts of a trace's messages, as lists in the order of arrival.
+use Rattle.std.specs.Prelude.{ℕ, ◌-◌, List, length, slice_index, slice_index_or}
+use Rattle.waff_plan.specs.Work.{Work}
+use Rattle.waff_plan.specs.declared.timing.Timing.{Timing}
+
+-- of no message
+abbrev pub no_timing : Timing
+no_timing = record { cost = 0; release = 0 }
+
+-- the timing of message n, from 1
+abbrev pub timing_of : List Timing → ℕ → Timing
+timing_of timings n = slice_index_or timings (n - 1) no_timing
+
+-- the work of messages with these timings
+abbrev pub work_of : List Timing → Work
+work_of timings = record {
+  count = length timings;
+  cost = λ m. (timing_of timings m).cost;
+  release = λ m. (timing_of timings m).release;
+}
+
+-- the start of message n, from 1
+abbrev pub start_of : List ℕ → ℕ → ℕ
+start_of starts n = slice_index starts (n - 1)

@@ -1,0 +1,89 @@
+//! The printed chain of a plan.
+
+ghost use Rattle.std.specs.Prelude.{◌≡◌, ◌+◌, ◌<◌, ◌≤◌, length, All, IfOk, OnOk};
+ghost use Rattle.waff_assign.specs.Order.{IsOrdered};
+ghost use Rattle.waff_plan.specs.Chain.{IsChain, IsPrinted, chain_cost, chain_release};
+ghost use Rattle.waff_plan.specs.Obeys.{IsLeast};
+ghost use Rattle.waff_plan.specs.Timing.{work_of, start_of};
+ghost use Rattle.waff_plan.specs.Work.{IsNumber, length_of};
+
+use crate::links::{last, links};
+use crate::{Chain, Plan};
+use std::alloc::{AllocError, Global};
+use waff_assign::Assigned;
+use waff_model::Tree;
+use waff_model::limits::MAX_MESSAGES;
+
+/// The printed chain of the plan: it ends with the latest message, and before each message stands the latest of those that
+/// it waited for, until one waited for its release alone. In the unlimited plan its release plus its cost is the length.
+pub fn chain(
+    alloc: Global,
+    tree: &Tree,
+    assigned: &Assigned,
+    plan: &Plan,
+) -> Result<Chain, AllocError>
+    requires lengths { length plan.now.timings ≡ length assigned.now }
+    requires known { All (λ a. a < length tree.now) assigned.now }
+    ensures printed { IfOk result (λ chain. IsPrinted (IsOrdered tree.now assigned.now) (work_of plan.now.timings) (start_of plan.now.starts)
+        chain.messages) }
+    ensures chain { IfOk result (λ chain. IsChain (IsOrdered tree.now assigned.now) (work_of plan.now.timings) chain.messages) }
+    ensures cost { IfOk result (λ chain. chain.cost ≡ chain_cost (work_of plan.now.timings) chain.messages) }
+    ensures release { IfOk result (λ chain. chain.release ≡ chain_release (work_of plan.now.timings) chain.messages) }
+
+    // The certificate of the unlimited plan.
+    ensures as_long { IfOk result (λ chain. IsLeast (IsOrdered tree.now assigned.now) (work_of plan.now.timings) (start_of plan.now.starts)
+        → chain.release + chain.cost ≡ length_of (work_of plan.now.timings) (start_of plan.now.starts)) }
+{
+    let messages = printed(alloc, tree, assigned, plan)?;
+    let cost = cost_of(plan, messages.as_slice());
+    let release = release_of(plan, messages.as_slice());
+    Ok(Chain::new(messages, cost, release))
+}
+
+/// The messages of the printed chain.
+fn printed(
+    alloc: Global,
+    tree: &Tree,
+    assigned: &Assigned,
+    plan: &Plan,
+) -> Result<Vec<u32>, AllocError>
+    requires lengths { length plan.now.timings ≡ length assigned.now }
+    requires known { All (λ a. a < length tree.now) assigned.now }
+    ensures printed { IfOk result (λ messages. IsPrinted (IsOrdered tree.now assigned.now) (work_of plan.now.timings)
+        (start_of plan.now.starts) messages.items) }
+    ensures few { OnOk result (length plan.now.timings ≤ MAX_MESSAGES) }
+{
+    let links = links(alloc, tree, assigned, plan)?;
+    let mut messages = Vec::new(alloc);
+    let mut next = last(plan);
+    while let Some(message) = next {
+        messages.push(message)?;
+        next = links[message as usize - 1];
+    }
+    messages.reverse();
+    Ok(messages)
+}
+
+/// The sum of the running times of the messages.
+fn cost_of(plan: &Plan, messages: &[u32]) -> u64
+    requires numbers { All (IsNumber (work_of plan.now.timings)) messages.now }
+    requires few { length messages.now ≤ MAX_MESSAGES }
+    ensures { result ≡ chain_cost (work_of plan.now.timings) messages.now }
+{
+    let mut cost = 0;
+    for message in messages {
+        cost += plan.cost(*message);
+    }
+    cost
+}
+
+/// The release of the first message, 0 where there is none.
+fn release_of(plan: &Plan, messages: &[u32]) -> u64
+    requires { All (IsNumber (work_of plan.now.timings)) messages.now }
+    ensures { result ≡ chain_release (work_of plan.now.timings) messages.now }
+{
+    match messages {
+        [first, ..] => plan.release(*first),
+        [] => 0,
+    }
+}

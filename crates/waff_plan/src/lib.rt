@@ -1,0 +1,17 @@
+//! The unlimited plan of a trace, its printed chain, and the laws of plans.
+#![tactic(auto)]
+
+pub mod chains;
+mod latest;
+pub mod laws;
+mod least;
+mod linked;
+mod links;
+mod table;
+mod timetable;
+mod timing;
+pub mod unlimited;
+
+pub use linked::Chain;
+pub use timetable::Plan;
+pub use timing::{MAX_TICK, Timing};

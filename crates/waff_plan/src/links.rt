@@ -1,0 +1,68 @@
+//! The links of a plan: for each message the one that its start waited for.
+
+ghost use Rattle.std.specs.Prelude.{◌≡◌, ◌<◌, ◌≤◌, length, All, IfOk, OnOk, MatchOption};
+ghost use Rattle.waff_assign.specs.Order.{IsOrdered};
+ghost use Rattle.waff_plan.specs.Chain.{IsLatest};
+ghost use Rattle.waff_plan.specs.Links.{link_of, AreLinks};
+ghost use Rattle.waff_plan.specs.Timing.{work_of, start_of};
+ghost use Rattle.waff_plan.specs.Work.{IsNumber, finish_of};
+
+use crate::Plan;
+use crate::latest::{Latest, later};
+use crate::table::Table;
+use std::alloc::{AllocError, Global};
+use waff_assign::Assigned;
+use waff_model::Tree;
+use waff_model::limits::MAX_MESSAGES;
+
+/// For each message the latest of those that it waited for, where it did not wait for its release instead.
+pub(crate) fn links(
+    alloc: Global,
+    tree: &Tree,
+    assigned: &Assigned,
+    plan: &Plan,
+) -> Result<Vec<Option<u32>>, AllocError>
+    requires lengths { length plan.now.timings ≡ length assigned.now }
+    requires known { All (λ a. a < length tree.now) assigned.now }
+    ensures count { IfOk result (λ links. length links.items ≡ length plan.now.timings) }
+    ensures few { OnOk result (length plan.now.timings ≤ MAX_MESSAGES) }
+    ensures links { IfOk result (λ links. AreLinks (IsOrdered tree.now assigned.now) (work_of plan.now.timings) (start_of plan.now.starts)
+        (length plan.now.timings) links.items) }
+{
+    let mut table = Table::new(alloc, tree)?;
+    let mut links = Vec::with_capacity(alloc, plan.len() as usize)?;
+    for m in 1..plan.len() + 1 {
+        let affinity = assigned.of(m);
+        let link = waited_for(table.latest(tree, affinity), plan.release(m));
+        let finish = plan.finish(m);
+        table.note(tree, affinity, Latest { finish, number: m });
+        links.push(link)?;
+    }
+    Ok(links)
+}
+
+/// The latest message, where it finishes after the release.
+fn waited_for(latest: Option<Latest>, release: u64) -> Option<u32>
+    ensures { result ≡ link_of latest release }
+{
+    match latest {
+        Some(latest) if release < latest.finish => Some(latest.number),
+        _ => None,
+    }
+}
+
+/// The latest message of the plan.
+pub(crate) fn last(plan: &Plan) -> Option<u32>
+    ensures { MatchOption result (length plan.now.timings ≡ 0)
+        (IsLatest (IsNumber (work_of plan.now.timings)) (finish_of (work_of plan.now.timings) (start_of plan.now.starts))) }
+{
+    let mut last = None;
+    for m in 1..plan.len() + 1 {
+        let finish = plan.finish(m);
+        last = later(last, Some(Latest { finish, number: m }));
+    }
+    match last {
+        Some(latest) => Some(latest.number),
+        None => None,
+    }
+}

@@ -1,0 +1,125 @@
+//! Plans.
+
+ghost use Rattle.std.specs.Prelude.{◌≡◌, ◌+◌, ◌^◌, ◌<◌, ◌≤◌, length, All, IfOk};
+ghost use Rattle.waff_plan.specs.Work.{finish_of, length_of, total_of};
+ghost use Rattle.waff_plan.specs.Timing.{timing_of, work_of, start_of};
+
+use crate::Timing;
+use crate::timing::{MAX_TICK, timings};
+use std::alloc::{AllocError, Global};
+use std::marker::Model;
+use waff_model::Trace;
+
+/// A plan: the start of each message of a trace. Messages are numbered from 1; all times are ticks.
+#[derive(Drop)]
+pub struct Plan {
+    timings: Vec<Timing>,
+    starts: Vec<u64>,
+}
+
+impl Model for Plan {
+    ghost use Rattle.waff_plan.specs.Timetable.{Timetable, IsTimetable};
+
+    ghost Value = { Timetable };
+
+    ghost view = { λ p. record { timings = p.timings.items; starts = p.starts.items } };
+
+    ghost invariant = { λ p. IsTimetable (record { timings = p.timings.items; starts = p.starts.items }) };
+}
+
+impl Plan {
+    ghost use Rattle.waff_plan.specs.Timetable.{IsTimetable, timings_of};
+
+    /// The plan with these timings and starts.
+    pub(crate) fn new(timings: Vec<Timing>, starts: Vec<u64>) -> Plan
+        requires { IsTimetable (record { timings = timings.items; starts = starts.items }) }
+        ensures timings { result.timings ≡ timings.items }
+        ensures starts { result.starts ≡ starts.items }
+    {
+        Plan { timings, starts }
+    }
+
+    /// The plan of the trace in which the messages start at these ticks.
+    pub fn of_starts(alloc: Global, trace: &Trace, starts: &[u64]) -> Result<Plan, AllocError>
+        requires lengths { length starts.now ≡ length trace.now.messages }
+        requires printable { All (λ start. start ≤ MAX_TICK) starts.now }
+        ensures timings { IfOk result (λ plan. plan.timings ≡ timings_of trace.now.messages) }
+        ensures starts { IfOk result (λ plan. plan.starts ≡ starts.now) }
+    {
+        let timings = timings(alloc, trace)?;
+        let starts = Vec::from_slice(alloc, starts)?;
+        Ok(Plan::new(timings, starts))
+    }
+
+    /// How many messages there are.
+    pub fn len(&self) -> u32
+        ensures count { result ≡ length self.now.timings }
+        ensures table { IsTimetable self.now }
+    {
+        self.timings.len() as u32
+    }
+
+    /// The tick at which message `n` starts.
+    pub fn start(&self, n: u32) -> u64
+        requires from { 1 ≤ n }
+        requires to { n ≤ length self.now.timings }
+        ensures start { result ≡ start_of self.now.starts n }
+        ensures printable { result ≤ MAX_TICK }
+    {
+        self.starts[n as usize - 1]
+    }
+
+    /// The tick at which message `n` has finished.
+    pub fn finish(&self, n: u32) -> u64
+        requires from { 1 ≤ n }
+        requires to { n ≤ length self.now.timings }
+        ensures finish { result ≡ finish_of (work_of self.now.timings) (start_of self.now.starts) n }
+        ensures small { result < MAX_TICK + 2 ^ 32 }
+    {
+        self.start(n) + self.cost(n)
+    }
+
+    /// The tick before which message `n` may not start.
+    pub fn release(&self, n: u32) -> u64
+        requires from { 1 ≤ n }
+        requires to { n ≤ length self.now.timings }
+        ensures { result ≡ (timing_of self.now.timings n).release }
+    {
+        u64::from(self.timings[n as usize - 1].release)
+    }
+
+    /// The running time of message `n`.
+    pub(crate) fn cost(&self, n: u32) -> u64
+        requires from { 1 ≤ n }
+        requires to { n ≤ length self.now.timings }
+        ensures cost { result ≡ (timing_of self.now.timings n).cost }
+        ensures small { result < 2 ^ 32 }
+    {
+        u64::from(self.timings[n as usize - 1].cost)
+    }
+
+    /// The tick at which every message has finished, 0 for no message.
+    pub fn length(&self) -> u64
+        ensures length { result ≡ length_of (work_of self.now.timings) (start_of self.now.starts) }
+        ensures small { result < MAX_TICK + 2 ^ 32 }
+    {
+        let mut length = 0;
+        for n in 1..self.len() + 1 {
+            length = self.finish(n).max(length);
+        }
+        length
+    }
+
+    /// The sum of all running times.
+    pub fn total(&self) -> u64
+        ensures total { result ≡ total_of (work_of self.now.timings) }
+        ensures small { result ≤ 2 ^ 48 }
+    {
+        let mut total = 0;
+        for n in 1..self.len() + 1 {
+            let cost = self.cost(n);
+            total += cost;
+        }
+        total
+    }
+}

@@ -1,0 +1,36 @@
+//! Ticks, and the timings of messages.
+
+ghost use Rattle.std.specs.Prelude.{◌≡◌, ◌≤◌, length, IfOk};
+ghost use Rattle.waff_plan.specs.Timetable.{timings_of};
+
+use std::alloc::{AllocError, Global};
+use waff_model::Trace;
+use waff_model::limits::MAX_MESSAGES;
+
+/// A number in the text of a plan.
+pub const MAX_TICK: u64 = 1_000_000_000_000_000;
+
+/// How long a message runs, and when it may start.
+#[derive(Clone, Copy, Debug, PartialEq, Eq)]
+pub struct Timing {
+    /// The running time, in ticks.
+    pub cost: u32,
+    /// The tick before which the message may not start.
+    pub release: u32,
+}
+
+/// The timings of the messages of a trace, in the order of arrival.
+pub(crate) fn timings(alloc: Global, trace: &Trace) -> Result<Vec<Timing>, AllocError>
+    ensures each { IfOk result (λ timings. timings.items ≡ timings_of trace.now.messages) }
+    ensures few { length trace.now.messages ≤ MAX_MESSAGES }
+{
+    let mut timings = Vec::with_capacity(alloc, trace.len() as usize)?;
+    for n in 1..trace.len() + 1 {
+        let message = trace.message(n);
+        timings.push(Timing {
+            cost: message.cost,
+            release: message.release,
+        })?;
+    }
+    Ok(timings)
+}

@@ -1,0 +1,4 @@
+pub mod TraceFaults
+pub mod Ops
+pub mod Messages
+pub mod Traces

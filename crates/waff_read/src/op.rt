@@ -1,0 +1,140 @@
+//! One operation of a message.
+
+ghost use Rattle.std.specs.Prelude.{ℕ, ◌≡◌, ◌<◌, length};
+ghost use Rattle.waff_parse.specs.Texts.{small};
+ghost use Rattle.waff_read.specs.Ops as ops;
+
+use crate::trace_fault::TraceFault;
+use waff_model::{Cell, Layout, Op, is_name};
+use waff_parse::{cut, number, pair};
+
+// The cell with this index in a space; none is the index where it is 2^64 or more.
+fn cell_in(layout: &Layout, space: u32, index: Option<u64>) -> Result<Cell, TraceFault>
+    requires { space < length layout.now.spaces }
+    ensures { (n : ℕ) → index ≡ small n → result ≡ ops.cell_in layout.now.spaces space n }
+{
+    let size = layout.space_size(space);
+    let Some(index) = index else {
+        return Err(TraceFault::IndexTooLarge);
+    };
+    if index < u64::from(size) {
+        Ok(Cell {
+            space,
+            index: index as u32,
+        })
+    } else {
+        Err(TraceFault::IndexTooLarge)
+    }
+}
+
+// The cell of a name and an index.
+fn named_cell(layout: &Layout, name: &str, index: &str) -> Result<Cell, TraceFault>
+    ensures { result ≡ ops.cell_of_name layout.now.spaces name.now index.now }
+{
+    if !is_name(name) {
+        return Err(TraceFault::Op);
+    }
+    let Some(index) = number(index) else {
+        return Err(TraceFault::Op);
+    };
+    let Some(space) = layout.find_space(name) else {
+        return Err(TraceFault::SpaceUnknown);
+    };
+    cell_in(layout, space, index)
+}
+
+// The cell that a text spells.
+#[tactic(auto, unfolding(crate::specs::Ops::cell_of))]
+fn read_cell(layout: &Layout, text: &str) -> Result<Cell, TraceFault>
+    ensures { result ≡ ops.cell_of layout.now.spaces text.now }
+{
+    let (name, rest) = cut(text, ':');
+    match rest {
+        None => Err(TraceFault::Op),
+        Some(rest) => {
+            let (index, more) = cut(rest, ':');
+            match more {
+                None => named_cell(layout, name, index),
+                Some(_) => Err(TraceFault::Op),
+            }
+        }
+    }
+}
+
+// The number below 2^64 that a text spells.
+#[tactic(auto, unfolding(crate::specs::Ops::value_of))]
+fn read_value(text: &str) -> Result<u64, TraceFault>
+    ensures { result ≡ ops.value_of text.now }
+{
+    match number(text) {
+        Some(Some(value)) => Ok(value),
+        Some(None) => Err(TraceFault::Op),
+        None => Err(TraceFault::Op),
+    }
+}
+
+// The operation of a verb and one word.
+#[tactic(auto, unfolding(crate::specs::Ops::op_of_one))]
+fn read_one(layout: &Layout, verb: &str, cell: &str) -> Result<Op, TraceFault>
+    ensures { result ≡ ops.op_of_one layout.now.spaces verb.now cell.now }
+{
+    if verb != "read" {
+        return Err(TraceFault::Op);
+    }
+    let cell = read_cell(layout, cell)?;
+    Ok(Op::Read { cell })
+}
+
+// The operation of a verb and two words.
+#[tactic(auto, unfolding(crate::specs::Ops::op_of_two))]
+fn read_two(layout: &Layout, verb: &str, first: &str, second: &str) -> Result<Op, TraceFault>
+    ensures { result ≡ ops.op_of_two layout.now.spaces verb.now first.now second.now }
+{
+    if verb == "set" {
+        let (cell, value) = pair(read_cell(layout, first), read_value(second))?;
+        return Ok(Op::Set { cell, value });
+    }
+    if verb == "add" {
+        let (cell, value) = pair(read_cell(layout, first), read_value(second))?;
+        return Ok(Op::Add { cell, value });
+    }
+    if verb == "copy" {
+        let (cell, source) = pair(read_cell(layout, first), read_cell(layout, second))?;
+        return Ok(Op::Copy { cell, source });
+    }
+    if verb == "swap" {
+        let (cell, other) = pair(read_cell(layout, first), read_cell(layout, second))?;
+        return Ok(Op::Swap { cell, other });
+    }
+    Err(TraceFault::Op)
+}
+
+// The operation of a verb and the words after it.
+#[tactic(auto, unfolding(crate::specs::Ops::op_of_verb))]
+fn read_words(layout: &Layout, verb: &str, words: &str) -> Result<Op, TraceFault>
+    ensures { result ≡ ops.op_of_verb layout.now.spaces verb.now words.now }
+{
+    let (first, rest) = cut(words, ' ');
+    match rest {
+        None => read_one(layout, verb, first),
+        Some(rest) => {
+            let (second, rest) = cut(rest, ' ');
+            match rest {
+                None => read_two(layout, verb, first, second),
+                Some(_) => Err(TraceFault::Op),
+            }
+        }
+    }
+}
+
+/// The operation that a piece spells.
+#[tactic(auto, unfolding(crate::specs::Ops::op_of, crate::specs::Ops::op_of_verb))]
+pub(crate) fn read_op(layout: &Layout, piece: &str) -> Result<Op, TraceFault>
+    ensures { result ≡ ops.op_of layout.now.spaces piece.now }
+{
+    let (verb, rest) = cut(piece, ' ');
+    match rest {
+        None => Err(TraceFault::Op),
+        Some(words) => read_words(layout, verb, words),
+    }
+}

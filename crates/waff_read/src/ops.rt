@@ -1,0 +1,81 @@
+//! The operations of a message.
+
+ghost use Rattle.std.specs.Prelude.{◌≡◌, ◌≤◌, ◌+◌, [], ◌∷◌, ◌++◌, IfOk, OnOk, length, take};
+ghost use Rattle.waff_model.specs.declared.limits.TheConstants.{MAX_OPS};
+ghost use Rattle.waff_parse.specs.Refusals.{both, one};
+ghost use Rattle.waff_parse.specs.Stopping.{Gives};
+ghost use Rattle.waff_read.specs.Ops as ops;
+ghost use Rattle.waff_read.specs.TraceFaults.{number};
+
+use crate::op::read_op;
+use crate::trace_fault::TraceFault;
+use std::alloc::{AllocError, Global};
+use waff_model::limits::MAX_OPS;
+use waff_model::{Layout, Op, Ops};
+use waff_parse::{Stop, least};
+
+// Adds an operation to those that are kept: the first ones, as far as one above the limit.
+fn keep(list: &mut Ops, op: Op) -> Result<(), AllocError>
+    requires { length list.old ≤ MAX_OPS + 1 }
+    ensures { OnOk result (list.new ≡ take (MAX_OPS + 1) (list.old ++ op ∷ [])) }
+{
+    if MAX_OPS < list.len() {
+        return Ok(());
+    }
+    list.push(op)?;
+    Ok(())
+}
+
+// The operations so far with one more, or the least fault. No more than one above the limit is kept.
+fn with_op(
+    so_far: Result<Ops, TraceFault>,
+    op: Result<Op, TraceFault>,
+) -> Result<Result<Ops, TraceFault>, AllocError>
+    requires { IfOk so_far (λ list. length list ≤ MAX_OPS + 1) }
+    ensures { IfOk result (λ r. r ≡ ops.first_ops (both number so_far (one op))) }
+{
+    match (so_far, op) {
+        (Ok(mut list), Ok(op)) => {
+            keep(&mut list, op)?;
+            Ok(Ok(list))
+        }
+        (Ok(_), Err(e)) => Ok(Err(e)),
+        (Err(e), Ok(_)) => Ok(Err(e)),
+        (Err(d), Err(e)) => Ok(Err(least(d, e))),
+    }
+}
+
+// The operations of the pieces of a text, as far as one above the limit.
+fn read_pieces(
+    alloc: Global,
+    layout: &Layout,
+    text: &str,
+) -> Result<Result<Ops, TraceFault>, AllocError>
+    ensures { IfOk result (λ r. r ≡ ops.first_ops (ops.pieces_of layout.now.spaces text.now)) }
+{
+    let mut list = Ok(Ops::new(alloc));
+    for piece in text.split(';') {
+        list = with_op(list, read_op(layout, piece))?;
+    }
+    Ok(list)
+}
+
+/// The operations of a message.
+#[tactic(auto, unfolding(crate::specs::Ops::ops_of))]
+pub(crate) fn read_ops(alloc: Global, layout: &Layout, text: &str) -> Result<Ops, Stop<TraceFault>>
+    ensures { Gives (λ list. list) result (ops.ops_of layout.now.spaces text.now) }
+{
+    if text.is_empty() {
+        return Err(Stop::Fault(TraceFault::NoOps));
+    }
+    match read_pieces(alloc, layout, text)? {
+        Ok(list) => {
+            if MAX_OPS < list.len() {
+                Err(Stop::Fault(TraceFault::TooManyOps))
+            } else {
+                Ok(list)
+            }
+        }
+        Err(fault) => Err(Stop::Fault(fault)),
+    }
+}

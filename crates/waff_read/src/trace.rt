@@ -1,0 +1,104 @@
+//! The reader of traces.
+
+ghost use Rattle.std.specs.Prelude.{◌≡◌, ◌+◌, ◌≤◌, Ok, Err, drop, IfOk, OnOk};
+ghost use Rattle.waff_model.specs.Messages.{sizes_of};
+ghost use Rattle.waff_parse.specs.Rows.{Reads, records_left};
+ghost use Rattle.waff_parse.specs.Stopping.{Gives};
+ghost use Rattle.waff_read.specs.Traces as traces;
+
+use crate::message::{read_message, read_version};
+use crate::trace_fault::{TraceError, TraceFault};
+use csv::{Reader, StringRecord};
+use std::alloc::Global;
+use waff_model::{Layout, Message, Trace, Version};
+use waff_parse::{Stop, next_text, text_rows};
+
+// Reads the header, which is the first record.
+fn read_header(rdr: &mut Reader<&[u8]>, row: &mut StringRecord) -> Result<Version, Stop<TraceError>>
+    requires { Reads rdr.old }
+    ensures header { Gives (λ version. version) result (traces.header_of (records_left rdr.old)) }
+    ensures left { OnOk result (records_left rdr.new ≡ drop 1 (records_left rdr.old)) }
+    ensures reads { OnOk result (Reads rdr.new) }
+{
+    match next_text(rdr, row) {
+        Ok(true) => match read_version(row) {
+            Ok(version) => Ok(version),
+            Err(fault) => Err(Stop::Fault(fault.at_record(1))),
+        },
+        Ok(false) => Err(Stop::Fault(TraceFault::Header.at_record(1))),
+        Err(Stop::Memory) => Err(Stop::Memory),
+        Err(Stop::Fault(_)) => Err(Stop::Fault(TraceFault::Csv.at_record(1))),
+    }
+}
+
+// The message of the next record, whose number this is, if there is one.
+fn next_message(
+    alloc: Global,
+    layout: &Layout,
+    version: Version,
+    at: u32,
+    rdr: &mut Reader<&[u8]>,
+    row: &mut StringRecord,
+) -> Result<Option<Message>, Stop<TraceError>>
+    requires { Reads rdr.old }
+    ensures message { traces.GivesMessage version layout.now.spaces at result (records_left rdr.old) (records_left rdr.new) }
+    ensures reads { OnOk result (Reads rdr.new) }
+{
+    match next_text(rdr, row) {
+        Ok(true) => match read_message(alloc, layout, version, at, row) {
+            Ok(message) => Ok(Some(message)),
+            Err(Stop::Memory) => Err(Stop::Memory),
+            Err(Stop::Fault(fault)) => Err(Stop::Fault(fault.at_record(at))),
+        },
+        Ok(false) => Ok(None),
+        Err(Stop::Memory) => Err(Stop::Memory),
+        Err(Stop::Fault(_)) => Err(Stop::Fault(TraceFault::Csv.at_record(at))),
+    }
+}
+
+// The trace of the messages that are left.
+fn read_messages(
+    alloc: Global,
+    layout: &Layout,
+    version: Version,
+    rdr: &mut Reader<&[u8]>,
+    row: &mut StringRecord,
+) -> Result<Trace, Stop<TraceError>>
+    requires { Reads rdr.old }
+    ensures { Gives (λ trace. trace) result (traces.trace_of_rows version layout.now.spaces (records_left rdr.old)) }
+{
+    let mut trace = Trace::with_version(alloc, layout, version)?;
+    let mut at = 2;
+    while let Some(message) = next_message(alloc, layout, version, at, rdr, row)? {
+        trace.push(message)?;
+        at += 1;
+    }
+    Ok(trace)
+}
+
+// The trace that bytes spell.
+#[tactic(auto, unfolding(crate::specs::Traces::trace_of_records))]
+fn trace_of(alloc: Global, layout: &Layout, bytes: &[u8]) -> Result<Trace, Stop<TraceError>>
+    ensures { Gives (λ trace. trace) result (traces.trace_of layout.now.spaces bytes.now) }
+{
+    let mut rdr = text_rows(alloc, bytes);
+    let mut row = StringRecord::new(alloc);
+    let version = read_header(&mut rdr, &mut row)?;
+    read_messages(alloc, layout, version, &mut rdr, &mut row)
+}
+
+/// The trace that the bytes spell, for cells of the layout: CSV with a header, and then a record for each message.
+/// Records are numbered from 1, the header's. The first record with a fault decides.
+pub fn read_trace(alloc: Global, layout: &Layout, bytes: &[u8]) -> Result<Trace, TraceError>
+    ensures exact { traces.GivesTrace result (traces.trace_of layout.now.spaces bytes.now) }
+    ensures fits { IfOk result (λ trace. trace.sizes ≡ sizes_of layout.now.spaces) }
+{
+    match trace_of(alloc, layout, bytes) {
+        Ok(trace) => Ok(trace),
+        Err(Stop::Memory) => Err(TraceError::Memory),
+        Err(Stop::Fault(e)) => Err(e),
+    }
+}
+
+#[cfg(test)]
+mod tests;
