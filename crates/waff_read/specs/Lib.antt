@@ -1,3 +1,10 @@
+pub mod Checks
+pub mod Documents
+pub mod Shapes
+pub mod Affinities
+pub mod Spaces
+pub mod HierRefusals
+pub mod Hierarchies
 pub mod TraceFaults
 pub mod Ops
 pub mod Messages

@@ -1,17 +1,29 @@
 //! The readers of hierarchies and traces.
 //!
+//! - `hierarchy`: the reader of hierarchies, over `document` (the values of a TOML document), `shape` (the keys and their
+//!   types), `affinities` (the tree) and `spaces` (the rows of a layout); `hier_error` has what it refuses.
 //! - `trace`: the reader of traces, over `message` (one record), `ops` (the operations of a message) and `op` (one
 //!   operation); `trace_fault` has what it refuses.
 //!
-//! What a trace's text stands for is defined in `specs/`: `Ops` (operations as they are spelled), `Messages` (records),
-//! `Traces` (whole texts) and `TraceFaults` (the order of the refusals).
+//! What the files stand for is defined in `specs/`. Of a hierarchy: `Hierarchies` (whole files), over `Documents`, `Shapes`,
+//! `Affinities` and `Spaces`. Of a trace: `Traces` (whole texts), over `Messages` (records) and `Ops` (operations as they are
+//! spelled), with `TraceFaults` (the order of the refusals).
 #![tactic(auto)]
 
+mod affinities;
+mod document;
+mod hier_error;
+mod hierarchy;
 mod message;
+mod names;
 mod op;
 mod ops;
+mod shape;
+mod spaces;
 mod trace;
 mod trace_fault;
 
+pub use hier_error::{HierError, Key};
+pub use hierarchy::read_hierarchy;
 pub use trace::read_trace;
 pub use trace_fault::TraceError;

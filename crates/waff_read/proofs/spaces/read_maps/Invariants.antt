@@ -1,0 +1,7 @@
+use Rattle.std.proofs.Common.{◌≡◌, map, take}
+use Rattle.toml.specs.View.{view}
+use Rattle.waff_read.specs.Spaces.{map_of}
+use Rattle.waff_read.proofs.spaces.read_maps.Given as goal
+
+abbrev pub invariant-loop-row : goal.invariant-loop-row
+invariant-loop-row l = l.maps.items ≡ map (λ row. map_of (view row)) (take l.row-index l.rows)

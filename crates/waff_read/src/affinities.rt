@@ -1,0 +1,92 @@
+//! The tree of the affinities of a hierarchy file.
+
+ghost use Rattle.std.specs.Prelude.{◌≡◌, ◌≤◌, ◌∷◌, [], ◌++◌, length, map, option_map, codes, OnOk};
+ghost use Rattle.toml.specs.View.{view};
+ghost use Rattle.waff_parse.specs.Stopping.{Gives};
+ghost use Rattle.waff_model.specs.TreeRefusal.{refusal_of};
+ghost use Rattle.waff_read.specs.Checks.{passed};
+ghost use Rattle.waff_read.specs.Documents.{text_at};
+ghost use Rattle.waff_read.specs.Affinities.{name_at, place_of, node_in, tree_of};
+
+use crate::document::text;
+use crate::names::Names;
+use std::alloc::Global;
+use toml::Value;
+use waff_model::limits::MAX_AFFINITIES;
+use waff_model::{AffinityId, Tree, TreeBuilder, TreeError};
+use waff_parse::Stop;
+
+/// The tree of these rows; the first that is refused decides.
+pub(crate) fn read_tree(alloc: Global, rows: &[Value]) -> Result<Tree, Stop<TreeError>>
+    ensures { Gives (λ tree. tree) result (tree_of (map view rows.now)) }
+{
+    if rows.is_empty() {
+        return Err(Stop::Fault(TreeError::NoRoot));
+    }
+    let mut names = Names::new(alloc);
+    let mut tree = TreeBuilder::new(alloc);
+    for row in rows {
+        add_row(alloc, &mut names, &mut tree, row)?;
+    }
+    match tree.build() {
+        Ok(tree) => Ok(tree),
+        Err(e) => Err(Stop::Fault(e)),
+    }
+}
+
+/// Adds the affinity of a row. The names are those of the tree.
+fn add_row(
+    alloc: Global,
+    names: &mut Names,
+    tree: &mut TreeBuilder,
+    row: &Value,
+) -> Result<(), Stop<TreeError>>
+    requires names { names.old ≡ map (λ node. node.name) tree.old }
+    requires few { length names.old ≤ MAX_AFFINITIES }
+    ensures checked { Gives (λ done. done) result (passed (refusal_of tree.old (node_in tree.old (view row.now)))) }
+    ensures added { OnOk result (tree.new ≡ tree.old ++ node_in tree.old (view row.now) ∷ []) }
+    ensures names { OnOk result (names.new ≡ map (λ node. node.name) tree.new) }
+    ensures few { OnOk result (length names.new ≤ MAX_AFFINITIES) }
+{
+    let name = name_of(row);
+    let parent = parent_of(names, row);
+    match tree.add(name, parent) {
+        Ok(_) => {}
+        Err(TreeError::Memory) => return Err(Stop::Memory),
+        Err(e) => return Err(Stop::Fault(e)),
+    }
+    names.push(alloc, name)?;
+    Ok(())
+}
+
+/// The name of the affinity of a row.
+fn name_of(row: &Value) -> &str
+    ensures { result.now ≡ name_at (view row.now) }
+{
+    match text(row, "name") {
+        Some(name) => name,
+        None => "",
+    }
+}
+
+/// The parent of the affinity of a row: where no affinity has the name, a number that no affinity has.
+fn parent_of(names: &Names, row: &Value) -> Option<AffinityId>
+    requires { length names.now ≤ MAX_AFFINITIES }
+    ensures { option_map (λ p. p.0) result ≡ option_map (place_of names.now) (text_at (codes "parent") (view row.now)) }
+{
+    match text(row, "parent") {
+        Some(parent) => Some(AffinityId(place(names, parent))),
+        None => None,
+    }
+}
+
+/// The place of the name, or one past the last place that there can be.
+fn place(names: &Names, name: &str) -> u16
+    requires { length names.now ≤ MAX_AFFINITIES }
+    ensures { result ≡ place_of names.now name.now }
+{
+    match names.number(name) {
+        Some(number) => number as u16,
+        None => MAX_AFFINITIES as u16,
+    }
+}

@@ -1,0 +1,111 @@
+//! Which key of a document is missing or of another type than it should be.
+
+ghost use Rattle.std.specs.Prelude.{◌≡◌, is_none};
+ghost use Rattle.std.specs.List.{list_any};
+ghost use Rattle.toml.specs.Data.{as_str, as_table};
+ghost use Rattle.toml.specs.View.{view};
+ghost use Rattle.waff_read.specs.Shapes as shapes;
+
+use crate::document::{integer, items, rows, text};
+use crate::hier_error::Key;
+use toml::Value;
+
+/// The first key that is missing or of another type.
+#[tactic(auto, using(crate::proofs::DocumentLemmas::list_any_map))]
+pub(crate) fn shape_refusal(document: &Value) -> Option<Key>
+    ensures { result ≡ shapes.shape_refusal (view document.now) }
+{
+    if lacks_tables(document, "affinity") {
+        return Some(Key::Affinities);
+    }
+    if lacks_tables(document, "space") {
+        return Some(Key::Spaces);
+    }
+    if lacks_tables(document, "map") {
+        return Some(Key::Maps);
+    }
+    let affinities = rows(document, "affinity");
+    let spaces = rows(document, "space");
+    let maps = rows(document, "map");
+    if any_lacks_text(affinities, "name") || any_lacks_text(spaces, "name") {
+        return Some(Key::Name);
+    }
+    if any_has_other_than_text(affinities, "parent") {
+        return Some(Key::Parent);
+    }
+    if any_lacks_integer(spaces, "size") {
+        return Some(Key::Size);
+    }
+    if any_lacks_text(maps, "space") {
+        return Some(Key::Space);
+    }
+    if any_lacks_integer(maps, "unit") {
+        return Some(Key::Unit);
+    }
+    if any_lacks_texts(maps, "to") {
+        return Some(Key::To);
+    }
+    None
+}
+
+#[tactic(auto, using(crate::proofs::DocumentLemmas::list_any_map))]
+fn lacks_tables(value: &Value, key: &str) -> bool
+    ensures { result ≡ shapes.lacks_tables key.now (view value.now) }
+{
+    match items(value, key) {
+        Some(rows) => any_is_no_table(rows),
+        None => true,
+    }
+}
+
+#[tactic(auto, using(crate::proofs::DocumentLemmas::list_any_map))]
+fn lacks_texts(value: &Value, key: &str) -> bool
+    ensures { result ≡ shapes.lacks_texts key.now (view value.now) }
+{
+    match items(value, key) {
+        Some(texts) => any_is_no_text(texts),
+        None => true,
+    }
+}
+
+fn any_is_no_table(rows: &[Value]) -> bool
+    ensures { result ≡ list_any (λ row. is_none (as_table (view row))) rows.now }
+{
+    rows.iter().any(|row| !row.is_table())
+}
+
+fn any_is_no_text(texts: &[Value]) -> bool
+    ensures { result ≡ list_any (λ text. is_none (as_str (view text))) texts.now }
+{
+    texts.iter().any(|text| !text.is_str())
+}
+
+fn has_other_than_text(value: &Value, key: &str) -> bool
+    ensures { result ≡ shapes.has_other_than_text key.now (view value.now) }
+{
+    value.get(key).is_some() && text(value, key).is_none()
+}
+
+fn any_lacks_text(rows: &[Value], key: &str) -> bool
+    ensures { result ≡ list_any (λ row. shapes.lacks_text key.now (view row)) rows.now }
+{
+    rows.iter().any(|row| text(row, key).is_none())
+}
+
+fn any_lacks_integer(rows: &[Value], key: &str) -> bool
+    ensures { result ≡ list_any (λ row. shapes.lacks_integer key.now (view row)) rows.now }
+{
+    rows.iter().any(|row| integer(row, key).is_none())
+}
+
+fn any_lacks_texts(rows: &[Value], key: &str) -> bool
+    ensures { result ≡ list_any (λ row. shapes.lacks_texts key.now (view row)) rows.now }
+{
+    rows.iter().any(|row| lacks_texts(row, key))
+}
+
+fn any_has_other_than_text(rows: &[Value], key: &str) -> bool
+    ensures { result ≡ list_any (λ row. shapes.has_other_than_text key.now (view row)) rows.now }
+{
+    rows.iter().any(|row| has_other_than_text(row, key))
+}
