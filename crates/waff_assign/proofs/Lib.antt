@@ -1,3 +1,4 @@
 pub mod Climbs
 pub mod Coverings
 pub mod Assignments
+pub mod CellOrder

@@ -4,9 +4,11 @@
 mod assigned;
 mod assignment;
 mod covering;
+mod footprints;
 mod order;
 
 pub use assigned::Assigned;
 pub use assignment::assign;
 pub use covering::lowest;
+pub use footprints::footprint;
 pub use order::is_ordered;

@@ -1,5 +1,5 @@
 pub mod Longest
-pub mod ChainLemmas
+pub mod Chains
 pub mod Ticks
 pub mod Steps
 pub mod Forward

@@ -1,12 +1,12 @@
 //! The unlimited plan of a trace, its printed chain, and the laws of plans.
 #![tactic(auto)]
 
-pub mod chains;
 mod latest;
 pub mod laws;
 mod least;
 mod linked;
 mod links;
+pub mod printed;
 mod table;
 mod timetable;
 mod timing;

@@ -26,7 +26,7 @@ pub(crate) fn read_tree(alloc: Global, rows: &[Value]) -> Result<Tree, Stop<Tree
     let mut names = Names::new(alloc);
     let mut tree = TreeBuilder::new(alloc);
     for row in rows {
-        add_row(alloc, &mut names, &mut tree, row)?;
+        add_row(&mut names, &mut tree, row)?;
     }
     match tree.build() {
         Ok(tree) => Ok(tree),
@@ -35,12 +35,7 @@ pub(crate) fn read_tree(alloc: Global, rows: &[Value]) -> Result<Tree, Stop<Tree
 }
 
 /// Adds the affinity of a row. The names are those of the tree.
-fn add_row(
-    alloc: Global,
-    names: &mut Names,
-    tree: &mut TreeBuilder,
-    row: &Value,
-) -> Result<(), Stop<TreeError>>
+fn add_row(names: &mut Names, tree: &mut TreeBuilder, row: &Value) -> Result<(), Stop<TreeError>>
     requires names { names.old ≡ map (λ node. node.name) tree.old }
     requires few { length names.old ≤ MAX_AFFINITIES }
     ensures checked { Gives (λ done. done) result (passed (refusal_of tree.old (node_in tree.old (view row.now)))) }
@@ -55,7 +50,7 @@ fn add_row(
         Err(TreeError::Memory) => return Err(Stop::Memory),
         Err(e) => return Err(Stop::Fault(e)),
     }
-    names.push(alloc, name)?;
+    names.push(name)?;
     Ok(())
 }
 

@@ -38,11 +38,11 @@ impl Names {
     }
 
     /// Appends a name that is not there.
-    pub(crate) fn push(&mut self, alloc: Global, name: &str) -> Result<(), AllocError>
+    pub(crate) fn push(&mut self, name: &str) -> Result<(), AllocError>
         requires { position (bytes_eq name.now) self.old ≡ None }
         ensures { OnOk result (self.new ≡ self.old ++ name.now ∷ []) }
     {
-        let name = String::from_str(alloc, name)?;
+        let name = String::from_str(*self.names.allocator(), name)?;
         self.names.insert(name)?;
         Ok(())
     }

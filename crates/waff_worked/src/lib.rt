@@ -6,4 +6,12 @@ mod affinities;
 #[cfg(test)]
 mod building;
 #[cfg(test)]
+mod hierarchies_read;
+#[cfg(test)]
+mod plans;
+#[cfg(test)]
+mod running;
+#[cfg(test)]
 mod samples;
+#[cfg(test)]
+mod traces_read;

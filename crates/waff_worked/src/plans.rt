@@ -49,5 +49,37 @@ fn of_two_readers_of_one_cell(rt: HostRuntime) -> Result<(), Fail> {
 #[test]
 fn waits_for_each_descendant(rt: HostRuntime) -> Result<(), Fail> {
     let trace = "message,cost,ops\nm1,9,set f:0 1\nm2,1,set f:2 1\nm3,1,set m:0 1\n";
-    tells(&rt, rt.alloc(), (H1, trace), ("A0 A1 VolA", "0 0 9"), 10, 11)
+    tells(
+        &rt,
+        rt.alloc(),
+        (H1, trace),
+        ("A0 A1 VolA", "0 0 9"),
+        10,
+        11,
+    )
+}
+
+#[test]
+fn of_the_ends_of_a_long_path(rt: HostRuntime) -> Result<(), Fail> {
+    let alloc = rt.alloc();
+    let mut hierarchy = String::from_str(
+        alloc,
+        "model = \"hierarchical\"\n[[affinity]]\nname = \"n0\"\n",
+    )?;
+    for n in 1..4096u32 {
+        let parent = n - 1;
+        let row = format!(in alloc; "[[affinity]]\nname = \"n{n}\"\nparent = \"n{parent}\"\n")?;
+        hierarchy.push_str(row.as_str())?;
+    }
+    hierarchy.push_str("[[space]]\nname = \"f\"\nsize = 2\n")?;
+    hierarchy.push_str("[[map]]\nspace = \"f\"\nunit = 1\nto = [\"n0\", \"n4095\"]\n")?;
+    let trace = "message,cost,ops\nm1,1,read f:1\nm2,1,read f:0\n";
+    tells(
+        &rt,
+        alloc,
+        (hierarchy.as_str(), trace),
+        ("n4095 n0", "0 1"),
+        2,
+        2,
+    )
 }

@@ -17,7 +17,12 @@ pub struct Told {
 }
 
 /// The unlimited plan of a trace under a hierarchy, both of which have to be accepted.
-pub fn unlimited(rt: &impl Abort, alloc: Global, hierarchy: &str, trace: &str) -> Result<Told, Fail> {
+pub fn unlimited(
+    rt: &impl Abort,
+    alloc: Global,
+    hierarchy: &str,
+    trace: &str,
+) -> Result<Told, Fail> {
     let layout = read_hierarchy(alloc, hierarchy.as_bytes())?;
     let trace = read_trace(alloc, &layout, trace.as_bytes())?;
     assert!(rt; trace.fits(&layout));
@@ -27,7 +32,10 @@ pub fn unlimited(rt: &impl Abort, alloc: Global, hierarchy: &str, trace: &str) -
     let mut starts = String::new(alloc);
     for n in 1..plan.len() + 1 {
         push_word(&mut affinities, layout.tree().name(assigned.of(n)))?;
-        push_word(&mut starts, format!(in alloc; "{}", plan.start(n))?.as_str())?;
+        push_word(
+            &mut starts,
+            format!(in alloc; "{}", plan.start(n))?.as_str(),
+        )?;
     }
     Ok(Told {
         affinities,

@@ -45,6 +45,39 @@ unit = 4\n\
 to = [\"B0\", \"B1\"]\n\
 ";
 
+/// The classical sample: Serial, and T0 and T1 below it.
+pub const C1: &str = "model = \"classical\"\n\
+[[space]]\n\
+name = \"f\"\n\
+size = 8\n\
+[[space]]\n\
+name = \"m\"\n\
+size = 2\n\
+[[space]]\n\
+name = \"g\"\n\
+size = 8\n\
+[[affinity]]\n\
+name = \"Serial\"\n\
+[[affinity]]\n\
+name = \"T0\"\n\
+parent = \"Serial\"\n\
+[[affinity]]\n\
+name = \"T1\"\n\
+parent = \"Serial\"\n\
+[[map]]\n\
+space = \"f\"\n\
+unit = 2\n\
+to = [\"T0\", \"T1\"]\n\
+[[map]]\n\
+space = \"m\"\n\
+unit = 1\n\
+to = [\"Serial\"]\n\
+[[map]]\n\
+space = \"g\"\n\
+unit = 4\n\
+to = [\"T0\", \"T1\"]\n\
+";
+
 /// The first trace, of version 1.
 pub const X1: &str = "message,cost,ops\n\
 m1,4,set f:0 5\n\
@@ -53,4 +86,13 @@ m3,2,copy f:2 f:0\n\
 m4,5,add g:4 1\n\
 m5,1,swap f:2 g:0\n\
 m6,2,add f:4 1\n\
+";
+
+/// The second trace, of version 2.
+pub const X2: &str = "message,cost,release,ops\n\
+m1,4,0,set f:0 5\n\
+m2,3,2,set g:0 7\n\
+m3,2,10,copy f:2 f:0\n\
+m4,5,0,add g:4 1\n\
+m5,1,0,swap f:2 g:0\n\
 ";

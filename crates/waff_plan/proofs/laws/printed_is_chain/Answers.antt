@@ -1,5 +1,5 @@
 use Rattle.waff_assign.specs.Order.{IsOrdered}
-use Rattle.waff_plan.proofs.ChainLemmas.{printed_is_chain}
+use Rattle.waff_plan.proofs.Chains.{printed_is_chain}
 use Rattle.waff_plan.proofs.Forward.{IsOrdered_forward}
 use Rattle.waff_plan.proofs.laws.printed_is_chain.Goals as goal
 

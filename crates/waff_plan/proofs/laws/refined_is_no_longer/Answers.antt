@@ -1,5 +1,5 @@
 use Rattle.waff_assign.specs.Order.{IsOrdered}
-use Rattle.waff_plan.proofs.ChainLemmas.{fewer_pairs_are_no_longer}
+use Rattle.waff_plan.proofs.Chains.{fewer_pairs_are_no_longer}
 use Rattle.waff_plan.proofs.laws.refined_is_no_longer.Goals as goal
 
 pub returns : goal.returns

@@ -34,14 +34,14 @@ pub fn chain(
     ensures as_long { IfOk result (λ chain. IsLeast (IsOrdered tree.now assigned.now) (work_of plan.now.timings) (start_of plan.now.starts)
         → chain.release + chain.cost ≡ length_of (work_of plan.now.timings) (start_of plan.now.starts)) }
 {
-    let messages = printed(alloc, tree, assigned, plan)?;
+    let messages = walk(alloc, tree, assigned, plan)?;
     let cost = cost_of(plan, messages.as_slice());
     let release = release_of(plan, messages.as_slice());
     Ok(Chain::new(messages, cost, release))
 }
 
 /// The messages of the printed chain.
-fn printed(
+fn walk(
     alloc: Global,
     tree: &Tree,
     assigned: &Assigned,

@@ -5,10 +5,10 @@ use Rattle.waff_plan.specs.Work.{IsNumber, length_of}
 use Rattle.waff_plan.specs.Chain.{IsChain, IsPrinted, chain_cost, chain_release}
 use Rattle.waff_plan.specs.Timing.{work_of, start_of}
 use Rattle.waff_plan.specs.Timetable.{Timetable}
-use Rattle.waff_plan.proofs.ChainLemmas.{printed_is_chain, printed_is_as_long}
+use Rattle.waff_plan.proofs.Chains.{printed_is_chain, printed_is_as_long}
 use Rattle.waff_plan.proofs.Forward.{IsOrdered_forward}
 use Rattle.waff_plan.proofs.Linkings.{chain_is_numbers, chain_is_few}
-use Rattle.waff_plan.proofs.chains.chain.Goals as goal
+use Rattle.waff_plan.proofs.printed.chain.Goals as goal
 
 -- a printed chain is a chain
 chain_from : (tree : List Node) (assigned : List ℕ) (plan : Timetable) (messages : List ℕ) → length plan.timings ≡ length assigned

@@ -1,7 +1,7 @@
 use Rattle.std.proofs.Common.{◌≡◌, ◌*◌, ◌^◌, ◌≤◌, take}
 use Rattle.waff_plan.specs.Chain.{chain_cost}
 use Rattle.waff_plan.specs.Timing.{work_of}
-use Rattle.waff_plan.proofs.chains.cost_of.Given as goal
+use Rattle.waff_plan.proofs.printed.cost_of.Given as goal
 
 abbrev pub invariant-loop-message : goal.invariant-loop-message
 invariant-loop-message l = record {

@@ -4,7 +4,7 @@ use Rattle.waff_assign.specs.Order.{IsOrdered}
 use Rattle.waff_plan.specs.Work.{IsNumber}
 use Rattle.waff_plan.specs.Chain.{IsPrinted, LeadsToEnd}
 use Rattle.waff_plan.specs.Timing.{work_of, start_of}
-use Rattle.waff_plan.proofs.chains.printed.Given as goal
+use Rattle.waff_plan.proofs.printed.walk.Given as goal
 
 abbrev pub invariant-loop-next : goal.invariant-loop-next
 invariant-loop-next l =

@@ -1,0 +1,96 @@
+//! Why the program ends with another status than 0, and what it says then.
+use clap::error::ErrorKind;
+use std::alloc::{AllocError, Global};
+use waff_tool::{ReadFault, ToolError, fault_status, fault_text};
+
+/// The words were refused.
+pub const REFUSED: u8 = 2;
+
+/// Something could not be read or written, or memory was refused.
+pub const FAILED: u8 = 4;
+
+/// Why the program did not do what it was asked for.
+#[derive(Drop)]
+pub enum Failure {
+    /// The words were refused, or help was asked for.
+    Words(clap::Error),
+    /// A word is not text, or one is missing that was not refused.
+    NoWords,
+    /// The file of this place among the file words could not be read or is too long; 0 is standard input.
+    Read(u32),
+    Tool(ToolError),
+    Memory,
+}
+
+impl From<AllocError> for Failure {
+    fn from(_error: AllocError) -> Failure {
+        Failure::Memory
+    }
+}
+
+impl From<clap::Error> for Failure {
+    fn from(error: clap::Error) -> Failure {
+        if error.kind() == ErrorKind::OutOfMemory {
+            Failure::Memory
+        } else {
+            Failure::Words(error)
+        }
+    }
+}
+
+impl From<ToolError> for Failure {
+    fn from(error: ToolError) -> Failure {
+        Failure::Tool(error)
+    }
+}
+
+impl Failure {
+    /// What a fault while the file of this place is read comes to.
+    pub fn of_read(place: u32, fault: ReadFault) -> Failure {
+        match fault {
+            ReadFault::Failed | ReadFault::TooLong => Failure::Read(place),
+            ReadFault::Memory => Failure::Memory,
+        }
+    }
+
+    /// Says why on standard error, or shows the help on standard output, and gives the exit status.
+    pub fn report<R: Print + Eprint>(self, rt: &R, alloc: Global) -> u8 {
+        match self {
+            Failure::Words(error) => report_words(rt, &error),
+            Failure::NoWords => {
+                say(rt, "error: a word is missing or is not text");
+                REFUSED
+            }
+            Failure::Read(place) => {
+                let _ = eprintln!(rt; "waff: Read {place}");
+                FAILED
+            }
+            Failure::Tool(error) => {
+                match fault_text(alloc, &error) {
+                    Ok(text) => say(rt, text.as_str()),
+                    Err(_) => say(rt, OUT_OF_MEMORY),
+                }
+                fault_status(&error)
+            }
+            Failure::Memory => {
+                say(rt, OUT_OF_MEMORY);
+                FAILED
+            }
+        }
+    }
+}
+
+const OUT_OF_MEMORY: &str = "waff: Memory";
+
+/// A line on standard error. Where that fails, the exit status has to do.
+fn say(rt: &impl Eprint, line: &str) {
+    let _ = rt.eprintln(line);
+}
+
+fn report_words<R: Print + Eprint>(rt: &R, error: &clap::Error) -> u8 {
+    if error.print(rt).is_err() && !error.use_stderr() {
+        say(rt, "waff: Write");
+        return FAILED;
+    }
+    error.exit_code() as u8
+}

@@ -1,0 +1,25 @@
+//! Files and standard input, read whole.
+use crate::failure::Failure;
+use std::alloc::Global;
+use std::fs;
+use std::rt::Files;
+use waff_tool::read_whole;
+
+/// The most bytes of a file, and of standard input.
+const MAX_INPUT: u64 = 268_435_456;
+
+/// The bytes of the file that stands at this place among the file words, from 1.
+pub fn read_file(
+    rt: &impl Files,
+    alloc: Global,
+    name: &str,
+    place: u32,
+) -> Result<Vec<u8>, Failure> {
+    let mut file = fs::open(rt, name).map_err(|_| Failure::Read(place))?;
+    read_whole(alloc, &mut file, MAX_INPUT).map_err(|fault| Failure::of_read(place, fault))
+}
+
+/// The bytes of standard input.
+pub fn read_input(rt: &impl Input, alloc: Global) -> Result<Vec<u8>, Failure> {
+    read_whole(alloc, &mut rt.reader(), MAX_INPUT).map_err(|fault| Failure::of_read(0, fault))
+}

@@ -1,0 +1,72 @@
+//! The words of the command line.
+use crate::failure::Failure;
+use clap::{Arg, ArgMatches, Command};
+use std::alloc::{AllocError, Global};
+
+/// What the words ask for.
+#[derive(Clone, Copy)]
+pub enum Request<'a> {
+    /// No words: the plan of the hierarchy and the trace on standard input.
+    PlanOfInput,
+    Assign(FileNames<'a>),
+    Plan(FileNames<'a>),
+}
+
+/// The names of the files of a command.
+#[derive(Clone, Copy)]
+pub struct FileNames<'a> {
+    pub hierarchy: &'a str,
+    pub trace: &'a str,
+}
+
+/// Reads the words, the program's own name first.
+pub fn read_words<'a>(alloc: Global, words: &'a [String]) -> Result<Request<'a>, Failure> {
+    let matches = waff(alloc)?.try_get_matches_from(words)?;
+    match matches.subcommand() {
+        Some(("assign", matches)) => Ok(Request::Assign(file_names(matches)?)),
+        Some(("plan", matches)) => Ok(Request::Plan(file_names(matches)?)),
+        Some(_) => Err(Failure::NoWords),
+        None => Ok(Request::PlanOfInput),
+    }
+}
+
+fn file_names<'a>(matches: &ArgMatches<'a>) -> Result<FileNames<'a>, Failure> {
+    Ok(FileNames {
+        hierarchy: word(matches, "HIER")?,
+        trace: word(matches, "TRACE")?,
+    })
+}
+
+fn word<'a>(matches: &ArgMatches<'a>, id: &str) -> Result<&'a str, Failure> {
+    matches.get_str(id).ok_or(Failure::NoWords)
+}
+
+fn waff<'a>(alloc: Global) -> Result<Command<'a>, AllocError> {
+    Command::new(alloc, "waff")
+        .about("How much parallelism a tree of affinities allows a trace of messages")
+        .after_help(
+            "With no words: the plan of the hierarchy and the trace on standard input, a line --- between them.",
+        )
+        .subcommand(command(
+            alloc,
+            "assign",
+            "Prints the affinity in which each message runs",
+        )?)?
+        .subcommand(command(
+            alloc,
+            "plan",
+            "Prints a shortest plan, with no limit on the workers",
+        )?)
+}
+
+/// A command on a hierarchy and a trace.
+fn command<'a>(alloc: Global, name: &'a str, about: &'a str) -> Result<Command<'a>, AllocError> {
+    Command::new(alloc, name)
+        .about(about)
+        .arg(file(alloc, "HIER", "The hierarchy, a TOML file"))?
+        .arg(file(alloc, "TRACE", "The trace, a CSV file"))
+}
+
+fn file<'a>(alloc: Global, id: &'a str, help: &'a str) -> Arg<'a> {
+    Arg::new(alloc, id).required(true).help(help)
+}

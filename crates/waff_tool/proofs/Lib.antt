@@ -1,0 +1,3 @@
+pub mod KnownBytesLemmas
+pub mod LinesLemmas
+pub mod SplitLemmas

@@ -1,0 +1,9 @@
+pub mod AssignText
+pub mod Commands
+pub mod Fault
+pub mod Lines
+pub mod Output
+pub mod PlanText
+pub mod Split
+pub mod Summary
+pub mod ToolErrors

@@ -1,0 +1,196 @@
+//! The commands: from the bytes of files to a text written.
+ghost use Rattle.std.specs.Prelude.{◌≡◌, ◌≢◌, ◌<◌, ℕ, All, List, IfOk, IfErr, IsErrOf, OnOk, IsNone, length, string_bytes};
+ghost use Rattle.std.specs.Io.KnownBytes.{Appends, Keeps};
+ghost use Rattle.waff_tool.specs.Commands.{Accepts, IsAssignText, IsPlanText, Refuses};
+ghost use Rattle.waff_tool.specs.Output.{AppendsPart};
+
+use crate::assigns::assigned_text;
+use crate::fault::ToolError;
+use crate::output::write_text;
+use crate::plans::unlimited_text;
+use std::alloc::Global;
+use std::io::Write;
+use waff_assign::{Assigned, assign};
+use waff_model::{Layout, Trace};
+use waff_plan::printed::chain;
+use waff_plan::unlimited::plan;
+use waff_read::{read_hierarchy, read_trace};
+
+/// Writes the affinity of each message of the trace under the hierarchy. Nothing is written before the whole text is made.
+pub fn assign_text<W: Write>(
+    alloc: Global,
+    hierarchy: &[u8],
+    trace: &[u8],
+    writer: &mut W,
+) -> Result<(), ToolError>
+    ensures written { OnOk result ((text : List ℕ) × IsAssignText hierarchy.now trace.now text
+        × Appends (W.contents writer.old) (W.contents writer.new) text) }
+    ensures prefix { IsErrOf result ToolError.Write → (text : List ℕ) × IsAssignText hierarchy.now trace.now text
+        × AppendsPart (W.contents writer.old) (W.contents writer.new) text }
+    ensures refused { IfErr result (Refuses hierarchy.now trace.now) }
+    ensures nothing { IfErr result (λ e. e ≢ ToolError.Write → Keeps (W.contents writer.old) (W.contents writer.new)) }
+{
+    let text = made_assign_text(alloc, hierarchy, trace)?;
+    write_text(writer, text.as_bytes())
+}
+
+/// Writes the plan of the trace under the hierarchy, without workers. Nothing is written before the whole text is made.
+pub fn plan_text<W: Write>(
+    alloc: Global,
+    hierarchy: &[u8],
+    trace: &[u8],
+    workers: Option<u32>,
+    writer: &mut W,
+) -> Result<(), ToolError>
+    requires { IsNone workers }
+    ensures written { OnOk result ((text : List ℕ) × IsPlanText hierarchy.now trace.now text
+        × Appends (W.contents writer.old) (W.contents writer.new) text) }
+    ensures prefix { IsErrOf result ToolError.Write → (text : List ℕ) × IsPlanText hierarchy.now trace.now text
+        × AppendsPart (W.contents writer.old) (W.contents writer.new) text }
+    ensures refused { IfErr result (Refuses hierarchy.now trace.now) }
+    ensures nothing { IfErr result (λ e. e ≢ ToolError.Write → Keeps (W.contents writer.old) (W.contents writer.new)) }
+{
+    let text = made_plan_text(alloc, hierarchy, trace)?;
+    write_text(writer, text.as_bytes())
+}
+
+/// A hierarchy, a trace over it, and the affinity of each message.
+#[derive(Drop)]
+struct Accepted {
+    layout: Layout,
+    trace: Trace,
+    assigned: Assigned,
+}
+
+/// Reads the files, the hierarchy first.
+fn accept(alloc: Global, hierarchy: &[u8], trace: &[u8]) -> Result<Accepted, ToolError>
+    ensures accepted { IfOk result (λ a. Accepts hierarchy.now trace.now a.layout a.trace a.assigned) }
+    ensures known { IfOk result (λ a. All (λ affinity. affinity < length a.layout.tree) a.assigned) }
+    ensures refused { IfErr result (Refuses hierarchy.now trace.now) }
+    ensures nothing { IfErr result (λ e. e ≢ ToolError.Write) }
+{
+    let layout = match read_hierarchy(alloc, hierarchy) {
+        Ok(layout) => layout,
+        Err(fault) => return Err(ToolError::of_hierarchy(1, fault)),
+    };
+    let trace = read_trace(alloc, &layout, trace)?;
+    let assigned = assign(alloc, &layout, &trace)?;
+    Ok(Accepted {
+        layout,
+        trace,
+        assigned,
+    })
+}
+
+fn made_assign_text(alloc: Global, hierarchy: &[u8], trace: &[u8]) -> Result<String, ToolError>
+    ensures made { IfOk result (λ text. IsAssignText hierarchy.now trace.now (string_bytes text)) }
+    ensures refused { IfErr result (Refuses hierarchy.now trace.now) }
+    ensures nothing { IfErr result (λ e. e ≢ ToolError.Write) }
+{
+    let accepted = accept(alloc, hierarchy, trace)?;
+    let tree = accepted.layout.tree();
+    Ok(assigned_text(alloc, tree, &accepted.trace, &accepted.assigned)?)
+}
+
+fn made_plan_text(alloc: Global, hierarchy: &[u8], trace: &[u8]) -> Result<String, ToolError>
+    ensures made { IfOk result (λ text. IsPlanText hierarchy.now trace.now (string_bytes text)) }
+    ensures refused { IfErr result (Refuses hierarchy.now trace.now) }
+    ensures nothing { IfErr result (λ e. e ≢ ToolError.Write) }
+{
+    let accepted = accept(alloc, hierarchy, trace)?;
+    let tree = accepted.layout.tree();
+    let plan = plan(alloc, tree, &accepted.assigned, &accepted.trace)?;
+    let chain = chain(alloc, tree, &accepted.assigned, &plan)?;
+    let version = accepted.trace.version();
+    Ok(unlimited_text(alloc, version, tree, &accepted.assigned, &plan, &chain)?)
+}
+
+#[cfg(test)]
+mod tests {
+    use super::*;
+    use std::io;
+    use waff_read::{HierError, TraceError};
+
+    const HIERARCHY: &str = "model = \"hierarchical\"
+        affinity = [{ name = \"Serial\" }, { name = \"A\", parent = \"Serial\" }]
+        space = [{ name = \"f\", size = 2 }]
+        map = [{ space = \"f\", unit = 1, to = [\"A\", \"Serial\"] }]";
+
+    const TRACE: &str = "message,cost,ops\nm1,4,set f:0 5\nm2,1,copy f:1 f:0\n";
+
+    /// Takes bytes while there is room for them, and then fails.
+    #[derive(Drop)]
+    struct Room {
+        left: usize,
+        taken: Vec<u8>,
+    }
+
+    impl Write for Room {
+        fn write(&mut self, buf: &[u8]) -> io::Result<usize> {
+            let count = buf.len().min(self.left);
+            if count == 0 {
+                return Err(io::Error::from(io::ErrorKind::BrokenPipe));
+            }
+            self.taken.extend_from_slice(&buf[..count])?;
+            self.left -= count;
+            Ok(count)
+        }
+
+        fn flush(&mut self) -> io::Result<()> {
+            Ok(())
+        }
+    }
+
+    #[test]
+    fn writes_the_texts(rt: HostRuntime) -> Result<(), ToolError> {
+        let alloc = rt.alloc();
+        let (hierarchy, trace) = (HIERARCHY.as_bytes(), TRACE.as_bytes());
+        let mut writer = Vec::new(alloc);
+        assign_text(alloc, hierarchy, trace, &mut writer)?;
+        assert_eq!(rt;
+            writer.as_slice(),
+            b"message,name,affinity\n1,m1,A\n2,m2,Serial\n".as_slice()
+        );
+        let mut writer = Vec::new(alloc);
+        plan_text(alloc, hierarchy, trace, None, &mut writer)?;
+        let text = "message,affinity,start,finish,worker\n1,A,0,4,-\n2,Serial,4,5,-\n\
+            workers,-\ntotal,5\nlength,5\nchain,1 2\ncost,5\nbound,5,5\n";
+        assert_eq!(rt; writer.as_slice(), text.as_bytes());
+        Ok(())
+    }
+
+    #[test]
+    fn leaves_what_the_writer_took(rt: HostRuntime) {
+        let alloc = rt.alloc();
+        let mut writer = Room {
+            left: 10,
+            taken: Vec::new(alloc),
+        };
+        let result = plan_text(
+            alloc,
+            HIERARCHY.as_bytes(),
+            TRACE.as_bytes(),
+            None,
+            &mut writer,
+        );
+        assert!(rt; result == Err(ToolError::Write));
+        assert_eq!(rt; writer.taken.as_slice(), b"message,af".as_slice());
+    }
+
+    #[test]
+    fn refuses_in_order(rt: HostRuntime) {
+        let alloc = rt.alloc();
+        let mut writer = Vec::new(alloc);
+        let result = assign_text(alloc, b"", b"", &mut writer);
+        assert!(rt;
+            result
+                == Err(ToolError::Hier {
+                    file: 1,
+                    fault: HierError::Model
+                })
+        );
+        let result = assign_text(alloc, HIERARCHY.as_bytes(), b"", &mut writer);
+        assert!(rt; result == Err(ToolError::Trace(TraceError::Header { at: 1 })));
+        assert!(rt; writer.is_empty());
+    }
+}

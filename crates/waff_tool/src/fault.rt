@@ -1,0 +1,145 @@
+//! Why a command gave no text, and how that is told.
+ghost use Rattle.std.specs.Prelude.{◌≡◌, IfOk};
+ghost use Rattle.waff_tool.specs.Fault.{fault_line, status_of};
+ghost use Rattle.waff_tool.specs.ToolErrors.{hierarchy_error, trace_error};
+ghost use Rattle.waff_tool.specs.declared.fault.ToolError.TheVariants.{Memory};
+
+use crate::fault_names::{Hierarchy, Trace};
+use std::alloc::{AllocError, Global};
+use thiserror::Error;
+use waff_model::Text;
+use waff_read::{HierError, TraceError};
+
+/// Why a command gave no text, or not all of it.
+#[derive(Clone, Copy, Debug, PartialEq, Eq, Error)]
+pub enum ToolError {
+    /// A hierarchy is refused; hierarchies are numbered from 1 in the order in which they are given. The fault is never
+    /// want of memory.
+    #[error("hierarchy {file}: {fault}")]
+    Hier { file: u8, fault: HierError },
+    /// The trace is refused. The fault is never want of memory.
+    #[error("trace: {0}")]
+    Trace(TraceError),
+    /// The writer gave an error, or took no byte.
+    #[error("the text could not be written")]
+    Write,
+    #[error("out of memory")]
+    Memory,
+}
+
+impl From<AllocError> for ToolError {
+    ghost from_gives = { λ _ error. error ≡ Memory };
+
+    fn from(_error: AllocError) -> ToolError {
+        ToolError::Memory
+    }
+}
+
+impl From<TraceError> for ToolError {
+    ghost from_gives = { λ fault error. error ≡ trace_error fault };
+
+    fn from(fault: TraceError) -> ToolError {
+        match fault {
+            TraceError::Memory => ToolError::Memory,
+            _ => ToolError::Trace(fault),
+        }
+    }
+}
+
+impl ToolError {
+    /// The error of a fault of the hierarchy of this number.
+    pub(crate) fn of_hierarchy(file: u8, fault: HierError) -> ToolError
+        ensures { result ≡ hierarchy_error file fault }
+    {
+        match fault {
+            HierError::Memory => ToolError::Memory,
+            _ => ToolError::Hier { file, fault },
+        }
+    }
+}
+
+/// The line that tells of an error, without its line feed.
+pub fn fault_text(alloc: Global, error: &ToolError) -> Result<Text, AllocError>
+    ensures { IfOk result (λ text. text ≡ fault_line error.now) }
+{
+    let line = match *error {
+        ToolError::Hier { file, fault } => format!(in alloc;
+            "waff: Hier.{}",
+            Hierarchy { file, fault }
+        )?,
+        ToolError::Trace(fault) => format!(in alloc; "waff: Trace.{}", Trace(fault))?,
+        ToolError::Write => return Text::of(alloc, "waff: Write"),
+        ToolError::Memory => return Text::of(alloc, "waff: Memory"),
+    };
+    Text::of(alloc, line.as_str())
+}
+
+/// The exit status of the program after an error.
+pub fn fault_status(error: &ToolError) -> u8
+    ensures { result ≡ status_of error.now }
+{
+    match error {
+        ToolError::Hier { .. } | ToolError::Trace(_) => 3,
+        ToolError::Write | ToolError::Memory => 4,
+    }
+}
+
+#[cfg(test)]
+mod tests {
+    use super::*;
+    use waff_model::{AffinityId, LayoutError, TreeError};
+    use waff_read::Key;
+
+    #[test]
+    fn tells_of_faults(rt: HostRuntime) -> Result<(), AllocError> {
+        let size = HierError::Shape { key: Key::Size };
+        let below = HierError::NotClassical {
+            affinity: AffinityId(3),
+        };
+        for (error, line, status) in [
+            (
+                ToolError::Hier {
+                    file: 1,
+                    fault: HierError::Tree(TreeError::SecondRoot),
+                },
+                "waff: Hier.Tree.SecondRoot 1",
+                3,
+            ),
+            (
+                ToolError::Hier {
+                    file: 1,
+                    fault: below,
+                },
+                "waff: Hier.NotClassical 1 3",
+                3,
+            ),
+            (
+                ToolError::Hier {
+                    file: 1,
+                    fault: size,
+                },
+                "waff: Hier.Shape 1 Size",
+                3,
+            ),
+            (
+                ToolError::Hier {
+                    file: 2,
+                    fault: HierError::Layout(LayoutError::To),
+                },
+                "waff: Hier.Layout.To 2",
+                3,
+            ),
+            (
+                ToolError::Trace(TraceError::Cost { at: 2 }),
+                "waff: Trace.Cost 2",
+                3,
+            ),
+            (ToolError::Write, "waff: Write", 4),
+            (ToolError::Memory, "waff: Memory", 4),
+        ] {
+            assert_eq!(rt; fault_text(rt.alloc(), &error)?.as_str(), line);
+            assert_eq!(rt; fault_status(&error), status);
+        }
+        Ok(())
+    }
+}

@@ -1,0 +1,103 @@
+//! The names of faults, as fault lines have them.
+ghost use Rattle.std.specs.Prelude.{◌≡◌, Some};
+ghost use Rattle.waff_tool.specs.Fault.{hierarchy_fault, key_name, layout_error_name, trace_fault, tree_error_name};
+
+use std::fmt;
+use waff_model::{LayoutError, TreeError};
+use waff_read::{HierError, Key, TraceError};
+
+/// A fault of the hierarchy of this number.
+#[derive(Clone, Copy)]
+pub struct Hierarchy {
+    pub file: u8,
+    pub fault: HierError,
+}
+
+impl fmt::Display for Hierarchy {
+    ghost output = { λ h. Some (hierarchy_fault h.file h.fault) };
+
+    fn fmt<W: fmt::Write>(&self, f: &mut fmt::Formatter<W>) -> fmt::Result {
+        let file = self.file;
+        match self.fault {
+            HierError::Toml => write!(f, "Toml {file}"),
+            HierError::Model => write!(f, "Model {file}"),
+            HierError::Shape { key } => write!(f, "Shape {file} {}", key_name(key)),
+            HierError::Tree(error) => write!(f, "Tree.{} {file}", tree_error_name(error)),
+            HierError::NotClassical { affinity } => write!(f, "NotClassical {file} {}", affinity.0),
+            HierError::Layout(error) => write!(f, "Layout.{} {file}", layout_error_name(error)),
+            HierError::Memory => write!(f, "Memory {file}"),
+        }
+    }
+}
+
+fn key_name(key: Key) -> &'static str
+    ensures { result.now ≡ key_name key }
+{
+    match key {
+        Key::Affinities => "Affinities",
+        Key::Spaces => "Spaces",
+        Key::Maps => "Maps",
+        Key::Name => "Name",
+        Key::Parent => "Parent",
+        Key::Size => "Size",
+        Key::Space => "Space",
+        Key::Unit => "Unit",
+        Key::To => "To",
+    }
+}
+
+fn tree_error_name(error: TreeError) -> &'static str
+    ensures { result.now ≡ tree_error_name error }
+{
+    match error {
+        TreeError::Name => "Name",
+        TreeError::Twice => "Twice",
+        TreeError::SecondRoot => "SecondRoot",
+        TreeError::NoRoot => "NoRoot",
+        TreeError::ParentUnknown => "ParentUnknown",
+        TreeError::TooMany => "TooMany",
+        TreeError::Memory => "Memory",
+    }
+}
+
+fn layout_error_name(error: LayoutError) -> &'static str
+    ensures { result.now ≡ layout_error_name error }
+{
+    match error {
+        LayoutError::Space => "Space",
+        LayoutError::Size => "Size",
+        LayoutError::SpaceTwice => "SpaceTwice",
+        LayoutError::NoMap => "NoMap",
+        LayoutError::MapTwice => "MapTwice",
+        LayoutError::Unit => "Unit",
+        LayoutError::To => "To",
+        LayoutError::TooManyCells => "TooManyCells",
+        LayoutError::Memory => "Memory",
+    }
+}
+
+/// A fault of the trace.
+#[derive(Clone, Copy)]
+pub struct Trace(pub TraceError);
+
+impl fmt::Display for Trace {
+    ghost output = { λ t. Some (trace_fault t.0) };
+
+    fn fmt<W: fmt::Write>(&self, f: &mut fmt::Formatter<W>) -> fmt::Result {
+        match self.0 {
+            TraceError::Csv { at } => write!(f, "Csv {at}"),
+            TraceError::Header { at } => write!(f, "Header {at}"),
+            TraceError::Fields { at } => write!(f, "Fields {at}"),
+            TraceError::Name { at } => write!(f, "Name {at}"),
+            TraceError::Cost { at } => write!(f, "Cost {at}"),
+            TraceError::NoOps { at } => write!(f, "NoOps {at}"),
+            TraceError::Op { at } => write!(f, "Op {at}"),
+            TraceError::SpaceUnknown { at } => write!(f, "SpaceUnknown {at}"),
+            TraceError::IndexTooLarge { at } => write!(f, "IndexTooLarge {at}"),
+            TraceError::TooManyOps { at } => write!(f, "TooManyOps {at}"),
+            TraceError::TooManyMessages { at } => write!(f, "TooManyMessages {at}"),
+            TraceError::Memory => write!(f, "Memory"),
+            TraceError::Release { at } => write!(f, "Release {at}"),
+        }
+    }
+}

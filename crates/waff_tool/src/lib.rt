@@ -1,0 +1,18 @@
+//! The texts of the commands, and how they are read and written.
+#![tactic(auto)]
+
+mod assigns;
+mod commands;
+mod fault;
+mod fault_names;
+mod input;
+mod output;
+mod plans;
+mod split;
+mod summary;
+
+pub use commands::{assign_text, plan_text};
+pub use fault::{ToolError, fault_status, fault_text};
+pub use input::{ReadFault, read_whole};
+pub use output::write_text;
+pub use split::split_input;
