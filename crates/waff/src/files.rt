@@ -1,8 +1,8 @@
 //! Files and standard input, read whole.
 use crate::failure::Failure;
 use std::alloc::Global;
-use std::fs;
 use std::rt::Files;
+use std::{fs, io};
 use waff_tool::read_whole;
 
 /// The most bytes of a file, and of standard input.
@@ -15,7 +15,11 @@ pub fn read_file(
     name: &str,
     place: u32,
 ) -> Result<Vec<u8>, Failure> {
-    let mut file = fs::open(rt, name).map_err(|_| Failure::Read(place))?;
+    let mut file = match fs::open(rt, name) {
+        Ok(file) => file,
+        Err(error) if error.kind() == io::ErrorKind::OutOfMemory => return Err(Failure::Memory),
+        Err(_) => return Err(Failure::Read(place)),
+    };
     read_whole(alloc, &mut file, MAX_INPUT).map_err(|fault| Failure::of_read(place, fault))
 }
 

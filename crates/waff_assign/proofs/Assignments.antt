@@ -1,4 +1,5 @@
--- The affinities of messages, one message after another, and the cells of a message as cells of the layout.
+-- The affinities of messages, one message after another, and the cells of a message as cells of the
+-- layout.
 use Rattle.std.proofs.Common.{◌≡◌, ◌≢◌, ℕ, ◌+◌, ◌-◌, ◌<◌, ◌≤◌, List, [], ◌∷◌, ◌++◌, Some, length, get_or, All, slice_get, arith, sym, ◌∙◌, ap, subst, ⊎_elim, unwrap_or}
 use Rattle.std.proofs.lemmas.Bool.{cases_eq}
 use Rattle.std.proofs.lemmas.List.{length-append, length-map, map_push, get_or_push, get_or_append_left}

@@ -35,7 +35,8 @@ root_from_none tree is_tree b within none =
     let both : None ≡ Some has_parent.0 = sym none ∙ has_parent.1 in cc)
     (cases_eq b 0)
 
--- a step up: what is at or above an affinity, and at or above another that the affinity is not at or above, is at or above its parent
+-- a step up: what is at or above an affinity, and at or above another that the affinity is not at
+-- or above, is at or above its parent
 pub above_step : (tree : List Node) (a at owner p : ℕ) → (AtOrAbove tree at owner → ⊥) → parent_of tree at ≡ Some p
     → AtOrAbove tree a at → AtOrAbove tree a owner → AtOrAbove tree a p
 above_step tree a at owner p not_above is high above =

@@ -13,5 +13,6 @@ cell_cmp one other = ordering_then (nat_cmp one.space other.space) (nat_cmp one.
 
 -- the cells of the footprint of message n, each once, in order
 pub record ListsFootprint (messages : List Message) (n : ℕ) (cells : List Cell) : Type 0 where
-  pub each : (message : Message) → slice_get messages (n - 1) ≡ Some message → (cell : Cell) → Contains cells cell ↔ IsInFootprint message.ops cell
+  pub each : (message : Message) → slice_get messages (n - 1) ≡ Some message
+      → (cell : Cell) → Contains cells cell ↔ IsInFootprint message.ops cell
   pub rising : IsStrictlySortedBy cell_cmp cells

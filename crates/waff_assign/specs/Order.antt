@@ -1,4 +1,5 @@
--- The order that a trace's messages keep: earlier before later, where their affinities exclude each other.
+-- The order that a trace's messages keep: earlier before later, where their affinities exclude each
+-- other.
 use Rattle.std.specs.Prelude.{ℕ, zero, suc, ◌-◌, ◌<◌, ◌≤◌, List, length, map, slice_index}
 use Rattle.waff_model.specs.Tree.{Node, Excludes}
 use Rattle.waff_model.specs.declared.tree.AffinityId.{AffinityId}
@@ -27,7 +28,8 @@ PathBy before (suc n) i j = (m : ℕ) × before i m × PathBy before n m j
 abbrev pub Path : (ℕ → ℕ → Type 0) → ℕ → ℕ → Type 0
 Path before i j = (n : ℕ) × PathBy before n i j
 
--- one hierarchy refines another on a trace when each ordered pair under the one is an ordered pair under the other
+-- one hierarchy refines another on a trace when each ordered pair under the one is an ordered pair
+-- under the other
 abbrev pub Refines : List Node → List ℕ → List Node → List ℕ → Type 0
 Refines tree assigned coarse_tree coarse_assigned =
     (i j : ℕ) → IsOrdered tree assigned i j → IsOrdered coarse_tree coarse_assigned i j

@@ -22,13 +22,15 @@ pub fn lowest(layout: &Layout, cells: &[Cell]) -> AffinityId
     low
 }
 
-/// The lowest affinity that is at or above both: climbs from the first until it is at or above the second.
+/// The lowest affinity that is at or above both: climbs from the first until it is at or above the
+/// second.
 fn lowest_above(tree: &Tree, first: AffinityId, second: AffinityId) -> AffinityId
     requires first { first.0 < length tree.now }
     requires second { second.0 < length tree.now }
     ensures first { AtOrAbove tree.now result.0 first.0 }
     ensures second { AtOrAbove tree.now result.0 second.0 }
-    ensures lowest { (a : ℕ) → AtOrAbove tree.now a first.0 → AtOrAbove tree.now a second.0 → AtOrAbove tree.now a result.0 }
+    ensures lowest { (a : ℕ) → AtOrAbove tree.now a first.0 → AtOrAbove tree.now a second.0
+        → AtOrAbove tree.now a result.0 }
     ensures within { result.0 < length tree.now }
 {
     let mut at = first;

@@ -6,8 +6,8 @@ ghost use Rattle.waff_assign.specs.Order.{IsOrdered};
 use crate::Assigned;
 use waff_model::Tree;
 
-/// Whether messages `i` and `j`, from 1, are an ordered pair: `i` arrived before `j`, and their affinities exclude each
-/// other, so that `j` starts only when `i` has finished.
+/// Whether messages `i` and `j`, from 1, are an ordered pair: `i` arrived before `j`, and their
+/// affinities exclude each other, so that `j` starts only when `i` has finished.
 pub fn is_ordered(tree: &Tree, assigned: &Assigned, i: u32, j: u32) -> bool
     requires from { 1 ≤ i }
     requires first { i ≤ length assigned.now }

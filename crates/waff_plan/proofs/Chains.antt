@@ -120,7 +120,8 @@ pub printed_is_chain : (before : ℕ → ℕ → Type 0) (work : Work) → IsFor
 printed_is_chain before work forward start [] h = tt
 printed_is_chain before work forward start (m ∷ rest) h = links_from_leads before work forward start m rest h.1
 
--- in the least plan the messages of a printed chain follow one another with no tick between, up to the length
+-- in the least plan the messages of a printed chain follow one another with no tick between, up to
+-- the length
 leads_fill : (before : ℕ → ℕ → Type 0) (work : Work) → IsForward before work → (start : ℕ → ℕ) → IsLeast before work start
     → (m : ℕ) (rest : List ℕ) → LeadsToEnd before work start m rest → start m + sum_by work.cost (m ∷ rest) ≡ length_of work start
 leads_fill before work forward start least m [] h =

@@ -5,14 +5,14 @@ use Rattle.std.proofs.lemmas.List.{get_or_append_left, get_or_push, get_or_defau
 use Rattle.waff_model.specs.Tree.{Node, AtOrAbove}
 use Rattle.waff_assign.specs.Order.{affinity_of, IsOrdered}
 use Rattle.waff_plan.specs.Work.{Work, finish_of}
-use Rattle.waff_plan.specs.Obeys.{IsForward, IsEarliest}
+use Rattle.waff_plan.specs.Obeys.{IsForward}
 use Rattle.waff_plan.specs.Table.{IsUpTo, IsTable, IsLatestExcluding}
 use Rattle.waff_plan.specs.Timing.{start_of}
 use Rattle.waff_plan.specs.declared.latest.Latest.{Latest}
 use Rattle.waff_plan.specs.declared.timing.TheConstants.{MAX_TICK}
 use Rattle.waff_plan.proofs.Forward.{IsOrdered_forward}
 use Rattle.waff_plan.proofs.Latests.{found_again}
-use Rattle.waff_plan.proofs.Steps.{IsLeastUpTo, up_to_more}
+use Rattle.waff_plan.proofs.Steps.{IsEarliest, IsLeastUpTo, up_to_more}
 
 -- with the same finishes the table is the same
 pub table_again : (tree : List Node) (assigned : List ℕ) (finish again : ℕ → ℕ) (n : ℕ) (own under : List (Option Latest))

@@ -1,8 +1,16 @@
--- The least plan, one message after another: what is known of the first n messages, and the step to one more.
+-- The least plan, one message after another: what is known of the first n messages, and the step to
+-- one more.
 use Rattle.std.proofs.Common.{◌≡◌, ℕ, ◌+◌, ◌<◌, ◌≤◌, ◌≢◌, arith, refl, sym, subst, ⊎_elim}
 use Rattle.std.proofs.lemmas.Bool.{cases_eq}
 use Rattle.waff_plan.specs.Work.{Work, IsNumber, finish_of}
-use Rattle.waff_plan.specs.Obeys.{IsForward, Obeys, IsLeast, IsEarliest}
+use Rattle.waff_plan.specs.Obeys.{IsForward, Obeys, IsLeast}
+
+-- s is the earliest tick at which m may start: it is not before the release of m nor before the
+-- finish of any message that is before m, and no other tick with these two properties is less
+pub record IsEarliest (before : ℕ → ℕ → Type 0) (work : Work) (start : ℕ → ℕ) (m s : ℕ) : Type 0 where
+  pub released : work.release m ≤ s
+  pub after : (i : ℕ) → before i m → finish_of work start i ≤ s
+  pub least : (t : ℕ) → work.release m ≤ t → ((i : ℕ) → before i m → finish_of work start i ≤ t) → s ≤ t
 
 -- the first n starts are those of the least plan
 pub record IsLeastUpTo (before : ℕ → ℕ → Type 0) (work : Work) (start : ℕ → ℕ) (n : ℕ) : Type 0 where

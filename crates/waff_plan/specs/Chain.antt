@@ -21,15 +21,15 @@ abbrev pub chain_release : Work → List ℕ → ℕ
 chain_release work [] = 0
 chain_release work (m ∷ rest) = work.release m
 
--- m is the latest of those that Is holds of: none of them finishes later, and none that finishes at the same tick has a
--- lower number
+-- m is the latest of those that Is holds of: none of them finishes later, and none that finishes at
+-- the same tick has a lower number
 pub record IsLatest (Is : ℕ → Type 0) (finish : ℕ → ℕ) (m : ℕ) : Type 0 where
   pub one : Is m
   pub latest : (other : ℕ) → Is other → finish other ≤ finish m
   pub lowest : (other : ℕ) → Is other → finish other ≡ finish m → m ≤ other
 
--- from m, the latest message before each next one, on to the latest of all messages; none that follows m waited for its
--- release instead
+-- from m, the latest message before each next one, on to the latest of all messages; none that
+-- follows m waited for its release instead
 abbrev pub LeadsToEnd : (ℕ → ℕ → Type 0) → Work → (ℕ → ℕ) → ℕ → List ℕ → Type 0
 LeadsToEnd before work start m [] = IsLatest (IsNumber work) (finish_of work start) m
 LeadsToEnd before work start m (next ∷ rest) =
@@ -37,8 +37,8 @@ LeadsToEnd before work start m (next ∷ rest) =
     × (work.release next < finish_of work start m)
     × LeadsToEnd before work start next rest
 
--- the printed chain of a plan: it begins with a message whose release is at least the finish of every message before it,
--- and is empty where there is no message
+-- the printed chain of a plan: it begins with a message whose release is at least the finish of
+-- every message before it, and is empty where there is no message
 abbrev pub IsPrinted : (ℕ → ℕ → Type 0) → Work → (ℕ → ℕ) → List ℕ → Type 0
 IsPrinted before work start [] = work.count ≡ 0
 IsPrinted before work start (m ∷ rest) =

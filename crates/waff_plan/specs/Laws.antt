@@ -14,13 +14,16 @@ ChainsAreWithinLength before work =
 -- no obeying plan is shorter than the least one
 abbrev pub LeastIsShortest : (ℕ → ℕ → Type 0) → Work → Type 0
 LeastIsShortest before work =
-    (start other : ℕ → ℕ) → IsLeast before work start → Obeys before work other → length_of work start ≤ length_of work other
+    (start other : ℕ → ℕ) → IsLeast before work start → Obeys before work other
+    → length_of work start ≤ length_of work other
 
 -- a printed chain is a chain
 abbrev pub PrintedIsChain : (ℕ → ℕ → Type 0) → Work → Type 0
-PrintedIsChain before work = (start : ℕ → ℕ) (chain : List ℕ) → IsPrinted before work start chain → IsChain before work chain
+PrintedIsChain before work =
+    (start : ℕ → ℕ) (chain : List ℕ) → IsPrinted before work start chain → IsChain before work chain
 
--- the printed chain of the least plan is as long as that plan: its release plus its cost is the length
+-- the printed chain of the least plan is as long as that plan: its release plus its cost is the
+-- length
 abbrev pub PrintedIsAsLong : (ℕ → ℕ → Type 0) → Work → Type 0
 PrintedIsAsLong before work =
     (start : ℕ → ℕ) (chain : List ℕ) → IsLeast before work start → IsPrinted before work start chain

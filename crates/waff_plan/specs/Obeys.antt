@@ -1,5 +1,5 @@
--- Plans that obey an order of the messages, and the least of them. `before i j` says that message j starts only when
--- message i has finished.
+-- Plans that obey an order of the messages, and the least of them. `before i j` says that message j
+-- starts only when message i has finished.
 use Rattle.std.specs.Prelude.{ℕ, ◌<◌, ◌≤◌}
 use Rattle.waff_plan.specs.Work.{Work, IsNumber, finish_of}
 
@@ -9,7 +9,8 @@ pub record IsForward (before : ℕ → ℕ → Type 0) (work : Work) : Type 0 wh
   pub earlier : (i j : ℕ) → before i j → i < j
   pub to : (i j : ℕ) → before i j → j ≤ work.count
 
--- an obeying plan: no message starts before its release, nor before the finish of one that is before it
+-- an obeying plan: no message starts before its release, nor before the finish of one that is
+-- before it
 pub record Obeys (before : ℕ → ℕ → Type 0) (work : Work) (start : ℕ → ℕ) : Type 0 where
   pub released : (m : ℕ) → IsNumber work m → work.release m ≤ start m
   pub ordered : (i j : ℕ) → before i j → finish_of work start i ≤ start j
@@ -18,10 +19,3 @@ pub record Obeys (before : ℕ → ℕ → Type 0) (work : Work) (start : ℕ �
 pub record IsLeast (before : ℕ → ℕ → Type 0) (work : Work) (start : ℕ → ℕ) : Type 0 where
   pub obeys : Obeys before work start
   pub least : (other : ℕ → ℕ) → Obeys before work other → (m : ℕ) → IsNumber work m → start m ≤ other m
-
--- s is the earliest tick at which m may start: it is not before the release of m nor before the finish of any message
--- that is before m, and no other tick with these two properties is less
-pub record IsEarliest (before : ℕ → ℕ → Type 0) (work : Work) (start : ℕ → ℕ) (m s : ℕ) : Type 0 where
-  pub released : work.release m ≤ s
-  pub after : (i : ℕ) → before i m → finish_of work start i ≤ s
-  pub least : (t : ℕ) → work.release m ≤ t → ((i : ℕ) → before i m → finish_of work start i ≤ t) → s ≤ t

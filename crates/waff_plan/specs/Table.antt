@@ -10,9 +10,12 @@ pub record IsUpTo (n i : ℕ) : Type 0 where
   pub from : 1 ≤ i
   pub to : i ≤ n
 
--- of the first n messages: the latest whose affinity is a, and the latest whose affinity is a or below a
-pub record IsTable (tree : List Node) (assigned : List ℕ) (finish : ℕ → ℕ) (n : ℕ) (own under : List (Option Latest)) : Type 0 where
-  pub own_each : (a : ℕ) → a < length tree → IsFound (λ i. IsUpTo n i × (affinity_of assigned i ≡ a)) finish (slice_index_or own a None)
+-- of the first n messages: the latest whose affinity is a, and the latest whose affinity is a or
+-- below a
+pub record IsTable (tree : List Node) (assigned : List ℕ) (finish : ℕ → ℕ) (n : ℕ)
+    (own under : List (Option Latest)) : Type 0 where
+  pub own_each : (a : ℕ) → a < length tree
+      → IsFound (λ i. IsUpTo n i × (affinity_of assigned i ≡ a)) finish (slice_index_or own a None)
   pub under_each : (a : ℕ) → a < length tree
       → IsFound (λ i. IsUpTo n i × AtOrAbove tree a (affinity_of assigned i)) finish (slice_index_or under a None)
 

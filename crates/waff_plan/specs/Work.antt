@@ -1,5 +1,5 @@
--- Work to be done: messages numbered from 1, each with its cost in ticks and the tick of its release. A plan is a map from
--- the number of a message to its start tick.
+-- Work to be done: messages numbered from 1, each with its cost in ticks and the tick of its
+-- release. A plan is a map from the number of a message to its start tick.
 use Rattle.std.specs.Prelude.{ℕ, ◌+◌, ◌≤◌, max, List, [], ◌∷◌, map, sum_by}
 use Rattle.std.specs.List.{range_with_len}
 

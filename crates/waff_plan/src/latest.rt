@@ -10,7 +10,8 @@ pub(crate) struct Latest {
     pub number: u32,
 }
 
-/// The one that finishes later, and of two that finish at the same tick the one with the lower number.
+/// The one that finishes later, and of two that finish at the same tick the one with the lower
+/// number.
 pub(crate) fn later(one: Option<Latest>, other: Option<Latest>) -> Option<Latest>
     ensures { result ≡ later_of one other }
 {

@@ -1,5 +1,6 @@
-//! What holds of all plans, whoever made them. Each law is a function that does nothing and whose contract is the law, for the
-//! ordered pairs of a tree of affinities and the affinities assigned to the messages.
+//! What holds of all plans, whoever made them. Each law is a function that does nothing and whose
+//! contract is the law, for the ordered pairs of a tree of affinities and the affinities assigned
+//! to the messages.
 
 ghost use Rattle.std.specs.Prelude.{◌≡◌, ℕ, List, length};
 ghost use Rattle.waff_model.specs.Tree.{Node};
@@ -9,12 +10,14 @@ ghost use Rattle.waff_plan.specs.Laws.{ChainsAreWithinLength, LeastIsShortest, P
 
 /// The certificate: no obeying plan is shorter than the release plus the cost of any chain.
 pub fn chains_are_within_length()
-    ensures { (tree : List Node) (assigned : List ℕ) (work : Work) → ChainsAreWithinLength (IsOrdered tree assigned) work }
+    ensures { (tree : List Node) (assigned : List ℕ) (work : Work)
+        → ChainsAreWithinLength (IsOrdered tree assigned) work }
 {}
 
 /// The least plan is shortest.
 pub fn least_is_shortest()
-    ensures { (tree : List Node) (assigned : List ℕ) (work : Work) → LeastIsShortest (IsOrdered tree assigned) work }
+    ensures { (tree : List Node) (assigned : List ℕ) (work : Work)
+        → LeastIsShortest (IsOrdered tree assigned) work }
 {}
 
 /// The printed chain of a plan is a chain.
@@ -31,10 +34,12 @@ pub fn printed_is_as_long()
 
 /// In every worker plan for k the total is at most k times the length.
 pub fn total_is_within_workers()
-    ensures { (tree : List Node) (assigned : List ℕ) (work : Work) → TotalIsWithinWorkers (IsOrdered tree assigned) work }
+    ensures { (tree : List Node) (assigned : List ℕ) (work : Work)
+        → TotalIsWithinWorkers (IsOrdered tree assigned) work }
 {}
 
-/// Where one hierarchy refines another on a trace, its least plan is no longer than that of the other.
+/// Where one hierarchy refines another on a trace, its least plan is no longer than that of the
+/// other.
 pub fn refined_is_no_longer()
     ensures { (tree coarse_tree : List Node) (assigned coarse_assigned : List ℕ) (work : Work)
         → Refines tree assigned coarse_tree coarse_assigned

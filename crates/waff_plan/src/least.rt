@@ -13,8 +13,8 @@ use std::alloc::{AllocError, Global};
 use waff_assign::Assigned;
 use waff_model::Tree;
 
-/// The starts of the least plan: each message starts at its release, or where it is later at the finish of the latest earlier
-/// message that excludes it.
+/// The starts of the least plan: each message starts at its release, or where it is later at the
+/// finish of the latest earlier message that excludes it.
 pub(crate) fn least_starts(
     alloc: Global,
     tree: &Tree,
@@ -24,7 +24,8 @@ pub(crate) fn least_starts(
     requires lengths { length timings.now ≡ length assigned.now }
     requires known { All (λ a. a < length tree.now) assigned.now }
     ensures count { IfOk result (λ starts. length starts.items ≡ length timings.now) }
-    ensures least { IfOk result (λ starts. IsLeast (IsOrdered tree.now assigned.now) (work_of timings.now) (start_of starts.items)) }
+    ensures least { IfOk result (λ starts. IsLeast (IsOrdered tree.now assigned.now)
+        (work_of timings.now) (start_of starts.items)) }
     ensures printable { IfOk result (λ starts. All (λ start. start ≤ MAX_TICK) starts.items) }
 {
     let mut table = Table::new(alloc, tree)?;

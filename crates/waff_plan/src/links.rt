@@ -15,7 +15,8 @@ use waff_assign::Assigned;
 use waff_model::Tree;
 use waff_model::limits::MAX_MESSAGES;
 
-/// For each message the latest of those that it waited for, where it did not wait for its release instead.
+/// For each message the latest of those that it waited for, where it did not wait for its release
+/// instead.
 pub(crate) fn links(
     alloc: Global,
     tree: &Tree,
@@ -26,8 +27,8 @@ pub(crate) fn links(
     requires known { All (λ a. a < length tree.now) assigned.now }
     ensures count { IfOk result (λ links. length links.items ≡ length plan.now.timings) }
     ensures few { OnOk result (length plan.now.timings ≤ MAX_MESSAGES) }
-    ensures links { IfOk result (λ links. AreLinks (IsOrdered tree.now assigned.now) (work_of plan.now.timings) (start_of plan.now.starts)
-        (length plan.now.timings) links.items) }
+    ensures links { IfOk result (λ links. AreLinks (IsOrdered tree.now assigned.now)
+        (work_of plan.now.timings) (start_of plan.now.starts) (length plan.now.timings) links.items) }
 {
     let mut table = Table::new(alloc, tree)?;
     let mut links = Vec::with_capacity(alloc, plan.len() as usize)?;

@@ -14,8 +14,9 @@ use waff_assign::Assigned;
 use waff_model::Tree;
 use waff_model::limits::MAX_MESSAGES;
 
-/// The printed chain of the plan: it ends with the latest message, and before each message stands the latest of those that
-/// it waited for, until one waited for its release alone. In the unlimited plan its release plus its cost is the length.
+/// The printed chain of the plan: it ends with the latest message, and before each message stands
+/// the latest of those that it waited for, until one waited for its release alone. In the unlimited
+/// plan its release plus its cost is the length.
 pub fn chain(
     alloc: Global,
     tree: &Tree,
@@ -24,15 +25,19 @@ pub fn chain(
 ) -> Result<Chain, AllocError>
     requires lengths { length plan.now.timings ≡ length assigned.now }
     requires known { All (λ a. a < length tree.now) assigned.now }
-    ensures printed { IfOk result (λ chain. IsPrinted (IsOrdered tree.now assigned.now) (work_of plan.now.timings) (start_of plan.now.starts)
+    ensures printed { IfOk result (λ chain. IsPrinted (IsOrdered tree.now assigned.now)
+        (work_of plan.now.timings) (start_of plan.now.starts) chain.messages) }
+    ensures chain { IfOk result (λ chain. IsChain (IsOrdered tree.now assigned.now) (work_of plan.now.timings)
         chain.messages) }
-    ensures chain { IfOk result (λ chain. IsChain (IsOrdered tree.now assigned.now) (work_of plan.now.timings) chain.messages) }
     ensures cost { IfOk result (λ chain. chain.cost ≡ chain_cost (work_of plan.now.timings) chain.messages) }
-    ensures release { IfOk result (λ chain. chain.release ≡ chain_release (work_of plan.now.timings) chain.messages) }
+    ensures release { IfOk result (λ chain.
+        chain.release ≡ chain_release (work_of plan.now.timings) chain.messages) }
 
     // The certificate of the unlimited plan.
-    ensures as_long { IfOk result (λ chain. IsLeast (IsOrdered tree.now assigned.now) (work_of plan.now.timings) (start_of plan.now.starts)
-        → chain.release + chain.cost ≡ length_of (work_of plan.now.timings) (start_of plan.now.starts)) }
+    ensures as_long { IfOk result (λ chain.
+        IsLeast (IsOrdered tree.now assigned.now) (work_of plan.now.timings) (start_of plan.now.starts)
+        → chain.release + chain.cost
+        ≡ length_of (work_of plan.now.timings) (start_of plan.now.starts)) }
 {
     let messages = walk(alloc, tree, assigned, plan)?;
     let cost = cost_of(plan, messages.as_slice());
@@ -49,8 +54,8 @@ fn walk(
 ) -> Result<Vec<u32>, AllocError>
     requires lengths { length plan.now.timings ≡ length assigned.now }
     requires known { All (λ a. a < length tree.now) assigned.now }
-    ensures printed { IfOk result (λ messages. IsPrinted (IsOrdered tree.now assigned.now) (work_of plan.now.timings)
-        (start_of plan.now.starts) messages.items) }
+    ensures printed { IfOk result (λ messages. IsPrinted (IsOrdered tree.now assigned.now)
+        (work_of plan.now.timings) (start_of plan.now.starts) messages.items) }
     ensures few { OnOk result (length plan.now.timings ≤ MAX_MESSAGES) }
 {
     let links = links(alloc, tree, assigned, plan)?;

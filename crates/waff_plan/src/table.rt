@@ -1,4 +1,5 @@
-//! A table over the affinities of a tree: the latest of the messages so far, of each affinity and of all below it.
+//! A table over the affinities of a tree: the latest of the messages so far, of each affinity and
+//! of all below it.
 
 ghost use Rattle.std.specs.Prelude.{◌≡◌, ℕ, ◌+◌, ◌<◌, List, length, Option, None, IfOk, slice_index_or};
 ghost use Rattle.waff_model.specs.Tree.{AtOrAbove, IsTree};

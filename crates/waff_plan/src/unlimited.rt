@@ -1,5 +1,5 @@
-//! The unlimited plan: each message starts at the greatest of its release and the finishes of the earlier messages that
-//! exclude it.
+//! The unlimited plan: each message starts at the greatest of its release and the finishes of the
+//! earlier messages that exclude it.
 
 ghost use Rattle.std.specs.Prelude.{◌≡◌, ◌<◌, length, All, IfOk};
 ghost use Rattle.waff_assign.specs.Order.{IsOrdered};
@@ -24,7 +24,8 @@ pub fn plan(
     requires lengths { length trace.now.messages ≡ length assigned.now }
     requires known { All (λ a. a < length tree.now) assigned.now }
     ensures timings { IfOk result (λ plan. plan.timings ≡ timings_of trace.now.messages) }
-    ensures least { IfOk result (λ plan. IsLeast (IsOrdered tree.now assigned.now) (work_of plan.timings) (start_of plan.starts)) }
+    ensures least { IfOk result (λ plan. IsLeast (IsOrdered tree.now assigned.now)
+        (work_of plan.timings) (start_of plan.starts)) }
 {
     let timings = timings(alloc, trace)?;
     let starts = least_starts(alloc, tree, assigned, timings.as_slice())?;

@@ -2,7 +2,7 @@
 
 use crate::building::{layout, trace};
 use std::test::Fail;
-use waff_assign::{assign, lowest};
+use waff_assign::{assign, footprint, lowest};
 use waff_model::Cell;
 
 #[test]
@@ -33,5 +33,17 @@ fn of_two_volumes_is_the_root(rt: HostRuntime) -> Result<(), Fail> {
     assert!(rt; layout.has(g));
     let affinity = lowest(&layout, &[f, g]);
     assert_eq!(rt; layout.tree().name(affinity), "Serial");
+    Ok(())
+}
+
+#[test]
+fn come_from_footprints_without_repeats(rt: HostRuntime) -> Result<(), Fail> {
+    let layout = layout(rt.alloc())?;
+    let trace = trace(&rt, rt.alloc(), &layout)?;
+    assert_eq!(rt; trace.len(), 6);
+    let cells = footprint(rt.alloc(), &trace, 5)?;
+    let f = Cell { space: 0, index: 2 };
+    let g = Cell { space: 2, index: 0 };
+    assert_eq!(rt; cells.as_slice(), [f, g].as_slice());
     Ok(())
 }

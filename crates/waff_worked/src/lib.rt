@@ -14,4 +14,6 @@ mod running;
 #[cfg(test)]
 mod samples;
 #[cfg(test)]
+mod texts;
+#[cfg(test)]
 mod traces_read;

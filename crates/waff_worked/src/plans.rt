@@ -6,57 +6,120 @@ use std::alloc::Global;
 use std::process::Abort;
 use std::test::Fail;
 
-/// One case: the affinities, the starts, the length and the total of an unlimited plan.
+/// What a case has to tell of an unlimited plan.
+#[derive(Drop)]
+struct Case<'a> {
+    affinities: &'a str,
+    starts: &'a str,
+    length: u64,
+    total: u64,
+    chain: &'a str,
+    cost: u64,
+    release: u64,
+}
+
 fn tells(
     rt: &impl Abort,
     alloc: Global,
-    files: (&str, &str),
-    lists: (&str, &str),
-    length: u64,
-    total: u64,
+    hierarchy: &str,
+    trace: &str,
+    case: Case<'_>,
 ) -> Result<(), Fail> {
-    let told = unlimited(rt, alloc, files.0, files.1)?;
-    assert_eq!(rt; told.affinities.as_str(), lists.0);
-    assert_eq!(rt; told.starts.as_str(), lists.1);
-    assert_eq!(rt; told.length, length);
-    assert_eq!(rt; told.total, total);
+    let told = unlimited(rt, alloc, hierarchy, trace)?;
+    assert_eq!(rt; told.affinities.as_str(), case.affinities);
+    assert_eq!(rt; told.starts.as_str(), case.starts);
+    assert_eq!(rt; told.length, case.length);
+    assert_eq!(rt; told.total, case.total);
+    assert_eq!(rt; told.chain.as_str(), case.chain);
+    assert_eq!(rt; told.cost, case.cost);
+    assert_eq!(rt; told.release, case.release);
     Ok(())
 }
 
 #[test]
-fn of_the_samples(rt: HostRuntime) -> Result<(), Fail> {
-    let alloc = rt.alloc();
-    let hierarchical = ("A0 B0 VolA B1 Serial A0", "0 0 4 0 6 7");
-    tells(&rt, alloc, (H1, X1), hierarchical, 9, 17)?;
-    let classical = ("T0 T0 Serial T1 Serial T0", "0 4 7 9 14 15");
-    tells(&rt, alloc, (C1, X1), classical, 17, 17)?;
-    let released = ("A0 B0 VolA B1 Serial", "0 2 10 0 12");
-    tells(&rt, alloc, (H1, X2), released, 13, 15)?;
-    Ok(())
+fn of_the_hierarchical_sample(rt: HostRuntime) -> Result<(), Fail> {
+    let case = Case {
+        affinities: "A0 B0 VolA B1 Serial A0",
+        starts: "0 0 4 0 6 7",
+        length: 9,
+        total: 17,
+        chain: "1 3 5 6",
+        cost: 9,
+        release: 0,
+    };
+    tells(&rt, rt.alloc(), H1, X1, case)
+}
+
+#[test]
+fn of_the_classical_sample(rt: HostRuntime) -> Result<(), Fail> {
+    let case = Case {
+        affinities: "T0 T0 Serial T1 Serial T0",
+        starts: "0 4 7 9 14 15",
+        length: 17,
+        total: 17,
+        chain: "1 2 3 4 5 6",
+        cost: 17,
+        release: 0,
+    };
+    tells(&rt, rt.alloc(), C1, X1, case)
+}
+
+#[test]
+fn with_releases(rt: HostRuntime) -> Result<(), Fail> {
+    let case = Case {
+        affinities: "A0 B0 VolA B1 Serial",
+        starts: "0 2 10 0 12",
+        length: 13,
+        total: 15,
+        chain: "3 5",
+        cost: 3,
+        release: 10,
+    };
+    tells(&rt, rt.alloc(), H1, X2, case)
 }
 
 #[test]
 fn of_no_message(rt: HostRuntime) -> Result<(), Fail> {
-    tells(&rt, rt.alloc(), (H1, "message,cost,ops\n"), ("", ""), 0, 0)
+    let case = Case {
+        affinities: "",
+        starts: "",
+        length: 0,
+        total: 0,
+        chain: "",
+        cost: 0,
+        release: 0,
+    };
+    tells(&rt, rt.alloc(), H1, "message,cost,ops\n", case)
 }
 
 #[test]
 fn of_two_readers_of_one_cell(rt: HostRuntime) -> Result<(), Fail> {
+    let case = Case {
+        affinities: "VolA VolA",
+        starts: "0 1",
+        length: 2,
+        total: 2,
+        chain: "1 2",
+        cost: 2,
+        release: 0,
+    };
     let trace = "message,cost,ops\nm1,1,read m:0\nm2,1,read m:0\n";
-    tells(&rt, rt.alloc(), (H1, trace), ("VolA VolA", "0 1"), 2, 2)
+    tells(&rt, rt.alloc(), H1, trace, case)
 }
 
 #[test]
 fn waits_for_each_descendant(rt: HostRuntime) -> Result<(), Fail> {
+    let case = Case {
+        affinities: "A0 A1 VolA",
+        starts: "0 0 9",
+        length: 10,
+        total: 11,
+        chain: "1 3",
+        cost: 10,
+        release: 0,
+    };
     let trace = "message,cost,ops\nm1,9,set f:0 1\nm2,1,set f:2 1\nm3,1,set m:0 1\n";
-    tells(
-        &rt,
-        rt.alloc(),
-        (H1, trace),
-        ("A0 A1 VolA", "0 0 9"),
-        10,
-        11,
-    )
+    tells(&rt, rt.alloc(), H1, trace, case)
 }
 
 #[test]
@@ -74,12 +137,14 @@ fn of_the_ends_of_a_long_path(rt: HostRuntime) -> Result<(), Fail> {
     hierarchy.push_str("[[space]]\nname = \"f\"\nsize = 2\n")?;
     hierarchy.push_str("[[map]]\nspace = \"f\"\nunit = 1\nto = [\"n0\", \"n4095\"]\n")?;
     let trace = "message,cost,ops\nm1,1,read f:1\nm2,1,read f:0\n";
-    tells(
-        &rt,
-        alloc,
-        (hierarchy.as_str(), trace),
-        ("n4095 n0", "0 1"),
-        2,
-        2,
-    )
+    let case = Case {
+        affinities: "n4095 n0",
+        starts: "0 1",
+        length: 2,
+        total: 2,
+        chain: "1 2",
+        cost: 2,
+        release: 0,
+    };
+    tells(&rt, alloc, hierarchy.as_str(), trace, case)
 }

@@ -96,3 +96,39 @@ m3,2,10,copy f:2 f:0\n\
 m4,5,0,add g:4 1\n\
 m5,1,0,swap f:2 g:0\n\
 ";
+
+/// The affinities of the first trace under the hierarchical sample.
+pub const ASSIGN_H1_X1: &str = "message,name,affinity\n\
+1,m1,A0\n\
+2,m2,B0\n\
+3,m3,VolA\n\
+4,m4,B1\n\
+5,m5,Serial\n\
+6,m6,A0\n\
+";
+
+/// The unlimited plan of the first trace under the hierarchical sample.
+pub const PLAN_H1_X1: &str = "message,affinity,start,finish,worker\n\
+1,A0,0,4,-\n\
+2,B0,0,3,-\n\
+3,VolA,4,6,-\n\
+4,B1,0,5,-\n\
+5,Serial,6,7,-\n\
+6,A0,7,9,-\n\
+workers,-\n\
+total,17\n\
+length,9\n\
+chain,1 3 5 6\n\
+cost,9\n\
+bound,9,9\n\
+";
+
+/// The unlimited plan of no message.
+pub const PLAN_H1_HEADER_ALONE: &str = "message,affinity,start,finish,worker\n\
+workers,-\n\
+total,0\n\
+length,0\n\
+chain,\n\
+cost,0\n\
+bound,0,0\n\
+";
