@@ -3,6 +3,7 @@ pub mod Refusals
 pub mod Tree
 pub mod TreeRefusal
 pub mod Nodes
+pub mod Places
 pub mod Cells
 pub mod Layout
 pub mod LayoutOf

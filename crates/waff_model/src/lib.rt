@@ -10,6 +10,7 @@ mod message;
 mod name;
 mod nodes;
 mod op;
+mod places;
 mod space;
 mod texts;
 mod trace;

@@ -31,6 +31,10 @@ impl Nodes {
         }
     }
 
+    pub(crate) fn allocator(&self) -> Global {
+        *self.parents.allocator()
+    }
+
     pub(crate) fn len(&self) -> usize
         ensures { result ≡ length self.now }
     {
@@ -67,7 +71,7 @@ impl Nodes {
         ensures added { OnOk result (self.new ≡ self.old ++ record { name = name.now; parent = parent } ∷ []) }
         ensures unchanged { OnErr result (self.new ≡ self.old) }
     {
-        let key = String::from_str(*self.parents.allocator(), name)?;
+        let key = String::from_str(self.allocator(), name)?;
         self.parents.insert(key, parent)?;
         Ok(())
     }

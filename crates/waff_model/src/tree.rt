@@ -1,12 +1,13 @@
 //! Trees of affinities.
 
-ghost use Rattle.std.specs.Prelude.{◌≡◌, ◌+◌, ◌<◌, ◌↔◌, [], ◌∷◌, ◌++◌, length, option_map, unwrap_or, None, IsTrue, IfOk, IfErr, IfSome, OnOk, OnErr};
+ghost use Rattle.std.specs.Prelude.{◌≡◌, ◌+◌, ◌==◌, if◌then◌else◌, ◌<◌, ◌↔◌, [], ◌∷◌, ◌++◌, length, option_map, unwrap_or, None, IsTrue, IfOk, IfErr, IfSome, OnOk, OnErr};
 ghost use Rattle.waff_model.specs.Tree.{parent_of, number_of, name_of, AtOrAbove, Excludes, IsTree};
 ghost use Rattle.waff_model.specs.TreeRefusal.{node_of, refusal_of};
 
 use crate::limits::MAX_AFFINITIES;
 use crate::name::is_name;
 use crate::nodes::Nodes;
+use crate::places::{Place, places_of};
 use std::alloc::{AllocError, Global};
 use std::marker::Model;
 use thiserror::Error;
@@ -81,16 +82,17 @@ impl TreeBuilder {
         }
     }
 
-    /// The tree of the affinities that were added.
+    /// The tree of the affinities that were added. Memory is answered only where it ran out.
     pub fn build(self) -> Result<Tree, TreeError>
         ensures kept { IfOk result (λ tree. tree ≡ self) }
-        ensures refused { IfErr result (λ e. (e ≡ TreeError.NoRoot) × (self ≡ [])) }
+        ensures refused { IfErr result (λ e. e ≡ (if length self == 0 then TreeError.NoRoot else TreeError.Memory)) }
     {
         if self.nodes.len() == 0 {
             return Err(TreeError::NoRoot);
         }
         let TreeBuilder { nodes } = self;
-        Ok(Tree { nodes })
+        let places = places_of(&nodes).map_err(|_| TreeError::Memory)?;
+        Ok(Tree { nodes, places })
     }
 }
 
@@ -118,17 +120,19 @@ fn refusal(nodes: &Nodes, name: &str, parent: Option<u16>) -> Option<TreeError>
 #[derive(Drop)]
 pub struct Tree {
     nodes: Nodes,
+    places: Vec<Place>,
 }
 
 impl Model for Tree {
     ghost use Rattle.std.specs.Prelude.{List};
     ghost use Rattle.waff_model.specs.Tree.{Node, IsTree};
+    ghost use Rattle.waff_model.specs.Places.{ArePlaces};
 
     ghost Value = { List Node };
 
     ghost view = { λ t. t.nodes };
 
-    ghost invariant = { λ t. IsTree t.nodes };
+    ghost invariant = { λ t. IsTree t.nodes × ArePlaces t.nodes t.places.items };
 }
 
 impl Tree {
@@ -151,7 +155,7 @@ impl Tree {
         requires { affinity.0 < length self.now }
         ensures { option_map (λ p. p.0) result ≡ parent_of self.now affinity.0 }
     {
-        self.nodes.parent(affinity.0 as usize).map(AffinityId)
+        self.places[affinity.0 as usize].parent.map(AffinityId)
     }
 
     pub fn name(&self, affinity: AffinityId) -> &str
@@ -179,14 +183,7 @@ impl Tree {
         ensures answer { IsTrue result ↔ AtOrAbove self.now above.0 below.0 }
         ensures tree { IsTree self.now }
     {
-        let mut at = below.0;
-        while above.0 < at {
-            match self.nodes.parent(at as usize) {
-                Some(parent) => at = parent,
-                None => return false,
-            }
-        }
-        at == above.0
+        self.places[above.0 as usize].spans(&self.places[below.0 as usize])
     }
 
     /// Whether one of the two is at or above the other, so that their messages never run at the same time.
@@ -260,6 +257,10 @@ mod tests {
             builder.add("n4096", Some(AffinityId(4095))),
             Err(TreeError::TooMany)
         );
+        let tree = builder.build()?;
+        assert_eq!(rt; tree.len(), 4096);
+        assert!(rt; tree.at_or_above(AffinityId(1), AffinityId(4095)));
+        assert!(rt; !tree.at_or_above(AffinityId(4095), AffinityId(4094)));
         Ok(())
     }
 }

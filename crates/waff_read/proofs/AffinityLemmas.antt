@@ -1,5 +1,5 @@
 -- Trees read row by row.
-use Rattle.std.proofs.Common.{◌≡◌, ℕ, ◌+◌, ◌<◌, ◌≤◌, ◌==◌, List, [], ◌∷◌, ◌++◌, length, map, drop, get_or, Bool, false, Option, Some, None, Result, Ok, Err, position, refl, ap, sym, ◌∙◌, arith, length-append}
+use Rattle.std.proofs.Common.{◌≡◌, ℕ, ◌+◌, ◌<◌, ◌≤◌, ◌==◌, List, [], ◌∷◌, ◌++◌, length, map, drop, get_or, Bool, false, Option, Some, None, Ok, Err, position, refl, ap, sym, ◌∙◌, arith}
 use Rattle.std.specs.Prelude.{is_some}
 use Rattle.std.specs.Str.{bytes_eq}
 use Rattle.std.proofs.lemmas.Bool.Decides.{nat_tests}
@@ -7,7 +7,6 @@ use Rattle.std.proofs.lemmas.List.{drop_more, drop_all, length-map}
 use Rattle.toml.specs.Data.{Data}
 use Rattle.toml.specs.View.{view}
 use Rattle.toml.specs.declared.value.Value.{Value}
-use Rattle.waff_parse.specs.Refusals.{◌>>=◌}
 use Rattle.waff_parse.specs.Stopping.{Stops}
 use Rattle.waff_parse.specs.declared.stop.Stop.{Stop}
 use Rattle.waff_parse.specs.declared.stop.Stop.TheVariants as stop
@@ -49,19 +48,6 @@ tree_from-end : (tree : List Node) → tree_from tree [] ≡ Ok tree
 unfolding tree_from
 tree_from-end tree = refl
 
--- each row adds a node
-length-tree_from : (tree : List Node) (rows : List Data) (read : List Node) → tree_from tree rows ≡ Ok read → length tree + length rows ≤ length read
-unfolding tree_from
-length-tree_from tree [] read done = let same : tree ≡ read = cc in rw same (omega arith)
-length-tree_from tree (row ∷ more) read done =
-    by (passed (refusal_of tree (node_in tree row))) done (length-tree_from (tree ++ node_in tree row ∷ []) more read)
-  where
-    by : (check : Result (Unit {0}) TreeError) → (check >>= (λ _. tree_from (tree ++ node_in tree row ∷ []) more)) ≡ Ok read
-        → (tree_from (tree ++ node_in tree row ∷ []) more ≡ Ok read → length (tree ++ node_in tree row ∷ []) + length more ≤ length read)
-        → length tree + length (row ∷ more) ≤ length read
-    by (Ok _) done rest = omega (arith, length-append tree (node_in tree row ∷ []), rest done)
-    by (Err e) done rest = absurd (cc)
-
 -- some rows are read from the empty tree on
 tree_of-filled : (rows : List Data) → 0 < length rows → tree_of rows ≡ tree_from [] rows
 tree_of-filled [] filled = absurd (omega arith)
@@ -94,10 +80,3 @@ module _ (tree : List Node) (rows : List Value) (i : ℕ) where
       ∙ sym same
       ∙ ap (λ (more : List Value). tree_from tree (map view more)) (drop_all i rows past)
       ∙ tree_from-end tree
-
-  -- which has a root
-  pub has_root : length rows ≤ i → 0 < length rows → tree_from tree (map view (drop i rows)) ≡ tree_from [] (map view rows) → 0 < length tree
-  has_root past filled same =
-      let read = sym (tree_of-filled (map view rows) (simp length-map filled)) ∙ ends past filled same in
-      let count : 0 + length rows ≤ length tree = simp length-map at (length-tree_from [] (map view rows) tree read) in
-      omega arith

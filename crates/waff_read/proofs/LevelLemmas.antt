@@ -1,9 +1,9 @@
 -- The first affinity of a third level.
-use Rattle.std.proofs.Common.{◌≡◌, ℕ, ◌<◌, Bool, true, false, nat_lt, List, [], length, get_or, Some, None, unwrap_or, ap, sym, ◌∙◌, arith}
+use Rattle.std.proofs.Common.{◌≡◌, ℕ, ◌<◌, ◌≤◌, Bool, true, false, nat_lt, List, [], length, get_or, Some, None, unwrap_or, ap, sym, ◌∙◌, arith}
 use Rattle.std.specs.Prelude.{option_and_then}
 use Rattle.std.specs.List.{position_or_len}
 use Rattle.std.proofs.lemmas.Bool.Decides.{nat_tests}
-use Rattle.std.proofs.lemmas.List.Sums.{position_or_len_is}
+use Rattle.std.proofs.lemmas.List.Sums.{fails_before_first, position_or_len_is}
 use Rattle.std.proofs.lemmas.Option.{slice_get-get_or}
 use Rattle.waff_model.specs.Tree.{Node, parent_of}
 use Rattle.waff_read.specs.Hierarchies.{third_level_of}
@@ -37,3 +37,9 @@ no_level tree none =
     (λ k below. third_at-get_or tree k below ∙ none k below)
     (λ past. absurd (omega arith)) in
     grind (arith, nat_tests, at)
+
+-- where there is none, no affinity has another parent than the root
+pub level_none : (tree : List Node) → third_level_of tree ≡ None → (k : ℕ) → k < length tree → third_at tree k ≡ false
+level_none tree none k inside =
+    let past : length tree ≤ position_or_len is_third tree = grind (arith, nat_tests) in
+    sym (third_at-get_or tree k inside) ∙ fails_before_first is_third tree k no_node (omega arith)

@@ -6,3 +6,8 @@ pub mod NameLemmas
 pub mod MessageLaws
 pub mod TraceLaws
 pub mod OpsLaws
+pub mod ExactLaws
+pub mod FaultLaws
+pub mod HierarchyLaws
+pub mod SpellingLaws
+pub mod TraceSpellings

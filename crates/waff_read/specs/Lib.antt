@@ -9,3 +9,5 @@ pub mod TraceFaults
 pub mod Ops
 pub mod Messages
 pub mod Traces
+pub mod Spellings
+pub mod Laws

@@ -30,7 +30,8 @@ pub(crate) fn read_tree(alloc: Global, rows: &[Value]) -> Result<Tree, Stop<Tree
     }
     match tree.build() {
         Ok(tree) => Ok(tree),
-        Err(e) => Err(Stop::Fault(e)),
+        // Nothing but memory is refused to a builder that has a root.
+        Err(_) => Err(Stop::Memory),
     }
 }
 

@@ -4,6 +4,7 @@
 //!   types), `affinities` (the tree) and `spaces` (the rows of a layout); `hier_error` has what it refuses.
 //! - `trace`: the reader of traces, over `message` (one record), `ops` (the operations of a message) and `op` (one
 //!   operation); `trace_fault` has what it refuses.
+//! - `laws`: what holds of all files that are accepted or refused.
 //!
 //! What the files stand for is defined in `specs/`. Of a hierarchy: `Hierarchies` (whole files), over `Documents`, `Shapes`,
 //! `Affinities` and `Spaces`. Of a trace: `Traces` (whole texts), over `Messages` (records) and `Ops` (operations as they are
@@ -14,6 +15,7 @@ mod affinities;
 mod document;
 mod hier_error;
 mod hierarchy;
+pub mod laws;
 mod message;
 mod names;
 mod op;

@@ -1,6 +1,6 @@
-use Rattle.std.proofs.Common.{◌∙◌, ap, sym, Ok, arith, length, ◌<◌}
+use Rattle.std.proofs.Common.{◌∙◌, ap, sym, Ok, arith, length}
 use Rattle.std.proofs.lemmas.Result.{err_from_is_err_and}
-use Rattle.waff_read.proofs.AffinityLemmas.{is_filled, goes_on, stops, ends, has_root}
+use Rattle.waff_read.proofs.AffinityLemmas.{is_filled, goes_on, stops, ends}
 use Rattle.waff_read.proofs.affinities.read_tree.Goals as goal
 
 pub returns-in_err-add_row : goal.returns-in_err-add_row
@@ -21,9 +21,3 @@ pub returns-in-Ok : goal.returns-in-Ok
 returns-in-Ok c =
     let filled = is_filled (length c.args.rows.now) c.is_empty.result c.is_empty.ensures c.if-is_empty.false in
     ends c.loop-row.tree c.args.rows.now c.loop-row.row-index (omega arith) filled c.loop-row.invariant.tree ∙ ap Ok (sym c.in-Ok.ensures.kept)
-
-pub returns : goal.returns
-returns c =
-    let filled = is_filled (length c.args.rows.now) c.is_empty.result c.is_empty.ensures c.if-is_empty.false in
-    let rooted : 0 < length c.loop-row.tree = has_root c.loop-row.tree c.args.rows.now c.loop-row.row-index (omega arith) filled c.loop-row.invariant.tree in
-    absurd (omega (arith, rooted, ap length c.in-Err.ensures.refused.1))

@@ -1,0 +1,78 @@
+//! The places of affinities in preorder: those below an affinity follow right after it.
+
+ghost use Rattle.std.specs.Prelude.{◌≡◌, ◌↔◌, length, replicate, IsTrue, IfOk};
+ghost use Rattle.waff_model.specs.Tree.{IsRooted};
+ghost use Rattle.waff_model.specs.Places.{Spans, ArePlaces, leaf, AreShares};
+
+use crate::nodes::Nodes;
+use std::alloc::AllocError;
+
+/// Where an affinity stands in preorder: at `first`, and those below it after it, up to `end`.
+#[derive(Clone, Copy)]
+pub(crate) struct Place {
+    pub(crate) parent: Option<u16>,
+    first: u16,
+    end: u16,
+}
+
+impl Place {
+    /// Whether the other place is this one or one of those below it.
+    pub(crate) fn spans(&self, other: &Place) -> bool
+        ensures { IsTrue result ↔ Spans self.now other.now }
+    {
+        self.first <= other.first && other.first < self.end
+    }
+}
+
+/// The part of its parent's places that an affinity and those below it take: so many, so far after the parent's own.
+#[derive(Clone, Copy)]
+struct Share {
+    offset: u16,
+    size: u16,
+}
+
+/// The places of the affinities of a tree.
+pub(crate) fn places_of(nodes: &Nodes) -> Result<Vec<Place>, AllocError>
+    requires { IsRooted nodes.now }
+    ensures { IfOk result (λ places. ArePlaces nodes.now places.items) }
+{
+    let leaf = Share { offset: 0, size: 1 };
+    let mut shares = vec![in nodes.allocator(); leaf; nodes.len()]?;
+    share_out(nodes, &mut shares);
+    arrange(nodes, &shares)
+}
+
+/// Gives each parent, from the last affinity to the first, the places of its children.
+fn share_out(nodes: &Nodes, shares: &mut [Share])
+    requires tree { IsRooted nodes.now }
+    requires leaves { shares.old ≡ replicate (length nodes.now) leaf }
+    ensures { AreShares nodes.now shares.new }
+{
+    for at in (0..shares.len()).rev() {
+        if let Some(parent) = nodes.parent(at) {
+            let size = shares[at].size;
+            let before = shares[parent as usize].size;
+            shares[at].offset = before;
+            shares[parent as usize].size = before + size;
+        }
+    }
+}
+
+/// Places each affinity, from the first to the last, by its share of its parent's places.
+fn arrange(nodes: &Nodes, shares: &[Share]) -> Result<Vec<Place>, AllocError>
+    requires tree { IsRooted nodes.now }
+    requires shares { AreShares nodes.now shares.now }
+    ensures { IfOk result (λ places. ArePlaces nodes.now places.items) }
+{
+    let mut places: Vec<Place> = Vec::with_capacity(nodes.allocator(), shares.len())?;
+    for (at, share) in shares.iter().enumerate() {
+        let parent = nodes.parent(at);
+        let first = match parent {
+            Some(parent) => places[parent as usize].first + share.offset,
+            None => 0,
+        };
+        let end = first + share.size;
+        places.push(Place { parent, first, end })?;
+    }
+    Ok(places)
+}

@@ -1,0 +1,330 @@
+-- A message is read from the record that spells it.
+use Rattle.std.proofs.Common.{◌≡◌, ◌≢◌, ℕ, zero, suc, ◌+◌, ◌<◌, ◌≤◌, ◌^◌, List, [], ◌∷◌, ◌++◌, length, map, get_or, Bool, true, false, Option, Some, None, Result, Ok, slice_get, refl, sym, ap, ◌∙◌, arith, rules, inl, inr}
+use Rattle.std.specs.Prelude.{All, codes, unwrap_or, nat_lt, ◌==◌}
+use Rattle.std.specs.Char.{is_ascii_digit}
+use Rattle.std.specs.Fmt.{decimal}
+use Rattle.std.specs.List.{join_with_byte, list_all, position_or_len}
+use Rattle.std.specs.Str.{bytes_eq}
+use Rattle.std.specs.Str.Parse.{digits_value}
+use Rattle.std.proofs.lemmas.Bool.{and_parts, and_right, both_ways, cases_lt, eq-eqb, eqb-true, false_from_ne_true, lt-ltb, ne_eqb}
+use Rattle.std.proofs.lemmas.Bool.Decides.{nat_tests}
+use Rattle.std.proofs.lemmas.Fmt.{decimal_digit, decimal_nonempty, digits_decimal, digits_value-decimal, first_decimal}
+use Rattle.std.proofs.lemmas.List.{length-map}
+use Rattle.std.proofs.lemmas.List.Elements.{All-append, All-cons, All-head, All-nil, All-tail, All-get_or}
+use Rattle.std.proofs.lemmas.List.Splits.{slice_split_at, slice_split_none}
+use Rattle.std.proofs.lemmas.List.Sums.{position_or_len_is}
+use Rattle.std.proofs.lemmas.Option.{slice_get-get_or, slice_get_past}
+use Rattle.std.proofs.lemmas.Slice.Eq.{bytes_eq-Decides}
+use Rattle.std.proofs.lemmas.Str.Parse.{IsDigitsTest, IsNumeralModel, numerals_by_value}
+use Rattle.waff_model.specs.Cells.{LiesIn, cells_of, cells_of_op}
+use Rattle.waff_model.specs.Layout.{Hierarchy, IsCell, IsLayout, IsSpace, Space, name_at, size_at, space_named}
+use Rattle.waff_model.specs.Messages.{IsMessage, sizes_of}
+use Rattle.waff_model.specs.Names.{is_name, is_name_byte}
+use Rattle.waff_model.specs.declared.cell.Cell.{Cell}
+use Rattle.waff_model.specs.declared.limits.TheConstants.{MAX_MESSAGES}
+use Rattle.waff_model.specs.declared.message.Message.{Message}
+use Rattle.waff_model.specs.declared.message.Version.{Version}
+use Rattle.waff_model.specs.declared.message.Version.TheVariants.{V1, V2}
+use Rattle.waff_model.specs.declared.op.Op.{Op}
+use Rattle.waff_model.specs.declared.op.Op.TheVariants as op
+use Rattle.waff_model.proofs.TraceLemmas.{lies_in-sizes_of}
+use Rattle.waff_parse.specs.Fields.{Field}
+use Rattle.waff_parse.specs.Texts.{has_leading_zero, number_of, parts}
+use Rattle.waff_read.specs.Laws.{IsRelease, Spells, SpelledIsRead}
+use Rattle.waff_read.specs.Ops.{cell_of, op_of, op_of_one, op_of_parts, op_of_two, value_of}
+use Rattle.waff_read.specs.Spellings.{HasSmallNumber, cell_spelled, op_spelled, ops_spelled, record_of, words_of}
+use Rattle.waff_read.specs.declared.trace_fault.TraceFault.{TraceFault}
+use Rattle.waff_read.proofs.ExactLaws.{first_version_is_exact, second_version_is_exact}
+
+-- what holds of the bytes of texts, and of the byte that joins them, holds of the bytes of the whole
+pub All-join : (P : ℕ → Type 0) (d : ℕ) (p : List ℕ) (ps : List (List ℕ)) → P d → All P p → All (All P) ps → All P (join_with_byte d (p ∷ ps))
+All-join P d p [] joint here rest = here
+All-join P d p (q ∷ qs) joint here rest =
+    All-append P p (d ∷ join_with_byte d (q ∷ qs)) here
+    (All-cons P d (join_with_byte d (q ∷ qs)) joint (All-join P d q qs joint (All-head (All P) q qs rest) (All-tail (All P) q qs rest)))
+
+-- another byte than c
+abbrev IsOther : ℕ → ℕ → Type 0
+IsOther c b = (b == c) ≡ false
+
+abbrev Free : ℕ → List ℕ → Type 0
+Free c text = All (IsOther c) text
+
+-- parts that are joined by a byte that is in none of them are the parts between that byte
+parts-join : (c : ℕ) (p : List ℕ) (ps : List (List ℕ)) → Free c p → All (Free c) ps → parts c (join_with_byte c (p ∷ ps)) ≡ p ∷ ps
+parts-join c p [] here rest = slice_split_none (λ b. b == c) p here
+parts-join c p (q ∷ qs) here rest =
+    slice_split_at (λ b. b == c) p c (join_with_byte c (q ∷ qs)) here (eq-eqb c c refl)
+    ∙ ap (λ (l : List (List ℕ)). p ∷ l) (parts-join c q qs (All-head (Free c) q qs rest) (All-tail (Free c) q qs rest))
+
+-- what holds of each byte that passes a test holds of the bytes of a text that pass it
+pub all_if : (P : ℕ → Type 0) (test : ℕ → Bool) → ((b : ℕ) → test b ≡ true → P b) → (text : List ℕ) → list_all test text ≡ true → All P text
+all_if P test each [] passes = All-nil P
+all_if P test each (b ∷ bs) passes =
+    let parts = and_parts (test b) (list_all test bs) passes in
+    All-cons P b bs (each b parts.0) (all_if P test each bs parts.1)
+
+pub All-joined : (P : ℕ → Type 0) (d : ℕ) (ps : List (List ℕ)) → P d → All (All P) ps → All P (join_with_byte d ps)
+All-joined P d [] joint each = All-nil P
+All-joined P d (p ∷ ps) joint each = All-join P d p ps joint (All-head (All P) p ps each) (All-tail (All P) p ps each)
+
+parts-joined : (c : ℕ) (ps : List (List ℕ)) → 1 ≤ length ps → All (Free c) ps → parts c (join_with_byte c ps) ≡ ps
+parts-joined c [] some each = absurd (omega arith)
+parts-joined c (p ∷ ps) some each = parts-join c p ps (All-head (Free c) p ps each) (All-tail (Free c) p ps each)
+
+-- a byte that no name has
+names_other : (c : ℕ) → is_name_byte c ≡ false → (b : ℕ) → is_name_byte b ≡ true → IsOther c b
+names_other c out b named =
+    false_from_ne_true (b == c) (λ same. both_ways (is_name_byte c) out (ap is_name_byte (sym (eqb-true b c same)) ∙ named))
+
+-- what holds of each of two lists in a row holds of each of them
+All-both : {A : Type 0} (P : A → Type 0) (xs ys : List A) → All P (xs ++ ys) → All P xs × All P ys
+All-both P [] ys each = (All-nil P, each)
+All-both P (x ∷ xs) ys each =
+    let rest = All-both P xs ys (All-tail P x (xs ++ ys) each) in
+    (All-cons P x xs (All-head P x (xs ++ ys) each) rest.0, rest.1)
+
+-- numbers in decimal
+digits_test : IsDigitsTest (λ ds. list_all is_ascii_digit ds ≡ true)
+digits_test = search rules
+
+digits_model : IsNumeralModel (λ ds. list_all is_ascii_digit ds ≡ true) (digits_value 10)
+digits_model = numerals_by_value _ digits_test
+
+no_leading_zero : (n : ℕ) → n < 2 ^ 64 → has_leading_zero (decimal n) ≡ false
+no_leading_zero zero small =
+    let one : decimal zero ≡ 48 ∷ [] = decimal_digit 0 (omega arith) in
+    rw one refl
+no_leading_zero (suc n) small =
+    let first : 48 < get_or (decimal (suc n)) 0 0 = first_decimal (suc n) (omega arith) small in
+    and_right (nat_lt 1 (length (decimal (suc n)))) (get_or (decimal (suc n)) 0 0 == 48)
+    (ne_eqb (get_or (decimal (suc n)) 0 0) 48 (λ same. absurd (omega arith)))
+
+number_of-decimal : (n : ℕ) → n < 2 ^ 64 → number_of (decimal n) ≡ Some n
+number_of-decimal n small =
+    let filled : 0 < length (decimal n) = decimal_nonempty n small in
+    let some : (length (decimal n) == 0) ≡ false = ne_eqb (length (decimal n)) 0 (λ none. absurd (omega arith)) in
+    let lead = no_leading_zero n small in
+    let digits = digits_decimal digits_model n small in
+    rw (some, lead, digits) (ap Some (digits_value-decimal digits_model n small))
+
+value_of-decimal : (n : ℕ) → n < 2 ^ 64 → value_of (decimal n) ≡ Ok n
+unfolding value_of
+value_of-decimal n small = rw (number_of-decimal n small, lt-ltb n (2 ^ 64) small) refl
+
+-- what holds of the bytes of names holds of those of a name, of a verb and of a number
+module _ (P : ℕ → Type 0) (names : (b : ℕ) → is_name_byte b ≡ true → P b) where
+  pub name_all : (name : List ℕ) → is_name name ≡ true → All P name
+  name_all name named = all_if P is_name_byte names name (and_parts _ (list_all is_name_byte name) named).1
+
+  verb_all : (verb : List ℕ) → list_all is_name_byte verb ≡ true → All P verb
+  verb_all verb named = all_if P is_name_byte names verb named
+
+  digit_is : (b : ℕ) → is_ascii_digit b ≡ true → P b
+  digit_is b digit = names b (rw digit refl)
+
+  pub decimal_all : (n : ℕ) → n < 2 ^ 64 → All P (decimal n)
+  decimal_all n small = all_if P is_ascii_digit digit_is (decimal n) (digits_decimal digits_model n small)
+
+pub All-two : {A : Type 0} (Q : A → Type 0) (x y : A) → Q x → Q y → All Q (x ∷ y ∷ [])
+All-two Q x y h k = All-cons Q x (y ∷ []) h (All-cons Q y [] k (All-nil Q))
+
+pub All-three : {A : Type 0} (Q : A → Type 0) (x y z : A) → Q x → Q y → Q z → All Q (x ∷ y ∷ z ∷ [])
+All-three Q x y z h k l = All-cons Q x (y ∷ z ∷ []) h (All-two Q y z k l)
+
+abbrev no_space : Space
+no_space = record { name = []; size = 0; unit = 0; to = [] }
+
+-- the name of the space s
+abbrev name_in : List Space → ℕ → List ℕ
+name_in spaces s = unwrap_or (name_at spaces s) []
+
+-- cells of a layout
+module _ (layout : Hierarchy) (is : IsLayout layout) where
+  space_inside : (s index : ℕ) → index < size_at layout.spaces s → s < length layout.spaces
+  space_inside s index lies = elim (cases_lt s (length layout.spaces)) [
+    | inl inside ↦ inside
+    | inr past ↦
+        let none = slice_get_past layout.spaces s past in
+        let small : index < 0 = rw none at lies in
+        absurd (omega arith)
+  ]
+
+  space_is : (s : ℕ) → s < length layout.spaces → slice_get layout.spaces s ≡ Some (get_or layout.spaces s no_space)
+  space_is s inside = slice_get-get_or layout.spaces s no_space inside
+
+  name_is : (s : ℕ) → s < length layout.spaces → name_in layout.spaces s ≡ (get_or layout.spaces s no_space).name
+  name_is s inside = rw (space_is s inside) refl
+
+  space_at : (s : ℕ) → s < length layout.spaces → IsSpace layout.tree (get_or layout.spaces s no_space)
+  space_at s inside = All-get_or (IsSpace layout.tree) layout.spaces s no_space inside is.each
+
+  space_has_name : (s : ℕ) → s < length layout.spaces → is_name (name_in layout.spaces s) ≡ true
+  space_has_name s inside = rw (name_is s inside) (space_at s inside).named
+
+  small_index : (s index : ℕ) → index < size_at layout.spaces s → index < 2 ^ 64
+  small_index s index lies =
+      let inside = space_inside s index lies in
+      let below : index < (get_or layout.spaces s no_space).size = rw (space_is s inside) at lies in
+      omega (arith, (space_at s inside).size)
+
+  -- a space is found by its name
+  space_found : (s : ℕ) → s < length layout.spaces → space_named layout.spaces (name_in layout.spaces s) ≡ Some s
+  space_found s inside =
+      let first : position_or_len (λ space. bytes_eq (name_in layout.spaces s) space.name) layout.spaces ≡ s =
+      position_or_len_is (λ space. bytes_eq (name_in layout.spaces s) space.name) layout.spaces s no_space (omega arith)
+      (λ k below. false_from_ne_true _ (λ same.
+      is.different k s no_space below inside
+      (sym (sym (name_is s inside) ∙ (bytes_eq-Decides (name_in layout.spaces s) (get_or layout.spaces k no_space).name).0 same))))
+      (λ _. (bytes_eq-Decides (name_in layout.spaces s) (get_or layout.spaces s no_space).name).1 (name_is s inside)) in
+      grind (arith, nat_tests, first)
+
+  -- the bytes of a cell are those of names and `:`
+  cell_all : (P : ℕ → Type 0) → ((b : ℕ) → is_name_byte b ≡ true → P b) → P 58 → (cell : Cell) → IsCell layout.spaces cell → All P (cell_spelled layout.spaces cell)
+  cell_all P names colon cell lies =
+      All-join P 58 (name_in layout.spaces cell.space) (decimal cell.index ∷ []) colon
+      (name_all P names (name_in layout.spaces cell.space) (space_has_name cell.space (space_inside cell.space cell.index lies)))
+      (All-cons (All P) (decimal cell.index) [] (decimal_all P names cell.index (small_index cell.space cell.index lies)) (All-nil (All P)))
+
+  cell_is_read : (cell : Cell) → IsCell layout.spaces cell → cell_of layout.spaces (cell_spelled layout.spaces cell) ≡ Ok cell
+  unfolding cell_of
+  cell_is_read cell lies =
+      let inside = space_inside cell.space cell.index lies in
+      let small = small_index cell.space cell.index lies in
+      let words = parts-join 58 (name_in layout.spaces cell.space) (decimal cell.index ∷ [])
+      (name_all (IsOther 58) (names_other 58 refl) (name_in layout.spaces cell.space) (space_has_name cell.space inside))
+      (All-cons (Free 58) (decimal cell.index) [] (decimal_all (IsOther 58) (names_other 58 refl) cell.index small) (All-nil (Free 58))) in
+      rw (words, space_has_name cell.space inside, number_of-decimal cell.index small, space_found cell.space inside, lt-ltb cell.index (size_at layout.spaces cell.space) lies) refl
+
+  first_cell : (cell : Cell) (more : List Cell) → All (LiesIn (sizes_of layout.spaces)) (cell ∷ more) → IsCell layout.spaces cell
+  first_cell cell more lie = lies_in-sizes_of layout.spaces cell (All-head (LiesIn (sizes_of layout.spaces)) cell more lie)
+
+  second_cell : (cell other : Cell) → All (LiesIn (sizes_of layout.spaces)) (cell ∷ other ∷ []) → IsCell layout.spaces other
+  second_cell cell other lie = first_cell other [] (All-tail (LiesIn (sizes_of layout.spaces)) cell (other ∷ []) lie)
+
+  -- the bytes of an operation's words are those of names and `:`
+  words_all : (P : ℕ → Type 0) → ((b : ℕ) → is_name_byte b ≡ true → P b) → P 58 → (o : Op) → All (LiesIn (sizes_of layout.spaces)) (cells_of_op o) → HasSmallNumber o
+      → All (All P) (words_of layout.spaces o)
+  words_all P names colon (op.Set cell value) lie small =
+      All-three (All P) (codes "set") (cell_spelled layout.spaces cell) (decimal value)
+      (verb_all P names (codes "set") refl) (cell_all P names colon cell (first_cell cell [] lie)) (decimal_all P names value small)
+  words_all P names colon (op.Add cell value) lie small =
+      All-three (All P) (codes "add") (cell_spelled layout.spaces cell) (decimal value)
+      (verb_all P names (codes "add") refl) (cell_all P names colon cell (first_cell cell [] lie)) (decimal_all P names value small)
+  words_all P names colon (op.Copy cell source) lie small =
+      All-three (All P) (codes "copy") (cell_spelled layout.spaces cell) (cell_spelled layout.spaces source)
+      (verb_all P names (codes "copy") refl) (cell_all P names colon cell (first_cell cell (source ∷ []) lie)) (cell_all P names colon source (second_cell cell source lie))
+  words_all P names colon (op.Swap cell other) lie small =
+      All-three (All P) (codes "swap") (cell_spelled layout.spaces cell) (cell_spelled layout.spaces other)
+      (verb_all P names (codes "swap") refl) (cell_all P names colon cell (first_cell cell (other ∷ []) lie)) (cell_all P names colon other (second_cell cell other lie))
+  words_all P names colon (op.Read cell) lie small =
+      All-two (All P) (codes "read") (cell_spelled layout.spaces cell)
+      (verb_all P names (codes "read") refl) (cell_all P names colon cell (first_cell cell [] lie))
+
+  op_all : (P : ℕ → Type 0) → ((b : ℕ) → is_name_byte b ≡ true → P b) → P 58 → P 32 → (o : Op) → All (LiesIn (sizes_of layout.spaces)) (cells_of_op o) → HasSmallNumber o
+      → All P (op_spelled layout.spaces o)
+  op_all P names colon space o lie small = All-joined P 32 (words_of layout.spaces o) space (words_all P names colon o lie small)
+
+  -- the words of an operation are the parts between its spaces
+  op_words : (o : Op) → All (LiesIn (sizes_of layout.spaces)) (cells_of_op o) → HasSmallNumber o → 1 ≤ length (words_of layout.spaces o)
+      → parts 32 (op_spelled layout.spaces o) ≡ words_of layout.spaces o
+  op_words o lie small some = parts-joined 32 (words_of layout.spaces o) some (words_all (IsOther 32) (names_other 32 refl) refl o lie small)
+
+  op_is_read : (o : Op) → All (LiesIn (sizes_of layout.spaces)) (cells_of_op o) → HasSmallNumber o → op_of layout.spaces (op_spelled layout.spaces o) ≡ Ok o
+  unfolding op_of op_of_one op_of_two
+  op_is_read (op.Set cell value) lie small =
+      let lies = first_cell cell [] lie in
+      ap (op_of_parts layout.spaces) (op_words (op.Set cell value) lie small (omega arith))
+      ∙ rw (cell_is_read cell lies, value_of-decimal value small) refl
+  op_is_read (op.Add cell value) lie small =
+      let lies = first_cell cell [] lie in
+      ap (op_of_parts layout.spaces) (op_words (op.Add cell value) lie small (omega arith))
+      ∙ rw (cell_is_read cell lies, value_of-decimal value small) refl
+  op_is_read (op.Copy cell source) lie small =
+      let lies = first_cell cell (source ∷ []) lie in
+      let source_lies = second_cell cell source lie in
+      ap (op_of_parts layout.spaces) (op_words (op.Copy cell source) lie small (omega arith))
+      ∙ rw (cell_is_read cell lies, cell_is_read source source_lies) refl
+  op_is_read (op.Swap cell other) lie small =
+      let lies = first_cell cell (other ∷ []) lie in
+      let other_lies = second_cell cell other lie in
+      ap (op_of_parts layout.spaces) (op_words (op.Swap cell other) lie small (omega arith))
+      ∙ rw (cell_is_read cell lies, cell_is_read other other_lies) refl
+  op_is_read (op.Read cell) lie small =
+      let lies = first_cell cell [] lie in
+      ap (op_of_parts layout.spaces) (op_words (op.Read cell) lie small (omega arith))
+      ∙ rw (cell_is_read cell lies) refl
+
+  -- operations that are spelled are read
+  pub ops_all : (P : ℕ → Type 0) → ((b : ℕ) → is_name_byte b ≡ true → P b) → P 58 → P 32 → (list : List Op) → All (LiesIn (sizes_of layout.spaces)) (cells_of list)
+      → All HasSmallNumber list → All (All P) (map (op_spelled layout.spaces) list)
+  ops_all P names colon space [] lie small = All-nil (All P)
+  ops_all P names colon space (o ∷ list) lie small =
+      let both = All-both (LiesIn (sizes_of layout.spaces)) (cells_of_op o) (cells_of list) lie in
+      All-cons (All P) (op_spelled layout.spaces o) (map (op_spelled layout.spaces) list)
+      (op_all P names colon space o both.0 (All-head HasSmallNumber o list small))
+      (ops_all P names colon space list both.1 (All-tail HasSmallNumber o list small))
+
+  ops_parts : (list : List Op) → 1 ≤ length list → All (LiesIn (sizes_of layout.spaces)) (cells_of list) → All HasSmallNumber list
+      → parts 59 (ops_spelled layout.spaces list) ≡ map (op_spelled layout.spaces) list
+  ops_parts list some lie small =
+      parts-joined 59 (map (op_spelled layout.spaces) list) (rw length-map some)
+      (ops_all (IsOther 59) (names_other 59 refl) refl refl list lie small)
+
+  each_is_read : (list : List Op) → All (LiesIn (sizes_of layout.spaces)) (cells_of list) → All HasSmallNumber list
+      → map (op_of layout.spaces) (map (op_spelled layout.spaces) list) ≡ map Ok list
+  each_is_read [] lie small = refl
+  each_is_read (o ∷ list) lie small =
+      let both = All-both (LiesIn (sizes_of layout.spaces)) (cells_of_op o) (cells_of list) lie in
+      let first = op_is_read o both.0 (All-head HasSmallNumber o list small) in
+      let others = each_is_read list both.1 (All-tail HasSmallNumber o list small) in
+      ap (λ (r : Result Op TraceFault). r ∷ map (op_of layout.spaces) (map (op_spelled layout.spaces) list)) first
+      ∙ ap (λ (l : List (Result Op TraceFault)). Ok o ∷ l) others
+
+  -- no operation is spelled by the empty text
+  filled_text : (list : List Op) (text : Field) → map (op_of layout.spaces) (parts 59 text) ≡ map Ok list → text ≢ []
+  unfolding op_of
+  filled_text [] text each none = let read = rw none at each in absurd (cc)
+  filled_text (o ∷ list) text each none = let read = rw none at each in absurd (cc)
+
+  spells : (version : Version) (at : ℕ) (message : Message) (release : Option Field) → IsMessage version (sizes_of layout.spaces) message → All HasSmallNumber message.ops
+      → at ≤ MAX_MESSAGES + 1 → IsRelease release message.release
+      → Spells layout.spaces at message.name (decimal message.cost) release (ops_spelled layout.spaces message.ops) message
+  spells version at message release within small counted released =
+      let read : map (op_of layout.spaces) (parts 59 (ops_spelled layout.spaces message.ops)) ≡ map Ok message.ops =
+      ap (map (op_of layout.spaces)) (ops_parts message.ops within.some_ops within.cells small)
+      ∙ each_is_read message.ops within.cells small in
+      let cost : message.cost < 2 ^ 64 = omega (arith, within.within_cost) in
+      record {
+        named = within.named;
+        name = refl;
+        cost = number_of-decimal message.cost cost;
+        some_cost = within.some_cost;
+        within_cost = within.within_cost;
+        filled = filled_text message.ops (ops_spelled layout.spaces message.ops) read;
+        ops = read;
+        within_ops = within.within_ops;
+        counted = counted;
+        release = released;
+      }
+
+pub spelled_is_read : (layout : Hierarchy) (version : Version) (at : ℕ) (message : Message) → SpelledIsRead layout version at message
+spelled_is_read layout V1 at message is within small counted =
+    (first_version_is_exact layout.spaces at (record_of V1 layout.spaces message) message).1 (
+      message.name,
+      decimal message.cost,
+      ops_spelled layout.spaces message.ops,
+      refl,
+      spells layout is V1 at message None within small counted (within.no_release refl),
+    )
+spelled_is_read layout V2 at message is within small counted =
+    let release : message.release < 2 ^ 64 = omega (arith, within.within_release) in
+    (second_version_is_exact layout.spaces at (record_of V2 layout.spaces message) message).1 (
+      message.name,
+      decimal message.cost,
+      decimal message.release,
+      ops_spelled layout.spaces message.ops,
+      refl,
+      spells layout is V2 at message (Some (decimal message.release)) within small counted
+          (number_of-decimal message.release release, within.within_release),
+    )

@@ -1,0 +1,140 @@
+-- A trace is read from the text that spells it.
+use Rattle.std.proofs.Common.{◌≡◌, ℕ, ◌+◌, ◌<◌, ◌≤◌, ◌^◌, List, [], ◌∷◌, ◌++◌, length, map, true, Some, Ok, refl, ap, ◌∙◌, arith}
+use Rattle.std.specs.Prelude.{All, codes, nat_lt}
+use Rattle.std.specs.Fmt.{decimal}
+use Rattle.std.specs.List.{flat_map, list_all}
+use Rattle.std.specs.Str.{is_utf8}
+use Rattle.std.proofs.lemmas.Bool.{ltb-true}
+use Rattle.std.proofs.lemmas.Bool.Decides.{nat_tests}
+use Rattle.std.proofs.lemmas.List.Elements.{All-cons, All-head, All-nil, All-tail}
+use Rattle.std.proofs.lemmas.Str.{IsUtf8-from_ascii, is_utf8-from_IsUtf8}
+use Rattle.std.proofs.lemmas.Str.Ascii.{IsAscii-from_all}
+use Rattle.csv.specs.Machine.{next_record}
+use Rattle.csv.specs.Reading.{strip_bom}
+use Rattle.csv.specs.Writing.{default_writer, fields_text, is_blank, read_back, row_text}
+use Rattle.csv.specs.declared.parser.State.TheVariants as state
+use Rattle.csv.proofs.RoundTrip.{read-write}
+use Rattle.waff_model.specs.Layout.{Hierarchy, IsLayout, Space}
+use Rattle.waff_model.specs.Messages.{Arrivals, IsMessage, IsTrace, sizes_of}
+use Rattle.waff_model.specs.Names.{is_name_byte}
+use Rattle.waff_model.specs.declared.limits.TheConstants.{MAX_MESSAGES}
+use Rattle.waff_model.specs.declared.message.Message.{Message}
+use Rattle.waff_model.specs.declared.message.Version.{Version}
+use Rattle.waff_model.specs.declared.message.Version.TheVariants.{V1, V2}
+use Rattle.waff_parse.specs.Refusals.{told}
+use Rattle.waff_parse.specs.Rows.{Record, is_text, records_after, records_of}
+use Rattle.waff_parse.specs.Walks.{walk}
+use Rattle.waff_parse.proofs.RowLaws.{records_after-end, records_after-step}
+use Rattle.waff_read.specs.Laws.{SpelledTraceIsRead}
+use Rattle.waff_read.specs.Spellings.{HasSmallNumber, header_row, op_spelled, ops_spelled, record_of, text_of}
+use Rattle.waff_read.specs.TraceFaults.{at_record}
+use Rattle.waff_read.specs.Traces.{header_of, message_at, messages_at, trace_of_records}
+use Rattle.waff_read.proofs.SpellingLaws.{All-joined, all_if, decimal_all, name_all, ops_all, spelled_is_read}
+use Rattle.waff_read.proofs.TraceLaws.{message_at-text}
+
+-- records that are written are read, where each has a field
+rows_read : (rows : List Record) → All (λ row. read_back row ≡ row) rows → records_after state.StartRecord (Some (flat_map (row_text default_writer) rows)) ≡ rows
+unfolding next_record
+rows_read [] each = records_after-end state.StartRecord [] refl
+rows_read (row ∷ rows) each =
+    records_after-step state.StartRecord (flat_map (row_text default_writer) (row ∷ rows)) (read_back row, state.StartRecord, flat_map (row_text default_writer) rows)
+    (read-write row (flat_map (row_text default_writer) rows))
+    ∙ ap (λ (first : Record). first ∷ records_after state.StartRecord (Some (flat_map (row_text default_writer) rows))) (All-head (λ row. read_back row ≡ row) row rows each)
+    ∙ ap (λ (others : List Record). row ∷ others) (rows_read rows (All-tail (λ row. read_back row ≡ row) row rows each))
+
+-- a text that begins with a header begins with no byte order mark
+no_mark : (version : Version) (rest : List ℕ) → strip_bom (row_text default_writer (header_row version) ++ rest) ≡ row_text default_writer (header_row version) ++ rest
+unfolding strip_bom is_blank fields_text
+no_mark V1 rest = refl
+no_mark V2 rest = refl
+
+records_of-unmarked : (text : List ℕ) → strip_bom text ≡ text → records_of text ≡ records_after state.StartRecord (Some text)
+unfolding records_after
+records_of-unmarked text unmarked = rw unmarked refl
+
+header_back : (version : Version) → read_back (header_row version) ≡ header_row version
+header_back V1 = refl
+header_back V2 = refl
+
+record_back : (version : Version) (spaces : List Space) (message : Message) → read_back (record_of version spaces message) ≡ record_of version spaces message
+record_back V1 spaces message = refl
+record_back V2 spaces message = refl
+
+records_back : (version : Version) (spaces : List Space) (messages : List Message) → All (λ row. read_back row ≡ row) (map (record_of version spaces) messages)
+records_back version spaces [] = All-nil (λ (row : Record). read_back row ≡ row)
+records_back version spaces (message ∷ messages) =
+    All-cons (λ row. read_back row ≡ row) (record_of version spaces message) (map (record_of version spaces) messages)
+    (record_back version spaces message) (records_back version spaces messages)
+
+records_of-text : (spaces : List Space) (trace : Arrivals) → records_of (text_of spaces trace) ≡ header_row trace.version ∷ map (record_of trace.version spaces) trace.messages
+records_of-text spaces trace =
+    records_of-unmarked (text_of spaces trace) (no_mark trace.version (flat_map (row_text default_writer) (map (record_of trace.version spaces) trace.messages)))
+    ∙ rows_read (header_row trace.version ∷ map (record_of trace.version spaces) trace.messages)
+    (All-cons (λ row. read_back row ≡ row) (header_row trace.version) (map (record_of trace.version spaces) trace.messages)
+    (header_back trace.version) (records_back trace.version spaces trace.messages))
+
+-- ASCII is text
+name_is_ascii : (b : ℕ) → is_name_byte b ≡ true → b < 128
+name_is_ascii b named = grind (arith, nat_tests)
+
+ascii_is_text : (text : List ℕ) → All (λ b. b < 128) text → is_utf8 text ≡ true
+ascii_is_text text each = is_utf8-from_IsUtf8 text (IsUtf8-from_ascii text (IsAscii-from_all text each))
+
+literal_is_text : (text : List ℕ) → list_all (λ b. nat_lt b 128) text ≡ true → is_utf8 text ≡ true
+literal_is_text text small = ascii_is_text text (all_if (λ b. b < 128) (λ b. nat_lt b 128) (λ b below. ltb-true b 128 below) text small)
+
+header_is_read : (version : Version) (rows : List Record) → header_of (header_row version ∷ rows) ≡ Ok version
+header_is_read V1 rows = rw (literal_is_text (codes "message") refl, literal_is_text (codes "cost") refl, literal_is_text (codes "ops") refl) refl
+header_is_read V2 rows =
+    rw (literal_is_text (codes "message") refl, literal_is_text (codes "cost") refl, literal_is_text (codes "release") refl, literal_is_text (codes "ops") refl) refl
+
+module _ (layout : Hierarchy) (is : IsLayout layout) where
+  number_is_text : (n : ℕ) → n < 2 ^ 64 → is_utf8 (decimal n) ≡ true
+  number_is_text n small = ascii_is_text (decimal n) (decimal_all (λ b. b < 128) name_is_ascii n small)
+
+  ops_are_text : (version : Version) (message : Message) → IsMessage version (sizes_of layout.spaces) message → All HasSmallNumber message.ops
+      → is_utf8 (ops_spelled layout.spaces message.ops) ≡ true
+  ops_are_text version message within small =
+      ascii_is_text (ops_spelled layout.spaces message.ops)
+      (All-joined (λ b. b < 128) 59 (map (op_spelled layout.spaces) message.ops) (omega arith)
+      (ops_all layout is (λ b. b < 128) name_is_ascii (omega arith) (omega arith) message.ops within.cells small))
+
+  -- the record of a message is text
+  record_is_text : (version : Version) (message : Message) → IsMessage version (sizes_of layout.spaces) message → All HasSmallNumber message.ops
+      → is_text (record_of version layout.spaces message) ≡ true
+  record_is_text V1 message within small =
+      let cost : message.cost < 2 ^ 64 = omega (arith, within.within_cost) in
+      rw (ascii_is_text message.name (name_all (λ b. b < 128) name_is_ascii message.name within.named), number_is_text message.cost cost, ops_are_text V1 message within small) refl
+  record_is_text V2 message within small =
+      let cost : message.cost < 2 ^ 64 = omega (arith, within.within_cost) in
+      let release : message.release < 2 ^ 64 = omega (arith, within.within_release) in
+      rw (ascii_is_text message.name (name_all (λ b. b < 128) name_is_ascii message.name within.named), number_is_text message.cost cost, number_is_text message.release release, ops_are_text V2 message within small) refl
+
+  -- messages are read from their records
+  messages_read : (version : Version) (at : ℕ) (messages : List Message) → All (IsMessage version (sizes_of layout.spaces)) messages
+      → All (λ message. All HasSmallNumber message.ops) messages → at + length messages ≤ MAX_MESSAGES + 2
+      → messages_at version layout.spaces at (map (record_of version layout.spaces) messages) ≡ Ok messages
+  unfolding walk
+  messages_read version at [] within small few = refl
+  messages_read version at (message ∷ more) within small few =
+      let message_within = All-head (IsMessage version (sizes_of layout.spaces)) message more within in
+      let message_small = All-head (λ message. All HasSmallNumber message.ops) message more small in
+      let first : message_at version layout.spaces at (record_of version layout.spaces message) ≡ Ok message =
+      message_at-text version layout.spaces at (record_of version layout.spaces message) (record_is_text version message message_within message_small)
+      ∙ ap (told (at_record at)) (spelled_is_read layout version at message is message_within message_small (omega arith)) in
+      let others = messages_read version (at + 1) more
+      (All-tail (IsMessage version (sizes_of layout.spaces)) message more within)
+      (All-tail (λ message. All HasSmallNumber message.ops) message more small)
+      (omega arith) in
+      rw (first, others) refl
+
+  records_are_read : (trace : Arrivals) → IsTrace trace → trace.sizes ≡ sizes_of layout.spaces → All (λ message. All HasSmallNumber message.ops) trace.messages
+      → trace_of_records layout.spaces (header_row trace.version ∷ map (record_of trace.version layout.spaces) trace.messages) ≡ Ok trace
+  unfolding trace_of_records
+  records_are_read trace within same small =
+      let messages = messages_read trace.version 2 trace.messages (rw same at within.messages) small (omega (arith, within.few)) in
+      rw (header_is_read trace.version (map (record_of trace.version layout.spaces) trace.messages), messages, ← same) refl
+
+pub spelled_trace_is_read : (layout : Hierarchy) (trace : Arrivals) → SpelledTraceIsRead layout trace
+spelled_trace_is_read layout trace is within same small =
+    ap (trace_of_records layout.spaces) (records_of-text layout.spaces trace) ∙ records_are_read layout is trace within same small

@@ -1,0 +1,5 @@
+use Rattle.waff_read.proofs.SpellingLaws.{spelled_is_read}
+use Rattle.waff_read.proofs.laws.spelled_is_read.Goals as goal
+
+pub returns : goal.returns
+returns c = λ layout version at message. spelled_is_read layout version at message

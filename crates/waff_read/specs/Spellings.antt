@@ -1,0 +1,56 @@
+-- Messages as a trace spells them.
+use Rattle.std.specs.Prelude.{List, ℕ, ◌^◌, ◌<◌, [], ◌∷◌, map, unwrap_or, codes}
+use Rattle.std.specs.Fmt.{decimal}
+use Rattle.std.specs.List.{flat_map, join_with_byte}
+use Rattle.csv.specs.Writing.{default_writer, row_text}
+use Rattle.waff_model.specs.Layout.{Space, name_at}
+use Rattle.waff_model.specs.Messages.{Arrivals}
+use Rattle.waff_model.specs.declared.cell.Cell.{Cell}
+use Rattle.waff_model.specs.declared.message.Message.{Message}
+use Rattle.waff_model.specs.declared.message.Version.{Version}
+use Rattle.waff_model.specs.declared.message.Version.TheVariants.{V1, V2}
+use Rattle.waff_model.specs.declared.op.Op.{Op}
+use Rattle.waff_model.specs.declared.op.Op.TheVariants as op
+use Rattle.waff_parse.specs.Rows.{Record}
+
+-- a cell: the name of its space, `:` and its index
+abbrev pub cell_spelled : List Space → Cell → List ℕ
+cell_spelled spaces cell = join_with_byte 58 (unwrap_or (name_at spaces cell.space) [] ∷ decimal cell.index ∷ [])
+
+-- the words of an operation
+abbrev pub words_of : List Space → Op → List (List ℕ)
+words_of spaces (op.Set cell value) = codes "set" ∷ cell_spelled spaces cell ∷ decimal value ∷ []
+words_of spaces (op.Add cell value) = codes "add" ∷ cell_spelled spaces cell ∷ decimal value ∷ []
+words_of spaces (op.Copy cell source) = codes "copy" ∷ cell_spelled spaces cell ∷ cell_spelled spaces source ∷ []
+words_of spaces (op.Swap cell other) = codes "swap" ∷ cell_spelled spaces cell ∷ cell_spelled spaces other ∷ []
+words_of spaces (op.Read cell) = codes "read" ∷ cell_spelled spaces cell ∷ []
+
+-- an operation: its words joined by one space
+abbrev pub op_spelled : List Space → Op → List ℕ
+op_spelled spaces o = join_with_byte 32 (words_of spaces o)
+
+-- operations joined by `;`
+abbrev pub ops_spelled : List Space → List Op → List ℕ
+ops_spelled spaces list = join_with_byte 59 (map (op_spelled spaces) list)
+
+-- the record of a message: its name, its cost, in the second version its release, and its operations
+abbrev pub record_of : Version → List Space → Message → Record
+record_of V1 spaces message = message.name ∷ decimal message.cost ∷ ops_spelled spaces message.ops ∷ []
+record_of V2 spaces message = message.name ∷ decimal message.cost ∷ decimal message.release ∷ ops_spelled spaces message.ops ∷ []
+
+-- the header of a trace
+abbrev pub header_row : Version → Record
+header_row V1 = codes "message" ∷ codes "cost" ∷ codes "ops" ∷ []
+header_row V2 = codes "message" ∷ codes "cost" ∷ codes "release" ∷ codes "ops" ∷ []
+
+-- the text of a trace, as `csv` writes it: its header, and then the record of each message
+abbrev pub text_of : List Space → Arrivals → List ℕ
+text_of spaces trace = flat_map (row_text default_writer) (header_row trace.version ∷ map (record_of trace.version spaces) trace.messages)
+
+-- the number of an operation, if it has one, is below 2^64
+abbrev pub HasSmallNumber : Op → Type 0
+HasSmallNumber (op.Set cell value) = value < 2 ^ 64
+HasSmallNumber (op.Add cell value) = value < 2 ^ 64
+HasSmallNumber (op.Copy cell source) = Unit {0}
+HasSmallNumber (op.Swap cell other) = Unit {0}
+HasSmallNumber (op.Read cell) = Unit {0}

@@ -1,0 +1,50 @@
+//! What is known of all files that the readers accept or refuse. Each law is a function that does nothing and whose contract
+//! is the law.
+
+ghost use Rattle.std.specs.Prelude.{ℕ, List};
+ghost use Rattle.waff_model.specs.Layout.{Space, Hierarchy};
+ghost use Rattle.waff_model.specs.Messages.{Arrivals};
+ghost use Rattle.waff_model.specs.declared.message.Message.{Message};
+ghost use Rattle.waff_model.specs.declared.message.Version.{Version};
+ghost use Rattle.waff_parse.specs.Rows.{Record};
+ghost use Rattle.waff_read.specs.Laws.{FirstVersionIsExact, SecondVersionIsExact, SpelledIsRead, SpelledTraceIsRead, TraceIsExact, FirstFaultDecides, HierarchyIsExact, ClassicalHasTwoLevels};
+
+/// A message of three fields is accepted exactly where no check holds, and has the values that they write.
+pub fn first_version_is_exact()
+    ensures { (spaces : List Space) (at : ℕ) (row : Record) → FirstVersionIsExact spaces at row }
+{}
+
+/// A message of four fields is accepted exactly where no check holds, and has the values that they write.
+pub fn second_version_is_exact()
+    ensures { (spaces : List Space) (at : ℕ) (row : Record) → SecondVersionIsExact spaces at row }
+{}
+
+/// A message is read from the record that spells it.
+pub fn spelled_is_read()
+    ensures { (layout : Hierarchy) (version : Version) (at : ℕ) (message : Message) → SpelledIsRead layout version at message }
+{}
+
+/// A trace is read from the text that spells it: what is written as a trace is read as the same trace.
+pub fn spelled_trace_is_read()
+    ensures { (layout : Hierarchy) (trace : Arrivals) → SpelledTraceIsRead layout trace }
+{}
+
+/// A trace is accepted exactly where its header and each record after it is, and has their messages in order.
+pub fn trace_is_exact()
+    ensures { (spaces : List Space) (bytes : List ℕ) (trace : Arrivals) → TraceIsExact spaces bytes trace }
+{}
+
+/// The first faulty record decides.
+pub fn first_fault_decides()
+    ensures { (spaces : List Space) (bytes : List ℕ) → FirstFaultDecides spaces bytes }
+{}
+
+/// A hierarchy is accepted exactly where no check holds.
+pub fn hierarchy_is_exact()
+    ensures { (bytes : List ℕ) (layout : Hierarchy) → HierarchyIsExact bytes layout }
+{}
+
+/// A classical hierarchy has two levels at most.
+pub fn classical_has_two_levels()
+    ensures { (bytes : List ℕ) (layout : Hierarchy) → ClassicalHasTwoLevels bytes layout }
+{}
