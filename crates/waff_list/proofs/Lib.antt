@@ -1,0 +1,13 @@
+pub mod Graham
+pub mod Ratios
+pub mod Pigeonhole
+pub mod Running
+pub mod Settling
+pub mod Placing
+pub mod Freeing
+pub mod Progressing
+pub mod TraceWork
+pub mod Events
+pub mod Filling
+pub mod PathPlans
+pub mod ChainBounds

@@ -1,0 +1,58 @@
+-- The work of the messages of a trace, and the order of their needs.
+use Rattle.std.proofs.Common.{◌≡◌, ℕ, ◌-◌, ◌^◌, ◌<◌, ◌≤◌, List, [], length, get_or, arith, subst, sym}
+use Rattle.std.proofs.lemmas.List.{get_or-map, length-map}
+use Rattle.waff_model.specs.declared.message.Message.{Message}
+use Rattle.waff_model.specs.Messages.{Arrivals, IsMessage, IsTrace}
+use Rattle.waff_plan.specs.Work.{Work, IsNumber}
+use Rattle.waff_plan.specs.Obeys.{IsForward}
+use Rattle.waff_plan.specs.Timing.{no_timing, timing_of}
+use Rattle.waff_plan.specs.Timetable.{timings_of}
+use Rattle.waff_plan.specs.declared.timing.Timing.{Timing}
+use Rattle.waff_order.specs.Needs.{IsNeed, AreLists}
+use Rattle.waff_order.proofs.NeedLemmas.{need_within}
+use Rattle.waff_list.specs.Progress.{work_of_messages, IsSmall}
+
+-- of no message
+abbrev nobody : Message
+nobody = record { name = []; cost = 0; release = 0; ops = [] }
+
+timing_is : (messages : List Message) (m : ℕ) → m - 1 < length messages
+    → timing_of (timings_of messages) m ≡ record { cost = (get_or messages (m - 1) nobody).cost; release = (get_or messages (m - 1) nobody).release }
+timing_is messages m within =
+    get_or-map (λ (x : Message). let t : Timing = record { cost = x.cost; release = x.release } in t) messages (m - 1) nobody no_timing within
+
+pub count_is : (messages : List Message) → (work_of_messages messages).count ≡ length messages
+count_is messages = length-map messages (λ (x : Message). let t : Timing = record { cost = x.cost; release = x.release } in t)
+
+module _ (trace : Arrivals) (is_trace : IsTrace trace) where
+  message_at : (m : ℕ) → IsNumber (work_of_messages trace.messages) m → IsMessage trace.version trace.sizes (get_or trace.messages (m - 1) nobody)
+  message_at m number =
+      let from : 1 ≤ m = number.from in
+      let to : m ≤ (work_of_messages trace.messages).count = number.to in
+      is_trace.messages (m - 1) nobody (omega (arith, count_is trace.messages))
+
+  at : (m : ℕ) → IsNumber (work_of_messages trace.messages) m
+      → timing_of (timings_of trace.messages) m ≡ record { cost = (get_or trace.messages (m - 1) nobody).cost; release = (get_or trace.messages (m - 1) nobody).release }
+  at m number =
+      let from : 1 ≤ m = number.from in
+      let to : m ≤ (work_of_messages trace.messages).count = number.to in
+      timing_is trace.messages m (omega (arith, count_is trace.messages))
+
+  -- the messages of a trace are small
+  pub trace_is_small : IsSmall (work_of_messages trace.messages)
+  trace_is_small = record {
+    some_cost = λ m number. let h = message_at m number in let some = h.some_cost in
+        subst (λ (t : Timing). 1 ≤ t.cost) (sym (at m number)) some;
+    cost = λ m number. let h = message_at m number in let within = h.within_cost in
+        subst (λ (t : Timing). t.cost < 2 ^ 32) (sym (at m number)) (omega (arith, within));
+    release = λ m number. let h = message_at m number in let within = h.within_release in
+        subst (λ (t : Timing). t.release < 2 ^ 32) (sym (at m number)) (omega (arith, within));
+  }
+
+-- needs go forward
+pub needs_forward : (needs : List (List ℕ)) (work : Work) → AreLists needs → length needs ≡ work.count → IsForward (IsNeed needs) work
+needs_forward needs work lists same = record {
+  from = lists.from;
+  earlier = lists.earlier;
+  to = λ i j h. let within = need_within needs i j h in omega (arith, within);
+}

@@ -1,0 +1,5 @@
+pub mod ListRule
+pub mod Seats
+pub mod Bound
+pub mod Progress
+pub mod Seating

@@ -1,0 +1,13 @@
+//! The plan of a trace for k workers by the list rule, and the bound on its length.
+#![tactic(auto)]
+
+pub mod laws;
+pub mod limits;
+mod list;
+mod planner;
+mod progress;
+mod ticks;
+mod worker_plan;
+
+pub use list::{list_chain, list_plan};
+pub use worker_plan::WorkerPlan;

@@ -1,0 +1,76 @@
+//! The ticks at which something happens.
+
+ghost use Rattle.std.specs.Prelude.{◌≡◌, ℕ, ◌^◌, ◌<◌, ◌≤◌, ◌⊎◌, All, Contains, MatchOption, length, slice_index};
+ghost use Rattle.waff_plan.specs.Work.{IsNumber};
+ghost use Rattle.waff_list.specs.Progress.{work_of_messages, IsSmall, IsNextTick, IsLastTick};
+
+use crate::progress::NEVER;
+use waff_model::Trace;
+
+/// How many ticks message `m` runs.
+pub(crate) fn cost_of(trace: &Trace, m: u32) -> u64
+    requires from { 1 ≤ m }
+    requires to { m ≤ length trace.now.messages }
+    ensures cost { result ≡ (work_of_messages trace.now.messages).cost m }
+    ensures some { 1 ≤ result }
+    ensures small { result < 2 ^ 32 }
+{
+    u64::from(trace.message(m).cost)
+}
+
+/// The tick before which message `m` may not start.
+pub(crate) fn release_of(trace: &Trace, m: u32) -> u64
+    requires from { 1 ≤ m }
+    requires to { m ≤ length trace.now.messages }
+    ensures release { result ≡ (work_of_messages trace.now.messages).release m }
+    ensures small { result < 2 ^ 32 }
+{
+    u64::from(trace.message(m).release)
+}
+
+/// The least tick after `now` at which a worker is free or a message is released.
+pub(crate) fn next_tick(trace: &Trace, free_at: &[u64], now: u64) -> Option<u64>
+    requires { now < NEVER }
+    ensures next { MatchOption result (IsLastTick (work_of_messages trace.now.messages) free_at.now now)
+        (IsNextTick (work_of_messages trace.now.messages) free_at.now now) }
+    ensures small { IsSmall (work_of_messages trace.now.messages) }
+{
+    let next = next_free(free_at, now).min(next_release(trace, now));
+    if next == NEVER { None } else { Some(next) }
+}
+
+/// The least tick after `now` at which a worker is free, or `NEVER`.
+fn next_free(free_at: &[u64], now: u64) -> u64
+    requires { now < NEVER }
+    ensures later { now < result }
+    ensures frees { All (λ free. (free ≤ now) ⊎ (result ≤ free)) free_at.now }
+    ensures one { (result ≡ NEVER) ⊎ Contains free_at.now result }
+{
+    let mut next = NEVER;
+    for worker in 0..free_at.len() {
+        let free = free_at[worker];
+        if now < free && free < next {
+            next = free;
+        }
+    }
+    next
+}
+
+/// The least tick after `now` at which a message is released, or `NEVER`.
+fn next_release(trace: &Trace, now: u64) -> u64
+    requires { now < NEVER }
+    ensures later { now < result }
+    ensures releases { (m : ℕ) → IsNumber (work_of_messages trace.now.messages) m
+        → ((work_of_messages trace.now.messages).release m ≤ now) ⊎ (result ≤ (work_of_messages trace.now.messages).release m) }
+    ensures small { IsSmall (work_of_messages trace.now.messages) }
+    ensures one { (result ≡ NEVER) ⊎ ((m : ℕ) × IsNumber (work_of_messages trace.now.messages) m × ((work_of_messages trace.now.messages).release m ≡ result)) }
+{
+    let mut next = NEVER;
+    for m in 1..trace.len() + 1 {
+        let release = release_of(trace, m);
+        if now < release && release < next {
+            next = release;
+        }
+    }
+    next
+}

@@ -1,0 +1,79 @@
+//! Plans for k workers.
+
+ghost use Rattle.std.specs.Prelude.{◌≡◌, ◌≤◌, length, All};
+ghost use Rattle.waff_plan.specs.Timing.{work_of};
+ghost use Rattle.waff_plan.specs.Work.{IsNumber};
+ghost use Rattle.waff_list.specs.Seating.{worker_of};
+
+use std::marker::Model;
+use waff_plan::Plan;
+
+/// A plan for k workers: the start and the worker of each message. Messages and workers are numbered from 1.
+#[derive(Drop)]
+pub struct WorkerPlan {
+    plan: Plan,
+    workers: u32,
+    seats: Vec<u32>,
+    order: Vec<u32>,
+}
+
+impl Model for WorkerPlan {
+    ghost use Rattle.waff_list.specs.Seating.{Seating, IsSeating};
+
+    ghost Value = { Seating };
+
+    ghost view = { λ p. record { table = p.plan; workers = p.workers; seats = p.seats.items; order = p.order.items } };
+
+    ghost invariant = { λ p. IsSeating (record { table = p.plan; workers = p.workers; seats = p.seats.items; order = p.order.items }) };
+}
+
+impl WorkerPlan {
+    ghost use Rattle.waff_list.specs.Seating.{IsSeating};
+
+    /// The plan with these workers, and with the messages in this order.
+    pub(crate) fn new(plan: Plan, workers: u32, seats: Vec<u32>, order: Vec<u32>) -> Self
+        requires { IsSeating (record { table = plan; workers = workers; seats = seats.items; order = order.items }) }
+        ensures { result ≡ record { table = plan; workers = workers; seats = seats.items; order = order.items } }
+    {
+        WorkerPlan {
+            plan,
+            workers,
+            seats,
+            order,
+        }
+    }
+
+    /// When each message starts.
+    pub fn plan(&self) -> &Plan
+        ensures plan { result.now ≡ self.now.table }
+        ensures seating { IsSeating self.now }
+    {
+        &self.plan
+    }
+
+    /// How many workers there are.
+    pub fn workers(&self) -> u32
+        ensures { result ≡ self.now.workers }
+    {
+        self.workers
+    }
+
+    /// The worker of message `n`.
+    pub fn worker(&self, n: u32) -> u32
+        requires from { 1 ≤ n }
+        requires to { n ≤ length self.now.table.timings }
+        ensures worker { result ≡ worker_of self.now.seats n }
+        ensures some { 1 ≤ result }
+        ensures within { result ≤ self.now.workers }
+    {
+        self.seats[n as usize - 1]
+    }
+
+    /// The messages by start tick, then arrival.
+    pub fn order(&self) -> &[u32]
+        ensures order { result.now ≡ self.now.order }
+        ensures messages { All (IsNumber (work_of self.now.table.timings)) result.now }
+    {
+        self.order.as_slice()
+    }
+}

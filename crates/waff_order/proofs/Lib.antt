@@ -1,0 +1,5 @@
+pub mod Parts
+pub mod NeedLemmas
+pub mod OpenLemmas
+pub mod Closure
+pub mod UpTo

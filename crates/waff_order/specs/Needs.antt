@@ -1,0 +1,29 @@
+-- The needs of a trace's messages: for each message a list of earlier messages that it must wait for.
+use Rattle.std.specs.Prelude.{◌≡◌, ℕ, ◌-◌, ◌<◌, ◌≤◌, List, [], length, All, Contains, slice_index_or}
+use Rattle.std.specs.List.Sorted.{IsStrictlyIncreasing}
+use Rattle.waff_model.specs.Tree.{Node}
+use Rattle.waff_model.specs.declared.limits.TheConstants.{MAX_MESSAGES}
+use Rattle.waff_assign.specs.Order.{IsOrdered, Path}
+
+-- the needs of message n, from 1
+abbrev pub needs_of : List (List ℕ) → ℕ → List ℕ
+needs_of needs n = slice_index_or needs (n - 1) []
+
+-- message j needs message i
+pub record IsNeed (needs : List (List ℕ)) (i j : ℕ) : Type 0 where
+  pub from : 1 ≤ j
+  pub listed : Contains (needs_of needs j) i
+
+-- lists of needs: each need is an earlier message, and the needs of a message stand in rising order
+pub record AreLists (needs : List (List ℕ)) : Type 0 where
+  pub from : (i j : ℕ) → IsNeed needs i j → 1 ≤ i
+  pub earlier : (i j : ℕ) → IsNeed needs i j → i < j
+  pub rising : All IsStrictlyIncreasing needs
+  pub few : length needs ≤ MAX_MESSAGES
+
+-- the needs of messages with these affinities: each need is an ordered pair, and each ordered pair is a path through needs, so
+-- that the paths through needs are exactly the path pairs
+pub record AreNeeds (tree : List Node) (assigned : List ℕ) (needs : List (List ℕ)) : Type 0 where
+  pub count : length needs ≡ length assigned
+  pub ordered : (i j : ℕ) → IsNeed needs i j → IsOrdered tree assigned i j
+  pub paths : (i j : ℕ) → IsOrdered tree assigned i j → Path (IsNeed needs) i j

@@ -1,0 +1,9 @@
+//! The needs of a trace's messages, and whether one hierarchy refines another on a trace.
+#![tactic(auto)]
+
+mod lists;
+pub mod predecessors;
+mod refinement;
+
+pub use lists::Needs;
+pub use refinement::refines;
