@@ -42,14 +42,14 @@ fn run<R: Runtime + AllocGlobal>(rt: &R) -> Result<(), Failure> {
                 &mut io::writer(rt),
             )?;
         }
-        Request::Plan(files) => {
+        Request::Plan(files, workers) => {
             let hierarchy = read_file(rt, alloc, files.hierarchy, 1)?;
             let trace = read_file(rt, alloc, files.trace, 2)?;
             plan_text(
                 alloc,
                 hierarchy.as_slice(),
                 trace.as_slice(),
-                None,
+                workers,
                 &mut io::writer(rt),
             )?;
         }

@@ -1,7 +1,11 @@
 //! The words of the command line.
+ghost use Rattle.std.specs.Prelude.{◌≤◌, IfOk, IfSome};
+ghost use Rattle.waff.specs.Requests.{IsWithinLimits};
+
 use crate::failure::Failure;
-use clap::{Arg, ArgMatches, Command};
+use clap::{Arg, ArgMatches, Command, value_parser};
 use std::alloc::{AllocError, Global};
+use waff_list::limits::MAX_WORKERS;
 
 /// What the words ask for.
 #[derive(Clone, Copy)]
@@ -9,7 +13,8 @@ pub enum Request<'a> {
     /// No words: the plan of the hierarchy and the trace on standard input.
     PlanOfInput,
     Assign(FileNames<'a>),
-    Plan(FileNames<'a>),
+    /// A plan for this number of workers, or a shortest one where there is no number.
+    Plan(FileNames<'a>, Option<u32>),
 }
 
 /// The names of the files of a command.
@@ -20,11 +25,13 @@ pub struct FileNames<'a> {
 }
 
 /// Reads the words, the program's own name first.
-pub fn read_words<'a>(alloc: Global, words: &'a [String]) -> Result<Request<'a>, Failure> {
+pub fn read_words<'a>(alloc: Global, words: &'a [String]) -> Result<Request<'a>, Failure>
+    ensures { IfOk result IsWithinLimits }
+{
     let matches = waff(alloc)?.try_get_matches_from(words)?;
     match matches.subcommand() {
         Some(("assign", matches)) => Ok(Request::Assign(file_names(matches)?)),
-        Some(("plan", matches)) => Ok(Request::Plan(file_names(matches)?)),
+        Some(("plan", matches)) => Ok(Request::Plan(file_names(matches)?, workers(matches)?)),
         Some(_) => Err(Failure::NoWords),
         None => Ok(Request::PlanOfInput),
     }
@@ -41,6 +48,17 @@ fn word<'a>(matches: &ArgMatches<'a>, id: &str) -> Result<&'a str, Failure> {
     matches.get_str(id).ok_or(Failure::NoWords)
 }
 
+/// The number of workers, where it is given.
+fn workers(matches: &ArgMatches<'_>) -> Result<Option<u32>, Failure>
+    ensures some { IfOk result (λ number. IfSome number (λ k. 1 ≤ k)) }
+    ensures few { IfOk result (λ number. IfSome number (λ k. k ≤ MAX_WORKERS)) }
+{
+    match matches.get_one::<u32>("workers") {
+        Some(k) if k == 0 || k > MAX_WORKERS => Err(Failure::NoWords),
+        number => Ok(number),
+    }
+}
+
 fn waff<'a>(alloc: Global) -> Result<Command<'a>, AllocError> {
     Command::new(alloc, "waff")
         .about("How much parallelism a tree of affinities allows a trace of messages")
@@ -55,8 +73,9 @@ fn waff<'a>(alloc: Global) -> Result<Command<'a>, AllocError> {
         .subcommand(command(
             alloc,
             "plan",
-            "Prints a shortest plan, with no limit on the workers",
-        )?)
+            "Prints a shortest plan, with no limit on the workers, or a plan for a number of workers",
+        )?
+        .arg(number_of_workers(alloc))?)
 }
 
 /// A command on a hierarchy and a trace.
@@ -69,4 +88,12 @@ fn command<'a>(alloc: Global, name: &'a str, about: &'a str) -> Result<Command<'
 
 fn file<'a>(alloc: Global, id: &'a str, help: &'a str) -> Arg<'a> {
     Arg::new(alloc, id).required(true).help(help)
+}
+
+fn number_of_workers<'a>(alloc: Global) -> Arg<'a> {
+    Arg::new(alloc, "workers")
+        .long("workers")
+        .value_name("K")
+        .value_parser(value_parser!(u32).range(1..=i64::from(MAX_WORKERS)))
+        .help("How many messages may run at once, from 1 to 64")
 }

@@ -1,5 +1,5 @@
 -- What the commands print for the bytes of their files.
-use Rattle.std.specs.Prelude.{◌≡◌, ℕ, List, length, Ok, Err}
+use Rattle.std.specs.Prelude.{◌≡◌, ℕ, List, length, Option, Some, None, Ok, Err}
 use Rattle.waff_model.specs.Layout.{Hierarchy}
 use Rattle.waff_model.specs.Messages.{Arrivals}
 use Rattle.waff_read.specs.Hierarchies.{hierarchy_of}
@@ -10,10 +10,14 @@ use Rattle.waff_plan.specs.Chain.{IsPrinted}
 use Rattle.waff_plan.specs.Obeys.{IsLeast}
 use Rattle.waff_plan.specs.Timetable.{timings_of}
 use Rattle.waff_plan.specs.Timing.{work_of, start_of}
-use Rattle.waff_plan.specs.Work.{Work}
+use Rattle.waff_plan.specs.Work.{Work, IsNumber}
+use Rattle.waff_list.specs.Bound.{IsWithinBound}
+use Rattle.waff_list.specs.ListRule.{IsListPlan}
+use Rattle.waff_list.specs.Seating.{worker_of}
+use Rattle.waff_list.specs.Seats.{IsSeated}
 use Rattle.waff_tool.specs.Lines.{text_of}
 use Rattle.waff_tool.specs.AssignText.{assign_lines}
-use Rattle.waff_tool.specs.PlanText.{unlimited_lines}
+use Rattle.waff_tool.specs.PlanText.{unlimited_lines, worker_lines}
 use Rattle.waff_tool.specs.declared.fault.ToolError.{ToolError}
 use Rattle.waff_tool.specs.declared.fault.ToolError.TheVariants as tool
 
@@ -47,6 +51,27 @@ pub record IsPlanText (hierarchy_file trace_file text : List ℕ) : Type 0 where
   pub least : IsLeast (IsOrdered layout.tree assigned) (work_in trace) (start_of starts)
   pub printed : IsPrinted (IsOrdered layout.tree assigned) (work_in trace) (start_of starts) chain
   pub lines : text ≡ text_of (unlimited_lines trace.version layout.tree assigned (work_in trace) (start_of starts) chain)
+
+-- the text of the list plan of a hierarchy and a trace for k workers, which is within the list bound of its printed chain
+pub record IsWorkerPlanText (hierarchy_file trace_file : List ℕ) (k : ℕ) (text : List ℕ) : Type 0 where
+  pub layout : Hierarchy
+  pub trace : Arrivals
+  pub assigned : List ℕ
+  pub starts : List ℕ
+  pub workers : List ℕ
+  pub chain : List ℕ
+  pub accepts : Accepts hierarchy_file trace_file layout trace assigned
+  pub list : IsListPlan (IsOrdered layout.tree assigned) (work_in trace) k (start_of starts)
+  pub seated : (m : ℕ) → IsNumber (work_in trace) m → IsSeated (work_in trace) (start_of starts) (worker_of workers) m
+  pub printed : IsPrinted (IsOrdered layout.tree assigned) (work_in trace) (start_of starts) chain
+  pub bound : IsWithinBound (work_in trace) k (start_of starts) chain
+  pub lines : text ≡ text_of
+      (worker_lines trace.version layout.tree assigned (work_in trace) k (start_of starts) (worker_of workers) chain)
+
+-- the text of the plan for this number of workers, or of the least plan where there is no number
+abbrev pub IsPlanTextFor : List ℕ → List ℕ → Option ℕ → List ℕ → Type 0
+IsPlanTextFor hierarchy_file trace_file None text = IsPlanText hierarchy_file trace_file text
+IsPlanTextFor hierarchy_file trace_file (Some k) text = IsWorkerPlanText hierarchy_file trace_file k text
 
 -- an error tells the first file that is refused, and why; want of memory and a writer's fault tell nothing of the files
 abbrev pub Refuses : List ℕ → List ℕ → ToolError → Type 0

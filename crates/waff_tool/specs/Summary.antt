@@ -1,5 +1,5 @@
 -- The summary of a plan.
-use Rattle.std.specs.Prelude.{ℕ, ◌+◌, List, [], ◌∷◌, ◌++◌, codes, decimal}
+use Rattle.std.specs.Prelude.{ℕ, ◌+◌, ◌-◌, ◌*◌, List, [], ◌∷◌, ◌++◌, codes, decimal}
 use Rattle.std.specs.List.{join_by}
 use Rattle.waff_model.specs.declared.message.Version.{Version}
 use Rattle.waff_model.specs.declared.message.Version.TheVariants.{V1, V2}
@@ -37,4 +37,16 @@ unlimited_totals work start chain = record {
   cost = chain_cost work chain;
   left = length_of work start;
   right = chain_release work chain + chain_cost work chain;
+}
+
+-- those of a plan for k workers: k times its length is at most the total, k times the release of its chain and k - 1 times the
+-- cost of its chain
+abbrev pub worker_totals : Work → ℕ → (ℕ → ℕ) → List ℕ → Totals
+worker_totals work k start chain = record {
+  total = total_of work;
+  length = length_of work start;
+  release = chain_release work chain;
+  cost = chain_cost work chain;
+  left = k * length_of work start;
+  right = total_of work + k * chain_release work chain + (k - 1) * chain_cost work chain;
 }

@@ -1,17 +1,21 @@
 //! The commands: from the bytes of files to a text written.
-ghost use Rattle.std.specs.Prelude.{◌≡◌, ◌≢◌, ◌<◌, ℕ, All, List, IfOk, IfErr, IsErrOf, OnOk, IsNone, length, string_bytes};
+ghost use Rattle.std.specs.Prelude.{◌≡◌, ◌≢◌, ◌<◌, ◌≤◌, ℕ, All, List, IfOk, IfErr, IsErrOf, IfSome, OnOk, length, string_bytes};
 ghost use Rattle.std.specs.Io.KnownBytes.{Appends, Keeps};
-ghost use Rattle.waff_tool.specs.Commands.{Accepts, IsAssignText, IsPlanText, Refuses};
+ghost use Rattle.waff_tool.specs.Commands.{Accepts, IsAssignText, IsPlanText, IsPlanTextFor, IsWorkerPlanText, Refuses};
 ghost use Rattle.waff_tool.specs.Output.{AppendsPart};
 
 use crate::assigns::assigned_text;
 use crate::fault::ToolError;
 use crate::output::write_text;
 use crate::plans::unlimited_text;
-use std::alloc::Global;
+use crate::worker_plans::worker_text;
+use std::alloc::{AllocError, Global};
 use std::io::Write;
 use waff_assign::{Assigned, assign};
+use waff_list::limits::MAX_WORKERS;
+use waff_list::{list_chain, list_plan};
 use waff_model::{Layout, Trace};
+use waff_order::predecessors::needs;
 use waff_plan::printed::chain;
 use waff_plan::unlimited::plan;
 use waff_read::{read_hierarchy, read_trace};
@@ -34,7 +38,8 @@ pub fn assign_text<W: Write>(
     write_text(writer, text.as_bytes())
 }
 
-/// Writes the plan of the trace under the hierarchy, without workers. Nothing is written before the whole text is made.
+/// Writes the plan of the trace under the hierarchy for this number of workers, or with no limit on them where there is no
+/// number. Nothing is written before the whole text is made.
 pub fn plan_text<W: Write>(
     alloc: Global,
     hierarchy: &[u8],
@@ -42,15 +47,16 @@ pub fn plan_text<W: Write>(
     workers: Option<u32>,
     writer: &mut W,
 ) -> Result<(), ToolError>
-    requires { IsNone workers }
-    ensures written { OnOk result ((text : List ℕ) × IsPlanText hierarchy.now trace.now text
+    requires some { IfSome workers (λ k. 1 ≤ k) }
+    requires few { IfSome workers (λ k. k ≤ MAX_WORKERS) }
+    ensures written { OnOk result ((text : List ℕ) × IsPlanTextFor hierarchy.now trace.now workers text
         × Appends (W.contents writer.old) (W.contents writer.new) text) }
-    ensures prefix { IsErrOf result ToolError.Write → (text : List ℕ) × IsPlanText hierarchy.now trace.now text
+    ensures prefix { IsErrOf result ToolError.Write → (text : List ℕ) × IsPlanTextFor hierarchy.now trace.now workers text
         × AppendsPart (W.contents writer.old) (W.contents writer.new) text }
     ensures refused { IfErr result (Refuses hierarchy.now trace.now) }
     ensures nothing { IfErr result (λ e. e ≢ ToolError.Write → Keeps (W.contents writer.old) (W.contents writer.new)) }
 {
-    let text = made_plan_text(alloc, hierarchy, trace)?;
+    let text = made_plan_text(alloc, hierarchy, trace, workers)?;
     write_text(writer, text.as_bytes())
 }
 
@@ -92,17 +98,56 @@ fn made_assign_text(alloc: Global, hierarchy: &[u8], trace: &[u8]) -> Result<Str
     Ok(assigned_text(alloc, tree, &accepted.trace, &accepted.assigned)?)
 }
 
-fn made_plan_text(alloc: Global, hierarchy: &[u8], trace: &[u8]) -> Result<String, ToolError>
-    ensures made { IfOk result (λ text. IsPlanText hierarchy.now trace.now (string_bytes text)) }
+fn made_plan_text(
+    alloc: Global,
+    hierarchy: &[u8],
+    trace: &[u8],
+    workers: Option<u32>,
+) -> Result<String, ToolError>
+    requires some { IfSome workers (λ k. 1 ≤ k) }
+    requires few { IfSome workers (λ k. k ≤ MAX_WORKERS) }
+    ensures made { IfOk result (λ text. IsPlanTextFor hierarchy.now trace.now workers (string_bytes text)) }
     ensures refused { IfErr result (Refuses hierarchy.now trace.now) }
     ensures nothing { IfErr result (λ e. e ≢ ToolError.Write) }
 {
     let accepted = accept(alloc, hierarchy, trace)?;
+    match workers {
+        None => Ok(made_unlimited_text(alloc, &accepted)?),
+        Some(k) => Ok(made_worker_text(alloc, &accepted, k)?),
+    }
+}
+
+/// The text of the unlimited plan.
+fn made_unlimited_text(alloc: Global, accepted: &Accepted) -> Result<String, AllocError>
+    requires lengths { length accepted.now.assigned ≡ length accepted.now.trace.messages }
+    requires known { All (λ affinity. affinity < length accepted.now.layout.tree) accepted.now.assigned }
+    ensures { IfOk result (λ text. (hierarchy trace : List ℕ)
+        → Accepts hierarchy trace accepted.now.layout accepted.now.trace accepted.now.assigned
+        → IsPlanText hierarchy trace (string_bytes text)) }
+{
     let tree = accepted.layout.tree();
     let plan = plan(alloc, tree, &accepted.assigned, &accepted.trace)?;
     let chain = chain(alloc, tree, &accepted.assigned, &plan)?;
     let version = accepted.trace.version();
-    Ok(unlimited_text(alloc, version, tree, &accepted.assigned, &plan, &chain)?)
+    unlimited_text(alloc, version, tree, &accepted.assigned, &plan, &chain)
+}
+
+/// The text of the list plan for k workers.
+fn made_worker_text(alloc: Global, accepted: &Accepted, k: u32) -> Result<String, AllocError>
+    requires lengths { length accepted.now.assigned ≡ length accepted.now.trace.messages }
+    requires known { All (λ affinity. affinity < length accepted.now.layout.tree) accepted.now.assigned }
+    requires some { 1 ≤ k }
+    requires few { k ≤ MAX_WORKERS }
+    ensures { IfOk result (λ text. (hierarchy trace : List ℕ)
+        → Accepts hierarchy trace accepted.now.layout accepted.now.trace accepted.now.assigned
+        → IsWorkerPlanText hierarchy trace k (string_bytes text)) }
+{
+    let tree = accepted.layout.tree();
+    let needs = needs(alloc, tree, &accepted.assigned)?;
+    let made = list_plan(alloc, &needs, &accepted.trace, k)?;
+    let chain = list_chain(alloc, tree, &accepted.assigned, &made)?;
+    let version = accepted.trace.version();
+    worker_text(alloc, version, tree, &accepted.assigned, &made, &chain)
 }
 
 #[cfg(test)]
@@ -155,6 +200,11 @@ mod tests {
         plan_text(alloc, hierarchy, trace, None, &mut writer)?;
         let text = "message,affinity,start,finish,worker\n1,A,0,4,-\n2,Serial,4,5,-\n\
             workers,-\ntotal,5\nlength,5\nchain,1 2\ncost,5\nbound,5,5\n";
+        assert_eq!(rt; writer.as_slice(), text.as_bytes());
+        let mut writer = Vec::new(alloc);
+        plan_text(alloc, hierarchy, trace, Some(2), &mut writer)?;
+        let text = "message,affinity,start,finish,worker\n1,A,0,4,1\n2,Serial,4,5,1\n\
+            workers,2\ntotal,5\nlength,5\nchain,1 2\ncost,5\nbound,10,10\n";
         assert_eq!(rt; writer.as_slice(), text.as_bytes());
         Ok(())
     }

@@ -10,6 +10,7 @@ mod output;
 mod plans;
 mod split;
 mod summary;
+mod worker_plans;
 
 pub use commands::{assign_text, plan_text};
 pub use fault::{ToolError, fault_status, fault_text};

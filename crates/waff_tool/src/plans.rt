@@ -88,7 +88,7 @@ fn push_unlimited_rows(
 }
 
 /// Appends the line of one message.
-fn push_plan_row(
+pub(crate) fn push_plan_row(
     text: &mut String,
     message: u32,
     affinity: &str,

@@ -1,0 +1,11 @@
+-- What the words of the command line ask for.
+use Rattle.std.specs.Prelude.{◌≤◌, IfSome}
+use Rattle.waff_list.specs.declared.limits.TheConstants.{MAX_WORKERS}
+use Rattle.waff.specs.declared.words.Request.{Request}
+use Rattle.waff.specs.declared.words.Request.TheVariants as request
+
+-- where a plan for a number of workers is asked for, that number is within the limits of the planner
+abbrev pub IsWithinLimits : Request → Type 0
+IsWithinLimits (request.Plan files workers) = IfSome workers (λ k. 1 ≤ k) × IfSome workers (λ k. k ≤ MAX_WORKERS)
+IsWithinLimits request.PlanOfInput = Unit {0}
+IsWithinLimits (request.Assign files) = Unit {0}
