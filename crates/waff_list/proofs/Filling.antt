@@ -1,5 +1,5 @@
 -- A list plan while it is made: what was placed stays placed.
-use Rattle.std.proofs.Common.{◌≡◌, ◌≢◌, ℕ, ◌+◌, ◌-◌, ◌<◌, ◌≤◌, List, [], ◌∷◌, ◌++◌, set, All, arith, ◌∙◌, get_or-set_other, ap, subst}
+use Rattle.std.proofs.Common.{◌≡◌, ◌≢◌, ℕ, ◌+◌, ◌-◌, ◌<◌, ◌≤◌, List, [], ◌∷◌, ◌++◌, set, All, arith, ◌∙◌, get_or-set_other, ap}
 use Rattle.waff_plan.specs.Work.{Work, IsNumber}
 use Rattle.waff_plan.specs.Obeys.{IsForward}
 use Rattle.waff_plan.specs.Timing.{start_of}
@@ -8,21 +8,6 @@ use Rattle.waff_list.specs.declared.progress.TheConstants.{NEVER}
 use Rattle.waff_list.proofs.Progressing.{progress_skip, progress_full, progress_place}
 
 module _ (before : ℕ → ℕ → Type 0) (work : Work) (k : ℕ) (forward : IsForward before work) (old starts seats free_at order : List ℕ) (now : ℕ) where
-  -- a message that does not wait is passed over
-  pub goes_skip : (m : ℕ) → (IsWaiting before work (start_of starts) now m → ⊥)
-      → GoesOn before work k old starts seats free_at order now m → GoesOn before work k old starts seats free_at order now (m + 1)
-  goes_skip m other h = record {
-    progress = progress_skip before work k forward starts seats free_at order now m (m + 1) (omega arith)
-        (λ n low high ready waits.
-        let same : n ≡ m = omega arith in
-        absurd (other (subst_waiting n m same (ready, waits))))
-        h.progress;
-    kept = h.kept;
-  }
-    where
-      subst_waiting : (n m : ℕ) → n ≡ m → IsWaiting before work (start_of starts) now n → IsWaiting before work (start_of starts) now m
-      subst_waiting n m same h = subst (λ x. IsWaiting before work (start_of starts) now x) same h
-
   -- where no worker is free, all other messages are passed over
   pub goes_full : (m next : ℕ) → m ≤ next → All (λ free. now < free) free_at
       → GoesOn before work k old starts seats free_at order now m → GoesOn before work k old starts seats free_at order now next

@@ -11,3 +11,7 @@ pub mod Events
 pub mod Filling
 pub mod PathPlans
 pub mod ChainBounds
+pub mod CandidateLemmas
+pub mod WakeLemmas
+pub mod OrderingLemmas
+pub mod DependentLemmas

@@ -99,7 +99,7 @@ module _ (before : ℕ → ℕ → Type 0) (work : Work) (k : ℕ) (forward : Is
       }
 
   -- what is ready in the new plan by now, and waits, was ready and waited
-  ready_back : (t m : ℕ) → t ≤ now → IsReady before work later t m → t < later m → IsReady before work start t m × (t < start m)
+  pub ready_back : (t m : ℕ) → t ≤ now → IsReady before work later t m → t < later m → IsReady before work start t m × (t < start m)
   ready_back t m early ready waits =
       let m_number = ready.number in
       let still : t < start m = ⊎_elim {C = t < start m}

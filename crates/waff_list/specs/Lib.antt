@@ -3,3 +3,4 @@ pub mod Seats
 pub mod Bound
 pub mod Progress
 pub mod Seating
+pub mod Waiting

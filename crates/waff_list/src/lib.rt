@@ -1,11 +1,14 @@
 //! The plan of a trace for k workers by the list rule, and the bound on its length.
 #![tactic(auto)]
 
+mod candidates;
+mod dependents;
 pub mod laws;
 pub mod limits;
 mod list;
 mod planner;
 mod progress;
+mod releases;
 mod ticks;
 mod worker_plan;
 

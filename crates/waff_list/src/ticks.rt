@@ -1,10 +1,12 @@
 //! The ticks at which something happens.
 
-ghost use Rattle.std.specs.Prelude.{◌≡◌, ℕ, ◌^◌, ◌<◌, ◌≤◌, ◌⊎◌, All, Contains, MatchOption, length, slice_index};
-ghost use Rattle.waff_plan.specs.Work.{IsNumber};
+ghost use Rattle.std.specs.Prelude.{◌≡◌, ℕ, ◌^◌, ◌<◌, ◌≤◌, ◌⊎◌, All, Contains, MatchOption, length};
+ghost use Rattle.waff_plan.specs.Work.{Work};
 ghost use Rattle.waff_list.specs.Progress.{work_of_messages, IsSmall, IsNextTick, IsLastTick};
+ghost use Rattle.waff_list.specs.Waiting.{AreReleases, ArePassed};
 
 use crate::progress::NEVER;
+use crate::releases::Releases;
 use waff_model::Trace;
 
 /// How many ticks message `m` runs.
@@ -29,13 +31,12 @@ pub(crate) fn release_of(trace: &Trace, m: u32) -> u64
 }
 
 /// The least tick after `now` at which a worker is free or a message is released.
-pub(crate) fn next_tick(trace: &Trace, free_at: &[u64], now: u64) -> Option<u64>
+pub(crate) fn next_tick(releases: &Releases, free_at: &[u64], now: u64) -> Option<u64>
     requires { now < NEVER }
-    ensures next { MatchOption result (IsLastTick (work_of_messages trace.now.messages) free_at.now now)
-        (IsNextTick (work_of_messages trace.now.messages) free_at.now now) }
-    ensures small { IsSmall (work_of_messages trace.now.messages) }
+    ensures { (work : Work) → IsSmall work → AreReleases work releases.now.sorted.items → ArePassed releases.now.sorted.items releases.now.passed now
+        → MatchOption result (IsLastTick work free_at.now now) (IsNextTick work free_at.now now) }
 {
-    let next = next_free(free_at, now).min(next_release(trace, now));
+    let next = next_free(free_at, now).min(releases.next());
     if next == NEVER { None } else { Some(next) }
 }
 
@@ -51,25 +52,6 @@ fn next_free(free_at: &[u64], now: u64) -> u64
         let free = free_at[worker];
         if now < free && free < next {
             next = free;
-        }
-    }
-    next
-}
-
-/// The least tick after `now` at which a message is released, or `NEVER`.
-fn next_release(trace: &Trace, now: u64) -> u64
-    requires { now < NEVER }
-    ensures later { now < result }
-    ensures releases { (m : ℕ) → IsNumber (work_of_messages trace.now.messages) m
-        → ((work_of_messages trace.now.messages).release m ≤ now) ⊎ (result ≤ (work_of_messages trace.now.messages).release m) }
-    ensures small { IsSmall (work_of_messages trace.now.messages) }
-    ensures one { (result ≡ NEVER) ⊎ ((m : ℕ) × IsNumber (work_of_messages trace.now.messages) m × ((work_of_messages trace.now.messages).release m ≡ result)) }
-{
-    let mut next = NEVER;
-    for m in 1..trace.len() + 1 {
-        let release = release_of(trace, m);
-        if now < release && release < next {
-            next = release;
         }
     }
     next

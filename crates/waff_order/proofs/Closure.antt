@@ -39,6 +39,20 @@ module _ (Above : ℕ → ℕ → Type 0) where
   length-chosen m opened [] kept (suc n) h = omega (arith, h.count)
   length-chosen m opened (one ∷ rest) kept above h = omega (arith, h.count)
 
+  -- where m is above all open messages, each need is taken
+  pub length-chosen_all : (m : ℕ) (opened taken kept : List ℕ) (above : ℕ) → ((i : ℕ) → Contains opened i → Above m i)
+      → IsParted Above m opened taken kept above → length (chosen taken above) + length kept ≤ length opened
+  length-chosen_all m opened [] [] zero all h = omega (arith, h.count)
+  length-chosen_all m opened [] [] (suc n) all h =
+      let there = h.some (omega arith) in
+      let one = there.0 in
+      let within = one.1 in
+      absurd (omega (arith, within))
+  length-chosen_all m opened (one ∷ rest) [] above all h = omega (arith, h.count)
+  length-chosen_all m opened taken (w ∷ kept) above all h =
+      let there = h.keeps 0 w (omega arith) in
+      absurd (there.1 (all w there.0))
+
   -- the chosen needs rise
   pub chosen_rising : (m : ℕ) (opened taken kept : List ℕ) (above : ℕ) → IsParted Above m opened taken kept above
       → IsStrictlyIncreasing (chosen taken above)

@@ -1,16 +1,18 @@
 -- The needs of the first messages, and of one more.
-use Rattle.std.proofs.Common.{◌≡◌, ℕ, ◌+◌, ◌*◌, ◌<◌, ◌≤◌, ◌⊎◌, List, [], ◌∷◌, ◌++◌, length, All, Contains, arith, refl, sym, ◌∙◌, ap, subst, ⊎_elim}
+use Rattle.std.proofs.Common.{◌≡◌, ℕ, ◌+◌, ◌*◌, ◌<◌, ◌≤◌, ◌⊎◌, List, [], ◌∷◌, ◌++◌, length, All, Contains, arith, refl, sym, ◌∙◌, ap, subst, ⊎_elim, zero, suc, ◌-◌}
 use Rattle.std.specs.List.Sorted.{IsStrictlyIncreasing}
 use Rattle.std.proofs.lemmas.List.{length_push}
 use Rattle.std.proofs.lemmas.List.Elements.{All-nil, All-push, All-contains}
-use Rattle.waff_model.specs.Tree.{Node}
+use Rattle.waff_model.specs.Tree.{Node, AtOrAbove, IsTree}
+use Rattle.waff_assign.proofs.Climbs.{root_above}
+use Rattle.std.proofs.Math.Nat.{mul-le-mul_left}
 use Rattle.waff_model.specs.declared.limits.TheConstants.{MAX_MESSAGES}
 use Rattle.waff_model.proofs.TreeLemmas.{reflexive, transitive, comparable}
 use Rattle.waff_assign.specs.Order.{IsOrdered, affinity_of}
-use Rattle.waff_order.specs.Needs.{IsNeed, AreLists, AreNeeds}
+use Rattle.waff_order.specs.Needs.{IsNeed, AreLists, AreNeeds, IsWithinDepth}
 use Rattle.waff_order.specs.Open.{IsAbove, chosen, TakesNeeds}
 use Rattle.waff_order.proofs.NeedLemmas.{need_kept, need_new, need_cases, need_within}
-use Rattle.waff_order.proofs.Closure.{IsClosed, closed_none, closed_more, chosen_rising, chosen_excludes, length-chosen}
+use Rattle.waff_order.proofs.Closure.{IsClosed, closed_none, closed_more, chosen_rising, chosen_excludes, length-chosen, length-chosen_all}
 
 -- these are the needs of the first n messages, and these messages are open
 pub record AreNeedsUpTo (tree : List Node) (assigned : List ℕ) (needs : List (List ℕ)) (opened : List ℕ) (n : ℕ) : Type 0 where
@@ -68,6 +70,15 @@ module _ (tree : List Node) (assigned : List ℕ) where
       let same : length more ≡ length (chosen taken above) = ap length is in
       omega (arith, few, same)
 
+  -- where no affinity is below another, one more message has no need more than it closes messages
+  pub total_flat : (opened kept more : List ℕ) (n m : ℕ) → ((i : ℕ) → Contains opened i → IsAbove tree assigned (m + 1) i) → n + length opened ≤ m
+      → TakesNeeds (IsAbove tree assigned) (m + 1) opened kept more → n + length more + (length kept + 1) ≤ m + 1
+  total_flat opened kept more n m all before (taken, above, parted, is) =
+      let few : length (chosen taken above) + length kept ≤ length opened
+      = length-chosen_all (IsAbove tree assigned) (m + 1) opened taken kept above all parted in
+      let same : length more ≡ length (chosen taken above) = ap length is in
+      omega (arith, few, same)
+
   -- the needs of all messages
   pub up_to_all : (needs : List (List ℕ)) (opened : List ℕ) (n : ℕ) → n ≡ length assigned → AreNeedsUpTo tree assigned needs opened n
       → AreNeeds tree assigned needs
@@ -84,3 +95,27 @@ module _ (tree : List Node) (assigned : List ℕ) where
     rising = h.rising;
     few = omega (arith, h.count);
   }
+
+-- in a tree of no depth there is the root alone
+root_alone : (tree : List Node) → IsTree tree → IsWithinDepth tree 0 → (a : ℕ) → a < length tree → a ≡ 0
+root_alone tree is_tree flat a within = root_alone_by (root_above tree is_tree a within)
+  where
+    root_alone_by : AtOrAbove tree 0 a → a ≡ 0
+    root_alone_by (zero, same) = sym same
+    root_alone_by (suc n, leads) = absurd (let bound = flat a (suc n) within leads in omega (arith, bound))
+
+-- all messages are then of one affinity
+pub all_above : (tree : List Node) (assigned : List ℕ) → IsTree tree → IsWithinDepth tree 0 → All (λ a. a < length tree) assigned
+    → (i j : ℕ) → 1 ≤ i → i ≤ length assigned → 1 ≤ j → j ≤ length assigned → IsAbove tree assigned i j
+all_above tree assigned is_tree flat known i j i_from i_to j_from j_to =
+    let first : affinity_of assigned i ≡ 0 = root_alone tree is_tree flat (affinity_of assigned i) (known (i - 1) 0 (omega arith)) in
+    let second : affinity_of assigned j ≡ 0 = root_alone tree is_tree flat (affinity_of assigned j) (known (j - 1) 0 (omega arith)) in
+    subst (λ a. AtOrAbove tree a (affinity_of assigned j)) (sym first)
+    (subst (λ a. AtOrAbove tree 0 a) (sym second) (reflexive tree 0))
+
+-- the number of needs, by the depth
+pub needs_by_depth : (count total depth : ℕ) → total ≤ 2 * count → (depth ≡ 0 → total ≤ count) → total ≤ count * (depth + 1)
+needs_by_depth count total zero twice flat = let few : total ≤ count = flat refl in omega arith
+needs_by_depth count total (suc depth) twice flat =
+    let more : count * 2 ≤ count * (suc depth + 1) = mul-le-mul_left count (omega arith) in
+    omega arith

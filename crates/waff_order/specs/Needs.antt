@@ -1,7 +1,7 @@
 -- The needs of a trace's messages: for each message a list of earlier messages that it must wait for.
 use Rattle.std.specs.Prelude.{◌≡◌, ℕ, ◌-◌, ◌<◌, ◌≤◌, List, [], length, All, Contains, slice_index_or}
 use Rattle.std.specs.List.Sorted.{IsStrictlyIncreasing}
-use Rattle.waff_model.specs.Tree.{Node}
+use Rattle.waff_model.specs.Tree.{Node, Leads}
 use Rattle.waff_model.specs.declared.limits.TheConstants.{MAX_MESSAGES}
 use Rattle.waff_assign.specs.Order.{IsOrdered, Path}
 
@@ -27,3 +27,7 @@ pub record AreNeeds (tree : List Node) (assigned : List ℕ) (needs : List (List
   pub count : length needs ≡ length assigned
   pub ordered : (i j : ℕ) → IsNeed needs i j → IsOrdered tree assigned i j
   pub paths : (i j : ℕ) → IsOrdered tree assigned i j → Path (IsNeed needs) i j
+
+-- no affinity is more than this many steps below the root
+abbrev pub IsWithinDepth : List Node → ℕ → Type 0
+IsWithinDepth tree depth = (a n : ℕ) → a < length tree → Leads tree n 0 a → n ≤ depth

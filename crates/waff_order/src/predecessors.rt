@@ -1,7 +1,7 @@
 //! The needs of each message, found from the messages that are open.
 
-ghost use Rattle.std.specs.Prelude.{◌≡◌, ◌*◌, ◌<◌, ◌≤◌, ◌++◌, ℕ, List, [], length, All, IfOk, sum_by};
-ghost use Rattle.waff_order.specs.Needs.{AreNeeds};
+ghost use Rattle.std.specs.Prelude.{◌≡◌, ◌+◌, ◌*◌, ◌<◌, ◌≤◌, ◌++◌, ℕ, List, [], length, All, IfOk, sum_by};
+ghost use Rattle.waff_order.specs.Needs.{AreNeeds, IsWithinDepth};
 ghost use Rattle.waff_order.specs.Open.{IsAbove, AreOpen, IsParted, TakesNeeds};
 
 use crate::Needs;
@@ -15,12 +15,14 @@ use waff_model::Tree;
 pub fn needs(alloc: Global, tree: &Tree, assigned: &Assigned) -> Result<Needs, AllocError>
     requires { All (λ a. a < length tree.now) assigned.now }
     ensures needs { IfOk result (AreNeeds tree.now assigned.now) }
-    ensures few { IfOk result (λ needs. sum_by length needs ≤ 2 * length assigned.now) }
+    ensures few { IfOk result (λ needs. (depth : ℕ) → IsWithinDepth tree.now depth → sum_by length needs ≤ length assigned.now * (depth + 1)) }
+    ensures twice { IfOk result (λ needs. sum_by length needs ≤ 2 * length assigned.now) }
 {
     let mut all = Vec::new(alloc);
     let mut ends = Vec::with_capacity(alloc, assigned.len() as usize)?;
-    let mut opened = Vec::new(alloc);
-    let mut kept = Vec::new(alloc);
+    let affinities = tree.len() as usize;
+    let mut opened = Vec::with_capacity(alloc, affinities)?;
+    let mut kept = Vec::with_capacity(alloc, affinities)?;
     for m in 1..assigned.len() + 1 {
         kept.clear();
         take_needs(tree, assigned, m, opened.as_slice(), &mut kept, &mut all)?;

@@ -44,7 +44,7 @@ read-gather {F} {A} {B} rank f (a ∷ xs) (y ∷ ys) h =
     rw (first, read-gather rank f xs ys others) refl
 
 -- a name
-name_of-read : (text name : Field) → name_of text ≡ Ok name → (is_name text ≡ true) × (name ≡ text)
+pub name_of-read : (text name : Field) → name_of text ≡ Ok name → (is_name text ≡ true) × (name ≡ text)
 name_of-read text name h = by (is_name text) h
   where
     by : (b : Bool) → (if b then Ok text else Err fault.Name) ≡ Ok name → (b ≡ true) × (name ≡ text)
@@ -105,7 +105,7 @@ read-ops_of spaces text list filled each few =
     rw (some_bytes text filled, read-gather number (op_of spaces) (parts 59 text) list each, le-ltb MAX_OPS (length list) few) refl
 
 -- the number of a record
-counted-read : (at n : ℕ) → counted at ≡ Ok n → at ≤ MAX_MESSAGES + 1
+pub counted-read : (at n : ℕ) → counted at ≡ Ok n → at ≤ MAX_MESSAGES + 1
 counted-read at n h = by (nat_lt (MAX_MESSAGES + 1) at) refl h
   where
     by : (b : Bool) → nat_lt (MAX_MESSAGES + 1) at ≡ b → (if b then Err fault.TooManyMessages else Ok at) ≡ Ok n → at ≤ MAX_MESSAGES + 1

@@ -11,3 +11,4 @@ pub mod FaultLaws
 pub mod HierarchyLaws
 pub mod SpellingLaws
 pub mod TraceSpellings
+pub mod RefusalLaws

@@ -1,5 +1,5 @@
 -- What the readers accept, in the words of the formats.
-use Rattle.std.specs.Prelude.{◌≡◌, ◌≢◌, ◌↔◌, ◌⊎◌, ℕ, ◌+◌, ◌<◌, ◌≤◌, List, [], ◌∷◌, length, map, drop, All, Option, Some, None, Ok, Err, IsOk, IsTrue, slice_get, codes}
+use Rattle.std.specs.Prelude.{◌≡◌, ◌≢◌, ◌↔◌, ◌⊎◌, ℕ, ◌+◌, ◌<◌, ◌≤◌, List, [], ◌∷◌, length, map, drop, false, All, Contains, Option, Some, None, Ok, Err, IsOk, IsTrue, slice_get, codes}
 use Rattle.toml.specs.Data.{Data}
 use Rattle.waff_model.specs.Layout.{Space, Hierarchy, IsLayout}
 use Rattle.waff_model.specs.Messages.{Arrivals, IsMessage, IsTrace, sizes_of}
@@ -13,7 +13,7 @@ use Rattle.waff_model.specs.declared.message.Version.{Version}
 use Rattle.waff_model.specs.declared.message.Version.TheVariants.{V1, V2}
 use Rattle.waff_parse.specs.Fields.{Field}
 use Rattle.waff_parse.specs.Rows.{Record, records_of}
-use Rattle.waff_parse.specs.Texts.{number_of, parts}
+use Rattle.waff_parse.specs.Texts.{number_of, number_within, parts}
 use Rattle.waff_read.specs.Affinities.{tree_of}
 use Rattle.waff_read.specs.Documents.{document_of, rows_at}
 use Rattle.waff_read.specs.Hierarchies.{hierarchy_of, kind_of, kind_refusal, layout_at}
@@ -21,8 +21,11 @@ use Rattle.waff_read.specs.Messages.{message_of}
 use Rattle.waff_read.specs.Ops.{op_of}
 use Rattle.waff_read.specs.Shapes.{shape_refusal}
 use Rattle.waff_read.specs.Spellings.{HasSmallNumber, record_of, text_of}
+use Rattle.waff_read.specs.TraceFaults.{number}
 use Rattle.waff_read.specs.Traces.{header_of, message_at, trace_of}
 use Rattle.waff_read.specs.declared.trace_fault.TraceError.{TraceError}
+use Rattle.waff_read.specs.declared.trace_fault.TraceFault.{TraceFault}
+use Rattle.waff_read.specs.declared.trace_fault.TraceFault.TheVariants as fault
 
 -- a release: 0 where there is no field for it, else the number that the field writes, within the limit
 abbrev pub IsRelease : Option Field → ℕ → Type 0
@@ -59,6 +62,37 @@ FirstVersionIsExact spaces at row = (message : Message) → (message_of V1 space
 -- a record of the second version is read as a message exactly where it is four fields that spell it
 abbrev pub SecondVersionIsExact : List Space → ℕ → Record → Type 0
 SecondVersionIsExact spaces at row = (message : Message) → (message_of V2 spaces at row ≡ Ok message) ↔ SpellsInFour spaces at row message
+
+-- a piece between `;` is refused with this fault
+abbrev pub HasPiece : List Space → Field → TraceFault → Type 0
+HasPiece spaces ops e = (piece : List ℕ) × Contains (parts 59 ops) piece × (op_of spaces piece ≡ Err e)
+
+-- the check of this fault holds of the fields of the record of this number
+abbrev pub Holds : List Space → ℕ → Field → Field → Option Field → Field → TraceFault → Type 0
+Holds spaces at name cost release ops fault.Csv = ⊥
+Holds spaces at name cost release ops fault.Header = ⊥
+Holds spaces at name cost release ops fault.Fields = ⊥
+Holds spaces at name cost release ops fault.Name = is_name name ≡ false
+Holds spaces at name cost release ops fault.Cost = number_within 1 MAX_COST cost ≡ None
+Holds spaces at name cost release ops fault.NoOps = ops ≡ []
+Holds spaces at name cost release ops fault.Op = HasPiece spaces ops fault.Op
+Holds spaces at name cost release ops fault.SpaceUnknown = HasPiece spaces ops fault.SpaceUnknown
+Holds spaces at name cost release ops fault.IndexTooLarge = HasPiece spaces ops fault.IndexTooLarge
+Holds spaces at name cost release ops fault.TooManyOps = MAX_OPS < length (parts 59 ops)
+Holds spaces at name cost release ops fault.TooManyMessages = MAX_MESSAGES + 1 < at
+Holds spaces at name cost release ops fault.Release = (text : Field) × (release ≡ Some text) × (number_within 0 MAX_RELEASE text ≡ None)
+
+-- of the checks that hold of the fields this one has the least number
+pub record IsLeastCheck (spaces : List Space) (at : ℕ) (name cost : Field) (release : Option Field) (ops : Field) (e : TraceFault) : Type 0 where
+  pub holds : Holds spaces at name cost release ops e
+  pub least : (other : TraceFault) → Holds spaces at name cost release ops other → number e ≤ number other
+
+-- three fields that are refused are refused for the check of least number that holds, and so are four
+abbrev pub LeastCheckDecides : List Space → ℕ → Field → Field → Field → Type 0
+LeastCheckDecides spaces at name cost ops =
+    ((e : TraceFault) → message_of V1 spaces at (name ∷ cost ∷ ops ∷ []) ≡ Err e → IsLeastCheck spaces at name cost None ops e)
+    × ((e : TraceFault) (release : Field) → message_of V2 spaces at (name ∷ cost ∷ release ∷ ops ∷ []) ≡ Err e
+    → IsLeastCheck spaces at name cost (Some release) ops e)
 
 -- a message within the limits, whose cells lie in the spaces of a layout, is read from the record that spells it
 abbrev pub SpelledIsRead : Hierarchy → Version → ℕ → Message → Type 0

@@ -6,8 +6,9 @@ ghost use Rattle.waff_model.specs.Layout.{Space, Hierarchy};
 ghost use Rattle.waff_model.specs.Messages.{Arrivals};
 ghost use Rattle.waff_model.specs.declared.message.Message.{Message};
 ghost use Rattle.waff_model.specs.declared.message.Version.{Version};
+ghost use Rattle.waff_parse.specs.Fields.{Field};
 ghost use Rattle.waff_parse.specs.Rows.{Record};
-ghost use Rattle.waff_read.specs.Laws.{FirstVersionIsExact, SecondVersionIsExact, SpelledIsRead, SpelledTraceIsRead, TraceIsExact, FirstFaultDecides, HierarchyIsExact, ClassicalHasTwoLevels};
+ghost use Rattle.waff_read.specs.Laws.{FirstVersionIsExact, SecondVersionIsExact, SpelledIsRead, SpelledTraceIsRead, LeastCheckDecides, TraceIsExact, FirstFaultDecides, HierarchyIsExact, ClassicalHasTwoLevels};
 
 /// A message of three fields is accepted exactly where no check holds, and has the values that they write.
 pub fn first_version_is_exact()
@@ -17,6 +18,11 @@ pub fn first_version_is_exact()
 /// A message of four fields is accepted exactly where no check holds, and has the values that they write.
 pub fn second_version_is_exact()
     ensures { (spaces : List Space) (at : ℕ) (row : Record) → SecondVersionIsExact spaces at row }
+{}
+
+/// Of the checks that hold of a record, the one of least number is told.
+pub fn least_check_decides()
+    ensures { (spaces : List Space) (at : ℕ) (name cost ops : Field) → LeastCheckDecides spaces at name cost ops }
 {}
 
 /// A message is read from the record that spells it.

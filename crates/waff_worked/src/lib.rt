@@ -17,3 +17,5 @@ mod samples;
 mod texts;
 #[cfg(test)]
 mod traces_read;
+#[cfg(test)]
+mod worker_plans;

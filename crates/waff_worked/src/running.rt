@@ -66,7 +66,8 @@ pub fn unlimited_of(
     })
 }
 
-fn push_number(words: &mut String, number: u64) -> Result<(), Fail> {
+/// Appends the number, after a space where it is not the first.
+pub fn push_number(words: &mut String, number: u64) -> Result<(), Fail> {
     if !words.is_empty() {
         words.push_str(" ")?;
     }

@@ -132,3 +132,19 @@ chain,\n\
 cost,0\n\
 bound,0,0\n\
 ";
+
+/// The plan of the first trace under the hierarchical sample for two workers.
+pub const PLAN_H1_X1_WORKERS2: &str = "message,affinity,start,finish,worker\n\
+1,A0,0,4,1\n\
+2,B0,0,3,2\n\
+3,VolA,4,6,1\n\
+4,B1,3,8,2\n\
+5,Serial,8,9,1\n\
+6,A0,9,11,1\n\
+workers,2\n\
+total,17\n\
+length,11\n\
+chain,4 5 6\n\
+cost,8\n\
+bound,22,25\n\
+";

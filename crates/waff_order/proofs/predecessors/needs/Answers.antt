@@ -1,11 +1,12 @@
-use Rattle.std.proofs.Common.{◌≡◌, ℕ, ◌+◌, ◌-◌, ◌*◌, ◌≤◌, List, [], ◌∷◌, ◌++◌, length, sum_by, arith, rules, refl, sym, ◌∙◌, ap, subst}
+use Rattle.std.proofs.Common.{◌≡◌, ℕ, ◌+◌, ◌-◌, ◌*◌, ◌<◌, ◌≤◌, List, All, [], ◌∷◌, ◌++◌, length, sum_by, arith, rules, refl, sym, ◌∙◌, ap, subst}
 use Rattle.std.proofs.lemmas.List.{length_push, length-append}
-use Rattle.waff_model.specs.Tree.{Node}
-use Rattle.waff_order.specs.Needs.{AreNeeds}
+use Rattle.std.proofs.lemmas.List.Elements.{All-contains}
+use Rattle.waff_model.specs.Tree.{Node, IsTree}
+use Rattle.waff_order.specs.Needs.{AreNeeds, IsWithinDepth}
 use Rattle.waff_order.specs.Cuts.{parts, AreCuts}
 use Rattle.waff_order.specs.Open.{IsAbove, AreOpen, TakesNeeds}
 use Rattle.waff_order.proofs.Parts.{parts_push, cuts_push, sum_by-parts}
-use Rattle.waff_order.proofs.UpTo.{AreNeedsUpTo, up_to_none, up_to_more, total_more, up_to_all, up_to_lists}
+use Rattle.waff_order.proofs.UpTo.{AreNeedsUpTo, up_to_none, up_to_more, total_more, total_flat, all_above, needs_by_depth, up_to_all, up_to_lists}
 use Rattle.waff_order.proofs.predecessors.needs.Goals as goal
 
 -- all parts together are as long as the list
@@ -17,11 +18,12 @@ record IsReached (tree : List Node) (assigned : List ℕ) (all ends opened : Lis
   pub cuts : AreCuts all 0 ends
   pub needs : AreNeedsUpTo tree assigned (parts all 0 ends) opened n
   pub total : length all + length opened ≤ 2 * n
+  pub flat : IsWithinDepth tree 0 → length all + length opened ≤ n
 
-step : (tree : List Node) (assigned : List ℕ) (all ends opened kept more : List ℕ) (n : ℕ) → n + 1 ≤ length assigned
+step : (tree : List Node) (assigned : List ℕ) → IsTree tree → All (λ a. a < length tree) assigned → (all ends opened kept more : List ℕ) (n : ℕ) → n + 1 ≤ length assigned
     → IsReached tree assigned all ends opened n → TakesNeeds (IsAbove tree assigned) (n + 1) opened kept more
     → IsReached tree assigned (all ++ more) (ends ++ length (all ++ more) ∷ []) (kept ++ (n + 1) ∷ []) (n + 1)
-step tree assigned all ends opened kept more n room h takes = record {
+step tree assigned is_tree known all ends opened kept more n room h takes = record {
   cuts = cuts_push all more 0 ends h.cuts;
   needs = rw (parts_push all more 0 ends h.cuts) (up_to_more tree assigned (parts all 0 ends) opened kept more n room h.needs takes);
   total =
@@ -30,11 +32,21 @@ step tree assigned all ends opened kept more n room h takes = record {
       let long : length (all ++ more) ≡ length all + length more = length-append all more in
       let one : length (kept ++ (n + 1) ∷ []) ≡ length kept + 1 = length_push kept (n + 1) in
       omega arith;
+  flat = λ depth.
+      let bound : length all + length more + (length kept + 1) ≤ n + 1
+      = total_flat tree assigned opened kept more (length all) n
+      (λ i there.
+      let within : (1 ≤ i) × (i < n + 1) = All-contains (λ x. (1 ≤ x) × (x < n + 1)) opened i h.needs.closed.opens.messages there in
+      all_above tree assigned is_tree depth known (n + 1) i (omega arith) room within.0 (omega (arith, within.1)))
+      (h.flat depth) takes in
+      let long : length (all ++ more) ≡ length all + length more = length-append all more in
+      let one : length (kept ++ (n + 1) ∷ []) ≡ length kept + 1 = length_push kept (n + 1) in
+      omega arith;
 }
 
 pub loop-m-init : goal.loop-m-init
-loop-m-init c = rw (c.new-all.ensures.items, c.in_ok-ends.ensures.items, c.new-opened.ensures.items)
-    (record { cuts = refl; needs = up_to_none c.args.tree.now c.args.assigned.now; total = omega arith })
+loop-m-init c = rw (c.new-all.ensures.items, c.in_ok-ends.ensures.items, c.in_ok-opened.ensures.items)
+    (record { cuts = refl; needs = up_to_none c.args.tree.now c.args.assigned.now; total = omega arith; flat = λ depth. omega arith })
 
 pub take_needs-requires-clause-opened : goal.take_needs-requires-clause-opened
 take_needs-requires-clause-opened c =
@@ -66,8 +78,8 @@ loop-m-preserved c =
     let takes = subst (λ xs. TakesNeeds (IsAbove c.args.tree.now c.args.assigned.now) c.loop-m.m xs c.take_needs.new.kept.items more)
     c.as_slice.ensures.value c.in_ok-take_needs.ensures.2 in
     let before : IsReached c.args.tree.now c.args.assigned.now c.loop-m.all.items c.loop-m.ends.items c.loop-m.opened.items n
-    = record { cuts = c.loop-m.invariant.cuts; needs = c.loop-m.invariant.needs; total = c.loop-m.invariant.total } in
-    let after = step c.args.tree.now c.args.assigned.now c.loop-m.all.items c.loop-m.ends.items c.loop-m.opened.items c.take_needs.new.kept.items more n
+    = record { cuts = c.loop-m.invariant.cuts; needs = c.loop-m.invariant.needs; total = c.loop-m.invariant.total; flat = c.loop-m.invariant.flat } in
+    let after = step c.args.tree.now c.args.assigned.now c.len-affinities.ensures.tree c.requires c.loop-m.all.items c.loop-m.ends.items c.loop-m.opened.items c.take_needs.new.kept.items more n
     (omega arith) before
     (subst (λ m. TakesNeeds (IsAbove c.args.tree.now c.args.assigned.now) m c.loop-m.opened.items c.take_needs.new.kept.items more) next takes) in
     let last : c.len-in-loop-m.result ≡ length (c.loop-m.all.items ++ more) = search (rules, ap length items) in
@@ -76,7 +88,7 @@ loop-m-preserved c =
     let opened : c.swap.new.x.items ≡ c.take_needs.new.kept.items ++ (n + 1) ∷ []
     = ap (λ v. v.items) c.swap.ensures.x_after ∙ c.in_ok-push-2.ensures.items ∙ ap (λ x. c.take_needs.new.kept.items ++ x ∷ []) next in
     let one_more : c.loop-m.m + 1 - 1 ≡ n + 1 = omega arith in
-    rw (items, ends, opened, one_more) (record { cuts = after.cuts; needs = after.needs; total = after.total })
+    rw (items, ends, opened, one_more) (record { cuts = after.cuts; needs = after.needs; total = after.total; flat = after.flat })
 
 pub new-requires-clause-cuts : goal.new-requires-clause-cuts
 new-requires-clause-cuts c = c.loop-m.invariant.cuts
@@ -94,7 +106,14 @@ returns-clause-needs c =
     (omega arith) c.loop-m.invariant.needs)
 
 pub returns-clause-few : goal.returns-clause-few
-returns-clause-few c =
+returns-clause-few c = λ depth within.
+    let all : sum_by length c.new.result ≡ length c.loop-m.all.items
+    = ap (λ xs. sum_by length xs) c.new.ensures ∙ sum c.loop-m.all.items c.loop-m.ends.items c.loop-m.invariant.cuts in
+    needs_by_depth (length c.args.assigned.now) (sum_by length c.new.result) depth (omega (arith, all, c.loop-m.invariant.total))
+    (λ none. let flat = c.loop-m.invariant.flat (subst (λ d. IsWithinDepth c.args.tree.now d) none within) in omega (arith, all, flat))
+
+pub returns-clause-twice : goal.returns-clause-twice
+returns-clause-twice c =
     let all : sum_by length c.new.result ≡ length c.loop-m.all.items
     = ap (λ xs. sum_by length xs) c.new.ensures ∙ sum c.loop-m.all.items c.loop-m.ends.items c.loop-m.invariant.cuts in
     omega (arith, all, c.loop-m.invariant.total)

@@ -1,0 +1,36 @@
+use Rattle.std.proofs.Common.{◌≡◌, ℕ, ◌+◌, ◌-◌, ◌≤◌, [], length, get_or, replicate, Contains, arith, sym, ◌∙◌, ap, subst}
+use Rattle.std.proofs.lemmas.List.Elements.{Contains-get_or}
+use Rattle.waff_order.specs.Needs.{needs_of}
+use Rattle.waff_list.specs.Waiting.{Grows, AreDependents}
+use Rattle.waff_list.proofs.DependentLemmas.{dependents_none, dependents_more, needs_inside}
+use Rattle.waff_list.proofs.dependents.Dependents.of_needs.Goals as goal
+
+pub loop-m-init : goal.loop-m-init
+loop-m-init c =
+    subst (λ xs. AreDependents c.args.needs.now xs 0) (sym (c.in_ok-dependents.ensures ∙ ap (λ n. replicate n []) c.len.ensures.count)) (dependents_none c.args.needs.now)
+
+pub add_all-requires : goal.add_all-requires
+add_all-requires c = λ k d within.
+    let xs = c.of.result.now in
+    let there = subst (λ ys. Contains ys (get_or xs k d)) c.of.ensures.needs (Contains-get_or xs k d within) in
+    let inside = needs_inside c.args.needs.now c.loop-m.m c.len.ensures.lists (omega arith) (get_or xs k d) there in
+    let to : get_or xs k d ≤ length c.args.needs.now = inside.1 in
+    (inside.0, omega (arith, c.loop-m.invariant.count, to))
+
+pub loop-m-preserved : goal.loop-m-preserved
+loop-m-preserved c =
+    let n = c.loop-m.m - 1 in
+    let next : c.loop-m.m ≡ n + 1 = omega arith in
+    let one_more : n + 1 ≡ c.loop-m.m + 1 - 1 = omega arith in
+    let h = c.in_ok-add_all.ensures in
+    let grows = subst (λ m. Grows c.loop-m.dependents m c.add_all.new.self) next h.grows in
+    let added = λ (i : ℕ) (there : Contains (needs_of c.args.needs.now (n + 1)) i).
+    subst (λ m. Contains (needs_of c.add_all.new.self i) m) next
+    (h.added i (subst (λ xs. Contains xs i) (sym c.of.ensures.needs) (subst (λ m. Contains (needs_of c.args.needs.now m) i) (sym next) there))) in
+    subst (λ m. AreDependents c.args.needs.now c.add_all.new.self m) one_more
+    (dependents_more c.args.needs.now c.loop-m.dependents c.add_all.new.self n c.loop-m.invariant grows added)
+
+pub returns : goal.returns
+returns c =
+    let all : c.loop-m.m - 1 ≡ length c.args.needs.now = omega arith in
+    subst (λ n. AreDependents c.args.needs.now c.loop-m.dependents n) all c.loop-m.invariant
