@@ -1,0 +1,12 @@
+pub mod LineLaws
+pub mod WalkLaws
+pub mod SlotLaws
+pub mod PlanLaws
+pub mod FirstLaws
+pub mod TextLaws
+pub mod CrowdLaws
+pub mod PlaceLaws
+pub mod OverlapLaws
+pub mod VerdictLaws
+pub mod LinkLaws
+pub mod PromiseLaws

@@ -1,0 +1,49 @@
+-- Chains whose neighbours are ordered pairs.
+use Rattle.std.proofs.Common.{◌≡◌, ℕ, suc, ◌+◌, ◌-◌, ◌<◌, ◌≤◌, List, [], ◌∷◌, length, All, arith, inl, inr, refl, subst}
+use Rattle.std.proofs.lemmas.Bool.{cases_lt}
+use Rattle.waff_plan.specs.Chain.{IsChain, LinksOn}
+use Rattle.waff_plan.specs.Work.{IsNumber, Work}
+use Rattle.waff_check.specs.Faults.{AreLinked, IsBroken, link_at}
+use Rattle.waff_check.proofs.FirstLaws.{NoneBelow}
+use Rattle.waff_check.proofs.SlotLaws.{All-first, All-others}
+
+module _ (before : ℕ → ℕ → Type 0) where
+  -- the neighbours at the places below n
+  abbrev pub LinkedBelow : List ℕ → ℕ → Type 0
+  LinkedBelow chain n = (place : ℕ) → 2 ≤ place → place < n → before (link_at chain (place - 1)) (link_at chain place)
+
+  pub none-broken : (chain : List ℕ) (n : ℕ) → LinkedBelow chain n → NoneBelow (IsBroken before chain) n
+  none-broken chain n linked m lt h = h.broken (linked m h.from lt)
+
+  pub linked-more : (chain : List ℕ) (n : ℕ) → LinkedBelow chain n → before (link_at chain (n - 1)) (link_at chain n) → LinkedBelow chain (n + 1)
+  linked-more chain n linked here place from lt = elim (cases_lt place n) [
+    | inl less ↦ linked place from less
+    | inr more ↦ (let e : n ≡ place = omega arith in subst (λ p. before (link_at chain (p - 1)) (link_at chain p)) e here)
+  ]
+
+  pub all-linked : (chain : List ℕ) (n : ℕ) → length chain < n → LinkedBelow chain n → AreLinked before chain
+  all-linked chain n all linked place from to = linked place from (omega arith)
+
+  -- a place of a longer chain
+  link-more : (m : ℕ) (xs : List ℕ) (p q : ℕ) → 1 ≤ p → q ≡ p + 1 → link_at (m ∷ xs) q ≡ link_at xs p
+  link-more m xs p q from is = let e : q - 1 ≡ suc (p - 1) = omega arith in rw e refl
+
+  others-linked : (m : ℕ) (xs : List ℕ) → AreLinked before (m ∷ xs) → AreLinked before xs
+  others-linked m xs linked place from to =
+      let pair = linked (place + 1) (omega arith) (omega arith) in
+      let one = link-more m xs (place - 1) (place + 1 - 1) (omega arith) (omega arith) in
+      let two = link-more m xs place (place + 1) (omega arith) refl in
+      rw (one, two) at pair
+
+  -- messages whose neighbours are ordered pairs are a chain
+  pub is-chain : (work : Work) (chain : List ℕ) → AreLinked before chain → All (IsNumber work) chain → IsChain before work chain
+  is-chain work [] linked numbers = tt
+  is-chain work (m ∷ rest) linked numbers = on m rest linked numbers
+    where
+      on : (m : ℕ) (rest : List ℕ) → AreLinked before (m ∷ rest) → All (IsNumber work) (m ∷ rest) → LinksOn before work m rest
+      on m [] linked numbers = All-first (IsNumber work) (m ∷ []) [] m refl numbers
+      on m (next ∷ rest) linked numbers = (
+        All-first (IsNumber work) (m ∷ next ∷ rest) (next ∷ rest) m refl numbers,
+        linked 2 (omega arith) (omega arith),
+        on next rest (others-linked m (next ∷ rest) linked) (All-others (IsNumber work) (m ∷ next ∷ rest) (next ∷ rest) m refl numbers),
+      )

@@ -1,0 +1,22 @@
+-- What follows from the verdict.
+use Rattle.std.proofs.Common.{subst}
+use Rattle.waff_check.specs.Verdicts.{IsVerdict, claim_of}
+use Rattle.waff_check.proofs.PromiseLaws.{bound, chain-of, faultless-of, obeys, one-at-a-time, shortest, worker-plan}
+use Rattle.waff_check.proofs.checking.check.Goals as goal
+
+pub returns : goal.returns
+returns g c =
+    let claim = claim_of c.args.tree.now c.args.assigned.now c.args.trace.now.messages c.args.given.now in
+    let given = c.len-rows.ensures.given in
+    let rows = c.requires.rows in
+    let v = c.in_ok-verdict.verdict in
+    let h = c.in_ok-verdict.ensures in
+    record {
+      verdict = h;
+      obeys = λ a. obeys claim (faultless-of claim v h a);
+      worker_plan = λ a. worker-plan claim (faultless-of claim v h a);
+      one_at_a_time = λ a. one-at-a-time claim (faultless-of claim v h a);
+      chain = λ a. chain-of claim given rows (faultless-of claim v h a);
+      shortest = λ e. shortest claim given rows (subst (IsVerdict claim) e h);
+      bound = λ e. bound claim given rows (subst (IsVerdict claim) e h);
+    }

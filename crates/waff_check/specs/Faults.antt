@@ -1,0 +1,110 @@
+-- What may be wrong with a plan that is given: one definition a fault. `before i j` says that message j starts only when
+-- message i has finished.
+use Rattle.std.specs.Prelude.{◌≡◌, ◌≢◌, ◌⊎◌, ℕ, ◌+◌, ◌-◌, ◌*◌, ◌<◌, ◌≤◌, true, List, length, slice_index, Option, Some, None}
+use Rattle.waff_plan.specs.Work.{Work, IsNumber, finish_of, length_of, total_of}
+use Rattle.waff_plan.specs.Workers.{running, runs_at}
+use Rattle.waff_plan.specs.Chain.{chain_cost, chain_release}
+use Rattle.waff_check.specs.Given.{SummaryLines}
+use Rattle.waff_check.specs.declared.closing.Closing.{Closing}
+
+-- n is the least number that P holds of
+pub record IsLeastOf (P : ℕ → Type 0) (n : ℕ) : Type 0 where
+  pub holds : P n
+  pub least : (m : ℕ) → P m → n ≤ m
+
+-- P holds of no number
+abbrev pub NoneOf : (ℕ → Type 0) → Type 0
+NoneOf P = (n : ℕ) → P n → ⊥
+
+-- an ordered pair the second message of which starts before the first has finished
+pub record Overlaps (before : ℕ → ℕ → Type 0) (work : Work) (start : ℕ → ℕ) (i j : ℕ) : Type 0 where
+  pub ordered : before i j
+  pub early : start j < finish_of work start i
+
+-- the least first message of such a pair, and the least second message with it
+pub record IsFirstOverlap (before : ℕ → ℕ → Type 0) (work : Work) (start : ℕ → ℕ) (first second : ℕ) : Type 0 where
+  pub least_second : IsLeastOf (Overlaps before work start first) second
+  pub least_first : (i j : ℕ) → Overlaps before work start i j → first ≤ i
+
+-- more messages run at the tick t than there are workers
+abbrev pub IsCrowded : Work → (ℕ → ℕ) → Option ℕ → ℕ → Type 0
+IsCrowded work start None t = ⊥
+IsCrowded work start (Some k) t = k < running work start t
+
+-- two messages run at a common tick
+abbrev pub RunTogether : Work → (ℕ → ℕ) → ℕ → ℕ → Type 0
+RunTogether work start i j = (t : ℕ) × (runs_at work start t i ≡ true) × (runs_at work start t j ≡ true)
+
+-- message i, of a lower number than n, has the worker w and runs at a tick at which n runs
+pub record IsTaken (work : Work) (start : ℕ → ℕ) (worker : ℕ → Option ℕ) (w n i : ℕ) : Type 0 where
+  pub from : 1 ≤ i
+  pub earlier : i < n
+  pub same : worker i ≡ Some w
+  pub together : RunTogether work start i n
+
+-- the worker w of message n, of k workers, is none of them, or is taken
+abbrev pub IsWrong : Work → (ℕ → ℕ) → (ℕ → Option ℕ) → ℕ → ℕ → ℕ → Type 0
+IsWrong work start worker k n w = (w < 1) ⊎ ((k < w) ⊎ ((i : ℕ) × IsTaken work start worker w n i))
+
+-- what a row says of the worker of message n is wrong: with workers, that it has none, or a wrong one; without, that it has one
+abbrev pub IsMisplaced : Work → (ℕ → ℕ) → (ℕ → Option ℕ) → Option ℕ → ℕ → Option ℕ → Type 0
+IsMisplaced work start worker None n None = ⊥
+IsMisplaced work start worker None n (Some w) = Unit {0}
+IsMisplaced work start worker (Some k) n None = Unit {0}
+IsMisplaced work start worker (Some k) n (Some w) = IsWrong work start worker k n w
+
+-- a message whose row tells a wrong worker
+pub record HasWrongWorker (work : Work) (start : ℕ → ℕ) (worker : ℕ → Option ℕ) (workers : Option ℕ) (n : ℕ) : Type 0 where
+  pub number : IsNumber work n
+  pub wrong : IsMisplaced work start worker workers n (worker n)
+
+-- a message whose row tells another name than its affinity has
+pub record HasWrongName (work : Work) (told name : ℕ → List ℕ) (n : ℕ) : Type 0 where
+  pub number : IsNumber work n
+  pub wrong : told n ≢ name n
+
+-- a message whose row tells another finish than its start and its cost make
+pub record HasWrongFinish (work : Work) (start told : ℕ → ℕ) (n : ℕ) : Type 0 where
+  pub number : IsNumber work n
+  pub wrong : told n ≢ finish_of work start n
+
+-- a message whose row tells a start below its release
+pub record StartsEarly (work : Work) (start : ℕ → ℕ) (n : ℕ) : Type 0 where
+  pub number : IsNumber work n
+  pub early : start n < work.release n
+
+-- the numbers behind the chain of a summary, as the chain makes them: where all releases are 0, as in a trace of the first
+-- version, the release is 0
+abbrev pub closing_for : Option ℕ → Work → (ℕ → ℕ) → List ℕ → Closing
+closing_for None work start chain = record {
+  release = chain_release work chain;
+  cost = chain_cost work chain;
+  left = length_of work start;
+  right = chain_release work chain + chain_cost work chain;
+}
+closing_for (Some k) work start chain = record {
+  release = chain_release work chain;
+  cost = chain_cost work chain;
+  left = k * length_of work start;
+  right = total_of work + k * chain_release work chain + (k - 1) * chain_cost work chain;
+}
+
+-- the numbers of a summary are those of the trace, the starts and the chain
+pub record HasTotals (work : Work) (start : ℕ → ℕ) (summary : SummaryLines) : Type 0 where
+  pub total : summary.total ≡ total_of work
+  pub length : summary.length ≡ length_of work start
+  pub closing : summary.closing ≡ closing_for summary.workers work start summary.chain
+
+-- the message at a place of a chain, from 1
+abbrev pub link_at : List ℕ → ℕ → ℕ
+link_at chain place = slice_index chain (place - 1)
+
+-- at this place of a chain, from 2 on, stands a message that is no ordered pair with the one before it
+pub record IsBroken (before : ℕ → ℕ → Type 0) (chain : List ℕ) (place : ℕ) : Type 0 where
+  pub from : 2 ≤ place
+  pub to : place ≤ length chain
+  pub broken : before (link_at chain (place - 1)) (link_at chain place) → ⊥
+
+-- each message of a chain and the next one are an ordered pair
+abbrev pub AreLinked : (ℕ → ℕ → Type 0) → List ℕ → Type 0
+AreLinked before chain = (place : ℕ) → 2 ≤ place → place ≤ length chain → before (link_at chain (place - 1)) (link_at chain place)

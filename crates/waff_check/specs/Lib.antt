@@ -1,0 +1,12 @@
+pub mod Refusals
+pub mod Fields
+pub mod Rows
+pub mod Given
+pub mod Records
+pub mod Summaries
+pub mod PlanTexts
+pub mod Faults
+pub mod Crowds
+pub mod Searches
+pub mod Verdicts
+pub mod Promises

@@ -1,0 +1,168 @@
+//! The check of a plan that is given.
+
+ghost use Rattle.std.specs.Prelude.{◌≡◌, ◌<◌, length, All, IfOk, IfSome};
+ghost use Rattle.waff_plan.specs.Timetable.{timings_of};
+ghost use Rattle.waff_plan.specs.Timing.{start_of, work_of};
+ghost use Rattle.waff_check.specs.Given.{IsListed, IsWorkers};
+ghost use Rattle.waff_check.specs.Verdicts.{IsPraise, IsVerdict, claim_of, starts_of};
+ghost use Rattle.waff_check.specs.Promises.{PromisesBound, PromisesChain, PromisesObeys, PromisesOneAtATime, PromisesShortest, PromisesWorkerPlan};
+
+use crate::crowd::crowded;
+use crate::given::GivenPlan;
+use crate::links::broken_link;
+use crate::overlap::first_overlap;
+use crate::summary::Summary;
+use crate::told::{early_start, wrong_finish, wrong_name};
+use crate::totals::{closing, has_totals};
+use crate::verdict::Verdict;
+use crate::worker::wrong_worker;
+use std::alloc::{AllocError, Global};
+use std::thread::Threads;
+use waff_assign::Assigned;
+use waff_model::{Trace, Tree};
+use waff_plan::Plan;
+
+// The plan in which the messages of the trace start as the rows tell.
+fn told_plan(alloc: Global, trace: &Trace, given: &GivenPlan) -> Result<Plan, AllocError>
+    requires { length given.now.rows ≡ length trace.now.messages }
+    ensures timings { IfOk result (λ plan. plan.timings ≡ timings_of trace.now.messages) }
+    ensures starts { IfOk result (λ plan. plan.starts ≡ starts_of given.now) }
+{
+    let starts = given.starts(alloc)?;
+    Plan::of_starts(alloc, trace, starts.as_slice())
+}
+
+/// The verdict on a plan that is given for the messages of a trace, whose affinities are assigned: the first fault of the first kind
+/// that there is, or else how good the plan is. The pairs of messages are tested in threads.
+pub fn check<R: Threads + Sync>(
+    rt: &R,
+    alloc: Global,
+    tree: &Tree,
+    assigned: &Assigned,
+    trace: &Trace,
+    given: &GivenPlan,
+) -> Result<Verdict, AllocError>
+    requires lengths { length trace.now.messages ≡ length assigned.now }
+    requires rows { length given.now.rows ≡ length trace.now.messages }
+    requires version { given.now.version ≡ trace.now.version }
+    requires known { All (λ a. a < length tree.now) assigned.now }
+    ensures verdict { IfOk result (IsVerdict (claim_of tree.now assigned.now trace.now.messages given.now)) }
+    ensures obeys { IfOk result (PromisesObeys (claim_of tree.now assigned.now trace.now.messages given.now)) }
+    ensures worker_plan { IfOk result (PromisesWorkerPlan (claim_of tree.now assigned.now trace.now.messages given.now)) }
+    ensures one_at_a_time { IfOk result (PromisesOneAtATime (claim_of tree.now assigned.now trace.now.messages given.now)) }
+    ensures chain { IfOk result (PromisesChain (claim_of tree.now assigned.now trace.now.messages given.now)) }
+    ensures shortest { IfOk result (PromisesShortest (claim_of tree.now assigned.now trace.now.messages given.now)) }
+    ensures bound { IfOk result (PromisesBound (claim_of tree.now assigned.now trace.now.messages given.now)) }
+{
+    let _rows = given.len();
+    let verdict = find(rt, alloc, tree, assigned, trace, given)?;
+    Ok(verdict)
+}
+
+// The verdict: each fault is looked for where no earlier one is there.
+fn find<R: Threads + Sync>(
+    rt: &R,
+    alloc: Global,
+    tree: &Tree,
+    assigned: &Assigned,
+    trace: &Trace,
+    given: &GivenPlan,
+) -> Result<Verdict, AllocError>
+    requires lengths { length trace.now.messages ≡ length assigned.now }
+    requires rows { length given.now.rows ≡ length trace.now.messages }
+    requires known { All (λ a. a < length tree.now) assigned.now }
+    ensures { IfOk result (IsVerdict (claim_of tree.now assigned.now trace.now.messages given.now)) }
+{
+    let plan = told_plan(alloc, trace, given)?;
+    let workers = given.workers();
+    if let Some((first, second)) = first_overlap(rt, tree, assigned, &plan) {
+        return Ok(Verdict::Overlap { first, second });
+    }
+    if let Some(tick) = crowded(&plan, workers) {
+        return Ok(Verdict::TooManyAt { tick });
+    }
+    if let Some(message) = wrong_worker(&plan, given, workers) {
+        return Ok(Verdict::Worker { message });
+    }
+    if let Some(message) = wrong_name(tree, assigned, &plan, given) {
+        return Ok(Verdict::Affinity { message });
+    }
+    if let Some(message) = wrong_finish(&plan, given) {
+        return Ok(Verdict::Finish { message });
+    }
+    if !has_totals(trace, &plan, given.summary()) {
+        return Ok(Verdict::Totals);
+    }
+    if let Some(place) = broken_link(tree, assigned, given.chain()) {
+        return Ok(Verdict::NotAChain { place });
+    }
+    if let Some(message) = early_start(&plan) {
+        return Ok(Verdict::Early { message });
+    }
+    Ok(praise(trace, &plan, given.summary()))
+}
+
+// How good a plan without a fault is.
+fn praise(trace: &Trace, plan: &Plan, summary: &Summary) -> Verdict
+    requires timings { plan.now.timings ≡ timings_of trace.now.messages }
+    requires chain { IsListed (length trace.now.messages) summary.now.chain }
+    requires workers { IfSome summary.now.workers IsWorkers }
+    ensures { IsPraise (work_of plan.now.timings) (start_of plan.now.starts) summary.now result }
+{
+    let closing = closing(trace, plan, summary.workers, &summary.chain);
+    if closing.release + closing.cost == plan.length() {
+        return Verdict::Shortest;
+    }
+    if summary.workers.is_some() && closing.left <= closing.right {
+        return Verdict::WithinBound;
+    }
+    Verdict::Obeys
+}
+
+#[cfg(test)]
+mod tests {
+    use super::*;
+    use crate::plan_text::read_plan;
+    use std::test::Fail;
+    use waff_assign::assignment::assign;
+    use waff_model::{Kind, Layout, MapSpec, SpaceSpec, Text, Texts, TreeBuilder, Version};
+
+    // One affinity, and a space of one cell.
+    fn layout(alloc: Global) -> Result<Layout, Fail> {
+        let mut builder = TreeBuilder::new(alloc);
+        builder.add("S", None)?;
+        let mut to = Texts::new(alloc);
+        to.push(Text::of(alloc, "S")?)?;
+        let space = SpaceSpec {
+            name: Text::of(alloc, "f")?,
+            size: 1,
+        };
+        let map = MapSpec {
+            space: Text::of(alloc, "f")?,
+            unit: 1,
+            to,
+        };
+        let tree = builder.build()?;
+        Ok(Layout::new(alloc, Kind::Classical, tree, &[space], &[map])?)
+    }
+
+    // The verdict on a text for the trace without messages.
+    fn verdict_on<R: Threads + Sync>(rt: &R, alloc: Global, text: &str) -> Result<Verdict, Fail> {
+        let layout = layout(alloc)?;
+        let trace = Trace::new(alloc, &layout)?;
+        let assigned = assign(alloc, &layout, &trace)?;
+        let given = read_plan(alloc, Version::V1, 0, text.as_bytes())?;
+        Ok(check(rt, alloc, layout.tree(), &assigned, &trace, &given)?)
+    }
+
+    #[test]
+    fn tells_verdicts_on_no_message(rt: HostRuntime) -> Result<(), Fail> {
+        let whole =
+            "message,affinity,start,finish,worker\nworkers,64\ntotal,0\nlength,0\nchain,\ncost,0\nbound,0,0\n";
+        assert_eq!(rt; verdict_on(&rt, rt.alloc(), whole)?, Verdict::Shortest);
+        let more =
+            "message,affinity,start,finish,worker\nworkers,-\ntotal,1\nlength,0\nchain,\ncost,0\nbound,0,0\n";
+        assert_eq!(rt; verdict_on(&rt, rt.alloc(), more)?, Verdict::Totals);
+        Ok(())
+    }
+}

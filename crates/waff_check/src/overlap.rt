@@ -1,0 +1,91 @@
+//! Ordered pairs of which the second message starts too early.
+
+ghost use Rattle.std.specs.Prelude.{◌≡◌, ◌+◌, ◌<◌, ◌≤◌, ◌↔◌, ℕ, All, IfSome, IsTrue, MatchOption, length};
+ghost use Rattle.waff_assign.specs.Order.{IsOrdered};
+ghost use Rattle.waff_plan.specs.Timing.{start_of, work_of};
+ghost use Rattle.waff_check.specs.Searches.{HasOverlap, IsFirstPlace, IsSearchable};
+ghost use Rattle.waff_check.specs.Faults.{IsFirstOverlap, IsLeastOf, NoneOf, Overlaps};
+
+use rayon::prelude::*;
+use std::thread::Threads;
+use waff_assign::{Assigned, is_ordered};
+use waff_model::Tree;
+use waff_plan::Plan;
+
+// Whether messages `i` and `j` are an ordered pair of which `j` starts before `i` has finished.
+fn overlaps(tree: &Tree, assigned: &Assigned, plan: &Plan, i: u32, j: u32) -> bool
+    requires lengths { length plan.now.timings ≡ length assigned.now }
+    requires known { All (λ a. a < length tree.now) assigned.now }
+    requires from { 1 ≤ i }
+    requires first { i ≤ length assigned.now }
+    requires to { 1 ≤ j }
+    requires second { j ≤ length assigned.now }
+    ensures { IsTrue result ↔ Overlaps (IsOrdered tree.now assigned.now) (work_of plan.now.timings) (start_of plan.now.starts) i j }
+{
+    plan.start(j) < plan.finish(i) && is_ordered(tree, assigned, i, j)
+}
+
+// The least message with which message `i` overlaps.
+fn second_of(tree: &Tree, assigned: &Assigned, plan: &Plan, i: u32) -> Option<u32>
+    requires lengths { length plan.now.timings ≡ length assigned.now }
+    requires known { All (λ a. a < length tree.now) assigned.now }
+    requires from { 1 ≤ i }
+    requires to { i ≤ length assigned.now }
+    ensures { MatchOption result
+        (NoneOf (Overlaps (IsOrdered tree.now assigned.now) (work_of plan.now.timings) (start_of plan.now.starts) i))
+        (IsLeastOf (Overlaps (IsOrdered tree.now assigned.now) (work_of plan.now.timings) (start_of plan.now.starts) i)) }
+{
+    let messages = assigned.len();
+    for j in i + 1..messages + 1 {
+        if overlaps(tree, assigned, plan, i, j) {
+            return Some(j);
+        }
+    }
+    None
+}
+
+// The first place, from 0, of a message that overlaps with another one. A thread looks at one message after another.
+fn first_place<R: Threads + Sync>(
+    rt: &R,
+    tree: &Tree,
+    assigned: &Assigned,
+    plan: &Plan,
+) -> Option<usize>
+    requires lengths { length plan.now.timings ≡ length assigned.now }
+    requires known { All (λ a. a < length tree.now) assigned.now }
+    ensures { IsFirstPlace (HasOverlap tree.now assigned.now plan.now.timings plan.now.starts) (length assigned.now) result }
+{
+    (0..assigned.len() as usize).into_par_iter().position_first(
+        rt,
+        |i: usize| -> bool
+            requires { IsSearchable tree.now assigned.now plan.now.timings i }
+            ensures { IsTrue result ↔ HasOverlap tree.entry.now assigned.entry.now plan.entry.now.timings plan.entry.now.starts i }
+        { second_of(tree, assigned, plan, i as u32 + 1).is_some() },
+    )
+}
+
+/// The first pair that overlaps: the least first message, and the least second message with it.
+pub(crate) fn first_overlap<R: Threads + Sync>(
+    rt: &R,
+    tree: &Tree,
+    assigned: &Assigned,
+    plan: &Plan,
+) -> Option<(u32, u32)>
+    requires lengths { length plan.now.timings ≡ length assigned.now }
+    requires known { All (λ a. a < length tree.now) assigned.now }
+    ensures { MatchOption result
+        ((i j : ℕ) → Overlaps (IsOrdered tree.now assigned.now) (work_of plan.now.timings) (start_of plan.now.starts) i j → ⊥)
+        (λ pair. IsFirstOverlap (IsOrdered tree.now assigned.now) (work_of plan.now.timings) (start_of plan.now.starts) pair.0 pair.1) }
+{
+    let _messages = assigned.len();
+    match first_place(rt, tree, assigned, plan) {
+        None => None,
+        Some(place) => {
+            let first = place as u32 + 1;
+            match second_of(tree, assigned, plan, first) {
+                Some(second) => Some((first, second)),
+                None => unreachable!("the place is that of an overlap"),
+            }
+        }
+    }
+}

@@ -1,0 +1,29 @@
+//! Verdicts.
+
+/// What a check finds of a plan that is given: the first fault of the first kind that there is, or else how good the plan is.
+/// Messages are numbered from 1, places of the chain too.
+#[derive(Clone, Copy, Debug, PartialEq, Eq)]
+pub enum Verdict {
+    /// An ordered pair of messages the second of which starts before the first has finished.
+    Overlap { first: u32, second: u32 },
+    /// More messages run at this tick than there are workers.
+    TooManyAt { tick: u64 },
+    /// The worker that the message's row tells is wrong.
+    Worker { message: u32 },
+    /// The message's row does not name its affinity.
+    Affinity { message: u32 },
+    /// The message's row does not tell the finish that its start and its cost make.
+    Finish { message: u32 },
+    /// A number of the summary is wrong.
+    Totals,
+    /// The message at this place of the chain and the one before it are no ordered pair.
+    NotAChain { place: u64 },
+    /// No fault; the plan obeys, and no more is known.
+    Obeys,
+    /// No fault, and no obeying plan is shorter.
+    Shortest,
+    /// No fault, and the length is within the bound for the workers.
+    WithinBound,
+    /// The message starts before its release.
+    Early { message: u32 },
+}
