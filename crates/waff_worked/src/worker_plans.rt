@@ -9,9 +9,9 @@ use std::alloc::Global;
 use std::process::Abort;
 use std::test::Fail;
 use waff_assign::assign;
-use waff_list::{list_chain, list_plan};
+use waff_list::{WorkerPlan, list_chain, list_plan};
 use waff_order::predecessors::needs;
-use waff_plan::{MAX_TICK, Plan};
+use waff_plan::{Chain, MAX_TICK, Plan};
 use waff_read::{read_hierarchy, read_trace};
 use waff_tool::plan_text;
 
@@ -33,30 +33,87 @@ fn tells(rt: &impl Abort, alloc: Global, trace: &str, k: u32, case: Case<'_>) ->
     requires some { 1 ≤ k }
     requires few { k ≤ MAX_WORKERS }
 {
-    let mut text = Vec::new(alloc);
-    plan_text(alloc, H1.as_bytes(), trace.as_bytes(), Some(k), &mut text)?;
-    assert_eq!(rt; text.as_slice(), case.text.as_bytes());
+    has_text(rt, alloc, trace, k, case.text)?;
+    let told = listed(alloc, trace, k)?;
+    assert_eq!(rt; told.starts.as_str(), case.starts);
+    assert_eq!(rt; told.workers.as_str(), case.workers);
+    assert_eq!(rt; told.order.as_str(), case.order);
+    assert_eq!(rt; told.length, case.length);
+    assert_eq!(rt; told.chain.as_str(), case.chain);
+    assert_eq!(rt; told.cost, case.cost);
+    assert_eq!(rt; told.release, case.release);
+    Ok(())
+}
+
+/// The text of the plan has to be this.
+fn has_text(rt: &impl Abort, alloc: Global, trace: &str, k: u32, text: &str) -> Result<(), Fail>
+    requires some { 1 ≤ k }
+    requires few { k ≤ MAX_WORKERS }
+{
+    let mut written = Vec::new(alloc);
+    plan_text(
+        alloc,
+        H1.as_bytes(),
+        trace.as_bytes(),
+        Some(k),
+        &mut written,
+    )?;
+    assert_eq!(rt; written.as_slice(), text.as_bytes());
+    Ok(())
+}
+
+/// What is told of a plan for workers.
+#[derive(Drop)]
+struct Told {
+    starts: String,
+    workers: String,
+    order: String,
+    length: u64,
+    chain: String,
+    cost: u64,
+    release: u64,
+}
+
+/// The plan of a trace for k workers under the hierarchical sample.
+fn listed(alloc: Global, trace: &str, k: u32) -> Result<Told, Fail>
+    requires some { 1 ≤ k }
+    requires few { k ≤ MAX_WORKERS }
+{
     let layout = read_hierarchy(alloc, H1.as_bytes())?;
     let trace = read_trace(alloc, &layout, trace.as_bytes())?;
     let assigned = assign(alloc, &layout, &trace)?;
     let needs = needs(alloc, layout.tree(), &assigned)?;
     let made = list_plan(alloc, &needs, &trace, k)?;
     let chain = list_chain(alloc, layout.tree(), &assigned, &made)?;
-    let mut starts = String::new(alloc);
-    let mut workers = String::new(alloc);
+    told_of(alloc, &made, &chain)
+}
+
+fn told_of(alloc: Global, made: &WorkerPlan, chain: &Chain) -> Result<Told, Fail> {
+    Ok(Told {
+        starts: starts(alloc, made)?,
+        workers: workers(alloc, made)?,
+        order: joined(alloc, made.order())?,
+        length: made.plan().length(),
+        chain: joined(alloc, chain.messages())?,
+        cost: chain.cost(),
+        release: chain.release(),
+    })
+}
+
+fn starts(alloc: Global, made: &WorkerPlan) -> Result<String, Fail> {
+    let mut words = String::new(alloc);
     for n in 1..made.plan().len() + 1 {
-        push_number(&mut starts, made.plan().start(n))?;
-        push_number(&mut workers, u64::from(made.worker(n)))?;
+        push_number(&mut words, made.plan().start(n))?;
     }
-    assert_eq!(rt; starts.as_str(), case.starts);
-    assert_eq!(rt; workers.as_str(), case.workers);
-    assert_eq!(rt; joined(alloc, made.order())?.as_str(), case.order);
-    assert_eq!(rt; made.workers(), k);
-    assert_eq!(rt; made.plan().length(), case.length);
-    assert_eq!(rt; joined(alloc, chain.messages())?.as_str(), case.chain);
-    assert_eq!(rt; chain.cost(), case.cost);
-    assert_eq!(rt; chain.release(), case.release);
-    Ok(())
+    Ok(words)
+}
+
+fn workers(alloc: Global, made: &WorkerPlan) -> Result<String, Fail> {
+    let mut words = String::new(alloc);
+    for n in 1..made.plan().len() + 1 {
+        push_number(&mut words, u64::from(made.worker(n)))?;
+    }
+    Ok(words)
 }
 
 /// The numbers, joined by spaces.
