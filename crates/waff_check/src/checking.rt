@@ -124,7 +124,7 @@ mod tests {
     use super::*;
     use crate::plan_text::read_plan;
     use std::test::Fail;
-    use waff_assign::assignment::assign;
+    use waff_assign::assign;
     use waff_model::{Kind, Layout, MapSpec, SpaceSpec, Text, Texts, TreeBuilder, Version};
 
     // One affinity, and a space of one cell.
