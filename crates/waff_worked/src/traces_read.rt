@@ -162,6 +162,9 @@ fn may_be_quoted_and_spaced(rt: HostRuntime) -> Result<(), Fail> {
     let trace = read_trace(alloc, &layout, text)?;
     assert_eq!(rt; trace.len(), 1);
     assert_eq!(rt; trace.message(1).name.as_str(), "m1");
+    let quoted = "message,cost,ops\r\n\"m1\",1,\"read f:0\"\r\n";
+    let told = unlimited(&rt, alloc, H1, quoted)?;
+    assert_eq!(rt; told.affinities.as_str(), "A0");
     assert_eq!(rt;
         fault(alloc, b"message,cost,ops\nm1,1,\"read\nf:0\"\n")?,
         Some(TraceError::Op { at: 2 })
