@@ -5,4 +5,5 @@ pub mod PlaceLemmas
 pub mod ShareLemmas
 pub mod ArrangeLemmas
 pub mod LayoutLemmas
+pub mod SpaceLemmas
 pub mod TraceLemmas

@@ -1,4 +1,4 @@
-use Rattle.std.specs.Prelude.{◌≢◌, ℕ, ◌/◌, ◌%◌, ◌<◌, ◌≤◌, IsTrue, List, length, Option, option_map, unwrap_or, slice_get, slice_index, position, sum_by, All, AllPairs}
+use Rattle.std.specs.Prelude.{◌≡◌, ◌≢◌, ℕ, ◌/◌, ◌%◌, ◌<◌, ◌≤◌, IsTrue, List, length, map, Option, option_map, unwrap_or, slice_get, slice_index, position, sum_by, All, AllPairs}
 use Rattle.std.specs.Str.{bytes_eq}
 use Rattle.waff_model.specs.Names.{is_name}
 use Rattle.waff_model.specs.Tree.{Node, IsTree}
@@ -18,6 +18,15 @@ pub record Hierarchy : Type 0 where
   pub kind : Kind
   pub tree : List Node
   pub spaces : List Space
+
+-- the names of spaces
+abbrev pub names_of : List Space → List (List ℕ)
+names_of spaces = map (λ space. space.name) spaces
+
+-- the same spaces: equal lists of names and of sizes
+pub record SameSpaces (spaces others : List Space) : Type 0 where
+  pub names : names_of spaces ≡ names_of others
+  pub sizes : map (λ space. space.size) spaces ≡ map (λ space. space.size) others
 
 -- the name of the space s
 abbrev pub name_at : List Space → ℕ → Option (List ℕ)

@@ -1,8 +1,10 @@
 //! Layouts: spaces of cells over a tree of affinities, and which affinity owns each cell.
 
-ghost use Rattle.std.specs.Prelude.{◌≡◌, ◌↔◌, ◌<◌, [], length, map, find, option_map, unwrap_or, None, Some, IsTrue, IfOk, IfErr, IfSome, OnOk};
+ghost use Rattle.std.specs.List.{list_all, zip};
+ghost use Rattle.std.specs.Str.{bytes_eq};
+ghost use Rattle.std.specs.Prelude.{◌≡◌, ◌↔◌, ◌<◌, ◌==◌, ◌&&◌, [], length, map, find, option_map, unwrap_or, None, Some, IsTrue, IfOk, IfErr, IfSome, OnOk};
 ghost use Rattle.waff_model.specs.Tree.{number_of};
-ghost use Rattle.waff_model.specs.Layout.{IsLayout, IsCell, name_at, size_at, space_named, owner_of};
+ghost use Rattle.waff_model.specs.Layout.{IsLayout, IsCell, SameSpaces, name_at, size_at, space_named, owner_of};
 ghost use Rattle.waff_model.specs.LayoutOf.{owners_of, map_of, space_of, hierarchy_of};
 ghost use Rattle.waff_model.specs.LayoutRefusal.{layout_refusal};
 
@@ -111,6 +113,13 @@ impl Layout {
         &self.spaces
     }
 
+    /// Whether both layouts have the same spaces: equal lists of names and of sizes.
+    pub fn same_spaces(&self, other: &Layout) -> bool
+        ensures { IsTrue result ↔ SameSpaces self.now.spaces other.now.spaces }
+    {
+        are_same(&self.spaces, &other.spaces)
+    }
+
     /// Whether the cell lies in one of the spaces.
     pub fn has(&self, cell: Cell) -> bool
         ensures { IsTrue result ↔ IsCell self.now.spaces cell }
@@ -130,6 +139,20 @@ impl Layout {
         let space = &self.spaces[cell.space as usize];
         AffinityId(space.owner(cell.index))
     }
+}
+
+/// Whether the spaces have the same names and sizes.
+fn are_same(spaces: &[Space], others: &[Space]) -> bool
+    ensures { IsTrue result ↔ SameSpaces spaces.now others.now }
+{
+    spaces.len() == others.len() && each_is_same(spaces, others)
+}
+
+fn each_is_same(spaces: &[Space], others: &[Space]) -> bool
+    ensures { result ≡ list_all (λ pair. bytes_eq pair.0.name pair.1.name && pair.0.size == pair.1.size) (zip spaces.now others.now) }
+{
+    spaces.iter().zip(others).all(|(space, other)| space.name() == other.name()
+        && space.size() == other.size())
 }
 
 /// The spaces with their maps.
@@ -269,6 +292,18 @@ mod tests {
         assert_eq!(rt; layout.owner(fifth).0, 1);
         assert!(rt; !layout.has(Cell { space: 1, index: 4 }));
         assert!(rt; !layout.has(Cell { space: 2, index: 0 }));
+        Ok(())
+    }
+
+    #[test]
+    fn tells_whether_spaces_are_the_same(rt: HostRuntime) -> Result<(), Fail> {
+        let alloc = rt.alloc();
+        let maps: [Map; 2] = [("g", 1, &["root"]), ("f", 2, &["v1", "v2"])];
+        let others: [Map; 2] = [("f", 1, &["v2"]), ("g", 4, &["v1"])];
+        let one = layout(alloc, &[("f", 8), ("g", 4)], &maps)??;
+        assert!(rt; one.same_spaces(&layout(alloc, &[("f", 8), ("g", 4)], &others)??));
+        assert!(rt; !one.same_spaces(&layout(alloc, &[("g", 4), ("f", 8)], &maps)??));
+        assert!(rt; !one.same_spaces(&layout(alloc, &[("f", 8), ("g", 5)], &maps)??));
         Ok(())
     }
 
