@@ -78,5 +78,8 @@ abbrev pub Refuses : List ℕ → List ℕ → ToolError → Type 0
 Refuses hierarchy_file trace_file (tool.Hier file fault) = (file ≡ 1) × (hierarchy_of hierarchy_file ≡ Err fault)
 Refuses hierarchy_file trace_file (tool.Trace fault) =
     (layout : Hierarchy) × (hierarchy_of hierarchy_file ≡ Ok layout) × (trace_of layout.spaces trace_file ≡ Err fault)
+Refuses hierarchy_file trace_file (tool.PlanText fault) = ⊥
+Refuses hierarchy_file trace_file tool.SpacesDiffer = ⊥
+Refuses hierarchy_file trace_file tool.ModelsSame = ⊥
 Refuses hierarchy_file trace_file tool.Write = Unit {0}
 Refuses hierarchy_file trace_file tool.Memory = Unit {0}

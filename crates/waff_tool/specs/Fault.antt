@@ -10,6 +10,8 @@ use Rattle.waff_read.specs.declared.hier_error.Key.{Key}
 use Rattle.waff_read.specs.declared.hier_error.Key.TheVariants as key
 use Rattle.waff_read.specs.declared.trace_fault.TraceError.{TraceError}
 use Rattle.waff_read.specs.declared.trace_fault.TraceError.TheVariants as trace
+use Rattle.waff_check.specs.declared.refusal.PlanTextError.{PlanTextError}
+use Rattle.waff_check.specs.declared.refusal.PlanTextError.TheVariants as text
 use Rattle.waff_tool.specs.declared.fault.ToolError.{ToolError}
 use Rattle.waff_tool.specs.declared.fault.ToolError.TheVariants as tool
 
@@ -74,16 +76,33 @@ trace_fault (trace.TooManyMessages at) = codes "TooManyMessages" ++ and_number a
 trace_fault trace.Memory = codes "Memory"
 trace_fault (trace.Release at) = codes "Release" ++ and_number at
 
+-- what is said of the text of a plan
+abbrev pub plan_text_fault : PlanTextError → List ℕ
+plan_text_fault (text.Csv at) = codes "Csv" ++ and_number at
+plan_text_fault (text.Header at) = codes "Header" ++ and_number at
+plan_text_fault (text.Row at) = codes "Row" ++ and_number at
+plan_text_fault (text.Missing message) = codes "Missing" ++ and_number message
+plan_text_fault (text.Twice at) = codes "Twice" ++ and_number at
+plan_text_fault (text.Summary at) = codes "Summary" ++ and_number at
+plan_text_fault (text.TooLarge at) = codes "TooLarge" ++ and_number at
+plan_text_fault text.Memory = codes "Memory"
+
 -- the line that tells of an error
 abbrev pub fault_line : ToolError → List ℕ
 fault_line (tool.Hier file fault) = codes "waff: Hier." ++ hierarchy_fault file fault
 fault_line (tool.Trace fault) = codes "waff: Trace." ++ trace_fault fault
+fault_line (tool.PlanText fault) = codes "waff: PlanText." ++ plan_text_fault fault
+fault_line tool.SpacesDiffer = codes "waff: SpacesDiffer"
+fault_line tool.ModelsSame = codes "waff: ModelsSame"
 fault_line tool.Write = codes "waff: Write"
 fault_line tool.Memory = codes "waff: Memory"
 
--- the exit status: 3 where a file is refused, 4 where a text could not be written or memory was refused
+-- the exit status: 3 where the files are refused, 4 where a text could not be written or memory was refused
 abbrev pub status_of : ToolError → ℕ
 status_of (tool.Hier file fault) = 3
 status_of (tool.Trace fault) = 3
+status_of (tool.PlanText fault) = 3
+status_of tool.SpacesDiffer = 3
+status_of tool.ModelsSame = 3
 status_of tool.Write = 4
 status_of tool.Memory = 4

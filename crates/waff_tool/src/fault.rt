@@ -1,12 +1,13 @@
 //! Why a command gave no text, and how that is told.
 ghost use Rattle.std.specs.Prelude.{◌≡◌, IfOk};
 ghost use Rattle.waff_tool.specs.Fault.{fault_line, status_of};
-ghost use Rattle.waff_tool.specs.ToolErrors.{hierarchy_error, trace_error};
+ghost use Rattle.waff_tool.specs.ToolErrors.{hierarchy_error, plan_text_error, trace_error};
 ghost use Rattle.waff_tool.specs.declared.fault.ToolError.TheVariants.{Memory};
 
-use crate::fault_names::{Hierarchy, Trace};
+use crate::fault_names::{Hierarchy, PlanText, Trace};
 use std::alloc::{AllocError, Global};
 use thiserror::Error;
+use waff_check::PlanTextError;
 use waff_model::Text;
 use waff_read::{HierError, TraceError};
 
@@ -20,6 +21,15 @@ pub enum ToolError {
     /// The trace is refused. The fault is never want of memory.
     #[error("trace: {0}")]
     Trace(TraceError),
+    /// The text of a plan is refused. The fault is never want of memory.
+    #[error("plan text: {0}")]
+    PlanText(PlanTextError),
+    /// The hierarchies that are compared have other spaces.
+    #[error("the hierarchies have other spaces")]
+    SpacesDiffer,
+    /// The hierarchies that are compared are of one model.
+    #[error("the hierarchies are of one model")]
+    ModelsSame,
     /// The writer gave an error, or took no byte.
     #[error("the text could not be written")]
     Write,
@@ -46,6 +56,17 @@ impl From<TraceError> for ToolError {
     }
 }
 
+impl From<PlanTextError> for ToolError {
+    ghost from_gives = { λ fault error. error ≡ plan_text_error fault };
+
+    fn from(fault: PlanTextError) -> ToolError {
+        match fault {
+            PlanTextError::Memory => ToolError::Memory,
+            _ => ToolError::PlanText(fault),
+        }
+    }
+}
+
 impl ToolError {
     /// The error of a fault of the hierarchy of this number.
     pub(crate) fn of_hierarchy(file: u8, fault: HierError) -> ToolError
@@ -68,6 +89,9 @@ pub fn fault_text(alloc: Global, error: &ToolError) -> Result<Text, AllocError>
             Hierarchy { file, fault }
         )?,
         ToolError::Trace(fault) => format!(in alloc; "waff: Trace.{}", Trace(fault))?,
+        ToolError::PlanText(fault) => format!(in alloc; "waff: PlanText.{}", PlanText(fault))?,
+        ToolError::SpacesDiffer => return Text::of(alloc, "waff: SpacesDiffer"),
+        ToolError::ModelsSame => return Text::of(alloc, "waff: ModelsSame"),
         ToolError::Write => return Text::of(alloc, "waff: Write"),
         ToolError::Memory => return Text::of(alloc, "waff: Memory"),
     };
@@ -79,7 +103,11 @@ pub fn fault_status(error: &ToolError) -> u8
     ensures { result ≡ status_of error.now }
 {
     match error {
-        ToolError::Hier { .. } | ToolError::Trace(_) => 3,
+        ToolError::Hier { .. }
+        | ToolError::Trace(_)
+        | ToolError::PlanText(_)
+        | ToolError::SpacesDiffer
+        | ToolError::ModelsSame => 3,
         ToolError::Write | ToolError::Memory => 4,
     }
 }
@@ -134,11 +162,31 @@ mod tests {
                 "waff: Trace.Cost 2",
                 3,
             ),
+            (ToolError::SpacesDiffer, "waff: SpacesDiffer", 3),
+            (ToolError::ModelsSame, "waff: ModelsSame", 3),
             (ToolError::Write, "waff: Write", 4),
             (ToolError::Memory, "waff: Memory", 4),
         ] {
             assert_eq!(rt; fault_text(rt.alloc(), &error)?.as_str(), line);
             assert_eq!(rt; fault_status(&error), status);
+        }
+        Ok(())
+    }
+
+    #[test]
+    fn tells_of_faults_of_plan_texts(rt: HostRuntime) -> Result<(), AllocError> {
+        for (fault, line) in [
+            (PlanTextError::Csv { at: 2 }, "waff: PlanText.Csv 2"),
+            (PlanTextError::Header { at: 1 }, "waff: PlanText.Header 1"),
+            (PlanTextError::Row { at: 3 }, "waff: PlanText.Row 3"),
+            (PlanTextError::Missing { message: 3 }, "waff: PlanText.Missing 3"),
+            (PlanTextError::Twice { at: 5 }, "waff: PlanText.Twice 5"),
+            (PlanTextError::Summary { at: 13 }, "waff: PlanText.Summary 13"),
+            (PlanTextError::TooLarge { at: 9 }, "waff: PlanText.TooLarge 9"),
+        ] {
+            let error = ToolError::from(fault);
+            assert_eq!(rt; fault_text(rt.alloc(), &error)?.as_str(), line);
+            assert_eq!(rt; fault_status(&error), 3);
         }
         Ok(())
     }

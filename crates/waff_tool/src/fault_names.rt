@@ -1,8 +1,9 @@
 //! The names of faults, as fault lines have them.
 ghost use Rattle.std.specs.Prelude.{◌≡◌, Some};
-ghost use Rattle.waff_tool.specs.Fault.{hierarchy_fault, key_name, layout_error_name, trace_fault, tree_error_name};
+ghost use Rattle.waff_tool.specs.Fault.{hierarchy_fault, key_name, layout_error_name, plan_text_fault, trace_fault, tree_error_name};
 
 use std::fmt;
+use waff_check::PlanTextError;
 use waff_model::{LayoutError, TreeError};
 use waff_read::{HierError, Key, TraceError};
 
@@ -98,6 +99,27 @@ impl fmt::Display for Trace {
             TraceError::TooManyMessages { at } => write!(f, "TooManyMessages {at}"),
             TraceError::Memory => write!(f, "Memory"),
             TraceError::Release { at } => write!(f, "Release {at}"),
+        }
+    }
+}
+
+/// A fault of the text of a plan.
+#[derive(Clone, Copy)]
+pub struct PlanText(pub PlanTextError);
+
+impl fmt::Display for PlanText {
+    ghost output = { λ p. Some (plan_text_fault p.0) };
+
+    fn fmt<W: fmt::Write>(&self, f: &mut fmt::Formatter<W>) -> fmt::Result {
+        match self.0 {
+            PlanTextError::Csv { at } => write!(f, "Csv {at}"),
+            PlanTextError::Header { at } => write!(f, "Header {at}"),
+            PlanTextError::Row { at } => write!(f, "Row {at}"),
+            PlanTextError::Missing { message } => write!(f, "Missing {message}"),
+            PlanTextError::Twice { at } => write!(f, "Twice {at}"),
+            PlanTextError::Summary { at } => write!(f, "Summary {at}"),
+            PlanTextError::TooLarge { at } => write!(f, "TooLarge {at}"),
+            PlanTextError::Memory => write!(f, "Memory"),
         }
     }
 }
