@@ -6,4 +6,5 @@ pub mod Forward
 pub mod Latests
 pub mod Tables
 pub mod Planned
+pub mod OrderKept
 pub mod Linkings

@@ -9,11 +9,15 @@ pub record IsForward (before : ℕ → ℕ → Type 0) (work : Work) : Type 0 wh
   pub earlier : (i j : ℕ) → before i j → i < j
   pub to : (i j : ℕ) → before i j → j ≤ work.count
 
+-- no message starts before the finish of one that is before it
+abbrev pub KeepsOrder : (ℕ → ℕ → Type 0) → Work → (ℕ → ℕ) → Type 0
+KeepsOrder before work start = (i j : ℕ) → before i j → finish_of work start i ≤ start j
+
 -- an obeying plan: no message starts before its release, nor before the finish of one that is
 -- before it
 pub record Obeys (before : ℕ → ℕ → Type 0) (work : Work) (start : ℕ → ℕ) : Type 0 where
   pub released : (m : ℕ) → IsNumber work m → work.release m ≤ start m
-  pub ordered : (i j : ℕ) → before i j → finish_of work start i ≤ start j
+  pub ordered : KeepsOrder before work start
 
 -- the least obeying plan: in each other one every message starts at the same tick or later
 pub record IsLeast (before : ℕ → ℕ → Type 0) (work : Work) (start : ℕ → ℕ) : Type 0 where

@@ -6,6 +6,7 @@ pub mod laws;
 mod least;
 mod linked;
 mod links;
+pub mod ordered;
 pub mod printed;
 mod table;
 mod timetable;

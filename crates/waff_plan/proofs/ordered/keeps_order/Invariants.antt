@@ -1,0 +1,14 @@
+use Rattle.std.proofs.Common.{◌≡◌, ◌-◌, length}
+use Rattle.waff_plan.specs.Work.{finish_of}
+use Rattle.waff_plan.specs.Table.{IsTable}
+use Rattle.waff_plan.specs.Timing.{work_of, start_of}
+use Rattle.waff_plan.proofs.OrderKept.{KeepsOrderBelow}
+use Rattle.waff_plan.proofs.ordered.keeps_order.Given as goal
+
+abbrev pub invariant-loop-m : goal.invariant-loop-m
+invariant-loop-m l = record {
+  kept : KeepsOrderBelow l.tree l.assigned (work_of l.plan.timings) (start_of l.plan.starts) l.m;
+  table : IsTable l.tree l.assigned (finish_of (work_of l.plan.timings) (start_of l.plan.starts)) (l.m - 1) l.table.own.items l.table.under.items;
+  own : length l.table.own.items ≡ length l.tree;
+  under : length l.table.under.items ≡ length l.tree;
+}

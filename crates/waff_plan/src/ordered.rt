@@ -1,0 +1,48 @@
+//! Whether a plan keeps the order of the messages.
+
+ghost use Rattle.std.specs.Prelude.{◌≡◌, ◌<◌, ◌≤◌, ◌↔◌, length, All, IfOk, IfSome, IsTrue};
+ghost use Rattle.waff_assign.specs.Order.{IsOrdered};
+ghost use Rattle.waff_plan.specs.Obeys.{KeepsOrder};
+ghost use Rattle.waff_plan.specs.Timing.{work_of, start_of};
+
+use crate::Plan;
+use crate::latest::Latest;
+use crate::table::Table;
+use std::alloc::{AllocError, Global};
+use waff_assign::Assigned;
+use waff_model::Tree;
+
+/// Whether each message starts only when every earlier message that excludes it has finished. Each
+/// message is looked at once, with the affinities above its own.
+pub fn keeps_order(
+    alloc: Global,
+    tree: &Tree,
+    assigned: &Assigned,
+    plan: &Plan,
+) -> Result<bool, AllocError>
+    requires lengths { length plan.now.timings ≡ length assigned.now }
+    requires known { All (λ a. a < length tree.now) assigned.now }
+    ensures { IfOk result (λ kept. IsTrue kept ↔ KeepsOrder (IsOrdered tree.now assigned.now)
+        (work_of plan.now.timings) (start_of plan.now.starts)) }
+{
+    let mut table = Table::new(alloc, tree)?;
+    for m in 1..assigned.len() + 1 {
+        let affinity = assigned.of(m);
+        if !is_finished_by(table.latest(tree, affinity), plan.start(m)) {
+            return Ok(false);
+        }
+        let finish = plan.finish(m);
+        table.note(tree, affinity, Latest { finish, number: m });
+    }
+    Ok(true)
+}
+
+/// Whether the message, where there is one, has finished by a tick.
+fn is_finished_by(latest: Option<Latest>, tick: u64) -> bool
+    ensures { IsTrue result ↔ IfSome latest (λ l. l.finish ≤ tick) }
+{
+    match latest {
+        Some(latest) => latest.finish <= tick,
+        None => true,
+    }
+}
