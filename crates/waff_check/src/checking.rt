@@ -33,7 +33,7 @@ fn told_plan(alloc: Global, trace: &Trace, given: &GivenPlan) -> Result<Plan, Al
 }
 
 /// The verdict on a plan that is given for the messages of a trace, whose affinities are assigned: the first fault of the first kind
-/// that there is, or else how good the plan is. The pairs of messages are tested in threads.
+/// that there is, or else how good the plan is. The pairs of messages are looked at, in threads, only to name the first that overlaps.
 pub fn check<R: Threads + Sync>(
     rt: &R,
     alloc: Global,
@@ -75,7 +75,7 @@ fn find<R: Threads + Sync>(
 {
     let plan = told_plan(alloc, trace, given)?;
     let workers = given.workers();
-    if let Some((first, second)) = first_overlap(rt, tree, assigned, &plan) {
+    if let Some((first, second)) = first_overlap(rt, alloc, tree, assigned, &plan)? {
         return Ok(Verdict::Overlap { first, second });
     }
     if let Some(tick) = crowded(&plan, workers) {

@@ -1,16 +1,18 @@
 //! Ordered pairs of which the second message starts too early.
 
-ghost use Rattle.std.specs.Prelude.{◌≡◌, ◌+◌, ◌<◌, ◌≤◌, ◌↔◌, ℕ, All, IfSome, IsTrue, MatchOption, length};
+ghost use Rattle.std.specs.Prelude.{◌≡◌, ◌+◌, ◌<◌, ◌≤◌, ◌↔◌, ℕ, All, IfOk, IfSome, IsTrue, MatchOption, length};
 ghost use Rattle.waff_assign.specs.Order.{IsOrdered};
 ghost use Rattle.waff_plan.specs.Timing.{start_of, work_of};
 ghost use Rattle.waff_check.specs.Searches.{HasOverlap, IsFirstPlace, IsSearchable};
 ghost use Rattle.waff_check.specs.Faults.{IsFirstOverlap, IsLeastOf, NoneOf, Overlaps};
 
 use rayon::prelude::*;
+use std::alloc::{AllocError, Global};
 use std::thread::Threads;
 use waff_assign::{Assigned, is_ordered};
 use waff_model::Tree;
 use waff_plan::Plan;
+use waff_plan::ordered::keeps_order;
 
 // Whether messages `i` and `j` are an ordered pair of which `j` starts before `i` has finished.
 fn overlaps(tree: &Tree, assigned: &Assigned, plan: &Plan, i: u32, j: u32) -> bool
@@ -64,8 +66,8 @@ fn first_place<R: Threads + Sync>(
     )
 }
 
-/// The first pair that overlaps: the least first message, and the least second message with it.
-pub(crate) fn first_overlap<R: Threads + Sync>(
+// The first pair that overlaps, by a walk over the pairs.
+fn first_pair<R: Threads + Sync>(
     rt: &R,
     tree: &Tree,
     assigned: &Assigned,
@@ -88,4 +90,25 @@ pub(crate) fn first_overlap<R: Threads + Sync>(
             }
         }
     }
+}
+
+/// The first pair that overlaps: the least first message, and the least second message with it. The pairs are walked over only
+/// where there is one.
+pub(crate) fn first_overlap<R: Threads + Sync>(
+    rt: &R,
+    alloc: Global,
+    tree: &Tree,
+    assigned: &Assigned,
+    plan: &Plan,
+) -> Result<Option<(u32, u32)>, AllocError>
+    requires lengths { length plan.now.timings ≡ length assigned.now }
+    requires known { All (λ a. a < length tree.now) assigned.now }
+    ensures { IfOk result (λ found. MatchOption found
+        ((i j : ℕ) → Overlaps (IsOrdered tree.now assigned.now) (work_of plan.now.timings) (start_of plan.now.starts) i j → ⊥)
+        (λ pair. IsFirstOverlap (IsOrdered tree.now assigned.now) (work_of plan.now.timings) (start_of plan.now.starts) pair.0 pair.1)) }
+{
+    if keeps_order(alloc, tree, assigned, plan)? {
+        return Ok(None);
+    }
+    Ok(first_pair(rt, tree, assigned, plan))
 }

@@ -1,6 +1,6 @@
 -- The first pair is that of the first place.
 use Rattle.waff_check.proofs.OverlapLaws.{first-overlap, no-overlap}
-use Rattle.waff_check.proofs.overlap.first_overlap.Goals as goal
+use Rattle.waff_check.proofs.overlap.first_pair.Goals as goal
 
 pub returns-in-None : goal.returns-in-None
 returns-in-None g c = no-overlap c.args.tree.now c.args.assigned.now c.args.plan.now.timings c.args.plan.now.starts c.in-None.ensures
