@@ -5,6 +5,8 @@ pub mod PlanLaws
 pub mod FirstLaws
 pub mod TextLaws
 pub mod CrowdLaws
+pub mod ShiftLaws
+pub mod ShiftSteps
 pub mod PlaceLaws
 pub mod OverlapLaws
 pub mod VerdictLaws

@@ -9,4 +9,5 @@ pub mod Faults
 pub mod Crowds
 pub mod Searches
 pub mod Verdicts
+pub mod Shifts
 pub mod Promises

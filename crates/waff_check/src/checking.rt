@@ -33,7 +33,8 @@ fn told_plan(alloc: Global, trace: &Trace, given: &GivenPlan) -> Result<Plan, Al
 }
 
 /// The verdict on a plan that is given for the messages of a trace, whose affinities are assigned: the first fault of the first kind
-/// that there is, or else how good the plan is. The pairs of messages are looked at, in threads, only to name the first that overlaps.
+/// that there is, or else how good the plan is. Pairs of messages are walked over only to name a fault that is there, those of an
+/// overlap in threads.
 pub fn check<R: Threads + Sync>(
     rt: &R,
     alloc: Global,
@@ -81,7 +82,7 @@ fn find<R: Threads + Sync>(
     if let Some(tick) = crowded(&plan, workers) {
         return Ok(Verdict::TooManyAt { tick });
     }
-    if let Some(message) = wrong_worker(&plan, given, workers) {
+    if let Some(message) = wrong_worker(alloc, &plan, given, workers)? {
         return Ok(Verdict::Worker { message });
     }
     if let Some(message) = wrong_name(tree, assigned, &plan, given) {

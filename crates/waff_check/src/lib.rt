@@ -9,7 +9,7 @@
 //!
 //! Checking:
 //! - `verdict`: what a check finds.
-//! - `overlap`, `crowd`, `worker`, `told`, `totals`, `links`: one kind of fault each.
+//! - `overlap`, `crowd`, `worker`, `told`, `totals`, `links`: one kind of fault each; `shifts`: whether any worker is wrong.
 //! - `checking`: the check, over all kinds.
 #![tactic(auto)]
 
@@ -25,6 +25,7 @@ mod plan_text;
 mod records;
 mod refusal;
 mod row;
+mod shifts;
 mod slots;
 mod summary;
 mod told;

@@ -1,11 +1,13 @@
 //! Workers that rows tell.
 
-ghost use Rattle.std.specs.Prelude.{◌≡◌, ◌<◌, ◌≤◌, ◌↔◌, ℕ, IsTrue, MatchOption, length};
+ghost use Rattle.std.specs.Prelude.{◌≡◌, ◌<◌, ◌≤◌, ◌↔◌, ℕ, IfOk, IsTrue, MatchOption, length};
 ghost use Rattle.waff_plan.specs.Timing.{start_of, work_of};
 ghost use Rattle.waff_check.specs.Faults.{HasWrongWorker, IsLeastOf, IsMisplaced, IsTaken, NoneOf, RunTogether};
 ghost use Rattle.waff_check.specs.Verdicts.{worker_in};
 
 use crate::given::GivenPlan;
+use crate::shifts::are_right;
+use std::alloc::{AllocError, Global};
 use waff_plan::Plan;
 
 // Whether messages `i` and `j` run at a common tick.
@@ -61,8 +63,8 @@ fn is_misplaced(plan: &Plan, given: &GivenPlan, workers: Option<u32>, n: u32) ->
     }
 }
 
-/// The first message whose row tells a wrong worker.
-pub(crate) fn wrong_worker(plan: &Plan, given: &GivenPlan, workers: Option<u32>) -> Option<u32>
+// The first message whose row tells a wrong worker, by a walk over the pairs.
+fn first_misplaced(plan: &Plan, given: &GivenPlan, workers: Option<u32>) -> Option<u32>
     requires lengths { length given.now.rows ≡ length plan.now.timings }
     ensures { MatchOption result (NoneOf (HasWrongWorker (work_of plan.now.timings) (start_of plan.now.starts) (worker_in given.now) workers))
         (IsLeastOf (HasWrongWorker (work_of plan.now.timings) (start_of plan.now.starts) (worker_in given.now) workers)) }
@@ -73,4 +75,24 @@ pub(crate) fn wrong_worker(plan: &Plan, given: &GivenPlan, workers: Option<u32>)
         }
     }
     None
+}
+
+/// The first message whose row tells a wrong worker. The pairs are walked over only where there is one.
+pub(crate) fn wrong_worker(
+    alloc: Global,
+    plan: &Plan,
+    given: &GivenPlan,
+    workers: Option<u32>,
+) -> Result<Option<u32>, AllocError>
+    requires lengths { length given.now.rows ≡ length plan.now.timings }
+    ensures { IfOk result (λ found. MatchOption found
+        (NoneOf (HasWrongWorker (work_of plan.now.timings) (start_of plan.now.starts) (worker_in given.now) workers))
+        (IsLeastOf (HasWrongWorker (work_of plan.now.timings) (start_of plan.now.starts) (worker_in given.now) workers))) }
+{
+    if let Some(k) = workers
+        && are_right(alloc, plan, given, k)?
+    {
+        return Ok(None);
+    }
+    Ok(first_misplaced(plan, given, workers))
 }

@@ -1,7 +1,7 @@
 -- No earlier message has a wrong worker.
 use Rattle.std.proofs.Common.{arith, refl}
 use Rattle.waff_check.proofs.FirstLaws.{below-more, least-first, none-of, refuted}
-use Rattle.waff_check.proofs.worker.wrong_worker.Goals as goal
+use Rattle.waff_check.proofs.worker.first_misplaced.Goals as goal
 
 pub loop-n-init : goal.loop-n-init
 loop-n-init c = λ m lt h. let e = h.number.from in omega arith

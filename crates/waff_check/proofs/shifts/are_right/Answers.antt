@@ -1,0 +1,21 @@
+-- Workers are right where each is one of all, and the shifts follow one another.
+use Rattle.waff_plan.specs.Timing.{start_of, work_of}
+use Rattle.waff_check.specs.Verdicts.{worker_in}
+use Rattle.waff_check.proofs.ShiftLaws.{apart-where-right, right, seated-where-right}
+use Rattle.waff_check.proofs.shifts.are_right.Goals as goal
+
+pub returns-then-not-are_seated : goal.returns-then-not-are_seated
+returns-then-not-are_seated c =
+    (λ t n h. cc t, λ none. c.if-not-are_seated.ensures.1 (seated-where-right (work_of c.args.plan.now.timings) (start_of c.args.plan.now.starts) (worker_in c.args.given.now) c.args.k none))
+
+pub returns : goal.returns
+returns c =
+    let work = work_of c.args.plan.now.timings in
+    let start = start_of c.args.plan.now.starts in
+    let worker = worker_in c.args.given.now in
+    let are = c.in_ok-shifts.ensures in
+    let apart = rw c.as_slice.ensures.value at c.are_apart.ensures in
+    let seated = c.are_seated.ensures.0 c.if-not-are_seated.false in (
+      λ h. right work start worker c.in_ok-shifts.shifts.items are c.args.k seated (apart.0 h),
+      λ none. apart.1 (apart-where-right work start worker c.in_ok-shifts.shifts.items are c.args.k none),
+    )

@@ -1,0 +1,104 @@
+//! Shifts: the messages that run, by worker and then by start.
+
+ghost use Rattle.std.specs.Prelude.{◌≡◌, ◌+◌, ◌<◌, ◌≤◌, ◌↔◌, ℕ, All, IfOk, IsTrue, Some, length};
+ghost use Rattle.waff_plan.specs.Timing.{start_of, work_of};
+ghost use Rattle.waff_plan.specs.Work.{IsNumber};
+ghost use Rattle.waff_check.specs.Faults.{HasWrongWorker, NoneOf};
+ghost use Rattle.waff_check.specs.Shifts.{AreApart, AreShifts, Follows, IsOneOf, IsShiftOf};
+ghost use Rattle.waff_check.specs.Verdicts.{worker_in};
+
+use crate::given::GivenPlan;
+use std::alloc::{AllocError, Global};
+use waff_plan::Plan;
+
+// Whether each row tells one of `k` workers.
+fn are_seated(plan: &Plan, given: &GivenPlan, k: u32) -> bool
+    requires lengths { length given.now.rows ≡ length plan.now.timings }
+    ensures { IsTrue result ↔ ((n : ℕ) → IsNumber (work_of plan.now.timings) n → IsOneOf k (worker_in given.now n)) }
+{
+    for n in 1..plan.len() + 1 {
+        if !is_one_of(k, given.row(n).worker) {
+            return false;
+        }
+    }
+    true
+}
+
+// Whether a worker is there, and is one of `k`.
+fn is_one_of(k: u32, worker: Option<u64>) -> bool
+    ensures { IsTrue result ↔ IsOneOf k worker }
+{
+    match worker {
+        None => false,
+        Some(worker) => 1 <= worker && worker <= u64::from(k),
+    }
+}
+
+// The shift of message `n`: none where its row tells no worker, or it runs at no tick.
+fn shift(plan: &Plan, given: &GivenPlan, n: u32) -> Option<(u64, u64, u32)>
+    requires lengths { length given.now.rows ≡ length plan.now.timings }
+    requires from { 1 ≤ n }
+    requires to { n ≤ length plan.now.timings }
+    ensures { IsShiftOf (work_of plan.now.timings) (start_of plan.now.starts) (worker_in given.now) n result }
+{
+    let start = plan.start(n);
+    match given.row(n).worker {
+        Some(worker) if start < plan.finish(n) => Some((worker, start, n)),
+        _ => None,
+    }
+}
+
+// The shifts of all workers: each is a worker, a start and the number of a message.
+fn shifts(alloc: Global, plan: &Plan, given: &GivenPlan) -> Result<Vec<(u64, u64, u32)>, AllocError>
+    requires lengths { length given.now.rows ≡ length plan.now.timings }
+    ensures { IfOk result (λ shifts. AreShifts (work_of plan.now.timings) (start_of plan.now.starts) (worker_in given.now) shifts.items) }
+{
+    let mut shifts = Vec::with_capacity(alloc, plan.len() as usize)?;
+    for n in 1..plan.len() + 1 {
+        if let Some(shift) = shift(plan, given, n) {
+            shifts.push(shift)?;
+        }
+    }
+    shifts.sort_unstable();
+    Ok(shifts)
+}
+
+// Whether one shift has ended when the next begins, where both are of one worker.
+fn follows(plan: &Plan, one: (u64, u64, u32), next: (u64, u64, u32)) -> bool
+    requires from { 1 ≤ one.2 }
+    requires to { one.2 ≤ length plan.now.timings }
+    ensures { IsTrue result ↔ Follows (work_of plan.now.timings) (start_of plan.now.starts) one next }
+{
+    one.0 != next.0 || plan.finish(one.2) <= next.1
+}
+
+// Whether each shift follows the one before it.
+fn are_apart(plan: &Plan, shifts: &[(u64, u64, u32)]) -> bool
+    requires { All (λ shift. IsNumber (work_of plan.now.timings) shift.2) shifts.now }
+    ensures { IsTrue result ↔ AreApart (work_of plan.now.timings) (start_of plan.now.starts) shifts.now }
+{
+    for place in 1..shifts.len() {
+        if !follows(plan, shifts[place - 1], shifts[place]) {
+            return false;
+        }
+    }
+    true
+}
+
+/// Whether the row of each message tells a right one of `k` workers. The shifts are sorted, and only neighbours are looked at.
+pub(crate) fn are_right(
+    alloc: Global,
+    plan: &Plan,
+    given: &GivenPlan,
+    k: u32,
+) -> Result<bool, AllocError>
+    requires lengths { length given.now.rows ≡ length plan.now.timings }
+    ensures { IfOk result (λ right. IsTrue right
+        ↔ NoneOf (HasWrongWorker (work_of plan.now.timings) (start_of plan.now.starts) (worker_in given.now) (Some k))) }
+{
+    if !are_seated(plan, given, k) {
+        return Ok(false);
+    }
+    let shifts = shifts(alloc, plan, given)?;
+    Ok(are_apart(plan, shifts.as_slice()))
+}
