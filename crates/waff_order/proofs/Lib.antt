@@ -3,3 +3,5 @@ pub mod NeedLemmas
 pub mod OpenLemmas
 pub mod Closure
 pub mod UpTo
+pub mod LowestLemmas
+pub mod CarryLemmas

@@ -1,3 +1,4 @@
 pub mod Needs
 pub mod Cuts
 pub mod Open
+pub mod Lowests

@@ -2,6 +2,7 @@
 #![tactic(auto)]
 
 mod lists;
+mod lowests;
 pub mod predecessors;
 mod refinement;
 
