@@ -1,4 +1,5 @@
 pub mod AssignText
+pub mod CheckText
 pub mod Commands
 pub mod Fault
 pub mod Lines

@@ -62,14 +62,14 @@ pub fn plan_text<W: Write>(
 
 /// A hierarchy, a trace over it, and the affinity of each message.
 #[derive(Drop)]
-struct Accepted {
-    layout: Layout,
-    trace: Trace,
-    assigned: Assigned,
+pub(crate) struct Accepted {
+    pub(crate) layout: Layout,
+    pub(crate) trace: Trace,
+    pub(crate) assigned: Assigned,
 }
 
 /// Reads the files, the hierarchy first.
-fn accept(alloc: Global, hierarchy: &[u8], trace: &[u8]) -> Result<Accepted, ToolError>
+pub(crate) fn accept(alloc: Global, hierarchy: &[u8], trace: &[u8]) -> Result<Accepted, ToolError>
     ensures accepted { IfOk result (λ a. Accepts hierarchy.now trace.now a.layout a.trace a.assigned) }
     ensures known { IfOk result (λ a. All (λ affinity. affinity < length a.layout.tree) a.assigned) }
     ensures refused { IfErr result (Refuses hierarchy.now trace.now) }

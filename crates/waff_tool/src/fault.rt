@@ -179,10 +179,19 @@ mod tests {
             (PlanTextError::Csv { at: 2 }, "waff: PlanText.Csv 2"),
             (PlanTextError::Header { at: 1 }, "waff: PlanText.Header 1"),
             (PlanTextError::Row { at: 3 }, "waff: PlanText.Row 3"),
-            (PlanTextError::Missing { message: 3 }, "waff: PlanText.Missing 3"),
+            (
+                PlanTextError::Missing { message: 3 },
+                "waff: PlanText.Missing 3",
+            ),
             (PlanTextError::Twice { at: 5 }, "waff: PlanText.Twice 5"),
-            (PlanTextError::Summary { at: 13 }, "waff: PlanText.Summary 13"),
-            (PlanTextError::TooLarge { at: 9 }, "waff: PlanText.TooLarge 9"),
+            (
+                PlanTextError::Summary { at: 13 },
+                "waff: PlanText.Summary 13",
+            ),
+            (
+                PlanTextError::TooLarge { at: 9 },
+                "waff: PlanText.TooLarge 9",
+            ),
         ] {
             let error = ToolError::from(fault);
             assert_eq!(rt; fault_text(rt.alloc(), &error)?.as_str(), line);

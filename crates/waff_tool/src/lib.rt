@@ -2,6 +2,7 @@
 #![tactic(auto)]
 
 mod assigns;
+mod checks;
 mod commands;
 mod fault;
 mod fault_names;
@@ -10,8 +11,10 @@ mod output;
 mod plans;
 mod split;
 mod summary;
+mod verdict_line;
 mod worker_plans;
 
+pub use checks::{check_text, verdict_status};
 pub use commands::{assign_text, plan_text};
 pub use fault::{ToolError, fault_status, fault_text};
 pub use input::{ReadFault, read_whole};

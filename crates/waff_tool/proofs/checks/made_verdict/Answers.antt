@@ -1,0 +1,23 @@
+use Rattle.waff_tool.proofs.checks.made_verdict.Goals as goal
+
+pub returns-clause-made : goal.returns-clause-made
+returns-clause-made g c =
+    let accepted = c.in_ok-accepted.accepted in
+    let tree = c.tree-tree.ensures in
+    let given = rw (c.version.ensures, c.len.ensures.count) at c.in_ok-given.ensures.exact in
+    let promised = c.in_ok-check.ensures in
+    record {
+      layout = accepted.layout;
+      trace = accepted.trace;
+      assigned = accepted.assigned;
+      given = c.in_ok-given.given;
+      accepts = c.in_ok-accepted.ensures.accepted;
+      is_plan = given;
+      verdict = rw tree at promised.verdict;
+      obeys = rw tree at promised.obeys;
+      worker_plan = rw tree at promised.worker_plan;
+      one_at_a_time = promised.one_at_a_time;
+      chain = rw tree at promised.chain;
+      shortest = rw tree at promised.shortest;
+      bound = rw tree at promised.bound;
+    }
