@@ -1,6 +1,7 @@
 pub mod AssignText
 pub mod CheckText
 pub mod Commands
+pub mod Comparison
 pub mod Fault
 pub mod Lines
 pub mod Output

@@ -47,7 +47,7 @@ pub fn unlimited_text(
 }
 
 /// What the summary says of a plan without workers and its printed chain.
-fn totals(plan: &Plan, chain: &Chain) -> Totals
+pub(crate) fn totals(plan: &Plan, chain: &Chain) -> Totals
     requires cost { chain.now.cost ≡ chain_cost (work_of plan.now.timings) chain.now.messages }
     requires release { chain.now.release ≡ chain_release (work_of plan.now.timings) chain.now.messages }
     requires as_long { chain.now.release + chain.now.cost

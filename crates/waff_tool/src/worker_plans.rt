@@ -49,7 +49,7 @@ pub fn worker_text(
 }
 
 /// What the summary says of a plan for workers and its printed chain.
-fn totals(made: &WorkerPlan, chain: &Chain) -> Totals
+pub(crate) fn totals(made: &WorkerPlan, chain: &Chain) -> Totals
     requires cost { chain.now.cost ≡ chain_cost (work_of made.now.table.timings) chain.now.messages }
     requires release { chain.now.release ≡ chain_release (work_of made.now.table.timings) chain.now.messages }
     requires within { chain.now.release + chain.now.cost

@@ -1,0 +1,153 @@
+-- What is printed where a classical and a hierarchical hierarchy are compared on one trace.
+use Rattle.std.specs.Prelude.{◌≡◌, ◌≢◌, ℕ, ◌-◌, ◌*◌, ◌≤◌, ◌⊎◌, ◌↔◌, Bool, true, false, IsTrue, List, [], ◌∷◌, ◌++◌, Ok, Err, codes, decimal}
+use Rattle.waff_model.specs.Layout.{Hierarchy, SameSpaces}
+use Rattle.waff_model.specs.Messages.{Arrivals}
+use Rattle.waff_model.specs.declared.kind.Kind.{Kind}
+use Rattle.waff_model.specs.declared.kind.Kind.TheVariants as kind
+use Rattle.waff_model.specs.declared.message.Version.{Version}
+use Rattle.waff_model.specs.declared.message.Version.TheVariants.{V1, V2}
+use Rattle.waff_read.specs.Hierarchies.{hierarchy_of}
+use Rattle.waff_read.specs.Traces.{trace_of}
+use Rattle.waff_assign.specs.Lowest.{AreLowest}
+use Rattle.waff_assign.specs.Order.{IsOrdered, Refines}
+use Rattle.waff_plan.specs.Chain.{IsPrinted}
+use Rattle.waff_plan.specs.Obeys.{IsLeast}
+use Rattle.waff_plan.specs.Timing.{start_of}
+use Rattle.waff_plan.specs.Work.{Work, IsNumber, length_of, total_of}
+use Rattle.waff_plan.specs.Workers.{IsWorkerPlan}
+use Rattle.waff_list.specs.Bound.{IsWithinBound}
+use Rattle.waff_list.specs.ListRule.{IsListPlan}
+use Rattle.waff_tool.specs.Commands.{work_in}
+use Rattle.waff_tool.specs.Lines.{text_of}
+use Rattle.waff_tool.specs.Summary.{unlimited_totals, worker_totals}
+use Rattle.waff_tool.specs.declared.fault.ToolError.{ToolError}
+use Rattle.waff_tool.specs.declared.fault.ToolError.TheVariants as tool
+use Rattle.waff_tool.specs.declared.measures.Measured.{Measured}
+use Rattle.waff_tool.specs.declared.summary.Totals.{Totals}
+
+-- what is told of a trace under one hierarchy: of its least plan, and of its list plan for k workers, each with its printed
+-- chain; the list plan is within the list bound of its chain, and at most twice as long as any worker plan for k, or 2 - 1/k
+-- times where no message has a release
+pub record IsMeasured (layout : Hierarchy) (assigned : List ℕ) (work : Work) (k : ℕ) (measured : Measured) : Type 0 where
+  pub starts : List ℕ
+  pub chain : List ℕ
+  pub list_starts : List ℕ
+  pub list_chain : List ℕ
+  pub least : IsLeast (IsOrdered layout.tree assigned) work (start_of starts)
+  pub printed : IsPrinted (IsOrdered layout.tree assigned) work (start_of starts) chain
+  pub list : IsListPlan (IsOrdered layout.tree assigned) work k (start_of list_starts)
+  pub list_printed : IsPrinted (IsOrdered layout.tree assigned) work (start_of list_starts) list_chain
+  pub bound : IsWithinBound work k (start_of list_starts) list_chain
+  pub twice : (other : ℕ → ℕ) → IsWorkerPlan (IsOrdered layout.tree assigned) work k other
+      → k * length_of work (start_of list_starts) ≤ 2 * k * length_of work other
+  pub ratio : ((m : ℕ) → IsNumber work m → work.release m ≡ 0)
+      → (other : ℕ → ℕ) → IsWorkerPlan (IsOrdered layout.tree assigned) work k other
+      → k * length_of work (start_of list_starts) ≤ (2 * k - 1) * length_of work other
+  pub kind : measured.kind ≡ layout.kind
+  pub unlimited : measured.unlimited ≡ unlimited_totals work (start_of starts) chain
+  pub listed : measured.listed ≡ worker_totals work k (start_of list_starts) list_chain
+
+abbrev pub kind_field : Kind → List ℕ
+kind_field kind.Classical = codes "classical"
+kind_field kind.Hierarchical = codes "hierarchical"
+
+-- what the lines of the hierarchies tell
+abbrev pub measures_header : Version → List (List ℕ)
+measures_header V1 =
+    codes "model" ∷ codes "length" ∷ codes "chain" ∷ codes "list" ∷ codes "listchain" ∷ codes "left" ∷ codes "right" ∷ []
+measures_header V2 =
+    codes "model" ∷ codes "length" ∷ codes "release" ∷ codes "chain" ∷ codes "list" ∷ codes "listrelease" ∷ codes "listchain"
+    ∷ codes "left" ∷ codes "right" ∷ []
+
+-- what is told of a plan: its length, and the release and the cost of its printed chain; a trace of the first version has no
+-- releases
+abbrev pub plan_fields : Version → Totals → List (List ℕ)
+plan_fields V1 plan = decimal plan.length ∷ decimal plan.cost ∷ []
+plan_fields V2 plan = decimal plan.length ∷ decimal plan.release ∷ decimal plan.cost ∷ []
+
+-- the line of a hierarchy
+abbrev pub measured_line : Version → Measured → List (List ℕ)
+measured_line version measured =
+    kind_field measured.kind
+    ∷ plan_fields version measured.unlimited
+    ++ plan_fields version measured.listed
+    ++ decimal measured.listed.left ∷ decimal measured.listed.right ∷ []
+
+abbrev pub answer_field : Bool → List ℕ
+answer_field true = codes "yes"
+answer_field false = codes "no"
+
+-- the lines of a comparison
+abbrev pub compare_lines : Version → ℕ → ℕ → Measured → Measured → Bool → List (List (List ℕ))
+compare_lines version k total classical hierarchical refined =
+    (codes "workers" ∷ decimal k ∷ [])
+    ∷ (codes "total" ∷ decimal total ∷ [])
+    ∷ measures_header version
+    ∷ measured_line version classical
+    ∷ measured_line version hierarchical
+    ∷ (codes "refines" ∷ answer_field refined ∷ [])
+    ∷ []
+
+-- the text of the comparison of a classical and a hierarchical hierarchy on a trace: it tells whether the hierarchical one
+-- refines the classical one, and where it does its least plan is no longer
+pub record IsCompared (classical hierarchical : Hierarchy) (trace : Arrivals) (k : ℕ) (text : List ℕ) : Type 0 where
+  pub coarse : List ℕ
+  pub fine : List ℕ
+  pub of_classical : Measured
+  pub of_hierarchical : Measured
+  pub refined : Bool
+  pub coarse_lowest : AreLowest classical trace.messages coarse
+  pub fine_lowest : AreLowest hierarchical trace.messages fine
+  pub classical_measured : IsMeasured classical coarse (work_in trace) k of_classical
+  pub hierarchical_measured : IsMeasured hierarchical fine (work_in trace) k of_hierarchical
+  pub told : IsTrue refined ↔ Refines hierarchical.tree fine classical.tree coarse
+  pub no_longer : IsTrue refined → of_hierarchical.unlimited.length ≤ of_classical.unlimited.length
+  pub lines : text ≡ text_of (compare_lines trace.version k (total_of (work_in trace)) of_classical of_hierarchical refined)
+
+-- one is classical and the other hierarchical
+abbrev pub AreBothModels : Hierarchy → Hierarchy → Type 0
+AreBothModels classical hierarchical = (classical.kind ≡ kind.Classical) × (hierarchical.kind ≡ kind.Hierarchical)
+
+-- two files that are hierarchies
+pub record AreHierarchies (first_file second_file : List ℕ) (first second : Hierarchy) : Type 0 where
+  pub is_first : hierarchy_of first_file ≡ Ok first
+  pub is_second : hierarchy_of second_file ≡ Ok second
+
+-- the text of the comparison of two hierarchies, given in either order
+pub record IsCompareText (first_file second_file trace_file : List ℕ) (k : ℕ) (text : List ℕ) : Type 0 where
+  pub first : Hierarchy
+  pub second : Hierarchy
+  pub trace : Arrivals
+  pub hierarchies : AreHierarchies first_file second_file first second
+  pub same_spaces : SameSpaces first.spaces second.spaces
+  pub is_trace : trace_of first.spaces trace_file ≡ Ok trace
+  pub compared : (AreBothModels first second × IsCompared first second trace k text)
+      ⊎ (AreBothModels second first × IsCompared second first trace k text)
+
+-- an error tells why the hierarchy of this number is refused; want of memory tells nothing of it
+abbrev pub RefusesHierarchy : ℕ → List ℕ → ToolError → Type 0
+RefusesHierarchy number hierarchy_file (tool.Hier file fault) = (file ≡ number) × (hierarchy_of hierarchy_file ≡ Err fault)
+RefusesHierarchy number hierarchy_file (tool.Trace fault) = ⊥
+RefusesHierarchy number hierarchy_file (tool.PlanText fault) = ⊥
+RefusesHierarchy number hierarchy_file tool.SpacesDiffer = ⊥
+RefusesHierarchy number hierarchy_file tool.ModelsSame = ⊥
+RefusesHierarchy number hierarchy_file tool.Write = ⊥
+RefusesHierarchy number hierarchy_file tool.Memory = Unit {0}
+
+-- an error tells the first of the faults, in this order: the first hierarchy is refused, the second one is, their spaces
+-- differ, their models are the same, the trace is refused
+abbrev pub RefusesComparison : List ℕ → List ℕ → List ℕ → ToolError → Type 0
+RefusesComparison first_file second_file trace_file (tool.Hier file fault) =
+    ((file ≡ 1) × (hierarchy_of first_file ≡ Err fault))
+    ⊎ ((first : Hierarchy) × (file ≡ 2) × (hierarchy_of first_file ≡ Ok first) × (hierarchy_of second_file ≡ Err fault))
+RefusesComparison first_file second_file trace_file tool.SpacesDiffer =
+    (first second : Hierarchy) × AreHierarchies first_file second_file first second × ¬ SameSpaces first.spaces second.spaces
+RefusesComparison first_file second_file trace_file tool.ModelsSame =
+    (first second : Hierarchy) × AreHierarchies first_file second_file first second × SameSpaces first.spaces second.spaces
+    × (first.kind ≡ second.kind)
+RefusesComparison first_file second_file trace_file (tool.Trace fault) =
+    (first second : Hierarchy) × AreHierarchies first_file second_file first second × SameSpaces first.spaces second.spaces
+    × (first.kind ≢ second.kind) × (trace_of first.spaces trace_file ≡ Err fault)
+RefusesComparison first_file second_file trace_file (tool.PlanText fault) = ⊥
+RefusesComparison first_file second_file trace_file tool.Write = Unit {0}
+RefusesComparison first_file second_file trace_file tool.Memory = Unit {0}

@@ -1,0 +1,126 @@
+//! What is told of a trace under one hierarchy, and the text that tells it of two.
+ghost use Rattle.std.specs.Prelude.{◌≡◌, ◌<◌, ◌≤◌, ◌++◌, All, IfOk, OnOk, length, string_bytes};
+ghost use Rattle.waff_plan.specs.Timetable.{timings_of};
+ghost use Rattle.waff_plan.specs.Timing.{work_of};
+ghost use Rattle.waff_tool.specs.Lines.{line_text, text_of};
+ghost use Rattle.waff_tool.specs.Comparison.{IsMeasured, compare_lines, kind_field, measured_line, measures_header};
+
+use crate::summary::Totals;
+use crate::{plans, worker_plans};
+use std::alloc::{AllocError, Global};
+use waff_assign::Assigned;
+use waff_list::limits::MAX_WORKERS;
+use waff_list::{list_chain, list_plan};
+use waff_model::{Kind, Layout, Trace, Version};
+use waff_order::predecessors::needs;
+use waff_plan::printed::chain;
+use waff_plan::unlimited::plan;
+
+/// What is told of a trace under one hierarchy: of its unlimited plan and of its list plan.
+#[derive(Clone, Copy)]
+pub struct Measured {
+    pub kind: Kind,
+    pub unlimited: Totals,
+    pub listed: Totals,
+}
+
+/// What is told of the trace with these affinities, for k workers.
+pub fn measure(
+    alloc: Global,
+    layout: &Layout,
+    assigned: &Assigned,
+    trace: &Trace,
+    k: u32,
+) -> Result<Measured, AllocError>
+    requires lengths { length assigned.now ≡ length trace.now.messages }
+    requires known { All (λ a. a < length layout.now.tree) assigned.now }
+    requires some { 1 ≤ k }
+    requires few { k ≤ MAX_WORKERS }
+    ensures { IfOk result (IsMeasured layout.now assigned.now (work_of (timings_of trace.now.messages)) k) }
+{
+    let tree = layout.tree();
+    let plan = plan(alloc, tree, assigned, trace)?;
+    let chain = chain(alloc, tree, assigned, &plan)?;
+    let needs = needs(alloc, tree, assigned)?;
+    let made = list_plan(alloc, &needs, trace, k)?;
+    let list_chain = list_chain(alloc, tree, assigned, &made)?;
+    Ok(Measured {
+        kind: layout.kind(),
+        unlimited: plans::totals(&plan, &chain),
+        listed: worker_plans::totals(&made, &list_chain),
+    })
+}
+
+/// The lines of a comparison for k workers.
+pub fn comparison_text(
+    alloc: Global,
+    version: Version,
+    k: u32,
+    classical: &Measured,
+    hierarchical: &Measured,
+    refined: bool,
+) -> Result<String, AllocError>
+    ensures { IfOk result (λ text. string_bytes text
+        ≡ text_of (compare_lines version k classical.now.unlimited.total classical.now hierarchical.now refined)) }
+{
+    let total = classical.unlimited.total;
+    let answer = if refined { "yes" } else { "no" };
+    let mut text = String::new(alloc);
+    writeln!(text, "workers,{k}\ntotal,{total}")?;
+    push_header(&mut text, version)?;
+    push_measured(&mut text, version, classical)?;
+    push_measured(&mut text, version, hierarchical)?;
+    writeln!(text, "refines,{answer}")?;
+    Ok(text)
+}
+
+/// Appends the line that names what the lines of hierarchies tell.
+fn push_header(text: &mut String, version: Version) -> Result<(), AllocError>
+    ensures { OnOk result (string_bytes text.new ≡ string_bytes text.old ++ line_text (measures_header version)) }
+{
+    text.push_str(match version {
+        Version::V1 => "model,length,chain,list,listchain,left,right\n",
+        Version::V2 => "model,length,release,chain,list,listrelease,listchain,left,right\n",
+    })
+}
+
+/// Appends the line of one hierarchy.
+fn push_measured(
+    text: &mut String,
+    version: Version,
+    measured: &Measured,
+) -> Result<(), AllocError>
+    ensures { OnOk result (string_bytes text.new ≡ string_bytes text.old ++ line_text (measured_line version measured.now)) }
+{
+    let kind = kind_name(measured.kind);
+    let plan = measured.unlimited;
+    let list = measured.listed;
+    match version {
+        Version::V1 => writeln!(
+            text,
+            "{kind},{},{},{},{},{},{}",
+            plan.length, plan.cost, list.length, list.cost, list.left, list.right
+        ),
+        Version::V2 => writeln!(
+            text,
+            "{kind},{},{},{},{},{},{},{},{}",
+            plan.length,
+            plan.release,
+            plan.cost,
+            list.length,
+            list.release,
+            list.cost,
+            list.left,
+            list.right
+        ),
+    }
+}
+
+fn kind_name(kind: Kind) -> &'static str
+    ensures { result.now ≡ kind_field kind }
+{
+    match kind {
+        Kind::Classical => "classical",
+        Kind::Hierarchical => "hierarchical",
+    }
+}
