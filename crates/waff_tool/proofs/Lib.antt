@@ -1,3 +1,4 @@
+pub mod ComparisonLemmas
 pub mod KnownBytesLemmas
 pub mod LinesLemmas
 pub mod SplitLemmas

@@ -1,5 +1,5 @@
 -- What is printed where a classical and a hierarchical hierarchy are compared on one trace.
-use Rattle.std.specs.Prelude.{◌≡◌, ◌≢◌, ℕ, ◌-◌, ◌*◌, ◌≤◌, ◌⊎◌, ◌↔◌, Bool, true, false, IsTrue, List, [], ◌∷◌, ◌++◌, Ok, Err, codes, decimal}
+use Rattle.std.specs.Prelude.{◌≡◌, ℕ, ◌-◌, ◌*◌, ◌≤◌, ◌⊎◌, ◌↔◌, Bool, true, false, IsTrue, List, [], ◌∷◌, ◌++◌, Ok, Err, codes, decimal}
 use Rattle.waff_model.specs.Layout.{Hierarchy, SameSpaces}
 use Rattle.waff_model.specs.Messages.{Arrivals}
 use Rattle.waff_model.specs.declared.kind.Kind.{Kind}
@@ -104,25 +104,22 @@ pub record IsCompared (classical hierarchical : Hierarchy) (trace : Arrivals) (k
   pub no_longer : IsTrue refined → of_hierarchical.unlimited.length ≤ of_classical.unlimited.length
   pub lines : text ≡ text_of (compare_lines trace.version k (total_of (work_in trace)) of_classical of_hierarchical refined)
 
--- one is classical and the other hierarchical
-abbrev pub AreBothModels : Hierarchy → Hierarchy → Type 0
-AreBothModels classical hierarchical = (classical.kind ≡ kind.Classical) × (hierarchical.kind ≡ kind.Hierarchical)
+-- two files that are a classical and a hierarchical hierarchy, in either order, of the same spaces
+pub record AreModels (first_file second_file : List ℕ) (classical hierarchical : Hierarchy) : Type 0 where
+  pub files : ((hierarchy_of first_file ≡ Ok classical) × (hierarchy_of second_file ≡ Ok hierarchical))
+      ⊎ ((hierarchy_of first_file ≡ Ok hierarchical) × (hierarchy_of second_file ≡ Ok classical))
+  pub is_classical : classical.kind ≡ kind.Classical
+  pub is_hierarchical : hierarchical.kind ≡ kind.Hierarchical
+  pub same_spaces : SameSpaces classical.spaces hierarchical.spaces
 
--- two files that are hierarchies
-pub record AreHierarchies (first_file second_file : List ℕ) (first second : Hierarchy) : Type 0 where
-  pub is_first : hierarchy_of first_file ≡ Ok first
-  pub is_second : hierarchy_of second_file ≡ Ok second
-
--- the text of the comparison of two hierarchies, given in either order
+-- the text of the comparison of two hierarchies on a trace
 pub record IsCompareText (first_file second_file trace_file : List ℕ) (k : ℕ) (text : List ℕ) : Type 0 where
-  pub first : Hierarchy
-  pub second : Hierarchy
+  pub classical : Hierarchy
+  pub hierarchical : Hierarchy
   pub trace : Arrivals
-  pub hierarchies : AreHierarchies first_file second_file first second
-  pub same_spaces : SameSpaces first.spaces second.spaces
-  pub is_trace : trace_of first.spaces trace_file ≡ Ok trace
-  pub compared : (AreBothModels first second × IsCompared first second trace k text)
-      ⊎ (AreBothModels second first × IsCompared second first trace k text)
+  pub models : AreModels first_file second_file classical hierarchical
+  pub is_trace : trace_of classical.spaces trace_file ≡ Ok trace
+  pub compared : IsCompared classical hierarchical trace k text
 
 -- an error tells why the hierarchy of this number is refused; want of memory tells nothing of it
 abbrev pub RefusesHierarchy : ℕ → List ℕ → ToolError → Type 0
@@ -134,20 +131,37 @@ RefusesHierarchy number hierarchy_file tool.ModelsSame = ⊥
 RefusesHierarchy number hierarchy_file tool.Write = ⊥
 RefusesHierarchy number hierarchy_file tool.Memory = Unit {0}
 
--- an error tells the first of the faults, in this order: the first hierarchy is refused, the second one is, their spaces
--- differ, their models are the same, the trace is refused
+-- two files that are hierarchies
+abbrev pub AreHierarchies : List ℕ → List ℕ → Hierarchy → Hierarchy → Type 0
+AreHierarchies first_file second_file first second = (hierarchy_of first_file ≡ Ok first) × (hierarchy_of second_file ≡ Ok second)
+
+-- an error tells the first of the faults of two hierarchies, in this order: the first one is refused, the second one is, their
+-- spaces differ, their models are the same
+abbrev pub RefusesModels : List ℕ → List ℕ → ToolError → Type 0
+RefusesModels first_file second_file (tool.Hier file fault) =
+    RefusesHierarchy 1 first_file (tool.Hier file fault)
+    ⊎ ((first : Hierarchy) × (hierarchy_of first_file ≡ Ok first) × RefusesHierarchy 2 second_file (tool.Hier file fault))
+RefusesModels first_file second_file tool.SpacesDiffer =
+    (first : Hierarchy) × (second : Hierarchy) × AreHierarchies first_file second_file first second
+    × ¬ SameSpaces first.spaces second.spaces
+RefusesModels first_file second_file tool.ModelsSame =
+    (first : Hierarchy) × (second : Hierarchy) × AreHierarchies first_file second_file first second
+    × SameSpaces first.spaces second.spaces × (first.kind ≡ second.kind)
+RefusesModels first_file second_file (tool.Trace fault) = ⊥
+RefusesModels first_file second_file (tool.PlanText fault) = ⊥
+RefusesModels first_file second_file tool.Write = ⊥
+RefusesModels first_file second_file tool.Memory = Unit {0}
+
+-- an error tells the first of the faults: of the hierarchies, and then of the trace; want of memory and a writer's fault tell
+-- nothing of the files
 abbrev pub RefusesComparison : List ℕ → List ℕ → List ℕ → ToolError → Type 0
-RefusesComparison first_file second_file trace_file (tool.Hier file fault) =
-    ((file ≡ 1) × (hierarchy_of first_file ≡ Err fault))
-    ⊎ ((first : Hierarchy) × (file ≡ 2) × (hierarchy_of first_file ≡ Ok first) × (hierarchy_of second_file ≡ Err fault))
-RefusesComparison first_file second_file trace_file tool.SpacesDiffer =
-    (first second : Hierarchy) × AreHierarchies first_file second_file first second × ¬ SameSpaces first.spaces second.spaces
-RefusesComparison first_file second_file trace_file tool.ModelsSame =
-    (first second : Hierarchy) × AreHierarchies first_file second_file first second × SameSpaces first.spaces second.spaces
-    × (first.kind ≡ second.kind)
 RefusesComparison first_file second_file trace_file (tool.Trace fault) =
-    (first second : Hierarchy) × AreHierarchies first_file second_file first second × SameSpaces first.spaces second.spaces
-    × (first.kind ≢ second.kind) × (trace_of first.spaces trace_file ≡ Err fault)
+    (classical : Hierarchy) × (hierarchical : Hierarchy) × AreModels first_file second_file classical hierarchical
+    × (trace_of classical.spaces trace_file ≡ Err fault)
+RefusesComparison first_file second_file trace_file (tool.Hier file fault) =
+    RefusesModels first_file second_file (tool.Hier file fault)
 RefusesComparison first_file second_file trace_file (tool.PlanText fault) = ⊥
+RefusesComparison first_file second_file trace_file tool.SpacesDiffer = RefusesModels first_file second_file tool.SpacesDiffer
+RefusesComparison first_file second_file trace_file tool.ModelsSame = RefusesModels first_file second_file tool.ModelsSame
 RefusesComparison first_file second_file trace_file tool.Write = Unit {0}
 RefusesComparison first_file second_file trace_file tool.Memory = Unit {0}

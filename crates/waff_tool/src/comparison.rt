@@ -1,9 +1,10 @@
 //! The command that compares two hierarchies on one trace.
 ghost use Rattle.std.specs.Prelude.{◌≡◌, ◌≢◌, ◌≤◌, Ok, ℕ, List, IfOk, IfErr, IsErrOf, OnOk, string_bytes};
 ghost use Rattle.std.specs.Io.KnownBytes.{Appends, Keeps};
+ghost use Rattle.waff_model.specs.Layout.{SameSpaces};
 ghost use Rattle.waff_model.specs.Messages.{sizes_of};
 ghost use Rattle.waff_read.specs.Hierarchies.{hierarchy_of};
-ghost use Rattle.waff_tool.specs.Comparison.{IsCompared, IsCompareText, RefusesComparison, RefusesHierarchy};
+ghost use Rattle.waff_tool.specs.Comparison.{AreModels, IsCompared, IsCompareText, RefusesComparison, RefusesHierarchy, RefusesModels};
 ghost use Rattle.waff_tool.specs.Output.{AppendsPart};
 
 use crate::fault::ToolError;
@@ -55,20 +56,39 @@ fn made_compare_text(
     ensures refused { IfErr result (RefusesComparison first.now second.now trace.now) }
     ensures nothing { IfErr result (λ e. e ≢ ToolError.Write) }
 {
+    let models = read_models(alloc, first, second)?;
+    let trace = read_trace(alloc, &models.classical, trace)?;
+    Ok(compared_text(alloc, &models, &trace, workers)?)
+}
+
+/// A classical and a hierarchical hierarchy.
+#[derive(Drop)]
+struct Models {
+    classical: Layout,
+    hierarchical: Layout,
+}
+
+/// Reads two hierarchies, which have to be of the same spaces and of different models.
+fn read_models(alloc: Global, first: &[u8], second: &[u8]) -> Result<Models, ToolError>
+    ensures models { IfOk result (λ models. AreModels first.now second.now models.classical models.hierarchical) }
+    ensures refused { IfErr result (RefusesModels first.now second.now) }
+{
     let first = read_numbered(alloc, 1, first)?;
     let second = read_numbered(alloc, 2, second)?;
     if !first.same_spaces(&second) {
         return Err(ToolError::SpacesDiffer);
     }
-    if first.kind() == second.kind() {
-        return Err(ToolError::ModelsSame);
+    match (first.kind(), second.kind()) {
+        (Kind::Classical, Kind::Hierarchical) => Ok(Models {
+            classical: first,
+            hierarchical: second,
+        }),
+        (Kind::Hierarchical, Kind::Classical) => Ok(Models {
+            classical: second,
+            hierarchical: first,
+        }),
+        _ => Err(ToolError::ModelsSame),
     }
-    let trace = read_trace(alloc, &first, trace)?;
-    let text = match first.kind() {
-        Kind::Classical => compared_text(alloc, &first, &second, &trace, workers)?,
-        Kind::Hierarchical => compared_text(alloc, &second, &first, &trace, workers)?,
-    };
-    Ok(text)
 }
 
 /// Reads the hierarchy of this number.
@@ -82,24 +102,26 @@ fn read_numbered(alloc: Global, file: u8, hierarchy: &[u8]) -> Result<Layout, To
     }
 }
 
-/// The lines of a comparison.
+/// The text that compares the models on the trace for k workers.
 fn compared_text(
     alloc: Global,
-    classical: &Layout,
-    hierarchical: &Layout,
+    models: &Models,
     trace: &Trace,
     k: u32,
 ) -> Result<String, AllocError>
-    requires classical { trace.now.sizes ≡ sizes_of classical.now.spaces }
-    requires hierarchical { trace.now.sizes ≡ sizes_of hierarchical.now.spaces }
+    requires fits { trace.now.sizes ≡ sizes_of models.now.classical.spaces }
+    requires same_spaces { SameSpaces models.now.classical.spaces models.now.hierarchical.spaces }
     requires some { 1 ≤ k }
     requires few { k ≤ MAX_WORKERS }
-    ensures { IfOk result (λ text. IsCompared classical.now hierarchical.now trace.now k (string_bytes text)) }
+    ensures { IfOk result (λ text. IsCompared models.now.classical models.now.hierarchical trace.now k (string_bytes text)) }
 {
+    let classical = &models.classical;
+    let hierarchical = &models.hierarchical;
     let coarse = assign(alloc, classical, trace)?;
     let fine = assign(alloc, hierarchical, trace)?;
     let of_classical = measure(alloc, classical, &coarse, trace, k)?;
     let of_hierarchical = measure(alloc, hierarchical, &fine, trace, k)?;
     let refined = refines(hierarchical.tree(), &fine, classical.tree(), &coarse);
-    comparison_text(alloc, trace.version(), k, &of_classical, &of_hierarchical, refined)
+    let version = trace.version();
+    comparison_text(alloc, version, k, &of_classical, &of_hierarchical, refined)
 }
