@@ -1,4 +1,7 @@
 //! The lowest affinities under a coarse hierarchy, noted at the affinities of a finer one.
+//!
+//! Affinities that exclude each other pairwise stand on one way up to the root, so the lowest of
+//! them tells of all: what excludes it excludes each.
 
 ghost use Rattle.std.specs.Prelude.{◌≡◌, ◌+◌, ◌<◌, ◌↔◌, ℕ, List, length, All, IfSome, IsTrue, MatchOption, None, slice_index_or};
 ghost use Rattle.waff_assign.specs.Order.{Refines};
@@ -34,7 +37,7 @@ pub(crate) fn note_messages(
 }
 
 /// Whether what is noted at two affinities that exclude each other excludes each other under the
-/// coarse tree. Carries what is noted down to all below.
+/// coarse tree. Carries what is noted down to all below: each affinity stands after its parent.
 pub(crate) fn agree(lowests: &mut [Option<AffinityId>], tree: &Tree, coarse_tree: &Tree) -> bool
     requires count { length lowests.old ≡ length tree.now }
     requires within { (a : ℕ) → IfSome (slice_index_or lowests.old a None) (λ low. low.0 < length coarse_tree.now) }
