@@ -4,8 +4,10 @@ use Rattle.waff_list.specs.declared.limits.TheConstants.{MAX_WORKERS}
 use Rattle.waff.specs.declared.words.Request.{Request}
 use Rattle.waff.specs.declared.words.Request.TheVariants as request
 
--- where a plan for a number of workers is asked for, that number is within the limits of the planner
+-- where a plan or a comparison for a number of workers is asked for, that number is within the limits of the planner
 abbrev pub IsWithinLimits : Request → Type 0
 IsWithinLimits (request.Plan files workers) = IfSome workers (λ k. 1 ≤ k) × IfSome workers (λ k. k ≤ MAX_WORKERS)
 IsWithinLimits request.PlanOfInput = Unit {0}
 IsWithinLimits (request.Assign files) = Unit {0}
+IsWithinLimits (request.Check files plan) = Unit {0}
+IsWithinLimits (request.Compare files other k) = (1 ≤ k) × (k ≤ MAX_WORKERS)

@@ -1,6 +1,8 @@
 //! The program `waff`: its words, its files, what it prints and its exit status.
 #![tactic(auto)]
 
+ghost use Rattle.std.specs.Prelude.{◌≤◌, IfSome};
+
 mod failure;
 mod files;
 mod words;
@@ -10,51 +12,117 @@ use files::{read_file, read_input};
 use std::alloc::Global;
 use std::process::ExitCode;
 use std::rt::Runtime;
+use std::thread::Threads;
 use std::{env, io};
-use waff_tool::{assign_text, plan_text, split_input};
-use words::{Request, read_words};
+use waff_list::limits::MAX_WORKERS;
+use waff_tool::{assign_text, check_text, compare_text, plan_text, split_input, verdict_status};
+use words::{FileNames, Request, read_words};
 
 fn main(rt: HostRuntime) -> ExitCode {
     let status = match run(&rt) {
-        Ok(()) => 0,
+        Ok(status) => status,
         Err(failure) => failure.report(&rt, rt.alloc()),
     };
     ExitCode::from(status)
 }
 
-/// Does what the words ask for.
-fn run<R: Runtime + AllocGlobal>(rt: &R) -> Result<(), Failure> {
+/// Does what the words ask for, and gives the exit status.
+fn run<R: Runtime + AllocGlobal + Threads + Sync>(rt: &R) -> Result<u8, Failure> {
     let alloc = rt.alloc();
     let words = words_of(rt)?;
     match read_words(alloc, words.as_slice())? {
-        Request::PlanOfInput => {
-            let input = read_input(rt, alloc)?;
-            let (hierarchy, trace) = split_input(input.as_slice());
-            plan_text(alloc, hierarchy, trace, None, &mut io::writer(rt))?;
-        }
-        Request::Assign(files) => {
-            let hierarchy = read_file(rt, alloc, files.hierarchy, 1)?;
-            let trace = read_file(rt, alloc, files.trace, 2)?;
-            assign_text(
-                alloc,
-                hierarchy.as_slice(),
-                trace.as_slice(),
-                &mut io::writer(rt),
-            )?;
-        }
-        Request::Plan(files, workers) => {
-            let hierarchy = read_file(rt, alloc, files.hierarchy, 1)?;
-            let trace = read_file(rt, alloc, files.trace, 2)?;
-            plan_text(
-                alloc,
-                hierarchy.as_slice(),
-                trace.as_slice(),
-                workers,
-                &mut io::writer(rt),
-            )?;
-        }
+        Request::PlanOfInput => plan_of_input(rt, alloc)?,
+        Request::Assign(files) => print_assignment(rt, alloc, files)?,
+        Request::Plan(files, workers) => print_plan(rt, alloc, files, workers)?,
+        Request::Check(files, plan) => return print_verdict(rt, alloc, files, plan),
+        Request::Compare(files, other, k) => print_comparison(rt, alloc, files, other, k)?,
     }
-    Ok(())
+    Ok(0)
+}
+
+fn plan_of_input<R: Runtime>(rt: &R, alloc: Global) -> Result<(), Failure> {
+    let input = read_input(rt, alloc)?;
+    let (hierarchy, trace) = split_input(input.as_slice());
+    Ok(plan_text(alloc, hierarchy, trace, None, &mut io::writer(rt))?)
+}
+
+fn print_assignment<R: Runtime>(
+    rt: &R,
+    alloc: Global,
+    files: FileNames<'_>,
+) -> Result<(), Failure> {
+    let hierarchy = read_file(rt, alloc, files.hierarchy, 1)?;
+    let trace = read_file(rt, alloc, files.trace, 2)?;
+    Ok(assign_text(
+        alloc,
+        hierarchy.as_slice(),
+        trace.as_slice(),
+        &mut io::writer(rt),
+    )?)
+}
+
+fn print_plan<R: Runtime>(
+    rt: &R,
+    alloc: Global,
+    files: FileNames<'_>,
+    workers: Option<u32>,
+) -> Result<(), Failure>
+    requires some { IfSome workers (λ k. 1 ≤ k) }
+    requires few { IfSome workers (λ k. k ≤ MAX_WORKERS) }
+{
+    let hierarchy = read_file(rt, alloc, files.hierarchy, 1)?;
+    let trace = read_file(rt, alloc, files.trace, 2)?;
+    Ok(plan_text(
+        alloc,
+        hierarchy.as_slice(),
+        trace.as_slice(),
+        workers,
+        &mut io::writer(rt),
+    )?)
+}
+
+/// Prints the verdict on a plan, and gives its exit status.
+fn print_verdict<R: Runtime + Threads + Sync>(
+    rt: &R,
+    alloc: Global,
+    files: FileNames<'_>,
+    plan: &str,
+) -> Result<u8, Failure> {
+    let hierarchy = read_file(rt, alloc, files.hierarchy, 1)?;
+    let trace = read_file(rt, alloc, files.trace, 2)?;
+    let plan = read_file(rt, alloc, plan, 3)?;
+    let verdict = check_text(
+        rt,
+        alloc,
+        hierarchy.as_slice(),
+        trace.as_slice(),
+        plan.as_slice(),
+        &mut io::writer(rt),
+    )?;
+    Ok(verdict_status(&verdict))
+}
+
+fn print_comparison<R: Runtime>(
+    rt: &R,
+    alloc: Global,
+    files: FileNames<'_>,
+    other: &str,
+    k: u32,
+) -> Result<(), Failure>
+    requires some { 1 ≤ k }
+    requires few { k ≤ MAX_WORKERS }
+{
+    let first = read_file(rt, alloc, files.hierarchy, 1)?;
+    let second = read_file(rt, alloc, other, 2)?;
+    let trace = read_file(rt, alloc, files.trace, 3)?;
+    Ok(compare_text(
+        alloc,
+        first.as_slice(),
+        second.as_slice(),
+        trace.as_slice(),
+        k,
+        &mut io::writer(rt),
+    )?)
 }
 
 /// The words that the program was started with, its own name first.

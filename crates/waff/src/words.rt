@@ -15,6 +15,10 @@ pub enum Request<'a> {
     Assign(FileNames<'a>),
     /// A plan for this number of workers, or a shortest one where there is no number.
     Plan(FileNames<'a>, Option<u32>),
+    /// The verdict on the plan in the file of this name.
+    Check(FileNames<'a>, &'a str),
+    /// The hierarchy compared with the one in the file of this name, for this number of workers.
+    Compare(FileNames<'a>, &'a str, u32),
 }
 
 /// The names of the files of a command.
@@ -32,6 +36,14 @@ pub fn read_words<'a>(alloc: Global, words: &'a [String]) -> Result<Request<'a>,
     match matches.subcommand() {
         Some(("assign", matches)) => Ok(Request::Assign(file_names(matches)?)),
         Some(("plan", matches)) => Ok(Request::Plan(file_names(matches)?, workers(matches)?)),
+        Some(("check", matches)) => Ok(Request::Check(
+            file_names(matches)?,
+            word(matches, "PLAN")?,
+        )),
+        Some(("compare", matches)) => {
+            let k = workers(matches)?.ok_or(Failure::NoWords)?;
+            Ok(Request::Compare(file_names(matches)?, word(matches, "OTHER")?, k))
+        }
         Some(_) => Err(Failure::NoWords),
         None => Ok(Request::PlanOfInput),
     }
@@ -75,7 +87,14 @@ fn waff<'a>(alloc: Global) -> Result<Command<'a>, AllocError> {
             "plan",
             "Prints a shortest plan, with no limit on the workers, or a plan for a number of workers",
         )?
-        .arg(number_of_workers(alloc))?)
+        .arg(number_of_workers(alloc))?)?
+        .subcommand(command(
+            alloc,
+            "check",
+            "Tells the first fault of a plan, or how good the plan is",
+        )?
+        .arg(file(alloc, "PLAN", "The text of the plan, a CSV file"))?)?
+        .subcommand(compare(alloc)?)
 }
 
 /// A command on a hierarchy and a trace.
@@ -84,6 +103,21 @@ fn command<'a>(alloc: Global, name: &'a str, about: &'a str) -> Result<Command<'
         .about(about)
         .arg(file(alloc, "HIER", "The hierarchy, a TOML file"))?
         .arg(file(alloc, "TRACE", "The trace, a CSV file"))
+}
+
+/// The command on two hierarchies and a trace.
+fn compare<'a>(alloc: Global) -> Result<Command<'a>, AllocError> {
+    Command::new(alloc, "compare")
+        .about("Prints what a classical and a hierarchical tree make of one trace, side by side")
+        .arg(file(alloc, "HIER", "A hierarchy, a TOML file"))?
+        .arg(file(
+            alloc,
+            "OTHER",
+            "The hierarchy of the other model, a TOML file",
+        )
+        .value_name("HIER"))?
+        .arg(file(alloc, "TRACE", "The trace, a CSV file"))?
+        .arg(number_of_workers(alloc).required(true))
 }
 
 fn file<'a>(alloc: Global, id: &'a str, help: &'a str) -> Arg<'a> {
