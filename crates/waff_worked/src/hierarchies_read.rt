@@ -1,6 +1,6 @@
 //! Hierarchies accepted and refused: the hierarchical sample with one change each.
 
-use crate::samples::H1;
+use crate::samples::{self, H1};
 use std::alloc::Global;
 use std::test::Fail;
 use waff_model::{AffinityId, LayoutError, TreeError};
@@ -8,8 +8,7 @@ use waff_read::{HierError, Key, read_hierarchy};
 
 /// The sample with the first of these parts in place of the other.
 fn changed(alloc: Global, part: &str, new: &str) -> Result<String, Fail> {
-    let (before, after) = H1.split_once(part).ok_or("the part is not there")?;
-    Ok(format!(in alloc; "{before}{new}{after}")?)
+    samples::changed(alloc, H1, part, new)
 }
 
 fn fault(alloc: Global, hierarchy: &str) -> Option<HierError> {

@@ -8,6 +8,8 @@ mod building;
 #[cfg(test)]
 mod hierarchies_read;
 #[cfg(test)]
+mod plan_texts;
+#[cfg(test)]
 mod plans;
 #[cfg(test)]
 mod running;
@@ -17,5 +19,7 @@ mod samples;
 mod texts;
 #[cfg(test)]
 mod traces_read;
+#[cfg(test)]
+mod verdicts;
 #[cfg(test)]
 mod worker_plans;

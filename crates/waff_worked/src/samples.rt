@@ -1,4 +1,13 @@
-//! The sample files.
+//! The sample files, and what is printed for them.
+
+use std::alloc::Global;
+use std::test::Fail;
+
+/// The text with another part in place of the first part like this one, which has to be there.
+pub fn changed(alloc: Global, text: &str, part: &str, other: &str) -> Result<String, Fail> {
+    let (before, after) = text.split_once(part).ok_or("the part is not there")?;
+    Ok(format!(in alloc; "{before}{other}{after}")?)
+}
 
 /// The hierarchical sample: Serial; VolA and VolB below it; A0 and A1 below VolA; B0 and B1 below VolB.
 pub const H1: &str = "model = \"hierarchical\"\n\
@@ -147,4 +156,20 @@ length,11\n\
 chain,4 5 6\n\
 cost,8\n\
 bound,22,25\n\
+";
+
+/// The unlimited plan of the second trace under the hierarchical sample.
+pub const PLAN_H1_X2: &str = "message,affinity,start,finish,worker\n\
+1,A0,0,4,-\n\
+2,B0,2,5,-\n\
+3,VolA,10,12,-\n\
+4,B1,0,5,-\n\
+5,Serial,12,13,-\n\
+workers,-\n\
+total,15\n\
+length,13\n\
+chain,3 5\n\
+release,10\n\
+cost,3\n\
+bound,13,13\n\
 ";

@@ -1,6 +1,6 @@
 //! Texts of the commands, from bytes to bytes.
 
-use crate::samples::{ASSIGN_H1_X1, H1, PLAN_H1_HEADER_ALONE, PLAN_H1_X1, X1, X2};
+use crate::samples::{ASSIGN_H1_X1, H1, PLAN_H1_HEADER_ALONE, PLAN_H1_X1, PLAN_H1_X2, X1, X2};
 use std::alloc::Global;
 use std::io::{self, Read, Write};
 use std::process::Abort;
@@ -20,10 +20,7 @@ fn of_plans(rt: HostRuntime) -> Result<(), Fail> {
     let alloc = rt.alloc();
     is_planned(&rt, alloc, X1, PLAN_H1_X1)?;
     is_planned(&rt, alloc, "message,cost,ops\n", PLAN_H1_HEADER_ALONE)?;
-    let released = "message,affinity,start,finish,worker\n1,A0,0,4,-\n2,B0,2,5,-\n3,VolA,10,12,-\n\
-        4,B1,0,5,-\n5,Serial,12,13,-\nworkers,-\ntotal,15\nlength,13\nchain,3 5\nrelease,10\ncost,3\n\
-        bound,13,13\n";
-    is_planned(&rt, alloc, X2, released)
+    is_planned(&rt, alloc, X2, PLAN_H1_X2)
 }
 
 #[test]

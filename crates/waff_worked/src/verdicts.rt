@@ -1,0 +1,165 @@
+//! Verdicts on plans under the hierarchical sample.
+
+use crate::samples::{
+    H1, PLAN_H1_HEADER_ALONE, PLAN_H1_X1, PLAN_H1_X1_WORKERS2, PLAN_H1_X2, X1, X2, changed,
+};
+use std::alloc::Global;
+use std::process::Abort;
+use std::test::Fail;
+use std::thread::Threads;
+use waff_check::Verdict;
+use waff_tool::{ToolError, check_text, verdict_status};
+
+/// The verdict on a plan of the trace, with its line.
+fn verdict_on<R: Threads + Sync>(
+    rt: &R,
+    alloc: Global,
+    trace: &str,
+    plan: &str,
+) -> Result<(Verdict, Vec<u8>), ToolError> {
+    let (trace, plan) = (trace.as_bytes(), plan.as_bytes());
+    let mut written = Vec::new(alloc);
+    let verdict = check_text(rt, alloc, H1.as_bytes(), trace, plan, &mut written)?;
+    Ok((verdict, written))
+}
+
+/// The verdict on the plan of the trace has to be this, with this line and exit status.
+fn is_found<R: Threads + Sync + Abort>(
+    rt: &R,
+    alloc: Global,
+    trace: &str,
+    plan: &str,
+    want: (Verdict, &str, u8),
+) -> Result<(), Fail> {
+    let (verdict, written) = verdict_on(rt, alloc, trace, plan)?;
+    assert_eq!(rt; verdict, want.0);
+    assert_eq!(rt; written.as_slice(), want.1.as_bytes());
+    assert_eq!(rt; verdict_status(&verdict), want.2);
+    Ok(())
+}
+
+#[test]
+fn on_plans_as_they_are_printed(rt: HostRuntime) -> Result<(), Fail> {
+    let alloc = rt.alloc();
+    let shortest = (Verdict::Shortest, "shortest\n", 0);
+    let within = (Verdict::WithinBound, "withinbound\n", 0);
+    is_found(&rt, alloc, X1, PLAN_H1_X1, shortest)?;
+    is_found(&rt, alloc, X1, PLAN_H1_X1_WORKERS2, within)?;
+    is_found(&rt, alloc, X2, PLAN_H1_X2, shortest)?;
+    is_found(
+        &rt,
+        alloc,
+        "message,cost,ops\n",
+        PLAN_H1_HEADER_ALONE,
+        shortest,
+    )
+}
+
+#[test]
+fn on_a_shorter_chain(rt: HostRuntime) -> Result<(), Fail> {
+    let alloc = rt.alloc();
+    let chain = changed(alloc, PLAN_H1_X1, "chain,1 3 5 6", "chain,3 5 6")?;
+    let cost = changed(alloc, chain.as_str(), "cost,9", "cost,5")?;
+    let plan = changed(alloc, cost.as_str(), "bound,9,9", "bound,9,5")?;
+    is_found(
+        &rt,
+        alloc,
+        X1,
+        plan.as_str(),
+        (Verdict::Obeys, "obeys\n", 0),
+    )
+}
+
+#[test]
+fn on_rows_in_another_order(rt: HostRuntime) -> Result<(), Fail> {
+    let alloc = rt.alloc();
+    let others = changed(alloc, PLAN_H1_X1, "1,A0,0,4,-\n", "")?;
+    let plan = changed(
+        alloc,
+        others.as_str(),
+        "workers,-\n",
+        "1,A0,0,4,-\nworkers,-\n",
+    )?;
+    is_found(
+        &rt,
+        alloc,
+        X1,
+        plan.as_str(),
+        (Verdict::Shortest, "shortest\n", 0),
+    )
+}
+
+/// The verdict on the plan of the trace with one change has to be this.
+fn is_fault<R: Threads + Sync + Abort>(
+    rt: &R,
+    alloc: Global,
+    files: (&str, &str),
+    change: (&str, &str),
+    want: (Verdict, &str),
+) -> Result<(), Fail> {
+    let plan = changed(alloc, files.1, change.0, change.1)?;
+    is_found(rt, alloc, files.0, plan.as_str(), (want.0, want.1, 1))
+}
+
+#[test]
+fn on_two_messages_that_overlap(rt: HostRuntime) -> Result<(), Fail> {
+    let overlap = Verdict::Overlap {
+        first: 1,
+        second: 3,
+    };
+    let change = ("3,VolA,4,6,-", "3,VolA,3,5,-");
+    is_fault(
+        &rt,
+        rt.alloc(),
+        (X1, PLAN_H1_X1),
+        change,
+        (overlap, "overlap,1,3\n"),
+    )
+}
+
+#[test]
+fn on_workers(rt: HostRuntime) -> Result<(), Fail> {
+    let alloc = rt.alloc();
+    let files = (X1, PLAN_H1_X1_WORKERS2);
+    let too_many = (Verdict::TooManyAt { tick: 0 }, "toomany,0\n");
+    is_fault(&rt, alloc, files, ("4,B1,3,8,2", "4,B1,0,5,2"), too_many)?;
+    let worker = (Verdict::Worker { message: 4 }, "worker,4\n");
+    is_fault(&rt, alloc, files, ("4,B1,3,8,2", "4,B1,3,8,1"), worker)
+}
+
+#[test]
+fn on_rows_that_tell_wrong_things(rt: HostRuntime) -> Result<(), Fail> {
+    let alloc = rt.alloc();
+    let files = (X1, PLAN_H1_X1);
+    let affinity = (Verdict::Affinity { message: 2 }, "affinity,2\n");
+    is_fault(&rt, alloc, files, ("2,B0,0,3,-", "2,VolB,0,3,-"), affinity)?;
+    let finish = (Verdict::Finish { message: 2 }, "finish,2\n");
+    is_fault(&rt, alloc, files, ("2,B0,0,3,-", "2,B0,0,4,-"), finish)
+}
+
+#[test]
+fn on_a_summary_that_tells_wrong_things(rt: HostRuntime) -> Result<(), Fail> {
+    let alloc = rt.alloc();
+    let files = (X1, PLAN_H1_X1);
+    is_fault(
+        &rt,
+        alloc,
+        files,
+        ("cost,9", "cost,10"),
+        (Verdict::Totals, "totals\n"),
+    )?;
+    let no_chain = (Verdict::NotAChain { place: 2 }, "notachain,2\n");
+    is_fault(&rt, alloc, files, ("chain,1 3 5 6", "chain,1 4"), no_chain)
+}
+
+#[test]
+fn on_a_start_before_the_release(rt: HostRuntime) -> Result<(), Fail> {
+    let early = (Verdict::Early { message: 2 }, "early,2\n");
+    is_fault(
+        &rt,
+        rt.alloc(),
+        (X2, PLAN_H1_X2),
+        ("2,B0,2,5,-", "2,B0,1,4,-"),
+        early,
+    )
+}
