@@ -85,11 +85,7 @@ fn push_header(text: &mut String, version: Version) -> Result<(), AllocError>
 }
 
 /// Appends the line of one hierarchy.
-fn push_measured(
-    text: &mut String,
-    version: Version,
-    measured: &Measured,
-) -> Result<(), AllocError>
+fn push_measured(text: &mut String, version: Version, measured: &Measured) -> Result<(), AllocError>
     ensures { OnOk result (string_bytes text.new ≡ string_bytes text.old ++ line_text (measured_line version measured.now)) }
 {
     let kind = kind_name(measured.kind);

@@ -31,15 +31,15 @@ returns c =
     (start_of made.table.starts) needs.ensures.needs c.in_ok-made.ensures.follows in
     let bound = chain.ensures.bound needs.needs needs.ensures.needs (rw workers c.in_ok-made.ensures.follows) in
     let twice : (other : ℕ → ℕ)
-        → IsWorkerPlan (IsOrdered c.tree-tree.result.now c.args.assigned.now) (work_of made.table.timings) made.workers other
-        → made.workers * length_of (work_of made.table.timings) (start_of made.table.starts)
-        ≤ 2 * made.workers * length_of (work_of made.table.timings) other =
+    → IsWorkerPlan (IsOrdered c.tree-tree.result.now c.args.assigned.now) (work_of made.table.timings) made.workers other
+    → made.workers * length_of (work_of made.table.timings) (start_of made.table.starts)
+    ≤ 2 * made.workers * length_of (work_of made.table.timings) other =
     λ other. chain.ensures.twice needs.needs other needs.ensures.needs (rw workers c.in_ok-made.ensures.follows) in
     let ratio : ((m : ℕ) → IsNumber (work_of made.table.timings) m → (work_of made.table.timings).release m ≡ 0)
-        → (other : ℕ → ℕ)
-        → IsWorkerPlan (IsOrdered c.tree-tree.result.now c.args.assigned.now) (work_of made.table.timings) made.workers other
-        → made.workers * length_of (work_of made.table.timings) (start_of made.table.starts)
-        ≤ (2 * made.workers - 1) * length_of (work_of made.table.timings) other =
+    → (other : ℕ → ℕ)
+    → IsWorkerPlan (IsOrdered c.tree-tree.result.now c.args.assigned.now) (work_of made.table.timings) made.workers other
+    → made.workers * length_of (work_of made.table.timings) (start_of made.table.starts)
+    ≤ (2 * made.workers - 1) * length_of (work_of made.table.timings) other =
     λ free other. chain.ensures.ratio needs.needs other needs.ensures.needs free (rw workers c.in_ok-made.ensures.follows) in
     record {
       starts = c.in_ok-plan.plan.starts;
