@@ -4,6 +4,7 @@ pub mod SlotLaws
 pub mod PlanLaws
 pub mod FirstLaws
 pub mod TextLaws
+pub mod TickLaws
 pub mod CrowdLaws
 pub mod ShiftLaws
 pub mod ShiftSteps

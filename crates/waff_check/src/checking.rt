@@ -79,7 +79,7 @@ fn find<R: Threads + Sync>(
     if let Some((first, second)) = first_overlap(rt, alloc, tree, assigned, &plan)? {
         return Ok(Verdict::Overlap { first, second });
     }
-    if let Some(tick) = crowded(&plan, workers) {
+    if let Some(tick) = crowded(alloc, &plan, workers)? {
         return Ok(Verdict::TooManyAt { tick });
     }
     if let Some(message) = wrong_worker(alloc, &plan, given, workers)? {

@@ -1,34 +1,16 @@
 //! Ticks at which more messages run than there are workers.
 
-ghost use Rattle.std.specs.Prelude.{◌≡◌, Some, None, ◌<◌, ◌≤◌, MatchOption, length};
+ghost use Rattle.std.specs.Prelude.{◌≡◌, ℕ, Some, IfOk, MatchOption};
+ghost use Rattle.std.specs.List.Sorted.{IsNonDecreasing};
 ghost use Rattle.waff_plan.specs.Timing.{start_of, work_of};
-ghost use Rattle.waff_plan.specs.Workers as workers;
+ghost use Rattle.waff_plan.specs.Work.{Work};
 ghost use Rattle.waff_check.specs.Crowds as crowds;
+ghost use Rattle.waff_check.specs.Crowds.{AreTicks};
 ghost use Rattle.waff_check.specs.Faults.{IsCrowded, IsLeastOf, NoneOf};
 
+use crate::ticks::Ticks;
+use std::alloc::{AllocError, Global};
 use waff_plan::Plan;
-
-// Whether message `n` runs at a tick.
-fn runs(plan: &Plan, tick: u64, n: u32) -> bool
-    requires from { 1 ≤ n }
-    requires to { n ≤ length plan.now.timings }
-    ensures { result ≡ workers.runs_at (work_of plan.now.timings) (start_of plan.now.starts) tick n }
-{
-    plan.start(n) <= tick && tick < plan.finish(n)
-}
-
-// How many messages run at a tick.
-fn running(plan: &Plan, tick: u64) -> u32
-    ensures { result ≡ workers.running (work_of plan.now.timings) (start_of plan.now.starts) tick }
-{
-    let mut count = 0;
-    for n in 1..plan.len() + 1 {
-        if runs(plan, tick, n) {
-            count += 1;
-        }
-    }
-    count
-}
 
 // Whether a tick is before another, which need not be there.
 fn is_earlier(tick: u64, other: Option<u64>) -> bool
@@ -41,10 +23,13 @@ fn is_earlier(tick: u64, other: Option<u64>) -> bool
 }
 
 // The first tick so far at which more than `k` messages run, with one more tick.
-fn with_tick(plan: &Plan, k: u32, first: Option<u64>, tick: u64) -> Option<u64>
-    ensures { result ≡ crowds.with_tick (work_of plan.now.timings) (start_of plan.now.starts) k first tick }
+fn with_tick(ticks: &Ticks, k: u32, first: Option<u64>, tick: u64) -> Option<u64>
+    requires starts { IsNonDecreasing ticks.now.starts.items }
+    requires finishes { IsNonDecreasing ticks.now.finishes.items }
+    ensures { (work : Work) (start : ℕ → ℕ) → AreTicks work start ticks.now.starts.items ticks.now.finishes.items
+        → result ≡ crowds.with_tick work start k first tick }
 {
-    if is_earlier(tick, first) && k < running(plan, tick) {
+    if is_earlier(tick, first) && ticks.is_crowded(k, tick) {
         Some(tick)
     } else {
         first
@@ -52,24 +37,29 @@ fn with_tick(plan: &Plan, k: u32, first: Option<u64>, tick: u64) -> Option<u64>
 }
 
 // The first tick at which more than `k` messages run: it is the start of a message.
-fn crowded_for(plan: &Plan, k: u32) -> Option<u64>
-    ensures { MatchOption result (NoneOf (IsCrowded (work_of plan.now.timings) (start_of plan.now.starts) (Some k)))
-        (IsLeastOf (IsCrowded (work_of plan.now.timings) (start_of plan.now.starts) (Some k))) }
+fn crowded_for(alloc: Global, plan: &Plan, k: u32) -> Result<Option<u64>, AllocError>
+    ensures { IfOk result (λ found. MatchOption found (NoneOf (IsCrowded (work_of plan.now.timings) (start_of plan.now.starts) (Some k)))
+        (IsLeastOf (IsCrowded (work_of plan.now.timings) (start_of plan.now.starts) (Some k)))) }
 {
+    let ticks = Ticks::new(alloc, plan)?;
     let mut first = None;
     for n in 1..plan.len() + 1 {
-        first = with_tick(plan, k, first, plan.start(n));
+        first = with_tick(&ticks, k, first, plan.start(n));
     }
-    first
+    Ok(first)
 }
 
 /// The first tick at which more messages run than there are workers, if the plan has workers.
-pub(crate) fn crowded(plan: &Plan, workers: Option<u32>) -> Option<u64>
-    ensures { MatchOption result (NoneOf (IsCrowded (work_of plan.now.timings) (start_of plan.now.starts) workers))
-        (IsLeastOf (IsCrowded (work_of plan.now.timings) (start_of plan.now.starts) workers)) }
+pub(crate) fn crowded(
+    alloc: Global,
+    plan: &Plan,
+    workers: Option<u32>,
+) -> Result<Option<u64>, AllocError>
+    ensures { IfOk result (λ found. MatchOption found (NoneOf (IsCrowded (work_of plan.now.timings) (start_of plan.now.starts) workers))
+        (IsLeastOf (IsCrowded (work_of plan.now.timings) (start_of plan.now.starts) workers))) }
 {
     match workers {
-        None => None,
-        Some(k) => crowded_for(plan, k),
+        None => Ok(None),
+        Some(k) => crowded_for(alloc, plan, k),
     }
 }

@@ -9,7 +9,8 @@
 //!
 //! Checking:
 //! - `verdict`: what a check finds.
-//! - `overlap`, `crowd`, `worker`, `told`, `totals`, `links`: one kind of fault each; `shifts`: whether any worker is wrong.
+//! - `overlap`, `crowd`, `worker`, `told`, `totals`, `links`: one kind of fault each; `shifts`: whether any worker is wrong;
+//!   `ticks`: whether a tick is crowded.
 //! - `checking`: the check, over all kinds.
 #![tactic(auto)]
 
@@ -28,6 +29,7 @@ mod row;
 mod shifts;
 mod slots;
 mod summary;
+mod ticks;
 mod told;
 mod totals;
 mod verdict;

@@ -15,8 +15,8 @@ returns-in-Some-early_start g c =
     let workers = c.workers-workers.result in
     let good = linked claim _ _ p.timings p.starts workers c.summary.result.now c.chain.result.now c.workers-workers.ensures c.summary.ensures.summary c.chain.ensures.chain
     (no-pair (before_of claim) work start _ c.in_default.not-Some c.in_ok-first.ensures)
-    (none-found (IsCrowded work start workers) _ c.in_default-crowded.not-Some c.crowded.ensures)
-    (none-found (HasWrongWorker work start (worker_in claim.plan) workers) _ c.in_default-2.not-Some c.in_ok-message.ensures)
+    (none-found (IsCrowded work start workers) _ c.in_default-2.not-Some c.in_ok-tick.ensures)
+    (none-found (HasWrongWorker work start (worker_in claim.plan) workers) _ c.in_default-3.not-Some c.in_ok-message.ensures)
     (none-found (HasWrongName work (told_name claim.plan) (name_in claim.tree claim.assigned)) _ c.in_default-wrong_name.not-Some c.wrong_name.ensures)
     (none-found (HasWrongFinish work start (told_finish claim.plan)) _ c.in_default-wrong_finish.not-Some c.wrong_finish.ensures)
     (c.if-not-has_totals.ensures.0 refl)
@@ -32,8 +32,8 @@ returns g c =
     let workers = c.workers-workers.result in
     let good = linked claim _ _ p.timings p.starts workers c.summary.result.now c.chain.result.now c.workers-workers.ensures c.summary.ensures.summary c.chain.ensures.chain
     (no-pair (before_of claim) work start _ c.in_default.not-Some c.in_ok-first.ensures)
-    (none-found (IsCrowded work start workers) _ c.in_default-crowded.not-Some c.crowded.ensures)
-    (none-found (HasWrongWorker work start (worker_in claim.plan) workers) _ c.in_default-2.not-Some c.in_ok-message.ensures)
+    (none-found (IsCrowded work start workers) _ c.in_default-2.not-Some c.in_ok-tick.ensures)
+    (none-found (HasWrongWorker work start (worker_in claim.plan) workers) _ c.in_default-3.not-Some c.in_ok-message.ensures)
     (none-found (HasWrongName work (told_name claim.plan) (name_in claim.tree claim.assigned)) _ c.in_default-wrong_name.not-Some c.wrong_name.ensures)
     (none-found (HasWrongFinish work start (told_finish claim.plan)) _ c.in_default-wrong_finish.not-Some c.wrong_finish.ensures)
     (c.if-not-has_totals.ensures.0 refl)
