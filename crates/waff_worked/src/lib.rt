@@ -6,6 +6,8 @@ mod affinities;
 #[cfg(test)]
 mod building;
 #[cfg(test)]
+mod comparisons;
+#[cfg(test)]
 mod hierarchies_read;
 #[cfg(test)]
 mod plan_texts;

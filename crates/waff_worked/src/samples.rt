@@ -173,3 +173,21 @@ release,10\n\
 cost,3\n\
 bound,13,13\n\
 ";
+
+/// The comparison of the classical and the hierarchical sample on the first trace for two workers.
+pub const COMPARE_C1_H1_X1: &str = "workers,2\n\
+total,17\n\
+model,length,chain,list,listchain,left,right\n\
+classical,17,17,17,17,34,34\n\
+hierarchical,9,9,11,8,22,25\n\
+refines,yes\n\
+";
+
+/// The comparison of the hierarchical sample and a classical one that it does not refine.
+pub const COMPARE_C2_H1: &str = "workers,2\n\
+total,2\n\
+model,length,chain,list,listchain,left,right\n\
+classical,1,1,1,1,2,3\n\
+hierarchical,2,2,2,2,4,4\n\
+refines,no\n\
+";
