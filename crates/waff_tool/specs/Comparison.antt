@@ -121,15 +121,11 @@ pub record IsCompareText (first_file second_file trace_file : List ℕ) (k : ℕ
   pub is_trace : trace_of classical.spaces trace_file ≡ Ok trace
   pub compared : IsCompared classical hierarchical trace k text
 
--- an error tells why the hierarchy of this number is refused; want of memory tells nothing of it
+-- an error tells why the hierarchy of this number is refused, or that memory was
 abbrev pub RefusesHierarchy : ℕ → List ℕ → ToolError → Type 0
 RefusesHierarchy number hierarchy_file (tool.Hier file fault) = (file ≡ number) × (hierarchy_of hierarchy_file ≡ Err fault)
-RefusesHierarchy number hierarchy_file (tool.Trace fault) = ⊥
-RefusesHierarchy number hierarchy_file (tool.PlanText fault) = ⊥
-RefusesHierarchy number hierarchy_file tool.SpacesDiffer = ⊥
-RefusesHierarchy number hierarchy_file tool.ModelsSame = ⊥
-RefusesHierarchy number hierarchy_file tool.Write = ⊥
 RefusesHierarchy number hierarchy_file tool.Memory = Unit {0}
+RefusesHierarchy number hierarchy_file error = ⊥
 
 -- two files that are hierarchies
 abbrev pub AreHierarchies : List ℕ → List ℕ → Hierarchy → Hierarchy → Type 0
@@ -138,19 +134,15 @@ AreHierarchies first_file second_file first second = (hierarchy_of first_file �
 -- an error tells the first of the faults of two hierarchies, in this order: the first one is refused, the second one is, their
 -- spaces differ, their models are the same
 abbrev pub RefusesModels : List ℕ → List ℕ → ToolError → Type 0
-RefusesModels first_file second_file (tool.Hier file fault) =
-    RefusesHierarchy 1 first_file (tool.Hier file fault)
-    ⊎ ((first : Hierarchy) × (hierarchy_of first_file ≡ Ok first) × RefusesHierarchy 2 second_file (tool.Hier file fault))
 RefusesModels first_file second_file tool.SpacesDiffer =
     (first : Hierarchy) × (second : Hierarchy) × AreHierarchies first_file second_file first second
     × ¬ SameSpaces first.spaces second.spaces
 RefusesModels first_file second_file tool.ModelsSame =
     (first : Hierarchy) × (second : Hierarchy) × AreHierarchies first_file second_file first second
     × SameSpaces first.spaces second.spaces × (first.kind ≡ second.kind)
-RefusesModels first_file second_file (tool.Trace fault) = ⊥
-RefusesModels first_file second_file (tool.PlanText fault) = ⊥
-RefusesModels first_file second_file tool.Write = ⊥
-RefusesModels first_file second_file tool.Memory = Unit {0}
+RefusesModels first_file second_file error =
+    RefusesHierarchy 1 first_file error
+    ⊎ ((first : Hierarchy) × (hierarchy_of first_file ≡ Ok first) × RefusesHierarchy 2 second_file error)
 
 -- an error tells the first of the faults: of the hierarchies, and then of the trace; want of memory and a writer's fault tell
 -- nothing of the files
@@ -158,10 +150,5 @@ abbrev pub RefusesComparison : List ℕ → List ℕ → List ℕ → ToolError 
 RefusesComparison first_file second_file trace_file (tool.Trace fault) =
     (classical : Hierarchy) × (hierarchical : Hierarchy) × AreModels first_file second_file classical hierarchical
     × (trace_of classical.spaces trace_file ≡ Err fault)
-RefusesComparison first_file second_file trace_file (tool.Hier file fault) =
-    RefusesModels first_file second_file (tool.Hier file fault)
-RefusesComparison first_file second_file trace_file (tool.PlanText fault) = ⊥
-RefusesComparison first_file second_file trace_file tool.SpacesDiffer = RefusesModels first_file second_file tool.SpacesDiffer
-RefusesComparison first_file second_file trace_file tool.ModelsSame = RefusesModels first_file second_file tool.ModelsSame
 RefusesComparison first_file second_file trace_file tool.Write = Unit {0}
-RefusesComparison first_file second_file trace_file tool.Memory = Unit {0}
+RefusesComparison first_file second_file trace_file error = RefusesModels first_file second_file error
