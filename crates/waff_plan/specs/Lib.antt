@@ -9,3 +9,5 @@ pub mod Latest
 pub mod Table
 pub mod Links
 pub mod CostedChain
+pub mod Bound
+pub mod Totals
