@@ -1,0 +1,6 @@
+//! What operations do to cells: the meaning of a message, and the state of all cells.
+#![tactic(auto)]
+
+mod state;
+
+pub use state::State;
