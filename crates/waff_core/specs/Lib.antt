@@ -1,0 +1,4 @@
+pub mod Job
+pub mod Machine
+pub mod Refused
+pub mod Settled
