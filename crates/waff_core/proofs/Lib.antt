@@ -1,0 +1,4 @@
+pub mod Phases
+pub mod Settling
+pub mod Sound
+pub mod Clearings
