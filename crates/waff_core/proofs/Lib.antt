@@ -2,3 +2,6 @@ pub mod Phases
 pub mod Settling
 pub mod Sound
 pub mod Clearings
+pub mod Determined
+pub mod OneActor
+pub mod Arrival
