@@ -2,3 +2,4 @@ pub mod Job
 pub mod Machine
 pub mod Refused
 pub mod Settled
+pub mod Laws
