@@ -14,3 +14,5 @@ pub mod CandidateLemmas
 pub mod WakeLemmas
 pub mod OrderingLemmas
 pub mod DependentLemmas
+pub mod Uniqueness
+pub mod SeatsUniqueness

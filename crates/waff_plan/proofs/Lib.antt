@@ -9,3 +9,4 @@ pub mod Planned
 pub mod OrderKept
 pub mod Linkings
 pub mod Ratios
+pub mod Uniqueness

@@ -11,3 +11,4 @@ pub mod Links
 pub mod CostedChain
 pub mod Bound
 pub mod Totals
+pub mod Unique

@@ -12,6 +12,7 @@ mod table;
 mod timetable;
 mod timing;
 mod totals;
+pub mod unique;
 pub mod unlimited;
 
 pub use linked::Chain;

@@ -1,0 +1,7 @@
+pub mod Phases
+pub mod Settling
+pub mod Sound
+pub mod Clearings
+pub mod Determined
+pub mod OneActor
+pub mod Arrival

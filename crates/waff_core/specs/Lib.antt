@@ -1,0 +1,5 @@
+pub mod Job
+pub mod Machine
+pub mod Refused
+pub mod Settled
+pub mod Laws
