@@ -17,7 +17,7 @@ use Rattle.waff_core.proofs.Clearings.{listed_needs_are_enough}
 use Rattle.waff_core.proofs.Determined.{last_is_one}
 
 module _ (job : JobValue) (is : IsJob job) where
-  sound_at : (seats : ℕ) (s : Core) → Reaches job seats s → Sound job s
+  pub sound_at : (seats : ℕ) (s : Core) → Reaches job seats s → Sound job s
   sound_at seats s reaches = sound_reached job is seats reaches.0 s reaches.1
 
   pub draws_are_few : DrawsAreFew job

@@ -5,3 +5,4 @@ pub mod Clearings
 pub mod Determined
 pub mod OneActor
 pub mod Arrival
+pub mod StatusLaws

@@ -10,11 +10,13 @@ use Rattle.waff_cells.specs.Serial.{SameParcel, ops_of, serial}
 use Rattle.waff_core.specs.Job.{JobValue, IsIn, IsOwner}
 use Rattle.waff_core.specs.Machine.{Core, Runs, IsClear, opening, phase_of}
 use Rattle.waff_core.specs.Refused.{FailsFirst}
+use Rattle.waff_core.specs.Statuses.{HasStatus}
 use Rattle.waff_core.specs.Settled.{IsLast, CellsAreSerial}
 use Rattle.waff_core.specs.declared.event.Event.{Event}
 use Rattle.waff_core.specs.declared.event.Event.TheVariants.{Draw, Begin, End}
 use Rattle.waff_core.specs.declared.phase.Phase.TheVariants.{Drawn, Running}
 use Rattle.waff_core.specs.declared.refusal.CoreError.{CoreError}
+use Rattle.waff_core.specs.declared.status.Status.{Status}
 
 -- the machine with this many actors reaches the state: some events lead to it from the opening
 abbrev pub Reaches : JobValue → ℕ → Core → Type 0
@@ -61,6 +63,14 @@ OneActorEnds job =
 -- the number of draws is at most the number of places of the order and of actors
 abbrev pub DrawsAreFew : JobValue → Type 0
 DrawsAreFew job = (seats : ℕ) (s : Core) → Reaches job seats s → s.drawn ≤ length job.order + seats
+
+-- each message has one status: it waits, or one actor holds it, or one runs it, or it is done
+abbrev pub EachHasOneStatus : JobValue → Type 0
+EachHasOneStatus job =
+    (seats : ℕ) (s : Core) → Reaches job seats s
+    → (m : ℕ) → IsIn job m
+    → (status : Status) × HasStatus job s m status
+    × ((other : Status) → HasStatus job s m other → other ≡ status)
 
 -- a message whose needs are done is clear: every earlier message that excludes it is done
 abbrev pub NeedsAreEnough : JobValue → Type 0

@@ -2,7 +2,7 @@
 //! whose contract is the law.
 
 ghost use Rattle.waff_core.specs.Job.{JobValue, IsJob};
-ghost use Rattle.waff_core.specs.Laws.{RunsOnce, FailsOnce, FailsOrRuns, StaysAccepted, OneActorEnds, DrawsAreFew, NeedsAreEnough, RunningDoNotExclude, LastIsOne, AlwaysSerial, EachCellIsSerial, AllDoneIsSerial, BeginsSettled};
+ghost use Rattle.waff_core.specs.Laws.{RunsOnce, FailsOnce, FailsOrRuns, StaysAccepted, OneActorEnds, DrawsAreFew, EachHasOneStatus, NeedsAreEnough, RunningDoNotExclude, LastIsOne, AlwaysSerial, EachCellIsSerial, AllDoneIsSerial, BeginsSettled};
 
 /// The machine is deterministic: a list of events leads from a state to no more than one.
 pub fn runs_once()
@@ -32,6 +32,11 @@ pub fn one_actor_ends()
 /// The number of draws is at most the number of messages of the order and of actors.
 pub fn draws_are_few()
     ensures { (job : JobValue) → IsJob job → DrawsAreFew job }
+{}
+
+/// Each message waits, or is held by one actor, or is run by one actor, or is done.
+pub fn each_has_one_status()
+    ensures { (job : JobValue) → IsJob job → EachHasOneStatus job }
 {}
 
 /// Looking at the needs of a message is enough.
