@@ -13,6 +13,7 @@ use Rattle.waff_core.specs.declared.phase.Phase.TheVariants.{Running}
 use Rattle.waff_core.proofs.Phases.{Has, ended, ended_few}
 use Rattle.waff_core.proofs.Settling.{serial_same, clear_settled, ended_settled}
 use Rattle.waff_core.proofs.Sound.{Sound, sound_reached, seats_stay, drawn_is_in}
+use Rattle.waff_core.proofs.OrderLength.{order_is_short}
 use Rattle.waff_core.proofs.Clearings.{listed_needs_are_enough}
 use Rattle.waff_core.proofs.Determined.{last_is_one}
 
@@ -24,7 +25,10 @@ module _ (job : JobValue) (is : IsJob job) where
   draws_are_few seats s reaches =
       let bound = (sound_at seats s reaches).draws in
       let few : ended s.phases ≤ length s.phases = ended_few s.phases in
-      let count : length s.phases ≡ seats = seats_stay job seats reaches.0 s reaches.1 in
+      let seated : length s.phases ≡ seats = seats_stay job seats reaches.0 s reaches.1 in
+      let short : length job.order ≤ length job.needs = order_is_short job.needs job.order is.order in
+      let count : length job.needs ≡ length job.assigned = is.needs.count in
+      let also : length job.assigned ≡ length job.ops = is.count in
       omega arith
 
   pub needs_suffice : NeedsAreEnough job

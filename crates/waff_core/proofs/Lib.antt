@@ -4,5 +4,7 @@ pub mod Sound
 pub mod Clearings
 pub mod Determined
 pub mod OneActor
+pub mod Reaching
+pub mod OrderLength
 pub mod Arrival
 pub mod StatusLaws

@@ -60,9 +60,9 @@ OneActorEnds job =
     (seats x : ℕ) → 1 ≤ x → x ≤ seats
     → (s : Core) × Runs job (opening seats) (rounds x (length job.order)) s × AreAllDone job s
 
--- the number of draws is at most the number of places of the order and of actors
+-- the number of draws is at most that of the messages and of the actors
 abbrev pub DrawsAreFew : JobValue → Type 0
-DrawsAreFew job = (seats : ℕ) (s : Core) → Reaches job seats s → s.drawn ≤ length job.order + seats
+DrawsAreFew job = (seats : ℕ) (s : Core) → Reaches job seats s → s.drawn ≤ length job.ops + seats
 
 -- each message has one status: it waits, or one actor holds it, or one runs it, or it is done
 abbrev pub EachHasOneStatus : JobValue → Type 0

@@ -29,7 +29,7 @@ pub fn one_actor_ends()
     ensures { (job : JobValue) → IsJob job → OneActorEnds job }
 {}
 
-/// The number of draws is at most the number of messages of the order and of actors.
+/// The number of draws is at most that of the messages and of the actors.
 pub fn draws_are_few()
     ensures { (job : JobValue) → IsJob job → DrawsAreFew job }
 {}
