@@ -7,7 +7,7 @@ use Rattle.waff_core.specs.Job.{JobValue}
 use Rattle.waff_core.specs.Machine.{Core, Steps, Runs, opening, phase_of, begun_by, ended_by}
 use Rattle.waff_core.specs.Refused.{IsBusy, HasNothing, IsNotYet, IsLeastUndone, IsRefused, FailsFirst, actor_of}
 use Rattle.waff_core.specs.Settled.{IsLast}
-use Rattle.waff_core.specs.Laws.{RunsOnce, FailsOnce, FailsOrRuns, StaysAccepted, LastIsOne}
+use Rattle.waff_core.specs.Laws.{RunsOnce, FailsOnce, NeverBoth, StaysAccepted, LastIsOne}
 use Rattle.waff_core.specs.declared.event.Event.{Event}
 use Rattle.waff_core.specs.declared.event.Event.TheVariants.{Draw, Begin, End}
 use Rattle.waff_core.specs.declared.phase.Phase.{Phase}
@@ -81,8 +81,8 @@ fault_is_past job seats events s n error runs fails before =
     step_is_allowed job fails.state fails.event through.1 (fails.before + 1) error
     (subst (λ u. Steps job u fails.event through.1) same through.3) fails.refused
 
-pub fails_or_runs : (job : JobValue) → FailsOrRuns job
-fails_or_runs job seats events s error runs fails =
+pub never_both : (job : JobValue) → NeverBoth job
+never_both job seats events s error runs fails =
     fault_is_past job seats events s (length events) error
     (subst (λ es. Runs job (opening seats) es s) (sym (take-length events)) runs) fails
     (slice_get_within events fails.before fails.event fails.is)

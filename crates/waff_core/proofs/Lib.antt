@@ -4,6 +4,7 @@ pub mod Sound
 pub mod Clearings
 pub mod Determined
 pub mod OneActor
+pub mod Deciding
 pub mod Reaching
 pub mod OrderLength
 pub mod Arrival

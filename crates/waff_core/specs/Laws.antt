@@ -29,7 +29,8 @@ AreAllDone job s = (m : ℕ) → IsIn job m → s.done m ≡ true
 -- events lead from a state to no more than one
 abbrev pub RunsOnce : JobValue → Type 0
 RunsOnce job =
-    (s : Core) (events : List Event) (t u : Core) → Runs job s events t → Runs job s events u → t ≡ u
+    (s : Core) (events : List Event) (t u : Core)
+    → Runs job s events t → Runs job s events u → t ≡ u
 
 -- events have no more than one first fault
 abbrev pub FailsOnce : JobValue → Type 0
@@ -37,9 +38,16 @@ FailsOnce job =
     (seats : ℕ) (events : List Event) (one other : CoreError)
     → FailsFirst job seats events one → FailsFirst job seats events other → one ≡ other
 
--- events that the machine accepts have no fault
-abbrev pub FailsOrRuns : JobValue → Type 0
-FailsOrRuns job =
+-- all events of a list are accepted, or the list has a first fault
+abbrev pub RunsOrFails : JobValue → Type 0
+RunsOrFails job =
+    (seats : ℕ) (events : List Event)
+    → ((s : Core) × Runs job (opening seats) events s)
+    ⊎ ((error : CoreError) × FailsFirst job seats events error)
+
+-- never both
+abbrev pub NeverBoth : JobValue → Type 0
+NeverBoth job =
     (seats : ℕ) (events : List Event) (s : Core) (error : CoreError)
     → Runs job (opening seats) events s → ¬ FailsFirst job seats events error
 
@@ -82,7 +90,8 @@ NeedsAreEnough job =
 abbrev pub RunningDoNotExclude : JobValue → Type 0
 RunningDoNotExclude job =
     (seats : ℕ) (s : Core) → Reaches job seats s
-    → (x y m n : ℕ) → x ≢ y → phase_of s.phases x ≡ Some (Running m) → phase_of s.phases y ≡ Some (Running n)
+    → (x y m n : ℕ) → x ≢ y
+    → phase_of s.phases x ≡ Some (Running m) → phase_of s.phases y ≡ Some (Running n)
     → ¬ Excludes job.layout.tree (affinity_of job.assigned m) (affinity_of job.assigned n)
 
 -- there is no more than one last message at or above an affinity
@@ -107,12 +116,14 @@ EachCellIsSerial job =
 abbrev pub AllDoneIsSerial : JobValue → Type 0
 AllDoneIsSerial job =
     (seats : ℕ) (s : Core) → Reaches job seats s → AreAllDone job s
-    → (cell : Cell) → IsCell job.layout.spaces cell → s.cells cell ≡ serial job.ops (length job.ops) cell
+    → (cell : Cell) → IsCell job.layout.spaces cell
+    → s.cells cell ≡ serial job.ops (length job.ops) cell
 
 -- actor x may begin message m, or runs it
 abbrev pub MayRun : JobValue → Core → ℕ → ℕ → Type 0
 MayRun job s x m =
-    ((phase_of s.phases x ≡ Some (Drawn m)) × IsClear job s m) ⊎ (phase_of s.phases x ≡ Some (Running m))
+    ((phase_of s.phases x ≡ Some (Drawn m)) × IsClear job s m)
+    ⊎ (phase_of s.phases x ≡ Some (Running m))
 
 -- from when a message may begin until its end, the parcels of its footprint's owners are those of
 -- arrival order before it, and its meaning makes them those after it

@@ -6,7 +6,8 @@ use Rattle.waff_core.specs.declared.phase.Phase.TheVariants.{Drawn, Running as R
 use Rattle.waff_core.specs.declared.status.Status.{Status}
 use Rattle.waff_core.specs.declared.status.Status.TheVariants.{Waiting, Held, Running, Done}
 
--- the status of message m: no actor has drawn it, an actor holds it, an actor runs it, or it is done
+-- the status of message m: no actor has drawn it, an actor holds it, an actor runs it, or it is
+-- done
 abbrev pub HasStatus : JobValue → Core → ℕ → Status → Type 0
 HasStatus job s m Waiting = (place : ℕ) → StandsAt job.order place m → s.drawn ≤ place
 HasStatus job s m (Held actor) = phase_of s.phases actor ≡ Some (Drawn m)

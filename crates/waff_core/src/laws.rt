@@ -2,7 +2,7 @@
 //! whose contract is the law.
 
 ghost use Rattle.waff_core.specs.Job.{JobValue, IsJob};
-ghost use Rattle.waff_core.specs.Laws.{RunsOnce, FailsOnce, FailsOrRuns, StaysAccepted, OneActorEnds, DrawsAreFew, EachHasOneStatus, NeedsAreEnough, RunningDoNotExclude, LastIsOne, AlwaysSerial, EachCellIsSerial, AllDoneIsSerial, BeginsSettled};
+ghost use Rattle.waff_core.specs.Laws.{RunsOnce, FailsOnce, RunsOrFails, NeverBoth, StaysAccepted, OneActorEnds, DrawsAreFew, EachHasOneStatus, NeedsAreEnough, RunningDoNotExclude, LastIsOne, AlwaysSerial, EachCellIsSerial, AllDoneIsSerial, BeginsSettled};
 
 /// The machine is deterministic: a list of events leads from a state to no more than one.
 pub fn runs_once()
@@ -14,9 +14,14 @@ pub fn fails_once()
     ensures { (job : JobValue) → FailsOnce job }
 {}
 
-/// A list of events that is accepted has no fault.
-pub fn fails_or_runs()
-    ensures { (job : JobValue) → FailsOrRuns job }
+/// Every list of events is accepted or has a first fault.
+pub fn runs_or_fails()
+    ensures { (job : JobValue) → IsJob job → RunsOrFails job }
+{}
+
+/// No list of events is accepted and has a fault.
+pub fn never_both()
+    ensures { (job : JobValue) → NeverBoth job }
 {}
 
 /// A list of events that is accepted stays accepted when cut short.
