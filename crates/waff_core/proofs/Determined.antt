@@ -16,10 +16,10 @@ use Rattle.waff_core.specs.declared.refusal.CoreError.{CoreError}
 use Rattle.waff_core.specs.declared.refusal.CoreError.TheVariants.{Busy, Nothing, NotYet, Memory}
 
 -- an actor holds no more than one message, and runs no more than one
-same_drawn : (phase : Option Phase) (m n : ℕ) → phase ≡ Some (Drawn m) → phase ≡ Some (Drawn n) → m ≡ n
+pub same_drawn : (phase : Option Phase) (m n : ℕ) → phase ≡ Some (Drawn m) → phase ≡ Some (Drawn n) → m ≡ n
 same_drawn phase m n one other = cc
 
-same_running : (phase : Option Phase) (m n : ℕ) → phase ≡ Some (Running m) → phase ≡ Some (Running n) → m ≡ n
+pub same_running : (phase : Option Phase) (m n : ℕ) → phase ≡ Some (Running m) → phase ≡ Some (Running n) → m ≡ n
 same_running phase m n one other = cc
 
 -- an event leads to one state

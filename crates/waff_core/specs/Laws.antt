@@ -8,7 +8,7 @@ use Rattle.waff_order.specs.Needs.{needs_of}
 use Rattle.waff_cells.specs.Meaning.{meaning}
 use Rattle.waff_cells.specs.Serial.{SameParcel, ops_of, serial}
 use Rattle.waff_core.specs.Job.{JobValue, IsIn, IsOwner}
-use Rattle.waff_core.specs.Machine.{Core, Runs, IsClear, opening, phase_of}
+use Rattle.waff_core.specs.Machine.{Core, Runs, IsClear, IsAway, opening, phase_of}
 use Rattle.waff_core.specs.Refused.{FailsFirst}
 use Rattle.waff_core.specs.Statuses.{HasStatus}
 use Rattle.waff_core.specs.Settled.{IsLast, CellsAreSerial}
@@ -93,6 +93,20 @@ RunningDoNotExclude job =
     → (x y m n : ℕ) → x ≢ y
     → phase_of s.phases x ≡ Some (Running m) → phase_of s.phases y ≡ Some (Running n)
     → ¬ Excludes job.layout.tree (affinity_of job.assigned m) (affinity_of job.assigned n)
+
+-- a parcel that is away is with one running message
+abbrev pub AwayWithOne : JobValue → Type 0
+AwayWithOne job =
+    (seats : ℕ) (s : Core) → Reaches job seats s
+    → (a : ℕ) (one other : IsAway job s a)
+    → (one.actor ≡ other.actor) × (one.message ≡ other.message)
+
+-- when a message may begin, the parcels of its footprint's owners are home
+abbrev pub BeginsAtHome : JobValue → Type 0
+BeginsAtHome job =
+    (seats : ℕ) (s : Core) → Reaches job seats s
+    → (x m : ℕ) → phase_of s.phases x ≡ Some (Drawn m) → IsClear job s m
+    → (a : ℕ) → IsOwner job.layout.spaces (ops_of job.ops m) a → ¬ IsAway job s a
 
 -- there is no more than one last message at or above an affinity
 abbrev pub LastIsOne : JobValue → Type 0

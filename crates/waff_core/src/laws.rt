@@ -2,7 +2,7 @@
 //! whose contract is the law.
 
 ghost use Rattle.waff_core.specs.Job.{JobValue, IsJob};
-ghost use Rattle.waff_core.specs.Laws.{RunsOnce, FailsOnce, RunsOrFails, NeverBoth, StaysAccepted, OneActorEnds, DrawsAreFew, EachHasOneStatus, NeedsAreEnough, RunningDoNotExclude, LastIsOne, AlwaysSerial, EachCellIsSerial, AllDoneIsSerial, BeginsSettled};
+ghost use Rattle.waff_core.specs.Laws.{RunsOnce, FailsOnce, RunsOrFails, NeverBoth, StaysAccepted, OneActorEnds, DrawsAreFew, EachHasOneStatus, NeedsAreEnough, RunningDoNotExclude, AwayWithOne, BeginsAtHome, LastIsOne, AlwaysSerial, EachCellIsSerial, AllDoneIsSerial, BeginsSettled};
 
 /// The machine is deterministic: a list of events leads from a state to no more than one.
 pub fn runs_once()
@@ -52,6 +52,13 @@ pub fn needs_are_enough()
 /// Messages that run at once do not exclude each other.
 pub fn running_do_not_exclude()
     ensures { (job : JobValue) → IsJob job → RunningDoNotExclude job }
+{}
+
+/// A parcel that is away is with one running message, and when a message may begin the parcels of its
+/// footprint's owners are home.
+pub fn parcels_are_with_one()
+    ensures away { (job : JobValue) → IsJob job → AwayWithOne job }
+    ensures home { (job : JobValue) → IsJob job → BeginsAtHome job }
 {}
 
 /// There is no more than one last message at or above an affinity.
