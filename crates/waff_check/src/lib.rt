@@ -32,6 +32,7 @@ mod summary;
 mod ticks;
 mod told;
 mod totals;
+pub mod unique;
 mod verdict;
 mod worker;
 
