@@ -6,4 +6,7 @@ pub mod ShareLemmas
 pub mod ArrangeLemmas
 pub mod LayoutLemmas
 pub mod SpaceLemmas
+pub mod ParcelLemmas
+pub mod ParcelTableLemmas
+pub mod RunLemmas
 pub mod TraceLemmas

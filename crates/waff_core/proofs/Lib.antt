@@ -1,0 +1,11 @@
+pub mod Phases
+pub mod Settling
+pub mod Sound
+pub mod Clearings
+pub mod Determined
+pub mod OneActor
+pub mod Deciding
+pub mod Reaching
+pub mod OrderLength
+pub mod Arrival
+pub mod StatusLaws

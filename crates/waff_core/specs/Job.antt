@@ -1,0 +1,70 @@
+-- Jobs: what a replay replays.
+use Rattle.std.specs.Prelude.{◌≡◌, ◌↔◌, ℕ, ◌-◌, ◌<◌, ◌≤◌, List, [], length, All, Some, Contains, slice_get, slice_index_or}
+use Rattle.std.specs.List.Sorted.{IsStrictlyIncreasing}
+use Rattle.waff_model.specs.Cells.{cells_of}
+use Rattle.waff_model.specs.Layout.{Hierarchy, Space, IsCell, IsLayout, owner_of}
+use Rattle.waff_model.specs.declared.cell.Cell.{Cell}
+use Rattle.waff_model.specs.declared.limits.TheConstants.{MAX_OPS}
+use Rattle.waff_model.specs.declared.op.Op.{Op}
+use Rattle.waff_assign.specs.Lowest.{IsInFootprint, IsLowest}
+use Rattle.waff_assign.specs.Order.{affinity_of}
+use Rattle.waff_order.specs.Needs.{AreNeeds, IsNeed}
+use Rattle.waff_cells.specs.Serial.{ops_of}
+
+-- what a job stands for: a layout; the operations, the affinities, the needs and the owners of a
+-- trace's messages, in the order of arrival; and the order in which the messages are handed out
+pub record JobValue : Type 0 where
+  pub layout : Hierarchy
+  pub ops : List (List Op)
+  pub assigned : List ℕ
+  pub needs : List (List ℕ)
+  pub owners : List (List ℕ)
+  pub order : List ℕ
+
+-- message n stands at this place of the order, from 0
+abbrev pub StandsAt : List ℕ → ℕ → ℕ → Type 0
+StandsAt order place n = slice_get order place ≡ Some n
+
+-- an order of messages with these needs: all of them, each once, and each need before its message
+pub record IsOrder (needs : List (List ℕ)) (order : List ℕ) : Type 0 where
+  pub messages : All (λ n. (1 ≤ n) × (n ≤ length needs)) order
+  pub each : (n : ℕ) → 1 ≤ n → n ≤ length needs → (place : ℕ) × StandsAt order place n
+  pub once : (place other n : ℕ) → StandsAt order place n → StandsAt order other n → place ≡ other
+  pub needed : (i j place other : ℕ) → IsNeed needs i j → StandsAt order place i
+      → StandsAt order other j → place < other
+
+-- a owns a cell that these operations name
+pub record IsOwner (spaces : List Space) (ops : List Op) (a : ℕ) : Type 0 where
+  pub cell : Cell
+  pub named : Contains (cells_of ops) cell
+  pub owned : owner_of spaces cell ≡ a
+
+-- the owners of a footprint, each once, in rising order
+pub record ListsOwners (spaces : List Space) (ops : List Op) (owners : List ℕ) : Type 0 where
+  pub each : (a : ℕ) → Contains owners a ↔ IsOwner spaces ops a
+  pub rising : IsStrictlyIncreasing owners
+
+-- the owners of message n, from 1
+abbrev pub owners_of : List (List ℕ) → ℕ → List ℕ
+owners_of owners n = slice_index_or owners (n - 1) []
+
+-- message n of the job
+pub record IsIn (job : JobValue) (n : ℕ) : Type 0 where
+  pub from : 1 ≤ n
+  pub to : n ≤ length job.ops
+
+-- a job: messages whose cells lie in the layout, each with the lowest affinity that covers its
+-- footprint and with the footprint's owners, with needs of theirs, and in an order
+pub record IsJob (job : JobValue) : Type 0 where
+  pub layout : IsLayout job.layout
+  pub cells : All (λ ops. All (IsCell job.layout.spaces) (cells_of ops)) job.ops
+  pub few : All (λ ops. length ops ≤ MAX_OPS) job.ops
+  pub count : length job.assigned ≡ length job.ops
+  pub lowest : (n : ℕ) → IsIn job n
+      → IsLowest job.layout (IsInFootprint (ops_of job.ops n)) (affinity_of job.assigned n)
+  pub known : All (λ a. a < length job.layout.tree) job.assigned
+  pub needs : AreNeeds job.layout.tree job.assigned job.needs
+  pub owned : length job.owners ≡ length job.ops
+  pub owners : (n : ℕ) → IsIn job n
+      → ListsOwners job.layout.spaces (ops_of job.ops n) (owners_of job.owners n)
+  pub order : IsOrder job.needs job.order

@@ -1,0 +1,6 @@
+pub mod Statuses
+pub mod Job
+pub mod Machine
+pub mod Refused
+pub mod Settled
+pub mod Laws
