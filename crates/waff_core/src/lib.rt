@@ -3,6 +3,7 @@
 
 mod event;
 mod job;
+mod lists;
 mod phase;
 mod refusal;
 mod status;
