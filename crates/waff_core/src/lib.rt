@@ -4,6 +4,9 @@
 mod event;
 mod job;
 mod lists;
+mod operations;
+mod order;
+mod owners;
 mod phase;
 mod refusal;
 mod status;
