@@ -1,3 +1,4 @@
 pub mod Meaning
 pub mod Serial
 pub mod Grid
+pub mod Laws

@@ -4,3 +4,4 @@ pub mod Refused
 pub mod Settled
 pub mod Owners
 pub mod Orders
+pub mod Laws

@@ -3,6 +3,7 @@
 
 mod event;
 mod job;
+pub mod laws;
 mod lists;
 mod operations;
 mod order;
