@@ -1,6 +1,7 @@
 pub mod Listing
 pub mod Ordering
 pub mod Making
+pub mod Reading
 pub mod Phases
 pub mod Settling
 pub mod Sound

@@ -5,3 +5,4 @@ pub mod Settled
 pub mod Owners
 pub mod Orders
 pub mod Laws
+pub mod Shown

@@ -4,6 +4,7 @@ ghost use Rattle.std.specs.Prelude.{◌≡◌, ◌↔◌, ◌<◌, ◌≤◌, le
 ghost use Rattle.waff_model.specs.Cells.{cells_of};
 ghost use Rattle.waff_model.specs.Layout.{IsCell};
 ghost use Rattle.waff_model.specs.Messages.{sizes_of};
+ghost use Rattle.waff_model.specs.declared.limits.TheConstants.{MAX_MESSAGES};
 ghost use Rattle.waff_assign.specs.Lowest.{AreLowest};
 ghost use Rattle.waff_assign.specs.Order.{IsOrdered};
 ghost use Rattle.waff_order.specs.Needs.{AreNeeds, needs_of};
@@ -76,6 +77,7 @@ impl Job {
     /// How many messages there are.
     pub fn len(&self) -> u32
         ensures count { result ≡ length self.now.ops }
+        ensures few { length self.now.ops ≤ MAX_MESSAGES }
         ensures job { IsJob self.now }
     {
         self.assigned.len()
@@ -101,7 +103,8 @@ impl Job {
     pub fn needs(&self, n: u32) -> &[u32]
         requires from { 1 ≤ n }
         requires to { n ≤ length self.now.ops }
-        ensures { result.now ≡ needs_of self.now.needs n }
+        ensures needs { result.now ≡ needs_of self.now.needs n }
+        ensures earlier { All (λ i. (1 ≤ i) × (i < n)) result.now }
     {
         self.needs.of(n)
     }
@@ -110,7 +113,8 @@ impl Job {
     pub fn owners(&self, n: u32) -> &[u16]
         requires from { 1 ≤ n }
         requires to { n ≤ length self.now.ops }
-        ensures { result.now ≡ owners_of self.now.owners n }
+        ensures owners { result.now ≡ owners_of self.now.owners n }
+        ensures known { All (λ a. a < length self.now.layout.tree) result.now }
     {
         self.owners.of(n)
     }

@@ -4,6 +4,7 @@
 mod event;
 mod job;
 pub mod laws;
+pub mod limits;
 mod lists;
 mod operations;
 mod order;
@@ -11,6 +12,7 @@ mod owners;
 mod phase;
 mod refusal;
 mod status;
+mod steps;
 
 pub use event::Event;
 pub use job::Job;

@@ -1,0 +1,34 @@
+-- States of the machine as data: marks in place of sets, rows in place of maps.
+use Rattle.std.specs.Prelude.{◌≡◌, ◌↔◌, ℕ, ◌+◌, true, false, Bool, List, length, map, Some, All, slice_index_or}
+use Rattle.waff_model.specs.Messages.{sizes_of}
+use Rattle.waff_order.specs.Needs.{needs_of}
+use Rattle.waff_cells.specs.Grid.{HasSizes, cells_in}
+use Rattle.waff_core.specs.Job.{JobValue, IsIn}
+use Rattle.waff_core.specs.Machine.{Core, IsClear, IsAway, phase_of}
+use Rattle.waff_core.specs.declared.phase.Phase.{Phase}
+use Rattle.waff_core.specs.declared.phase.Phase.TheVariants.{Drawn, Running}
+use Rattle.waff_core.specs.declared.steps.Machine.{Machine}
+
+-- the messages that are marked as done; the place of a mark is the message's number
+abbrev pub marked : List Bool → ℕ → Bool
+marked marks = λ n. slice_index_or marks n false
+
+-- the state of the machine that these parts show
+abbrev pub shown : ℕ → List Phase → List Bool → List (List ℕ) → Core
+shown drawn phases done rows = record { drawn = drawn; phases = phases; done = marked done; cells = cells_in rows }
+
+-- the state of the machine
+abbrev pub core_in : Machine → Core
+core_in machine = shown machine.drawn machine.phases.items machine.done.items machine.state
+
+-- the marks and the rows of a machine have the sizes of the job
+pub record Fits (job : JobValue) (machine : Machine) : Type 0 where
+  pub marks : length machine.done.items ≡ length job.ops + 1
+  pub rows : HasSizes machine.state (sizes_of job.layout.spaces)
+
+-- what the steps rest on: what actors hold or run are messages of the job, and a message whose needs
+-- are done is clear
+pub record IsSteady (job : JobValue) (s : Core) : Type 0 where
+  pub held : (x m : ℕ) → phase_of s.phases x ≡ Some (Drawn m) → IsIn job m
+  pub running : (x m : ℕ) → phase_of s.phases x ≡ Some (Running m) → IsIn job m
+  pub enough : (m : ℕ) → All (λ i. s.done i ≡ true) (needs_of job.needs m) → IsClear job s m
