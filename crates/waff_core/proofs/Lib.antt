@@ -2,6 +2,9 @@ pub mod Listing
 pub mod Ordering
 pub mod Making
 pub mod Reading
+pub mod Pace
+pub mod StatusLemmas
+pub mod Lending
 pub mod Phases
 pub mod Settling
 pub mod Sound

@@ -6,3 +6,4 @@ pub mod Owners
 pub mod Orders
 pub mod Laws
 pub mod Shown
+pub mod Statuses

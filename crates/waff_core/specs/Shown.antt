@@ -32,3 +32,24 @@ pub record IsSteady (job : JobValue) (s : Core) : Type 0 where
   pub held : (x m : ℕ) → phase_of s.phases x ≡ Some (Drawn m) → IsIn job m
   pub running : (x m : ℕ) → phase_of s.phases x ≡ Some (Running m) → IsIn job m
   pub enough : (m : ℕ) → All (λ i. s.done i ≡ true) (needs_of job.needs m) → IsClear job s m
+
+-- a state of the machine as data: how many draws there were, the phases of the actors, the marks of
+-- the messages that are done and of the affinities whose parcels are home, and a row for each space
+pub record CoreValue : Type 0 where
+  pub drawn : ℕ
+  pub phases : List Phase
+  pub done : List Bool
+  pub home : List Bool
+  pub cells : List (List ℕ)
+
+-- the state of the machine
+abbrev pub core_of : CoreValue → Core
+core_of value = shown value.drawn value.phases value.done value.cells
+
+-- the parcel of affinity a is marked as home
+abbrev pub is_home : List Bool → ℕ → Bool
+is_home home a = slice_index_or home a true
+
+-- the marks are those of the parcels that are not away
+abbrev pub AreHome : JobValue → Core → List Bool → Type 0
+AreHome job s home = (a : ℕ) → (is_home home a ≡ true) ↔ ¬ IsAway job s a

@@ -2,6 +2,7 @@
 //! whose contract is the law.
 
 ghost use Rattle.waff_core.specs.Job.{JobValue, IsJob};
+ghost use Rattle.waff_core.specs.Statuses.{StatusIsOne};
 ghost use Rattle.waff_core.specs.Laws.{RunsOnce, FailsOnce, FailsOrRuns, StaysAccepted, OneActorEnds, DrawsAreFew, NeedsAreEnough, RunningDoNotExclude, LastIsOne, AlwaysSerial, EachCellIsSerial, AllDoneIsSerial, BeginsSettled};
 
 /// The machine is deterministic: a list of events leads from a state to no more than one.
@@ -65,4 +66,9 @@ pub fn all_done_is_serial()
 /// arrival order before it, and its meaning makes them those after it.
 pub fn begins_settled()
     ensures { (job : JobValue) → IsJob job → BeginsSettled job }
+{}
+
+/// In every state that is reached a message has no more than one status.
+pub fn status_is_one()
+    ensures { (job : JobValue) → IsJob job → StatusIsOne job }
 {}

@@ -1,7 +1,8 @@
 //! The steps of the core machine.
 
 ghost use Rattle.std.specs.Prelude.{◌≡◌, ◌↔◌, ◌+◌, ◌-◌, ◌^◌, ◌<◌, ◌≤◌, length, true, All, IsTrue, IfOk, IfErr, MatchOption};
-ghost use Rattle.waff_core.specs.Job.{IsIn};
+ghost use Rattle.waff_model.specs.declared.limits.TheConstants.{MAX_MESSAGES};
+ghost use Rattle.waff_core.specs.Job.{IsIn, IsJob};
 ghost use Rattle.waff_core.specs.Machine.{IsClear, Steps, opening, phase_drawn, phase_of};
 ghost use Rattle.waff_core.specs.Refused.{IsLeastUndone, IsRefused};
 ghost use Rattle.waff_core.specs.Shown.{Fits, IsSteady, core_in};
@@ -24,11 +25,14 @@ impl Machine {
     pub fn opening(alloc: Global, job: &Job, seats: u32) -> Result<Machine, AllocError>
         ensures core { IfOk result (λ machine. core_in machine ≡ opening seats) }
         ensures fits { IfOk result (Fits job.now) }
+        ensures job { IsJob job.now }
+        ensures messages { length job.now.ops ≤ MAX_MESSAGES }
     {
+        let count = job.len() as usize;
         Ok(Machine {
             drawn: 0,
             phases: vec![in alloc; Phase::Free; seats as usize]?,
-            done: vec![in alloc; false; job.len() as usize + 1]?,
+            done: vec![in alloc; false; count + 1]?,
             state: State::zero(alloc, job.layout())?,
         })
     }
