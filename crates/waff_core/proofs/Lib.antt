@@ -1,3 +1,14 @@
+pub mod Phases
+pub mod Settling
+pub mod Sound
+pub mod Clearings
+pub mod Determined
+pub mod OneActor
+pub mod Deciding
+pub mod Reaching
+pub mod OrderLength
+pub mod Arrival
+pub mod StatusLaws
 pub mod Listing
 pub mod Ordering
 pub mod Making
@@ -5,10 +16,3 @@ pub mod Reading
 pub mod Pace
 pub mod StatusLemmas
 pub mod Lending
-pub mod Phases
-pub mod Settling
-pub mod Sound
-pub mod Clearings
-pub mod Determined
-pub mod OneActor
-pub mod Arrival

@@ -1,9 +1,7 @@
 -- Orders of messages, one message after another.
-use Rattle.std.proofs.Common.{◌≡◌, ◌≢◌, ◌↔◌, ℕ, zero, suc, ◌+◌, ◌-◌, ◌*◌, ◌<◌, ◌≤◌, Bool, true, false, cond, count_by, mul-zero, List, [], ◌∷◌, Some, length, get_or, set, replicate, All, Contains, slice_get, arith, refl, ap, sym, ◌∙◌, subst, ⊎_elim}
-use Rattle.std.proofs.lemmas.Bool.{cases_eq, false≢true, cond-false, false_from_ne_true}
+use Rattle.std.proofs.Common.{◌≡◌, ◌≢◌, ◌↔◌, ℕ, ◌+◌, ◌-◌, ◌<◌, ◌≤◌, Bool, true, false, List, length, get_or, set, replicate, All, arith, ap, sym, ◌∙◌, subst, ⊎_elim}
+use Rattle.std.proofs.lemmas.Bool.{cases_eq, false≢true}
 use Rattle.std.proofs.lemmas.List.{get_or_default, get_or-set_same, get_or-set_other, length-set, length-replicate, get_or-replicate}
-use Rattle.std.proofs.lemmas.List.Sums.{sum_by-set, count_by-le-length}
-use Rattle.std.proofs.lemmas.List.Folds.{sum_by-replicate}
 use Rattle.std.proofs.lemmas.List.Elements.{Contains-get_or, All-contains}
 use Rattle.std.proofs.lemmas.Option.{same_Some, slice_get_within, slice_get-get_or, get_or_from_slice_get}
 use Rattle.waff_order.specs.Needs.{needs_of, IsNeed, AreLists}
@@ -161,29 +159,3 @@ order_marks needs order marks k whole h o = λ p d within.
     let place : p + 1 - 1 ≡ p = omega arith in
     let same : get_or marks p false ≡ get_or marks p d = get_or_default marks p false d within in
     sym same ∙ ap (λ q. get_or marks q false) (sym place) ∙ is
-
--- the marks after the first k messages of an order, and how many they are
-order_marked : (needs : List (List ℕ)) (order : List ℕ) → AreEarlier needs → IsOrder needs order → (k : ℕ) → k ≤ length order
-    → (marks : List Bool) × IsOrderUpTo needs order marks k × (count_by (λ mark. mark) marks ≡ k)
-order_marked needs order lists o zero short =
-    (replicate (length needs) false, order_none needs order, sum_by-replicate (λ mark. cond mark 1 0) (length needs) false ∙ mul-zero (length needs))
-order_marked needs order lists o (suc k) short =
-    let before = order_marked needs order lists o k (omega arith) in
-    let marks = before.0 in
-    let n = get_or order k 0 in
-    let at : StandsAt order k n = slice_get-get_or order k 0 (omega arith) in
-    let may = order_next needs order marks k n lists at before.1 o in
-    let after = order_more needs order marks k n lists at may before.1 in
-    let within : n - 1 < length marks = omega (arith, may.from, may.to, before.1.count) in
-    let change : count_by (λ mark. mark) (set marks (n - 1) true) + cond {A = ℕ} (get_or marks (n - 1) false) 1 0 ≡ count_by (λ mark. mark) marks + 1
-    = sum_by-set (λ (mark : Bool). cond {A = ℕ} mark 1 0) marks (n - 1) true false within in
-    let fresh : cond {A = ℕ} (get_or marks (n - 1) false) 1 0 ≡ 0 = cond-false (get_or marks (n - 1) false) 1 0 (false_from_ne_true (get_or marks (n - 1) false) may.fresh) in
-    let next : k + 1 ≡ suc k = omega arith in
-    (set marks (n - 1) true, subst (IsOrderUpTo needs order (set marks (n - 1) true)) next after, omega (arith, change, fresh, before.2))
-
--- an order is no longer than the messages are many
-pub order_length : (needs : List (List ℕ)) (order : List ℕ) → AreEarlier needs → IsOrder needs order → length order ≤ length needs
-order_length needs order lists o =
-    let all = order_marked needs order lists o (length order) (omega arith) in
-    let bound : count_by (λ mark. mark) all.0 ≤ length all.0 = count_by-le-length (λ mark. mark) all.0 in
-    omega (arith, bound, all.2, all.1.count)

@@ -1,6 +1,5 @@
 -- How many events the machine accepts: at most three for each draw.
-use Rattle.std.proofs.Common.{◌≡◌, ℕ, inl, inr, zero, suc, ◌+◌, ◌-◌, ◌*◌, ◌<◌, ◌≤◌, List, [], ◌∷◌, ◌++◌, length, Option, Some, None, slice_get, get_or, set, replicate, take, sum_by, arith, refl, ap, sym, ◌∙◌, subst, mul-zero}
-use Rattle.std.proofs.lemmas.List.{take_more}
+use Rattle.std.proofs.Common.{◌≡◌, ℕ, inl, inr, zero, suc, ◌+◌, ◌-◌, ◌*◌, ◌<◌, ◌≤◌, List, length, Option, Some, None, slice_get, get_or, set, replicate, sum_by, arith, sym, ◌∙◌, subst, mul-zero}
 use Rattle.std.proofs.lemmas.List.Folds.{sum_by-replicate}
 use Rattle.std.proofs.lemmas.List.Sums.{sum_by-set}
 use Rattle.std.proofs.lemmas.Option.{none-some, slice_get_within, get_or_from_slice_get}
@@ -11,10 +10,9 @@ use Rattle.waff_core.specs.declared.event.Event.{Event}
 use Rattle.waff_core.specs.declared.event.Event.TheVariants.{Draw, Begin, End}
 use Rattle.waff_core.specs.declared.phase.Phase.{Phase}
 use Rattle.waff_core.specs.declared.phase.Phase.TheVariants.{Free, Drawn, Running, Ended}
+use Rattle.waff_core.proofs.Arrival.{draws_are_few}
 use Rattle.waff_core.proofs.Clearings.{listed_needs_are_enough}
-use Rattle.waff_core.proofs.Ordering.{AreEarlier, order_length}
-use Rattle.waff_core.proofs.Phases.{ended, ended_few}
-use Rattle.waff_core.proofs.Sound.{Sound, drawn_is_in, sound_reached, seats_stay}
+use Rattle.waff_core.proofs.Sound.{drawn_is_in, sound_reached}
 
 -- how many events an actor's message still takes
 abbrev pub left : Phase → ℕ
@@ -63,17 +61,6 @@ paced_step job s (End x) t n step paced =
     subst (IsPaced (n + 1)) (sym step.2)
     (let bound : n + 1 + all_left (with_phase s.phases x Free) ≤ 3 * s.drawn = omega (arith, change, paced) in bound)
 
--- one event more
-pub runs_more : (job : JobValue) (s : Core) (events : List Event) (t : Core) (event : Event) (u : Core) → Runs job s events t
-    → Steps job t event u → Runs job s (events ++ event ∷ []) u
-runs_more job s [] t event u same step = (u, subst (λ r. Steps job r event u) (sym same) step, refl)
-runs_more job s (first ∷ events) t event u (v, begins, rest) step = (v, begins, runs_more job v events t event u rest step)
-
-pub runs_next : (job : JobValue) (s : Core) (events : List Event) (at : ℕ) (d : Event) (t u : Core) → at < length events
-    → Runs job s (take at events) t → Steps job t (get_or events at d) u → Runs job s (take (at + 1) events) u
-runs_next job s events at d t u within runs step =
-    subst (λ es. Runs job s es u) (sym (take_more events at d within)) (runs_more job s (take at events) t (get_or events at d) u runs step)
-
 -- what is reached is what the steps rest on
 pub steady_reached : (job : JobValue) → IsJob job → (seats : ℕ) (events : List Event) (s : Core) → Runs job (opening seats) events s → IsSteady job s
 steady_reached job is seats events s runs =
@@ -84,28 +71,9 @@ steady_reached job is seats events s runs =
       enough = listed_needs_are_enough job is s sound;
     }
 
--- the needs of a job are earlier messages
-needs_are_earlier : (job : JobValue) → IsJob job → AreEarlier job.needs
-needs_are_earlier job is = record {
-  from = λ i j need. (is.needs.ordered i j need).from;
-  earlier = λ i j need. (is.needs.ordered i j need).earlier;
-}
-
--- the draws are few
-pub draws_few : (job : JobValue) → IsJob job → length job.ops ≤ 65536 → (seats : ℕ) (events : List Event) (s : Core) → Runs job (opening seats) events s
-    → s.drawn ≤ 65536 + seats
-draws_few job is few seats events s runs =
-    let sound = sound_reached job is seats events s runs in
-    let bound = sound.draws in
-    let over = ended_few s.phases in
-    let actors = seats_stay job seats events s runs in
-    let long = order_length job.needs job.order (needs_are_earlier job is) is.order in
-    let same : length job.needs ≡ length job.ops = is.needs.count ∙ is.count in
-    omega (arith, bound, over, actors, long, same)
-
 -- the events are few
 pub events_few : (job : JobValue) → IsJob job → length job.ops ≤ 65536 → (seats : ℕ) → seats ≤ 16 → (events : List Event) (s : Core)
     → Runs job (opening seats) events s → (n : ℕ) → IsPaced n s → (n ≤ 196656) × (s.drawn ≤ 65552)
 events_few job is few seats short events s runs n paced =
-    let bound = draws_few job is few seats events s runs in
+    let bound = draws_are_few job is seats s (events, runs) in
     (omega (arith, paced, bound), omega (arith, bound))

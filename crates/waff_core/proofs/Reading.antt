@@ -1,5 +1,5 @@
 -- What is read of a job.
-use Rattle.std.proofs.Common.{◌≡◌, ℕ, ◌/◌, ◌%◌, ◌<◌, ◌≤◌, List, length, get_or, All, Contains, Option, Some, None, option_map, unwrap_or, slice_get, arith, refl, sym, ◌∙◌, subst}
+use Rattle.std.proofs.Common.{◌≡◌, ℕ, ◌/◌, ◌%◌, ◌<◌, ◌≤◌, List, length, get_or, All, Contains, Option, Some, None, option_map, unwrap_or, slice_get, arith, refl, subst}
 use Rattle.std.proofs.lemmas.List.Elements.{All-contains, Contains-get_or}
 use Rattle.std.proofs.lemmas.Option.{slice_get_within, get_or_from_slice_get}
 use Rattle.waff_model.specs.Layout.{Hierarchy, Space, IsCell, IsLayout, IsSpace, owner_at, owner_of}

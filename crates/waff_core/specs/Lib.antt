@@ -1,9 +1,9 @@
+pub mod Statuses
 pub mod Job
 pub mod Machine
 pub mod Refused
 pub mod Settled
+pub mod Laws
 pub mod Owners
 pub mod Orders
-pub mod Laws
 pub mod Shown
-pub mod Statuses

@@ -3,7 +3,7 @@
 ghost use Rattle.std.specs.Prelude.{◌≡◌, length, map};
 ghost use Rattle.waff_model.specs.Cells.{LiesIn};
 ghost use Rattle.waff_core.specs.Shown.{core_of, is_home};
-ghost use Rattle.waff_core.specs.Statuses.{IsStatus, status_by};
+ghost use Rattle.waff_core.specs.Statuses.{ShowsStatus, status_by};
 
 use crate::steps::Machine;
 use crate::{Phase, Status};
@@ -44,7 +44,7 @@ impl CoreState {
 
     /// What has become of message `n`.
     pub fn status(&self, n: u32) -> Status
-        ensures { IsStatus (core_of self.now) n result }
+        ensures { ShowsStatus (core_of self.now) n result }
     {
         if self.is_done(n) {
             return Status::Done;

@@ -2,8 +2,7 @@
 //! whose contract is the law.
 
 ghost use Rattle.waff_core.specs.Job.{JobValue, IsJob};
-ghost use Rattle.waff_core.specs.Statuses.{StatusIsOne};
-ghost use Rattle.waff_core.specs.Laws.{RunsOnce, FailsOnce, FailsOrRuns, StaysAccepted, OneActorEnds, DrawsAreFew, NeedsAreEnough, RunningDoNotExclude, LastIsOne, AlwaysSerial, EachCellIsSerial, AllDoneIsSerial, BeginsSettled};
+ghost use Rattle.waff_core.specs.Laws.{RunsOnce, FailsOnce, RunsOrFails, NeverBoth, StaysAccepted, OneActorEnds, DrawsAreFew, EachHasOneStatus, ShowsWhatItHas, NeedsAreEnough, RunningDoNotExclude, AwayWithOne, BeginsAtHome, LastIsOne, AlwaysSerial, EachCellIsSerial, AllDoneIsSerial, BeginsSettled};
 
 /// The machine is deterministic: a list of events leads from a state to no more than one.
 pub fn runs_once()
@@ -15,9 +14,14 @@ pub fn fails_once()
     ensures { (job : JobValue) → FailsOnce job }
 {}
 
-/// A list of events that is accepted has no fault.
-pub fn fails_or_runs()
-    ensures { (job : JobValue) → FailsOrRuns job }
+/// Every list of events is accepted or has a first fault.
+pub fn runs_or_fails()
+    ensures { (job : JobValue) → IsJob job → RunsOrFails job }
+{}
+
+/// No list of events is accepted and has a fault.
+pub fn never_both()
+    ensures { (job : JobValue) → NeverBoth job }
 {}
 
 /// A list of events that is accepted stays accepted when cut short.
@@ -30,9 +34,15 @@ pub fn one_actor_ends()
     ensures { (job : JobValue) → IsJob job → OneActorEnds job }
 {}
 
-/// The number of draws is at most the number of messages of the order and of actors.
+/// The number of draws is at most that of the messages and of the actors.
 pub fn draws_are_few()
     ensures { (job : JobValue) → IsJob job → DrawsAreFew job }
+{}
+
+/// Each message waits, or is held by one actor, or is run by one actor, or is done.
+pub fn each_has_one_status()
+    ensures one { (job : JobValue) → IsJob job → EachHasOneStatus job }
+    ensures shown { (job : JobValue) → IsJob job → ShowsWhatItHas job }
 {}
 
 /// Looking at the needs of a message is enough.
@@ -43,6 +53,13 @@ pub fn needs_are_enough()
 /// Messages that run at once do not exclude each other.
 pub fn running_do_not_exclude()
     ensures { (job : JobValue) → IsJob job → RunningDoNotExclude job }
+{}
+
+/// A parcel that is away is with one running message, and when a message may begin the parcels of its
+/// footprint's owners are home.
+pub fn parcels_are_with_one()
+    ensures away { (job : JobValue) → IsJob job → AwayWithOne job }
+    ensures home { (job : JobValue) → IsJob job → BeginsAtHome job }
 {}
 
 /// There is no more than one last message at or above an affinity.
@@ -66,9 +83,4 @@ pub fn all_done_is_serial()
 /// arrival order before it, and its meaning makes them those after it.
 pub fn begins_settled()
     ensures { (job : JobValue) → IsJob job → BeginsSettled job }
-{}
-
-/// In every state that is reached a message has no more than one status.
-pub fn status_is_one()
-    ensures { (job : JobValue) → IsJob job → StatusIsOne job }
 {}

@@ -1,4 +1,3 @@
-use Rattle.std.proofs.Common.{◌≡◌, length}
 use Rattle.waff_core.proofs.Lending.{AreLent}
 use Rattle.waff_core.proofs.homes.lend.Given as goal
 

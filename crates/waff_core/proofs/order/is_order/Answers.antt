@@ -1,11 +1,10 @@
-use Rattle.std.proofs.Common.{◌≡◌, ◌+◌, ◌≤◌, true, length, get_or, arith, rules, refl, sym, ◌∙◌, ap, subst}
+use Rattle.std.proofs.Common.{◌≡◌, get_or, arith, sym, ◌∙◌, ap, subst}
 use Rattle.std.proofs.lemmas.Bool.{false≢true, iff_false}
 use Rattle.std.specs.List.{list_all}
 use Rattle.std.proofs.lemmas.List.Sums.{AllPass-from_list_all, list_all-from_AllPass}
 use Rattle.std.proofs.lemmas.Option.{slice_get-get_or}
-use Rattle.waff_core.specs.Job.{StandsAt}
 use Rattle.waff_core.specs.Orders.{MayStand}
-use Rattle.waff_core.proofs.Ordering.{IsOrderUpTo, order_none, order_more, order_next, order_all, order_marks, lists_are_earlier}
+use Rattle.waff_core.proofs.Ordering.{order_more, order_next, order_all, order_marks, lists_are_earlier}
 use Rattle.waff_core.proofs.order.is_order.Goals as goal
 
 pub loop-place-preserved : goal.loop-place-preserved

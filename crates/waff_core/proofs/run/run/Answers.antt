@@ -1,10 +1,10 @@
-use Rattle.std.proofs.Common.{◌≡◌, ◌≤◌, ◌<◌, ◌+◌, List, Some, take, get_or, slice_get, length, arith, rules, ap, refl, sym, ◌∙◌, subst}
-use Rattle.std.proofs.lemmas.List.{take_all}
+use Rattle.std.proofs.Common.{◌≤◌, take, get_or, arith, rules, sym, subst}
 use Rattle.std.proofs.lemmas.Option.{slice_get-get_or}
-use Rattle.waff_core.specs.Machine.{Core, Runs, opening}
+use Rattle.waff_core.specs.Machine.{opening}
 use Rattle.waff_core.specs.Shown.{core_in}
 use Rattle.waff_core.specs.declared.event.Event.TheVariants.{Draw}
-use Rattle.waff_core.proofs.Pace.{IsPaced, paced_opening, paced_step, runs_next, steady_reached, events_few}
+use Rattle.waff_core.proofs.Pace.{IsPaced, paced_opening, paced_step, steady_reached, events_few}
+use Rattle.waff_core.proofs.Reaching.{runs_take_more}
 use Rattle.waff_core.proofs.run.run.Goals as goal
 
 pub loop-at-init : goal.loop-at-init
@@ -53,7 +53,7 @@ pub loop-at-preserved : goal.loop-at-preserved
 loop-at-preserved c =
     let event = get_or c.args.events.now c.loop-at.at (Draw 0) in record {
       fits = c.step.ensures.fits;
-      runs = runs_next c.args.job.now (opening c.args.seats) c.args.events.now c.loop-at.at (Draw 0) (core_in c.loop-at.machine) (core_in c.step.new.self)
-          c.loop-at-test.true c.loop-at.invariant.runs c.in-Ok.ensures.stepped;
+      runs = runs_take_more c.args.job.now (opening c.args.seats) c.args.events.now c.loop-at.at event (core_in c.loop-at.machine) (core_in c.step.new.self)
+          (slice_get-get_or c.args.events.now c.loop-at.at (Draw 0) c.loop-at-test.true) c.loop-at.invariant.runs c.in-Ok.ensures.stepped;
       paced = paced_step c.args.job.now (core_in c.loop-at.machine) event (core_in c.step.new.self) c.loop-at.at c.in-Ok.ensures.stepped c.loop-at.invariant.paced;
     }

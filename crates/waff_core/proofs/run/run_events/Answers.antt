@@ -1,4 +1,4 @@
-use Rattle.std.proofs.Common.{◌≡◌, ◌≤◌, length, arith, sym, subst}
+use Rattle.std.proofs.Common.{◌≡◌, length, arith, sym, subst}
 use Rattle.waff_core.specs.Settled.{CellsAreSerial}
 use Rattle.waff_core.specs.Shown.{core_in, core_of}
 use Rattle.waff_core.proofs.Pace.{steady_reached}

@@ -1,4 +1,4 @@
-use Rattle.std.proofs.Common.{◌≡◌, true, All, arith, rules, subst}
+use Rattle.std.proofs.Common.{◌≡◌, true, All, arith, subst}
 use Rattle.waff_core.specs.Shown.{marked}
 use Rattle.waff_core.proofs.steps.Machine.blocking.Goals as goal
 
