@@ -11,6 +11,8 @@ abbrev pub owners_in : List Space → List Cell → List ℕ
 owners_in spaces cells = map (λ cell. owner_of spaces cell) cells
 
 -- the owners of each message's footprint
-pub record AreOwners (spaces : List Space) (ops : List (List Op)) (owners : List (List ℕ)) : Type 0 where
+pub record AreOwners (spaces : List Space) (ops : List (List Op)) (owners : List (List ℕ))
+    : Type 0 where
   pub count : length owners ≡ length ops
-  pub each : (n : ℕ) → 1 ≤ n → n ≤ length ops → ListsOwners spaces (ops_of ops n) (owners_of owners n)
+  pub each : (n : ℕ) → 1 ≤ n → n ≤ length ops
+      → ListsOwners spaces (ops_of ops n) (owners_of owners n)

@@ -15,7 +15,8 @@ marked marks = λ n. slice_index_or marks n false
 
 -- the state of the machine that these parts show
 abbrev pub shown : ℕ → List Phase → List Bool → List (List ℕ) → Core
-shown drawn phases done rows = record { drawn = drawn; phases = phases; done = marked done; cells = cells_in rows }
+shown drawn phases done rows =
+    record { drawn = drawn; phases = phases; done = marked done; cells = cells_in rows }
 
 -- the state of the machine
 abbrev pub core_in : Machine → Core
@@ -26,8 +27,8 @@ pub record Fits (job : JobValue) (machine : Machine) : Type 0 where
   pub marks : length machine.done.items ≡ length job.ops + 1
   pub rows : HasSizes machine.state (sizes_of job.layout.spaces)
 
--- what the steps rest on: what actors hold or run are messages of the job, and a message whose needs
--- are done is clear
+-- what the steps rest on: what actors hold or run are messages of the job, and a message whose
+-- needs are done is clear
 pub record IsSteady (job : JobValue) (s : Core) : Type 0 where
   pub held : (x m : ℕ) → phase_of s.phases x ≡ Some (Drawn m) → IsIn job m
   pub running : (x m : ℕ) → phase_of s.phases x ≡ Some (Running m) → IsIn job m

@@ -24,7 +24,13 @@ impl Model for CoreState {
 
     ghost Value = { CoreValue };
 
-    ghost view = { λ s. record { drawn = s.machine.drawn; phases = s.machine.phases.items; done = s.machine.done.items; home = s.home.items; cells = s.machine.state } };
+    ghost view = { λ s. record {
+      drawn = s.machine.drawn;
+      phases = s.machine.phases.items;
+      done = s.machine.done.items;
+      home = s.home.items;
+      cells = s.machine.state;
+    } };
 
     ghost invariant = { λ s. length s.machine.phases.items ≤ MAX_SEATS };
 }
@@ -37,7 +43,13 @@ impl CoreState {
     /// The state of this machine, with these marks of the parcels that are home.
     pub(crate) fn new(machine: Machine, home: Vec<bool>) -> Self
         requires { length machine.phases.items ≤ MAX_SEATS }
-        ensures { result ≡ record { drawn = machine.drawn; phases = machine.phases.items; done = machine.done.items; home = home.items; cells = machine.state } }
+        ensures { result ≡ record {
+          drawn = machine.drawn;
+          phases = machine.phases.items;
+          done = machine.done.items;
+          home = home.items;
+          cells = machine.state;
+        } }
     {
         CoreState { machine, home }
     }
@@ -84,7 +96,8 @@ impl CoreState {
         }
     }
 
-    /// The number that the cell, which is the state's, holds; while a message runs, the one before it.
+    /// The number that the cell, which is the state's, holds; while a message runs, the one before
+    /// it.
     pub fn get(&self, cell: Cell) -> u64
         requires { LiesIn (map length self.now.cells) cell }
         ensures { result ≡ (core_of self.now).cells cell }

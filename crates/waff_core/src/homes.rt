@@ -29,7 +29,8 @@ fn lend(home: &mut [bool], owners: &[u16])
     requires { All (λ a. a < length home.old) owners.now }
     ensures lent { (a : ℕ) → Contains owners.now a → is_home home.new a ≡ false }
     ensures kept { (a : ℕ) → is_home home.old a ≡ false → is_home home.new a ≡ false }
-    ensures others { (a : ℕ) → is_home home.new a ≡ false → (is_home home.old a ≡ false) ⊎ Contains owners.now a }
+    ensures others { (a : ℕ) → is_home home.new a ≡ false
+        → (is_home home.old a ≡ false) ⊎ Contains owners.now a }
 {
     for at in 0..owners.len() {
         home[owners[at] as usize] = false;

@@ -22,7 +22,8 @@ use waff_assign::{Assigned, is_ordered};
 use waff_model::{Layout, Op, Trace};
 use waff_order::Needs;
 
-/// What is replayed: the messages of a trace under a layout, with their affinities, their needs and the owners of their
+/// What is replayed: the messages of a trace under a layout, with their affinities, their needs and
+/// the owners of their
 /// footprints, in the order in which they are handed out. Messages are numbered from 1.
 #[derive(Drop)]
 pub struct Job {
@@ -39,13 +40,28 @@ impl Model for Job {
 
     ghost Value = { JobValue };
 
-    ghost view = { λ j. record { layout = j.layout; ops = j.ops; assigned = j.assigned; needs = j.needs; owners = j.owners; order = j.order.items } };
+    ghost view = { λ j. record {
+      layout = j.layout;
+      ops = j.ops;
+      assigned = j.assigned;
+      needs = j.needs;
+      owners = j.owners;
+      order = j.order.items;
+    } };
 
-    ghost invariant = { λ j. IsJob (record { layout = j.layout; ops = j.ops; assigned = j.assigned; needs = j.needs; owners = j.owners; order = j.order.items }) };
+    ghost invariant = { λ j. IsJob (record {
+      layout = j.layout;
+      ops = j.ops;
+      assigned = j.assigned;
+      needs = j.needs;
+      owners = j.owners;
+      order = j.order.items;
+    }) };
 }
 
 impl Job {
-    /// The job of a trace's messages, with the assignment and the needs of that trace under that layout.
+    /// The job of a trace's messages, with the assignment and the needs of that trace under that
+    /// layout.
     pub fn new(
         alloc: Global,
         layout: Layout,
@@ -59,7 +75,8 @@ impl Job {
         requires lowest { AreLowest layout trace.messages assigned }
         requires known { All (λ a. a < length layout.tree) assigned }
         requires needs { AreNeeds layout.tree assigned needs }
-        ensures kept { IfOk result (λ job. IsJobOf layout trace.messages assigned needs order.now job) }
+        ensures kept { IfOk result
+            (λ job. IsJobOf layout trace.messages assigned needs order.now job) }
         ensures job { IfOk result IsJob }
         ensures refused { IfErr result (λ e. e ≡ JobError.Order → ¬ IsOrder needs order.now) }
     {
@@ -109,7 +126,8 @@ impl Job {
         self.needs.of(n)
     }
 
-    /// The numbers of the affinities that own a cell of the footprint of message `n`, in rising order.
+    /// The numbers of the affinities that own a cell of the footprint of message `n`, in rising
+    /// order.
     pub fn owners(&self, n: u32) -> &[u16]
         requires from { 1 ≤ n }
         requires to { n ≤ length self.now.ops }

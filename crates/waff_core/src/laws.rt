@@ -55,7 +55,8 @@ pub fn running_do_not_exclude()
     ensures { (job : JobValue) → IsJob job → RunningDoNotExclude job }
 {}
 
-/// A parcel that is away is with one running message, and when a message may begin the parcels of its
+/// A parcel that is away is with one running message, and when a message may begin the parcels of
+/// its
 /// footprint's owners are home.
 pub fn parcels_are_with_one()
     ensures away { (job : JobValue) → IsJob job → AwayWithOne job }

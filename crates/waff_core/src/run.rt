@@ -25,11 +25,13 @@ pub fn run_events(
 ) -> Result<CoreState, CoreError>
     requires some { 1 ≤ seats }
     requires few { seats ≤ MAX_SEATS }
-    ensures accepted { IfOk result (λ state. Runs job.now (opening seats) events.now (core_of state)) }
+    ensures accepted { IfOk result
+        (λ state. Runs job.now (opening seats) events.now (core_of state)) }
     ensures home { IfOk result (λ state. AreHome job.now (core_of state) state.home) }
     ensures settled { IfOk result (λ state. CellsAreSerial job.now (core_of state)) }
     ensures cells { IfOk result (λ state. HasSizes state.cells (sizes_of job.now.layout.spaces)) }
-    ensures refused { IfErr result (λ e. e ≢ CoreError.Memory → FailsFirst job.now seats events.now e) }
+    ensures refused { IfErr result
+        (λ e. e ≢ CoreError.Memory → FailsFirst job.now seats events.now e) }
 {
     let mut machine = match Machine::opening(alloc, job, seats) {
         Ok(machine) => machine,
@@ -53,7 +55,8 @@ fn run(machine: &mut Machine, job: &Job, seats: u32, events: &[Event]) -> Result
     requires opens { core_in machine.old ≡ opening seats }
     requires fits { Fits job.now machine.old }
     ensures fits { Fits job.now machine.new }
-    ensures accepted { IfOk result (λ _. Runs job.now (opening seats) events.now (core_in machine.new)) }
+    ensures accepted { IfOk result
+        (λ _. Runs job.now (opening seats) events.now (core_in machine.new)) }
     ensures refused { IfErr result (FailsFirst job.now seats events.now) }
 {
     for at in 0..events.len() {

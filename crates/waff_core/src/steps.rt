@@ -11,7 +11,8 @@ use crate::{CoreError, Event, Job, Phase};
 use std::alloc::{AllocError, Global};
 use waff_cells::State;
 
-/// The machine: how many draws there were, the phases of the actors, which messages are done, by number, and the cells.
+/// The machine: how many draws there were, the phases of the actors, which messages are done, by
+/// number, and the cells.
 #[derive(Drop)]
 pub(crate) struct Machine {
     pub drawn: u32,
@@ -43,7 +44,8 @@ impl Machine {
         requires steady { IsSteady job.now (core_in self.old) }
         requires room { self.old.drawn + 1 < 2 ^ 32 }
         ensures fits { Fits job.now self.new }
-        ensures stepped { IfOk result (λ _. Steps job.now (core_in self.old) event (core_in self.new)) }
+        ensures stepped { IfOk result
+            (λ _. Steps job.now (core_in self.old) event (core_in self.new)) }
         ensures refused { IfErr result (IsRefused job.now (core_in self.old) place event) }
     {
         match event {
@@ -57,8 +59,10 @@ impl Machine {
         requires fits { Fits job.now self.old }
         requires room { self.old.drawn + 1 < 2 ^ 32 }
         ensures fits { Fits job.now self.new }
-        ensures stepped { IfOk result (λ _. Steps job.now (core_in self.old) (Event.Draw actor) (core_in self.new)) }
-        ensures refused { IfErr result (IsRefused job.now (core_in self.old) place (Event.Draw actor)) }
+        ensures stepped { IfOk result
+            (λ _. Steps job.now (core_in self.old) (Event.Draw actor) (core_in self.new)) }
+        ensures refused { IfErr result
+            (IsRefused job.now (core_in self.old) place (Event.Draw actor)) }
     {
         match self.phase(actor) {
             Some(Phase::Free) => {
@@ -75,8 +79,10 @@ impl Machine {
         requires fits { Fits job.now self.old }
         requires steady { IsSteady job.now (core_in self.old) }
         ensures fits { Fits job.now self.new }
-        ensures stepped { IfOk result (λ _. Steps job.now (core_in self.old) (Event.Begin actor) (core_in self.new)) }
-        ensures refused { IfErr result (IsRefused job.now (core_in self.old) place (Event.Begin actor)) }
+        ensures stepped { IfOk result
+            (λ _. Steps job.now (core_in self.old) (Event.Begin actor) (core_in self.new)) }
+        ensures refused { IfErr result
+            (IsRefused job.now (core_in self.old) place (Event.Begin actor)) }
     {
         let m = match self.phase(actor) {
             Some(Phase::Drawn(m)) => m,
@@ -97,8 +103,10 @@ impl Machine {
         requires fits { Fits job.now self.old }
         requires steady { IsSteady job.now (core_in self.old) }
         ensures fits { Fits job.now self.new }
-        ensures stepped { IfOk result (λ _. Steps job.now (core_in self.old) (Event.End actor) (core_in self.new)) }
-        ensures refused { IfErr result (IsRefused job.now (core_in self.old) place (Event.End actor)) }
+        ensures stepped { IfOk result
+            (λ _. Steps job.now (core_in self.old) (Event.End actor) (core_in self.new)) }
+        ensures refused { IfErr result
+            (IsRefused job.now (core_in self.old) place (Event.End actor)) }
     {
         let m = match self.phase(actor) {
             Some(Phase::Running(m)) => m,
@@ -122,12 +130,14 @@ impl Machine {
         self.phases.get(actor as usize - 1).copied()
     }
 
-    /// The least earlier message that excludes message `m` and is not done. It is looked for only where a need is not done.
+    /// The least earlier message that excludes message `m` and is not done. It is looked for only
+    /// where a need is not done.
     fn blocking(&self, job: &Job, m: u32) -> Option<u32>
         requires fits { Fits job.now self.now }
         requires steady { IsSteady job.now (core_in self.now) }
         requires message { IsIn job.now m }
-        ensures { MatchOption result (IsClear job.now (core_in self.now) m) (IsLeastUndone job.now (core_in self.now) m) }
+        ensures { MatchOption result
+            (IsClear job.now (core_in self.now) m) (IsLeastUndone job.now (core_in self.now) m) }
     {
         if self.are_done(job.needs(m)) {
             return None;
