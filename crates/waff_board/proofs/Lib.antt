@@ -1,0 +1,12 @@
+pub mod Phases
+pub mod Known
+pub mod Moves
+pub mod Draws
+pub mod Owners
+pub mod Handing
+pub mod Begins
+pub mod Finishes
+pub mod Splits
+pub mod Opens
+pub mod Closes
+pub mod Looks
