@@ -1,1 +1,4 @@
 pub mod MeaningLaws
+pub mod Writes
+pub mod Meanings
+pub mod Zeros

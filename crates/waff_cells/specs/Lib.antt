@@ -1,4 +1,5 @@
 pub mod Meaning
 pub mod Serial
 pub mod Grid
+pub mod Held
 pub mod Laws

@@ -1,6 +1,16 @@
 //! The state of all cells of a layout.
 
+ghost use Rattle.std.specs.Prelude.{◌≡◌, ◌<◌, length, map, All, IfOk};
+ghost use Rattle.waff_model.specs.Cells.{cells_of, LiesIn};
+ghost use Rattle.waff_model.specs.Messages.{sizes_of};
+ghost use Rattle.waff_model.specs.declared.cell.Cell.{Cell};
+ghost use Rattle.waff_cells.specs.Meaning.{meaning};
+ghost use Rattle.waff_cells.specs.Grid.{cells_in, HasSizes};
+
+use crate::held::{Addresses, apply};
+use std::alloc::{AllocError, Global};
 use std::marker::Model;
+use waff_model::{Cell, Layout, Message, Op};
 
 /// The number that each cell of a layout holds: a row for each space.
 #[derive(Drop)]
@@ -14,4 +24,59 @@ impl Model for State {
     ghost Value = { List (List ℕ) };
 
     ghost view = { λ s. map (λ row. row.items) s.rows.items };
+}
+
+impl State {
+    /// The state in which every cell is 0.
+    pub fn zero(alloc: Global, layout: &Layout) -> Result<State, AllocError>
+        ensures sizes { IfOk result (λ state. HasSizes state (sizes_of layout.now.spaces)) }
+        ensures cells { IfOk result (λ state. (cell : Cell) → cells_in state cell ≡ 0) }
+    {
+        let mut rows = Vec::with_capacity(alloc, layout.space_count() as usize)?;
+        for s in 0..layout.space_count() {
+            rows.push(vec![in alloc; 0; layout.space_size(s) as usize]?)?;
+        }
+        Ok(State { rows })
+    }
+
+    /// Runs the operations of the message, whose cells are the state's.
+    pub fn apply(&mut self, message: &Message)
+        requires { All (LiesIn (map length self.old)) (cells_of message.now.ops) }
+        ensures sizes { HasSizes self.new (map length self.old) }
+        ensures cells { (cell : Cell)
+            → cells_in self.new cell ≡ meaning message.now.ops (cells_in self.old) cell }
+    {
+        self.apply_ops(message.ops.iter().as_slice());
+    }
+
+    /// Runs the operations, whose cells are the state's.
+    pub fn apply_ops(&mut self, ops: &[Op])
+        requires { All (LiesIn (map length self.old)) (cells_of ops.now) }
+        ensures sizes { HasSizes self.new (map length self.old) }
+        ensures cells { (cell : Cell)
+            → cells_in self.new cell ≡ meaning ops.now (cells_in self.old) cell }
+    {
+        apply(&mut self.rows, ops, &InSpaces);
+    }
+
+    /// The number that the cell, which is the state's, holds.
+    pub fn get(&self, cell: Cell) -> u64
+        requires { LiesIn (map length self.now) cell }
+        ensures { result ≡ cells_in self.now cell }
+    {
+        self.rows[cell.space as usize][cell.index as usize]
+    }
+}
+
+/// Where a state holds each cell: in the row of its space, at its index.
+struct InSpaces;
+
+impl Addresses for InSpaces {
+    ghost has = { λ _ _. Unit {0} };
+
+    ghost at = { λ _ cell. (cell.space, cell.index) };
+
+    fn address(&self, cell: Cell) -> (usize, usize) {
+        (cell.space as usize, cell.index as usize)
+    }
 }

@@ -1,4 +1,10 @@
+pub mod Listing
+pub mod Ordering
+pub mod Making
 pub mod Phases
 pub mod Settling
 pub mod Sound
 pub mod Clearings
+pub mod Determined
+pub mod OneActor
+pub mod Arrival

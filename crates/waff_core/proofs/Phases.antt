@@ -47,6 +47,16 @@ phase_opening seats (suc x) phase is = at seats x is
     at (suc n) zero h = same_Some phase Free (sym h)
     at (suc n) (suc k) h = at n k h
 
+-- and there is each of them
+pub phase_free : (seats x : ℕ) → 1 ≤ x → x ≤ seats → phase_of (replicate seats Free) x ≡ Some Free
+phase_free seats zero from to = absurd (omega arith)
+phase_free seats (suc x) from to = at seats x (omega arith)
+  where
+    at : (n k : ℕ) → k < n → slice_get (replicate n Free) k ≡ Some Free
+    at zero k short = absurd (omega arith)
+    at (suc n) zero short = refl
+    at (suc n) (suc k) short = at n k (omega arith)
+
 -- an actor that has a phase after a change is the one that changed, or another that had it before
 pub phase_cases : (phases : List Phase) (x y : ℕ) (old new phase : Phase) → phase_of phases x ≡ Some old
     → phase_of (with_phase phases x new) y ≡ Some phase

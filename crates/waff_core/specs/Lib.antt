@@ -2,3 +2,6 @@ pub mod Job
 pub mod Machine
 pub mod Refused
 pub mod Settled
+pub mod Owners
+pub mod Orders
+pub mod Laws

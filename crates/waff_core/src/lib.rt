@@ -3,6 +3,11 @@
 
 mod event;
 mod job;
+pub mod laws;
+mod lists;
+mod operations;
+mod order;
+mod owners;
 mod phase;
 mod refusal;
 mod status;

@@ -1,0 +1,21 @@
+use Rattle.std.proofs.Common.{◌≡◌, All, arith, sym, ◌∙◌, ap, ap₂, subst}
+use Rattle.waff_model.specs.Cells.{cells_of_op}
+use Rattle.waff_model.specs.declared.cell.Cell.{Cell}
+use Rattle.waff_model.specs.declared.op.Op.{Op}
+use Rattle.waff_cells.specs.Meaning.{with_number, effect}
+use Rattle.waff_cells.proofs.held.apply_op.Goals as goal
+
+pub returns-in-Swap-clause-holds : goal.returns-in-Swap-clause-holds
+returns-in-Swap-clause-holds g c =
+    let Has : Cell → Type 0 = g.A.Addresses.has c.args.addresses.now in
+    let cell = c.in-Swap.cell in
+    let other = c.in-Swap.other in
+    let named = subst (λ (op : Op). All Has (cells_of_op op)) c.in-Swap.is c.requires.has in
+    let has_cell : Has cell = named 0 cell (omega arith) in
+    let has_other : Has other = named 1 cell (omega arith) in
+    λ cells hold x has.
+    let first : c.read-one.result ≡ cells cell = c.read-one.ensures ∙ hold cell has_cell in
+    let second : c.read-two.result ≡ cells other = c.read-two.ensures ∙ hold other has_other in
+    c.write-in-Swap-2.ensures.holds _ (c.write-in-Swap.ensures.holds cells hold) x has
+    ∙ ap₂ (λ m n. with_number (with_number cells cell m) other n x) second first
+    ∙ ap (λ (op : Op). effect op cells x) (sym c.in-Swap.is)

@@ -1,0 +1,115 @@
+-- What holds of the core machine.
+use Rattle.std.specs.Prelude.{◌≡◌, ◌≢◌, ◌⊎◌, ℕ, zero, suc, ◌+◌, ◌-◌, ◌≤◌, true, List, [], ◌∷◌, length, Some, take, All}
+use Rattle.waff_model.specs.Tree.{Excludes}
+use Rattle.waff_model.specs.Layout.{IsCell, owner_of}
+use Rattle.waff_model.specs.declared.cell.Cell.{Cell}
+use Rattle.waff_assign.specs.Order.{affinity_of}
+use Rattle.waff_order.specs.Needs.{needs_of}
+use Rattle.waff_cells.specs.Meaning.{meaning}
+use Rattle.waff_cells.specs.Serial.{SameParcel, ops_of, serial}
+use Rattle.waff_core.specs.Job.{JobValue, IsIn, IsOwner}
+use Rattle.waff_core.specs.Machine.{Core, Runs, IsClear, opening, phase_of}
+use Rattle.waff_core.specs.Refused.{FailsFirst}
+use Rattle.waff_core.specs.Settled.{IsLast, CellsAreSerial}
+use Rattle.waff_core.specs.declared.event.Event.{Event}
+use Rattle.waff_core.specs.declared.event.Event.TheVariants.{Draw, Begin, End}
+use Rattle.waff_core.specs.declared.phase.Phase.TheVariants.{Drawn, Running}
+use Rattle.waff_core.specs.declared.refusal.CoreError.{CoreError}
+
+-- the machine with this many actors reaches the state: some events lead to it from the opening
+abbrev pub Reaches : JobValue → ℕ → Core → Type 0
+Reaches job seats s = (events : List Event) × Runs job (opening seats) events s
+
+-- every message of the job is done
+abbrev pub AreAllDone : JobValue → Core → Type 0
+AreAllDone job s = (m : ℕ) → IsIn job m → s.done m ≡ true
+
+-- events lead from a state to no more than one
+abbrev pub RunsOnce : JobValue → Type 0
+RunsOnce job =
+    (s : Core) (events : List Event) (t u : Core) → Runs job s events t → Runs job s events u → t ≡ u
+
+-- events have no more than one first fault
+abbrev pub FailsOnce : JobValue → Type 0
+FailsOnce job =
+    (seats : ℕ) (events : List Event) (one other : CoreError)
+    → FailsFirst job seats events one → FailsFirst job seats events other → one ≡ other
+
+-- events that the machine accepts have no fault
+abbrev pub FailsOrRuns : JobValue → Type 0
+FailsOrRuns job =
+    (seats : ℕ) (events : List Event) (s : Core) (error : CoreError)
+    → Runs job (opening seats) events s → ¬ FailsFirst job seats events error
+
+-- events that are accepted stay accepted when cut short
+abbrev pub StaysAccepted : JobValue → Type 0
+StaysAccepted job =
+    (s : Core) (events : List Event) (t : Core) (n : ℕ)
+    → Runs job s events t → (u : Core) × Runs job s (take n events) u
+
+-- actor x draws, begins and ends this many messages, one after another
+abbrev pub rounds : ℕ → ℕ → List Event
+rounds x zero = []
+rounds x (suc n) = Draw x ∷ Begin x ∷ End x ∷ rounds x n
+
+-- any one actor can run the order to its end, and then all messages are done
+abbrev pub OneActorEnds : JobValue → Type 0
+OneActorEnds job =
+    (seats x : ℕ) → 1 ≤ x → x ≤ seats
+    → (s : Core) × Runs job (opening seats) (rounds x (length job.order)) s × AreAllDone job s
+
+-- the number of draws is at most the number of places of the order and of actors
+abbrev pub DrawsAreFew : JobValue → Type 0
+DrawsAreFew job = (seats : ℕ) (s : Core) → Reaches job seats s → s.drawn ≤ length job.order + seats
+
+-- a message whose needs are done is clear: every earlier message that excludes it is done
+abbrev pub NeedsAreEnough : JobValue → Type 0
+NeedsAreEnough job =
+    (seats : ℕ) (s : Core) → Reaches job seats s
+    → (m : ℕ) → All (λ i. s.done i ≡ true) (needs_of job.needs m) → IsClear job s m
+
+-- messages that run at once do not exclude each other
+abbrev pub RunningDoNotExclude : JobValue → Type 0
+RunningDoNotExclude job =
+    (seats : ℕ) (s : Core) → Reaches job seats s
+    → (x y m n : ℕ) → x ≢ y → phase_of s.phases x ≡ Some (Running m) → phase_of s.phases y ≡ Some (Running n)
+    → ¬ Excludes job.layout.tree (affinity_of job.assigned m) (affinity_of job.assigned n)
+
+-- there is no more than one last message at or above an affinity
+abbrev pub LastIsOne : JobValue → Type 0
+LastIsOne job =
+    (s : Core) (a one other : ℕ) → IsLast job s a one → IsLast job s a other → one ≡ other
+
+-- in every state that is reached, also while messages run, the parcels are those of arrival order
+abbrev pub AlwaysSerial : JobValue → Type 0
+AlwaysSerial job = (seats : ℕ) (s : Core) → Reaches job seats s → CellsAreSerial job s
+
+-- each cell has the value that arrival order gives it after the last message that is done whose
+-- affinity is at or above the cell's owner
+abbrev pub EachCellIsSerial : JobValue → Type 0
+EachCellIsSerial job =
+    (seats : ℕ) (s : Core) → Reaches job seats s
+    → (cell : Cell) → IsCell job.layout.spaces cell
+    → (last : ℕ) → IsLast job s (owner_of job.layout.spaces cell) last
+    → s.cells cell ≡ serial job.ops last cell
+
+-- where all messages are done the cells are those of arrival order
+abbrev pub AllDoneIsSerial : JobValue → Type 0
+AllDoneIsSerial job =
+    (seats : ℕ) (s : Core) → Reaches job seats s → AreAllDone job s
+    → (cell : Cell) → IsCell job.layout.spaces cell → s.cells cell ≡ serial job.ops (length job.ops) cell
+
+-- actor x may begin message m, or runs it
+abbrev pub MayRun : JobValue → Core → ℕ → ℕ → Type 0
+MayRun job s x m =
+    ((phase_of s.phases x ≡ Some (Drawn m)) × IsClear job s m) ⊎ (phase_of s.phases x ≡ Some (Running m))
+
+-- from when a message may begin until its end, the parcels of its footprint's owners are those of
+-- arrival order before it, and its meaning makes them those after it
+abbrev pub BeginsSettled : JobValue → Type 0
+BeginsSettled job =
+    (seats : ℕ) (s : Core) → Reaches job seats s
+    → (x m : ℕ) → MayRun job s x m
+    → (a : ℕ) → IsOwner job.layout.spaces (ops_of job.ops m) a
+    → SameParcel job.layout.spaces a s.cells (serial job.ops (m - 1))
+    × SameParcel job.layout.spaces a (meaning (ops_of job.ops m) s.cells) (serial job.ops m)

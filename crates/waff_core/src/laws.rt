@@ -1,0 +1,68 @@
+//! What holds of the core machine, whoever runs it. Each law is a function that does nothing and
+//! whose contract is the law.
+
+ghost use Rattle.waff_core.specs.Job.{JobValue, IsJob};
+ghost use Rattle.waff_core.specs.Laws.{RunsOnce, FailsOnce, FailsOrRuns, StaysAccepted, OneActorEnds, DrawsAreFew, NeedsAreEnough, RunningDoNotExclude, LastIsOne, AlwaysSerial, EachCellIsSerial, AllDoneIsSerial, BeginsSettled};
+
+/// The machine is deterministic: a list of events leads from a state to no more than one.
+pub fn runs_once()
+    ensures { (job : JobValue) → RunsOnce job }
+{}
+
+/// A list of events has no more than one first fault.
+pub fn fails_once()
+    ensures { (job : JobValue) → FailsOnce job }
+{}
+
+/// A list of events that is accepted has no fault.
+pub fn fails_or_runs()
+    ensures { (job : JobValue) → FailsOrRuns job }
+{}
+
+/// A list of events that is accepted stays accepted when cut short.
+pub fn stays_accepted()
+    ensures { (job : JobValue) → StaysAccepted job }
+{}
+
+/// No job is stuck: any one actor can run the whole order, and then all messages are done.
+pub fn one_actor_ends()
+    ensures { (job : JobValue) → IsJob job → OneActorEnds job }
+{}
+
+/// The number of draws is at most the number of messages of the order and of actors.
+pub fn draws_are_few()
+    ensures { (job : JobValue) → IsJob job → DrawsAreFew job }
+{}
+
+/// Looking at the needs of a message is enough.
+pub fn needs_are_enough()
+    ensures { (job : JobValue) → IsJob job → NeedsAreEnough job }
+{}
+
+/// Messages that run at once do not exclude each other.
+pub fn running_do_not_exclude()
+    ensures { (job : JobValue) → IsJob job → RunningDoNotExclude job }
+{}
+
+/// There is no more than one last message at or above an affinity.
+pub fn last_is_one()
+    ensures { (job : JobValue) → LastIsOne job }
+{}
+
+/// In every interleaving, at every moment, each parcel is that of arrival order after the last
+/// message that is done and could touch it.
+pub fn cells_are_serial()
+    ensures parcels { (job : JobValue) → IsJob job → AlwaysSerial job }
+    ensures cells { (job : JobValue) → IsJob job → EachCellIsSerial job }
+{}
+
+/// Where all messages are done the cells are those of arrival order.
+pub fn all_done_is_serial()
+    ensures { (job : JobValue) → IsJob job → AllDoneIsSerial job }
+{}
+
+/// From when a message may begin until its end, the parcels of its footprint's owners are those of
+/// arrival order before it, and its meaning makes them those after it.
+pub fn begins_settled()
+    ensures { (job : JobValue) → IsJob job → BeginsSettled job }
+{}
