@@ -2,3 +2,4 @@ pub mod Climbs
 pub mod Coverings
 pub mod Assignments
 pub mod CellOrder
+pub mod Uniqueness

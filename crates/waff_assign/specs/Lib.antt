@@ -1,3 +1,4 @@
 pub mod Order
 pub mod Lowest
 pub mod Footprint
+pub mod Unique

@@ -1,5 +1,5 @@
 -- The lowest affinity that covers a footprint.
-use Rattle.std.specs.Prelude.{◌≡◌, ℕ, ◌-◌, ◌≤◌, List, Some, Contains, slice_get}
+use Rattle.std.specs.Prelude.{◌≡◌, ℕ, ◌-◌, ◌≤◌, List, length, Some, Contains, slice_get}
 use Rattle.waff_model.specs.Tree.{AtOrAbove}
 use Rattle.waff_model.specs.Layout.{Hierarchy, owner_of}
 use Rattle.waff_model.specs.Cells.{cells_of}
@@ -26,3 +26,8 @@ abbrev pub AreLowest : Hierarchy → List Message → List ℕ → Type 0
 AreLowest layout messages assigned =
     (n : ℕ) (message : Message) → 1 ≤ n → slice_get messages (n - 1) ≡ Some message
     → IsLowest layout (IsInFootprint message.ops) (affinity_of assigned n)
+
+-- the assignment of a trace: an affinity for each message, the lowest that covers its footprint
+pub record IsAssignment (layout : Hierarchy) (messages : List Message) (assigned : List ℕ) : Type 0 where
+  pub count : length assigned ≡ length messages
+  pub lowest : AreLowest layout messages assigned

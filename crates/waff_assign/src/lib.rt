@@ -6,6 +6,7 @@ mod assignment;
 mod covering;
 mod footprints;
 mod order;
+pub mod unique;
 
 pub use assigned::Assigned;
 pub use assignment::assign;

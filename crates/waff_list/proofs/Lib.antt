@@ -15,3 +15,5 @@ pub mod CandidateLemmas
 pub mod WakeLemmas
 pub mod OrderingLemmas
 pub mod DependentLemmas
+pub mod Uniqueness
+pub mod SeatsUniqueness

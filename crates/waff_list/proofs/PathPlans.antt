@@ -7,6 +7,7 @@ use Rattle.waff_order.specs.Needs.{IsNeed, AreNeeds}
 use Rattle.waff_order.proofs.NeedLemmas.{path_one, path_weaker}
 use Rattle.waff_list.specs.ListRule.{IsReady, IsListPlan}
 use Rattle.waff_list.specs.Bound.{SamePathsSamePlans}
+use Rattle.waff_list.specs.Unique.{ListPlansAreShared}
 
 -- along a path that a plan keeps, the last starts only when the first has finished
 path_by_ordered : (before : ℕ → ℕ → Type 0) (work : Work) (start : ℕ → ℕ) → ((i j : ℕ) → before i j → finish_of work start i ≤ start j)
@@ -49,6 +50,10 @@ same_paths_same_plans near before work to from k start h = record {
       free = λ i pair. let path = from i m pair in path_by_free before work start t m ordered ready.free path.0 i path.1;
     }
 
+pub shared_plans : (near before : ℕ → ℕ → Type 0) (work : Work) → ListPlansAreShared near before work
+shared_plans near before work to from k start =
+    (same_paths_same_plans near before work to from k start, same_paths_same_plans before near work from to k start)
+
 -- needs and the paths through them
 pub plan_over_paths : (near : ℕ → ℕ → Type 0) (work : Work) (k : ℕ) (start : ℕ → ℕ) → IsListPlan near work k start → IsListPlan (Path near) work k start
 plan_over_paths near work k start h =
@@ -61,3 +66,10 @@ plan_over_pairs tree assigned needs work k start are h =
     same_paths_same_plans (Path (IsNeed needs)) (IsOrdered tree assigned) work
     (λ i j pair. path_one (Path (IsNeed needs)) i j (are.paths i j pair))
     (λ i j path. path_weaker (IsNeed needs) (IsOrdered tree assigned) are.ordered i j path) k start h
+
+pub plan_over_needs : (tree : List Node) (assigned : List ℕ) (needs : List (List ℕ)) (work : Work) (k : ℕ) (start : ℕ → ℕ) → AreNeeds tree assigned needs
+    → IsListPlan (IsOrdered tree assigned) work k start → IsListPlan (Path (IsNeed needs)) work k start
+plan_over_needs tree assigned needs work k start are h =
+    same_paths_same_plans (IsOrdered tree assigned) (Path (IsNeed needs)) work
+    (λ i j path. path_weaker (IsNeed needs) (IsOrdered tree assigned) are.ordered i j path)
+    (λ i j pair. path_one (Path (IsNeed needs)) i j (are.paths i j pair)) k start h

@@ -4,3 +4,4 @@ pub mod Bound
 pub mod Progress
 pub mod Seating
 pub mod Waiting
+pub mod Unique

@@ -10,6 +10,7 @@ mod planner;
 mod progress;
 mod releases;
 mod ticks;
+pub mod unique;
 mod worker_plan;
 
 pub use list::{list_chain, list_plan};

@@ -6,4 +6,6 @@ pub mod ShareLemmas
 pub mod ArrangeLemmas
 pub mod LayoutLemmas
 pub mod SpaceLemmas
+pub mod ParcelLemmas
+pub mod ParcelTableLemmas
 pub mod TraceLemmas

@@ -1,5 +1,5 @@
 -- Spaces compared one by one.
-use Rattle.std.proofs.Common.{◌≡◌, ℕ, suc, ◌==◌, ◌&&◌, Bool, true, List, [], ◌∷◌, length, map, arith, refl, ap, eq-eqb}
+use Rattle.std.proofs.Common.{◌≡◌, suc, ◌==◌, ◌&&◌, Bool, true, List, [], ◌∷◌, length, map, arith, refl, ap, eq-eqb}
 use Rattle.std.specs.List.{list_all, zip}
 use Rattle.std.specs.Str.{bytes_eq}
 use Rattle.std.proofs.lemmas.Bool.{and_parts}

@@ -8,4 +8,7 @@ pub mod Cells
 pub mod Layout
 pub mod LayoutOf
 pub mod LayoutRefusal
+pub mod Parcel
+pub mod ParcelTable
+pub mod ParcelLaws
 pub mod Messages

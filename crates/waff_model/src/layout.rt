@@ -6,6 +6,7 @@ ghost use Rattle.std.specs.Prelude.{◌≡◌, ◌↔◌, ◌<◌, ◌==◌, ◌
 ghost use Rattle.waff_model.specs.Tree.{number_of};
 ghost use Rattle.waff_model.specs.Layout.{IsLayout, IsCell, SameSpaces, name_at, size_at, space_named, owner_of};
 ghost use Rattle.waff_model.specs.LayoutOf.{owners_of, map_of, space_of, hierarchy_of};
+ghost use Rattle.waff_model.specs.Parcel.{parcel_size, place_of};
 ghost use Rattle.waff_model.specs.LayoutRefusal.{layout_refusal};
 
 use crate::cell::Cell;
@@ -13,6 +14,7 @@ use crate::kind::Kind;
 use crate::layout_rows::{LayoutError, MapSpec, SpaceSpec, refusal, size_of, within};
 use crate::limits::MAX_UNIT;
 use crate::name::Text;
+use crate::parcels::{Parcels, parcels_of};
 use crate::space::Space;
 use crate::tree::{AffinityId, Tree};
 use std::alloc::{AllocError, Global};
@@ -24,16 +26,19 @@ pub struct Layout {
     kind: Kind,
     tree: Tree,
     spaces: Vec<Space>,
+    parcels: Parcels,
 }
 
 impl Model for Layout {
     ghost use Rattle.waff_model.specs.Layout.{Hierarchy, IsLayout};
+    ghost use Rattle.waff_model.specs.ParcelTable.{AreParcels};
 
     ghost Value = { Hierarchy };
 
     ghost view = { λ l. record { kind = l.kind; tree = l.tree; spaces = l.spaces.items } };
 
-    ghost invariant = { λ l. IsLayout (record { kind = l.kind; tree = l.tree; spaces = l.spaces.items }) };
+    ghost invariant = { λ l. IsLayout (record { kind = l.kind; tree = l.tree; spaces = l.spaces.items })
+        × AreParcels l.tree l.spaces.items l.parcels };
 }
 
 impl Layout {
@@ -54,8 +59,8 @@ impl Layout {
         if let Some(refusal) = refusal(&tree, spaces, maps) {
             return Err(refusal);
         }
-        match spaces_of(alloc, &tree, spaces, maps) {
-            Ok(spaces) => Ok(Layout { kind, tree, spaces }),
+        match lay_out(alloc, kind, tree, spaces, maps) {
+            Ok(layout) => Ok(layout),
             Err(_) => Err(LayoutError::Memory),
         }
     }
@@ -139,6 +144,49 @@ impl Layout {
         let space = &self.spaces[cell.space as usize];
         AffinityId(space.owner(cell.index))
     }
+
+    /// How many cells the affinity owns.
+    pub fn parcel_len(&self, a: AffinityId) -> u32
+        requires { a.0 < length self.now.tree }
+        ensures { result ≡ parcel_size self.now.spaces a.0 }
+    {
+        self.parcels.sizes[a.0 as usize]
+    }
+
+    /// The owner of the cell, and the cell's place in the owner's parcel: how many of the owner's
+    /// cells come before it.
+    pub fn place(&self, cell: Cell) -> (AffinityId, u32)
+        requires { IsCell self.now.spaces cell }
+        ensures owner { result.0.0 ≡ owner_of self.now.spaces cell }
+        ensures affinity { result.0.0 < length self.now.tree }
+        ensures place { result.1 ≡ place_of self.now.spaces cell }
+        ensures within { result.1 < parcel_size self.now.spaces result.0.0 }
+    {
+        let parcels = &self.parcels;
+        let at = (parcels.starts[cell.space as usize] + cell.index) as usize;
+        (AffinityId(parcels.owners[at]), parcels.places[at])
+    }
+}
+
+/// The layout of rows of which none is refused.
+fn lay_out(
+    alloc: Global,
+    kind: Kind,
+    tree: Tree,
+    spaces: &[SpaceSpec],
+    maps: &[MapSpec],
+) -> Result<Layout, AllocError>
+    requires { layout_refusal tree spaces.now maps.now ≡ None }
+    ensures { IfOk result (λ layout. layout ≡ hierarchy_of kind tree spaces.now maps.now) }
+{
+    let spaces = spaces_of(alloc, &tree, spaces, maps)?;
+    let parcels = parcels_of(alloc, &tree, &spaces)?;
+    Ok(Layout {
+        kind,
+        tree,
+        spaces,
+        parcels,
+    })
 }
 
 /// Whether the spaces have the same names and sizes.
@@ -292,6 +340,23 @@ mod tests {
         assert_eq!(rt; layout.owner(fifth).0, 1);
         assert!(rt; !layout.has(Cell { space: 1, index: 4 }));
         assert!(rt; !layout.has(Cell { space: 2, index: 0 }));
+        Ok(())
+    }
+
+    #[test]
+    fn places_cells_in_parcels(rt: HostRuntime) -> Result<(), Fail> {
+        let maps: [Map; 2] = [("f", 2, &["v1", "v2"]), ("g", 1, &["v1"])];
+        let layout = layout(rt.alloc(), &[("f", 8), ("g", 4)], &maps)??;
+        let fifth = Cell { space: 0, index: 4 };
+        assert!(rt; layout.has(fifth));
+        assert_eq!(rt; layout.place(fifth), (AffinityId(1), 2));
+        let last = Cell { space: 1, index: 3 };
+        assert!(rt; layout.has(last));
+        assert_eq!(rt; layout.place(last), (AffinityId(1), 7));
+        assert_eq!(rt; layout.tree().len(), 3);
+        assert_eq!(rt; layout.parcel_len(AffinityId(0)), 0);
+        assert_eq!(rt; layout.parcel_len(AffinityId(1)), 8);
+        assert_eq!(rt; layout.parcel_len(AffinityId(2)), 4);
         Ok(())
     }
 

@@ -3,6 +3,7 @@
 
 mod cell;
 mod kind;
+pub mod laws;
 mod layout;
 mod layout_rows;
 pub mod limits;
@@ -10,6 +11,7 @@ mod message;
 mod name;
 mod nodes;
 mod op;
+mod parcels;
 mod places;
 mod space;
 mod texts;

@@ -8,3 +8,4 @@ pub mod Tables
 pub mod Planned
 pub mod OrderKept
 pub mod Linkings
+pub mod Uniqueness

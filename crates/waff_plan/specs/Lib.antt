@@ -9,3 +9,4 @@ pub mod Latest
 pub mod Table
 pub mod Links
 pub mod CostedChain
+pub mod Unique

@@ -11,6 +11,7 @@ pub mod printed;
 mod table;
 mod timetable;
 mod timing;
+pub mod unique;
 pub mod unlimited;
 
 pub use linked::Chain;

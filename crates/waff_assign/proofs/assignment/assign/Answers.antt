@@ -1,5 +1,5 @@
 use Rattle.std.proofs.Common.{◌≡◌, ◌+◌, ◌-◌, ◌<◌, [], ◌∷◌, ◌++◌, length, All, Contains, arith, sym, ◌∙◌, ap, subst}
-use Rattle.std.proofs.lemmas.List.{length_push}
+use Rattle.std.proofs.lemmas.List.{length-map, length_push}
 use Rattle.std.proofs.lemmas.Option.{slice_get_within}
 use Rattle.waff_model.specs.Cells.{cells_of}
 use Rattle.waff_model.specs.Layout.{IsCell}
@@ -43,3 +43,9 @@ returns-clause-lowest c = λ n message from at.
     let within = slice_get_within c.args.trace.now.messages (n - 1) message at in
     let there = c.loop-n.invariant.lowest.each n message from (omega (arith, within)) at in
     subst (λ xs. IsLowest c.args.layout.now (IsInFootprint message.ops) (affinity_of xs n)) (sym c.new.ensures) there
+
+pub returns-clause-assignment : goal.returns-clause-assignment
+returns-clause-assignment c = record {
+  count = ap length c.new.ensures ∙ simp length-map (omega (arith, c.len-n-end.ensures.count));
+  lowest = returns-clause-lowest c;
+}

@@ -1,0 +1,17 @@
+-- One thing each: the lowest affinity of a footprint, and the assignment of a trace.
+use Rattle.std.specs.Prelude.{◌≡◌, ℕ, List, Contains}
+use Rattle.waff_model.specs.Layout.{Hierarchy}
+use Rattle.waff_model.specs.declared.cell.Cell.{Cell}
+use Rattle.waff_model.specs.declared.message.Message.{Message}
+use Rattle.waff_assign.specs.Lowest.{IsLowest, IsAssignment}
+
+-- two lowest affinities that cover the same cells are equal
+abbrev pub LowestIsOne : Hierarchy → List Cell → Type 0
+LowestIsOne layout cells =
+    (a b : ℕ) → IsLowest layout (Contains cells) a → IsLowest layout (Contains cells) b → a ≡ b
+
+-- two assignments of a trace are equal
+abbrev pub AssignmentIsOne : Hierarchy → List Message → Type 0
+AssignmentIsOne layout messages =
+    (assigned other : List ℕ) → IsAssignment layout messages assigned → IsAssignment layout messages other
+    → assigned ≡ other

@@ -1,0 +1,5 @@
+use Rattle.waff_model.proofs.ParcelLemmas.{same_place}
+use Rattle.waff_model.proofs.laws.places_are_apart.Goals as goal
+
+pub returns : goal.returns
+returns c = λ spaces. same_place spaces

@@ -1,0 +1,96 @@
+//! The table of parcels: where each cell stands among the cells of its owner.
+
+ghost use Rattle.std.specs.Prelude.{◌≡◌, ◌<◌, ◌≤◌, ◌^◌, ◌++◌, length, replicate, sum_by, All, IfOk, OnOk};
+ghost use Rattle.waff_model.specs.Parcel.{owners_across, owners_in};
+ghost use Rattle.waff_model.specs.ParcelTable.{IsMapped, starts_of, places_of, sizes_of, AreParcels};
+
+use crate::space::Space;
+use crate::tree::Tree;
+use std::alloc::{AllocError, Global};
+
+/// For each cell, in the order of cells, its owner and its place, and for each affinity the size of
+/// its parcel. The cells of a space start where `starts` says.
+#[derive(Drop)]
+pub(crate) struct Parcels {
+    pub(crate) starts: Vec<u32>,
+    pub(crate) owners: Vec<u16>,
+    pub(crate) places: Vec<u32>,
+    pub(crate) sizes: Vec<u32>,
+}
+
+/// The table of the parcels of these spaces over the tree.
+pub(crate) fn parcels_of(
+    alloc: Global,
+    tree: &Tree,
+    spaces: &[Space],
+) -> Result<Parcels, AllocError>
+    requires mapped { All IsMapped spaces.now }
+    requires affinities { All (λ a. a < length tree.now) (owners_in spaces.now) }
+    requires few { sum_by (λ s. s.size) spaces.now < 2 ^ 32 }
+    ensures { IfOk result (λ parcels. AreParcels tree.now spaces.now parcels) }
+{
+    let starts = starts_of(alloc, spaces)?;
+    let owners = owners_of(alloc, spaces)?;
+    let mut sizes = vec![in alloc; 0; tree.len() as usize]?;
+    let places = places_of(alloc, &owners, &mut sizes)?;
+    Ok(Parcels {
+        starts,
+        owners,
+        places,
+        sizes,
+    })
+}
+
+/// Where the cells of each space start.
+fn starts_of(alloc: Global, spaces: &[Space]) -> Result<Vec<u32>, AllocError>
+    requires { sum_by (λ s. s.size) spaces.now < 2 ^ 32 }
+    ensures { IfOk result (λ v. v.items ≡ starts_of spaces.now) }
+{
+    let mut starts = Vec::with_capacity(alloc, spaces.len())?;
+    let mut cells = 0;
+    for space in spaces {
+        starts.push(cells)?;
+        cells += space.size();
+    }
+    Ok(starts)
+}
+
+/// The owners of all cells.
+fn owners_of(alloc: Global, spaces: &[Space]) -> Result<Vec<u16>, AllocError>
+    requires { All IsMapped spaces.now }
+    ensures { IfOk result (λ v. v.items ≡ owners_in spaces.now) }
+{
+    let mut owners = Vec::new(alloc);
+    for space in spaces {
+        add_owners(&mut owners, space)?;
+    }
+    Ok(owners)
+}
+
+/// Adds the owners of the cells of the space.
+fn add_owners(owners: &mut Vec<u16>, space: &Space) -> Result<(), AllocError>
+    requires { IsMapped space.now }
+    ensures { OnOk result (owners.new.items ≡ owners.old.items ++ owners_across space.now) }
+{
+    for index in 0..space.size() {
+        owners.push(space.owner(index))?;
+    }
+    Ok(())
+}
+
+/// The places of the cells with these owners, while the sizes of the parcels are counted.
+fn places_of(alloc: Global, owners: &[u16], sizes: &mut [u32]) -> Result<Vec<u32>, AllocError>
+    requires owners { All (λ a. a < length sizes.old) owners.now }
+    requires few { length owners.now < 2 ^ 32 }
+    requires zeros { sizes.old ≡ replicate (length sizes.old) 0 }
+    ensures places { IfOk result (λ v. v.items ≡ places_of owners.now) }
+    ensures sizes { OnOk result (sizes.new ≡ sizes_of (length sizes.old) owners.now) }
+{
+    let mut places = Vec::with_capacity(alloc, owners.len())?;
+    for owner in owners {
+        let size = sizes[*owner as usize];
+        places.push(size)?;
+        sizes[*owner as usize] = size + 1;
+    }
+    Ok(places)
+}

@@ -1,0 +1,163 @@
+-- The least plan is one, and so is the printed chain of a plan.
+use Rattle.std.proofs.Common.{◌≡◌, ℕ, ◌+◌, ◌<◌, ◌≤◌, ◌⊎◌, inl, inr, List, [], ◌∷◌, arith, refl, sym, ap, subst}
+use Rattle.waff_plan.specs.Work.{Work, IsNumber, finish_of, length_of}
+use Rattle.waff_plan.specs.Obeys.{IsForward}
+use Rattle.waff_plan.specs.Chain.{IsLatest, LeadsToEnd, IsPrinted}
+use Rattle.waff_plan.specs.Unique.{AreSame, LeastIsOne, PrintedIsOne}
+use Rattle.waff_plan.proofs.Longest.{finish_of-le-length_of, length_of-le}
+
+pub least_is_one : (before : ℕ → ℕ → Type 0) (work : Work) → LeastIsOne before work
+least_is_one before work start other first second m number =
+    let below : start m ≤ other m = first.least other second.obeys m number in
+    let above : other m ≤ start m = second.least start first.obeys m number in
+    omega arith
+
+same_back : (work : Work) (start other : ℕ → ℕ) → AreSame work start other → AreSame work other start
+same_back work start other same m number = sym (same m number)
+
+no_longer : (work : Work) (start other : ℕ → ℕ) → AreSame work start other → length_of work start ≤ length_of work other
+no_longer work start other same =
+    length_of-le work start (length_of work other)
+    (λ m number.
+    let at : start m ≡ other m = same m number in
+    let within : other m + work.cost m ≤ length_of work other = finish_of-le-length_of work other m number in
+    omega arith)
+
+-- plans with the same starts have the same length
+pub same_length : (work : Work) (start other : ℕ → ℕ) → AreSame work start other → length_of work start ≡ length_of work other
+same_length work start other same =
+    let below = no_longer work start other same in
+    let above = no_longer work other start (same_back work start other same) in
+    omega (arith, below, above)
+
+-- what is before a message is a message
+number_before : (before : ℕ → ℕ → Type 0) (work : Work) → IsForward before work → (i j : ℕ) → before i j → IsNumber work i
+number_before before work forward i j pair =
+    let earlier : i < j = forward.earlier i j pair in
+    let to : j ≤ work.count = forward.to i j pair in
+    record { from = forward.from i j pair; to = omega arith }
+
+-- the latest of messages is one
+latest_is_one : (Is : ℕ → Type 0) (finish : ℕ → ℕ) (a b : ℕ) → IsLatest Is finish a → IsLatest Is finish b → a ≡ b
+latest_is_one Is finish a b first second =
+    let below : finish a ≤ finish b = second.latest a first.one in
+    let above : finish b ≤ finish a = first.latest b second.one in
+    let no_higher : a ≤ b = first.lowest b second.one (omega arith) in
+    let no_lower : b ≤ a = second.lowest a first.one (omega arith) in
+    omega arith
+
+-- m and what follows it are the end of another chain
+abbrev IsEnd : ℕ → List ℕ → ℕ → List ℕ → Type 0
+IsEnd m rest other [] = (m ≡ other) × (rest ≡ [])
+IsEnd m rest other (next ∷ others) = ((m ≡ other) × (rest ≡ next ∷ others)) ⊎ IsEnd m rest next others
+
+whole_is_end : (m : ℕ) (rest : List ℕ) → IsEnd m rest m rest
+whole_is_end m [] = (refl, refl)
+whole_is_end m (next ∷ rest) = inl (refl, refl)
+
+module _ (before : ℕ → ℕ → Type 0) (work : Work) (start : ℕ → ℕ) where
+  -- the latest of all messages alone is the end of each chain
+  last_is_end : (m other : ℕ) (others : List ℕ) → IsLatest (IsNumber work) (finish_of work start) m → LeadsToEnd before work start other others
+      → IsEnd m [] other others
+  last_is_end m other [] last leads = (latest_is_one (IsNumber work) (finish_of work start) m other last leads, refl)
+  last_is_end m other (next ∷ others) last leads = inr (last_is_end m next others last leads.2)
+
+  -- what stands before an end is the latest message before it
+  longer_end : (m next : ℕ) (rest : List ℕ) (other : ℕ) (others : List ℕ) → IsLatest (λ i. before i next) (finish_of work start) m
+      → LeadsToEnd before work start other others → IsEnd next rest other others
+      → ((next ≡ other) × (rest ≡ others)) ⊎ IsEnd m (next ∷ rest) other others
+  longer_end m next rest other [] latest leads (same, none) = inl (same, none)
+  longer_end m next rest other (after ∷ others) latest leads (inl whole) = inl whole
+  longer_end m next rest other (after ∷ others) latest leads (inr end) =
+      elim (longer_end m next rest after others latest leads.2 end) [
+        | inl (same, equal) ↦
+            let first : m ≡ other = latest_is_one (λ i. before i next) (finish_of work start) m other latest
+            (subst (λ x. IsLatest (λ i. before i x) (finish_of work start) other) (sym same) leads.0) in
+            let tail : next ∷ rest ≡ after ∷ others = cc in
+            inr (inl (first, tail))
+        | inr more ↦ inr (inr more)
+      ]
+
+  -- of two chains one is the end of the other
+  ends : (m : ℕ) (rest : List ℕ) (other : ℕ) (others : List ℕ) → LeadsToEnd before work start m rest → LeadsToEnd before work start other others
+      → IsEnd m rest other others ⊎ IsEnd other others m rest
+  ends m [] other others leads leads_other = inl (last_is_end m other others leads leads_other)
+  ends m (next ∷ rest) other others leads leads_other = elim (ends next rest other others leads.2 leads_other) [
+    | inl end ↦ elim (longer_end m next rest other others leads.0 leads_other end) [
+      | inl (same, equal) ↦
+          inr (inr (subst (λ x. IsEnd x others next rest) same (subst (λ xs. IsEnd next xs next rest) equal (whole_is_end next rest))))
+      | inr longer ↦ inl longer
+    ]
+    | inr end ↦ inr (inr end)
+  ]
+
+  -- an end that waited for no message is the whole chain
+  whole : (m : ℕ) (rest : List ℕ) (other : ℕ) (others : List ℕ) → ((i : ℕ) → before i m → finish_of work start i ≤ work.release m)
+      → LeadsToEnd before work start other others → IsEnd m rest other others → (m ≡ other) × (rest ≡ others)
+  whole m rest other [] free leads end = end
+  whole m rest other (next ∷ others) free leads (inl same) = same
+  whole m rest other (next ∷ others) free leads (inr end) =
+      let shorter = whole m rest next others free leads.2 end in
+      let waited : work.release next < finish_of work start other = leads.1 in
+      let done : finish_of work start other ≤ work.release m = free other (subst (λ x. before other x) (sym shorter.0) leads.0.one) in
+      let same : work.release m ≡ work.release next = ap work.release shorter.0 in
+      absurd (omega arith)
+
+  number_of_leads : IsForward before work → (m : ℕ) (rest : List ℕ) → LeadsToEnd before work start m rest → IsNumber work m
+  number_of_leads forward m [] leads = leads.one
+  number_of_leads forward m (next ∷ rest) leads = number_before before work forward m next leads.0.one
+
+  -- a plan has one printed chain
+  one_chain : IsForward before work → (chain other : List ℕ) → IsPrinted before work start chain → IsPrinted before work start other → chain ≡ other
+  one_chain forward [] [] none nothing = refl
+  one_chain forward [] (m ∷ rest) none printed =
+      let number = number_of_leads forward m rest printed.1 in
+      absurd (omega (arith, none, number.from, number.to))
+  one_chain forward (m ∷ rest) [] printed none =
+      let number = number_of_leads forward m rest printed.1 in
+      absurd (omega (arith, none, number.from, number.to))
+  one_chain forward (m ∷ rest) (other ∷ others) printed printed_other = elim (ends m rest other others printed.1 printed_other.1) [
+    | inl end ↦ let same = whole m rest other others printed.0 printed_other.1 end in cc (same.0, same.1)
+    | inr end ↦ let same = whole other others m rest printed_other.0 printed.1 end in cc (same.0, same.1)
+  ]
+
+-- the latest of messages that finish at the same ticks in another plan
+latest_of_same : (Is : ℕ → Type 0) (finish other : ℕ → ℕ) (m : ℕ) → ((i : ℕ) → Is i → finish i ≡ other i) → IsLatest Is finish m → IsLatest Is other m
+latest_of_same Is finish other m same latest = record {
+  one = latest.one;
+  latest = λ i is.
+      let at : finish i ≡ other i = same i is in
+      let at_m : finish m ≡ other m = same m latest.one in
+      let sooner : finish i ≤ finish m = latest.latest i is in
+      omega arith;
+  lowest = λ i is equal.
+      let at : finish i ≡ other i = same i is in
+      let at_m : finish m ≡ other m = same m latest.one in
+      latest.lowest i is (omega arith);
+}
+
+module _ (before : ℕ → ℕ → Type 0) (work : Work) (start other : ℕ → ℕ) (forward : IsForward before work) (same : AreSame work start other) where
+  same_finish : (i : ℕ) → IsNumber work i → finish_of work start i ≡ finish_of work other i
+  same_finish i number = let at : start i ≡ other i = same i number in omega arith
+
+  same_finish_before : (i m : ℕ) → before i m → finish_of work start i ≡ finish_of work other i
+  same_finish_before i m pair = same_finish i (number_before before work forward i m pair)
+
+  leads_of_same : (m : ℕ) (rest : List ℕ) → LeadsToEnd before work start m rest → LeadsToEnd before work other m rest
+  leads_of_same m [] leads = latest_of_same (IsNumber work) (finish_of work start) (finish_of work other) m same_finish leads
+  leads_of_same m (next ∷ rest) leads =
+      let at : finish_of work start m ≡ finish_of work other m = same_finish_before m next leads.0.one in (
+        latest_of_same (λ i. before i next) (finish_of work start) (finish_of work other) m (λ i pair. same_finish_before i next pair) leads.0,
+        omega (arith, at, leads.1),
+        leads_of_same next rest leads.2,
+      )
+
+  -- the printed chain of a plan with the same starts
+  pub printed_of_same : (chain : List ℕ) → IsPrinted before work start chain → IsPrinted before work other chain
+  printed_of_same [] none = none
+  printed_of_same (m ∷ rest) printed =
+      (λ i pair. omega (arith, same_finish_before i m pair, printed.0 i pair), leads_of_same m rest printed.1)
+
+pub printed_is_one : (before : ℕ → ℕ → Type 0) (work : Work) → IsForward before work → PrintedIsOne before work
+printed_is_one before work forward start other chain other_chain same printed printed_other =
+    one_chain before work other forward chain other_chain (printed_of_same before work start other forward same chain printed) printed_other

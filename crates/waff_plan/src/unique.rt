@@ -1,0 +1,21 @@
+//! That the definitions leave no choice. Each law is a function that does nothing and whose contract
+//! is the law, for the ordered pairs of a tree of affinities and the affinities assigned to the
+//! messages.
+
+ghost use Rattle.std.specs.Prelude.{◌≡◌, ℕ, List, length};
+ghost use Rattle.waff_model.specs.Tree.{Node};
+ghost use Rattle.waff_assign.specs.Order.{IsOrdered};
+ghost use Rattle.waff_plan.specs.Work.{Work};
+ghost use Rattle.waff_plan.specs.Unique.{LeastIsOne, PrintedIsOne};
+
+/// The least plan is one.
+pub fn least_is_one()
+    ensures same { (tree : List Node) (assigned : List ℕ) (work : Work)
+        → LeastIsOne (IsOrdered tree assigned) work }
+{}
+
+/// A plan has one printed chain.
+pub fn printed_is_one()
+    ensures equal { (tree : List Node) (assigned : List ℕ) (work : Work) → length assigned ≡ work.count
+        → PrintedIsOne (IsOrdered tree assigned) work }
+{}
