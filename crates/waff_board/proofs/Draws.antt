@@ -7,7 +7,6 @@ use Rattle.std.proofs.lemmas.List.Quantifiers.{all_pairs_push}
 use mathlib.Core.Option.{some}
 use lib.ListN.{get_elem?}
 use Rattle.atomic_table.specs.Table.{State, Allows, keeps}
-use Rattle.waff_model.specs.declared.limits.TheConstants.{MAX_MESSAGES}
 use Rattle.waff_core.specs.Job.{JobValue, IsJob, IsIn}
 use Rattle.waff_core.specs.Machine.{Core, IsAway, Runs, opening, phase_of, with_phase, phase_drawn, drawn_by}
 use Rattle.waff_core.specs.declared.event.Event.{Event}

@@ -28,6 +28,7 @@ use Rattle.waff_board.specs.Plays.{Parcels, finished_view}
 use Rattle.waff_board.specs.declared.view.Setup.{Setup}
 use Rattle.waff_board.specs.declared.view.View.{View}
 use Rattle.waff_board.proofs.Known.{Known, known, runs_more}
+use Rattle.waff_board.proofs.Seen.{finish_cases}
 use Rattle.waff_board.proofs.Moves.{Moves, at_within, seats_moved}
 use Rattle.waff_board.proofs.Owners.{AreApart, decide_in}
 use Rattle.waff_board.proofs.Phases.{IsStill, runs_before}
@@ -165,11 +166,10 @@ module _ (job : JobValue) (is : IsJob job) (seats : ℕ) (core : Core) (known : 
   }
 
   seen_finished : (v : View) → Shown job core v → (n : ℕ) → HasSeen (finished_view v m) n → (n == m || core.done n) ≡ true
-  seen_finished v h n (inl ran) = ⊎_elim {C = (n == m || core.done n) ≡ true}
-      (λ (old : Contains v.ran n). done_kept core m n (h.seen n (inl old)))
+  seen_finished v h n seen = ⊎_elim {C = (n == m || core.done n) ≡ true}
+      (λ (old : HasSeen v n). done_kept core m n (h.seen n old))
       (λ (new : m ≡ n). subst (λ k. (k == m || core.done k) ≡ true) new (done_this core m))
-      (Contains-push_cases v.ran m n ran)
-  seen_finished v h n (inr looked) = done_kept core m n (h.seen n (inr looked))
+      (finish_cases v m n seen)
 
   shown_finished : (v : View) → v.actor ≡ x → Shown job core v → Shown job (ended_by job core x m) (finished_view v m)
   shown_finished v actor h = record {

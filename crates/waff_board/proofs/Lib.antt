@@ -1,6 +1,7 @@
 pub mod Phases
 pub mod Known
 pub mod Moves
+pub mod Seen
 pub mod Draws
 pub mod Owners
 pub mod Handing

@@ -13,19 +13,16 @@ use Rattle.waff_board.specs.Rule.{Holds}
 use Rattle.waff_board.specs.Plays.{looked_view}
 use Rattle.waff_board.specs.declared.view.Setup.{Setup}
 use Rattle.waff_board.specs.declared.view.View.{View}
+use Rattle.waff_board.proofs.Seen.{look_cases}
 use Rattle.waff_board.proofs.Moves.{Moves, seats_moved}
 
 -- what is seen after a look at a status word of the state is done
 seen_looked : (job : JobValue) (core : Core) (v : View) (m word : ℕ) → Shown job core v → IsStatus core m word
     → (n : ℕ) → HasSeen (looked_view v m word) n → core.done n ≡ true
-seen_looked job core v m word h status n (inl ran) = h.seen n (inl ran)
-seen_looked job core v m word h status n (inr looked) = ⊎_elim {C = core.done n ≡ true}
-    (λ (old : Contains v.looks (n, true)). h.seen n (inr old))
-    (λ (new : (m, word == 2) ≡ (n, true)).
-        let same : m ≡ n = ap (λ (look : ℕ × Bool). look.0) new in
-        let two : (word == 2) ≡ true = ap (λ (look : ℕ × Bool). look.1) new in
-        subst (λ i. core.done i ≡ true) same (status.done.0 (eqb-true word 2 two)))
-    (Contains-push_cases v.looks (m, word == 2) (n, true) looked)
+seen_looked job core v m word h status n seen = ⊎_elim {C = core.done n ≡ true}
+    (λ (old : HasSeen v n). h.seen n old)
+    (λ (new : (m ≡ n) × (word ≡ 2)). subst (λ i. core.done i ≡ true) new.0 (status.done.0 new.1))
+    (look_cases v m word n seen)
 
 shown_looked : (job : JobValue) (core : Core) (v : View) (m word : ℕ) → Shown job core v → IsStatus core m word
     → Shown job core (looked_view v m word)

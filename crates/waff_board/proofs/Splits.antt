@@ -1,5 +1,5 @@
 -- Making the next seat keeps the rule.
-use Rattle.std.proofs.Common.{◌≡◌, ◌≢◌, ◌⊎◌, inl, inr, ⊎_elim, ℕ, zero, suc, ◌+◌, ◌<◌, ◌≤◌, true, List, [], ◌∷◌, ◌++◌, Some, All, Contains, length, set, refl, ap, sym, ◌∙◌, subst, arith, length-set}
+use Rattle.std.proofs.Common.{◌≡◌, ◌≢◌, ◌⊎◌, inl, inr, ⊎_elim, ℕ, zero, suc, ◌+◌, ◌<◌, ◌≤◌, true, true≢false, List, [], ◌∷◌, ◌++◌, Some, All, Contains, length, set, refl, ap, sym, ◌∙◌, subst, arith, length-set}
 use Rattle.std.proofs.lemmas.List.{length_push}
 use Rattle.std.proofs.lemmas.List.Elements.{All-nil}
 use mathlib.Core.Option.{some, some-injective, some-ne-none}
@@ -35,12 +35,8 @@ shown_fresh job core x made free = record {
   phase = free;
   below = All-nil _;
   different = λ i j d before within. absurd (omega (arith, within));
-  seen = seen;
+  seen = λ n sees. absurd (true≢false (sym sees));
 }
-  where
-    seen : (n : ℕ) → HasSeen (fresh job x made) n → core.done n ≡ true
-    seen n (inl (k, within, is)) = absurd (omega (arith, within))
-    seen n (inr (k, within, is)) = absurd (omega (arith, within))
 
 shown_made : (job : JobValue) (core : Core) (v : View) → Shown job core v → Shown job core (made_view v)
 shown_made job core v h = record {

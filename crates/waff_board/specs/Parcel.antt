@@ -1,37 +1,9 @@
 -- Parcels: the numbers of the cells that an affinity owns.
-use Rattle.std.specs.Prelude.{◌≡◌, ℕ, ◌+◌, ◌==◌, List, Some, length, map, take, count_by, sum_by, flat_map, slice_get}
-use Rattle.std.specs.List.{range_with_len}
+use Rattle.std.specs.Prelude.{◌≡◌, ℕ, List, Some, length, slice_get}
 use Rattle.waff_model.specs.declared.cell.Cell.{Cell}
-use Rattle.waff_model.specs.Layout.{Space, IsCell, owner_at, owner_of}
+use Rattle.waff_model.specs.Layout.{Space, IsCell, owner_of}
+use Rattle.waff_model.specs.Parcel.{parcel_size, place_of}
 use Rattle.waff_cells.specs.Meaning.{Cells}
-
--- the owners of the cells of a space, by index
-abbrev pub owners_across : Space → List ℕ
-owners_across space = map (owner_at space) (range_with_len 0 space.size)
-
--- the owners of all cells, in the order of cells
-abbrev pub owners_in : List Space → List ℕ
-owners_in spaces = flat_map owners_across spaces
-
--- how many cells are in the spaces before the space s
-abbrev pub cells_ahead : List Space → ℕ → ℕ
-cells_ahead spaces s = sum_by (λ space. space.size) (take s spaces)
-
--- how many cells come before this one
-abbrev pub cells_before : List Space → Cell → ℕ
-cells_before spaces cell = cells_ahead spaces cell.space + cell.index
-
--- how many of the cells with these owners the affinity a owns
-abbrev pub count_of : ℕ → List ℕ → ℕ
-count_of a owners = count_by (λ owner. owner == a) owners
-
--- how many cells the affinity a owns
-abbrev pub parcel_size : List Space → ℕ → ℕ
-parcel_size spaces a = count_of a (owners_in spaces)
-
--- the place of a cell in its owner's parcel: how many of the cells before it have its owner
-abbrev pub place_of : List Space → Cell → ℕ
-place_of spaces cell = count_of (owner_of spaces cell) (take (cells_before spaces cell) (owners_in spaces))
 
 -- these numbers are a's parcel: as many as the cells that a owns, each cell's at its place
 pub record IsParcel (spaces : List Space) (a : ℕ) (cells : Cells) (numbers : List ℕ) : Type 0 where

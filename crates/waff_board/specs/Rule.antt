@@ -1,8 +1,7 @@
 -- The rule of a board: between any two atomic steps words, slots and views show a state that some
 -- list of events reaches in the core machine.
-use Rattle.std.specs.Prelude.{ℕ, ◌≤◌, List, length}
+use Rattle.std.specs.Prelude.{ℕ, ◌^◌, ◌<◌, ◌≤◌, List, length}
 use Rattle.atomic_table.specs.Table.{State}
-use Rattle.waff_model.specs.declared.limits.TheConstants.{MAX_MESSAGES}
 use Rattle.waff_core.specs.Job.{IsJob}
 use Rattle.waff_core.specs.Machine.{Core, Runs, opening}
 use Rattle.waff_core.specs.declared.event.Event.{Event}
@@ -18,7 +17,7 @@ MAX_SEATS = 16
 -- what a board may be told
 pub record IsSetup (setup : Setup) : Type 0 where
   pub job : IsJob setup.job
-  pub short : length setup.job.ops ≤ MAX_MESSAGES
+  pub short : length setup.job.ops < 2 ^ 32
   pub few : setup.seats ≤ MAX_SEATS
 
 pub record Holds {S : Type 0} (items : S → List ℕ) (setup : Setup) (s : State S View) : Type 0 where

@@ -1,5 +1,6 @@
 -- What the views of a board's seats show of a state of the core machine.
-use Rattle.std.specs.Prelude.{◌≡◌, ◌≢◌, ◌⊎◌, ℕ, ◌+◌, ◌<◌, ◌≤◌, true, List, [], Some, All, AllPairs, Contains, length}
+use Rattle.std.specs.Prelude.{◌≡◌, ◌≢◌, ℕ, ◌+◌, ◌<◌, ◌≤◌, ◌==◌, ◌&&◌, ◌||◌, Bool, true, List, [], Some, All, AllPairs, Contains, length}
+use Rattle.std.specs.List.{list_any}
 use mathlib.Core.Option.{some}
 use lib.ListN.{get_elem?}
 use Rattle.waff_core.specs.Job.{JobValue}
@@ -17,9 +18,13 @@ fresh job actor made =
 abbrev pub first : Setup → View
 first setup = fresh setup.job 1 1
 
--- a view has seen that message n is done: it finished the message, or a look found it done
+-- whether a view has seen that message n is done: it finished the message, or a look found it done
+abbrev pub has_seen : View → ℕ → Bool
+has_seen v n = list_any (λ m. m == n) v.ran || list_any (λ look. look.0 == n && look.1) v.looks
+
+-- a view has seen that message n is done
 abbrev pub HasSeen : View → ℕ → Type 0
-HasSeen v n = Contains v.ran n ⊎ Contains v.looks (n, true)
+HasSeen v n = has_seen v n ≡ true
 
 -- a view shows the state
 pub record Shown (job : JobValue) (core : Core) (v : View) : Type 0 where
