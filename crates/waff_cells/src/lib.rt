@@ -3,6 +3,7 @@
 
 pub mod held;
 pub mod laws;
+pub mod parcels;
 mod state;
 
 pub use state::State;
