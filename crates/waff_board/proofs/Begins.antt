@@ -16,7 +16,7 @@ use Rattle.waff_core.specs.declared.event.Event.{Event}
 use Rattle.waff_core.specs.declared.event.Event.TheVariants.{Begin}
 use Rattle.waff_core.specs.declared.phase.Phase.TheVariants.{Drawn, Running}
 use Rattle.waff_core.proofs.Phases.{Has, phase_same, phase_other}
-use Rattle.waff_board.specs.Parcel.{IsParcel}
+use Rattle.waff_cells.specs.Parcel.{IsParcel}
 use Rattle.waff_board.specs.Shows.{IsRunning, IsStatus, Words, Slots}
 use Rattle.waff_board.specs.Seats.{HasSeen, Shown, Seats}
 use Rattle.waff_board.specs.Rule.{Holds}

@@ -20,7 +20,7 @@ use Rattle.waff_core.specs.declared.event.Event.TheVariants.{End}
 use Rattle.waff_core.specs.declared.phase.Phase.TheVariants.{Free, Running}
 use Rattle.waff_core.proofs.Phases.{Has, phase_same, phase_other}
 use Rattle.waff_core.proofs.Settling.{done_this, done_kept, done_cases}
-use Rattle.waff_board.specs.Parcel.{IsParcel}
+use Rattle.waff_cells.specs.Parcel.{IsParcel}
 use Rattle.waff_board.specs.Shows.{IsRunning, IsStatus, Words, Slots}
 use Rattle.waff_board.specs.Seats.{HasSeen, Shown, Seats}
 use Rattle.waff_board.specs.Rule.{Holds}

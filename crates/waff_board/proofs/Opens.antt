@@ -15,7 +15,7 @@ use Rattle.waff_core.specs.declared.phase.Phase.{Phase}
 use Rattle.waff_core.specs.declared.phase.Phase.TheVariants.{Free, Running}
 use Rattle.waff_core.proofs.Phases.{phase_opening}
 use Rattle.waff_model.specs.Parcel.{parcel_size, place_of}
-use Rattle.waff_board.specs.Parcel.{IsParcel}
+use Rattle.waff_cells.specs.Parcel.{IsParcel}
 use Rattle.waff_board.specs.Shows.{IsRunning, Words, Slots}
 use Rattle.waff_board.specs.Seats.{Seats, Shown, first, fresh}
 use Rattle.waff_board.specs.Rule.{Holds, IsSetup}

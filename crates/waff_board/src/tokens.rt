@@ -5,7 +5,7 @@ ghost use Rattle.waff_order.specs.Needs.{IsNeed};
 ghost use Rattle.waff_cells.specs.Serial.{serial};
 ghost use Rattle.waff_core.specs.Job.{owners_of};
 ghost use Rattle.waff_core.specs.declared.phase.Phase.TheVariants.{Free, Drawn, Running, Ended};
-ghost use Rattle.waff_board.specs.Hands.{AreParcels};
+ghost use Rattle.waff_cells.specs.Parcel.{AreParcels};
 ghost use Rattle.waff_board.specs.Seats.{HasSeen};
 
 use crate::hand::Hand;
@@ -53,7 +53,7 @@ pub struct Grant<'a> {
     ghost of: { job.now ≡ hand.chair.me.0.job },
     ghost running: { hand.chair.me.0.phase ≡ Running message },
     ghost taken: { map (λ slot. slot.0) hand.chair.me.1 ≡ owners_of hand.chair.me.0.job.owners message },
-    ghost before: { AreParcels hand.chair.me.0.job.layout.spaces (serial hand.chair.me.0.job.ops (message - 1)) (owners_of hand.chair.me.0.job.owners message) (map (λ row. row.items) hand.places.items) },
+    ghost before: { AreParcels hand.chair.me.0.job.layout.spaces (owners_of hand.chair.me.0.job.owners message) (serial hand.chair.me.0.job.ops (message - 1)) (map (λ row. row.items) hand.places.items) },
 }
 
 /// A seat that has run a message, with the parcels as the message left them.
@@ -67,7 +67,7 @@ pub struct Finished<'a> {
     ghost of: { job.now ≡ hand.chair.me.0.job },
     ghost running: { hand.chair.me.0.phase ≡ Running message },
     ghost taken: { map (λ slot. slot.0) hand.chair.me.1 ≡ owners_of hand.chair.me.0.job.owners message },
-    ghost after: { AreParcels hand.chair.me.0.job.layout.spaces (serial hand.chair.me.0.job.ops message) (owners_of hand.chair.me.0.job.owners message) (map (λ row. row.items) hand.places.items) },
+    ghost after: { AreParcels hand.chair.me.0.job.layout.spaces (owners_of hand.chair.me.0.job.owners message) (serial hand.chair.me.0.job.ops message) (map (λ row. row.items) hand.places.items) },
 }
 
 /// A seat that has drawn past the end of the order.
