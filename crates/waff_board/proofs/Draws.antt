@@ -113,14 +113,13 @@ module _ (setup : Setup) where
       let next : Core = drawn_by job core x in
       let events : List Event = h.events ++ Draw x ∷ [] in
       let reached : Runs job (opening setup.seats) events next
-          = runs_more job (opening setup.seats) core next h.events (Draw x) h.reached (free, refl) in
+      = runs_more job (opening setup.seats) core next h.events (Draw x) h.reached (free, refl) in
       let drawn : slice_index s.words 0 ≡ core.drawn = h.words.draws in
       let limit : core.drawn + 1 ≤ length job.ops + setup.seats = (known job h.told.job setup.seats events next reached).drawn in
       let short = h.told.short in
       let few = h.told.few in
       let fits : (core.drawn + 1) % 2 ^ 64 ≡ core.drawn + 1 = mod-eq_of_lt (omega (arith, limit, short, few)) in
-      let word : (slice_index s.words 0 + 1) % 2 ^ 64 ≡ core.drawn + 1 = rw drawn fits in
-      (
+      let word : (slice_index s.words 0 + 1) % 2 ^ 64 ≡ core.drawn + 1 = rw drawn fits in (
         drawn_view v (slice_index s.words 0),
         keeps,
         tt,
@@ -135,8 +134,8 @@ module _ (setup : Setup) where
               (seats_moved setup core next s.views id v (drawn_view v core.drawn) at (moves_drawn job core x free) h.seats refl refl
               (shown_drawn job core x free v refl mine)
               (λ p there. ⊎_elim {C = Contains v.draws p ⊎ (p ≡ core.drawn)}
-                  (λ (old : Contains v.draws p). inl old) (λ (new : core.drawn ≡ p). inr (sym new))
-                  (Contains-push_cases v.draws core.drawn p there)));
+              (λ (old : Contains v.draws p). inl old) (λ (new : core.drawn ≡ p). inr (sym new))
+              (Contains-push_cases v.draws core.drawn p there)));
         },
         refl,
       )

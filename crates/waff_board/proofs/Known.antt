@@ -70,7 +70,7 @@ module _ (needs : List (List ℕ)) (order : List ℕ) (h : IsOrder needs order) 
   order_is_short =
       let few : length (0 ∷ order) ≤ length needs + 1
       = length-le_from_distinct_below (0 ∷ order) (length needs + 1) (IsDistinct-from_AllPairs Decides-eqb (0 ∷ order) pairs)
-          (λ q found. All-contains (λ n. n < length needs + 1) (0 ∷ order) q below (Contains-from_any eqb-true q (0 ∷ order) found)) in
+      (λ q found. All-contains (λ n. n < length needs + 1) (0 ∷ order) q below (Contains-from_any eqb-true q (0 ∷ order) found)) in
       omega (arith, few)
 
   any_at : (xs : List ℕ) (k q : ℕ) → slice_get xs k ≡ Some q → list_any (eqb q) xs ≡ true
@@ -126,8 +126,8 @@ module _ (job : JobValue) (is : IsJob job) (core : Core) (sound : Sound job core
   one_message x y m n a has other clear_m clear_n one two = ⊎_elim {C = m ≡ n}
       (λ (same : m ≡ n). same)
       (⊎_elim {C = m ≡ n}
-        (λ (before : m < n). absurd (earlier_done x y m n a has other before clear_n one two))
-        (λ (after : n < m). absurd (earlier_done y x n m a other has after clear_m two one)))
+      (λ (before : m < n). absurd (earlier_done x y m n a has other before clear_n one two))
+      (λ (after : n < m). absurd (earlier_done y x n m a other has after clear_m two one)))
       (cases_order m n)
 
   all_finished : ((n : ℕ) → IsIn job n → core.done n ≡ true)
@@ -137,20 +137,20 @@ module _ (job : JobValue) (is : IsJob job) (core : Core) (sound : Sound job core
       let is_last : IsLast job core a last = (sound.cells a).1 in
       let count : length job.assigned ≡ length job.ops = is.count in
       let short : last ≤ length job.ops = ⊎_elim {C = last ≤ length job.ops}
-          (λ (none : last ≡ 0). omega arith)
-          (λ (some : last ≢ 0). let to = (is_last.is (omega arith)).to in omega (arith, to))
-          (cases_eq last 0) in
+      (λ (none : last ≡ 0). omega arith)
+      (λ (some : last ≢ 0). let to = (is_last.is (omega arith)).to in omega (arith, to))
+      (cases_eq last 0) in
       (sound.cells a).2 cell is_cell owned
       ∙ sym (serial_same job is a last (length job.ops) short (omega arith)
-          (λ i later to is_above.
-              let bound : i ≤ last = is_last.greatest i (record {
-                from = omega (arith, later);
-                to = omega (arith, to, count);
-                done = done i (record { from = omega (arith, later); to = to });
-                above = is_above;
-              }) in
-              omega (arith, bound, later))
-          cell is_cell owned)
+      (λ i later to is_above.
+      let bound : i ≤ last = is_last.greatest i (record {
+        from = omega (arith, later);
+        to = omega (arith, to, count);
+        done = done i (record { from = omega (arith, later); to = to });
+        above = is_above;
+      }) in
+      omega (arith, bound, later))
+      cell is_cell owned)
 
 -- each state that is reached is known
 pub known : (job : JobValue) → IsJob job → (seats : ℕ) (events : List Event) (core : Core) → Runs job (opening seats) events core

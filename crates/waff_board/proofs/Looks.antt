@@ -40,8 +40,7 @@ pub looks : {S : Type 0} (items : S → List ℕ) (setup : Setup) (slots id m : 
 looks {S} items setup slots id m v held is_in s h sized at small =
     let word : ℕ = slice_index s.words m in
     let mine : Shown setup.job h.core v = h.seats.each id v at in
-    let same : set s.words m word ≡ s.words = set-get_or s.words m 0 in
-    (
+    let same : set s.words m word ≡ s.words = set-get_or s.words m 0 in (
       looked_view v m word,
       keeps,
       tt,

@@ -102,9 +102,12 @@ module _ (setup : Setup) (told : IsSetup setup) (some_seat : 1 ≤ setup.seats) 
   slots_opening {S = S} items xs empty = record {
     count = length_both xs ∙ empty.0;
     home = λ a within not_away.
-        let slot = there items xs a (replicate (parcel_size setup.job.layout.spaces a) 0) (empty.1 a within) in
-        (slot.0, slot.1, subst (λ numbers. IsParcel setup.job.layout.spaces a zeros numbers) (sym slot.2)
-            (zero_parcel setup.job.layout.spaces a));
+        let slot = there items xs a (replicate (parcel_size setup.job.layout.spaces a) 0) (empty.1 a within) in (
+          slot.0,
+          slot.1,
+          subst (λ numbers. IsParcel setup.job.layout.spaces a zeros numbers) (sym slot.2)
+              (zero_parcel setup.job.layout.spaces a),
+        );
     away = λ a away. absurd (none_run setup.seats away.actor away.message away.running);
   }
     where

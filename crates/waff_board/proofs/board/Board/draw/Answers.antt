@@ -9,8 +9,7 @@ use Rattle.waff_board.proofs.board.Board.draw.Goals as goal
 pub fetch_add-number-requires : goal.fetch_add-number-requires
 fetch_add-number-requires c =
     let words = c.args.self.now.words in
-    let chair = c.args.seat.hand.chair in
-    (
+    let chair = c.args.seat.hand.chair in (
       c.requires.0,
       omega arith,
       draws c.args.self.now.table.shared.key (λ parcel. parcel.items) c.args.self.now.table.shared.table_id.slots chair.id chair.me.0 chair.me.1 c.args.seat.free,
@@ -38,8 +37,7 @@ invariant_of-result-in-None c =
 pub returns-in-Some : goal.returns-in-Some
 returns-in-Some c =
     let view = first_same _ _ c.fetch_add-number.ensures.2 in
-    let job = c.requires.1 in
-    (
+    let job = c.requires.1 in (
       c.fetch_add-number.result,
       subst (λ (j : JobValue). c.fetch_add-number.result < length j.ops) (sym job) c.in-Some.ensures.some.2,
       subst (λ (j : JobValue). slice_get j.order c.fetch_add-number.result ≡ Some c.in-Some.message) (sym job) c.in-Some.ensures.drawn,
@@ -50,8 +48,7 @@ returns-in-Some c =
 pub returns-in-None : goal.returns-in-None
 returns-in-None c =
     let view = first_same _ _ c.fetch_add-number.ensures.2 in
-    let job = c.requires.1 in
-    (
+    let job = c.requires.1 in (
       c.fetch_add-number.result,
       subst (λ (j : JobValue). length j.ops ≤ c.fetch_add-number.result) (sym job) c.in-None.ensures.none,
       view,
