@@ -2,3 +2,4 @@ pub mod MeaningLaws
 pub mod Writes
 pub mod Meanings
 pub mod Zeros
+pub mod Gathers
