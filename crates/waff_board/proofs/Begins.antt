@@ -6,7 +6,7 @@ use mathlib.Core.Option.{Option, some, none}
 use mathlib.Core.Logic.{dite}
 use native.Mathlib.Decide.{ℕ_discrete}
 use lib.ListN.{get_elem?}
-use Rattle.atomic_table.specs.Table.{State, Allows, homes_after}
+use Rattle.atomic_table.specs.Table.{State, Allows, homes_after, carried_after}
 use Rattle.waff_order.specs.Needs.{IsNeed}
 use Rattle.waff_cells.specs.Meaning.{Cells}
 use Rattle.waff_cells.specs.Serial.{SameParcel, ops_of, serial}
@@ -16,7 +16,7 @@ use Rattle.waff_core.specs.declared.event.Event.{Event}
 use Rattle.waff_core.specs.declared.event.Event.TheVariants.{Begin}
 use Rattle.waff_core.specs.declared.phase.Phase.TheVariants.{Drawn, Running}
 use Rattle.waff_core.proofs.Phases.{Has, phase_same, phase_other}
-use Rattle.waff_board.specs.Parcel.{IsParcel}
+use Rattle.waff_cells.specs.Parcel.{IsParcel}
 use Rattle.waff_board.specs.Shows.{IsRunning, IsStatus, Words, Slots}
 use Rattle.waff_board.specs.Seats.{HasSeen, Shown, Seats}
 use Rattle.waff_board.specs.Rule.{Holds}
@@ -214,3 +214,15 @@ begins {S} items setup slots id m v is_drawn seen s h sized at small =
       },
       (refl, r.parcels),
     )
+
+-- by the job of the view
+pub begins_at : {S : Type 0} (items : S → List ℕ) (setup : Setup) (slots id m : ℕ) (v : View) → v.phase ≡ Drawn m
+    → ((i : ℕ) → IsNeed v.job.needs i m → HasSeen v i)
+    → Allows (Holds items setup) slots id (v, []) m (λ _. 1)
+        (λ _ after. (after.0 ≡ begun_view v m) × Parcels items v.job.layout.spaces (serial v.job.ops (m - 1)) (owners_of v.job.owners m) after.1)
+begins_at items setup slots id m v is_drawn seen s h sized at small =
+    let same : v.job ≡ setup.job = (h.seats.each id v at).same in
+    let r = begins items setup slots id m v is_drawn
+        (subst (λ (job : JobValue). (i : ℕ) → IsNeed job.needs i m → HasSeen v i) same seen) s h sized at small in
+    (r.0, r.1, r.2, r.3, (r.4.0,
+        subst (λ (job : JobValue). Parcels items job.layout.spaces (serial job.ops (m - 1)) (owners_of job.owners m) (carried_after [] r.1)) (sym same) r.4.1))

@@ -20,7 +20,7 @@ use Rattle.waff_core.specs.declared.event.Event.TheVariants.{End}
 use Rattle.waff_core.specs.declared.phase.Phase.TheVariants.{Free, Running}
 use Rattle.waff_core.proofs.Phases.{Has, phase_same, phase_other}
 use Rattle.waff_core.proofs.Settling.{done_this, done_kept, done_cases}
-use Rattle.waff_board.specs.Parcel.{IsParcel}
+use Rattle.waff_cells.specs.Parcel.{IsParcel}
 use Rattle.waff_board.specs.Shows.{IsRunning, IsStatus, Words, Slots}
 use Rattle.waff_board.specs.Seats.{HasSeen, Shown, Seats}
 use Rattle.waff_board.specs.Rule.{Holds}
@@ -211,3 +211,12 @@ finishes {S} items setup slots id m v held is_running parcels s h sized at small
       },
       ap (λ (left : List (ℕ × S)). (finished_view v m, left)) r.none,
     )
+
+-- by the job of the view
+pub finishes_at : {S : Type 0} (items : S → List ℕ) (setup : Setup) (slots id m : ℕ) (v : View) (held : List (ℕ × S)) → v.phase ≡ Running m
+    → Parcels items v.job.layout.spaces (serial v.job.ops m) (owners_of v.job.owners m) held
+    → Allows (Holds items setup) slots id (v, held) m (λ _. 2) (λ _ after. after ≡ (finished_view v m, []))
+finishes_at items setup slots id m v held is_running parcels s h sized at small =
+    finishes items setup slots id m v held is_running
+    (subst (λ (job : JobValue). Parcels items job.layout.spaces (serial job.ops m) (owners_of job.owners m) held) (h.seats.each id v at).same parcels)
+    s h sized at small

@@ -9,7 +9,7 @@ use Rattle.atomic_table.specs.Table.{Act, keeps, takes, gives, chain, Valid, hom
 use Rattle.atomic_table.proofs.Lists.{set_here, set_else}
 use Rattle.waff_model.specs.Layout.{Space}
 use Rattle.waff_cells.specs.Meaning.{Cells}
-use Rattle.waff_board.specs.Parcel.{IsParcel}
+use Rattle.waff_cells.specs.Parcel.{IsParcel}
 use Rattle.waff_board.specs.Plays.{Parcels}
 use Rattle.waff_board.proofs.Owners.{AreApart, in_cases, in_rest, in_first, in_none}
 use Rattle.waff_board.proofs.Moves.{at_within}

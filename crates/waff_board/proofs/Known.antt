@@ -1,13 +1,14 @@
 -- What is known of the states that the core machine reaches, as the steps of the board need it.
-use Rattle.std.proofs.Common.{◌≡◌, ◌≢◌, ◌⊎◌, inl, inr, ⊎_elim, ℕ, zero, suc, ◌+◌, ◌-◌, ◌<◌, ◌≤◌, true, false, true≢false, List, [], ◌∷◌, ◌++◌, Some, All, AllPairs, Contains, length, get_or, slice_get, eqb, refl, ap, sym, ◌∙◌, subst, arith}
+use Rattle.std.proofs.Common.{◌||◌, ◌≡◌, ◌≢◌, ◌⊎◌, inl, inr, ⊎_elim, ℕ, zero, suc, ◌+◌, ◌-◌, ◌<◌, ◌≤◌, true, false, true≢false, List, [], ◌∷◌, ◌++◌, Some, All, AllPairs, Contains, length, get_or, slice_get, eqb, refl, ap, sym, ◌∙◌, subst, arith}
 use Rattle.std.specs.List.{list_any, IsDistinct}
-use Rattle.std.proofs.lemmas.Bool.{cases_eq, cases_order, eqb-true}
+use Rattle.std.proofs.lemmas.Bool.{cases_eq, cases_order, eqb-true, eq-eqb}
+use Rattle.std.proofs.Math.Bool.{or-true}
 use Rattle.std.proofs.lemmas.Bool.Decides.{Decides-eqb}
-use Rattle.std.proofs.lemmas.Option.{none-some, slice_get-get_or}
+use Rattle.std.proofs.lemmas.Option.{none-some, same_Some, slice_get-get_or}
 use Rattle.std.proofs.lemmas.List.Elements.{All-get_or, All-contains, All-cons}
 use Rattle.std.proofs.lemmas.Map.Made.{IsDistinct-from_AllPairs}
 use Rattle.std.proofs.lemmas.Map.Views.{Contains-from_any}
-use Rattle.std.proofs.lemmas.Map.Steps.{length-le_from_distinct_below}
+use Rattle.std.proofs.lemmas.Map.Steps.{length-le_from_distinct_below, le-length_from_below}
 use Rattle.waff_model.specs.Tree.{Node, AtOrAbove, parent_of}
 use Rattle.waff_assign.specs.Order.{affinity_of}
 use Rattle.waff_order.specs.Needs.{IsNeed}
@@ -71,6 +72,25 @@ module _ (needs : List (List ℕ)) (order : List ℕ) (h : IsOrder needs order) 
       = length-le_from_distinct_below (0 ∷ order) (length needs + 1) (IsDistinct-from_AllPairs Decides-eqb (0 ∷ order) pairs)
           (λ q found. All-contains (λ n. n < length needs + 1) (0 ∷ order) q below (Contains-from_any eqb-true q (0 ∷ order) found)) in
       omega (arith, few)
+
+  any_at : (xs : List ℕ) (k q : ℕ) → slice_get xs k ≡ Some q → list_any (eqb q) xs ≡ true
+  any_at [] k q is = absurd (none-some q is)
+  any_at (x ∷ xs) zero q is = subst (λ y. (eqb q y || list_any (eqb q) xs) ≡ true) (sym (same_Some x q is))
+      (ap (λ b. b || list_any (eqb q) xs) (eq-eqb q q refl))
+  any_at (x ∷ xs) (suc k) q is = ap (λ b. eqb q x || b) (any_at xs k q is) ∙ or-true (eqb q x)
+
+  each_there : (q : ℕ) → q < length needs + 1 → list_any (eqb q) (0 ∷ order) ≡ true
+  each_there zero within = refl
+  each_there (suc q) within =
+      let at = h.each (suc q) (omega arith) (omega (arith, within)) in
+      any_at (0 ∷ order) (suc at.0) (suc q) at.1
+
+  -- it has as many
+  pub order_is_whole : length order ≡ length needs
+  order_is_whole =
+      let many : length needs + 1 ≤ length (0 ∷ order) = le-length_from_below (0 ∷ order) (length needs + 1) each_there in
+      let few = order_is_short in
+      omega (arith, many, few)
 
 -- an affinity that has a parent is one of the tree
 parent_within : (tree : List Node) (b p : ℕ) → parent_of tree b ≡ Some p → b < length tree
@@ -167,6 +187,13 @@ known job is seats events core runs =
           (above job is core sound x m a has owner) sound.cells;
       finished = all_finished job is core sound;
     }
+
+-- a message stands at each place of the order below the number of messages, and none past it
+pub order_count : (job : JobValue) → IsJob job → length job.order ≡ length job.ops
+order_count job is = order_is_whole job.needs job.order is.order ∙ is.needs.count ∙ is.count
+
+pub drawn_message : (job : JobValue) → IsJob job → (place m : ℕ) → slice_get job.order place ≡ Some m → IsIn job m
+drawn_message job is place m at = drawn_is_in job is (place + 1) m (place, omega arith, at)
 
 -- one more event
 pub runs_more : (job : JobValue) (s t u : Core) (events : List Event) (event : Event) → Runs job s events t

@@ -3,6 +3,8 @@ pub mod Known
 pub mod Moves
 pub mod Seen
 pub mod Draws
+pub mod Numbers
+pub mod Lookings
 pub mod Owners
 pub mod Handing
 pub mod Begins

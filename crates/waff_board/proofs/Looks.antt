@@ -58,3 +58,9 @@ looks {S} items setup slots id m v held is_in s h sized at small =
       },
       refl,
     )
+
+-- by the job of the view
+pub looks_at : {S : Type 0} (items : S → List ℕ) (setup : Setup) (slots id m : ℕ) (v : View) (held : List (ℕ × S)) → IsIn v.job m
+    → Allows (Holds items setup) slots id (v, held) m (λ n. n) (λ found after. after ≡ (looked_view v m found, held))
+looks_at items setup slots id m v held is_in s h sized at small =
+    looks items setup slots id m v held (subst (λ (job : JobValue). IsIn job m) (h.seats.each id v at).same is_in) s h sized at small

@@ -7,6 +7,7 @@ use lib.ListN.{get_elem?}
 use Rattle.atomic_table.specs.Table.{opening as table_opening}
 use Rattle.waff_model.specs.Layout.{Space, IsCell, owner_of}
 use Rattle.waff_model.specs.declared.cell.Cell.{Cell}
+use Rattle.waff_model.proofs.ParcelLemmas.{place_within}
 use Rattle.waff_cells.specs.Serial.{zeros}
 use Rattle.waff_core.specs.Job.{JobValue, IsJob, IsIn}
 use Rattle.waff_core.specs.Machine.{Core, IsAway, opening, phase_of}
@@ -14,7 +15,7 @@ use Rattle.waff_core.specs.declared.phase.Phase.{Phase}
 use Rattle.waff_core.specs.declared.phase.Phase.TheVariants.{Free, Running}
 use Rattle.waff_core.proofs.Phases.{phase_opening}
 use Rattle.waff_model.specs.Parcel.{parcel_size, place_of}
-use Rattle.waff_board.specs.Parcel.{IsParcel}
+use Rattle.waff_cells.specs.Parcel.{IsParcel}
 use Rattle.waff_board.specs.Shows.{IsRunning, Words, Slots}
 use Rattle.waff_board.specs.Seats.{Seats, Shown, first, fresh}
 use Rattle.waff_board.specs.Rule.{Holds, IsSetup}
@@ -61,11 +62,10 @@ there items (x ∷ xs) zero numbers is = (x, refl, same_Some (items x) numbers i
 there items (x ∷ xs) (suc a) numbers is = there items xs a numbers is
 
 -- zeros are the parcel of the cells at the start
-zero_parcel : (spaces : List Space) (a : ℕ) → ((cell : Cell) → IsCell spaces cell → owner_of spaces cell ≡ a → place_of spaces cell < parcel_size spaces a)
-    → IsParcel spaces a zeros (replicate (parcel_size spaces a) 0)
-zero_parcel spaces a within = record {
+zero_parcel : (spaces : List Space) (a : ℕ) → IsParcel spaces a zeros (replicate (parcel_size spaces a) 0)
+zero_parcel spaces a = record {
   count = length-replicate (parcel_size spaces a) 0;
-  each = λ cell is_cell owned. zero_at (parcel_size spaces a) (place_of spaces cell) (within cell is_cell owned);
+  each = λ cell is_cell owned. zero_at (parcel_size spaces a) (place_of spaces cell) (subst (λ b. place_of spaces cell < parcel_size spaces b) owned (place_within spaces cell is_cell));
 }
   where
     zero_at : (n k : ℕ) → k < n → slice_get {X = ℕ} (replicate n 0) k ≡ Some 0
@@ -78,9 +78,7 @@ abbrev pub AreZeros : JobValue → List (List ℕ) → Type 0
 AreZeros job parcels = (length parcels ≡ length job.layout.tree)
     × ((a : ℕ) → a < length job.layout.tree → slice_get parcels a ≡ Some (replicate (parcel_size job.layout.spaces a) 0))
 
-module _ (setup : Setup) (told : IsSetup setup) (some_seat : 1 ≤ setup.seats)
-    (placed : (a : ℕ) (cell : Cell) → IsCell setup.job.layout.spaces cell → owner_of setup.job.layout.spaces cell ≡ a
-        → place_of setup.job.layout.spaces cell < parcel_size setup.job.layout.spaces a) where
+module _ (setup : Setup) (told : IsSetup setup) (some_seat : 1 ≤ setup.seats) where
   only : (id : ℕ) (v : View) → get_elem? (first setup ∷ []) id ≡ some v → (id ≡ 0) × (first setup ≡ v)
   only zero v at = (refl, some-injective (first setup) v at)
   only (suc id) v at = absurd (some-ne-none v (sym at))
@@ -106,7 +104,7 @@ module _ (setup : Setup) (told : IsSetup setup) (some_seat : 1 ≤ setup.seats)
     home = λ a within not_away.
         let slot = there items xs a (replicate (parcel_size setup.job.layout.spaces a) 0) (empty.1 a within) in
         (slot.0, slot.1, subst (λ numbers. IsParcel setup.job.layout.spaces a zeros numbers) (sym slot.2)
-            (zero_parcel setup.job.layout.spaces a (placed a)));
+            (zero_parcel setup.job.layout.spaces a));
     away = λ a away. absurd (none_run setup.seats away.actor away.message away.running);
   }
     where

@@ -1,5 +1,5 @@
-pub mod Parcel
 pub mod Shows
 pub mod Seats
 pub mod Rule
 pub mod Plays
+pub mod Calls

@@ -7,7 +7,7 @@ use lib.ListN.{get_elem?}
 use Rattle.waff_core.specs.Job.{JobValue, IsIn}
 use Rattle.waff_core.specs.Machine.{Core, IsAway, phase_of}
 use Rattle.waff_core.specs.declared.phase.Phase.TheVariants.{Running}
-use Rattle.waff_board.specs.Parcel.{IsParcel}
+use Rattle.waff_cells.specs.Parcel.{IsParcel}
 
 -- an actor runs message n
 pub record IsRunning (core : Core) (n : ℕ) : Type 0 where

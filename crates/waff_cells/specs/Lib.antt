@@ -2,5 +2,6 @@ pub mod Meaning
 pub mod Serial
 pub mod Grid
 pub mod Held
-pub mod Parcels
+pub mod Parcel
+pub mod Gathered
 pub mod Laws

@@ -7,7 +7,7 @@ ghost use Rattle.waff_model.specs.Messages.{sizes_of};
 ghost use Rattle.waff_model.specs.declared.cell.Cell.{Cell};
 ghost use Rattle.waff_cells.specs.Grid.{cells_in, HasSizes};
 ghost use Rattle.waff_cells.specs.Held.{rows_of};
-ghost use Rattle.waff_cells.specs.Parcels.{LieIn, cells_of_parcels};
+ghost use Rattle.waff_cells.specs.Gathered.{LieIn, cells_of_parcels};
 
 use crate::state::State;
 use std::alloc::{AllocError, Global};

@@ -4,6 +4,7 @@
 mod gather;
 pub mod held;
 pub mod laws;
+pub mod parcels;
 mod state;
 
 pub use state::State;

@@ -3,28 +3,33 @@ use Rattle.std.proofs.Common.{◌≡◌, ◌≢◌, ℕ, ◌-◌, ◌<◌, ◌�
 use Rattle.std.proofs.lemmas.Bool.{cases_eq, cases_order, true≢false}
 use Rattle.waff_model.specs.Tree.{AtOrAbove, Excludes}
 use Rattle.waff_model.specs.Layout.{owner_of}
+use Rattle.waff_model.proofs.TreeLemmas.{comparable}
 use Rattle.waff_assign.specs.Order.{IsOrdered, affinity_of}
-use Rattle.waff_cells.specs.Serial.{serial}
-use Rattle.waff_core.specs.Job.{JobValue, IsJob}
+use Rattle.waff_cells.specs.Serial.{ops_of, serial}
+use Rattle.waff_core.specs.Job.{JobValue, IsJob, IsIn, IsOwner}
 use Rattle.waff_core.specs.Machine.{Core, IsClear, phase_of}
 use Rattle.waff_core.specs.Settled.{IsLast}
-use Rattle.waff_core.specs.Laws.{Reaches, MayRun, DrawsAreFew, NeedsAreEnough, RunningDoNotExclude, AlwaysSerial, EachCellIsSerial, AllDoneIsSerial, BeginsSettled}
-use Rattle.waff_core.specs.declared.phase.Phase.TheVariants.{Running}
+use Rattle.waff_core.specs.Laws.{AwayWithOne, BeginsAtHome, Reaches, MayRun, DrawsAreFew, NeedsAreEnough, RunningDoNotExclude, AlwaysSerial, EachCellIsSerial, AllDoneIsSerial, BeginsSettled}
+use Rattle.waff_core.specs.declared.phase.Phase.TheVariants.{Drawn, Running}
 use Rattle.waff_core.proofs.Phases.{Has, ended, ended_few}
-use Rattle.waff_core.proofs.Settling.{serial_same, clear_settled, ended_settled}
+use Rattle.waff_core.proofs.Settling.{ordered_at_one, serial_same, clear_settled, ended_settled}
 use Rattle.waff_core.proofs.Sound.{Sound, sound_reached, seats_stay, drawn_is_in}
+use Rattle.waff_core.proofs.OrderLength.{order_is_short}
 use Rattle.waff_core.proofs.Clearings.{listed_needs_are_enough}
-use Rattle.waff_core.proofs.Determined.{last_is_one}
+use Rattle.waff_core.proofs.Determined.{last_is_one, same_running}
 
 module _ (job : JobValue) (is : IsJob job) where
-  sound_at : (seats : ℕ) (s : Core) → Reaches job seats s → Sound job s
+  pub sound_at : (seats : ℕ) (s : Core) → Reaches job seats s → Sound job s
   sound_at seats s reaches = sound_reached job is seats reaches.0 s reaches.1
 
   pub draws_are_few : DrawsAreFew job
   draws_are_few seats s reaches =
       let bound = (sound_at seats s reaches).draws in
       let few : ended s.phases ≤ length s.phases = ended_few s.phases in
-      let count : length s.phases ≡ seats = seats_stay job seats reaches.0 s reaches.1 in
+      let seated : length s.phases ≡ seats = seats_stay job seats reaches.0 s reaches.1 in
+      let short : length job.order ≤ length job.needs = order_is_short job.needs job.order is.order in
+      let count : length job.needs ≡ length job.assigned = is.needs.count in
+      let also : length job.assigned ≡ length job.ops = is.count in
       omega arith
 
   pub needs_suffice : NeedsAreEnough job
@@ -57,6 +62,54 @@ module _ (job : JobValue) (is : IsJob job) where
       other_way : (a b : ℕ) → Excludes job.layout.tree a b → Excludes job.layout.tree b a
       other_way a b (inl above) = inr above
       other_way a b (inr above) = inl above
+
+  -- the affinity of a message is at or above the owners of its footprint
+  above_owner : (m a : ℕ) → IsIn job m → IsOwner job.layout.spaces (ops_of job.ops m) a → AtOrAbove job.layout.tree (affinity_of job.assigned m) a
+  above_owner m a within owner =
+      subst (λ o. AtOrAbove job.layout.tree (affinity_of job.assigned m) o) owner.owned ((is.lowest m within).covers owner.cell owner.named)
+
+  pub away_with_one : AwayWithOne job
+  away_with_one seats s reaches a one other =
+      let sound = sound_at seats s reaches in
+      let x = one.actor in
+      let y = other.actor in
+      let m = one.message in
+      let n = other.message in
+      let m_within = drawn_is_in job is s.drawn m (sound.held x m (inr one.running)) in
+      let n_within = drawn_is_in job is s.drawn n (sound.held y n (inr other.running)) in
+      let excludes : Excludes job.layout.tree (affinity_of job.assigned m) (affinity_of job.assigned n)
+      = comparable job.layout.tree (affinity_of job.assigned m) (affinity_of job.assigned n) a
+      (above_owner m a m_within one.owner) (above_owner n a n_within other.owner) in
+      let same_actor : x ≡ y =
+      ⊎_elim {C = x ≡ y}
+      (λ (same : x ≡ y). same)
+      (λ (apart : x ≢ y). absurd (running_do_not_exclude seats s reaches x y m n apart one.running other.running excludes))
+      (cases_eq x y) in
+      (same_actor, same_running (phase_of s.phases x) m n one.running (subst (λ z. phase_of s.phases z ≡ Some (Running n)) (sym same_actor) other.running))
+
+  pub begins_at_home : BeginsAtHome job
+  begins_at_home seats s reaches x m holds clear a owner away =
+      let sound = sound_at seats s reaches in
+      let y = away.actor in
+      let n = away.message in
+      let m_within = drawn_is_in job is s.drawn m (sound.held x m (inl holds)) in
+      let n_within = drawn_is_in job is s.drawn n (sound.held y n (inr away.running)) in
+      let m_above = above_owner m a m_within owner in
+      let n_above = above_owner n a n_within away.owner in
+      ⊎_elim {C = ⊥}
+      (λ (same : m ≡ n).
+      let one : x ≡ y = sound.alone x y m (inl holds) (inr (subst (λ k. phase_of s.phases y ≡ Some (Running k)) (sym same) away.running)) in
+      let also : phase_of s.phases y ≡ Some (Drawn m) = subst (λ z. phase_of s.phases z ≡ Some (Drawn m)) one holds in
+      let running : phase_of s.phases y ≡ Some (Running n) = away.running in
+      cc)
+      (⊎_elim {C = ⊥}
+      (λ (before : m < n).
+      true≢false
+      (sym (sound.running_clear y n away.running m (ordered_at_one job is a m n m_within.from before n_within.to m_above n_above))
+      ∙ sound.undone x m (inl holds)))
+      (λ (after : n < m).
+      true≢false (sym (clear n (ordered_at_one job is a n m n_within.from after m_within.to n_above m_above)) ∙ sound.undone y n (inr away.running))))
+      (cases_order m n)
 
   pub cells_are_serial : AlwaysSerial job
   cells_are_serial seats s reaches = (sound_at seats s reaches).cells
@@ -99,8 +152,7 @@ module _ (job : JobValue) (is : IsJob job) where
       let within = drawn_is_in job is s.drawn m (sound.held x m state.1) in
       let undone = sound.undone x m state.1 in
       let from : 1 ≤ m = within.from in
-      let above : AtOrAbove job.layout.tree (affinity_of job.assigned m) a
-      = subst (λ o. AtOrAbove job.layout.tree (affinity_of job.assigned m) o) owner.owned ((is.lowest m within).covers owner.cell owner.named) in (
+      let above = above_owner m a within owner in (
         clear_settled job is s m within state.0 undone sound.done_clear (m - 1) a (omega arith) above sound.cells,
         ended_settled job is s m within state.0 undone sound.done_clear a above sound.cells,
       )

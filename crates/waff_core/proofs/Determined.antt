@@ -7,7 +7,7 @@ use Rattle.waff_core.specs.Job.{JobValue}
 use Rattle.waff_core.specs.Machine.{Core, Steps, Runs, opening, phase_of, begun_by, ended_by}
 use Rattle.waff_core.specs.Refused.{IsBusy, HasNothing, IsNotYet, IsLeastUndone, IsRefused, FailsFirst, actor_of}
 use Rattle.waff_core.specs.Settled.{IsLast}
-use Rattle.waff_core.specs.Laws.{RunsOnce, FailsOnce, FailsOrRuns, StaysAccepted, LastIsOne}
+use Rattle.waff_core.specs.Laws.{RunsOnce, FailsOnce, NeverBoth, StaysAccepted, LastIsOne}
 use Rattle.waff_core.specs.declared.event.Event.{Event}
 use Rattle.waff_core.specs.declared.event.Event.TheVariants.{Draw, Begin, End}
 use Rattle.waff_core.specs.declared.phase.Phase.{Phase}
@@ -16,10 +16,10 @@ use Rattle.waff_core.specs.declared.refusal.CoreError.{CoreError}
 use Rattle.waff_core.specs.declared.refusal.CoreError.TheVariants.{Busy, Nothing, NotYet, Memory}
 
 -- an actor holds no more than one message, and runs no more than one
-same_drawn : (phase : Option Phase) (m n : ℕ) → phase ≡ Some (Drawn m) → phase ≡ Some (Drawn n) → m ≡ n
+pub same_drawn : (phase : Option Phase) (m n : ℕ) → phase ≡ Some (Drawn m) → phase ≡ Some (Drawn n) → m ≡ n
 same_drawn phase m n one other = cc
 
-same_running : (phase : Option Phase) (m n : ℕ) → phase ≡ Some (Running m) → phase ≡ Some (Running n) → m ≡ n
+pub same_running : (phase : Option Phase) (m n : ℕ) → phase ≡ Some (Running m) → phase ≡ Some (Running n) → m ≡ n
 same_running phase m n one other = cc
 
 -- an event leads to one state
@@ -81,8 +81,8 @@ fault_is_past job seats events s n error runs fails before =
     step_is_allowed job fails.state fails.event through.1 (fails.before + 1) error
     (subst (λ u. Steps job u fails.event through.1) same through.3) fails.refused
 
-pub fails_or_runs : (job : JobValue) → FailsOrRuns job
-fails_or_runs job seats events s error runs fails =
+pub never_both : (job : JobValue) → NeverBoth job
+never_both job seats events s error runs fails =
     fault_is_past job seats events s (length events) error
     (subst (λ es. Runs job (opening seats) es s) (sym (take-length events)) runs) fails
     (slice_get_within events fails.before fails.event fails.is)

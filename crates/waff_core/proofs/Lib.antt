@@ -7,4 +7,8 @@ pub mod Sound
 pub mod Clearings
 pub mod Determined
 pub mod OneActor
+pub mod Deciding
+pub mod Reaching
+pub mod OrderLength
 pub mod Arrival
+pub mod StatusLaws

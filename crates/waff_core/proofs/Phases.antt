@@ -88,6 +88,12 @@ has_cases phases x y old new m was (inr is) =
     (λ (h : (y ≢ x) × (phase_of phases y ≡ Some (Running m))). inr (h.0, inr h.1))
     (phase_cases phases x y old new (Running m) was is)
 
+-- the other actors have what they had
+pub has_still : (phases : List Phase) (x y : ℕ) (old new : Phase) (m : ℕ) → phase_of phases x ≡ Some old → y ≢ x → Has phases y m
+    → Has (with_phase phases x new) y m
+has_still phases x y old new m was other (inl is) = inl (phase_other phases x y old new was other ∙ is)
+has_still phases x y old new m was other (inr is) = inr (phase_other phases x y old new was other ∙ is)
+
 -- how many actors have ended
 abbrev pub ended : List Phase → ℕ
 ended [] = 0

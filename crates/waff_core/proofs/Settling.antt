@@ -1,5 +1,5 @@
--- The cells of the machine: each parcel is that of the state of arrival order after the last message
--- that is done and could touch it, and the end of a message keeps that.
+-- The cells of the machine: each parcel is that of the state of arrival order after the last message that is done and could touch it,
+-- and the end of a message keeps that.
 use Rattle.std.proofs.Common.{◌≡◌, ◌≢◌, ℕ, zero, suc, ◌+◌, ◌-◌, ◌<◌, ◌≤◌, ◌⊎◌, inl, inr, ◌||◌, true, false, List, [], length, All, Option, Some, None, Contains, slice_index_or, refl, ap, sym, ◌∙◌, subst, arith, ⊎_elim}
 use Rattle.std.specs.Prelude.{◌==◌}
 use Rattle.std.proofs.lemmas.Bool.{cases_eq, cases_order, eq-eqb, eqb-true, or_cases, or_left, or_right, true≢false}

@@ -1,8 +1,8 @@
 -- What holds in every state that the machine reaches.
 use Rattle.std.proofs.Common.{◌≡◌, ◌≢◌, ℕ, ◌+◌, ◌<◌, ◌≤◌, ◌⊎◌, inl, inr, ◌||◌, true, false, List, [], ◌∷◌, length, Option, Some, None, slice_get, get_or, refl, ap, sym, ◌∙◌, subst, arith, ⊎_elim}
 use Rattle.std.specs.Prelude.{◌==◌}
-use Rattle.std.proofs.lemmas.Bool.{true≢false, false_from_ne_true}
-use Rattle.std.proofs.lemmas.Option.{slice_get_within, get_or_from_slice_get}
+use Rattle.std.proofs.lemmas.Bool.{cases_eq, true≢false, false_from_ne_true}
+use Rattle.std.proofs.lemmas.Option.{none-some, same_Some, slice_get_within, get_or_from_slice_get}
 use Rattle.std.proofs.lemmas.List.{length-replicate}
 use Rattle.std.proofs.lemmas.List.Elements.{All-get_or}
 use Rattle.waff_core.specs.Job.{JobValue, IsJob, IsIn, StandsAt}
@@ -10,19 +10,21 @@ use Rattle.waff_core.specs.Machine.{Core, Steps, Runs, IsClear, opening, phase_o
 use Rattle.waff_core.specs.Settled.{CellsAreSerial}
 use Rattle.waff_core.specs.declared.event.Event.{Event}
 use Rattle.waff_core.specs.declared.event.Event.TheVariants.{Draw, Begin, End}
+use Rattle.waff_core.specs.declared.phase.Phase.{Phase}
 use Rattle.waff_core.specs.declared.phase.Phase.TheVariants.{Free, Drawn, Running, Ended}
-use Rattle.waff_core.proofs.Phases.{Has, ended, ended_after, phases_count, has_cases, phase_cases, phase_opening}
-use Rattle.waff_core.proofs.Settling.{done_kept, done_cases, last_kept, settled_end}
+use Rattle.waff_core.proofs.Phases.{Has, phase_same, has_still, ended, ended_after, phases_count, has_cases, phase_cases, phase_opening}
+use Rattle.waff_core.proofs.Settling.{done_this, done_kept, done_cases, last_kept, settled_end}
 
 -- message m was drawn: it stands at a place of the order before the next one to be drawn
 abbrev pub WasDrawn : JobValue → ℕ → ℕ → Type 0
 WasDrawn job drawn m = (place : ℕ) × (place < drawn) × StandsAt job.order place m
 
--- What actors hold or run was drawn, each by one actor, and is not done. What is done was drawn, and
+-- What was drawn is done, or an actor holds or runs it. What actors hold or run was drawn, each by one actor, and is not done. What is done was drawn, and
 -- what is done or runs has all earlier messages done that exclude it. Each draw drew a message or
 -- ended an actor. Each parcel is that of the state of arrival order after the last message that is
 -- done and could touch it.
 pub record Sound (job : JobValue) (s : Core) : Type 0 where
+  pub kept : (place m : ℕ) → place < s.drawn → StandsAt job.order place m → (s.done m ≡ true) ⊎ ((x : ℕ) × Has s.phases x m)
   pub held : (x m : ℕ) → Has s.phases x m → WasDrawn job s.drawn m
   pub alone : (x y m : ℕ) → Has s.phases x m → Has s.phases y m → x ≡ y
   pub undone : (x m : ℕ) → Has s.phases x m → s.done m ≡ false
@@ -60,6 +62,7 @@ nobody_has seats x m (inr is) = let free : Running m ≡ Free = phase_opening se
 
 pub sound_opening : (job : JobValue) (seats : ℕ) → Sound job (opening seats)
 sound_opening job seats = record {
+  kept = λ place m before at. absurd (omega arith);
   held = λ x m has. absurd (nobody_has seats x m has);
   alone = λ x y m has other. absurd (nobody_has seats x m has);
   undone = λ x m has. refl;
@@ -75,10 +78,38 @@ sound_opening job seats = record {
 }
 
 module _ (job : JobValue) (is : IsJob job) (s : Core) (x : ℕ) (sound : Sound job s) where
+  -- an actor has no more than one message
+  only : (m n : ℕ) → Has s.phases x m → Has s.phases x n → m ≡ n
+  only m n (inl one) (inl other) = cc
+  only m n (inl one) (inr other) = cc
+  only m n (inr one) (inl other) = cc
+  only m n (inr one) (inr other) = cc
+
+  -- what a free actor draws leaves the messages of the others where they are
+  still_kept : phase_of s.phases x ≡ Some Free → (new : Phase) (place n : ℕ) → place < s.drawn → StandsAt job.order place n
+      → (s.done n ≡ true) ⊎ ((y : ℕ) × Has (with_phase s.phases x new) y n)
+  still_kept free new place n before at =
+      ⊎_elim {C = (s.done n ≡ true) ⊎ ((y : ℕ) × Has (with_phase s.phases x new) y n)}
+      (λ (done : s.done n ≡ true). inl done)
+      (λ (one : (y : ℕ) × Has s.phases y n).
+      inr (one.0, has_still s.phases x one.0 Free new n free (λ same. has_none n (subst (λ z. Has s.phases z n) same one.1) free) one.1))
+      (sound.kept place n before at)
+    where
+      has_none : (n : ℕ) → Has s.phases x n → phase_of s.phases x ≡ Some Free → ⊥
+      has_none n (inl holds) is = cc
+      has_none n (inr runs) is = cc
+
   -- a draw that finds a message
   sound_draw : (m : ℕ) → phase_of s.phases x ≡ Some Free → StandsAt job.order s.drawn m
       → Sound job (record s { drawn = s.drawn + 1; phases = with_phase s.phases x (Drawn m) })
   sound_draw m free next = record {
+    kept = λ place n before at.
+        ⊎_elim {C = (s.done n ≡ true) ⊎ ((y : ℕ) × Has (with_phase s.phases x (Drawn m)) y n)}
+        (λ (last : place ≡ s.drawn).
+        let same : m ≡ n = same_Some m n (sym next ∙ subst (λ p. slice_get job.order p ≡ Some n) last at) in
+        inr (x, inl (subst (λ k. phase_of (with_phase s.phases x (Drawn m)) x ≡ Some (Drawn k)) same (phase_same s.phases x Free (Drawn m) free))))
+        (λ (earlier : place ≢ s.drawn). still_kept free (Drawn m) place n (omega arith) at)
+        (cases_eq place s.drawn);
     held = λ y n has.
         ⊎_elim {C = WasDrawn job (s.drawn + 1) n}
         (λ (new : (y ≡ x) × ((Drawn m ≡ Drawn n) ⊎ (Drawn m ≡ Running n))).
@@ -133,6 +164,11 @@ module _ (job : JobValue) (is : IsJob job) (s : Core) (x : ℕ) (sound : Sound j
   sound_over : phase_of s.phases x ≡ Some Free → slice_get job.order s.drawn ≡ None
       → Sound job (record s { drawn = s.drawn + 1; phases = with_phase s.phases x Ended })
   sound_over free none = record {
+    kept = λ place n before at.
+        ⊎_elim {C = (s.done n ≡ true) ⊎ ((y : ℕ) × Has (with_phase s.phases x Ended) y n)}
+        (λ (last : place ≡ s.drawn). absurd (none-some n (sym none ∙ subst (λ p. slice_get job.order p ≡ Some n) last at)))
+        (λ (earlier : place ≢ s.drawn). still_kept free Ended place n (omega arith) at)
+        (cases_eq place s.drawn);
     held = λ y n has. drawn_more job s.drawn n (sound.held y n (before y n has));
     alone = λ y z n has other. sound.alone y z n (before y n has) (before z n other);
     undone = λ y n has. sound.undone y n (before y n has);
@@ -165,6 +201,18 @@ module _ (job : JobValue) (is : IsJob job) (s : Core) (x : ℕ) (sound : Sound j
   -- a begin of a clear message
   sound_begin : (m : ℕ) → phase_of s.phases x ≡ Some (Drawn m) → IsClear job s m → Sound job (begun_by s x m)
   sound_begin m holds clear = record {
+    kept = λ place n before at.
+        ⊎_elim {C = (s.done n ≡ true) ⊎ ((y : ℕ) × Has (with_phase s.phases x (Running m)) y n)}
+        (λ (done : s.done n ≡ true). inl done)
+        (λ (one : (y : ℕ) × Has s.phases y n).
+        inr
+        (⊎_elim {C = (y : ℕ) × Has (with_phase s.phases x (Running m)) y n}
+        (λ (same : one.0 ≡ x).
+        let this : m ≡ n = only m n (inl holds) (subst (λ z. Has s.phases z n) same one.1) in
+        (x, inr (subst (λ k. phase_of (with_phase s.phases x (Running m)) x ≡ Some (Running k)) this (phase_same s.phases x (Drawn m) (Running m) holds))))
+        (λ (other : one.0 ≢ x). (one.0, has_still s.phases x one.0 (Drawn m) (Running m) n holds other one.1))
+        (cases_eq one.0 x)))
+        (sound.kept place n before at);
     held = λ y n has. sound.held y n (before y n has);
     alone = λ y z n has other. sound.alone y z n (before y n has) (before z n other);
     undone = λ y n has. sound.undone y n (before y n has);
@@ -198,6 +246,17 @@ module _ (job : JobValue) (is : IsJob job) (s : Core) (x : ℕ) (sound : Sound j
   -- the end of a message
   sound_end : (m : ℕ) → phase_of s.phases x ≡ Some (Running m) → Sound job (ended_by job s x m)
   sound_end m runs = record {
+    kept = λ place n before at.
+        ⊎_elim {C = ((n == m || s.done n) ≡ true) ⊎ ((y : ℕ) × Has (with_phase s.phases x Free) y n)}
+        (λ (done : s.done n ≡ true). inl (done_kept s m n done))
+        (λ (one : (y : ℕ) × Has s.phases y n).
+        ⊎_elim {C = ((n == m || s.done n) ≡ true) ⊎ ((y : ℕ) × Has (with_phase s.phases x Free) y n)}
+        (λ (same : one.0 ≡ x).
+        let this : m ≡ n = only m n (inr runs) (subst (λ z. Has s.phases z n) same one.1) in
+        inl (subst (λ k. (k == m || s.done k) ≡ true) this (done_this s m)))
+        (λ (other : one.0 ≢ x). inr (one.0, has_still s.phases x one.0 (Running m) Free n runs other one.1))
+        (cases_eq one.0 x))
+        (sound.kept place n before at);
     held = λ y n has. sound.held y n (before y n has).1;
     alone = λ y z n has other. sound.alone y z n (before y n has).1 (before z n other).1;
     undone = λ y n has.

@@ -8,13 +8,15 @@ use Rattle.waff_order.specs.Needs.{needs_of}
 use Rattle.waff_cells.specs.Meaning.{meaning}
 use Rattle.waff_cells.specs.Serial.{SameParcel, ops_of, serial}
 use Rattle.waff_core.specs.Job.{JobValue, IsIn, IsOwner}
-use Rattle.waff_core.specs.Machine.{Core, Runs, IsClear, opening, phase_of}
+use Rattle.waff_core.specs.Machine.{Core, Runs, IsClear, IsAway, opening, phase_of}
 use Rattle.waff_core.specs.Refused.{FailsFirst}
+use Rattle.waff_core.specs.Statuses.{HasStatus}
 use Rattle.waff_core.specs.Settled.{IsLast, CellsAreSerial}
 use Rattle.waff_core.specs.declared.event.Event.{Event}
 use Rattle.waff_core.specs.declared.event.Event.TheVariants.{Draw, Begin, End}
 use Rattle.waff_core.specs.declared.phase.Phase.TheVariants.{Drawn, Running}
 use Rattle.waff_core.specs.declared.refusal.CoreError.{CoreError}
+use Rattle.waff_core.specs.declared.status.Status.{Status}
 
 -- the machine with this many actors reaches the state: some events lead to it from the opening
 abbrev pub Reaches : JobValue → ℕ → Core → Type 0
@@ -27,7 +29,8 @@ AreAllDone job s = (m : ℕ) → IsIn job m → s.done m ≡ true
 -- events lead from a state to no more than one
 abbrev pub RunsOnce : JobValue → Type 0
 RunsOnce job =
-    (s : Core) (events : List Event) (t u : Core) → Runs job s events t → Runs job s events u → t ≡ u
+    (s : Core) (events : List Event) (t u : Core)
+    → Runs job s events t → Runs job s events u → t ≡ u
 
 -- events have no more than one first fault
 abbrev pub FailsOnce : JobValue → Type 0
@@ -35,9 +38,16 @@ FailsOnce job =
     (seats : ℕ) (events : List Event) (one other : CoreError)
     → FailsFirst job seats events one → FailsFirst job seats events other → one ≡ other
 
--- events that the machine accepts have no fault
-abbrev pub FailsOrRuns : JobValue → Type 0
-FailsOrRuns job =
+-- all events of a list are accepted, or the list has a first fault
+abbrev pub RunsOrFails : JobValue → Type 0
+RunsOrFails job =
+    (seats : ℕ) (events : List Event)
+    → ((s : Core) × Runs job (opening seats) events s)
+    ⊎ ((error : CoreError) × FailsFirst job seats events error)
+
+-- never both
+abbrev pub NeverBoth : JobValue → Type 0
+NeverBoth job =
     (seats : ℕ) (events : List Event) (s : Core) (error : CoreError)
     → Runs job (opening seats) events s → ¬ FailsFirst job seats events error
 
@@ -58,9 +68,17 @@ OneActorEnds job =
     (seats x : ℕ) → 1 ≤ x → x ≤ seats
     → (s : Core) × Runs job (opening seats) (rounds x (length job.order)) s × AreAllDone job s
 
--- the number of draws is at most the number of places of the order and of actors
+-- the number of draws is at most that of the messages and of the actors
 abbrev pub DrawsAreFew : JobValue → Type 0
-DrawsAreFew job = (seats : ℕ) (s : Core) → Reaches job seats s → s.drawn ≤ length job.order + seats
+DrawsAreFew job = (seats : ℕ) (s : Core) → Reaches job seats s → s.drawn ≤ length job.ops + seats
+
+-- each message has one status: it waits, or one actor holds it, or one runs it, or it is done
+abbrev pub EachHasOneStatus : JobValue → Type 0
+EachHasOneStatus job =
+    (seats : ℕ) (s : Core) → Reaches job seats s
+    → (m : ℕ) → IsIn job m
+    → (status : Status) × HasStatus job s m status
+    × ((other : Status) → HasStatus job s m other → other ≡ status)
 
 -- a message whose needs are done is clear: every earlier message that excludes it is done
 abbrev pub NeedsAreEnough : JobValue → Type 0
@@ -72,8 +90,23 @@ NeedsAreEnough job =
 abbrev pub RunningDoNotExclude : JobValue → Type 0
 RunningDoNotExclude job =
     (seats : ℕ) (s : Core) → Reaches job seats s
-    → (x y m n : ℕ) → x ≢ y → phase_of s.phases x ≡ Some (Running m) → phase_of s.phases y ≡ Some (Running n)
+    → (x y m n : ℕ) → x ≢ y
+    → phase_of s.phases x ≡ Some (Running m) → phase_of s.phases y ≡ Some (Running n)
     → ¬ Excludes job.layout.tree (affinity_of job.assigned m) (affinity_of job.assigned n)
+
+-- a parcel that is away is with one running message
+abbrev pub AwayWithOne : JobValue → Type 0
+AwayWithOne job =
+    (seats : ℕ) (s : Core) → Reaches job seats s
+    → (a : ℕ) (one other : IsAway job s a)
+    → (one.actor ≡ other.actor) × (one.message ≡ other.message)
+
+-- when a message may begin, the parcels of its footprint's owners are home
+abbrev pub BeginsAtHome : JobValue → Type 0
+BeginsAtHome job =
+    (seats : ℕ) (s : Core) → Reaches job seats s
+    → (x m : ℕ) → phase_of s.phases x ≡ Some (Drawn m) → IsClear job s m
+    → (a : ℕ) → IsOwner job.layout.spaces (ops_of job.ops m) a → ¬ IsAway job s a
 
 -- there is no more than one last message at or above an affinity
 abbrev pub LastIsOne : JobValue → Type 0
@@ -97,12 +130,14 @@ EachCellIsSerial job =
 abbrev pub AllDoneIsSerial : JobValue → Type 0
 AllDoneIsSerial job =
     (seats : ℕ) (s : Core) → Reaches job seats s → AreAllDone job s
-    → (cell : Cell) → IsCell job.layout.spaces cell → s.cells cell ≡ serial job.ops (length job.ops) cell
+    → (cell : Cell) → IsCell job.layout.spaces cell
+    → s.cells cell ≡ serial job.ops (length job.ops) cell
 
 -- actor x may begin message m, or runs it
 abbrev pub MayRun : JobValue → Core → ℕ → ℕ → Type 0
 MayRun job s x m =
-    ((phase_of s.phases x ≡ Some (Drawn m)) × IsClear job s m) ⊎ (phase_of s.phases x ≡ Some (Running m))
+    ((phase_of s.phases x ≡ Some (Drawn m)) × IsClear job s m)
+    ⊎ (phase_of s.phases x ≡ Some (Running m))
 
 -- from when a message may begin until its end, the parcels of its footprint's owners are those of
 -- arrival order before it, and its meaning makes them those after it

@@ -30,7 +30,8 @@ with_phase phases x phase = slice_set phases (x - 1) phase
 
 -- the state in which the machine opens: every actor is free, nothing is drawn or done
 abbrev pub opening : ℕ → Core
-opening seats = record { drawn = 0; phases = replicate seats Free; done = λ m. false; cells = zeros }
+opening seats =
+    record { drawn = 0; phases = replicate seats Free; done = λ m. false; cells = zeros }
 
 -- the phase of an actor that has drawn: it holds the message at that place, or has ended past the
 -- end of the order
@@ -67,7 +68,8 @@ abbrev pub Steps : JobValue → Core → Event → Core → Type 0
 Steps job s (Draw x) t = (phase_of s.phases x ≡ Some Free) × (t ≡ drawn_by job s x)
 Steps job s (Begin x) t =
     (m : ℕ) × (phase_of s.phases x ≡ Some (Drawn m)) × IsClear job s m × (t ≡ begun_by s x m)
-Steps job s (End x) t = (m : ℕ) × (phase_of s.phases x ≡ Some (Running m)) × (t ≡ ended_by job s x m)
+Steps job s (End x) t =
+    (m : ℕ) × (phase_of s.phases x ≡ Some (Running m)) × (t ≡ ended_by job s x m)
 
 -- the events lead from one state to another
 abbrev pub Runs : JobValue → Core → List Event → Core → Type 0

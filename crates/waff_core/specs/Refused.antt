@@ -37,22 +37,27 @@ actor_of (End x) = x
 pub record IsLeastUndone (job : JobValue) (s : Core) (m i : ℕ) : Type 0 where
   pub ordered : IsOrdered job.layout.tree job.assigned i m
   pub undone : s.done i ≡ false
-  pub least : (other : ℕ) → IsOrdered job.layout.tree job.assigned other m → s.done other ≡ false → i ≤ other
+  pub least : (other : ℕ) → IsOrdered job.layout.tree job.assigned other m → s.done other ≡ false
+      → i ≤ other
 
 -- a begin of a message before an earlier one that excludes it is done; i is the least of those
 abbrev pub IsNotYet : JobValue → Core → Event → ℕ → Type 0
-IsNotYet job s (Begin x) i = (m : ℕ) × (phase_of s.phases x ≡ Some (Drawn m)) × IsLeastUndone job s m i
+IsNotYet job s (Begin x) i =
+    (m : ℕ) × (phase_of s.phases x ≡ Some (Drawn m)) × IsLeastUndone job s m i
 IsNotYet job s _ i = ⊥
 
 -- the machine does not allow the event, which stands at this place, and the error names why
 abbrev pub IsRefused : JobValue → Core → ℕ → Event → CoreError → Type 0
-IsRefused job s place event (Busy at) = (at ≡ place) × IsBusy event (phase_of s.phases (actor_of event))
-IsRefused job s place event (Nothing at) = (at ≡ place) × HasNothing event (phase_of s.phases (actor_of event))
+IsRefused job s place event (Busy at) =
+    (at ≡ place) × IsBusy event (phase_of s.phases (actor_of event))
+IsRefused job s place event (Nothing at) =
+    (at ≡ place) × HasNothing event (phase_of s.phases (actor_of event))
 IsRefused job s place event (NotYet at i) = (at ≡ place) × IsNotYet job s event i
 IsRefused job s place event Memory = ⊥
 
 -- the first event that the machine does not allow, and why
-pub record FailsFirst (job : JobValue) (seats : ℕ) (events : List Event) (error : CoreError) : Type 0 where
+pub record FailsFirst (job : JobValue) (seats : ℕ) (events : List Event) (error : CoreError)
+    : Type 0 where
   pub before : ℕ
   pub state : Core
   pub runs : Runs job (opening seats) (take before events) state

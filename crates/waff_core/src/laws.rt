@@ -2,7 +2,7 @@
 //! whose contract is the law.
 
 ghost use Rattle.waff_core.specs.Job.{JobValue, IsJob};
-ghost use Rattle.waff_core.specs.Laws.{RunsOnce, FailsOnce, FailsOrRuns, StaysAccepted, OneActorEnds, DrawsAreFew, NeedsAreEnough, RunningDoNotExclude, LastIsOne, AlwaysSerial, EachCellIsSerial, AllDoneIsSerial, BeginsSettled};
+ghost use Rattle.waff_core.specs.Laws.{RunsOnce, FailsOnce, RunsOrFails, NeverBoth, StaysAccepted, OneActorEnds, DrawsAreFew, EachHasOneStatus, NeedsAreEnough, RunningDoNotExclude, AwayWithOne, BeginsAtHome, LastIsOne, AlwaysSerial, EachCellIsSerial, AllDoneIsSerial, BeginsSettled};
 
 /// The machine is deterministic: a list of events leads from a state to no more than one.
 pub fn runs_once()
@@ -14,9 +14,14 @@ pub fn fails_once()
     ensures { (job : JobValue) → FailsOnce job }
 {}
 
-/// A list of events that is accepted has no fault.
-pub fn fails_or_runs()
-    ensures { (job : JobValue) → FailsOrRuns job }
+/// Every list of events is accepted or has a first fault.
+pub fn runs_or_fails()
+    ensures { (job : JobValue) → IsJob job → RunsOrFails job }
+{}
+
+/// No list of events is accepted and has a fault.
+pub fn never_both()
+    ensures { (job : JobValue) → NeverBoth job }
 {}
 
 /// A list of events that is accepted stays accepted when cut short.
@@ -29,9 +34,14 @@ pub fn one_actor_ends()
     ensures { (job : JobValue) → IsJob job → OneActorEnds job }
 {}
 
-/// The number of draws is at most the number of messages of the order and of actors.
+/// The number of draws is at most that of the messages and of the actors.
 pub fn draws_are_few()
     ensures { (job : JobValue) → IsJob job → DrawsAreFew job }
+{}
+
+/// Each message waits, or is held by one actor, or is run by one actor, or is done.
+pub fn each_has_one_status()
+    ensures { (job : JobValue) → IsJob job → EachHasOneStatus job }
 {}
 
 /// Looking at the needs of a message is enough.
@@ -42,6 +52,13 @@ pub fn needs_are_enough()
 /// Messages that run at once do not exclude each other.
 pub fn running_do_not_exclude()
     ensures { (job : JobValue) → IsJob job → RunningDoNotExclude job }
+{}
+
+/// A parcel that is away is with one running message, and when a message may begin the parcels of its
+/// footprint's owners are home.
+pub fn parcels_are_with_one()
+    ensures away { (job : JobValue) → IsJob job → AwayWithOne job }
+    ensures home { (job : JobValue) → IsJob job → BeginsAtHome job }
 {}
 
 /// There is no more than one last message at or above an affinity.

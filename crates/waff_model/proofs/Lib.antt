@@ -8,4 +8,5 @@ pub mod LayoutLemmas
 pub mod SpaceLemmas
 pub mod ParcelLemmas
 pub mod ParcelTableLemmas
+pub mod RunLemmas
 pub mod TraceLemmas

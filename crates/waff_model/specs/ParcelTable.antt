@@ -1,5 +1,5 @@
 -- A table of the parcels of a layout.
-use Rattle.std.specs.Prelude.{◌≡◌, ℕ, ◌<◌, List, length, map, take, slice_index}
+use Rattle.std.specs.Prelude.{◌≡◌, ℕ, ◌/◌, ◌%◌, ◌<◌, List, length, map, take, slice_index}
 use Rattle.std.specs.List.{range_with_len}
 use Rattle.waff_model.specs.Tree.{Node}
 use Rattle.waff_model.specs.Layout.{Space}
@@ -10,6 +10,10 @@ use Rattle.waff_model.specs.declared.parcels.Parcels.{Parcels}
 pub record IsMapped (space : Space) : Type 0 where
   pub whole : 0 < space.unit
   pub owned : 0 < length space.to
+
+-- the owners of so many cells, of which runs of `unit` go to these affinities in turn
+abbrev pub owners_by : ℕ → ℕ → List ℕ → List ℕ
+owners_by size unit to = map (λ index. slice_index to ((index / unit) % length to)) (range_with_len 0 size)
 
 -- for each space, how many cells are in the spaces before it
 abbrev pub starts_of : List Space → List ℕ

@@ -1,8 +1,8 @@
 //! The table of parcels: where each cell stands among the cells of its owner.
 
 ghost use Rattle.std.specs.Prelude.{◌≡◌, ◌<◌, ◌≤◌, ◌^◌, ◌++◌, length, replicate, sum_by, All, IfOk, OnOk};
-ghost use Rattle.waff_model.specs.Parcel.{owners_across, owners_in};
-ghost use Rattle.waff_model.specs.ParcelTable.{IsMapped, starts_of, places_of, sizes_of, AreParcels};
+ghost use Rattle.waff_model.specs.Parcel.{owners_in};
+ghost use Rattle.waff_model.specs.ParcelTable.{IsMapped, owners_by, starts_of, places_of, sizes_of, AreParcels};
 
 use crate::space::Space;
 use crate::tree::Tree;
@@ -62,18 +62,26 @@ fn owners_of(alloc: Global, spaces: &[Space]) -> Result<Vec<u16>, AllocError>
 {
     let mut owners = Vec::new(alloc);
     for space in spaces {
-        add_owners(&mut owners, space)?;
+        add_owners(&mut owners, space.size(), space.unit(), space.to())?;
     }
     Ok(owners)
 }
 
-/// Adds the owners of the cells of the space.
-fn add_owners(owners: &mut Vec<u16>, space: &Space) -> Result<(), AllocError>
-    requires { IsMapped space.now }
-    ensures { OnOk result (owners.new.items ≡ owners.old.items ++ owners_across space.now) }
+/// Adds the owners of so many cells: runs of `unit` cells go to each in turn, over and over.
+fn add_owners(owners: &mut Vec<u16>, size: u32, unit: u32, to: &[u16]) -> Result<(), AllocError>
+    requires unit { 0 < unit }
+    requires owned { 0 < length to.now }
+    ensures { OnOk result (owners.new.items ≡ owners.old.items ++ owners_by size unit to.now) }
 {
-    for index in 0..space.size() {
-        owners.push(space.owner(index))?;
+    let mut turn = 0;
+    let mut left = unit;
+    for index in 0..size {
+        owners.push(to[turn])?;
+        left -= 1;
+        if left == 0 {
+            left = unit;
+            turn = (turn + 1) % to.len();
+        }
     }
     Ok(())
 }

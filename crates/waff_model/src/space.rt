@@ -35,6 +35,18 @@ impl Space {
         self.size
     }
 
+    pub(crate) fn unit(&self) -> u32
+        ensures { result ≡ self.now.unit }
+    {
+        self.unit
+    }
+
+    pub(crate) fn to(&self) -> &[u16]
+        ensures { result.now ≡ self.now.to }
+    {
+        &self.to
+    }
+
     /// The number of the affinity that owns the cell with this index.
     pub(crate) fn owner(&self, index: u32) -> u16
         requires unit { 0 < self.now.unit }

@@ -18,6 +18,8 @@ mod running;
 #[cfg(test)]
 mod samples;
 #[cfg(test)]
+mod states;
+#[cfg(test)]
 mod texts;
 #[cfg(test)]
 mod traces_read;

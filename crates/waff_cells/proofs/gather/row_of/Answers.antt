@@ -4,7 +4,7 @@ use Rattle.std.proofs.lemmas.List.FromFn.{map-range_with_len_more}
 use Rattle.waff_model.specs.Layout.{IsCell}
 use Rattle.waff_model.specs.declared.cell.Cell.{Cell}
 use Rattle.waff_cells.specs.Held.{rows_of}
-use Rattle.waff_cells.specs.Parcels.{cells_of_parcels}
+use Rattle.waff_cells.specs.Gathered.{cells_of_parcels}
 use Rattle.waff_cells.proofs.Gathers.{owner_within, place_below, number_is}
 use Rattle.waff_cells.proofs.gather.row_of.Goals as goal
 

@@ -1,7 +1,7 @@
 use Rattle.std.proofs.Common.{◌≡◌, map}
 use Rattle.std.specs.List.{range_with_len}
 use Rattle.waff_cells.specs.Held.{rows_of}
-use Rattle.waff_cells.specs.Parcels.{cells_of_parcels}
+use Rattle.waff_cells.specs.Gathered.{cells_of_parcels}
 use Rattle.waff_cells.proofs.gather.row_of.Given as goal
 
 abbrev pub invariant-loop-index : goal.invariant-loop-index

@@ -1,0 +1,6 @@
+//! Replays of traces.
+#![tactic(auto)]
+
+mod arrival;
+
+pub use arrival::serial;

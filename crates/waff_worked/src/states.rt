@@ -1,0 +1,75 @@
+//! States that messages leave.
+
+ghost use Rattle.waff_model.specs.Messages.{sizes_of};
+ghost use Rattle.waff_cells.specs.Grid.{HasSizes};
+
+use crate::samples::{H1, X1, X2};
+use std::alloc::Global;
+use std::fmt::Write;
+use std::process::Abort;
+use std::test::Fail;
+use waff_cells::State;
+use waff_model::{Cell, Layout, Trace};
+use waff_read::{read_hierarchy, read_trace};
+use waff_replay::serial;
+
+/// The cells that are not 0, each with its number.
+fn numbers(alloc: Global, layout: &Layout, state: &State) -> Result<String, Fail>
+    requires { HasSizes state.now (sizes_of layout.now.spaces) }
+{
+    let mut text = String::new(alloc);
+    for space in 0..layout.space_count() {
+        for index in 0..layout.space_size(space) {
+            let number = state.get(Cell { space, index });
+            if number != 0 {
+                let comma = if text.is_empty() { "" } else { ", " };
+                write!(text, "{comma}{}:{index} {number}", layout.space_name(space))?;
+            }
+        }
+    }
+    Ok(text)
+}
+
+/// The state after one message after another.
+fn stepped(rt: &impl Abort, alloc: Global, layout: &Layout, trace: &Trace) -> Result<String, Fail> {
+    assert!(rt; trace.fits(layout));
+    let mut state = State::zero(alloc, layout)?;
+    for n in 1..trace.len() + 1 {
+        state.apply(trace.message(n));
+    }
+    numbers(alloc, layout, &state)
+}
+
+/// The state of the serial run.
+fn run(rt: &impl Abort, alloc: Global, layout: &Layout, trace: &Trace) -> Result<String, Fail> {
+    assert!(rt; trace.fits(layout));
+    let state = serial(alloc, layout, trace)?;
+    numbers(alloc, layout, &state)
+}
+
+fn leaves(rt: &impl Abort, alloc: Global, trace: &str, state: &str) -> Result<(), Fail> {
+    let layout = read_hierarchy(alloc, H1.as_bytes())?;
+    let trace = read_trace(alloc, &layout, trace.as_bytes())?;
+    assert_eq!(rt; stepped(rt, alloc, &layout, &trace)?.as_str(), state);
+    assert_eq!(rt; run(rt, alloc, &layout, &trace)?.as_str(), state);
+    Ok(())
+}
+
+#[test]
+fn of_the_samples(rt: HostRuntime) -> Result<(), Fail> {
+    leaves(&rt, rt.alloc(), X1, "f:0 5, f:2 7, f:4 1, g:0 5, g:4 1")?;
+    leaves(&rt, rt.alloc(), X2, "f:0 5, f:2 7, g:0 5, g:4 1")?;
+    leaves(&rt, rt.alloc(), "message,cost,ops\n", "")
+}
+
+#[test]
+fn of_an_addition_that_wraps(rt: HostRuntime) -> Result<(), Fail> {
+    let trace = "message,cost,ops\nm1,1,set f:0 2;add f:0 18446744073709551615\n";
+    leaves(&rt, rt.alloc(), trace, "f:0 1")
+}
+
+#[test]
+fn of_a_cell_with_itself(rt: HostRuntime) -> Result<(), Fail> {
+    let trace = "message,cost,ops\nm1,1,set m:1 5;swap m:1 m:1;copy m:1 m:1\n";
+    leaves(&rt, rt.alloc(), trace, "m:1 5")
+}
