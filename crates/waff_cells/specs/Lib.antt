@@ -2,4 +2,6 @@ pub mod Meaning
 pub mod Serial
 pub mod Grid
 pub mod Held
+pub mod Parcel
+pub mod Gathered
 pub mod Laws

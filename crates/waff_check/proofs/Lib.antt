@@ -9,3 +9,4 @@ pub mod OverlapLaws
 pub mod VerdictLaws
 pub mod LinkLaws
 pub mod PromiseLaws
+pub mod Uniqueness

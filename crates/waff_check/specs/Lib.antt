@@ -4,3 +4,4 @@ pub mod Searches
 pub mod Verdicts
 pub mod Shifts
 pub mod Promises
+pub mod Unique

@@ -14,6 +14,7 @@ mod shifts;
 mod ticks;
 mod told;
 mod totals;
+pub mod unique;
 mod verdict;
 mod worker;
 

@@ -9,3 +9,10 @@ pub mod Reaching
 pub mod OrderLength
 pub mod Arrival
 pub mod StatusLaws
+pub mod Listing
+pub mod Ordering
+pub mod Making
+pub mod Reading
+pub mod Pace
+pub mod StatusLemmas
+pub mod Lending

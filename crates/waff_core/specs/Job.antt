@@ -5,11 +5,12 @@ use Rattle.waff_model.specs.Cells.{cells_of}
 use Rattle.waff_model.specs.Layout.{Hierarchy, Space, IsCell, IsLayout, owner_of}
 use Rattle.waff_model.specs.declared.cell.Cell.{Cell}
 use Rattle.waff_model.specs.declared.limits.TheConstants.{MAX_OPS}
+use Rattle.waff_model.specs.declared.message.Message.{Message}
 use Rattle.waff_model.specs.declared.op.Op.{Op}
 use Rattle.waff_assign.specs.Lowest.{IsInFootprint, IsLowest}
 use Rattle.waff_assign.specs.Order.{affinity_of}
 use Rattle.waff_order.specs.Needs.{AreNeeds, IsNeed}
-use Rattle.waff_cells.specs.Serial.{ops_of}
+use Rattle.waff_cells.specs.Serial.{operations, ops_of}
 
 -- what a job stands for: a layout; the operations, the affinities, the needs and the owners of a
 -- trace's messages, in the order of arrival; and the order in which the messages are handed out
@@ -68,3 +69,12 @@ pub record IsJob (job : JobValue) : Type 0 where
   pub owners : (n : ℕ) → IsIn job n
       → ListsOwners job.layout.spaces (ops_of job.ops n) (owners_of job.owners n)
   pub order : IsOrder job.needs job.order
+
+-- the job of a trace's messages: what it was made of is kept
+pub record IsJobOf (layout : Hierarchy) (messages : List Message) (assigned : List ℕ)
+    (needs : List (List ℕ)) (order : List ℕ) (job : JobValue) : Type 0 where
+  pub layout_kept : job.layout ≡ layout
+  pub ops_kept : job.ops ≡ operations messages
+  pub assigned_kept : job.assigned ≡ assigned
+  pub needs_kept : job.needs ≡ needs
+  pub order_kept : job.order ≡ order

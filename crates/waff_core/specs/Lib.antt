@@ -4,3 +4,6 @@ pub mod Machine
 pub mod Refused
 pub mod Settled
 pub mod Laws
+pub mod Owners
+pub mod Orders
+pub mod Shown

@@ -1,16 +1,188 @@
 //! Jobs.
 
+ghost use Rattle.std.specs.Prelude.{◌≡◌, ◌↔◌, ◌<◌, ◌≤◌, length, All, IsTrue, IfOk, IfErr, slice_get};
+ghost use Rattle.waff_model.specs.Cells.{cells_of};
+ghost use Rattle.waff_model.specs.Layout.{IsCell};
+ghost use Rattle.waff_model.specs.Messages.{sizes_of};
+ghost use Rattle.waff_model.specs.declared.limits.TheConstants.{MAX_MESSAGES};
+ghost use Rattle.waff_assign.specs.Lowest.{AreLowest};
+ghost use Rattle.waff_assign.specs.Order.{IsOrdered};
+ghost use Rattle.waff_order.specs.Needs.{AreNeeds, needs_of};
+ghost use Rattle.waff_cells.specs.Serial.{ops_of};
+ghost use Rattle.waff_core.specs.Job.{IsJob, IsJobOf, IsOrder, owners_of};
+
+use crate::lists::Lists;
+use crate::operations::list_operations;
+use crate::order::is_order;
+use crate::owners::list_owners;
+use crate::refusal::JobError;
+use std::alloc::{AllocError, Global};
 use std::marker::Model;
-use waff_assign::Assigned;
-use waff_model::{Layout, Trace};
+use waff_assign::{Assigned, is_ordered};
+use waff_model::{Layout, Op, Trace};
 use waff_order::Needs;
 
-/// What is replayed: a trace under a layout, with the affinities and the needs of its messages, in an order.
+/// What is replayed: the messages of a trace under a layout, with their affinities, their needs and
+/// the owners of their
+/// footprints, in the order in which they are handed out. Messages are numbered from 1.
 #[derive(Drop)]
 pub struct Job {
+    layout: Layout,
+    ops: Lists<Op>,
+    assigned: Assigned,
+    needs: Needs,
+    owners: Lists<u16>,
+    order: Vec<u32>,
+}
+
+impl Model for Job {
+    ghost use Rattle.waff_core.specs.Job.{JobValue, IsJob};
+
+    ghost Value = { JobValue };
+
+    ghost view = { λ j. record {
+      layout = j.layout;
+      ops = j.ops;
+      assigned = j.assigned;
+      needs = j.needs;
+      owners = j.owners;
+      order = j.order.items;
+    } };
+
+    ghost invariant = { λ j. IsJob (record {
+      layout = j.layout;
+      ops = j.ops;
+      assigned = j.assigned;
+      needs = j.needs;
+      owners = j.owners;
+      order = j.order.items;
+    }) };
+}
+
+impl Job {
+    /// The job of a trace's messages, with the assignment and the needs of that trace under that
+    /// layout.
+    pub fn new(
+        alloc: Global,
+        layout: Layout,
+        trace: Trace,
+        assigned: Assigned,
+        needs: Needs,
+        order: &[u32],
+    ) -> Result<Job, JobError>
+        requires fits { trace.sizes ≡ sizes_of layout.spaces }
+        requires count { length assigned ≡ length trace.messages }
+        requires lowest { AreLowest layout trace.messages assigned }
+        requires known { All (λ a. a < length layout.tree) assigned }
+        requires needs { AreNeeds layout.tree assigned needs }
+        ensures kept { IfOk result
+            (λ job. IsJobOf layout trace.messages assigned needs order.now job) }
+        ensures job { IfOk result IsJob }
+        ensures refused { IfErr result (λ e. e ≡ JobError.Order → ¬ IsOrder needs order.now) }
+    {
+        match is_order(alloc, &needs, order) {
+            Ok(true) => {}
+            Ok(false) => return Err(JobError::Order),
+            Err(_) => return Err(JobError::Memory),
+        }
+        match make(alloc, layout, trace, assigned, needs, order) {
+            Ok(job) => Ok(job),
+            Err(_) => Err(JobError::Memory),
+        }
+    }
+
+    /// How many messages there are.
+    pub fn len(&self) -> u32
+        ensures count { result ≡ length self.now.ops }
+        ensures few { length self.now.ops ≤ MAX_MESSAGES }
+        ensures job { IsJob self.now }
+    {
+        self.assigned.len()
+    }
+
+    pub fn layout(&self) -> &Layout
+        ensures { result.now ≡ self.now.layout }
+    {
+        &self.layout
+    }
+
+    /// The operations of message `n`.
+    pub fn ops(&self, n: u32) -> &[Op]
+        requires from { 1 ≤ n }
+        requires to { n ≤ length self.now.ops }
+        ensures ops { result.now ≡ ops_of self.now.ops n }
+        ensures cells { All (IsCell self.now.layout.spaces) (cells_of result.now) }
+    {
+        self.ops.of(n)
+    }
+
+    /// The needs of message `n`, in rising order.
+    pub fn needs(&self, n: u32) -> &[u32]
+        requires from { 1 ≤ n }
+        requires to { n ≤ length self.now.ops }
+        ensures needs { result.now ≡ needs_of self.now.needs n }
+        ensures earlier { All (λ i. (1 ≤ i) × (i < n)) result.now }
+    {
+        self.needs.of(n)
+    }
+
+    /// The numbers of the affinities that own a cell of the footprint of message `n`, in rising
+    /// order.
+    pub fn owners(&self, n: u32) -> &[u16]
+        requires from { 1 ≤ n }
+        requires to { n ≤ length self.now.ops }
+        ensures owners { result.now ≡ owners_of self.now.owners n }
+        ensures known { All (λ a. a < length self.now.layout.tree) result.now }
+    {
+        self.owners.of(n)
+    }
+
+    /// The message at this place of the order, from 0.
+    pub fn drawn_at(&self, place: u32) -> Option<u32>
+        ensures { result ≡ slice_get self.now.order place }
+    {
+        self.order.get(place as usize).copied()
+    }
+
+    /// Whether messages `i` and `j` are an ordered pair.
+    pub fn is_ordered(&self, i: u32, j: u32) -> bool
+        requires from { 1 ≤ i }
+        requires first { i ≤ length self.now.ops }
+        requires to { 1 ≤ j }
+        requires second { j ≤ length self.now.ops }
+        ensures { IsTrue result ↔ IsOrdered self.now.layout.tree self.now.assigned i j }
+    {
+        is_ordered(self.layout.tree(), &self.assigned, i, j)
+    }
+}
+
+/// The job with this order.
+fn make(
+    alloc: Global,
     layout: Layout,
     trace: Trace,
     assigned: Assigned,
     needs: Needs,
-    order: Vec<u32>,
+    order: &[u32],
+) -> Result<Job, AllocError>
+    requires fits { trace.sizes ≡ sizes_of layout.spaces }
+    requires count { length assigned ≡ length trace.messages }
+    requires lowest { AreLowest layout trace.messages assigned }
+    requires known { All (λ a. a < length layout.tree) assigned }
+    requires needs { AreNeeds layout.tree assigned needs }
+    requires order { IsOrder needs order.now }
+    ensures kept { IfOk result (λ job. IsJobOf layout trace.messages assigned needs order.now job) }
+    ensures job { IfOk result IsJob }
+{
+    let ops = list_operations(alloc, &trace)?;
+    let owners = list_owners(alloc, &layout, &ops, trace.len())?;
+    let order = Vec::from_slice(alloc, order)?;
+    Ok(Job {
+        layout,
+        ops,
+        assigned,
+        needs,
+        owners,
+        order,
+    })
 }

@@ -97,7 +97,7 @@ rooted-tree_from tree (row ∷ more) read rooted done =
     by None accepted done rest = rest (rooted-push tree (node_in tree row) rooted (fits_unless_refused tree (node_in tree row) accepted)) done
     by (Some e) refused done rest = absurd (cc)
 
-rooted-tree_of : (rows : List Data) (read : List Node) → tree_of rows ≡ Ok read → IsRooted read
+pub rooted-tree_of : (rows : List Data) (read : List Node) → tree_of rows ≡ Ok read → IsRooted read
 rooted-tree_of [] read done = absurd (cc)
 rooted-tree_of (row ∷ more) read done = rooted-tree_from [] (row ∷ more) read rooted-none done
 

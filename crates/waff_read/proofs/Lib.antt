@@ -12,3 +12,4 @@ pub mod HierarchyLaws
 pub mod SpellingLaws
 pub mod TraceSpellings
 pub mod RefusalLaws
+pub mod LimitLaws

@@ -11,3 +11,4 @@ pub mod Messages
 pub mod Traces
 pub mod Spellings
 pub mod Laws
+pub mod Limits

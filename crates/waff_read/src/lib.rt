@@ -4,7 +4,7 @@
 //!   types), `affinities` (the tree) and `spaces` (the rows of a layout); `hier_error` has what it refuses.
 //! - `trace`: the reader of traces, over `message` (one record), `ops` (the operations of a message) and `op` (one
 //!   operation); `trace_fault` has what it refuses.
-//! - `laws`: what holds of all files that are accepted or refused.
+//! - `laws`: what holds of all files that are accepted or refused; `limit_laws`: that what is read is within the limits.
 //!
 //! What the files stand for is defined in `specs/`. Of a hierarchy: `Hierarchies` (whole files), over `Documents`, `Shapes`,
 //! `Affinities` and `Spaces`. Of a trace: `Traces` (whole texts), over `Messages` (records) and `Ops` (operations as they are
@@ -16,6 +16,7 @@ mod document;
 mod hier_error;
 mod hierarchy;
 pub mod laws;
+pub mod limit_laws;
 mod message;
 mod names;
 mod op;

@@ -20,7 +20,7 @@ pub refined_is_no_longer : (classical hierarchical : Hierarchy) (coarse fine : L
     → LeastIsNoLonger (IsOrdered hierarchical.tree fine) (IsOrdered classical.tree coarse) work
     → of_hierarchical.unlimited.length ≤ of_classical.unlimited.length
 refined_is_no_longer classical hierarchical coarse fine work k of_classical of_hierarchical one other no_longer =
-    let shorter = no_longer (start_of other.starts) (start_of one.starts) other.least one.least in
+    let shorter = no_longer (start_of other.starts) (start_of one.starts) other.certified.least one.certified.least in
     rw (one.unlimited, other.unlimited) shorter
 
 -- what a reader of traces refuses for a comparison, where the hierarchies are accepted

@@ -1,2 +1,5 @@
+pub mod CertificateLemmas
 pub mod ComparisonLemmas
 pub mod LinesLemmas
+pub mod LineLaws
+pub mod Uniqueness

@@ -1,5 +1,5 @@
 -- What is printed where a classical and a hierarchical hierarchy are compared on one trace.
-use Rattle.std.specs.Prelude.{◌≡◌, ℕ, ◌-◌, ◌*◌, ◌≤◌, ◌⊎◌, ◌↔◌, Bool, true, false, IsTrue, List, [], ◌∷◌, ◌++◌, Some, None, Ok, Err, codes, decimal}
+use Rattle.std.specs.Prelude.{◌≡◌, ℕ, ◌≤◌, ◌⊎◌, ◌↔◌, Bool, true, false, IsTrue, List, [], ◌∷◌, ◌++◌, Some, None, Ok, Err, codes, decimal}
 use Rattle.waff_model.specs.Layout.{Hierarchy, SameSpaces}
 use Rattle.waff_model.specs.Messages.{Arrivals}
 use Rattle.waff_model.specs.declared.kind.Kind.{Kind}
@@ -8,17 +8,13 @@ use Rattle.waff_model.specs.declared.message.Version.{Version}
 use Rattle.waff_model.specs.declared.message.Version.TheVariants.{V1, V2}
 use Rattle.waff_read.specs.Hierarchies.{hierarchy_of}
 use Rattle.waff_read.specs.Traces.{trace_of}
-use Rattle.waff_assign.specs.Lowest.{AreLowest}
+use Rattle.waff_assign.specs.Lowest.{IsAssignment}
 use Rattle.waff_assign.specs.Order.{IsOrdered, Refines}
-use Rattle.waff_plan.specs.Chain.{IsPrinted}
-use Rattle.waff_plan.specs.Obeys.{IsLeast}
 use Rattle.waff_plan.specs.Timing.{start_of}
 use Rattle.waff_plan.specs.Totals.{totals_of}
-use Rattle.waff_plan.specs.Work.{Work, IsNumber, length_of, total_of}
-use Rattle.waff_plan.specs.Workers.{IsWorkerPlan}
+use Rattle.waff_plan.specs.Work.{Work, total_of}
 use Rattle.waff_plan.specs.declared.totals.Totals.{Totals}
-use Rattle.waff_plan.specs.Bound.{IsWithinBound}
-use Rattle.waff_list.specs.ListRule.{IsListPlan}
+use Rattle.waff_tool.specs.Certificates.{IsBounded, IsCertified}
 use Rattle.waff_tool.specs.Commands.{work_in}
 use Rattle.waff_plan_text.specs.Lines.{text_of}
 use Rattle.waff_tool.specs.declared.fault.ToolError.{ToolError}
@@ -26,23 +22,14 @@ use Rattle.waff_tool.specs.declared.fault.ToolError.TheVariants as tool
 use Rattle.waff_tool.specs.declared.measures.Measured.{Measured}
 
 -- what is told of a trace under one hierarchy: of its least plan, and of its list plan for k workers, each with its printed
--- chain; the list plan is within the list bound of its chain, and at most twice as long as any worker plan for k, or 2 - 1/k
--- times where no message has a release
+-- chain
 pub record IsMeasured (layout : Hierarchy) (assigned : List ℕ) (work : Work) (k : ℕ) (measured : Measured) : Type 0 where
   pub starts : List ℕ
   pub chain : List ℕ
   pub list_starts : List ℕ
   pub list_chain : List ℕ
-  pub least : IsLeast (IsOrdered layout.tree assigned) work (start_of starts)
-  pub printed : IsPrinted (IsOrdered layout.tree assigned) work (start_of starts) chain
-  pub list : IsListPlan (IsOrdered layout.tree assigned) work k (start_of list_starts)
-  pub list_printed : IsPrinted (IsOrdered layout.tree assigned) work (start_of list_starts) list_chain
-  pub bound : IsWithinBound work k (start_of list_starts) list_chain
-  pub twice : (other : ℕ → ℕ) → IsWorkerPlan (IsOrdered layout.tree assigned) work k other
-      → k * length_of work (start_of list_starts) ≤ 2 * k * length_of work other
-  pub ratio : ((m : ℕ) → IsNumber work m → work.release m ≡ 0)
-      → (other : ℕ → ℕ) → IsWorkerPlan (IsOrdered layout.tree assigned) work k other
-      → k * length_of work (start_of list_starts) ≤ (2 * k - 1) * length_of work other
+  pub certified : IsCertified (IsOrdered layout.tree assigned) work (start_of starts) chain
+  pub bounded : IsBounded (IsOrdered layout.tree assigned) work k (start_of list_starts) list_chain
   pub kind : measured.kind ≡ layout.kind
   pub unlimited : measured.unlimited ≡ totals_of None work (start_of starts) chain
   pub listed : measured.listed ≡ totals_of (Some k) work (start_of list_starts) list_chain
@@ -96,8 +83,8 @@ pub record IsCompared (classical hierarchical : Hierarchy) (trace : Arrivals) (k
   pub of_classical : Measured
   pub of_hierarchical : Measured
   pub refined : Bool
-  pub coarse_lowest : AreLowest classical trace.messages coarse
-  pub fine_lowest : AreLowest hierarchical trace.messages fine
+  pub coarse_assignment : IsAssignment classical trace.messages coarse
+  pub fine_assignment : IsAssignment hierarchical trace.messages fine
   pub classical_measured : IsMeasured classical coarse (work_in trace) k of_classical
   pub hierarchical_measured : IsMeasured hierarchical fine (work_in trace) k of_hierarchical
   pub told : IsTrue refined ↔ Refines hierarchical.tree fine classical.tree coarse

@@ -9,6 +9,7 @@ mod fault;
 mod fault_names;
 mod measures;
 mod output;
+pub mod unique;
 mod verdict_line;
 
 pub use checks::{check_text, verdict_status};

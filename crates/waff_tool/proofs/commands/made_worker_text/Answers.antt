@@ -1,11 +1,14 @@
 use Rattle.std.proofs.Common.{◌≡◌, ℕ, List, Result, Ok, Err, IfOk, string_bytes, ◌∙◌, ap}
 use Rattle.waff_model.specs.declared.message.Version.{Version}
 use Rattle.waff_model.specs.Tree.{Node}
+use Rattle.waff_assign.specs.Order.{IsOrdered}
 use Rattle.waff_plan.specs.Timetable.{Timetable}
 use Rattle.waff_plan.specs.declared.timing.Timing.{Timing}
 use Rattle.waff_plan.specs.Timing.{work_of, start_of}
 use Rattle.waff_plan_text.specs.Lines.{text_of}
 use Rattle.waff_plan_text.specs.Spelling.{worker_lines}
+use Rattle.waff_tool.specs.Commands.{work_in}
+use Rattle.waff_tool.proofs.CertificateLemmas.{bounded, pairs_forward}
 use Rattle.waff_tool.proofs.commands.made_worker_text.Goals as goal
 
 on_ok : {A E : Type 0} (P Q : A → Type 0) (r : Result A E) → IfOk r P → ((a : A) → P a → Q a) → IfOk r Q
@@ -19,12 +22,12 @@ returns c =
     let assigned = c.args.accepted.now.assigned in
     let tree = c.tree-tree.ensures in
     let timings = c.in_ok-made.ensures.timings in
-    let workers = c.in_ok-made.ensures.workers in
     let plan = c.needs_make_the_same_plans.ensures c.tree-tree.result.now assigned c.in_ok-needs.needs
     (work_of made.table.timings) c.args.k (start_of made.table.starts) c.in_ok-needs.ensures.needs
     c.in_ok-made.ensures.follows in
-    let bound = c.in_ok-chain.ensures.bound c.in_ok-needs.needs c.in_ok-needs.ensures.needs
-    (rw workers c.in_ok-made.ensures.follows) in
+    let list = rw (tree, timings) at plan in
+    let printed = rw (tree, timings) at c.in_ok-chain.ensures.printed in
+    let forward = pairs_forward c.args.accepted.now.layout.tree assigned c.args.accepted.now.trace.messages c.requires.lengths in
     let version = c.args.accepted.now.trace.version in
     let layout = c.args.accepted.now.layout.tree in
     let text_for : Version → List Node → List Timing → List ℕ → List ℕ → List ℕ → List ℕ = λ version tree timings starts seats chain. text_of
@@ -40,10 +43,9 @@ returns c =
       workers = made.seats;
       chain = chain.messages;
       accepts = accepts;
-      list = rw (tree, timings) at plan;
+      bounded = bounded (IsOrdered c.args.accepted.now.layout.tree assigned) (work_in c.args.accepted.now.trace) c.args.k
+          (start_of made.table.starts) chain.messages c.requires.some forward list printed;
       seated = rw timings at c.in_ok-made.ensures.seated;
-      printed = rw (tree, timings) at c.in_ok-chain.ensures.printed;
-      bound = rw (workers, c.in_ok-chain.ensures.release, c.in_ok-chain.ensures.cost, timings) at bound;
       lines = lines ∙ ap (λ v. text_for v c.tree-tree.result.now c.plan.result.now.timings c.plan.result.now.starts c.seats.result.now c.messages.result.now) c.version-version.ensures
           ∙ ap (λ t. text_for version t c.plan.result.now.timings c.plan.result.now.starts c.seats.result.now c.messages.result.now) tree
           ∙ ap (λ (table : Timetable). text_for version layout table.timings table.starts c.seats.result.now c.messages.result.now) c.plan.ensures.plan

@@ -1,0 +1,141 @@
+-- A draw keeps the rule.
+use Rattle.std.proofs.Common.{◌≡◌, ◌≢◌, ◌⊎◌, inl, inr, ℕ, zero, suc, ◌+◌, ◌-◌, ◌%◌, ◌^◌, ◌<◌, ◌≤◌, true, List, [], ◌∷◌, ◌++◌, Option, Some, None, All, AllPairs, Contains, length, set, slice_get, slice_index, get_or, refl, ap, sym, ◌∙◌, subst, ⊎_elim, arith, length-set}
+use Rattle.std.proofs.Math.Nat.{mod-eq_of_lt}
+use Rattle.std.proofs.lemmas.List.{get_or-set_same, get_or-set_other}
+use Rattle.std.proofs.lemmas.List.Elements.{All-weaker, All-push, Contains-push_cases}
+use Rattle.std.proofs.lemmas.List.Quantifiers.{all_pairs_push}
+use mathlib.Core.Option.{some}
+use lib.ListN.{get_elem?}
+use Rattle.atomic_table.specs.Table.{State, Allows, keeps}
+use Rattle.waff_core.specs.Job.{JobValue, IsJob, IsIn}
+use Rattle.waff_core.specs.Machine.{Core, IsAway, Runs, opening, phase_of, with_phase, phase_drawn, drawn_by}
+use Rattle.waff_core.specs.declared.event.Event.{Event}
+use Rattle.waff_core.specs.declared.event.Event.TheVariants.{Draw}
+use Rattle.waff_core.specs.declared.phase.Phase.{Phase}
+use Rattle.waff_core.specs.declared.phase.Phase.TheVariants.{Free, Drawn, Running, Ended}
+use Rattle.waff_board.specs.Shows.{IsRunning, IsStatus, Words, Slots}
+use Rattle.waff_board.specs.Seats.{Shown, Seats}
+use Rattle.waff_board.specs.Rule.{Holds, IsSetup, MAX_SEATS}
+use Rattle.waff_board.specs.Plays.{drawn_view}
+use Rattle.waff_board.specs.declared.view.Setup.{Setup}
+use Rattle.waff_board.specs.declared.view.View.{View}
+use Rattle.waff_board.proofs.Known.{known, runs_more}
+use Rattle.waff_core.proofs.Phases.{phase_same, phase_other}
+use Rattle.waff_board.proofs.Phases.{IsStill, runs_before, runs_after}
+use Rattle.waff_board.proofs.Moves.{Moves, seats_moved}
+
+free_still : IsStill Free
+free_still n same = cc
+
+drawn_still : (message : Option ℕ) → IsStill (phase_drawn message)
+drawn_still (Some m) n same = cc
+drawn_still None n same = cc
+
+module _ (job : JobValue) (core : Core) (x : ℕ) (free : phase_of core.phases x ≡ Some Free) where
+  run_before : (y n : ℕ) → phase_of (drawn_by job core x).phases y ≡ Some (Running n) → phase_of core.phases y ≡ Some (Running n)
+  run_before = runs_before core.phases x Free (phase_drawn (slice_get job.order core.drawn)) free (drawn_still (slice_get job.order core.drawn))
+
+  run_after : (y n : ℕ) → phase_of core.phases y ≡ Some (Running n) → phase_of (drawn_by job core x).phases y ≡ Some (Running n)
+  run_after = runs_after core.phases x Free (phase_drawn (slice_get job.order core.drawn)) free free_still
+
+  words_drawn : (words : List ℕ) → Words job core words → Words job (drawn_by job core x) (set words 0 (core.drawn + 1))
+  words_drawn words h = record {
+    count = length-set words 0 (core.drawn + 1) ∙ h.count;
+    draws = get_or-set_same words 0 (core.drawn + 1) 0 (let count = h.count in omega (arith, count));
+    statuses = λ n within.
+        let old : IsStatus core n (slice_index words n) = h.statuses n within in
+        let other : n ≢ 0 = (λ none. let from = within.from in omega (arith, from, none)) in
+        subst (IsStatus (drawn_by job core x) n) (sym (get_or-set_other words 0 n (core.drawn + 1) 0 other))
+        (record {
+          done = old.done;
+          running = (
+            (λ one. let run = old.running.0 one in record { actor = run.actor; running = run_after run.actor n run.running }),
+            (λ run. old.running.1 (record { actor = run.actor; running = run_before run.actor n run.running })),
+          );
+          known = old.known;
+        });
+  }
+
+  away_before : (a : ℕ) → IsAway job (drawn_by job core x) a → IsAway job core a
+  away_before a away = record {
+    actor = away.actor;
+    message = away.message;
+    running = run_before away.actor away.message away.running;
+    owner = away.owner;
+  }
+
+  away_after : (a : ℕ) → IsAway job core a → IsAway job (drawn_by job core x) a
+  away_after a away = record {
+    actor = away.actor;
+    message = away.message;
+    running = run_after away.actor away.message away.running;
+    owner = away.owner;
+  }
+
+  slots_drawn : {S : Type 0} (items : S → List ℕ) (homes : List (mathlib.Core.Option.Option S)) → Slots items job core homes
+      → Slots items job (drawn_by job core x) homes
+  slots_drawn items homes h = record {
+    count = h.count;
+    home = λ a within there. h.home a within (λ away. there (away_after a away));
+    away = λ a away. h.away a (away_before a away);
+  }
+
+  moves_drawn : Moves core x (drawn_by job core x)
+  moves_drawn = record {
+    others = λ y other. phase_other core.phases x y Free (phase_drawn (slice_get job.order core.drawn)) free other;
+    drawn = omega arith;
+    done = λ n done. done;
+  }
+
+  shown_drawn : (v : View) → v.actor ≡ x → Shown job core v → Shown job (drawn_by job core x) (drawn_view v core.drawn)
+  shown_drawn v actor h = record {
+    same = h.same;
+    phase = subst (λ (j : JobValue). phase_of (drawn_by job core x).phases v.actor ≡ Some (phase_drawn (slice_get j.order core.drawn))) (sym h.same)
+        (subst (λ y. phase_of (drawn_by job core x).phases y ≡ Some (phase_drawn (slice_get job.order core.drawn))) (sym actor)
+        (phase_same core.phases x Free (phase_drawn (slice_get job.order core.drawn)) free));
+    below = All-push (λ p. p < core.drawn + 1) v.draws core.drawn
+        (All-weaker (λ p. p < core.drawn) (λ p. p < core.drawn + 1) (λ p before. omega (arith, before)) v.draws h.below) (omega arith);
+    different = all_pairs_push (λ p q. p ≢ q) v.draws core.drawn h.different
+        (λ k d within same. let before = h.below k d within in absurd (omega (arith, before, same)));
+    seen = h.seen;
+  }
+
+module _ (setup : Setup) where
+  -- a free seat may draw
+  pub draws : {S : Type 0} (items : S → List ℕ) (slots id : ℕ) (v : View) (held : List (ℕ × S)) → v.phase ≡ Free
+      → Allows (Holds items setup) slots id (v, held) 0 (λ n. (n + 1) % 2 ^ 64) (λ found after. after ≡ (drawn_view v found, held))
+  draws {S} items slots id v held is_free s h sized at small =
+      let job = setup.job in
+      let core = h.core in
+      let x = v.actor in
+      let mine : Shown job core v = h.seats.each id v at in
+      let free : phase_of core.phases x ≡ Some Free = subst (λ p. phase_of core.phases x ≡ Some p) is_free mine.phase in
+      let next : Core = drawn_by job core x in
+      let events : List Event = h.events ++ Draw x ∷ [] in
+      let reached : Runs job (opening setup.seats) events next
+      = runs_more job (opening setup.seats) core next h.events (Draw x) h.reached (free, refl) in
+      let drawn : slice_index s.words 0 ≡ core.drawn = h.words.draws in
+      let limit : core.drawn + 1 ≤ length job.ops + setup.seats = (known job h.told.job setup.seats events next reached).drawn in
+      let short = h.told.short in
+      let few = h.told.few in
+      let fits : (core.drawn + 1) % 2 ^ 64 ≡ core.drawn + 1 = mod-eq_of_lt (omega (arith, limit, short, few)) in
+      let word : (slice_index s.words 0 + 1) % 2 ^ 64 ≡ core.drawn + 1 = rw drawn fits in (
+        drawn_view v (slice_index s.words 0),
+        keeps,
+        tt,
+        record {
+          told = h.told;
+          events = events;
+          core = next;
+          reached = reached;
+          words = subst (λ k. Words job next (set s.words 0 k)) (sym word) (words_drawn job core x free s.words h.words);
+          slots = slots_drawn job core x free items s.homes h.slots;
+          seats = subst (λ p. Seats setup next (set s.views id (drawn_view v p))) (sym drawn)
+              (seats_moved setup core next s.views id v (drawn_view v core.drawn) at (moves_drawn job core x free) h.seats refl refl
+              (shown_drawn job core x free v refl mine)
+              (λ p there. ⊎_elim {C = Contains v.draws p ⊎ (p ≡ core.drawn)}
+              (λ (old : Contains v.draws p). inl old) (λ (new : core.drawn ≡ p). inr (sym new))
+              (Contains-push_cases v.draws core.drawn p there)));
+        },
+        refl,
+      )

@@ -1,0 +1,17 @@
+pub mod Phases
+pub mod Known
+pub mod Moves
+pub mod Seen
+pub mod Draws
+pub mod Numbers
+pub mod Lookings
+pub mod Carrying
+pub mod Grants
+pub mod Owners
+pub mod Handing
+pub mod Begins
+pub mod Finishes
+pub mod Splits
+pub mod Opens
+pub mod Closes
+pub mod Looks

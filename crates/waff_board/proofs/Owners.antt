@@ -1,0 +1,45 @@
+-- Lists of affinities in which none stands twice.
+use Rattle.std.proofs.Common.{◌≡◌, ◌≢◌, ◌⊎◌, inl, inr, ℕ, zero, suc, ◌+◌, ◌<◌, ◌≤◌, List, [], ◌∷◌, Contains, AllPairs, length, get_or, refl, ap, sym, ◌∙◌, subst, ⊎_elim, arith}
+use mathlib.Core.Logic.{dite}
+use native.Mathlib.Decide.{ℕ_discrete}
+use Rattle.std.specs.List.Sorted.{IsStrictlyIncreasing}
+use Rattle.std.proofs.lemmas.List.Kept.{AllPairs-from_increasing}
+
+pub in_cases : (first : ℕ) (rest : List ℕ) (a : ℕ) → Contains (first ∷ rest) a → (first ≡ a) ⊎ Contains rest a
+in_cases first rest a (zero, within, is) = inl is
+in_cases first rest a (suc k, within, is) = inr (k, omega (arith, within), is)
+
+pub in_rest : (first : ℕ) (rest : List ℕ) (a : ℕ) → Contains rest a → Contains (first ∷ rest) a
+in_rest first rest a (k, within, is) = (suc k, omega (arith, within), is)
+
+pub in_first : (first : ℕ) (rest : List ℕ) → Contains (first ∷ rest) first
+in_first first rest = (0, omega arith, refl)
+
+pub in_none : (a : ℕ) → ¬ Contains [] a
+in_none a (k, within, is) = omega (arith, within)
+
+-- a stands in the list, or not
+pub decide_in : (list : List ℕ) (a : ℕ) → Contains list a ⊎ ¬ Contains list a
+decide_in [] a = inr (in_none a)
+decide_in (first ∷ rest) a = dite (ℕ_discrete first a)
+    (λ same. inl (subst (λ b. Contains (first ∷ rest) b) same (in_first first rest)))
+    (λ other. ⊎_elim {C = Contains (first ∷ rest) a ⊎ ¬ Contains (first ∷ rest) a}
+    (λ (there : Contains rest a). inl (in_rest first rest a there))
+    (λ (gone : ¬ Contains rest a). inr (λ within. ⊎_elim {C = ⊥} other gone (in_cases first rest a within)))
+    (decide_in rest a))
+
+-- no affinity stands twice
+abbrev pub AreApart : List ℕ → Type 0
+AreApart [] = Unit {0}
+AreApart (first ∷ rest) = ¬ Contains rest first × AreApart rest
+
+apart_from_pairs : (list : List ℕ) → AllPairs (λ a b. a < b) list → AreApart list
+apart_from_pairs [] pairs = tt
+apart_from_pairs (first ∷ rest) pairs = (
+  (λ (k, within, is). let less : first < get_or rest k first = pairs 0 (suc k) first (omega arith) (omega (arith, within)) in
+      absurd (omega (arith, less, is))),
+  apart_from_pairs rest (λ i j d before within. pairs (suc i) (suc j) d (omega (arith, before)) (omega (arith, within))),
+)
+
+pub rising_apart : (list : List ℕ) → IsStrictlyIncreasing list → AreApart list
+rising_apart list rising = apart_from_pairs list (AllPairs-from_increasing list rising)

@@ -1,0 +1,5 @@
+pub mod Shows
+pub mod Seats
+pub mod Rule
+pub mod Plays
+pub mod Calls

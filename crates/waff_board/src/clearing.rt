@@ -1,0 +1,92 @@
+//! Looking at the needs of a message.
+
+ghost use Rattle.std.specs.Prelude.{◌≡◌, ◌≤◌, ◌<◌, ℕ, All, Option, IfSome, find, false, length, not, slice_index_or};
+ghost use Rattle.waff_order.specs.Needs.{needs_of};
+ghost use Rattle.waff_board.specs.Calls.{IsOf, Looked, LooksOver, ClearTells};
+
+use crate::board::Board;
+use crate::hand::Hand;
+use crate::plays::LookStep;
+use crate::tokens::{Cleared, Drawn};
+
+/// What a look at the needs gives.
+#[derive(Drop)]
+pub enum Clear {
+    /// All needs are done.
+    Go(Cleared),
+    /// The first need that the seat has not seen done.
+    Wait { drawn: Drawn, on: u32 },
+}
+
+impl Board {
+    /// Looks once at each need of the message that the seat has not seen done.
+    pub fn clear(&self, drawn: Drawn) -> Clear
+        requires { IsOf self.now drawn.hand }
+        ensures { ClearTells self.now drawn.hand.chair.me.0 drawn.message result }
+    {
+        let Drawn { hand, message } = drawn;
+        let needs = self.job().needs(message);
+        let hand = self.look_over(hand, needs);
+        match first_unseen(hand.seen.as_slice(), needs) {
+            Some(on) => Clear::Wait {
+                drawn: Drawn { hand, message },
+                on,
+            },
+            None => Clear::Go(Cleared { hand, message }),
+        }
+    }
+
+    /// Looks once at each of the messages that the seat has not seen done.
+    fn look_over(&self, mut hand: Hand, messages: &[u32]) -> Hand
+        requires of { IsOf self.now hand }
+        requires known { All (λ n. (1 ≤ n) × (n ≤ length self.now.setup.job.ops)) messages.now }
+        ensures looks { LooksOver hand.chair.me.0 messages.now result.chair.me.0 }
+        ensures held { result.chair.me.1 ≡ hand.chair.me.1 }
+        ensures of { IsOf self.now result }
+    {
+        for n in messages {
+            if !hand.seen[*n as usize] {
+                hand = self.look(hand, *n);
+            }
+        }
+        hand
+    }
+
+    /// Looks at message `n`, and marks it where it is done.
+    pub(crate) fn look(&self, hand: Hand, n: u32) -> Hand
+        requires of { IsOf self.now hand }
+        requires from { 1 ≤ n }
+        requires to { n ≤ length self.now.setup.job.ops }
+        ensures view { Looked hand.chair.me.0 n result.chair.me.0 }
+        ensures held { result.chair.me.1 ≡ hand.chair.me.1 }
+        ensures of { IsOf self.now result }
+    {
+        let Hand {
+            mut chair,
+            mut seen,
+            places,
+        } = hand;
+        let word = self.table.shared.load::<LookStep>(&mut chair, n as usize);
+        if word == 2 {
+            seen[n as usize] = true;
+        }
+        Hand {
+            chair,
+            seen,
+            places,
+        }
+    }
+}
+
+/// The first of the messages that is not marked.
+fn first_unseen(seen: &[bool], messages: &[u32]) -> Option<u32>
+    requires { All (λ n. n < length seen.now) messages.now }
+    ensures { result ≡ find (λ n. not (slice_index_or seen.now n false)) messages.now }
+{
+    for n in messages {
+        if !seen[*n as usize] {
+            return Some(*n);
+        }
+    }
+    None
+}

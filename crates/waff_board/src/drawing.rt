@@ -1,0 +1,57 @@
+//! Drawing the next message.
+
+ghost use Rattle.std.specs.Prelude.{◌≡◌, ◌<◌, ◌≤◌, IfNone, IfSome, length, slice_get};
+ghost use Rattle.waff_board.specs.Calls.{IsOf, DrawTells};
+
+use crate::board::Board;
+use crate::hand::Hand;
+use crate::plays::DrawStep;
+use crate::tokens::{Drawn, EndSeat, Seat};
+
+/// What a draw gives.
+#[derive(Drop)]
+pub enum Draw {
+    /// The message at the number's place of the order.
+    Got(Drawn),
+    /// The order is used up.
+    Over(EndSeat),
+}
+
+impl Board {
+    /// Draws the next number.
+    pub fn draw(&self, seat: Seat) -> Draw
+        requires { IsOf self.now seat.hand }
+        ensures { DrawTells self.now seat.hand.chair.me.0 result }
+    {
+        let Seat { hand } = seat;
+        let Hand {
+            mut chair,
+            seen,
+            places,
+        } = hand;
+        let number = self.table.shared.fetch_add::<DrawStep>(&mut chair, 0, 1);
+        let hand = Hand {
+            chair,
+            seen,
+            places,
+        };
+        match self.message_at(number) {
+            Some(message) => Draw::Got(Drawn { hand, message }),
+            None => Draw::Over(EndSeat { hand }),
+        }
+    }
+
+    /// The message that this number draws.
+    fn message_at(&self, number: u64) -> Option<u32>
+        ensures drawn { slice_get self.now.setup.job.order number ≡ result }
+        ensures some { IfSome result (λ m. (1 ≤ m) × (m ≤ length self.now.setup.job.ops) × (number < length self.now.setup.job.ops)) }
+        ensures none { IfNone result (length self.now.setup.job.ops ≤ number) }
+    {
+        let job = &self.setup.job;
+        if number < job.len() as u64 {
+            job.drawn_at(number as u32)
+        } else {
+            None
+        }
+    }
+}

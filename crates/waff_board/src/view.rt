@@ -1,0 +1,31 @@
+//! What seats know, and what a board is told.
+
+use std::collections::LinkedList;
+use waff_core::{Job, Phase};
+
+/// What a seat knows, which its own steps alone change. No value of it is made: it stands in the proofs.
+pub struct View {
+    /// The actor that the seat is, from 1.
+    pub actor: u32,
+    /// What the actor is at.
+    pub phase: Phase,
+    /// The numbers that it drew.
+    pub draws: LinkedList<u64>,
+    /// The messages that it looked at, each with whether it was done.
+    pub looks: LinkedList<(u32, bool)>,
+    /// The messages that it finished.
+    pub ran: LinkedList<u32>,
+    /// How many actors there are, as far as the first one knows, which makes the others.
+    pub made: u32,
+    /// The job.
+    pub job: Job,
+}
+
+/// What a board is told when it is made.
+#[derive(Drop)]
+pub struct Setup {
+    /// What is replayed.
+    pub job: Job,
+    /// How many seats there are.
+    pub seats: u32,
+}

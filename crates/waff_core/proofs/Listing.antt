@@ -1,0 +1,147 @@
+-- The operations and the owners of messages, one message after another.
+use Rattle.std.proofs.Common.{◌≡◌, ◌≢◌, ℕ, zero, suc, ◌+◌, ◌-◌, ◌*◌, ◌<◌, ◌≤◌, List, [], ◌∷◌, ◌++◌, length, get_or, take, map, All, Contains, eqb, arith, refl, ap, sym, ◌∙◌, subst, ⊎_elim}
+use Rattle.std.specs.List.{flat_map, dedup}
+use Rattle.std.specs.List.Sorted.{IsPermutation, IsSorted}
+use Rattle.std.specs.Ordering.{nat_cmp}
+use Rattle.std.proofs.lemmas.Bool.{cases_eq}
+use Rattle.std.proofs.lemmas.List.{append_assoc, get_or_append_left, get_or-append-add, get_or_push, length-append, length_push, length-map, map-append, flat_map_more, get_or-map, take_more}
+use Rattle.std.proofs.lemmas.List.Elements.{All-contains, Contains-get_or}
+use Rattle.std.proofs.lemmas.List.Kept.{Contains-dedup_nat, Contains-from_dedup}
+use Rattle.std.proofs.lemmas.List.Sorted.{Contains-permutation, IsPermutation-sym}
+use Rattle.std.proofs.lemmas.Map.Keys.{IsStrictlyIncreasing-dedup}
+use Rattle.waff_model.specs.Cells.{cells_of, cells_of_op}
+use Rattle.waff_model.specs.Layout.{Space, IsCell, owner_of}
+use Rattle.waff_model.specs.declared.cell.Cell.{Cell}
+use Rattle.waff_model.specs.declared.op.Op.{Op}
+use Rattle.waff_model.specs.declared.op.Op.TheVariants.{Set, Add, Copy, Swap, Read}
+use Rattle.waff_cells.specs.Serial.{ops_of}
+use Rattle.waff_core.specs.Job.{JobValue, IsJob, IsIn, IsOwner, ListsOwners, owners_of}
+use Rattle.waff_core.specs.Owners.{owners_in, AreOwners}
+
+pub All-left : {X : Type 0} (P : X → Type 0) (xs ys : List X) → All P (xs ++ ys) → All P xs
+All-left P xs ys h k d within =
+    subst P (get_or_append_left xs ys d k within) (h k d (omega (arith, within, length-append xs ys)))
+
+pub All-right : {X : Type 0} (P : X → Type 0) (xs ys : List X) → All P (xs ++ ys) → All P ys
+All-right P xs ys h k d within =
+    subst P (get_or-append-add xs ys k d) (h (length xs + k) d (omega (arith, within, length-append xs ys)))
+
+-- what holds of all that the elements give holds of what each gives
+pub All-flat : {X Y : Type 0} (P : Y → Type 0) (f : X → List Y) (xs : List X) (i : ℕ) (d : X) → i < length xs
+    → All P (flat_map f xs) → All P (f (get_or xs i d))
+All-flat P f [] i d within h = absurd (omega arith)
+All-flat P f (x ∷ xs) zero d within h = All-left P (f x) (flat_map f xs) h
+All-flat P f (x ∷ xs) (suc i) d within h = All-flat P f xs i d (omega arith) (All-right P (f x) (flat_map f xs) h)
+
+-- the owners of the cells of one operation more
+pub owners_more : (before : List ℕ) (spaces : List Space) (ops : List Op) (i : ℕ) (d : Op) → i < length ops
+    → (before ++ owners_in spaces (cells_of (take i ops))) ++ owners_in spaces (cells_of_op (get_or ops i d))
+    ≡ before ++ owners_in spaces (cells_of (take (i + 1) ops))
+owners_more before spaces ops i d within =
+    let f : Cell → ℕ = λ cell. owner_of spaces cell in
+    let op = get_or ops i d in
+    append_assoc before (map f (cells_of (take i ops))) (map f (cells_of_op op))
+    ∙ ap (λ xs. before ++ xs)
+    (sym (map-append f (cells_of (take i ops)) (cells_of_op op))
+    ∙ ap (λ xs. map f xs) (flat_map_more cells_of_op [] (take i ops) op ∙ ap (λ xs. cells_of xs) (sym (take_more ops i d within))))
+
+-- the operations of a message, at its place
+pub ops_of-at : (ops : List (List Op)) (n : ℕ) → 1 ≤ n → ops_of ops n ≡ get_or ops (n - 1) []
+ops_of-at ops zero from = absurd (omega arith)
+ops_of-at ops (suc n) from = let place : n ≡ suc n - 1 = omega arith in ap (λ k. get_or ops k []) place
+
+first_cell : Cell
+first_cell = record { space = 0; index = 0 }
+
+owner_from : (spaces : List Space) (ops : List Op) (a : ℕ) → Contains (owners_in spaces (cells_of ops)) a → IsOwner spaces ops a
+owner_from spaces ops a has =
+    let f : Cell → ℕ = λ cell. owner_of spaces cell in
+    let within : has.0 < length (cells_of ops) = omega (arith, has.1, length-map (cells_of ops) f) in
+    record {
+      cell = get_or (cells_of ops) has.0 first_cell;
+      named = Contains-get_or (cells_of ops) has.0 first_cell within;
+      owned = sym (get_or-map f (cells_of ops) has.0 first_cell a within) ∙ has.2;
+    }
+
+owner_in : (spaces : List Space) (ops : List Op) (a : ℕ) → IsOwner spaces ops a → Contains (owners_in spaces (cells_of ops)) a
+owner_in spaces ops a owner =
+    let f : Cell → ℕ = λ cell. owner_of spaces cell in
+    let k = owner.named.0 in
+    let within : k < length (cells_of ops) = owner.named.1 in (
+      k,
+      omega (arith, within, length-map (cells_of ops) f),
+      get_or-map f (cells_of ops) k owner.cell a within ∙ ap f owner.named.2 ∙ owner.owned,
+    )
+
+-- the owners of all cells, sorted and without those that stand twice
+pub lists_owners : (spaces : List Space) (ops : List Op) (found sorted kept : List ℕ) → found ≡ owners_in spaces (cells_of ops)
+    → IsPermutation found sorted → IsSorted nat_cmp sorted → kept ≡ dedup eqb sorted → ListsOwners spaces ops kept
+lists_owners spaces ops found sorted kept all moved rises is = record {
+  each = λ a. (
+    λ has.
+        owner_from spaces ops a
+        (subst (λ xs. Contains xs a) all
+        (Contains-permutation _ _ a (IsPermutation-sym _ _ moved)
+        (Contains-from_dedup eqb sorted a (subst (λ xs. Contains xs a) is has)))),
+    λ owner.
+        subst (λ xs. Contains xs a) (sym is)
+        (Contains-dedup_nat sorted a
+        (Contains-permutation _ _ a moved (subst (λ xs. Contains xs a) (sym all) (owner_in spaces ops a owner)))),
+  );
+  rising = rw is (IsStrictlyIncreasing-dedup sorted rises);
+}
+
+-- the owners of the first n messages
+pub record AreOwnersUpTo (spaces : List Space) (ops : List (List Op)) (owners : List (List ℕ)) (n : ℕ) : Type 0 where
+  pub count : length owners ≡ n
+  pub each : (m : ℕ) → 1 ≤ m → m ≤ n → ListsOwners spaces (ops_of ops m) (owners_of owners m)
+
+pub owners_none : (spaces : List Space) (ops : List (List Op)) → AreOwnersUpTo spaces ops [] 0
+owners_none spaces ops = record { count = refl; each = λ m from to. absurd (omega (arith, from, to)) }
+
+pub owners_one_more : (spaces : List Space) (ops : List (List Op)) (owners : List (List ℕ)) (n : ℕ) (kept : List ℕ)
+    → AreOwnersUpTo spaces ops owners n → ListsOwners spaces (get_or ops n []) kept → AreOwnersUpTo spaces ops (owners ++ kept ∷ []) (n + 1)
+owners_one_more spaces ops owners n kept h lists = record {
+  count = omega (arith, h.count, length_push owners kept);
+  each = λ m from to.
+      ⊎_elim {C = ListsOwners spaces (ops_of ops m) (owners_of (owners ++ kept ∷ []) m)}
+      (λ (last : m ≡ n + 1).
+      let place : n ≡ m - 1 = omega arith in
+      let here : kept ≡ owners_of (owners ++ kept ∷ []) m = sym (get_or_push owners kept [] (m - 1) (h.count ∙ place)) in
+      let there : get_or ops n [] ≡ ops_of ops m = ap (λ k. get_or ops k []) place ∙ sym (ops_of-at ops m from) in
+      subst (λ xs. ListsOwners spaces (ops_of ops m) xs) here (subst (λ xs. ListsOwners spaces xs kept) there lists))
+      (λ (other : m ≢ n + 1).
+      let before : m ≤ n = omega arith in
+      let within : m - 1 < length owners = omega (arith, h.count) in
+      subst (λ xs. ListsOwners spaces (ops_of ops m) xs) (sym (get_or_append_left owners (kept ∷ []) [] (m - 1) within)) (h.each m from before))
+      (cases_eq m (n + 1));
+}
+
+pub owners_all : (spaces : List Space) (ops : List (List Op)) (owners : List (List ℕ)) (n : ℕ) → n ≡ length ops
+    → AreOwnersUpTo spaces ops owners n → AreOwners spaces ops owners
+owners_all spaces ops owners n all h = record { count = h.count ∙ all; each = λ m from to. h.each m from (omega (arith, to, all)) }
+
+-- an operation names two cells at most
+few_cells : (op : Op) → length (cells_of_op op) ≤ 2
+few_cells (Set cell value) = omega arith
+few_cells (Add cell value) = omega arith
+few_cells (Copy cell source) = omega arith
+few_cells (Swap cell other) = omega arith
+few_cells (Read cell) = omega arith
+
+pub few_owners : (spaces : List Space) (ops : List Op) → length (owners_in spaces (cells_of ops)) ≤ 2 * length ops
+few_owners spaces [] = omega arith
+few_owners spaces (op ∷ ops) =
+    let f : Cell → ℕ = λ cell. owner_of spaces cell in
+    let first = few_cells op in
+    let rest : length (map f (cells_of ops)) ≤ 2 * length ops = few_owners spaces ops in
+    omega (arith, first, rest, length-map (cells_of ops) f, length-map (cells_of (op ∷ ops)) f, length-append (cells_of_op op) (cells_of ops))
+
+-- the cells of a message's operations are those of the layout
+pub cell_listed : (job : JobValue) → IsJob job → (n : ℕ) → IsIn job n → (cell : Cell) → Contains (cells_of (ops_of job.ops n)) cell
+    → IsCell job.layout.spaces cell
+cell_listed job is n inside cell named =
+    let within : n - 1 < length job.ops = omega (arith, inside.from, inside.to) in
+    let all : All (IsCell job.layout.spaces) (cells_of (get_or job.ops (n - 1) [])) = is.cells (n - 1) [] within in
+    All-contains (IsCell job.layout.spaces) (cells_of (ops_of job.ops n)) cell
+    (subst (λ ops. All (IsCell job.layout.spaces) (cells_of ops)) (sym (ops_of-at job.ops n inside.from)) all) named
