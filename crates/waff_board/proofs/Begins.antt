@@ -1,31 +1,30 @@
 -- A begin keeps the rule.
-use Rattle.std.proofs.Common.{◌≡◌, ◌≢◌, ◌⊎◌, inl, inr, ⊎_elim, ℕ, zero, suc, ◌+◌, ◌-◌, ◌<◌, ◌≤◌, true, true≢false, List, [], ◌∷◌, ◌++◌, Some, Contains, length, set, slice_index, refl, ap, sym, ◌∙◌, subst, arith, length-set}
+use Rattle.std.proofs.Common.{◌≡◌, ◌⊎◌, inl, inr, ⊎_elim, ℕ, ◌-◌, true, true≢false, List, [], ◌∷◌, ◌++◌, Some, Contains, set, slice_index, refl, ap, sym, ◌∙◌, subst, arith, length-set}
 use Rattle.std.proofs.lemmas.List.{get_or-set_same, get_or-set_other}
 use Rattle.std.proofs.lemmas.Option.{same_Some}
 use mathlib.Core.Option.{Option, some, none}
 use mathlib.Core.Logic.{dite}
 use native.Mathlib.Decide.{ℕ_discrete}
 use lib.ListN.{get_elem?}
-use Rattle.atomic_table.specs.Table.{State, Allows, homes_after, carried_after}
+use Rattle.atomic_table.specs.Table.{Allows, homes_after, carried_after}
 use Rattle.waff_order.specs.Needs.{IsNeed}
 use Rattle.waff_cells.specs.Meaning.{Cells}
 use Rattle.waff_cells.specs.Serial.{SameParcel, ops_of, serial}
-use Rattle.waff_core.specs.Job.{JobValue, IsJob, IsIn, IsOwner, ListsOwners, owners_of}
-use Rattle.waff_core.specs.Machine.{Core, IsAway, IsClear, Runs, opening, phase_of, with_phase, begun_by}
-use Rattle.waff_core.specs.declared.event.Event.{Event}
+use Rattle.waff_core.specs.Job.{JobValue, IsJob, IsIn, IsOwner, owners_of}
+use Rattle.waff_core.specs.Machine.{Core, IsAway, IsClear, opening, phase_of, begun_by}
 use Rattle.waff_core.specs.declared.event.Event.TheVariants.{Begin}
 use Rattle.waff_core.specs.declared.phase.Phase.TheVariants.{Drawn, Running}
-use Rattle.waff_core.proofs.Phases.{Has, phase_same, phase_other}
+use Rattle.waff_core.proofs.Phases.{phase_same, phase_other}
 use Rattle.waff_cells.specs.Parcel.{IsParcel}
-use Rattle.waff_board.specs.Shows.{IsRunning, IsStatus, Words, Slots}
-use Rattle.waff_board.specs.Seats.{HasSeen, Shown, Seats}
+use Rattle.waff_board.specs.Shows.{IsStatus, Words, Slots}
+use Rattle.waff_board.specs.Seats.{HasSeen, Shown}
 use Rattle.waff_board.specs.Rule.{Holds}
 use Rattle.waff_board.specs.Plays.{Parcels, begun_view}
 use Rattle.waff_board.specs.declared.view.Setup.{Setup}
 use Rattle.waff_board.specs.declared.view.View.{View}
 use Rattle.waff_board.proofs.Known.{Known, known, runs_more}
-use Rattle.waff_board.proofs.Moves.{Moves, at_within, seats_moved}
-use Rattle.waff_board.proofs.Owners.{AreApart, decide_in, rising_apart}
+use Rattle.waff_board.proofs.Moves.{Moves, seats_moved}
+use Rattle.waff_board.proofs.Owners.{AreApart, rising_apart}
 use Rattle.waff_board.proofs.Phases.{IsStill, runs_after}
 use Rattle.waff_board.proofs.Handing.{IsHome, Taken, take_all}
 

@@ -1,10 +1,9 @@
 -- Taking parcels out of the slots that a seat holds, one after another, and putting them in.
-use Rattle.std.proofs.Common.{add-one, get_or-drop, drop-drop, drop_of_length-le, take_all, ◌≡◌, ◌≢◌, ℕ, zero, suc, ◌+◌, ◌-◌, ◌<◌, ◌≤◌, List, [], ◌∷◌, ◌++◌, Some, map, length, get_or, take, drop, slice_get, slice_index_or, append_assoc, append-nil, refl, sym, ap, ◌∙◌, subst, arith}
+use Rattle.std.proofs.Common.{add-one, get_or-drop, drop-drop, drop_of_length-le, take_all, ◌≡◌, ℕ, zero, suc, ◌+◌, ◌<◌, ◌≤◌, List, [], ◌∷◌, ◌++◌, Some, map, length, get_or, take, drop, slice_get, slice_index_or, append_assoc, refl, sym, ap, ◌∙◌, subst, arith}
 use mathlib.Core.List.{map-append}
 use Rattle.std.proofs.Math.Seq.{drop-cons}
 use Rattle.std.proofs.lemmas.List.{take_more}
 use Rattle.std.proofs.lemmas.Option.{none-some, same_Some}
-use Rattle.std.specs.List.{AllZip}
 use Rattle.atomic_table.specs.Table.{Me, rest as rest_of, turned}
 use Rattle.waff_model.specs.Layout.{Space}
 use Rattle.waff_cells.specs.Meaning.{Cells}

@@ -1,12 +1,12 @@
 -- What a closed board holds.
-use Rattle.std.proofs.Common.{inr, ◌≡◌, ◌≢◌, ◌⊎◌, ℕ, ◌+◌, ◌<◌, ◌≤◌, true, true≢false, List, Some, length, slice_index, refl, ap, sym, ◌∙◌, subst, arith}
+use Rattle.std.proofs.Common.{inr, ◌≡◌, ℕ, ◌<◌, true, true≢false, List, length, slice_index, sym, ◌∙◌, subst}
 use mathlib.Core.Option.{some}
 use lib.ListN.{get_elem?}
-use Rattle.atomic_table.specs.Table.{State, Final, Seen}
+use Rattle.atomic_table.specs.Table.{Final, Seen}
 use Rattle.waff_cells.specs.Meaning.{Cells}
-use Rattle.waff_cells.specs.Serial.{SameParcel, serial}
+use Rattle.waff_cells.specs.Serial.{serial}
 use Rattle.waff_core.specs.Job.{JobValue, IsIn}
-use Rattle.waff_core.specs.Machine.{Core, IsAway}
+use Rattle.waff_core.specs.Machine.{IsAway}
 use Rattle.waff_cells.specs.Parcel.{IsParcel}
 use Rattle.waff_board.specs.Seats.{HasSeen, Shown}
 use Rattle.waff_board.specs.Rule.{Holds}

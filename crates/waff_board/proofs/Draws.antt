@@ -1,21 +1,19 @@
 -- A draw keeps the rule.
-use Rattle.std.proofs.Common.{◌≡◌, ◌≢◌, ◌⊎◌, inl, inr, ℕ, zero, suc, ◌+◌, ◌-◌, ◌%◌, ◌^◌, ◌<◌, ◌≤◌, true, List, [], ◌∷◌, ◌++◌, Option, Some, None, All, AllPairs, Contains, length, set, slice_get, slice_index, get_or, refl, ap, sym, ◌∙◌, subst, ⊎_elim, arith, length-set}
+use Rattle.std.proofs.Common.{◌≡◌, ◌≢◌, ◌⊎◌, inl, inr, ℕ, ◌+◌, ◌%◌, ◌^◌, ◌<◌, ◌≤◌, List, [], ◌∷◌, ◌++◌, Option, Some, None, Contains, length, set, slice_get, slice_index, refl, sym, ◌∙◌, subst, ⊎_elim, arith, length-set}
 use Rattle.std.proofs.Math.Nat.{mod-eq_of_lt}
 use Rattle.std.proofs.lemmas.List.{get_or-set_same, get_or-set_other}
 use Rattle.std.proofs.lemmas.List.Elements.{All-weaker, All-push, Contains-push_cases}
 use Rattle.std.proofs.lemmas.List.Quantifiers.{all_pairs_push}
 use mathlib.Core.Option.{some}
-use lib.ListN.{get_elem?}
-use Rattle.atomic_table.specs.Table.{State, Allows, keeps}
-use Rattle.waff_core.specs.Job.{JobValue, IsJob, IsIn}
-use Rattle.waff_core.specs.Machine.{Core, IsAway, Runs, opening, phase_of, with_phase, phase_drawn, drawn_by}
+use Rattle.atomic_table.specs.Table.{Allows, keeps}
+use Rattle.waff_core.specs.Job.{JobValue}
+use Rattle.waff_core.specs.Machine.{Core, IsAway, Runs, opening, phase_of, phase_drawn, drawn_by}
 use Rattle.waff_core.specs.declared.event.Event.{Event}
 use Rattle.waff_core.specs.declared.event.Event.TheVariants.{Draw}
-use Rattle.waff_core.specs.declared.phase.Phase.{Phase}
-use Rattle.waff_core.specs.declared.phase.Phase.TheVariants.{Free, Drawn, Running, Ended}
-use Rattle.waff_board.specs.Shows.{IsRunning, IsStatus, Words, Slots}
+use Rattle.waff_core.specs.declared.phase.Phase.TheVariants.{Free, Running}
+use Rattle.waff_board.specs.Shows.{IsStatus, Words, Slots}
 use Rattle.waff_board.specs.Seats.{Shown, Seats}
-use Rattle.waff_board.specs.Rule.{Holds, IsSetup, MAX_SEATS}
+use Rattle.waff_board.specs.Rule.{Holds}
 use Rattle.waff_board.specs.Plays.{drawn_view}
 use Rattle.waff_board.specs.declared.view.Setup.{Setup}
 use Rattle.waff_board.specs.declared.view.View.{View}

@@ -1,28 +1,22 @@
 -- A finish keeps the rule.
-use Rattle.std.proofs.Common.{◌≡◌, ◌≢◌, ◌⊎◌, inl, inr, ⊎_elim, ℕ, zero, suc, ◌+◌, ◌-◌, ◌<◌, ◌≤◌, ◌==◌, ◌||◌, Bool, true, false, true≢false, List, [], ◌∷◌, ◌++◌, Some, Contains, length, set, slice_index, refl, ap, sym, ◌∙◌, subst, arith, length-set}
+use Rattle.std.proofs.Common.{◌≡◌, ◌≢◌, inl, inr, ⊎_elim, ℕ, ◌==◌, ◌||◌, true, List, [], ◌∷◌, ◌++◌, Some, Contains, set, slice_index, refl, ap, sym, ◌∙◌, subst, arith, length-set}
 use Rattle.std.proofs.lemmas.List.{get_or-set_same, get_or-set_other}
-use Rattle.std.proofs.lemmas.List.Elements.{Contains-push_cases}
 use Rattle.std.proofs.lemmas.Option.{same_Some}
-use mathlib.Core.Option.{Option, some, none}
+use mathlib.Core.Option.{Option, none}
 use mathlib.Core.Logic.{dite}
 use native.Mathlib.Decide.{ℕ_discrete}
-use lib.ListN.{get_elem?}
-use Rattle.atomic_table.specs.Table.{State, Allows, homes_after, carried_after}
-use Rattle.waff_model.specs.Cells.{cells_of}
-use Rattle.waff_model.specs.declared.cell.Cell.{Cell}
-use Rattle.waff_cells.specs.Meaning.{Cells, meaning}
+use Rattle.atomic_table.specs.Table.{Allows, homes_after}
+use Rattle.waff_cells.specs.Meaning.{meaning}
 use Rattle.waff_cells.specs.Serial.{SameParcel, ops_of, serial}
 use Rattle.waff_cells.proofs.MeaningLaws.{meaning_other}
 use Rattle.waff_core.specs.Job.{JobValue, IsJob, IsIn, IsOwner, owners_of}
-use Rattle.waff_core.specs.Machine.{Core, IsAway, IsClear, Runs, opening, phase_of, with_phase, ended_by}
-use Rattle.waff_core.specs.declared.event.Event.{Event}
+use Rattle.waff_core.specs.Machine.{Core, IsAway, IsClear, opening, phase_of, ended_by}
 use Rattle.waff_core.specs.declared.event.Event.TheVariants.{End}
 use Rattle.waff_core.specs.declared.phase.Phase.TheVariants.{Free, Running}
-use Rattle.waff_core.proofs.Phases.{Has, phase_same, phase_other}
+use Rattle.waff_core.proofs.Phases.{phase_same, phase_other}
 use Rattle.waff_core.proofs.Settling.{done_this, done_kept, done_cases}
-use Rattle.waff_cells.specs.Parcel.{IsParcel}
-use Rattle.waff_board.specs.Shows.{IsRunning, IsStatus, Words, Slots}
-use Rattle.waff_board.specs.Seats.{HasSeen, Shown, Seats}
+use Rattle.waff_board.specs.Shows.{IsStatus, Words, Slots}
+use Rattle.waff_board.specs.Seats.{HasSeen, Shown}
 use Rattle.waff_board.specs.Rule.{Holds}
 use Rattle.waff_board.specs.Plays.{Parcels, finished_view}
 use Rattle.waff_board.specs.declared.view.Setup.{Setup}
@@ -30,7 +24,7 @@ use Rattle.waff_board.specs.declared.view.View.{View}
 use Rattle.waff_board.proofs.Known.{Known, known, runs_more}
 use Rattle.waff_board.proofs.Seen.{finish_cases}
 use Rattle.waff_board.proofs.Moves.{Moves, at_within, seats_moved}
-use Rattle.waff_board.proofs.Owners.{AreApart, decide_in}
+use Rattle.waff_board.proofs.Owners.{decide_in}
 use Rattle.waff_board.proofs.Phases.{IsStill, runs_before}
 use Rattle.waff_board.proofs.Handing.{IsHome, Given, give_all, given}
 use Rattle.waff_board.proofs.Begins.{parcel_same, listed_owner, owner_listed, owners_apart}

@@ -1,8 +1,6 @@
 -- A step of one actor leaves what the seats of the others know.
-use Rattle.std.proofs.Common.{zero, suc, ◌-◌, inl, inr, ◌≡◌, ◌≢◌, ◌⊎◌, ℕ, ◌+◌, ◌<◌, ◌≤◌, true, List, [], ◌∷◌, Some, All, Contains, length, set, refl, ap, sym, ◌∙◌, subst, ⊎_elim, arith, length-set}
+use Rattle.std.proofs.Common.{zero, suc, ◌≡◌, ◌≢◌, ◌⊎◌, ℕ, ◌+◌, ◌<◌, ◌≤◌, true, List, [], ◌∷◌, Some, Contains, length, set, ap, sym, ◌∙◌, subst, ⊎_elim, arith, length-set}
 use mathlib.Core.Option.{some, some-ne-none}
-use mathlib.Core.Logic.{dite}
-use native.Mathlib.Decide.{ℕ_discrete}
 use lib.ListN.{get_elem?}
 use Rattle.std.proofs.lemmas.List.Elements.{All-weaker, All-contains}
 use Rattle.atomic_table.proofs.Lists.{at_set}

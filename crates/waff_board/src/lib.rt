@@ -7,6 +7,7 @@ mod drawing;
 mod hand;
 mod law;
 mod plays;
+mod reading;
 mod running;
 mod tokens;
 mod view;

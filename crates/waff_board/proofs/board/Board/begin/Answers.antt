@@ -1,7 +1,7 @@
-use Rattle.std.proofs.Common.{◌≡◌, ℕ, ◌+◌, ◌-◌, ◌<◌, ◌≤◌, List, Vec, Global, map, length, arith, sym, ap, ◌∙◌, subst, refl}
+use Rattle.std.proofs.Common.{◌≡◌, ℕ, ◌-◌, ◌≤◌, List, Vec, Global, map, length, arith, sym, ap, ◌∙◌, subst}
 use Rattle.waff_cells.specs.Serial.{serial}
 use Rattle.waff_cells.specs.Parcel.{AreParcels}
-use Rattle.waff_core.specs.Job.{JobValue, IsJob, owners_of}
+use Rattle.waff_core.specs.Job.{JobValue, owners_of}
 use Rattle.waff_board.specs.Plays.{begun_view}
 use Rattle.waff_board.specs.declared.view.View.{View}
 use Rattle.waff_board.proofs.Begins.{begins_with}
@@ -27,7 +27,7 @@ take_out-requires-clause-held c =
     let m = c.args.cleared.message in
     names_of (λ (parcel : Vec ℕ Global). parcel.items) v.job.layout.spaces (serial v.job.ops (m - 1)) (owners_of v.job.owners m)
     c.store.new.seat.me.1 c.store.ensures.2.1
-    ∙ ap (λ (j : JobValue). owners_of j.owners m) (c.requires.1 ∙ sym c.job-job.ensures.same) ∙ sym c.owners.ensures
+    ∙ ap (λ (j : JobValue). owners_of j.owners m) (c.requires.1 ∙ sym c.job-job.ensures.same) ∙ sym c.owners.ensures.owners
 
 pub take_out-requires-clause-room : goal.take_out-requires-clause-room
 take_out-requires-clause-room c =
@@ -37,7 +37,7 @@ take_out-requires-clause-room c =
     let to = c.args.cleared.to in
     let few : length (owners_of J.owners m) ≤ 64
     = owners_are_few J c.job-job.ensures.job m (record { from = c.args.cleared.from; to = omega (arith, ops, to) }) in
-    let same : length c.owners.result.now ≡ length (owners_of J.owners m) = ap (λ (xs : List ℕ). length xs) c.owners.ensures in
+    let same : length c.owners.result.now ≡ length (owners_of J.owners m) = ap (λ (xs : List ℕ). length xs) c.owners.ensures.owners in
     let room = c.args.cleared.hand.room in
     let kept = c.clear.ensures.capacity in
     omega (arith, few, same, room, kept)
@@ -60,7 +60,7 @@ invariant_of-result c =
       to = subst (λ (j : JobValue). m ≤ length j.ops) (sym job) c.args.cleared.to;
       of = sym same ∙ sym job;
       running = ap (λ (u : View). u.phase) view;
-      taken = c.take_out.ensures.held ∙ c.owners.ensures ∙ ap (λ (j : JobValue). owners_of j.owners m) (sym same ∙ sym job);
+      taken = c.take_out.ensures.held ∙ c.owners.ensures.owners ∙ ap (λ (j : JobValue). owners_of j.owners m) (sym same ∙ sym job);
       before = subst (λ (j : JobValue). AreParcels j.layout.spaces (owners_of j.owners m) (serial j.ops (m - 1))
           (map (λ (row : Vec ℕ Global). row.items) c.take_out.new.places.items)) (sym job) rows;
     }

@@ -1,9 +1,8 @@
-use Rattle.std.proofs.Common.{◌≡◌, ℕ, ◌+◌, ◌<◌, ◌≤◌, Bool, List, All, Some, None, Contains, find, not, length, get_or, slice_index_or, false, arith, rules, refl, sym, ap, ◌∙◌, subst}
-use Rattle.waff_order.specs.Needs.{needs_of, IsNeed}
+use Rattle.std.proofs.Common.{◌≡◌, ◌+◌, ◌<◌, ◌≤◌, Bool, List, All, Some, None, Contains, find, not, length, slice_index_or, false, arith, refl, sym, ap, ◌∙◌, subst}
+use Rattle.waff_order.specs.Needs.{needs_of}
 use Rattle.waff_core.specs.Job.{JobValue, IsJob}
-use Rattle.waff_core.specs.declared.phase.Phase.TheVariants.{Drawn}
-use Rattle.waff_board.specs.Calls.{IsOf, LooksOver, ClearTells}
-use Rattle.waff_board.specs.Seats.{has_seen, HasSeen}
+use Rattle.waff_board.specs.Calls.{LooksOver}
+use Rattle.waff_board.specs.Seats.{has_seen}
 use Rattle.waff_board.specs.declared.view.View.{View}
 use Rattle.waff_board.proofs.Lookings.{looks_alone, needs_known, first_agrees, none_unseen}
 use Rattle.waff_board.proofs.board.Board.clear.Goals as goal
@@ -13,7 +12,7 @@ look_over-hand-requires-clause-known c =
     let J = c.args.self.now.setup.job in
     let m = c.args.drawn.message in
     let is_needs : c.needs-needs.result.now ≡ needs_of J.needs m
-    = c.needs-needs.ensures ∙ ap (λ (j : JobValue). needs_of j.needs m) c.job.ensures.same in
+    = c.needs-needs.ensures.needs ∙ ap (λ (j : JobValue). needs_of j.needs m) c.job.ensures.same in
     subst (λ xs. All (λ n. (1 ≤ n) × (n ≤ length J.ops)) xs) (sym is_needs)
     (needs_known J (subst IsJob c.job.ensures.same c.job.ensures.job) m c.args.drawn.from)
 
@@ -22,7 +21,7 @@ first_unseen-requires c = λ k d within.
     let J = c.args.self.now.setup.job in
     let m = c.args.drawn.message in
     let is_needs : c.needs-needs.result.now ≡ needs_of J.needs m
-    = c.needs-needs.ensures ∙ ap (λ (j : JobValue). needs_of j.needs m) c.job.ensures.same in
+    = c.needs-needs.ensures.needs ∙ ap (λ (j : JobValue). needs_of j.needs m) c.job.ensures.same in
     let known : All (λ n. (1 ≤ n) × (n ≤ length J.ops)) c.needs-needs.result.now
     = subst (λ xs. All (λ n. (1 ≤ n) × (n ≤ length J.ops)) xs) (sym is_needs)
     (needs_known J (subst IsJob c.job.ensures.same c.job.ensures.job) m c.args.drawn.from) in
@@ -54,7 +53,7 @@ invariant_of-result-in-None c =
     let count = length W.job.ops + 1 in
     let alone : W ≡ record V { looks = W.looks } = looks_alone V W c.needs-needs.result.now c.look_over-hand.ensures.looks in
     let is_needs : c.needs-needs.result.now ≡ needs_of W.job.needs m
-    = c.needs-needs.ensures ∙ ap (λ (j : JobValue). needs_of j.needs m) (c.job.ensures.same ∙ sym c.look_over-hand.ensures.of.1) in
+    = c.needs-needs.ensures.needs ∙ ap (λ (j : JobValue). needs_of j.needs m) (c.job.ensures.same ∙ sym c.look_over-hand.ensures.of.1) in
     let within : All (λ n. n < count) c.needs-needs.result.now
     = (λ k d there.
     let known : All (λ n. (1 ≤ n) × (n ≤ length W.job.ops)) (needs_of W.job.needs m)
@@ -82,9 +81,9 @@ returns-in-Some c =
     let seen = c.look_over-hand.result.seen.items in
     let count = length W.job.ops + 1 in
     let is_needs : c.needs-needs.result.now ≡ needs_of W.job.needs m
-    = c.needs-needs.ensures ∙ ap (λ (j : JobValue). needs_of j.needs m) (c.job.ensures.same ∙ sym c.look_over-hand.ensures.of.1) in
+    = c.needs-needs.ensures.needs ∙ ap (λ (j : JobValue). needs_of j.needs m) (c.job.ensures.same ∙ sym c.look_over-hand.ensures.of.1) in
     let was_needs : c.needs-needs.result.now ≡ needs_of V.job.needs m
-    = c.needs-needs.ensures ∙ ap (λ (j : JobValue). needs_of j.needs m) (c.job.ensures.same ∙ sym c.requires.1) in
+    = c.needs-needs.ensures.needs ∙ ap (λ (j : JobValue). needs_of j.needs m) (c.job.ensures.same ∙ sym c.requires.1) in
     let within : All (λ n. n < count) c.needs-needs.result.now
     = (λ k d there.
     let known : All (λ n. (1 ≤ n) × (n ≤ length W.job.ops)) (needs_of W.job.needs m)
@@ -109,9 +108,9 @@ returns-in-None c =
     let seen = c.look_over-hand.result.seen.items in
     let count = length W.job.ops + 1 in
     let is_needs : c.needs-needs.result.now ≡ needs_of W.job.needs m
-    = c.needs-needs.ensures ∙ ap (λ (j : JobValue). needs_of j.needs m) (c.job.ensures.same ∙ sym c.look_over-hand.ensures.of.1) in
+    = c.needs-needs.ensures.needs ∙ ap (λ (j : JobValue). needs_of j.needs m) (c.job.ensures.same ∙ sym c.look_over-hand.ensures.of.1) in
     let was_needs : c.needs-needs.result.now ≡ needs_of V.job.needs m
-    = c.needs-needs.ensures ∙ ap (λ (j : JobValue). needs_of j.needs m) (c.job.ensures.same ∙ sym c.requires.1) in
+    = c.needs-needs.ensures.needs ∙ ap (λ (j : JobValue). needs_of j.needs m) (c.job.ensures.same ∙ sym c.requires.1) in
     let within : All (λ n. n < count) c.needs-needs.result.now
     = (λ k d there.
     let known : All (λ n. (1 ≤ n) × (n ≤ length W.job.ops)) (needs_of W.job.needs m)

@@ -1,7 +1,5 @@
-use Rattle.std.proofs.Common.{◌≡◌, ℕ, ◌+◌, ◌<◌, ◌≤◌, Some, None, length, slice_get, arith, rules, refl, sym, ap, ◌∙◌, subst}
+use Rattle.std.proofs.Common.{◌≡◌, ◌<◌, ◌≤◌, Some, length, slice_get, arith, sym, ◌∙◌, subst}
 use Rattle.waff_core.specs.Job.{JobValue}
-use Rattle.waff_core.specs.declared.phase.Phase.TheVariants.{Drawn, Ended}
-use Rattle.waff_board.specs.Plays.{drawn_view}
 use Rattle.waff_board.proofs.Draws.{draws}
 use Rattle.waff_board.proofs.Numbers.{first_same, second_same, drawn_job, drawn_phase, ended_phase}
 use Rattle.waff_board.proofs.board.Board.draw.Goals as goal

@@ -1,9 +1,8 @@
-use Rattle.std.proofs.Common.{◌≡◌, ℕ, ◌+◌, ◌<◌, ◌≤◌, Bool, true, false, List, [], Vec, Global, map, length, set, slice_index_or, arith, sym, ap, ◌∙◌, subst, refl}
+use Rattle.std.proofs.Common.{◌≡◌, ℕ, ◌+◌, Vec, Global, map, length, arith, sym, ap, ◌∙◌, subst}
 use Rattle.atomic_table.specs.Table.{Me}
 use Rattle.waff_cells.specs.Serial.{serial}
 use Rattle.waff_cells.specs.Parcel.{AreParcels}
 use Rattle.waff_core.specs.Job.{JobValue, owners_of}
-use Rattle.waff_core.specs.declared.phase.Phase.TheVariants.{Running}
 use Rattle.waff_board.specs.Plays.{finished_view}
 use Rattle.waff_board.specs.Seats.{has_seen}
 use Rattle.waff_board.specs.declared.view.View.{View}
@@ -23,7 +22,7 @@ store-requires c =
     let ops : length v.job.ops ≡ length c.args.self.now.setup.job.ops = ap (λ (j : JobValue). length j.ops) c.requires.1 in
     let to = finished.to in
     let same : c.owners.result.now ≡ owners_of W.job.owners m
-    = c.owners.ensures ∙ ap (λ (j : JobValue). owners_of j.owners m) (c.job.ensures.same ∙ sym c.requires.1 ∙ sym (ap (λ (u : View). u.job) view)) in
+    = c.owners.ensures.owners ∙ ap (λ (j : JobValue). owners_of j.owners m) (c.job.ensures.same ∙ sym c.requires.1 ∙ sym (ap (λ (u : View). u.job) view)) in
     let rows : AreParcels v.job.layout.spaces (owners_of v.job.owners m) (serial v.job.ops m) (map (λ (slot : ℕ × Vec ℕ Global). slot.1.items) c.put_in.new.chair.me.1)
     = subst (λ rows. AreParcels v.job.layout.spaces (owners_of v.job.owners m) (serial v.job.ops m) rows) (sym c.put_in.ensures.values) finished.after in (
       c.put_in.ensures.table ∙ c.requires.0,

@@ -1,4 +1,4 @@
-use Rattle.std.proofs.Common.{◌≡◌, ◌≤◌, length, arith, sym, subst, rules}
+use Rattle.std.proofs.Common.{arith, sym, subst}
 use Rattle.waff_core.specs.Job.{JobValue, IsIn}
 use Rattle.waff_board.proofs.Looks.{looks_at}
 use Rattle.waff_board.proofs.board.Board.look.Goals as goal

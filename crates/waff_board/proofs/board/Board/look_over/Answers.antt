@@ -1,4 +1,4 @@
-use Rattle.std.proofs.Common.{◌≡◌, ℕ, ◌+◌, ◌<◌, ◌≤◌, Bool, MatchBool, length, get_or, take, arith, sym, ◌∙◌, subst, refl}
+use Rattle.std.proofs.Common.{◌≡◌, ℕ, ◌+◌, ◌<◌, MatchBool, length, get_or, take, arith, sym, ◌∙◌, subst, refl}
 use Rattle.waff_board.specs.Calls.{IsOf, Looked, LooksOver}
 use Rattle.waff_board.specs.Seats.{has_seen}
 use Rattle.waff_board.specs.declared.hand.Hand.{Hand}

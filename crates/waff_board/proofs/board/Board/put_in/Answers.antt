@@ -1,8 +1,8 @@
-use Rattle.std.proofs.Common.{◌≡◌, ℕ, ◌+◌, ◌<◌, ◌≤◌, List, [], ◌∷◌, ◌++◌, Vec, Global, map, length, get_or, drop, set, length-set, arith, sym, ap, ◌∙◌, subst, refl}
-use Rattle.std.proofs.lemmas.List.{map-set, get_or-map, drop-set-lt, length-map}
+use Rattle.std.proofs.Common.{◌≡◌, ℕ, ◌+◌, ◌<◌, ◌≤◌, List, [], ◌∷◌, Vec, Global, map, length, get_or, drop, length-set, arith, ap, ◌∙◌}
+use Rattle.std.proofs.lemmas.List.{map-set, drop-set-lt, length-map}
 use Rattle.atomic_table.specs.Table.{Me, turned, rest}
 use Rattle.waff_board.specs.declared.view.View.{View}
-use Rattle.waff_board.proofs.Carrying.{IsPutting, puts_next, putting_next, row_there, same_there, same_after, put_all}
+use Rattle.waff_board.proofs.Carrying.{puts_next, putting_next, row_there, same_there, same_after, put_all}
 use Rattle.waff_board.proofs.board.Board.put_in.Goals as goal
 
 pub exchange-requires : goal.exchange-requires

@@ -1,12 +1,11 @@
-use Rattle.std.proofs.Common.{◌≡◌, ℕ, ◌+◌, ◌-◌, ◌<◌, ◌≤◌, All, List, Vec, Global, map, length, arith, sym, ap, ◌∙◌, subst, refl}
+use Rattle.std.proofs.Common.{◌≡◌, ℕ, ◌-◌, List, Vec, Global, map, length, arith, sym, ap, ◌∙◌, subst}
 use Rattle.std.specs.List.Sorted.{IsStrictlyIncreasing}
 use Rattle.std.proofs.lemmas.List.{with_items_is, length-map}
-use Rattle.waff_model.specs.Cells.{cells_of}
 use Rattle.waff_model.specs.declared.op.Op.{Op}
 use Rattle.waff_cells.specs.Meaning.{meaning}
 use Rattle.waff_cells.specs.Serial.{ops_of, serial}
-use Rattle.waff_cells.specs.Parcel.{AreParcels, HaveParcelSizes, IsOwned}
-use Rattle.waff_core.specs.Job.{JobValue, IsJob, IsIn, owners_of}
+use Rattle.waff_cells.specs.Parcel.{AreParcels}
+use Rattle.waff_core.specs.Job.{JobValue, IsIn, owners_of}
 use Rattle.waff_board.proofs.Grants.{parcel_sizes, parcels_in, parcels_out, owned_in, serial_after}
 use Rattle.waff_board.proofs.tokens.Grant.run.Goals as goal
 
@@ -21,7 +20,7 @@ apply-requires-clause-sizes c =
     = subst (λ (xs : List (Vec ℕ Global)). AreParcels v.job.layout.spaces (owners_of v.job.owners m) (serial v.job.ops (m - 1)) (map (λ (row : Vec ℕ Global). row.items) xs))
     (sym c.as_mut_slice.ensures.value) c.args.self.before in
     parcel_sizes c.layout.result.now.spaces c.owners.result.now (serial v.job.ops (m - 1)) rows
-    (parcels_in v.job K c.layout.result.now c.owners.result.now m (serial v.job.ops (m - 1)) rows same c.layout.ensures c.owners.ensures before)
+    (parcels_in v.job K c.layout.result.now c.owners.result.now m (serial v.job.ops (m - 1)) rows same c.layout.ensures c.owners.ensures.owners before)
 
 pub apply-requires-clause-rising : goal.apply-requires-clause-rising
 apply-requires-clause-rising c =
@@ -31,7 +30,7 @@ apply-requires-clause-rising c =
     let ops : length K.ops ≡ length c.args.self.hand.chair.me.0.job.ops = ap (λ (j : JobValue). length j.ops) same in
     let to = c.args.self.to in
     let within : IsIn K m = record { from = c.args.self.from; to = omega (arith, ops, to) } in
-    subst IsStrictlyIncreasing (sym c.owners.ensures) (c.known-job.ensures.job.owners m within).rising
+    subst IsStrictlyIncreasing (sym c.owners.ensures.owners) (c.known-job.ensures.job.owners m within).rising
 
 pub apply-requires-clause-owned : goal.apply-requires-clause-owned
 apply-requires-clause-owned c =
@@ -41,7 +40,7 @@ apply-requires-clause-owned c =
     let ops : length K.ops ≡ length c.args.self.hand.chair.me.0.job.ops = ap (λ (j : JobValue). length j.ops) same in
     let to = c.args.self.to in
     owned_in K c.known-job.ensures.job m (record { from = c.args.self.from; to = omega (arith, ops, to) }) c.layout.result.now c.owners.result.now c.ops.result.now
-    c.layout.ensures c.owners.ensures c.ops.ensures.ops
+    c.layout.ensures c.owners.ensures.owners c.ops.ensures.ops
 
 pub invariant_of-result : goal.invariant_of-result
 invariant_of-result c =
@@ -56,12 +55,12 @@ invariant_of-result c =
     let left = map (λ (row : Vec ℕ Global). row.items) c.apply.new.parcels in
     let after : AreParcels c.layout.result.now.spaces c.owners.result.now (meaning c.ops.result.now (serial v.job.ops (m - 1))) left
     = c.apply.ensures.parcels (serial v.job.ops (m - 1))
-    (parcels_in v.job K c.layout.result.now c.owners.result.now m (serial v.job.ops (m - 1)) rows same c.layout.ensures c.owners.ensures before) in
+    (parcels_in v.job K c.layout.result.now c.owners.result.now m (serial v.job.ops (m - 1)) rows same c.layout.ensures c.owners.ensures.owners before) in
     let is_ops : c.ops.result.now ≡ ops_of v.job.ops m = c.ops.ensures.ops ∙ ap (λ (j : JobValue). ops_of j.ops m) same in
     let done : AreParcels v.job.layout.spaces (owners_of v.job.owners m) (serial v.job.ops m) left
     = serial_after v.job.layout.spaces (owners_of v.job.owners m) v.job.ops m left c.args.self.from
     (subst (λ (o : List Op). AreParcels v.job.layout.spaces (owners_of v.job.owners m) (meaning o (serial v.job.ops (m - 1))) left) is_ops
-    (parcels_out v.job K c.layout.result.now c.owners.result.now m (meaning c.ops.result.now (serial v.job.ops (m - 1))) left same c.layout.ensures c.owners.ensures after)) in
+    (parcels_out v.job K c.layout.result.now c.owners.result.now m (meaning c.ops.result.now (serial v.job.ops (m - 1))) left same c.layout.ensures c.owners.ensures.owners after)) in
     let places = c.args.self.hand.places in
     let count = done.count in
     let was = c.args.self.before.count in
