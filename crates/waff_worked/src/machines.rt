@@ -53,28 +53,46 @@ fn orders_list_each_message_after_its_needs(rt: HostRuntime) -> Result<(), Fail>
     Ok(())
 }
 
+/// Two actors begin a message each, and the second ends its own and draws another.
+const TWO_ACTORS: [Event; 6] = [
+    Event::Draw(1),
+    Event::Draw(2),
+    Event::Begin(1),
+    Event::Begin(2),
+    Event::End(2),
+    Event::Draw(2),
+];
+
 #[test]
-fn two_actors_run_and_hold(rt: HostRuntime) -> Result<(), Fail> {
+fn messages_run_wait_and_are_held(rt: HostRuntime) -> Result<(), Fail> {
     let alloc = rt.alloc();
     let job = job(alloc, X1, &[1, 2, 4, 3, 5, 6])??;
-    let events = [
-        Event::Draw(1),
-        Event::Draw(2),
-        Event::Begin(1),
-        Event::Begin(2),
-        Event::End(2),
-        Event::Draw(2),
-    ];
-    let state = run_events(alloc, &job, 2, &events)?;
+    let state = run_events(alloc, &job, 2, &TWO_ACTORS)?;
     assert_eq!(rt; state.status(1), Status::Running { actor: 1 });
     assert_eq!(rt; state.status(2), Status::Done);
+    assert_eq!(rt; state.status(3), Status::Waiting);
     assert_eq!(rt; state.status(4), Status::Held { actor: 2 });
-    for waiting in [3, 5, 6] {
-        assert_eq!(rt; state.status(waiting), Status::Waiting);
-    }
+    assert_eq!(rt; state.status(5), Status::Waiting);
+    assert_eq!(rt; state.status(6), Status::Waiting);
+    Ok(())
+}
+
+#[test]
+fn parcels_are_with_what_runs(rt: HostRuntime) -> Result<(), Fail> {
+    let alloc = rt.alloc();
+    let job = job(alloc, X1, &[1, 2, 4, 3, 5, 6])??;
+    let state = run_events(alloc, &job, 2, &TWO_ACTORS)?;
     assert_eq!(rt; state.drawn(), 3);
     assert!(rt; !state.home(A0));
     assert!(rt; state.home(B0));
+    Ok(())
+}
+
+#[test]
+fn cells_are_those_of_what_is_done(rt: HostRuntime) -> Result<(), Fail> {
+    let alloc = rt.alloc();
+    let job = job(alloc, X1, &[1, 2, 4, 3, 5, 6])??;
+    let state = run_events(alloc, &job, 2, &TWO_ACTORS)?;
     assert_eq!(rt; number(&rt, &job, &state, 2, 0), 7);
     assert_eq!(rt; number(&rt, &job, &state, 0, 0), 0);
     Ok(())
