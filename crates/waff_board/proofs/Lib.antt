@@ -13,3 +13,6 @@ pub mod Splits
 pub mod Opens
 pub mod Closes
 pub mod Looks
+pub mod Sweeps
+pub mod Makings
+pub mod Takings

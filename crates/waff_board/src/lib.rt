@@ -3,14 +3,19 @@
 
 mod board;
 mod clearing;
+mod closing;
 mod drawing;
+mod ending;
 mod hand;
 mod law;
+mod opening;
 mod plays;
 mod tokens;
 mod view;
 
 pub use board::Board;
 pub use clearing::Clear;
+pub use closing::CloseError;
 pub use drawing::Draw;
+pub use opening::BoardError;
 pub use tokens::{Cleared, Drawn, EndSeat, Finished, Grant, Seat};
