@@ -1,6 +1,6 @@
 -- What the words of the command line ask for.
 use Rattle.std.specs.Prelude.{◌≤◌, IfSome}
-use Rattle.waff_list.specs.declared.limits.TheConstants.{MAX_WORKERS}
+use Rattle.waff_model.specs.declared.limits.TheConstants.{MAX_WORKERS}
 use Rattle.waff.specs.declared.words.Request.{Request}
 use Rattle.waff.specs.declared.words.Request.TheVariants as request
 

@@ -14,7 +14,7 @@ use std::process::ExitCode;
 use std::rt::Runtime;
 use std::thread::Threads;
 use std::{env, io};
-use waff_list::limits::MAX_WORKERS;
+use waff_model::limits::MAX_WORKERS;
 use waff_tool::{assign_text, check_text, compare_text, plan_text, split_input, verdict_status};
 use words::{FileNames, Request, read_words};
 

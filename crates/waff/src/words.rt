@@ -5,7 +5,7 @@ ghost use Rattle.waff.specs.Requests.{IsWithinLimits};
 use crate::failure::Failure;
 use clap::{Arg, ArgMatches, Command, value_parser};
 use std::alloc::{AllocError, Global};
-use waff_list::limits::MAX_WORKERS;
+use waff_model::limits::MAX_WORKERS;
 
 /// What the words ask for.
 #[derive(Clone, Copy)]

@@ -1,31 +1,30 @@
 -- A begin keeps the rule.
-use Rattle.std.proofs.Common.{◌≡◌, ◌≢◌, ◌⊎◌, inl, inr, ⊎_elim, ℕ, zero, suc, ◌+◌, ◌-◌, ◌<◌, ◌≤◌, true, true≢false, List, [], ◌∷◌, ◌++◌, Some, Contains, length, set, slice_index, refl, ap, sym, ◌∙◌, subst, arith, length-set}
+use Rattle.std.proofs.Common.{◌≡◌, ◌⊎◌, inl, inr, ⊎_elim, ℕ, ◌-◌, true, true≢false, List, [], ◌∷◌, ◌++◌, Some, Contains, set, slice_index, refl, ap, sym, ◌∙◌, subst, arith, length-set}
 use Rattle.std.proofs.lemmas.List.{get_or-set_same, get_or-set_other}
 use Rattle.std.proofs.lemmas.Option.{same_Some}
 use mathlib.Core.Option.{Option, some, none}
 use mathlib.Core.Logic.{dite}
 use native.Mathlib.Decide.{ℕ_discrete}
 use lib.ListN.{get_elem?}
-use Rattle.atomic_table.specs.Table.{State, Allows, homes_after, carried_after}
+use Rattle.atomic_table.specs.Table.{Allows, homes_after, carried_after}
 use Rattle.waff_order.specs.Needs.{IsNeed}
 use Rattle.waff_cells.specs.Meaning.{Cells}
 use Rattle.waff_cells.specs.Serial.{SameParcel, ops_of, serial}
-use Rattle.waff_core.specs.Job.{JobValue, IsJob, IsIn, IsOwner, ListsOwners, owners_of}
-use Rattle.waff_core.specs.Machine.{Core, IsAway, IsClear, Runs, opening, phase_of, with_phase, begun_by}
-use Rattle.waff_core.specs.declared.event.Event.{Event}
+use Rattle.waff_core.specs.Job.{JobValue, IsJob, IsIn, IsOwner, owners_of}
+use Rattle.waff_core.specs.Machine.{Core, IsAway, IsClear, opening, phase_of, begun_by}
 use Rattle.waff_core.specs.declared.event.Event.TheVariants.{Begin}
 use Rattle.waff_core.specs.declared.phase.Phase.TheVariants.{Drawn, Running}
-use Rattle.waff_core.proofs.Phases.{Has, phase_same, phase_other}
+use Rattle.waff_core.proofs.Phases.{phase_same, phase_other}
 use Rattle.waff_cells.specs.Parcel.{IsParcel}
-use Rattle.waff_board.specs.Shows.{IsRunning, IsStatus, Words, Slots}
-use Rattle.waff_board.specs.Seats.{HasSeen, Shown, Seats}
+use Rattle.waff_board.specs.Shows.{IsStatus, Words, Slots}
+use Rattle.waff_board.specs.Seats.{HasSeen, Shown}
 use Rattle.waff_board.specs.Rule.{Holds}
 use Rattle.waff_board.specs.Plays.{Parcels, begun_view}
 use Rattle.waff_board.specs.declared.view.Setup.{Setup}
 use Rattle.waff_board.specs.declared.view.View.{View}
 use Rattle.waff_board.proofs.Known.{Known, known, runs_more}
-use Rattle.waff_board.proofs.Moves.{Moves, at_within, seats_moved}
-use Rattle.waff_board.proofs.Owners.{AreApart, decide_in, rising_apart}
+use Rattle.waff_board.proofs.Moves.{Moves, seats_moved}
+use Rattle.waff_board.proofs.Owners.{AreApart, rising_apart}
 use Rattle.waff_board.proofs.Phases.{IsStill, runs_after}
 use Rattle.waff_board.proofs.Handing.{IsHome, Taken, take_all}
 
@@ -64,8 +63,11 @@ module _ (job : JobValue) (is : IsJob job) (seats : ℕ) (core : Core) (known : 
   run_cases : (y n : ℕ) → phase_of (begun_by core x m).phases y ≡ Some (Running n)
       → ((y ≡ x) × (n ≡ m)) ⊎ (phase_of core.phases y ≡ Some (Running n))
   run_cases y n runs = dite (ℕ_discrete y x)
-      (λ same. inl (same, message (same_Some (Running m) (Running n)
-          (sym run_here ∙ subst (λ z. phase_of (begun_by core x m).phases z ≡ Some (Running n)) same runs))))
+      (λ same. inl (
+        same,
+        message (same_Some (Running m) (Running n)
+            (sym run_here ∙ subst (λ z. phase_of (begun_by core x m).phases z ≡ Some (Running n)) same runs)),
+      ))
       (λ other. inr (sym (phase_other core.phases x y (Drawn m) (Running m) holds other) ∙ runs))
     where
       message : Running m ≡ Running n → n ≡ m
@@ -82,59 +84,62 @@ module _ (job : JobValue) (is : IsJob job) (seats : ℕ) (core : Core) (known : 
         get_or-set_other words m 0 1 0 (λ none. omega (arith, none, from)) ∙ h.draws;
     statuses = λ n within. dite (ℕ_discrete n m)
         (λ same.
-            let to = in_job.to in
-            let count = h.count in
-            let word : slice_index (set words m 1) n ≡ 1
-            = subst (λ k. slice_index (set words m 1) k ≡ 1) (sym same) (get_or-set_same words m 1 0 (omega (arith, to, count))) in
-            subst (IsStatus (begun_by core x m) n) (sym word)
-            (record {
-              done = (
-                (λ two. absurd (omega (arith, two))),
-                (λ done. absurd (true≢false (sym (subst (λ k. core.done k ≡ true) same done) ∙ known.undone x m (inl holds)))),
-              );
-              running = (
-                (λ one. record { actor = x; running = subst (λ k. phase_of (begun_by core x m).phases x ≡ Some (Running k)) (sym same) run_here }),
-                (λ run. refl),
-              );
-              known = omega arith;
-            }))
+        let to = in_job.to in
+        let count = h.count in
+        let word : slice_index (set words m 1) n ≡ 1
+        = subst (λ k. slice_index (set words m 1) k ≡ 1) (sym same) (get_or-set_same words m 1 0 (omega (arith, to, count))) in
+        subst (IsStatus (begun_by core x m) n) (sym word)
+        (record {
+          done = (
+            (λ two. absurd (omega (arith, two))),
+            (λ done. absurd (true≢false (sym (subst (λ k. core.done k ≡ true) same done) ∙ known.undone x m (inl holds)))),
+          );
+          running = (
+            (λ one. record { actor = x; running = subst (λ k. phase_of (begun_by core x m).phases x ≡ Some (Running k)) (sym same) run_here }),
+            (λ run. refl),
+          );
+          known = omega arith;
+        }))
         (λ other.
-            let old : IsStatus core n (slice_index words n) = h.statuses n within in
-            subst (IsStatus (begun_by core x m) n) (sym (get_or-set_other words m n 1 0 other))
-            (record {
-              done = old.done;
-              running = (
-                (λ one. let run = old.running.0 one in record { actor = run.actor; running = run_after run.actor n run.running }),
-                (λ run. old.running.1 (record {
-                  actor = run.actor;
-                  running = ⊎_elim {C = phase_of core.phases run.actor ≡ Some (Running n)}
-                      (λ (new : (run.actor ≡ x) × (n ≡ m)). absurd (other new.1))
-                      (λ (was : phase_of core.phases run.actor ≡ Some (Running n)). was)
-                      (run_cases run.actor n run.running);
-                })),
-              );
-              known = old.known;
-            }));
+        let old : IsStatus core n (slice_index words n) = h.statuses n within in
+        subst (IsStatus (begun_by core x m) n) (sym (get_or-set_other words m n 1 0 other))
+        (record {
+          done = old.done;
+          running = (
+            (λ one. let run = old.running.0 one in record { actor = run.actor; running = run_after run.actor n run.running }),
+            (λ run. old.running.1 (record {
+              actor = run.actor;
+              running = ⊎_elim {C = phase_of core.phases run.actor ≡ Some (Running n)}
+                  (λ (new : (run.actor ≡ x) × (n ≡ m)). absurd (other new.1))
+                  (λ (was : phase_of core.phases run.actor ≡ Some (Running n)). was)
+                  (run_cases run.actor n run.running);
+            })),
+          );
+          known = old.known;
+        }));
   }
 
   -- no owner of the message is away
   owners_home : (a : ℕ) → IsOwner job.layout.spaces (ops_of job.ops m) a → ¬ IsAway job core a
   owners_home a owner away =
       let same : m ≡ away.message = known.apart x away.actor m away.message a (inl holds) (inr away.running) clear
-          (known.clear away.actor away.message away.running) owner away.owner in
+      (known.clear away.actor away.message away.running) owner away.owner in
       let actor : x ≡ away.actor = known.alone x away.actor m (inl holds)
-          (inr (subst (λ n. phase_of core.phases away.actor ≡ Some (Running n)) (sym same) away.running)) in
+      (inr (subst (λ n. phase_of core.phases away.actor ≡ Some (Running n)) (sym same) away.running)) in
       drawn_still m away.message (same_Some (Drawn m) (Running away.message)
-          (sym holds ∙ subst (λ y. phase_of core.phases y ≡ Some (Running away.message)) (sym actor) away.running))
+      (sym holds ∙ subst (λ y. phase_of core.phases y ≡ Some (Running away.message)) (sym actor) away.running))
 
   module _ {S : Type 0} (items : S → List ℕ) (homes : List (Option S)) (h : Slots items job core homes) where
     parcel_home : (a : ℕ) → Contains (owners_of job.owners m) a
         → IsHome items job.layout.spaces (serial job.ops (m - 1)) homes a
     parcel_home a there =
         let owner : IsOwner job.layout.spaces (ops_of job.ops m) a = listed_owner job is m a in_job there in
-        let slot = h.home a (known.affinity x m a (inl holds) owner) (owners_home a owner) in
-        (slot.0, slot.1, parcel_same job a core.cells (serial job.ops (m - 1)) (items slot.0)
-            (known.before x m a (inl holds) clear owner) slot.2)
+        let slot = h.home a (known.affinity x m a (inl holds) owner) (owners_home a owner) in (
+          slot.0,
+          slot.1,
+          parcel_same job a core.cells (serial job.ops (m - 1)) (items slot.0)
+              (known.before x m a (inl holds) clear owner) slot.2,
+        )
 
     pub taken : Taken items job.layout.spaces (serial job.ops (m - 1)) homes (owners_of job.owners m)
     taken = take_all items job.layout.spaces (serial job.ops (m - 1)) homes (owners_of job.owners m) (owners_apart job is m in_job) parcel_home
@@ -159,9 +164,9 @@ module _ (job : JobValue) (is : IsJob job) (seats : ℕ) (core : Core) (known : 
           (slot.0, r.same a other ∙ slot.1, slot.2);
       away = λ a away. ⊎_elim {C = get_elem? (homes_after homes [] r.act) a ≡ some none}
           (λ (new : (away.actor ≡ x) × (away.message ≡ m)).
-              r.gone a (owner_listed job is m a in_job (subst (λ n. IsOwner job.layout.spaces (ops_of job.ops n) a) new.1 away.owner)))
+          r.gone a (owner_listed job is m a in_job (subst (λ n. IsOwner job.layout.spaces (ops_of job.ops n) a) new.1 away.owner)))
           (λ (was : phase_of core.phases away.actor ≡ Some (Running away.message)).
-              r.stays a (h.away a (record { actor = away.actor; message = away.message; running = was; owner = away.owner })))
+          r.stays a (h.away a (record { actor = away.actor; message = away.message; running = was; owner = away.owner })))
           (run_cases away.actor away.message away.running);
     }
 
@@ -185,7 +190,7 @@ module _ (job : JobValue) (is : IsJob job) (seats : ℕ) (core : Core) (known : 
 pub begins : {S : Type 0} (items : S → List ℕ) (setup : Setup) (slots id m : ℕ) (v : View) → v.phase ≡ Drawn m
     → ((i : ℕ) → IsNeed setup.job.needs i m → HasSeen v i)
     → Allows (Holds items setup) slots id (v, []) m (λ _. 1)
-        (λ _ after. (after.0 ≡ begun_view v m) × Parcels items setup.job.layout.spaces (serial setup.job.ops (m - 1)) (owners_of setup.job.owners m) after.1)
+    (λ _ after. (after.0 ≡ begun_view v m) × Parcels items setup.job.layout.spaces (serial setup.job.ops (m - 1)) (owners_of setup.job.owners m) after.1)
 begins {S} items setup slots id m v is_drawn seen s h sized at small =
     let job = setup.job in
     let is = h.told.job in
@@ -197,8 +202,7 @@ begins {S} items setup slots id m v is_drawn seen s h sized at small =
     let clear : IsClear job core m = facts.enough m (λ i need. mine.seen i (seen i need)) in
     let next : Core = begun_by core x m in
     let r : Taken items job.layout.spaces (serial job.ops (m - 1)) s.homes (owners_of job.owners m)
-        = taken job is setup.seats core facts x m holds clear items s.homes h.slots in
-    (
+    = taken job is setup.seats core facts x m holds clear items s.homes h.slots in (
       begun_view v m,
       r.act,
       r.valid,
@@ -219,10 +223,27 @@ begins {S} items setup slots id m v is_drawn seen s h sized at small =
 pub begins_at : {S : Type 0} (items : S → List ℕ) (setup : Setup) (slots id m : ℕ) (v : View) → v.phase ≡ Drawn m
     → ((i : ℕ) → IsNeed v.job.needs i m → HasSeen v i)
     → Allows (Holds items setup) slots id (v, []) m (λ _. 1)
-        (λ _ after. (after.0 ≡ begun_view v m) × Parcels items v.job.layout.spaces (serial v.job.ops (m - 1)) (owners_of v.job.owners m) after.1)
+    (λ _ after. (after.0 ≡ begun_view v m) × Parcels items v.job.layout.spaces (serial v.job.ops (m - 1)) (owners_of v.job.owners m) after.1)
 begins_at items setup slots id m v is_drawn seen s h sized at small =
     let same : v.job ≡ setup.job = (h.seats.each id v at).same in
     let r = begins items setup slots id m v is_drawn
-        (subst (λ (job : JobValue). (i : ℕ) → IsNeed job.needs i m → HasSeen v i) same seen) s h sized at small in
-    (r.0, r.1, r.2, r.3, (r.4.0,
-        subst (λ (job : JobValue). Parcels items job.layout.spaces (serial job.ops (m - 1)) (owners_of job.owners m) (carried_after [] r.1)) (sym same) r.4.1))
+    (subst (λ (job : JobValue). (i : ℕ) → IsNeed job.needs i m → HasSeen v i) same seen) s h sized at small in (
+      r.0,
+      r.1,
+      r.2,
+      r.3,
+      (
+        r.4.0,
+        subst (λ (job : JobValue). Parcels items job.layout.spaces (serial job.ops (m - 1)) (owners_of job.owners m) (carried_after [] r.1)) (sym same) r.4.1,
+      ),
+    )
+
+-- by what the seat holds
+pub begins_with : {S : Type 0} (items : S → List ℕ) (setup : Setup) (slots id m : ℕ) (v : View) (held : List (ℕ × S)) → held ≡ [] → v.phase ≡ Drawn m
+    → ((i : ℕ) → IsNeed v.job.needs i m → HasSeen v i)
+    → Allows (Holds items setup) slots id (v, held) m (λ _. 1)
+    (λ _ after. (after.0 ≡ begun_view v m) × Parcels items v.job.layout.spaces (serial v.job.ops (m - 1)) (owners_of v.job.owners m) after.1)
+begins_with {S = S} items setup slots id m v held empty is_drawn seen =
+    subst (λ (xs : List (ℕ × S)). Allows (Holds items setup) slots id (v, xs) m (λ _. 1)
+    (λ _ after. (after.0 ≡ begun_view v m) × Parcels items v.job.layout.spaces (serial v.job.ops (m - 1)) (owners_of v.job.owners m) after.1))
+    (sym empty) (begins_at items setup slots id m v is_drawn seen)

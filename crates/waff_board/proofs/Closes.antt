@@ -1,12 +1,12 @@
 -- What a closed board holds.
-use Rattle.std.proofs.Common.{inr, ◌≡◌, ◌≢◌, ◌⊎◌, ℕ, ◌+◌, ◌<◌, ◌≤◌, true, true≢false, List, Some, length, slice_index, refl, ap, sym, ◌∙◌, subst, arith}
+use Rattle.std.proofs.Common.{inr, ◌≡◌, ℕ, ◌<◌, true, true≢false, List, length, slice_index, sym, ◌∙◌, subst}
 use mathlib.Core.Option.{some}
 use lib.ListN.{get_elem?}
-use Rattle.atomic_table.specs.Table.{State, Final, Seen}
+use Rattle.atomic_table.specs.Table.{Final, Seen}
 use Rattle.waff_cells.specs.Meaning.{Cells}
-use Rattle.waff_cells.specs.Serial.{SameParcel, serial}
+use Rattle.waff_cells.specs.Serial.{serial}
 use Rattle.waff_core.specs.Job.{JobValue, IsIn}
-use Rattle.waff_core.specs.Machine.{Core, IsAway}
+use Rattle.waff_core.specs.Machine.{IsAway}
 use Rattle.waff_cells.specs.Parcel.{IsParcel}
 use Rattle.waff_board.specs.Seats.{HasSeen, Shown}
 use Rattle.waff_board.specs.Rule.{Holds}
@@ -38,15 +38,17 @@ module _ {S : Type 0} (items : S → List ℕ) (setup : Setup) (id : ℕ) (v : V
       let job = setup.job in
       let facts : Known job setup.seats h.core = known job h.told.job setup.seats h.events h.core h.reached in
       let done : (n : ℕ) → IsIn job n → h.core.done n ≡ true
-          = (λ n within. (h.words.statuses n within).done.0 (subst (λ ws. slice_index ws n ≡ 2) (sym final.2) (over n within))) in
+      = (λ n within. (h.words.statuses n within).done.0 (subst (λ ws. slice_index ws n ≡ 2) (sym final.2) (over n within))) in
       let home : (a : ℕ) → ¬ IsAway job h.core a
-          = (λ a away.
-              let within : IsIn job away.message = facts.within away.actor away.message (inr away.running) in
-              true≢false (sym (done away.message within) ∙ facts.undone away.actor away.message (inr away.running))) in
+      = (λ a away.
+      let within : IsIn job away.message = facts.within away.actor away.message (inr away.running) in
+      true≢false (sym (done away.message within) ∙ facts.undone away.actor away.message (inr away.running))) in
       record {
         count = sym final.3 ∙ h.slots.count;
         each = λ a within.
-            let slot = h.slots.home a within (home a) in
-            (slot.0, final.4 a slot.0 slot.1,
-                parcel_same job a h.core.cells (serial job.ops (length job.ops)) (items slot.0) (facts.finished done a) slot.2);
+            let slot = h.slots.home a within (home a) in (
+              slot.0,
+              final.4 a slot.0 slot.1,
+              parcel_same job a h.core.cells (serial job.ops (length job.ops)) (items slot.0) (facts.finished done a) slot.2,
+            );
       }

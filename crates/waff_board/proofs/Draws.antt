@@ -1,21 +1,19 @@
 -- A draw keeps the rule.
-use Rattle.std.proofs.Common.{◌≡◌, ◌≢◌, ◌⊎◌, inl, inr, ℕ, zero, suc, ◌+◌, ◌-◌, ◌%◌, ◌^◌, ◌<◌, ◌≤◌, true, List, [], ◌∷◌, ◌++◌, Option, Some, None, All, AllPairs, Contains, length, set, slice_get, slice_index, get_or, refl, ap, sym, ◌∙◌, subst, ⊎_elim, arith, length-set}
+use Rattle.std.proofs.Common.{◌≡◌, ◌≢◌, ◌⊎◌, inl, inr, ℕ, ◌+◌, ◌%◌, ◌^◌, ◌<◌, ◌≤◌, List, [], ◌∷◌, ◌++◌, Option, Some, None, Contains, length, set, slice_get, slice_index, refl, sym, ◌∙◌, subst, ⊎_elim, arith, length-set}
 use Rattle.std.proofs.Math.Nat.{mod-eq_of_lt}
 use Rattle.std.proofs.lemmas.List.{get_or-set_same, get_or-set_other}
 use Rattle.std.proofs.lemmas.List.Elements.{All-weaker, All-push, Contains-push_cases}
 use Rattle.std.proofs.lemmas.List.Quantifiers.{all_pairs_push}
 use mathlib.Core.Option.{some}
-use lib.ListN.{get_elem?}
-use Rattle.atomic_table.specs.Table.{State, Allows, keeps}
-use Rattle.waff_core.specs.Job.{JobValue, IsJob, IsIn}
-use Rattle.waff_core.specs.Machine.{Core, IsAway, Runs, opening, phase_of, with_phase, phase_drawn, drawn_by}
+use Rattle.atomic_table.specs.Table.{Allows, keeps}
+use Rattle.waff_core.specs.Job.{JobValue}
+use Rattle.waff_core.specs.Machine.{Core, IsAway, Runs, opening, phase_of, phase_drawn, drawn_by}
 use Rattle.waff_core.specs.declared.event.Event.{Event}
 use Rattle.waff_core.specs.declared.event.Event.TheVariants.{Draw}
-use Rattle.waff_core.specs.declared.phase.Phase.{Phase}
-use Rattle.waff_core.specs.declared.phase.Phase.TheVariants.{Free, Drawn, Running, Ended}
-use Rattle.waff_board.specs.Shows.{IsRunning, IsStatus, Words, Slots}
+use Rattle.waff_core.specs.declared.phase.Phase.TheVariants.{Free, Running}
+use Rattle.waff_board.specs.Shows.{IsStatus, Words, Slots}
 use Rattle.waff_board.specs.Seats.{Shown, Seats}
-use Rattle.waff_board.specs.Rule.{Holds, IsSetup, MAX_SEATS}
+use Rattle.waff_board.specs.Rule.{Holds}
 use Rattle.waff_board.specs.Plays.{drawn_view}
 use Rattle.waff_board.specs.declared.view.Setup.{Setup}
 use Rattle.waff_board.specs.declared.view.View.{View}
@@ -113,14 +111,13 @@ module _ (setup : Setup) where
       let next : Core = drawn_by job core x in
       let events : List Event = h.events ++ Draw x ∷ [] in
       let reached : Runs job (opening setup.seats) events next
-          = runs_more job (opening setup.seats) core next h.events (Draw x) h.reached (free, refl) in
+      = runs_more job (opening setup.seats) core next h.events (Draw x) h.reached (free, refl) in
       let drawn : slice_index s.words 0 ≡ core.drawn = h.words.draws in
       let limit : core.drawn + 1 ≤ length job.ops + setup.seats = (known job h.told.job setup.seats events next reached).drawn in
       let short = h.told.short in
       let few = h.told.few in
       let fits : (core.drawn + 1) % 2 ^ 64 ≡ core.drawn + 1 = mod-eq_of_lt (omega (arith, limit, short, few)) in
-      let word : (slice_index s.words 0 + 1) % 2 ^ 64 ≡ core.drawn + 1 = rw drawn fits in
-      (
+      let word : (slice_index s.words 0 + 1) % 2 ^ 64 ≡ core.drawn + 1 = rw drawn fits in (
         drawn_view v (slice_index s.words 0),
         keeps,
         tt,
@@ -135,8 +132,8 @@ module _ (setup : Setup) where
               (seats_moved setup core next s.views id v (drawn_view v core.drawn) at (moves_drawn job core x free) h.seats refl refl
               (shown_drawn job core x free v refl mine)
               (λ p there. ⊎_elim {C = Contains v.draws p ⊎ (p ≡ core.drawn)}
-                  (λ (old : Contains v.draws p). inl old) (λ (new : core.drawn ≡ p). inr (sym new))
-                  (Contains-push_cases v.draws core.drawn p there)));
+              (λ (old : Contains v.draws p). inl old) (λ (new : core.drawn ≡ p). inr (sym new))
+              (Contains-push_cases v.draws core.drawn p there)));
         },
         refl,
       )

@@ -1,28 +1,22 @@
 -- A finish keeps the rule.
-use Rattle.std.proofs.Common.{◌≡◌, ◌≢◌, ◌⊎◌, inl, inr, ⊎_elim, ℕ, zero, suc, ◌+◌, ◌-◌, ◌<◌, ◌≤◌, ◌==◌, ◌||◌, Bool, true, false, true≢false, List, [], ◌∷◌, ◌++◌, Some, Contains, length, set, slice_index, refl, ap, sym, ◌∙◌, subst, arith, length-set}
+use Rattle.std.proofs.Common.{◌≡◌, ◌≢◌, inl, inr, ⊎_elim, ℕ, ◌==◌, ◌||◌, true, List, [], ◌∷◌, ◌++◌, Some, Contains, set, slice_index, refl, ap, sym, ◌∙◌, subst, arith, length-set}
 use Rattle.std.proofs.lemmas.List.{get_or-set_same, get_or-set_other}
-use Rattle.std.proofs.lemmas.List.Elements.{Contains-push_cases}
 use Rattle.std.proofs.lemmas.Option.{same_Some}
-use mathlib.Core.Option.{Option, some, none}
+use mathlib.Core.Option.{Option, none}
 use mathlib.Core.Logic.{dite}
 use native.Mathlib.Decide.{ℕ_discrete}
-use lib.ListN.{get_elem?}
-use Rattle.atomic_table.specs.Table.{State, Allows, homes_after, carried_after}
-use Rattle.waff_model.specs.Cells.{cells_of}
-use Rattle.waff_model.specs.declared.cell.Cell.{Cell}
-use Rattle.waff_cells.specs.Meaning.{Cells, meaning}
+use Rattle.atomic_table.specs.Table.{Allows, homes_after}
+use Rattle.waff_cells.specs.Meaning.{meaning}
 use Rattle.waff_cells.specs.Serial.{SameParcel, ops_of, serial}
 use Rattle.waff_cells.proofs.MeaningLaws.{meaning_other}
 use Rattle.waff_core.specs.Job.{JobValue, IsJob, IsIn, IsOwner, owners_of}
-use Rattle.waff_core.specs.Machine.{Core, IsAway, IsClear, Runs, opening, phase_of, with_phase, ended_by}
-use Rattle.waff_core.specs.declared.event.Event.{Event}
+use Rattle.waff_core.specs.Machine.{Core, IsAway, IsClear, opening, phase_of, ended_by}
 use Rattle.waff_core.specs.declared.event.Event.TheVariants.{End}
 use Rattle.waff_core.specs.declared.phase.Phase.TheVariants.{Free, Running}
-use Rattle.waff_core.proofs.Phases.{Has, phase_same, phase_other}
+use Rattle.waff_core.proofs.Phases.{phase_same, phase_other}
 use Rattle.waff_core.proofs.Settling.{done_this, done_kept, done_cases}
-use Rattle.waff_cells.specs.Parcel.{IsParcel}
-use Rattle.waff_board.specs.Shows.{IsRunning, IsStatus, Words, Slots}
-use Rattle.waff_board.specs.Seats.{HasSeen, Shown, Seats}
+use Rattle.waff_board.specs.Shows.{IsStatus, Words, Slots}
+use Rattle.waff_board.specs.Seats.{HasSeen, Shown}
 use Rattle.waff_board.specs.Rule.{Holds}
 use Rattle.waff_board.specs.Plays.{Parcels, finished_view}
 use Rattle.waff_board.specs.declared.view.Setup.{Setup}
@@ -30,7 +24,7 @@ use Rattle.waff_board.specs.declared.view.View.{View}
 use Rattle.waff_board.proofs.Known.{Known, known, runs_more}
 use Rattle.waff_board.proofs.Seen.{finish_cases}
 use Rattle.waff_board.proofs.Moves.{Moves, at_within, seats_moved}
-use Rattle.waff_board.proofs.Owners.{AreApart, decide_in}
+use Rattle.waff_board.proofs.Owners.{decide_in}
 use Rattle.waff_board.proofs.Phases.{IsStill, runs_before}
 use Rattle.waff_board.proofs.Handing.{IsHome, Given, give_all, given}
 use Rattle.waff_board.proofs.Begins.{parcel_same, listed_owner, owner_listed, owners_apart}
@@ -57,7 +51,7 @@ module _ (job : JobValue) (is : IsJob job) (seats : ℕ) (core : Core) (known : 
   run_other y n now same =
       let actor : y ≡ x = known.alone y x m (inr (subst (λ k. phase_of core.phases y ≡ Some (Running k)) same (run_before y n now))) (inr runs) in
       free_still n (same_Some Free (Running n)
-          (sym free_here ∙ subst (λ z. phase_of (ended_by job core x m).phases z ≡ Some (Running n)) actor now))
+      (sym free_here ∙ subst (λ z. phase_of (ended_by job core x m).phases z ≡ Some (Running n)) actor now))
 
   -- who ran another message runs it still
   run_after : (y n : ℕ) → phase_of core.phases y ≡ Some (Running n) → n ≢ m → phase_of (ended_by job core x m).phases y ≡ Some (Running n)
@@ -79,37 +73,37 @@ module _ (job : JobValue) (is : IsJob job) (seats : ℕ) (core : Core) (known : 
         get_or-set_other words m 0 2 0 (λ none. omega (arith, none, from)) ∙ h.draws;
     statuses = λ n within. dite (ℕ_discrete n m)
         (λ same.
-            let to = in_job.to in
-            let count = h.count in
-            let word : slice_index (set words m 2) n ≡ 2
-            = subst (λ k. slice_index (set words m 2) k ≡ 2) (sym same) (get_or-set_same words m 2 0 (omega (arith, to, count))) in
-            subst (IsStatus (ended_by job core x m) n) (sym word)
-            (record {
-              done = (
-                (λ two. subst (λ k. (k == m || core.done k) ≡ true) (sym same) (done_this core m)),
-                (λ done. refl),
-              );
-              running = (
-                (λ one. absurd (omega (arith, one))),
-                (λ run. absurd (run_other run.actor n run.running same)),
-              );
-              known = omega arith;
-            }))
+        let to = in_job.to in
+        let count = h.count in
+        let word : slice_index (set words m 2) n ≡ 2
+        = subst (λ k. slice_index (set words m 2) k ≡ 2) (sym same) (get_or-set_same words m 2 0 (omega (arith, to, count))) in
+        subst (IsStatus (ended_by job core x m) n) (sym word)
+        (record {
+          done = (
+            (λ two. subst (λ k. (k == m || core.done k) ≡ true) (sym same) (done_this core m)),
+            (λ done. refl),
+          );
+          running = (
+            (λ one. absurd (omega (arith, one))),
+            (λ run. absurd (run_other run.actor n run.running same)),
+          );
+          known = omega arith;
+        }))
         (λ other.
-            let old : IsStatus core n (slice_index words n) = h.statuses n within in
-            subst (IsStatus (ended_by job core x m) n) (sym (get_or-set_other words m n 2 0 other))
-            (record {
-              done = (
-                (λ two. done_kept core m n (old.done.0 two)),
-                (λ done. ⊎_elim {C = slice_index words n ≡ 2}
-                    (λ (same : n ≡ m). absurd (other same)) (λ (was : core.done n ≡ true). old.done.1 was) (done_cases core m n done)),
-              );
-              running = (
-                (λ one. let run = old.running.0 one in record { actor = run.actor; running = run_after run.actor n run.running other }),
-                (λ run. old.running.1 (record { actor = run.actor; running = run_before run.actor n run.running })),
-              );
-              known = old.known;
-            }));
+        let old : IsStatus core n (slice_index words n) = h.statuses n within in
+        subst (IsStatus (ended_by job core x m) n) (sym (get_or-set_other words m n 2 0 other))
+        (record {
+          done = (
+            (λ two. done_kept core m n (old.done.0 two)),
+            (λ done. ⊎_elim {C = slice_index words n ≡ 2}
+                (λ (same : n ≡ m). absurd (other same)) (λ (was : core.done n ≡ true). old.done.1 was) (done_cases core m n done)),
+          );
+          running = (
+            (λ one. let run = old.running.0 one in record { actor = run.actor; running = run_after run.actor n run.running other }),
+            (λ run. old.running.1 (record { actor = run.actor; running = run_before run.actor n run.running })),
+          );
+          known = old.known;
+        }));
   }
 
   module _ {S : Type 0} (items : S → List ℕ) (homes : List (Option S)) (h : Slots items job core homes) where
@@ -133,28 +127,33 @@ module _ (job : JobValue) (is : IsJob job) (seats : ℕ) (core : Core) (known : 
       count = r.count ∙ h.count;
       home = λ a within not_away. ⊎_elim {C = IsHome items job.layout.spaces (meaning (ops_of job.ops m) core.cells) (homes_after homes held (give_all held)) a}
           (λ (there : Contains (owners_of job.owners m) a).
-              let slot = r.home a there in
-              let same : SameParcel job.layout.spaces a (meaning (ops_of job.ops m) core.cells) (serial job.ops m)
-              = known.after x m a (inr runs) clear (listed_owner job is m a in_job there) in
-              (slot.0, slot.1, parcel_same job a (serial job.ops m) (meaning (ops_of job.ops m) core.cells) (items slot.0)
-                  (λ cell is_cell owned. sym (same cell is_cell owned)) slot.2))
+          let slot = r.home a there in
+          let same : SameParcel job.layout.spaces a (meaning (ops_of job.ops m) core.cells) (serial job.ops m)
+          = known.after x m a (inr runs) clear (listed_owner job is m a in_job there) in (
+            slot.0,
+            slot.1,
+            parcel_same job a (serial job.ops m) (meaning (ops_of job.ops m) core.cells) (items slot.0)
+                (λ cell is_cell owned. sym (same cell is_cell owned)) slot.2,
+          ))
           (λ (other : ¬ Contains (owners_of job.owners m) a).
-              let slot = h.home a within (λ away. not_away (record {
-                actor = away.actor;
-                message = away.message;
-                running = run_after away.actor away.message away.running
-                    (λ same. other (owner_listed job is m a in_job (subst (λ n. IsOwner job.layout.spaces (ops_of job.ops n) a) same away.owner)));
-                owner = away.owner;
-              })) in
-              (slot.0, r.same a other ∙ slot.1,
-                  parcel_same job a core.cells (meaning (ops_of job.ops m) core.cells) (items slot.0) (cells_stay a other) slot.2))
+          let slot = h.home a within (λ away. not_away (record {
+            actor = away.actor;
+            message = away.message;
+            running = run_after away.actor away.message away.running
+                (λ same. other (owner_listed job is m a in_job (subst (λ n. IsOwner job.layout.spaces (ops_of job.ops n) a) same away.owner)));
+            owner = away.owner;
+          })) in (
+            slot.0,
+            r.same a other ∙ slot.1,
+            parcel_same job a core.cells (meaning (ops_of job.ops m) core.cells) (items slot.0) (cells_stay a other) slot.2,
+          ))
           (decide_in (owners_of job.owners m) a);
       away = λ a away.
           let was : phase_of core.phases away.actor ≡ Some (Running away.message) = run_before away.actor away.message away.running in
           let other : ¬ Contains (owners_of job.owners m) a = (λ there.
-              run_other away.actor away.message away.running
-              (known.apart away.actor x away.message m a (inr was) (inr runs) (known.clear away.actor away.message was) clear
-                  away.owner (listed_owner job is m a in_job there))) in
+          run_other away.actor away.message away.running
+          (known.apart away.actor x away.message m a (inr was) (inr runs) (known.clear away.actor away.message was) clear
+          away.owner (listed_owner job is m a in_job there))) in
           r.same a other ∙ h.away a (record { actor = away.actor; message = away.message; running = was; owner = away.owner });
     }
 
@@ -194,8 +193,7 @@ finishes {S} items setup slots id m v held is_running parcels s h sized at small
     let facts : Known job setup.seats core = known job is setup.seats h.events core h.reached in
     let next : Core = ended_by job core x m in
     let r : Given items job.layout.spaces (serial job.ops m) s.homes (owners_of job.owners m) held
-        = put job is setup.seats core facts x m runs items s.homes h.slots held parcels in
-    (
+    = put job is setup.seats core facts x m runs items s.homes h.slots held parcels in (
       finished_view v m,
       give_all held,
       r.valid,

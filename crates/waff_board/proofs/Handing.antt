@@ -1,6 +1,5 @@
 -- Several slots taken in one step, and several given back.
-use Rattle.std.proofs.Common.{◌≡◌, ◌≢◌, ◌⊎◌, inl, inr, ℕ, zero, suc, ◌+◌, ◌<◌, ◌≤◌, List, [], ◌∷◌, Contains, length, set, refl, ap, sym, ◌∙◌, subst, ⊎_elim, arith, length-set}
-use Rattle.std.specs.List.{AllZip}
+use Rattle.std.proofs.Common.{◌≡◌, ℕ, ◌<◌, List, [], ◌∷◌, Contains, length, set, refl, sym, ◌∙◌, subst, ⊎_elim, arith, length-set}
 use mathlib.Core.Option.{Option, some, none}
 use mathlib.Core.Logic.{dite}
 use native.Mathlib.Decide.{ℕ_discrete}
@@ -42,9 +41,9 @@ module _ {S : Type 0} (items : S → List ℕ) (spaces : List Space) (cells : Ce
         gone = λ a in_all. dite (ℕ_discrete a o)
             (λ same. subst (λ b. get_elem? (set left o none) b ≡ some none) (sym same) (set_here left o none within))
             (λ other. ⊎_elim {C = get_elem? (set left o none) a ≡ some none}
-                (λ (is : o ≡ a). absurd (other (sym is)))
-                (λ (in_rest : Contains rest a). set_else left o a none other ∙ r.gone a in_rest)
-                (in_cases o rest a in_all));
+            (λ (is : o ≡ a). absurd (other (sym is)))
+            (λ (in_rest : Contains rest a). set_else left o a none other ∙ r.gone a in_rest)
+            (in_cases o rest a in_all));
         stays = λ a away. dite (ℕ_discrete a o)
             (λ same. subst (λ b. get_elem? (set left o none) b ≡ some none) (sym same) (set_here left o none within))
             (λ other. set_else left o a none other ∙ r.stays a away);
@@ -102,7 +101,7 @@ module _ {S : Type 0} (items : S → List ℕ) (spaces : List Space) (cells : Ce
       let long : length put ≡ length homes = length-set homes slot.0 (some slot.1) in
       let is : slot.0 ≡ o = parcels.0.0 in
       let r : Given items spaces cells put rest held
-          = given put rest held apart.1 parcels.1 (λ a there. let few = within a (in_rest o rest a there) in omega (arith, few, long)) in
+      = given put rest held apart.1 parcels.1 (λ a there. let few = within a (in_rest o rest a there) in omega (arith, few, long)) in
       let few : o < length homes = within o (in_first o rest) in
       let here : get_elem? put slot.0 ≡ some (some slot.1) = set_here homes slot.0 (some slot.1) (omega (arith, few, is)) in
       record {
@@ -110,7 +109,7 @@ module _ {S : Type 0} (items : S → List ℕ) (spaces : List Space) (cells : Ce
         none = r.none;
         home = λ a there. ⊎_elim {C = IsHome items spaces cells (homes_after put held (give_all held)) a}
             (λ (same : o ≡ a). subst (λ b. IsHome items spaces cells (homes_after put held (give_all held)) b) same
-                (slot.1, r.same o apart.0 ∙ subst (λ b. get_elem? put b ≡ some (some slot.1)) is here, parcels.0.1))
+            (slot.1, r.same o apart.0 ∙ subst (λ b. get_elem? put b ≡ some (some slot.1)) is here, parcels.0.1))
             (λ (after : Contains rest a). r.home a after)
             (in_cases o rest a there);
         same = λ a not_in. r.same a (λ in_it. not_in (in_rest o rest a in_it))

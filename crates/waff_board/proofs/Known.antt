@@ -1,11 +1,11 @@
 -- What is known of the states that the core machine reaches, as the steps of the board need it.
-use Rattle.std.proofs.Common.{◌||◌, ◌≡◌, ◌≢◌, ◌⊎◌, inl, inr, ⊎_elim, ℕ, zero, suc, ◌+◌, ◌-◌, ◌<◌, ◌≤◌, true, false, true≢false, List, [], ◌∷◌, ◌++◌, Some, All, AllPairs, Contains, length, get_or, slice_get, eqb, refl, ap, sym, ◌∙◌, subst, arith}
-use Rattle.std.specs.List.{list_any, IsDistinct}
+use Rattle.std.proofs.Common.{◌||◌, ◌≡◌, ◌≢◌, ⊎_elim, ℕ, zero, suc, ◌+◌, ◌-◌, ◌<◌, ◌≤◌, true, false, true≢false, List, [], ◌∷◌, ◌++◌, Some, All, AllPairs, length, get_or, slice_get, eqb, refl, ap, sym, ◌∙◌, subst, arith}
+use Rattle.std.specs.List.{list_any}
 use Rattle.std.proofs.lemmas.Bool.{cases_eq, cases_order, eqb-true, eq-eqb}
 use Rattle.std.proofs.Math.Bool.{or-true}
 use Rattle.std.proofs.lemmas.Bool.Decides.{Decides-eqb}
 use Rattle.std.proofs.lemmas.Option.{none-some, same_Some, slice_get-get_or}
-use Rattle.std.proofs.lemmas.List.Elements.{All-get_or, All-contains, All-cons}
+use Rattle.std.proofs.lemmas.List.Elements.{All-get_or, All-contains}
 use Rattle.std.proofs.lemmas.Map.Made.{IsDistinct-from_AllPairs}
 use Rattle.std.proofs.lemmas.Map.Views.{Contains-from_any}
 use Rattle.std.proofs.lemmas.Map.Steps.{length-le_from_distinct_below, le-length_from_below}
@@ -15,10 +15,10 @@ use Rattle.waff_order.specs.Needs.{IsNeed}
 use Rattle.waff_cells.specs.Meaning.{meaning}
 use Rattle.waff_cells.specs.Serial.{SameParcel, ops_of, serial}
 use Rattle.waff_core.specs.Job.{JobValue, IsJob, IsIn, IsOrder, IsOwner, StandsAt}
-use Rattle.waff_core.specs.Machine.{Core, IsAway, IsClear, Runs, Steps, opening, phase_of}
+use Rattle.waff_core.specs.Machine.{Core, IsClear, Runs, Steps, opening, phase_of}
 use Rattle.waff_core.specs.Settled.{IsLast}
 use Rattle.waff_core.specs.declared.event.Event.{Event}
-use Rattle.waff_core.specs.declared.phase.Phase.TheVariants.{Drawn, Running}
+use Rattle.waff_core.specs.declared.phase.Phase.TheVariants.{Running}
 use Rattle.waff_core.proofs.Phases.{Has, ended, ended_few}
 use Rattle.waff_core.proofs.Sound.{Sound, sound_reached, seats_stay, drawn_is_in}
 use Rattle.waff_core.proofs.Settling.{ordered_at_one, clear_settled, ended_settled, serial_same}
@@ -70,7 +70,7 @@ module _ (needs : List (List ℕ)) (order : List ℕ) (h : IsOrder needs order) 
   order_is_short =
       let few : length (0 ∷ order) ≤ length needs + 1
       = length-le_from_distinct_below (0 ∷ order) (length needs + 1) (IsDistinct-from_AllPairs Decides-eqb (0 ∷ order) pairs)
-          (λ q found. All-contains (λ n. n < length needs + 1) (0 ∷ order) q below (Contains-from_any eqb-true q (0 ∷ order) found)) in
+      (λ q found. All-contains (λ n. n < length needs + 1) (0 ∷ order) q below (Contains-from_any eqb-true q (0 ∷ order) found)) in
       omega (arith, few)
 
   any_at : (xs : List ℕ) (k q : ℕ) → slice_get xs k ≡ Some q → list_any (eqb q) xs ≡ true
@@ -126,8 +126,8 @@ module _ (job : JobValue) (is : IsJob job) (core : Core) (sound : Sound job core
   one_message x y m n a has other clear_m clear_n one two = ⊎_elim {C = m ≡ n}
       (λ (same : m ≡ n). same)
       (⊎_elim {C = m ≡ n}
-        (λ (before : m < n). absurd (earlier_done x y m n a has other before clear_n one two))
-        (λ (after : n < m). absurd (earlier_done y x n m a other has after clear_m two one)))
+      (λ (before : m < n). absurd (earlier_done x y m n a has other before clear_n one two))
+      (λ (after : n < m). absurd (earlier_done y x n m a other has after clear_m two one)))
       (cases_order m n)
 
   all_finished : ((n : ℕ) → IsIn job n → core.done n ≡ true)
@@ -137,20 +137,20 @@ module _ (job : JobValue) (is : IsJob job) (core : Core) (sound : Sound job core
       let is_last : IsLast job core a last = (sound.cells a).1 in
       let count : length job.assigned ≡ length job.ops = is.count in
       let short : last ≤ length job.ops = ⊎_elim {C = last ≤ length job.ops}
-          (λ (none : last ≡ 0). omega arith)
-          (λ (some : last ≢ 0). let to = (is_last.is (omega arith)).to in omega (arith, to))
-          (cases_eq last 0) in
+      (λ (none : last ≡ 0). omega arith)
+      (λ (some : last ≢ 0). let to = (is_last.is (omega arith)).to in omega (arith, to))
+      (cases_eq last 0) in
       (sound.cells a).2 cell is_cell owned
       ∙ sym (serial_same job is a last (length job.ops) short (omega arith)
-          (λ i later to is_above.
-              let bound : i ≤ last = is_last.greatest i (record {
-                from = omega (arith, later);
-                to = omega (arith, to, count);
-                done = done i (record { from = omega (arith, later); to = to });
-                above = is_above;
-              }) in
-              omega (arith, bound, later))
-          cell is_cell owned)
+      (λ i later to is_above.
+      let bound : i ≤ last = is_last.greatest i (record {
+        from = omega (arith, later);
+        to = omega (arith, to, count);
+        done = done i (record { from = omega (arith, later); to = to });
+        above = is_above;
+      }) in
+      omega (arith, bound, later))
+      cell is_cell owned)
 
 -- each state that is reached is known
 pub known : (job : JobValue) → IsJob job → (seats : ℕ) (events : List Event) (core : Core) → Runs job (opening seats) events core

@@ -5,6 +5,8 @@ pub mod Seen
 pub mod Draws
 pub mod Numbers
 pub mod Lookings
+pub mod Carrying
+pub mod Grants
 pub mod Owners
 pub mod Handing
 pub mod Begins

@@ -1,10 +1,10 @@
 -- Looks at several messages.
-use Rattle.std.proofs.Common.{◌≡◌, ◌⊎◌, inl, inr, ⊎_elim, ℕ, zero, suc, ◌+◌, ◌-◌, ◌<◌, ◌≤◌, Bool, true, false, not, cond, List, [], ◌∷◌, ◌++◌, Option, Some, None, MatchBool, All, Contains, find, length, get_or, take, slice_index_or, refl, sym, ap, ◌∙◌, subst, arith}
+use Rattle.std.proofs.Common.{◌≡◌, ⊎_elim, ℕ, ◌+◌, ◌<◌, ◌≤◌, Bool, true, false, not, cond, List, [], ◌∷◌, ◌++◌, Some, None, MatchBool, All, Contains, find, length, get_or, take, slice_index_or, refl, sym, ap, ◌∙◌, subst, arith}
 use Rattle.std.proofs.lemmas.List.{take_more, get_or_read}
 use Rattle.std.proofs.lemmas.List.Elements.{Contains-get_or, All-head, All-tail}
 use Rattle.std.proofs.lemmas.Option.{none-some}
-use Rattle.waff_order.specs.Needs.{needs_of, IsNeed}
-use Rattle.waff_core.specs.Job.{JobValue, IsJob, IsIn}
+use Rattle.waff_order.specs.Needs.{needs_of}
+use Rattle.waff_core.specs.Job.{JobValue, IsJob}
 use Rattle.waff_board.specs.Calls.{Looked, LooksOver}
 use Rattle.waff_board.specs.Seats.{has_seen, HasSeen}
 use Rattle.waff_board.specs.declared.view.View.{View}

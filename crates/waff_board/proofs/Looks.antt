@@ -1,20 +1,17 @@
 -- A look keeps the rule.
-use Rattle.std.proofs.Common.{◌≡◌, ◌⊎◌, inl, inr, ℕ, ◌+◌, ◌<◌, ◌≤◌, ◌==◌, Bool, true, List, [], ◌∷◌, ◌++◌, Contains, length, set, slice_index, refl, ap, sym, ◌∙◌, subst, ⊎_elim, arith, eqb-true}
+use Rattle.std.proofs.Common.{◌≡◌, inl, ℕ, true, List, set, slice_index, refl, sym, subst, ⊎_elim, arith}
 use Rattle.std.proofs.lemmas.List.{set-get_or}
-use Rattle.std.proofs.lemmas.List.Elements.{Contains-push_cases}
-use mathlib.Core.Option.{some}
-use lib.ListN.{get_elem?}
-use Rattle.atomic_table.specs.Table.{State, Allows, keeps}
+use Rattle.atomic_table.specs.Table.{Allows, keeps}
 use Rattle.waff_core.specs.Job.{JobValue, IsIn}
 use Rattle.waff_core.specs.Machine.{Core}
-use Rattle.waff_board.specs.Shows.{IsStatus, Words, Slots}
-use Rattle.waff_board.specs.Seats.{HasSeen, Shown, Seats}
+use Rattle.waff_board.specs.Shows.{IsStatus, Words}
+use Rattle.waff_board.specs.Seats.{HasSeen, Shown}
 use Rattle.waff_board.specs.Rule.{Holds}
 use Rattle.waff_board.specs.Plays.{looked_view}
 use Rattle.waff_board.specs.declared.view.Setup.{Setup}
 use Rattle.waff_board.specs.declared.view.View.{View}
 use Rattle.waff_board.proofs.Seen.{look_cases}
-use Rattle.waff_board.proofs.Moves.{Moves, seats_moved}
+use Rattle.waff_board.proofs.Moves.{seats_moved}
 
 -- what is seen after a look at a status word of the state is done
 seen_looked : (job : JobValue) (core : Core) (v : View) (m word : ℕ) → Shown job core v → IsStatus core m word
@@ -40,8 +37,7 @@ pub looks : {S : Type 0} (items : S → List ℕ) (setup : Setup) (slots id m : 
 looks {S} items setup slots id m v held is_in s h sized at small =
     let word : ℕ = slice_index s.words m in
     let mine : Shown setup.job h.core v = h.seats.each id v at in
-    let same : set s.words m word ≡ s.words = set-get_or s.words m 0 in
-    (
+    let same : set s.words m word ≡ s.words = set-get_or s.words m 0 in (
       looked_view v m word,
       keeps,
       tt,

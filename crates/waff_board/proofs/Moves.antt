@@ -1,8 +1,6 @@
 -- A step of one actor leaves what the seats of the others know.
-use Rattle.std.proofs.Common.{zero, suc, ◌-◌, inl, inr, ◌≡◌, ◌≢◌, ◌⊎◌, ℕ, ◌+◌, ◌<◌, ◌≤◌, true, List, [], ◌∷◌, Some, All, Contains, length, set, refl, ap, sym, ◌∙◌, subst, ⊎_elim, arith, length-set}
+use Rattle.std.proofs.Common.{zero, suc, ◌≡◌, ◌≢◌, ◌⊎◌, ℕ, ◌+◌, ◌<◌, ◌≤◌, true, List, [], ◌∷◌, Some, Contains, length, set, ap, sym, ◌∙◌, subst, ⊎_elim, arith, length-set}
 use mathlib.Core.Option.{some, some-ne-none}
-use mathlib.Core.Logic.{dite}
-use native.Mathlib.Decide.{ℕ_discrete}
 use lib.ListN.{get_elem?}
 use Rattle.std.proofs.lemmas.List.Elements.{All-weaker, All-contains}
 use Rattle.atomic_table.proofs.Lists.{at_set}
@@ -50,8 +48,8 @@ module _ (setup : Setup) (core next : Core) (views : List View) (id : ℕ) (v w 
   other_draws drawn j u apart there p mine theirs = ⊎_elim {C = ⊥}
       (λ (old : Contains v.draws p). apart (h.draws j id u v there at p theirs old))
       (λ (new : p ≡ core.drawn).
-          let below : p < core.drawn = All-contains (λ q. q < core.drawn) u.draws p (h.each j u there).below theirs in
-          absurd (omega (arith, below, new)))
+      let below : p < core.drawn = All-contains (λ q. q < core.drawn) u.draws p (h.each j u there).below theirs in
+      absurd (omega (arith, below, new)))
       (drawn p mine)
 
   module _ (actor : w.actor ≡ v.actor) where
@@ -59,15 +57,15 @@ module _ (setup : Setup) (core next : Core) (views : List View) (id : ℕ) (v w 
     each_moved shown j u there = ⊎_elim {C = Shown setup.job next u}
         (λ (here : (j ≡ id) × (w ≡ u)). subst (λ (u : View). Shown setup.job next u) here.1 shown)
         (λ (else : (j ≢ id) × (get_elem? views j ≡ some u)).
-            shown_moved setup.job core next v.actor u moves (other_actor j u else.0 else.1) (h.each j u else.1))
+        shown_moved setup.job core next v.actor u moves (other_actor j u else.0 else.1) (h.each j u else.1))
         (at_set views id j w u there)
 
     pub actors_moved : (j : ℕ) (u : View) → get_elem? (set views id w) j ≡ some u → u.actor ≡ j + 1
     actors_moved j u there = ⊎_elim {C = u.actor ≡ j + 1}
         (λ (here : (j ≡ id) × (w ≡ u)).
-            let mine : v.actor ≡ id + 1 = h.actors id v at in
-            let is : w.actor ≡ u.actor = ap (λ (u : View). u.actor) here.1 in
-            let place = here.0 in omega (arith, mine, is, place, actor))
+        let mine : v.actor ≡ id + 1 = h.actors id v at in
+        let is : w.actor ≡ u.actor = ap (λ (u : View). u.actor) here.1 in
+        let place = here.0 in omega (arith, mine, is, place, actor))
         (λ (else : (j ≢ id) × (get_elem? views j ≡ some u)). h.actors j u else.1)
         (at_set views id j w u there)
 
@@ -76,15 +74,15 @@ module _ (setup : Setup) (core next : Core) (views : List View) (id : ℕ) (v w 
         → (p : ℕ) → Contains a.draws p → Contains b.draws p → j ≡ k
     draws_moved drawn j k a b at_j at_k p in_a in_b = ⊎_elim {C = j ≡ k}
         (λ (here : (j ≡ id) × (w ≡ a)). ⊎_elim {C = j ≡ k}
-            (λ (too : (k ≡ id) × (w ≡ b)). here.0 ∙ sym too.0)
-            (λ (else : (k ≢ id) × (get_elem? views k ≡ some b)).
-                absurd (other_draws drawn k b else.0 else.1 p (subst (λ (u : View). Contains u.draws p) (sym here.1) in_a) in_b))
-            (at_set views id k w b at_k))
+        (λ (too : (k ≡ id) × (w ≡ b)). here.0 ∙ sym too.0)
+        (λ (else : (k ≢ id) × (get_elem? views k ≡ some b)).
+        absurd (other_draws drawn k b else.0 else.1 p (subst (λ (u : View). Contains u.draws p) (sym here.1) in_a) in_b))
+        (at_set views id k w b at_k))
         (λ (else : (j ≢ id) × (get_elem? views j ≡ some a)). ⊎_elim {C = j ≡ k}
-            (λ (here : (k ≡ id) × (w ≡ b)).
-                absurd (other_draws drawn j a else.0 else.1 p (subst (λ (u : View). Contains u.draws p) (sym here.1) in_b) in_a))
-            (λ (too : (k ≢ id) × (get_elem? views k ≡ some b)). h.draws j k a b else.1 too.1 p in_a in_b)
-            (at_set views id k w b at_k))
+        (λ (here : (k ≡ id) × (w ≡ b)).
+        absurd (other_draws drawn j a else.0 else.1 p (subst (λ (u : View). Contains u.draws p) (sym here.1) in_b) in_a))
+        (λ (too : (k ≢ id) × (get_elem? views k ≡ some b)). h.draws j k a b else.1 too.1 p in_a in_b)
+        (at_set views id k w b at_k))
         (at_set views id j w a at_j)
 
     pub free_moved : (x : ℕ) → length views < x → x ≤ setup.seats → phase_of next.phases x ≡ Some Free
@@ -103,11 +101,11 @@ module _ (setup : Setup) (core next : Core) (views : List View) (id : ℕ) (v w 
     draws = draws_moved actor drawn;
     made = λ u there. ⊎_elim {C = u.made ≡ length (set views id w)}
         (λ (here : (0 ≡ id) × (w ≡ u)).
-            let mine : v.made ≡ length views = h.made v (subst (λ i. get_elem? views i ≡ some v) (sym here.0) at) in
-            let is : w.made ≡ u.made = ap (λ (u : View). u.made) here.1 in
-            omega (arith, mine, is, made, length-set {A = View}))
+        let mine : v.made ≡ length views = h.made v (subst (λ i. get_elem? views i ≡ some v) (sym here.0) at) in
+        let is : w.made ≡ u.made = ap (λ (u : View). u.made) here.1 in
+        omega (arith, mine, is, made, length-set {A = View}))
         (λ (else : (0 ≢ id) × (get_elem? views 0 ≡ some u)).
-            let theirs : u.made ≡ length views = h.made u else.1 in omega (arith, theirs, length-set {A = View}))
+        let theirs : u.made ≡ length views = h.made u else.1 in omega (arith, theirs, length-set {A = View}))
         (at_set views id 0 w u there);
     few = let few = h.few in omega (arith, few, length-set {A = View});
     free = λ x past to.

@@ -1,5 +1,5 @@
 -- What a number draws, and what the seat then is.
-use Rattle.std.proofs.Common.{◌≡◌, ℕ, ◌+◌, ◌<◌, ◌≤◌, List, Option, Some, None, IfNone, length, slice_get, refl, sym, ap, ◌∙◌, subst, arith}
+use Rattle.std.proofs.Common.{◌≡◌, ℕ, ◌<◌, ◌≤◌, Option, Some, None, IfNone, length, slice_get, ap, ◌∙◌, arith}
 use Rattle.std.proofs.lemmas.Option.{slice_get_past, slice_get-get_or}
 use Rattle.std.specs.Prelude.{get_or}
 use Rattle.waff_core.specs.Job.{JobValue, IsJob}

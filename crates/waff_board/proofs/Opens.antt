@@ -1,23 +1,21 @@
 -- A board opens with the rule.
-use Rattle.std.proofs.Common.{◌≡◌, ◌≢◌, ◌⊎◌, inl, inr, ⊎_elim, ℕ, zero, suc, ◌+◌, ◌<◌, ◌≤◌, true, true≢false, List, [], ◌∷◌, ◌++◌, Option, Some, All, Contains, length, map, replicate, slice_get, slice_index, get_or, refl, ap, sym, ◌∙◌, subst, arith}
+use Rattle.std.proofs.Common.{◌≡◌, ℕ, zero, suc, ◌+◌, ◌<◌, ◌≤◌, true≢false, List, [], ◌∷◌, Some, length, map, replicate, slice_get, slice_index, refl, ap, sym, ◌∙◌, subst, arith}
 use Rattle.std.proofs.lemmas.List.{length-replicate}
 use Rattle.std.proofs.lemmas.Option.{none-some, same_Some}
 use mathlib.Core.Option.{some, some-injective, some-ne-none}
 use lib.ListN.{get_elem?}
 use Rattle.atomic_table.specs.Table.{opening as table_opening}
-use Rattle.waff_model.specs.Layout.{Space, IsCell, owner_of}
-use Rattle.waff_model.specs.declared.cell.Cell.{Cell}
+use Rattle.waff_model.specs.Layout.{Space}
 use Rattle.waff_model.proofs.ParcelLemmas.{place_within}
 use Rattle.waff_cells.specs.Serial.{zeros}
-use Rattle.waff_core.specs.Job.{JobValue, IsJob, IsIn}
-use Rattle.waff_core.specs.Machine.{Core, IsAway, opening, phase_of}
-use Rattle.waff_core.specs.declared.phase.Phase.{Phase}
+use Rattle.waff_core.specs.Job.{JobValue}
+use Rattle.waff_core.specs.Machine.{opening, phase_of}
 use Rattle.waff_core.specs.declared.phase.Phase.TheVariants.{Free, Running}
 use Rattle.waff_core.proofs.Phases.{phase_opening}
 use Rattle.waff_model.specs.Parcel.{parcel_size, place_of}
 use Rattle.waff_cells.specs.Parcel.{IsParcel}
-use Rattle.waff_board.specs.Shows.{IsRunning, Words, Slots}
-use Rattle.waff_board.specs.Seats.{Seats, Shown, first, fresh}
+use Rattle.waff_board.specs.Shows.{Words, Slots}
+use Rattle.waff_board.specs.Seats.{Seats, Shown, first}
 use Rattle.waff_board.specs.Rule.{Holds, IsSetup}
 use Rattle.waff_board.specs.declared.view.Setup.{Setup}
 use Rattle.waff_board.specs.declared.view.View.{View}
@@ -102,9 +100,12 @@ module _ (setup : Setup) (told : IsSetup setup) (some_seat : 1 ≤ setup.seats) 
   slots_opening {S = S} items xs empty = record {
     count = length_both xs ∙ empty.0;
     home = λ a within not_away.
-        let slot = there items xs a (replicate (parcel_size setup.job.layout.spaces a) 0) (empty.1 a within) in
-        (slot.0, slot.1, subst (λ numbers. IsParcel setup.job.layout.spaces a zeros numbers) (sym slot.2)
-            (zero_parcel setup.job.layout.spaces a));
+        let slot = there items xs a (replicate (parcel_size setup.job.layout.spaces a) 0) (empty.1 a within) in (
+          slot.0,
+          slot.1,
+          subst (λ numbers. IsParcel setup.job.layout.spaces a zeros numbers) (sym slot.2)
+              (zero_parcel setup.job.layout.spaces a),
+        );
     away = λ a away. absurd (none_run setup.seats away.actor away.message away.running);
   }
     where

@@ -1,5 +1,5 @@
 -- Lists of affinities in which none stands twice.
-use Rattle.std.proofs.Common.{◌≡◌, ◌≢◌, ◌⊎◌, inl, inr, ℕ, zero, suc, ◌+◌, ◌<◌, ◌≤◌, List, [], ◌∷◌, Contains, AllPairs, length, get_or, refl, ap, sym, ◌∙◌, subst, ⊎_elim, arith}
+use Rattle.std.proofs.Common.{◌≡◌, ◌⊎◌, inl, inr, ℕ, zero, suc, ◌<◌, List, [], ◌∷◌, Contains, AllPairs, get_or, refl, subst, ⊎_elim, arith}
 use mathlib.Core.Logic.{dite}
 use native.Mathlib.Decide.{ℕ_discrete}
 use Rattle.std.specs.List.Sorted.{IsStrictlyIncreasing}
@@ -24,9 +24,9 @@ decide_in [] a = inr (in_none a)
 decide_in (first ∷ rest) a = dite (ℕ_discrete first a)
     (λ same. inl (subst (λ b. Contains (first ∷ rest) b) same (in_first first rest)))
     (λ other. ⊎_elim {C = Contains (first ∷ rest) a ⊎ ¬ Contains (first ∷ rest) a}
-        (λ (there : Contains rest a). inl (in_rest first rest a there))
-        (λ (gone : ¬ Contains rest a). inr (λ within. ⊎_elim {C = ⊥} other gone (in_cases first rest a within)))
-        (decide_in rest a))
+    (λ (there : Contains rest a). inl (in_rest first rest a there))
+    (λ (gone : ¬ Contains rest a). inr (λ within. ⊎_elim {C = ⊥} other gone (in_cases first rest a within)))
+    (decide_in rest a))
 
 -- no affinity stands twice
 abbrev pub AreApart : List ℕ → Type 0

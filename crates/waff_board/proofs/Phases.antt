@@ -17,8 +17,8 @@ pub runs_before : (phases : List Phase) (x : ℕ) (old phase : Phase) → phase_
     → (y n : ℕ) → phase_of (with_phase phases x phase) y ≡ Some (Running n) → phase_of phases y ≡ Some (Running n)
 runs_before phases x old phase is still y n runs = dite (ℕ_discrete y x)
     (λ same. let there : phase_of (with_phase phases x phase) y ≡ Some phase
-        = subst (λ z. phase_of (with_phase phases x phase) z ≡ Some phase) (sym same) (phase_same phases x old phase is) in
-        absurd (still n (same_Some phase (Running n) (sym there ∙ runs))))
+    = subst (λ z. phase_of (with_phase phases x phase) z ≡ Some phase) (sym same) (phase_same phases x old phase is) in
+    absurd (still n (same_Some phase (Running n) (sym there ∙ runs))))
     (λ other. sym (phase_other phases x y old phase is other) ∙ runs)
 
 -- an actor that did not run leaves the others' runs
@@ -26,5 +26,5 @@ pub runs_after : (phases : List Phase) (x : ℕ) (old phase : Phase) → phase_o
     → (y n : ℕ) → phase_of phases y ≡ Some (Running n) → phase_of (with_phase phases x phase) y ≡ Some (Running n)
 runs_after phases x old phase is still y n runs = dite (ℕ_discrete y x)
     (λ same. let there : phase_of phases x ≡ Some (Running n) = subst (λ z. phase_of phases z ≡ Some (Running n)) same runs in
-        absurd (still n (same_Some old (Running n) (sym is ∙ there))))
+    absurd (still n (same_Some old (Running n) (sym is ∙ there))))
     (λ other. phase_other phases x y old phase is other ∙ runs)

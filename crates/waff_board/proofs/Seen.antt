@@ -16,7 +16,7 @@ or_swap false true false = refl
 or_swap false false true = refl
 or_swap false false false = refl
 
-or_false : (a : Bool) → (a || false) ≡ a
+pub or_false : (a : Bool) → (a || false) ≡ a
 or_false true = refl
 or_false false = refl
 
@@ -48,8 +48,8 @@ pub look_cases : (v : View) (m word n : ℕ) → HasSeen (looked_view v m word) 
 look_cases v m word n seen = ⊎_elim {C = HasSeen v n ⊎ ((m ≡ n) × (word ≡ 2))}
     (λ (old : HasSeen v n). inl old)
     (λ (new : (m == n && word == 2) ≡ true).
-        let both : ((m == n) ≡ true) × ((word == 2) ≡ true) = and_both (m == n) (word == 2) new in
-        inr (eqb-true m n both.0, eqb-true word 2 both.1))
+    let both : ((m == n) ≡ true) × ((word == 2) ≡ true) = and_both (m == n) (word == 2) new in
+    inr (eqb-true m n both.0, eqb-true word 2 both.1))
     (or_cases (has_seen v n) (m == n && word == 2) (sym (seen_looked v m word n) ∙ seen))
 
 -- what is seen after a finish was seen before, or is what was finished

@@ -1,21 +1,20 @@
 -- Making the next seat keeps the rule.
-use Rattle.std.proofs.Common.{◌≡◌, ◌≢◌, ◌⊎◌, inl, inr, ⊎_elim, ℕ, zero, suc, ◌+◌, ◌<◌, ◌≤◌, true, true≢false, List, [], ◌∷◌, ◌++◌, Some, All, Contains, length, set, refl, ap, sym, ◌∙◌, subst, arith, length-set}
+use Rattle.std.proofs.Common.{◌≡◌, ◌≢◌, ◌⊎◌, inl, inr, ⊎_elim, ℕ, zero, suc, ◌+◌, ◌<◌, true≢false, List, [], ◌∷◌, ◌++◌, Some, Contains, length, set, refl, ap, sym, ◌∙◌, subst, arith, length-set}
 use Rattle.std.proofs.lemmas.List.{length_push}
 use Rattle.std.proofs.lemmas.List.Elements.{All-nil}
 use mathlib.Core.Option.{some, some-injective, some-ne-none}
 use lib.ListN.{get_elem?}
-use Rattle.atomic_table.specs.Table.{State, Splits}
+use Rattle.atomic_table.specs.Table.{Splits}
 use Rattle.atomic_table.proofs.Lists.{at_set}
 use Rattle.waff_core.specs.Job.{JobValue}
 use Rattle.waff_core.specs.Machine.{Core, phase_of}
 use Rattle.waff_core.specs.declared.phase.Phase.TheVariants.{Free}
-use Rattle.waff_board.specs.Shows.{Words, Slots}
-use Rattle.waff_board.specs.Seats.{HasSeen, Shown, Seats, fresh}
+use Rattle.waff_board.specs.Seats.{Shown, Seats, fresh}
 use Rattle.waff_board.specs.Rule.{Holds}
 use Rattle.waff_board.specs.Plays.{made_view, next_view}
 use Rattle.waff_board.specs.declared.view.Setup.{Setup}
 use Rattle.waff_board.specs.declared.view.View.{View}
-use Rattle.waff_board.proofs.Moves.{Moves, each_moved, actors_moved, draws_moved, free_moved, at_within}
+use Rattle.waff_board.proofs.Moves.{Moves, each_moved, actors_moved, draws_moved, at_within}
 
 -- what stands in a list with one more at its end
 pub at_end : {A : Type 0} (xs : List A) (x y : A) (i : ℕ) → get_elem? (xs ++ x ∷ []) i ≡ some y
@@ -74,30 +73,30 @@ module _ (setup : Setup) (core : Core) (views : List View) (id : ℕ) (v : View)
   seats_split = record {
     each = λ j u there. ⊎_elim {C = Shown setup.job core u}
         (λ (old : get_elem? (set views id (made_view v)) j ≡ some u).
-            each_moved setup core core views id v (made_view v) at none_moves h refl (shown_made setup.job core v mine) j u old)
+        each_moved setup core core views id v (made_view v) at none_moves h refl (shown_made setup.job core v mine) j u old)
         (λ (new : (j ≡ length (set views id (made_view v))) × (next_view v ≡ u)).
-            subst (λ (u : View). Shown setup.job core u) new.1
-            (subst (λ (job : JobValue). Shown setup.job core (fresh job (v.made + 1) 0)) (sym mine.same)
-                (shown_fresh setup.job core (v.made + 1) 0 next_free)))
+        subst (λ (u : View). Shown setup.job core u) new.1
+        (subst (λ (job : JobValue). Shown setup.job core (fresh job (v.made + 1) 0)) (sym mine.same)
+        (shown_fresh setup.job core (v.made + 1) 0 next_free)))
         (at_end (set views id (made_view v)) (next_view v) u j there);
     actors = λ j u there. ⊎_elim {C = u.actor ≡ j + 1}
         (λ (old : get_elem? (set views id (made_view v)) j ≡ some u).
-            actors_moved setup core core views id v (made_view v) at none_moves h refl j u old)
+        actors_moved setup core core views id v (made_view v) at none_moves h refl j u old)
         (λ (new : (j ≡ length (set views id (made_view v))) × (next_view v ≡ u)).
-            let place = new.0 in
-            let actor : v.made + 1 ≡ u.actor = ap (λ (u : View). u.actor) new.1 in
-            let last = last_place in
-            omega (arith, place, actor, last))
+        let place = new.0 in
+        let actor : v.made + 1 ≡ u.actor = ap (λ (u : View). u.actor) new.1 in
+        let last = last_place in
+        omega (arith, place, actor, last))
         (at_end (set views id (made_view v)) (next_view v) u j there);
     draws = λ j k a b at_j at_k p in_a in_b. ⊎_elim {C = j ≡ k}
         (λ (old : get_elem? (set views id (made_view v)) j ≡ some a). ⊎_elim {C = j ≡ k}
-            (λ (too : get_elem? (set views id (made_view v)) k ≡ some b).
-                draws_moved setup core core views id v (made_view v) at none_moves h refl (λ p there. inl there) j k a b old too p in_a in_b)
-            (λ (new : (k ≡ length (set views id (made_view v))) × (next_view v ≡ b)).
-                absurd (no_draws p (subst (λ (u : View). Contains u.draws p) (sym new.1) in_b)))
-            (at_end (set views id (made_view v)) (next_view v) b k at_k))
+        (λ (too : get_elem? (set views id (made_view v)) k ≡ some b).
+        draws_moved setup core core views id v (made_view v) at none_moves h refl (λ p there. inl there) j k a b old too p in_a in_b)
+        (λ (new : (k ≡ length (set views id (made_view v))) × (next_view v ≡ b)).
+        absurd (no_draws p (subst (λ (u : View). Contains u.draws p) (sym new.1) in_b)))
+        (at_end (set views id (made_view v)) (next_view v) b k at_k))
         (λ (new : (j ≡ length (set views id (made_view v))) × (next_view v ≡ a)).
-            absurd (no_draws p (subst (λ (u : View). Contains u.draws p) (sym new.1) in_a)))
+        absurd (no_draws p (subst (λ (u : View). Contains u.draws p) (sym new.1) in_a)))
         (at_end (set views id (made_view v)) (next_view v) a j at_j);
     made = λ u there.
         let long : length (set views id (made_view v) ++ next_view v ∷ []) ≡ length (set views id (made_view v)) + 1
@@ -107,13 +106,13 @@ module _ (setup : Setup) (core : Core) (views : List View) (id : ℕ) (v : View)
         let made = all_made in
         ⊎_elim {C = u.made ≡ length (set views id (made_view v) ++ next_view v ∷ [])}
         (λ (old : get_elem? (set views id (made_view v)) 0 ≡ some u). ⊎_elim {C = u.made ≡ length (set views id (made_view v) ++ next_view v ∷ [])}
-            (λ (here : (0 ≡ id) × (made_view v ≡ u)).
-                let is : v.made + 1 ≡ u.made = ap (λ (u : View). u.made) here.1 in
-                omega (arith, is, long, last))
-            (λ (else : (0 ≢ id) × (get_elem? views 0 ≡ some u)). absurd (else.0 first_id))
-            (at_set views id 0 (made_view v) u old))
+        (λ (here : (0 ≡ id) × (made_view v ≡ u)).
+        let is : v.made + 1 ≡ u.made = ap (λ (u : View). u.made) here.1 in
+        omega (arith, is, long, last))
+        (λ (else : (0 ≢ id) × (get_elem? views 0 ≡ some u)). absurd (else.0 first_id))
+        (at_set views id 0 (made_view v) u old))
         (λ (new : (0 ≡ length (set views id (made_view v))) × (next_view v ≡ u)).
-            let place = new.0 in absurd (omega (arith, place, last, filled, made)))
+        let place = new.0 in absurd (omega (arith, place, last, filled, made)))
         (at_end (set views id (made_view v)) (next_view v) u 0 there);
     few =
         let long : length (set views id (made_view v) ++ next_view v ∷ []) ≡ length (set views id (made_view v)) + 1

@@ -29,10 +29,7 @@ impl Board {
             seen,
             places,
         } = hand;
-        let number = self
-            .table
-            .shared
-            .fetch_add::<DrawStep>(&mut chair, 0, 1);
+        let number = self.table.shared.fetch_add::<DrawStep>(&mut chair, 0, 1);
         let hand = Hand {
             chair,
             seen,

@@ -10,6 +10,8 @@ mod hand;
 mod law;
 mod opening;
 mod plays;
+mod reading;
+mod running;
 mod tokens;
 mod view;
 

@@ -3,16 +3,17 @@ use Rattle.std.proofs.Common.{◌≡◌, ℕ, ◌<◌, ◌≤◌, Bool, true, fa
 use Rattle.std.specs.List.{position_or_len}
 use Rattle.std.specs.List.Sorted.{IsStrictlyIncreasing}
 use Rattle.std.proofs.lemmas.Bool.{cases_lt, cases_order, eqb-true, eq-eqb, lt-ltb, cond-true, false≢true}
-use Rattle.std.proofs.lemmas.List.{get_or-map, length-map}
+use Rattle.std.proofs.lemmas.List.{ext_get_or, get_or-map, length-map}
 use Rattle.std.proofs.lemmas.List.Kept.{AllPairs-from_increasing}
 use Rattle.std.proofs.lemmas.List.Sums.{passes_at_first, fails_before_first}
 use Rattle.std.proofs.lemmas.Option.{slice_get-get_or, get_or_from_slice_get, slice_get_past}
 use Rattle.waff_model.specs.declared.cell.Cell.{Cell}
 use Rattle.waff_model.specs.Layout.{Space, owner_of}
 use Rattle.waff_model.specs.Parcel.{parcel_size, place_of}
-use Rattle.waff_model.proofs.ParcelLemmas.{place_within, same_place}
+use Rattle.waff_model.proofs.ParcelLemmas.{place_within, place_filled, same_place}
 use Rattle.waff_cells.specs.Meaning.{Cells}
 use Rattle.waff_cells.specs.Held.{Address, IsWithin, AreApart, Hold}
+use Rattle.waff_cells.specs.Laws.{ParcelIsOne}
 use Rattle.waff_cells.specs.Parcel.{AreParcels, HaveParcelSizes, IsOwned, slot_of}
 
 -- the test of an affinity
@@ -127,3 +128,15 @@ module _ (spaces : List Space) (owners : List ℕ) where
                   ∙ ap Some (hold cell (record { there = is_cell; owned = has }));
             };
       }
+
+-- numbers that are the parcel of one map of cells are the same
+pub parcels_are_one : (spaces : List Space) (a : ℕ) (cells : Cells) → ParcelIsOne spaces a cells
+parcels_are_one spaces a cells one other is_one is_other =
+    ext_get_or 0 one other (is_one.count ∙ sym is_other.count) (λ i within.
+    let filled = place_filled spaces a i (omega (arith, is_one.count, within)) in
+    let cell = filled.0 in
+    let at_one : get_or one (place_of spaces cell) 0 ≡ cells cell
+    = get_or_from_slice_get one (place_of spaces cell) (cells cell) 0 (is_one.each cell filled.1 filled.2) in
+    let at_other : get_or other (place_of spaces cell) 0 ≡ cells cell
+    = get_or_from_slice_get other (place_of spaces cell) (cells cell) 0 (is_other.each cell filled.1 filled.2) in
+    ap (λ k. get_or one k 0) (sym filled.3) ∙ at_one ∙ sym at_other ∙ ap (λ k. get_or other k 0) filled.3)

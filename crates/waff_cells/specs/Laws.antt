@@ -1,13 +1,14 @@
 -- What holds of the meaning of messages, and of states.
 use Rattle.std.specs.Prelude.{◌≡◌, ℕ, List}
 use Rattle.waff_model.specs.Tree.{Node, AtOrAbove, Excludes}
-use Rattle.waff_model.specs.Layout.{Hierarchy}
+use Rattle.waff_model.specs.Layout.{Hierarchy, Space}
 use Rattle.waff_model.specs.declared.cell.Cell.{Cell}
 use Rattle.waff_model.specs.declared.op.Op.{Op}
 use Rattle.waff_assign.specs.Lowest.{IsInFootprint, Covers}
 use Rattle.waff_cells.specs.Meaning.{Cells, meaning}
 use Rattle.waff_cells.specs.Serial.{SameParcel}
 use Rattle.waff_cells.specs.Grid.{IsState}
+use Rattle.waff_cells.specs.Parcel.{IsParcel}
 
 -- a cell that the operations do not name stays as it was
 abbrev pub OtherCellsStay : List Op → Type 0
@@ -40,3 +41,8 @@ OthersLeaveParcel layout ops =
 abbrev pub StateIsOne : List ℕ → Cells → Type 0
 StateIsOne sizes cells =
     (one other : List (List ℕ)) → IsState sizes cells one → IsState sizes cells other → one ≡ other
+
+-- there is one parcel of the affinity a that holds these numbers
+abbrev pub ParcelIsOne : List Space → ℕ → Cells → Type 0
+ParcelIsOne spaces a cells =
+    (one other : List ℕ) → IsParcel spaces a cells one → IsParcel spaces a cells other → one ≡ other

@@ -69,7 +69,7 @@ fn apply_op<A: Addresses>(rows: &mut [Vec<u64>], op: Op, addresses: &A)
 }
 
 /// The number of the cell.
-fn read<A: Addresses>(rows: &[Vec<u64>], addresses: &A, cell: Cell) -> u64
+pub(crate) fn read<A: Addresses>(rows: &[Vec<u64>], addresses: &A, cell: Cell) -> u64
     requires has { A.has addresses.now cell }
     requires within { IsWithin (map length (rows_of rows.now)) (A.at addresses.now cell) }
     ensures { result ≡ number_at (rows_of rows.now) (A.at addresses.now cell) }

@@ -3,10 +3,10 @@
 
 ghost use Rattle.std.specs.Prelude.{ℕ, List};
 ghost use Rattle.waff_model.specs.Tree.{Node};
-ghost use Rattle.waff_model.specs.Layout.{Hierarchy};
+ghost use Rattle.waff_model.specs.Layout.{Hierarchy, Space};
 ghost use Rattle.waff_model.specs.declared.op.Op.{Op};
 ghost use Rattle.waff_cells.specs.Meaning.{Cells};
-ghost use Rattle.waff_cells.specs.Laws.{OtherCellsStay, NamedCellsDecide, ThoseAboveExclude, OthersLeaveParcel, StateIsOne};
+ghost use Rattle.waff_cells.specs.Laws.{OtherCellsStay, NamedCellsDecide, ThoseAboveExclude, OthersLeaveParcel, StateIsOne, ParcelIsOne};
 
 /// A cell that operations do not name stays as it was.
 pub fn other_cells_stay()
@@ -31,4 +31,9 @@ pub fn others_leave_parcel()
 /// The state that holds given numbers is one, so the state that messages leave is one.
 pub fn state_is_one()
     ensures { (sizes : List ℕ) (cells : Cells) → StateIsOne sizes cells }
+{}
+
+/// The parcel that holds given numbers is one.
+pub fn parcel_is_one()
+    ensures { (spaces : List Space) (a : ℕ) (cells : Cells) → ParcelIsOne spaces a cells }
 {}

@@ -1,6 +1,6 @@
 //! Operations on the parcels of some affinities.
 
-ghost use Rattle.std.specs.Prelude.{◌≡◌, ◌==◌, position, All};
+ghost use Rattle.std.specs.Prelude.{◌≡◌, ◌↔◌, ◌==◌, position, All, IsTrue, IsSome, IfSome};
 ghost use Rattle.std.specs.List.Sorted.{IsStrictlyIncreasing};
 ghost use Rattle.waff_model.specs.Cells.{cells_of};
 ghost use Rattle.waff_cells.specs.Meaning.{Cells, meaning};
@@ -23,6 +23,28 @@ pub fn apply(parcels: &mut [Vec<u64>], ops: &[Op], layout: &Layout, owners: &[u1
         → AreParcels layout.now.spaces owners.now (meaning ops.now cells) (rows_of parcels.new) }
 {
     held::apply(parcels, ops, &InParcels { layout, owners });
+}
+
+/// The number of the cell, where it is one of the parcels of these affinities.
+pub fn get(parcels: &[Vec<u64>], layout: &Layout, owners: &[u16], cell: Cell) -> Option<u64>
+    requires { HaveParcelSizes layout.now.spaces owners.now (rows_of parcels.now) }
+    ensures owned { IsSome result ↔ IsOwned layout.now.spaces owners.now cell }
+    ensures number { (cells : Cells)
+        → AreParcels layout.now.spaces owners.now cells (rows_of parcels.now)
+        → IfSome result (λ number. number ≡ cells cell) }
+{
+    if is_owned(layout, owners, cell) {
+        Some(held::read(parcels, &InParcels { layout, owners }, cell))
+    } else {
+        None
+    }
+}
+
+/// Whether the cell is one of the parcels of these affinities.
+fn is_owned(layout: &Layout, owners: &[u16], cell: Cell) -> bool
+    ensures { IsTrue result ↔ IsOwned layout.now.spaces owners.now cell }
+{
+    layout.has(cell) && owners.contains(&layout.owner(cell).0)
 }
 
 /// Where parcels hold each cell: in the row of its owner, at its place.

@@ -1,7 +1,3 @@
-pub mod LineLaws
-pub mod WalkLaws
-pub mod SlotLaws
-pub mod PlanLaws
 pub mod FirstLaws
 pub mod TextLaws
 pub mod TickLaws

@@ -1,11 +1,17 @@
 -- Chains whose neighbours are ordered pairs.
-use Rattle.std.proofs.Common.{◌≡◌, ℕ, suc, ◌+◌, ◌-◌, ◌<◌, ◌≤◌, List, [], ◌∷◌, length, All, arith, inl, inr, refl, subst}
+use Rattle.std.proofs.Common.{◌≡◌, ℕ, zero, suc, ◌+◌, ◌-◌, ◌<◌, ◌≤◌, List, [], ◌∷◌, length, All, arith, inl, inr, refl, subst}
 use Rattle.std.proofs.lemmas.Bool.{cases_lt}
 use Rattle.waff_plan.specs.Chain.{IsChain, LinksOn}
 use Rattle.waff_plan.specs.Work.{IsNumber, Work}
 use Rattle.waff_check.specs.Faults.{AreLinked, IsBroken, link_at}
 use Rattle.waff_check.proofs.FirstLaws.{NoneBelow}
-use Rattle.waff_check.proofs.SlotLaws.{All-first, All-others}
+
+-- what holds of each message holds of the first, and of each of the others
+All-first : (P : ℕ → Type 0) (xs more : List ℕ) (x : ℕ) → xs ≡ x ∷ more → All P xs → P x
+All-first P xs more x e h = let all : All P (x ∷ more) = rw e at h in all zero x (omega arith)
+
+All-others : (P : ℕ → Type 0) (xs more : List ℕ) (x : ℕ) → xs ≡ x ∷ more → All P xs → All P more
+All-others P xs more x e h = λ k d lt. let all : All P (x ∷ more) = rw e at h in all (suc k) d (omega arith)
 
 module _ (before : ℕ → ℕ → Type 0) where
   -- the neighbours at the places below n

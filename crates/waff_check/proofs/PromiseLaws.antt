@@ -1,21 +1,20 @@
 -- What follows from a verdict without a fault.
-use Rattle.std.proofs.Common.{◌≡◌, ◌≢◌, ℕ, ◌+◌, ◌-◌, ◌*◌, ◌<◌, ◌≤◌, List, [], ◌∷◌, length, Option, Some, None, IfSome, arith, inl, inr, refl, ap, ◌∙◌, mul-zero}
-use Rattle.std.proofs.Math.Nat.{mul-le-mul_left, mul-le-mul_right}
+use Rattle.std.proofs.Common.{◌≡◌, ◌≢◌, ℕ, ◌+◌, ◌<◌, ◌≤◌, List, length, Option, Some, None, IfSome, arith, inl, inr, refl}
 use Rattle.std.proofs.lemmas.Bool.{cases_lt}
 use Rattle.std.proofs.lemmas.List.{length-map}
 use Rattle.waff_model.specs.declared.message.Message.{Message}
-use Rattle.waff_plan.specs.Chain.{IsChain, LinksOn, chain_cost, chain_release}
+use Rattle.waff_plan.specs.Bound.{BoundIsWithinRatio, BoundIsWithinTwice, IsWithinBound, IsWorkers}
+use Rattle.waff_plan.specs.Chain.{IsChain, chain_cost, chain_release}
+use Rattle.waff_plan.specs.Laws.{ChainsAreWithinLength}
 use Rattle.waff_plan.specs.Obeys.{Obeys}
 use Rattle.waff_plan.specs.Timetable.{timings_of}
-use Rattle.waff_plan.specs.Work.{IsNumber, Work, finish_of, length_of, total_of}
+use Rattle.waff_plan.specs.Work.{IsNumber, Work, finish_of, length_of}
 use Rattle.waff_plan.specs.Workers.{IsWorkerPlan, running}
 use Rattle.waff_plan.specs.declared.timing.Timing.{Timing}
-use Rattle.waff_plan.proofs.Chains.{chains_are_within_length}
-use Rattle.waff_plan.proofs.Ticks.{total_is_within_workers}
 use Rattle.waff_check.specs.Faults.{IsCrowded, IsMisplaced, IsTaken, RunTogether}
-use Rattle.waff_check.specs.Given.{IsGiven, IsWorkers}
+use Rattle.waff_plan_text.specs.Given.{IsGiven}
 use Rattle.waff_check.specs.Promises.{Accepts, IsWithin}
-use Rattle.waff_check.specs.Verdicts.{Claim, IsBounded, IsBoundedFor, IsFaultless, IsVerdict, before_of, chain_in, start_in, work_in, worker_in, workers_in}
+use Rattle.waff_check.specs.Verdicts.{Claim, IsBoundedFor, IsFaultless, IsVerdict, before_of, chain_in, start_in, work_in, worker_in, workers_in}
 use Rattle.waff_check.specs.declared.verdict.Verdict.{Verdict}
 use Rattle.waff_check.specs.declared.verdict.Verdict.TheVariants as verdict
 use Rattle.waff_check.proofs.LinkLaws.{is-chain}
@@ -34,30 +33,7 @@ faultless-of claim verdict.Totals h a = absurd a
 faultless-of claim (verdict.NotAChain place) h a = absurd a
 faultless-of claim (verdict.Early message) h a = absurd a
 
--- numbers: within k times the other length twice, and 2k - 1 times
-twice : (k len total release cost other : ℕ) → k * len ≤ total + k * release + (k - 1) * cost → total ≤ k * other → release + cost ≤ other → k * len ≤ 2 * k * other
-twice k len total release cost other bound work chain =
-    let whole : k * (release + cost) ≤ k * other = mul-le-mul_left k chain in
-    let less : k - 1 ≤ k = omega arith in
-    let part : (k - 1) * cost ≤ k * cost = mul-le-mul_right cost less in
-    omega arith
-
-ratio : (k len total cost other : ℕ) → 1 ≤ k → k * len ≤ total + (k - 1) * cost → total ≤ k * other → cost ≤ other → k * len ≤ (2 * k - 1) * other
-ratio k len total cost other some bound work chain =
-    let part : (k - 1) * cost ≤ (k - 1) * other = mul-le-mul_left (k - 1) chain in
-    let split : 2 * k - 1 ≡ k + (k - 1) = omega arith in
-    let whole : (2 * k - 1) * other ≡ (k + (k - 1)) * other = ap (λ n. n * other) split in
-    omega arith
-
-first-number : (before : ℕ → ℕ → Type 0) (work : Work) (m : ℕ) (rest : List ℕ) → LinksOn before work m rest → IsNumber work m
-first-number before work m [] h = h
-first-number before work m (next ∷ rest) h = h.0
-
-no-release : (before : ℕ → ℕ → Type 0) (work : Work) → ((m : ℕ) → IsNumber work m → work.release m ≡ 0) → (chain : List ℕ) → IsChain before work chain → chain_release work chain ≡ 0
-no-release before work none [] h = refl
-no-release before work none (m ∷ rest) h = none m (first-number before work m rest h)
-
-bounded-for : (work : Work) (start : ℕ → ℕ) (chain : List ℕ) (w : Option ℕ) → IsBoundedFor work start chain w → (k : ℕ) × (w ≡ Some k) × IsBounded work start chain k
+bounded-for : (work : Work) (start : ℕ → ℕ) (chain : List ℕ) (w : Option ℕ) → IsBoundedFor work start chain w → (k : ℕ) × (w ≡ Some k) × IsWithinBound work k start chain
 bounded-for work start chain None h = absurd h
 bounded-for work start chain (Some k) h = (k, refl, h)
 
@@ -100,23 +76,22 @@ module _ (claim : Claim) where
       is-chain (before_of claim) (work_in claim) (chain_in claim) good.linked.links
       (λ i d lt. let m = given.chain.each i d lt in let from = m.from in let to = m.to in record { from = from; to = omega arith })
 
-  pub shortest : IsGiven claim.plan → length claim.plan.rows ≡ length claim.messages → IsVerdict claim verdict.Shortest → (other : ℕ → ℕ) → Obeys (before_of claim) (work_in claim) other
+  pub shortest : ChainsAreWithinLength (before_of claim) (work_in claim) → IsGiven claim.plan → length claim.plan.rows ≡ length claim.messages → IsVerdict claim verdict.Shortest → (other : ℕ → ℕ) → Obeys (before_of claim) (work_in claim) other
       → length_of (work_in claim) (start_in claim) ≤ length_of (work_in claim) other
-  shortest given same h other o =
-      let within = chains_are_within_length (before_of claim) (work_in claim) (chain_in claim) other (chain-of given same h.0) o in
+  shortest chains given same h other o =
+      let within = chains (chain_in claim) other (chain-of given same h.0) o in
       let reach : chain_release (work_in claim) (chain_in claim) + chain_cost (work_in claim) (chain_in claim) ≡ length_of (work_in claim) (start_in claim) = h.1 in
       omega (arith, within, reach)
 
   some-workers : (w : Option ℕ) (k : ℕ) → w ≡ Some k → IfSome w IsWorkers → 1 ≤ k
   some-workers w k e h = let at = rw e at h in at.from
 
-  pub bound : IsGiven claim.plan → length claim.plan.rows ≡ length claim.messages → IsVerdict claim verdict.WithinBound → (k : ℕ) × IsWithin claim k
-  bound given same h =
-      let work = work_in claim in
+  pub bound : BoundIsWithinTwice (before_of claim) (work_in claim) → BoundIsWithinRatio (before_of claim) (work_in claim)
+      → IsGiven claim.plan → length claim.plan.rows ≡ length claim.messages → IsVerdict claim verdict.WithinBound → (k : ℕ) × IsWithin claim k
+  bound twice ratio given same h =
       let start = start_in claim in
       let chain = chain_in claim in
-      let before = before_of claim in
-      let kept = bounded-for work start chain (workers_in claim) h.1.1 in
+      let kept = bounded-for (work_in claim) start chain (workers_in claim) h.1.1 in
       let k = kept.0 in
       let linked = chain-of given same h.0 in
       let some = some-workers (workers_in claim) k kept.1 given.workers in (
@@ -124,14 +99,7 @@ module _ (claim : Claim) where
         record {
           workers = kept.1;
           bound = kept.2;
-          twice = λ other plan. twice k (length_of work start) (total_of work) (chain_release work chain) (chain_cost work chain) (length_of work other) kept.2
-              (total_is_within_workers before work k other plan) (chains_are_within_length before work chain other linked plan.obeys);
-          ratio = λ none other plan.
-              let zero_release : chain_release work chain ≡ 0 = no-release before work none chain linked in
-              let nothing : k * chain_release work chain ≡ 0 = ap (λ n. k * n) zero_release ∙ mul-zero k in
-              let within : chain_release work chain + chain_cost work chain ≤ length_of work other = chains_are_within_length before work chain other linked plan.obeys in
-              let b : k * length_of work start ≤ total_of work + k * chain_release work chain + (k - 1) * chain_cost work chain = kept.2 in
-              ratio k (length_of work start) (total_of work) (chain_cost work chain) (length_of work other) some
-              (omega (arith, b, nothing)) (total_is_within_workers before work k other plan) (omega (arith, within));
+          twice = λ other plan. twice k start other chain linked kept.2 plan;
+          ratio = λ none other plan. ratio k start other chain some none linked kept.2 plan;
         },
       )

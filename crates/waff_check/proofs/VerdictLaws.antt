@@ -5,7 +5,7 @@ use Rattle.waff_plan.specs.Timing.{start_of, work_of}
 use Rattle.waff_plan.specs.Work.{Work}
 use Rattle.waff_plan.specs.declared.timing.Timing.{Timing}
 use Rattle.waff_check.specs.Faults.{AreLinked, HasTotals, HasWrongFinish, HasWrongName, HasWrongWorker, IsBroken, IsCrowded, IsFirstOverlap, IsLeastOf, NoneOf, Overlaps, StartsEarly}
-use Rattle.waff_check.specs.Given.{SummaryLines}
+use Rattle.waff_plan_text.specs.Given.{SummaryLines}
 use Rattle.waff_check.specs.Verdicts.{Claim, IsFaultless, IsLinked, IsPraised, IsPraise, IsVerdict, before_of, name_in, starts_of, told_finish, told_name, worker_in}
 use Rattle.waff_check.specs.declared.verdict.Verdict.{Verdict}
 use Rattle.waff_check.specs.declared.verdict.Verdict.TheVariants as verdict

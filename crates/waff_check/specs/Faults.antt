@@ -1,11 +1,10 @@
 -- What may be wrong with a plan that is given: one definition a fault. `before i j` says that message j starts only when
 -- message i has finished.
-use Rattle.std.specs.Prelude.{◌≡◌, ◌≢◌, ◌⊎◌, ℕ, ◌+◌, ◌-◌, ◌*◌, ◌<◌, ◌≤◌, true, List, length, slice_index, Option, Some, None}
-use Rattle.waff_plan.specs.Work.{Work, IsNumber, finish_of, length_of, total_of}
+use Rattle.std.specs.Prelude.{◌≡◌, ◌≢◌, ◌⊎◌, ℕ, ◌-◌, ◌<◌, ◌≤◌, true, List, length, slice_index, Option, Some, None}
+use Rattle.waff_plan.specs.Work.{Work, IsNumber, finish_of}
 use Rattle.waff_plan.specs.Workers.{running, runs_at}
-use Rattle.waff_plan.specs.Chain.{chain_cost, chain_release}
-use Rattle.waff_check.specs.Given.{SummaryLines}
-use Rattle.waff_check.specs.declared.closing.Closing.{Closing}
+use Rattle.waff_plan.specs.Totals.{totals_of}
+use Rattle.waff_plan_text.specs.Given.{SummaryLines}
 
 -- n is the least number that P holds of
 pub record IsLeastOf (P : ℕ → Type 0) (n : ℕ) : Type 0 where
@@ -73,27 +72,10 @@ pub record StartsEarly (work : Work) (start : ℕ → ℕ) (n : ℕ) : Type 0 wh
   pub number : IsNumber work n
   pub early : start n < work.release n
 
--- the numbers behind the chain of a summary, as the chain makes them: where all releases are 0, as in a trace of the first
--- version, the release is 0
-abbrev pub closing_for : Option ℕ → Work → (ℕ → ℕ) → List ℕ → Closing
-closing_for None work start chain = record {
-  release = chain_release work chain;
-  cost = chain_cost work chain;
-  left = length_of work start;
-  right = chain_release work chain + chain_cost work chain;
-}
-closing_for (Some k) work start chain = record {
-  release = chain_release work chain;
-  cost = chain_cost work chain;
-  left = k * length_of work start;
-  right = total_of work + k * chain_release work chain + (k - 1) * chain_cost work chain;
-}
-
--- the numbers of a summary are those of the trace, the starts and the chain
-pub record HasTotals (work : Work) (start : ℕ → ℕ) (summary : SummaryLines) : Type 0 where
-  pub total : summary.total ≡ total_of work
-  pub length : summary.length ≡ length_of work start
-  pub closing : summary.closing ≡ closing_for summary.workers work start summary.chain
+-- the totals of a summary are those of the trace, the starts and the chain; where all releases are 0, as in a trace of the
+-- first version, the release is 0
+abbrev pub HasTotals : Work → (ℕ → ℕ) → SummaryLines → Type 0
+HasTotals work start summary = summary.totals ≡ totals_of summary.workers work start summary.chain
 
 -- the message at a place of a chain, from 1
 abbrev pub link_at : List ℕ → ℕ → ℕ

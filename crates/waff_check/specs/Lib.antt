@@ -1,10 +1,3 @@
-pub mod Refusals
-pub mod Fields
-pub mod Rows
-pub mod Given
-pub mod Records
-pub mod Summaries
-pub mod PlanTexts
 pub mod Faults
 pub mod Crowds
 pub mod Searches

@@ -1,11 +1,12 @@
 -- What a verdict without a fault implies.
 use Rattle.std.specs.Prelude.{◌≡◌, ◌≢◌, ℕ, ◌-◌, ◌*◌, ◌≤◌, Some}
+use Rattle.waff_plan.specs.Bound.{IsWithinBound}
 use Rattle.waff_plan.specs.Chain.{IsChain}
 use Rattle.waff_plan.specs.Obeys.{Obeys}
 use Rattle.waff_plan.specs.Work.{IsNumber, length_of}
 use Rattle.waff_plan.specs.Workers.{IsWorkerPlan}
 use Rattle.waff_check.specs.Faults.{RunTogether}
-use Rattle.waff_check.specs.Verdicts.{Claim, IsBounded, before_of, chain_in, start_in, work_in, worker_in, workers_in}
+use Rattle.waff_check.specs.Verdicts.{Claim, before_of, chain_in, start_in, work_in, worker_in, workers_in}
 use Rattle.waff_check.specs.declared.verdict.Verdict.{Verdict}
 use Rattle.waff_check.specs.declared.verdict.Verdict.TheVariants as verdict
 
@@ -51,7 +52,7 @@ PromisesShortest claim v =
 -- k where all releases are 0
 pub record IsWithin (claim : Claim) (k : ℕ) : Type 0 where
   pub workers : workers_in claim ≡ Some k
-  pub bound : IsBounded (work_in claim) (start_in claim) (chain_in claim) k
+  pub bound : IsWithinBound (work_in claim) k (start_in claim) (chain_in claim)
   pub twice : (other : ℕ → ℕ) → IsWorkerPlan (before_of claim) (work_in claim) k other
       → k * length_of (work_in claim) (start_in claim) ≤ 2 * k * length_of (work_in claim) other
   pub ratio : ((m : ℕ) → IsNumber (work_in claim) m → (work_in claim).release m ≡ 0)

@@ -1,13 +1,14 @@
 -- The verdict on a plan that is given: the first fault, or else how good the plan is.
-use Rattle.std.specs.Prelude.{◌≡◌, ℕ, ◌+◌, ◌-◌, ◌*◌, ◌≤◌, List, map, Option, Some, None}
+use Rattle.std.specs.Prelude.{◌≡◌, ℕ, ◌+◌, List, map, Option, Some, None}
 use Rattle.waff_model.specs.Tree.{Node, name_of}
 use Rattle.waff_model.specs.declared.message.Message.{Message}
 use Rattle.waff_assign.specs.Order.{IsOrdered, affinity_of}
+use Rattle.waff_plan.specs.Bound.{IsWithinBound}
 use Rattle.waff_plan.specs.Chain.{chain_cost, chain_release}
 use Rattle.waff_plan.specs.Timetable.{timings_of}
 use Rattle.waff_plan.specs.Timing.{start_of, work_of}
-use Rattle.waff_plan.specs.Work.{Work, length_of, total_of}
-use Rattle.waff_check.specs.Given.{Given, SummaryLines, row_at}
+use Rattle.waff_plan.specs.Work.{Work, length_of}
+use Rattle.waff_plan_text.specs.Given.{Given, SummaryLines, row_at}
 use Rattle.waff_check.specs.Faults.{AreLinked, HasTotals, HasWrongFinish, HasWrongName, HasWrongWorker, IsBroken, IsCrowded, IsFirstOverlap, IsLeastOf, NoneOf, Overlaps, StartsEarly}
 use Rattle.waff_check.specs.declared.verdict.Verdict.{Verdict}
 use Rattle.waff_check.specs.declared.verdict.Verdict.TheVariants as verdict
@@ -117,13 +118,10 @@ pub record IsFaultless (claim : Claim) : Type 0 where
 abbrev pub ReachesLength : Work → (ℕ → ℕ) → SummaryLines → Type 0
 ReachesLength work start summary = chain_release work summary.chain + chain_cost work summary.chain ≡ length_of work start
 
--- the length is within the bound for k workers, by this chain
-abbrev pub IsBounded : Work → (ℕ → ℕ) → List ℕ → ℕ → Type 0
-IsBounded work start chain k = k * length_of work start ≤ total_of work + k * chain_release work chain + (k - 1) * chain_cost work chain
-
+-- with workers, the length is within the bound for as many, by this chain
 abbrev pub IsBoundedFor : Work → (ℕ → ℕ) → List ℕ → Option ℕ → Type 0
 IsBoundedFor work start chain None = ⊥
-IsBoundedFor work start chain (Some k) = IsBounded work start chain k
+IsBoundedFor work start chain (Some k) = IsWithinBound work k start chain
 
 abbrev pub KeepsBound : Work → (ℕ → ℕ) → SummaryLines → Type 0
 KeepsBound work start summary = IsBoundedFor work start summary.chain summary.workers

@@ -1,19 +1,16 @@
 //! The check of a plan that is given.
 
-ghost use Rattle.std.specs.Prelude.{◌≡◌, ◌<◌, length, All, IfOk, IfSome};
+ghost use Rattle.std.specs.Prelude.{◌≡◌, ◌<◌, length, All, IfOk};
 ghost use Rattle.waff_plan.specs.Timetable.{timings_of};
 ghost use Rattle.waff_plan.specs.Timing.{start_of, work_of};
-ghost use Rattle.waff_check.specs.Given.{IsListed, IsWorkers};
 ghost use Rattle.waff_check.specs.Verdicts.{IsPraise, IsVerdict, claim_of, starts_of};
 ghost use Rattle.waff_check.specs.Promises.{PromisesBound, PromisesChain, PromisesObeys, PromisesOneAtATime, PromisesShortest, PromisesWorkerPlan};
 
 use crate::crowd::crowded;
-use crate::given::GivenPlan;
 use crate::links::broken_link;
 use crate::overlap::first_overlap;
-use crate::summary::Summary;
 use crate::told::{early_start, wrong_finish, wrong_name};
-use crate::totals::{closing, has_totals};
+use crate::totals::has_totals;
 use crate::verdict::Verdict;
 use crate::worker::wrong_worker;
 use std::alloc::{AllocError, Global};
@@ -21,6 +18,8 @@ use std::thread::Threads;
 use waff_assign::Assigned;
 use waff_model::{Trace, Tree};
 use waff_plan::Plan;
+use waff_plan::laws::{bound_is_within_ratio, bound_is_within_twice, chains_are_within_length};
+use waff_plan_text::GivenPlan;
 
 // The plan in which the messages of the trace start as the rows tell.
 fn told_plan(alloc: Global, trace: &Trace, given: &GivenPlan) -> Result<Plan, AllocError>
@@ -56,6 +55,9 @@ pub fn check<R: Threads + Sync>(
     ensures bound { IfOk result (PromisesBound (claim_of tree.now assigned.now trace.now.messages given.now)) }
 {
     let _rows = given.len();
+    chains_are_within_length();
+    bound_is_within_twice();
+    bound_is_within_ratio();
     let verdict = find(rt, alloc, tree, assigned, trace, given)?;
     Ok(verdict)
 }
@@ -91,7 +93,7 @@ fn find<R: Threads + Sync>(
     if let Some(message) = wrong_finish(&plan, given) {
         return Ok(Verdict::Finish { message });
     }
-    if !has_totals(trace, &plan, given.summary()) {
+    if !has_totals(&plan, given) {
         return Ok(Verdict::Totals);
     }
     if let Some(place) = broken_link(tree, assigned, given.chain()) {
@@ -100,21 +102,20 @@ fn find<R: Threads + Sync>(
     if let Some(message) = early_start(&plan) {
         return Ok(Verdict::Early { message });
     }
-    Ok(praise(trace, &plan, given.summary()))
+    Ok(praise(&plan, given))
 }
 
 // How good a plan without a fault is.
-fn praise(trace: &Trace, plan: &Plan, summary: &Summary) -> Verdict
-    requires timings { plan.now.timings ≡ timings_of trace.now.messages }
-    requires chain { IsListed (length trace.now.messages) summary.now.chain }
-    requires workers { IfSome summary.now.workers IsWorkers }
-    ensures { IsPraise (work_of plan.now.timings) (start_of plan.now.starts) summary.now result }
+fn praise(plan: &Plan, given: &GivenPlan) -> Verdict
+    requires rows { length given.now.rows ≡ length plan.now.timings }
+    ensures { IsPraise (work_of plan.now.timings) (start_of plan.now.starts) given.now.summary result }
 {
-    let closing = closing(trace, plan, summary.workers, &summary.chain);
-    if closing.release + closing.cost == plan.length() {
+    let summary = given.summary();
+    let totals = plan.totals(summary.workers, &summary.chain);
+    if totals.release + totals.cost == totals.length {
         return Verdict::Shortest;
     }
-    if summary.workers.is_some() && closing.left <= closing.right {
+    if summary.workers.is_some() && totals.left <= totals.right {
         return Verdict::WithinBound;
     }
     Verdict::Obeys
@@ -123,10 +124,10 @@ fn praise(trace: &Trace, plan: &Plan, summary: &Summary) -> Verdict
 #[cfg(test)]
 mod tests {
     use super::*;
-    use crate::plan_text::read_plan;
     use std::test::Fail;
     use waff_assign::assign;
     use waff_model::{Kind, Layout, MapSpec, SpaceSpec, Text, Texts, TreeBuilder, Version};
+    use waff_plan_text::read_plan;
 
     // One affinity, and a space of one cell.
     fn layout(alloc: Global) -> Result<Layout, Fail> {

@@ -2,8 +2,8 @@
 
 ghost use Rattle.std.specs.Prelude.{◌≡◌, ◌<◌, All, MatchOption, length};
 ghost use Rattle.waff_assign.specs.Order.{IsOrdered};
+ghost use Rattle.waff_plan.specs.Chain.{IsListed};
 ghost use Rattle.waff_check.specs.Faults.{AreLinked, IsBroken, IsLeastOf};
-ghost use Rattle.waff_check.specs.Given.{IsListed};
 
 use waff_assign::{Assigned, is_ordered};
 use waff_model::Tree;

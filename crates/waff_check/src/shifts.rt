@@ -7,9 +7,9 @@ ghost use Rattle.waff_check.specs.Faults.{HasWrongWorker, NoneOf};
 ghost use Rattle.waff_check.specs.Shifts.{AreApart, AreShifts, Follows, IsOneOf, IsShiftOf};
 ghost use Rattle.waff_check.specs.Verdicts.{worker_in};
 
-use crate::given::GivenPlan;
 use std::alloc::{AllocError, Global};
 use waff_plan::Plan;
+use waff_plan_text::GivenPlan;
 
 // Whether each row tells one of `k` workers.
 fn are_seated(plan: &Plan, given: &GivenPlan, k: u32) -> bool

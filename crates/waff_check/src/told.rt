@@ -5,10 +5,10 @@ ghost use Rattle.waff_plan.specs.Timing.{start_of, work_of};
 ghost use Rattle.waff_check.specs.Faults.{HasWrongFinish, HasWrongName, IsLeastOf, NoneOf, StartsEarly};
 ghost use Rattle.waff_check.specs.Verdicts.{name_in, told_finish, told_name};
 
-use crate::given::GivenPlan;
 use waff_assign::Assigned;
 use waff_model::Tree;
 use waff_plan::Plan;
+use waff_plan_text::GivenPlan;
 
 /// The first message whose row does not tell the name of its affinity.
 pub(crate) fn wrong_name(

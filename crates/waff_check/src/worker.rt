@@ -5,10 +5,10 @@ ghost use Rattle.waff_plan.specs.Timing.{start_of, work_of};
 ghost use Rattle.waff_check.specs.Faults.{HasWrongWorker, IsLeastOf, IsMisplaced, IsTaken, NoneOf, RunTogether};
 ghost use Rattle.waff_check.specs.Verdicts.{worker_in};
 
-use crate::given::GivenPlan;
 use crate::shifts::are_right;
 use std::alloc::{AllocError, Global};
 use waff_plan::Plan;
+use waff_plan_text::GivenPlan;
 
 // Whether messages `i` and `j` run at a common tick.
 fn run_together(plan: &Plan, i: u32, j: u32) -> bool

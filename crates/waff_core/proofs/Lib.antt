@@ -1,6 +1,3 @@
-pub mod Listing
-pub mod Ordering
-pub mod Making
 pub mod Phases
 pub mod Settling
 pub mod Sound
@@ -12,3 +9,10 @@ pub mod Reaching
 pub mod OrderLength
 pub mod Arrival
 pub mod StatusLaws
+pub mod Listing
+pub mod Ordering
+pub mod Making
+pub mod Reading
+pub mod Pace
+pub mod StatusLemmas
+pub mod Lending

@@ -4,18 +4,18 @@ use Rattle.std.specs.List.{flat_map, dedup}
 use Rattle.std.specs.List.Sorted.{IsPermutation, IsSorted}
 use Rattle.std.specs.Ordering.{nat_cmp}
 use Rattle.std.proofs.lemmas.Bool.{cases_eq}
-use Rattle.std.proofs.lemmas.List.{append-nil, append_assoc, get_or_append_left, get_or-append-add, get_or_push, length-append, length_push, length-map, map-append, flat_map_more, get_or-map, take_more}
-use Rattle.std.proofs.lemmas.List.Elements.{Contains-get_or}
+use Rattle.std.proofs.lemmas.List.{append_assoc, get_or_append_left, get_or-append-add, get_or_push, length-append, length_push, length-map, map-append, flat_map_more, get_or-map, take_more}
+use Rattle.std.proofs.lemmas.List.Elements.{All-contains, Contains-get_or}
 use Rattle.std.proofs.lemmas.List.Kept.{Contains-dedup_nat, Contains-from_dedup}
 use Rattle.std.proofs.lemmas.List.Sorted.{Contains-permutation, IsPermutation-sym}
 use Rattle.std.proofs.lemmas.Map.Keys.{IsStrictlyIncreasing-dedup}
 use Rattle.waff_model.specs.Cells.{cells_of, cells_of_op}
-use Rattle.waff_model.specs.Layout.{Space, owner_of}
+use Rattle.waff_model.specs.Layout.{Space, IsCell, owner_of}
 use Rattle.waff_model.specs.declared.cell.Cell.{Cell}
 use Rattle.waff_model.specs.declared.op.Op.{Op}
 use Rattle.waff_model.specs.declared.op.Op.TheVariants.{Set, Add, Copy, Swap, Read}
 use Rattle.waff_cells.specs.Serial.{ops_of}
-use Rattle.waff_core.specs.Job.{IsOwner, ListsOwners, owners_of}
+use Rattle.waff_core.specs.Job.{JobValue, IsJob, IsIn, IsOwner, ListsOwners, owners_of}
 use Rattle.waff_core.specs.Owners.{owners_in, AreOwners}
 
 pub All-left : {X : Type 0} (P : X → Type 0) (xs ys : List X) → All P (xs ++ ys) → All P xs
@@ -136,3 +136,12 @@ few_owners spaces (op ∷ ops) =
     let first = few_cells op in
     let rest : length (map f (cells_of ops)) ≤ 2 * length ops = few_owners spaces ops in
     omega (arith, first, rest, length-map (cells_of ops) f, length-map (cells_of (op ∷ ops)) f, length-append (cells_of_op op) (cells_of ops))
+
+-- the cells of a message's operations are those of the layout
+pub cell_listed : (job : JobValue) → IsJob job → (n : ℕ) → IsIn job n → (cell : Cell) → Contains (cells_of (ops_of job.ops n)) cell
+    → IsCell job.layout.spaces cell
+cell_listed job is n inside cell named =
+    let within : n - 1 < length job.ops = omega (arith, inside.from, inside.to) in
+    let all : All (IsCell job.layout.spaces) (cells_of (get_or job.ops (n - 1) [])) = is.cells (n - 1) [] within in
+    All-contains (IsCell job.layout.spaces) (cells_of (ops_of job.ops n)) cell
+    (subst (λ ops. All (IsCell job.layout.spaces) (cells_of ops)) (sym (ops_of-at job.ops n inside.from)) all) named

@@ -1,5 +1,5 @@
 -- What a job is made of.
-use Rattle.std.proofs.Common.{◌≡◌, ℕ, ◌+◌, ◌-◌, ◌<◌, ◌≤◌, List, [], length, get_or, All, Some, slice_get, arith, refl, ap, sym, ◌∙◌, subst, inl, inr}
+use Rattle.std.proofs.Common.{◌≡◌, ℕ, ◌-◌, ◌<◌, ◌≤◌, List, [], length, All, arith, ap, sym, ◌∙◌, subst, inl, inr}
 use Rattle.std.proofs.lemmas.List.{length-map, get_or-map}
 use Rattle.std.proofs.lemmas.List.Elements.{All-map, All-weaker}
 use Rattle.std.proofs.lemmas.Option.{slice_get_cases}
@@ -14,7 +14,7 @@ use Rattle.waff_assign.specs.Order.{affinity_of}
 use Rattle.waff_assign.proofs.Assignments.{cells_of_layout}
 use Rattle.waff_order.specs.Needs.{AreNeeds}
 use Rattle.waff_cells.specs.Serial.{operations, ops_of}
-use Rattle.waff_core.specs.Job.{JobValue, IsJob, IsOrder}
+use Rattle.waff_core.specs.Job.{IsJob, IsOrder}
 use Rattle.waff_core.specs.Owners.{AreOwners}
 use Rattle.waff_core.proofs.Listing.{ops_of-at}
 

@@ -1,5 +1,5 @@
 -- Orders of messages, one message after another.
-use Rattle.std.proofs.Common.{◌≡◌, ◌≢◌, ◌↔◌, ℕ, zero, suc, ◌+◌, ◌-◌, ◌<◌, ◌≤◌, Bool, true, false, List, [], ◌∷◌, Some, length, get_or, set, replicate, All, Contains, slice_get, arith, refl, ap, sym, ◌∙◌, subst, ⊎_elim}
+use Rattle.std.proofs.Common.{◌≡◌, ◌≢◌, ◌↔◌, ℕ, ◌+◌, ◌-◌, ◌<◌, ◌≤◌, Bool, true, false, List, length, get_or, set, replicate, All, arith, ap, sym, ◌∙◌, subst, ⊎_elim}
 use Rattle.std.proofs.lemmas.Bool.{cases_eq, false≢true}
 use Rattle.std.proofs.lemmas.List.{get_or_default, get_or-set_same, get_or-set_other, length-set, length-replicate, get_or-replicate}
 use Rattle.std.proofs.lemmas.List.Elements.{Contains-get_or, All-contains}
@@ -7,6 +7,14 @@ use Rattle.std.proofs.lemmas.Option.{same_Some, slice_get_within, slice_get-get_
 use Rattle.waff_order.specs.Needs.{needs_of, IsNeed, AreLists}
 use Rattle.waff_core.specs.Job.{StandsAt, IsOrder}
 use Rattle.waff_core.specs.Orders.{IsMarked, MayStand}
+
+-- each need is an earlier message
+pub record AreEarlier (needs : List (List ℕ)) : Type 0 where
+  pub from : (i j : ℕ) → IsNeed needs i j → 1 ≤ i
+  pub earlier : (i j : ℕ) → IsNeed needs i j → i < j
+
+pub lists_are_earlier : (needs : List (List ℕ)) → AreLists needs → AreEarlier needs
+lists_are_earlier needs lists = record { from = lists.from; earlier = lists.earlier }
 
 -- message n stands before this place
 abbrev pub StandsBefore : List ℕ → ℕ → ℕ → Type 0
@@ -36,7 +44,7 @@ later : (order : List ℕ) (k n : ℕ) → StandsBefore order k n → StandsBefo
 later order k n before = (before.0, omega (arith, before.1), before.2)
 
 -- one message more
-pub order_more : (needs : List (List ℕ)) (order : List ℕ) (marks : List Bool) (k n : ℕ) → AreLists needs → StandsAt order k n
+pub order_more : (needs : List (List ℕ)) (order : List ℕ) (marks : List Bool) (k n : ℕ) → AreEarlier needs → StandsAt order k n
     → MayStand needs marks n → IsOrderUpTo needs order marks k → IsOrderUpTo needs order (set marks (n - 1) true) (k + 1)
 order_more needs order marks k n lists at may h =
     let within : n - 1 < length marks = omega (arith, may.from, may.to, h.count) in
@@ -101,7 +109,7 @@ order_more needs order marks k n lists at may h =
     }
 
 -- in an order each message may stand after those before it
-pub order_next : (needs : List (List ℕ)) (order : List ℕ) (marks : List Bool) (k n : ℕ) → AreLists needs → StandsAt order k n
+pub order_next : (needs : List (List ℕ)) (order : List ℕ) (marks : List Bool) (k n : ℕ) → AreEarlier needs → StandsAt order k n
     → IsOrderUpTo needs order marks k → IsOrder needs order → MayStand needs marks n
 order_next needs order marks k n lists at h o =
     let range : (1 ≤ n) × (n ≤ length needs) = All-contains (λ n. (1 ≤ n) × (n ≤ length needs)) order n o.messages

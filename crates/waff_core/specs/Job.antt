@@ -71,7 +71,8 @@ pub record IsJob (job : JobValue) : Type 0 where
   pub order : IsOrder job.needs job.order
 
 -- the job of a trace's messages: what it was made of is kept
-pub record IsJobOf (layout : Hierarchy) (messages : List Message) (assigned : List ℕ) (needs : List (List ℕ)) (order : List ℕ) (job : JobValue) : Type 0 where
+pub record IsJobOf (layout : Hierarchy) (messages : List Message) (assigned : List ℕ)
+    (needs : List (List ℕ)) (order : List ℕ) (job : JobValue) : Type 0 where
   pub layout_kept : job.layout ≡ layout
   pub ops_kept : job.ops ≡ operations messages
   pub assigned_kept : job.assigned ≡ assigned

@@ -1,5 +1,5 @@
 -- What holds of the core machine.
-use Rattle.std.specs.Prelude.{◌≡◌, ◌≢◌, ◌⊎◌, ℕ, zero, suc, ◌+◌, ◌-◌, ◌≤◌, true, List, [], ◌∷◌, length, Some, take, All}
+use Rattle.std.specs.Prelude.{◌≡◌, ◌↔◌, ◌≢◌, ◌⊎◌, ℕ, zero, suc, ◌+◌, ◌-◌, ◌≤◌, true, List, [], ◌∷◌, length, Some, take, All}
 use Rattle.waff_model.specs.Tree.{Excludes}
 use Rattle.waff_model.specs.Layout.{IsCell, owner_of}
 use Rattle.waff_model.specs.declared.cell.Cell.{Cell}
@@ -10,7 +10,7 @@ use Rattle.waff_cells.specs.Serial.{SameParcel, ops_of, serial}
 use Rattle.waff_core.specs.Job.{JobValue, IsIn, IsOwner}
 use Rattle.waff_core.specs.Machine.{Core, Runs, IsClear, IsAway, opening, phase_of}
 use Rattle.waff_core.specs.Refused.{FailsFirst}
-use Rattle.waff_core.specs.Statuses.{HasStatus}
+use Rattle.waff_core.specs.Statuses.{HasStatus, ShowsStatus}
 use Rattle.waff_core.specs.Settled.{IsLast, CellsAreSerial}
 use Rattle.waff_core.specs.declared.event.Event.{Event}
 use Rattle.waff_core.specs.declared.event.Event.TheVariants.{Draw, Begin, End}
@@ -148,3 +148,9 @@ BeginsSettled job =
     → (a : ℕ) → IsOwner job.layout.spaces (ops_of job.ops m) a
     → SameParcel job.layout.spaces a s.cells (serial job.ops (m - 1))
     × SameParcel job.layout.spaces a (meaning (ops_of job.ops m) s.cells) (serial job.ops m)
+
+-- the status that a state shows of a message is the one that it has
+abbrev pub ShowsWhatItHas : JobValue → Type 0
+ShowsWhatItHas job =
+    (seats : ℕ) (s : Core) → Reaches job seats s
+    → (m : ℕ) (status : Status) → ShowsStatus s m status ↔ HasStatus job s m status

@@ -3,6 +3,7 @@ pub mod Job
 pub mod Machine
 pub mod Refused
 pub mod Settled
+pub mod Laws
 pub mod Owners
 pub mod Orders
-pub mod Laws
+pub mod Shown

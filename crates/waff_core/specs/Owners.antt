@@ -1,6 +1,5 @@
 -- The owners of footprints.
 use Rattle.std.specs.Prelude.{◌≡◌, ℕ, ◌≤◌, List, length, map}
-use Rattle.waff_model.specs.Cells.{cells_of}
 use Rattle.waff_model.specs.Layout.{Space, owner_of}
 use Rattle.waff_model.specs.declared.cell.Cell.{Cell}
 use Rattle.waff_model.specs.declared.op.Op.{Op}
@@ -12,6 +11,8 @@ abbrev pub owners_in : List Space → List Cell → List ℕ
 owners_in spaces cells = map (λ cell. owner_of spaces cell) cells
 
 -- the owners of each message's footprint
-pub record AreOwners (spaces : List Space) (ops : List (List Op)) (owners : List (List ℕ)) : Type 0 where
+pub record AreOwners (spaces : List Space) (ops : List (List Op)) (owners : List (List ℕ))
+    : Type 0 where
   pub count : length owners ≡ length ops
-  pub each : (n : ℕ) → 1 ≤ n → n ≤ length ops → ListsOwners spaces (ops_of ops n) (owners_of owners n)
+  pub each : (n : ℕ) → 1 ≤ n → n ≤ length ops
+      → ListsOwners spaces (ops_of ops n) (owners_of owners n)

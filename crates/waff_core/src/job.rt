@@ -4,6 +4,7 @@ ghost use Rattle.std.specs.Prelude.{◌≡◌, ◌↔◌, ◌<◌, ◌≤◌, le
 ghost use Rattle.waff_model.specs.Cells.{cells_of};
 ghost use Rattle.waff_model.specs.Layout.{IsCell};
 ghost use Rattle.waff_model.specs.Messages.{sizes_of};
+ghost use Rattle.waff_model.specs.declared.limits.TheConstants.{MAX_MESSAGES};
 ghost use Rattle.waff_assign.specs.Lowest.{AreLowest};
 ghost use Rattle.waff_assign.specs.Order.{IsOrdered};
 ghost use Rattle.waff_order.specs.Needs.{AreNeeds, needs_of};
@@ -21,7 +22,8 @@ use waff_assign::{Assigned, is_ordered};
 use waff_model::{Layout, Op, Trace};
 use waff_order::Needs;
 
-/// What is replayed: the messages of a trace under a layout, with their affinities, their needs and the owners of their
+/// What is replayed: the messages of a trace under a layout, with their affinities, their needs and
+/// the owners of their
 /// footprints, in the order in which they are handed out. Messages are numbered from 1.
 #[derive(Drop)]
 pub struct Job {
@@ -38,13 +40,28 @@ impl Model for Job {
 
     ghost Value = { JobValue };
 
-    ghost view = { λ j. record { layout = j.layout; ops = j.ops; assigned = j.assigned; needs = j.needs; owners = j.owners; order = j.order.items } };
+    ghost view = { λ j. record {
+      layout = j.layout;
+      ops = j.ops;
+      assigned = j.assigned;
+      needs = j.needs;
+      owners = j.owners;
+      order = j.order.items;
+    } };
 
-    ghost invariant = { λ j. IsJob (record { layout = j.layout; ops = j.ops; assigned = j.assigned; needs = j.needs; owners = j.owners; order = j.order.items }) };
+    ghost invariant = { λ j. IsJob (record {
+      layout = j.layout;
+      ops = j.ops;
+      assigned = j.assigned;
+      needs = j.needs;
+      owners = j.owners;
+      order = j.order.items;
+    }) };
 }
 
 impl Job {
-    /// The job of a trace's messages, with the assignment and the needs of that trace under that layout.
+    /// The job of a trace's messages, with the assignment and the needs of that trace under that
+    /// layout.
     pub fn new(
         alloc: Global,
         layout: Layout,
@@ -58,7 +75,8 @@ impl Job {
         requires lowest { AreLowest layout trace.messages assigned }
         requires known { All (λ a. a < length layout.tree) assigned }
         requires needs { AreNeeds layout.tree assigned needs }
-        ensures kept { IfOk result (λ job. IsJobOf layout trace.messages assigned needs order.now job) }
+        ensures kept { IfOk result
+            (λ job. IsJobOf layout trace.messages assigned needs order.now job) }
         ensures job { IfOk result IsJob }
         ensures refused { IfErr result (λ e. e ≡ JobError.Order → ¬ IsOrder needs order.now) }
     {
@@ -76,6 +94,7 @@ impl Job {
     /// How many messages there are.
     pub fn len(&self) -> u32
         ensures count { result ≡ length self.now.ops }
+        ensures few { length self.now.ops ≤ MAX_MESSAGES }
         ensures job { IsJob self.now }
     {
         self.assigned.len()
@@ -101,16 +120,19 @@ impl Job {
     pub fn needs(&self, n: u32) -> &[u32]
         requires from { 1 ≤ n }
         requires to { n ≤ length self.now.ops }
-        ensures { result.now ≡ needs_of self.now.needs n }
+        ensures needs { result.now ≡ needs_of self.now.needs n }
+        ensures earlier { All (λ i. (1 ≤ i) × (i < n)) result.now }
     {
         self.needs.of(n)
     }
 
-    /// The numbers of the affinities that own a cell of the footprint of message `n`, in rising order.
+    /// The numbers of the affinities that own a cell of the footprint of message `n`, in rising
+    /// order.
     pub fn owners(&self, n: u32) -> &[u16]
         requires from { 1 ≤ n }
         requires to { n ≤ length self.now.ops }
-        ensures { result.now ≡ owners_of self.now.owners n }
+        ensures owners { result.now ≡ owners_of self.now.owners n }
+        ensures known { All (λ a. a < length self.now.layout.tree) result.now }
     {
         self.owners.of(n)
     }

@@ -2,7 +2,7 @@
 //! whose contract is the law.
 
 ghost use Rattle.waff_core.specs.Job.{JobValue, IsJob};
-ghost use Rattle.waff_core.specs.Laws.{RunsOnce, FailsOnce, RunsOrFails, NeverBoth, StaysAccepted, OneActorEnds, DrawsAreFew, EachHasOneStatus, NeedsAreEnough, RunningDoNotExclude, AwayWithOne, BeginsAtHome, LastIsOne, AlwaysSerial, EachCellIsSerial, AllDoneIsSerial, BeginsSettled};
+ghost use Rattle.waff_core.specs.Laws.{RunsOnce, FailsOnce, RunsOrFails, NeverBoth, StaysAccepted, OneActorEnds, DrawsAreFew, EachHasOneStatus, ShowsWhatItHas, NeedsAreEnough, RunningDoNotExclude, AwayWithOne, BeginsAtHome, LastIsOne, AlwaysSerial, EachCellIsSerial, AllDoneIsSerial, BeginsSettled};
 
 /// The machine is deterministic: a list of events leads from a state to no more than one.
 pub fn runs_once()
@@ -41,7 +41,8 @@ pub fn draws_are_few()
 
 /// Each message waits, or is held by one actor, or is run by one actor, or is done.
 pub fn each_has_one_status()
-    ensures { (job : JobValue) → IsJob job → EachHasOneStatus job }
+    ensures one { (job : JobValue) → IsJob job → EachHasOneStatus job }
+    ensures shown { (job : JobValue) → IsJob job → ShowsWhatItHas job }
 {}
 
 /// Looking at the needs of a message is enough.
@@ -54,7 +55,8 @@ pub fn running_do_not_exclude()
     ensures { (job : JobValue) → IsJob job → RunningDoNotExclude job }
 {}
 
-/// A parcel that is away is with one running message, and when a message may begin the parcels of its
+/// A parcel that is away is with one running message, and when a message may begin the parcels of
+/// its
 /// footprint's owners are home.
 pub fn parcels_are_with_one()
     ensures away { (job : JobValue) → IsJob job → AwayWithOne job }

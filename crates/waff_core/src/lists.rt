@@ -50,7 +50,8 @@ fn bounds<T>(all: &[T], ends: &[u32], n: u32) -> (usize, usize)
     requires to { n ≤ length ends.now }
     ensures forward { result.0 ≤ result.1 }
     ensures within { result.1 ≤ length all.now }
-    ensures part { slice_range all.now result.0 result.1 ≡ slice_index_or (parts all.now 0 ends.now) (n - 1) [] }
+    ensures part { slice_range all.now result.0 result.1
+        ≡ slice_index_or (parts all.now 0 ends.now) (n - 1) [] }
 {
     let place = n as usize - 1;
     let to = ends[place] as usize;

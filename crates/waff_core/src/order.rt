@@ -8,7 +8,8 @@ ghost use Rattle.waff_core.specs.Orders.{IsMarked, MayStand};
 use std::alloc::{AllocError, Global};
 use waff_order::Needs;
 
-/// Whether the order is a list of all messages, each once, in which each need stands before its message.
+/// Whether the order is a list of all messages, each once, in which each need stands before its
+/// message.
 pub(crate) fn is_order(alloc: Global, needs: &Needs, order: &[u32]) -> Result<bool, AllocError>
     ensures { IfOk result (λ answer. IsTrue answer ↔ IsOrder needs.now order.now) }
 {

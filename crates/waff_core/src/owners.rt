@@ -40,7 +40,8 @@ pub(crate) fn list_owners(
 /// Appends the owners of the cells that the operations name.
 fn push_owners(owners: &mut Vec<u16>, layout: &Layout, ops: &[Op]) -> Result<(), AllocError>
     requires { All (IsCell layout.now.spaces) (cells_of ops.now) }
-    ensures { OnOk result (owners.new.items ≡ owners.old.items ++ owners_in layout.now.spaces (cells_of ops.now)) }
+    ensures { OnOk result
+        (owners.new.items ≡ owners.old.items ++ owners_in layout.now.spaces (cells_of ops.now)) }
 {
     for at in 0..ops.len() {
         push_owners_of_op(owners, layout, ops[at])?;
@@ -51,7 +52,8 @@ fn push_owners(owners: &mut Vec<u16>, layout: &Layout, ops: &[Op]) -> Result<(),
 /// Appends the owners of the cells that the operation names.
 fn push_owners_of_op(owners: &mut Vec<u16>, layout: &Layout, op: Op) -> Result<(), AllocError>
     requires { All (IsCell layout.now.spaces) (cells_of_op op) }
-    ensures { OnOk result (owners.new.items ≡ owners.old.items ++ owners_in layout.now.spaces (cells_of_op op)) }
+    ensures { OnOk result
+        (owners.new.items ≡ owners.old.items ++ owners_in layout.now.spaces (cells_of_op op)) }
 {
     match op {
         Op::Set { cell, .. } | Op::Add { cell, .. } | Op::Read { cell } => {

@@ -10,9 +10,9 @@ use Rattle.waff_plan.proofs.Chains.{printed_is_chain}
 use Rattle.waff_plan.proofs.Forward.{IsOrdered_forward}
 use Rattle.waff_order.specs.Needs.{IsNeed, AreNeeds}
 use Rattle.waff_list.specs.ListRule.{IsListPlan}
-use Rattle.waff_list.specs.Bound.{IsWithinBound}
+use Rattle.waff_plan.specs.Bound.{IsWithinBound}
 use Rattle.waff_list.proofs.Graham.{list_plans_are_within_bound}
-use Rattle.waff_list.proofs.Ratios.{bound_is_within_twice, bound_is_within_ratio}
+use Rattle.waff_plan.proofs.Ratios.{bound_is_within_twice, bound_is_within_ratio}
 use Rattle.waff_list.proofs.PathPlans.{plan_over_pairs}
 
 -- the chain is the printed one, with its cost and its release

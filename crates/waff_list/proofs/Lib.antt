@@ -1,5 +1,4 @@
 pub mod Graham
-pub mod Ratios
 pub mod Pigeonhole
 pub mod Running
 pub mod Settling

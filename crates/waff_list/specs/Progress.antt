@@ -8,7 +8,7 @@ use Rattle.waff_plan.specs.Timetable.{timings_of}
 use Rattle.waff_model.specs.declared.message.Message.{Message}
 use Rattle.waff_list.specs.ListRule.{IsReady, IsListPlan}
 use Rattle.waff_list.specs.Seats.{ComesBefore, IsSeated, IsInOrder}
-use Rattle.waff_plan.specs.declared.timing.TheConstants.{MAX_TICK}
+use Rattle.waff_model.specs.declared.limits.TheConstants.{MAX_TICK}
 use Rattle.waff_list.specs.declared.progress.TheConstants.{NEVER}
 
 -- message m has had its turn at the tick t: the plan has been made up to the tick now, and at now up to the message turn

@@ -3,7 +3,7 @@ use Rattle.std.specs.Prelude.{◌≡◌, ℕ, ◌-◌, ◌≤◌, List, length, 
 use Rattle.waff_plan.specs.Timetable.{Timetable}
 use Rattle.waff_plan.specs.Timing.{work_of}
 use Rattle.waff_plan.specs.Work.{IsNumber}
-use Rattle.waff_list.specs.declared.limits.TheConstants.{MAX_WORKERS}
+use Rattle.waff_model.specs.declared.limits.TheConstants.{MAX_WORKERS}
 
 pub record Seating : Type 0 where
   pub table : Timetable

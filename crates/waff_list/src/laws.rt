@@ -7,23 +7,13 @@ ghost use Rattle.waff_assign.specs.Order.{IsOrdered, Path};
 ghost use Rattle.waff_plan.specs.Work.{Work};
 ghost use Rattle.waff_order.specs.Needs.{IsNeed, AreNeeds};
 ghost use Rattle.waff_list.specs.ListRule.{IsListPlan};
-ghost use Rattle.waff_list.specs.Bound.{ListPlansAreWithinBound, BoundIsWithinTwice, BoundIsWithinRatio};
+ghost use Rattle.waff_list.specs.Bound.{ListPlansAreWithinBound};
 
 /// The list bound: k times the length of a list plan is at most the total, k times the release of its printed chain, and
 /// k - 1 times the cost of that chain.
 pub fn list_plans_are_within_bound()
     ensures { (tree : List Node) (assigned : List ℕ) (work : Work) → length assigned ≡ work.count
         → ListPlansAreWithinBound (IsOrdered tree assigned) work }
-{}
-
-/// What is within the bound of a chain is at most twice as long as any worker plan for as many workers.
-pub fn bound_is_within_twice()
-    ensures { (tree : List Node) (assigned : List ℕ) (work : Work) → BoundIsWithinTwice (IsOrdered tree assigned) work }
-{}
-
-/// Where no message has a release, it is at most 2 - 1/k times as long.
-pub fn bound_is_within_ratio()
-    ensures { (tree : List Node) (assigned : List ℕ) (work : Work) → BoundIsWithinRatio (IsOrdered tree assigned) work }
 {}
 
 /// A list plan over the paths through the needs of messages is a list plan over their ordered pairs.

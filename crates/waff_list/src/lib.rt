@@ -4,7 +4,6 @@
 mod candidates;
 mod dependents;
 pub mod laws;
-pub mod limits;
 mod list;
 mod planner;
 mod progress;

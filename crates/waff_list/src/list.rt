@@ -2,7 +2,7 @@
 
 ghost use Rattle.std.specs.Prelude.{◌≡◌, ℕ, ◌+◌, ◌-◌, ◌*◌, ◌<◌, ◌≤◌, List, length, All, IfOk};
 ghost use Rattle.waff_assign.specs.Order.{IsOrdered, Path};
-ghost use Rattle.waff_plan.specs.Chain.{IsChain, IsPrinted, chain_cost, chain_release};
+ghost use Rattle.waff_plan.specs.Chain.{IsChain, IsListed, IsPrinted, chain_cost, chain_release};
 ghost use Rattle.waff_plan.specs.Timetable.{timings_of};
 ghost use Rattle.waff_plan.specs.Timing.{work_of, start_of};
 ghost use Rattle.waff_plan.specs.Work.{IsNumber, length_of, total_of};
@@ -13,10 +13,10 @@ ghost use Rattle.waff_list.specs.Seats.{IsSeated, IsInOrder};
 ghost use Rattle.waff_list.specs.Seating.{worker_of};
 
 use crate::WorkerPlan;
-use crate::limits::MAX_WORKERS;
 use crate::planner::make;
 use std::alloc::{AllocError, Global};
 use waff_assign::Assigned;
+use waff_model::limits::MAX_WORKERS;
 use waff_model::{Trace, Tree};
 use waff_order::Needs;
 use waff_plan::printed::chain;
@@ -58,6 +58,7 @@ pub fn list_chain(
     ensures printed { IfOk result (λ chain. IsPrinted (IsOrdered tree.now assigned.now) (work_of made.now.table.timings)
         (start_of made.now.table.starts) chain.messages) }
     ensures chain { IfOk result (λ chain. IsChain (IsOrdered tree.now assigned.now) (work_of made.now.table.timings) chain.messages) }
+    ensures listed { IfOk result (λ chain. IsListed (length made.now.table.timings) chain.messages) }
     ensures cost { IfOk result (λ chain. chain.cost ≡ chain_cost (work_of made.now.table.timings) chain.messages) }
     ensures release { IfOk result (λ chain. chain.release ≡ chain_release (work_of made.now.table.timings) chain.messages) }
 

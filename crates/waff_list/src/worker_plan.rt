@@ -69,6 +69,14 @@ impl WorkerPlan {
         self.seats[n as usize - 1]
     }
 
+    /// The worker of each message, in the order of arrival.
+    pub fn seats(&self) -> &[u32]
+        ensures seats { result.now ≡ self.now.seats }
+        ensures seating { IsSeating self.now }
+    {
+        self.seats.as_slice()
+    }
+
     /// The messages by start tick, then arrival.
     pub fn order(&self) -> &[u32]
         ensures order { result.now ≡ self.now.order }

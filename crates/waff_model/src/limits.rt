@@ -1,4 +1,4 @@
-//! The limits of hierarchies and traces.
+//! The limits of hierarchies, traces and plans.
 
 /// Affinities of a tree.
 pub const MAX_AFFINITIES: usize = 4096;
@@ -29,6 +29,12 @@ pub const MAX_COST: u32 = 1000000;
 
 /// The release of a message, in ticks.
 pub const MAX_RELEASE: u32 = 1000000000;
+
+/// Workers of a plan.
+pub const MAX_WORKERS: u32 = 64;
+
+/// A number in the text of a plan.
+pub const MAX_TICK: u64 = 1_000_000_000_000_000;
 
 /// Bytes of a name.
 pub const MAX_NAME: usize = 32;

@@ -8,4 +8,5 @@ pub mod Tables
 pub mod Planned
 pub mod OrderKept
 pub mod Linkings
+pub mod Ratios
 pub mod Uniqueness

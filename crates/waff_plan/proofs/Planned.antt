@@ -9,7 +9,7 @@ use Rattle.waff_plan.specs.Obeys.{IsForward}
 use Rattle.waff_plan.specs.Table.{IsUpTo, IsTable, IsLatestExcluding}
 use Rattle.waff_plan.specs.Timing.{start_of}
 use Rattle.waff_plan.specs.declared.latest.Latest.{Latest}
-use Rattle.waff_plan.specs.declared.timing.TheConstants.{MAX_TICK}
+use Rattle.waff_model.specs.declared.limits.TheConstants.{MAX_TICK}
 use Rattle.waff_plan.proofs.Forward.{IsOrdered_forward}
 use Rattle.waff_plan.proofs.Latests.{found_again}
 use Rattle.waff_plan.proofs.Steps.{IsEarliest, IsLeastUpTo, up_to_more}

@@ -1,5 +1,5 @@
 -- Chains of messages, each before the next, and the chain that is printed with a plan.
-use Rattle.std.specs.Prelude.{◌≡◌, ℕ, ◌<◌, ◌≤◌, List, [], ◌∷◌, sum_by}
+use Rattle.std.specs.Prelude.{◌≡◌, ℕ, ◌<◌, ◌≤◌, List, [], ◌∷◌, length, All, sum_by}
 use Rattle.waff_plan.specs.Work.{Work, IsNumber, finish_of}
 
 -- m is before the first message of the list, that one before the second, and so on
@@ -11,6 +11,16 @@ LinksOn before work m (next ∷ rest) = IsNumber work m × before m next × Link
 abbrev pub IsChain : (ℕ → ℕ → Type 0) → Work → List ℕ → Type 0
 IsChain before work [] = Unit {0}
 IsChain before work (m ∷ rest) = LinksOn before work m rest
+
+-- n is one of this many messages
+pub record IsMessage (messages n : ℕ) : Type 0 where
+  pub from : 1 ≤ n
+  pub to : n ≤ messages
+
+-- numbers of messages, of which there are this many, and at most as many numbers
+pub record IsListed (messages : ℕ) (chain : List ℕ) : Type 0 where
+  pub each : All (IsMessage messages) chain
+  pub few : length chain ≤ messages
 
 -- the cost of a chain: the sum of its messages' costs
 abbrev pub chain_cost : Work → List ℕ → ℕ

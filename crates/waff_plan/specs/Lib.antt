@@ -9,4 +9,6 @@ pub mod Latest
 pub mod Table
 pub mod Links
 pub mod CostedChain
+pub mod Bound
+pub mod Totals
 pub mod Unique

@@ -3,7 +3,7 @@ use Rattle.std.specs.Prelude.{◌≡◌, ℕ, ◌≤◌, List, length, map, All}
 use Rattle.waff_model.specs.declared.limits.TheConstants.{MAX_MESSAGES}
 use Rattle.waff_model.specs.declared.message.Message.{Message}
 use Rattle.waff_plan.specs.declared.timing.Timing.{Timing}
-use Rattle.waff_plan.specs.declared.timing.TheConstants.{MAX_TICK}
+use Rattle.waff_model.specs.declared.limits.TheConstants.{MAX_TICK}
 
 pub record Timetable : Type 0 where
   pub timings : List Timing

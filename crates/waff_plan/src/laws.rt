@@ -7,6 +7,7 @@ ghost use Rattle.waff_model.specs.Tree.{Node};
 ghost use Rattle.waff_assign.specs.Order.{IsOrdered, Refines};
 ghost use Rattle.waff_plan.specs.Work.{Work};
 ghost use Rattle.waff_plan.specs.Laws.{ChainsAreWithinLength, LeastIsShortest, PrintedIsChain, PrintedIsAsLong, TotalIsWithinWorkers, LeastIsNoLonger};
+ghost use Rattle.waff_plan.specs.Bound.{BoundIsWithinTwice, BoundIsWithinRatio};
 
 /// The certificate: no obeying plan is shorter than the release plus the cost of any chain.
 pub fn chains_are_within_length()
@@ -36,6 +37,16 @@ pub fn printed_is_as_long()
 pub fn total_is_within_workers()
     ensures { (tree : List Node) (assigned : List ℕ) (work : Work)
         → TotalIsWithinWorkers (IsOrdered tree assigned) work }
+{}
+
+/// What is within the bound of a chain is at most twice as long as any worker plan for as many workers.
+pub fn bound_is_within_twice()
+    ensures { (tree : List Node) (assigned : List ℕ) (work : Work) → BoundIsWithinTwice (IsOrdered tree assigned) work }
+{}
+
+/// Where no message has a release, it is at most 2 - 1/k times as long.
+pub fn bound_is_within_ratio()
+    ensures { (tree : List Node) (assigned : List ℕ) (work : Work) → BoundIsWithinRatio (IsOrdered tree assigned) work }
 {}
 
 /// Where one hierarchy refines another on a trace, its least plan is no longer than that of the

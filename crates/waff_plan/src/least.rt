@@ -8,10 +8,10 @@ ghost use Rattle.waff_plan.specs.Timing.{work_of, start_of};
 use crate::Timing;
 use crate::latest::Latest;
 use crate::table::Table;
-use crate::timing::MAX_TICK;
 use std::alloc::{AllocError, Global};
 use waff_assign::Assigned;
 use waff_model::Tree;
+use waff_model::limits::MAX_TICK;
 
 /// The starts of the least plan: each message starts at its release, or where it is later at the
 /// finish of the latest earlier message that excludes it.

@@ -11,9 +11,11 @@ pub mod printed;
 mod table;
 mod timetable;
 mod timing;
+mod totals;
 pub mod unique;
 pub mod unlimited;
 
 pub use linked::Chain;
 pub use timetable::Plan;
-pub use timing::{MAX_TICK, Timing};
+pub use timing::Timing;
+pub use totals::Totals;

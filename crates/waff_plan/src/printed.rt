@@ -2,12 +2,13 @@
 
 ghost use Rattle.std.specs.Prelude.{◌≡◌, ◌+◌, ◌<◌, ◌≤◌, length, All, IfOk, OnOk};
 ghost use Rattle.waff_assign.specs.Order.{IsOrdered};
-ghost use Rattle.waff_plan.specs.Chain.{IsChain, IsPrinted, chain_cost, chain_release};
+ghost use Rattle.waff_plan.specs.Chain.{IsChain, IsListed, IsPrinted, chain_cost, chain_release};
 ghost use Rattle.waff_plan.specs.Obeys.{IsLeast};
 ghost use Rattle.waff_plan.specs.Timing.{work_of, start_of};
-ghost use Rattle.waff_plan.specs.Work.{IsNumber, length_of};
+ghost use Rattle.waff_plan.specs.Work.{length_of};
 
 use crate::links::{last, links};
+use crate::totals::{cost_of, release_of};
 use crate::{Chain, Plan};
 use std::alloc::{AllocError, Global};
 use waff_assign::Assigned;
@@ -29,6 +30,7 @@ pub fn chain(
         (work_of plan.now.timings) (start_of plan.now.starts) chain.messages) }
     ensures chain { IfOk result (λ chain. IsChain (IsOrdered tree.now assigned.now) (work_of plan.now.timings)
         chain.messages) }
+    ensures listed { IfOk result (λ chain. IsListed (length plan.now.timings) chain.messages) }
     ensures cost { IfOk result (λ chain. chain.cost ≡ chain_cost (work_of plan.now.timings) chain.messages) }
     ensures release { IfOk result (λ chain.
         chain.release ≡ chain_release (work_of plan.now.timings) chain.messages) }
@@ -67,28 +69,4 @@ fn walk(
     }
     messages.reverse();
     Ok(messages)
-}
-
-/// The sum of the running times of the messages.
-fn cost_of(plan: &Plan, messages: &[u32]) -> u64
-    requires numbers { All (IsNumber (work_of plan.now.timings)) messages.now }
-    requires few { length messages.now ≤ MAX_MESSAGES }
-    ensures { result ≡ chain_cost (work_of plan.now.timings) messages.now }
-{
-    let mut cost = 0;
-    for message in messages {
-        cost += plan.cost(*message);
-    }
-    cost
-}
-
-/// The release of the first message, 0 where there is none.
-fn release_of(plan: &Plan, messages: &[u32]) -> u64
-    requires { All (IsNumber (work_of plan.now.timings)) messages.now }
-    ensures { result ≡ chain_release (work_of plan.now.timings) messages.now }
-{
-    match messages {
-        [first, ..] => plan.release(*first),
-        [] => 0,
-    }
 }

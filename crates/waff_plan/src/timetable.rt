@@ -5,10 +5,11 @@ ghost use Rattle.waff_plan.specs.Work.{finish_of, length_of, total_of};
 ghost use Rattle.waff_plan.specs.Timing.{timing_of, work_of, start_of};
 
 use crate::Timing;
-use crate::timing::{MAX_TICK, timings};
+use crate::timing::timings;
 use std::alloc::{AllocError, Global};
 use std::marker::Model;
 use waff_model::Trace;
+use waff_model::limits::MAX_TICK;
 
 /// A plan: the start of each message of a trace. Messages are numbered from 1; all times are ticks.
 #[derive(Drop)]
@@ -83,7 +84,8 @@ impl Plan {
     pub fn release(&self, n: u32) -> u64
         requires from { 1 ≤ n }
         requires to { n ≤ length self.now.timings }
-        ensures { result ≡ (timing_of self.now.timings n).release }
+        ensures release { result ≡ (timing_of self.now.timings n).release }
+        ensures small { result < 2 ^ 32 }
     {
         u64::from(self.timings[n as usize - 1].release)
     }

@@ -1,4 +1,4 @@
-//! Ticks, and the timings of messages.
+//! The timings of messages.
 
 ghost use Rattle.std.specs.Prelude.{◌≡◌, ◌≤◌, length, IfOk};
 ghost use Rattle.waff_plan.specs.Timetable.{timings_of};
@@ -6,9 +6,6 @@ ghost use Rattle.waff_plan.specs.Timetable.{timings_of};
 use std::alloc::{AllocError, Global};
 use waff_model::Trace;
 use waff_model::limits::MAX_MESSAGES;
-
-/// A number in the text of a plan.
-pub const MAX_TICK: u64 = 1_000_000_000_000_000;
 
 /// How long a message runs, and when it may start.
 #[derive(Clone, Copy, Debug, PartialEq, Eq)]

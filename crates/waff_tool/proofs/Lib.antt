@@ -1,4 +1,2 @@
 pub mod ComparisonLemmas
-pub mod KnownBytesLemmas
 pub mod LinesLemmas
-pub mod SplitLemmas

@@ -4,7 +4,7 @@ use Rattle.std.specs.List.{range_with_len}
 use Rattle.std.proofs.lemmas.List.{flat_map_more}
 use Rattle.std.proofs.lemmas.Grind.{flat_map-append}
 use Rattle.std.proofs.lemmas.List.FromFn.{map-range_with_len_more}
-use Rattle.waff_tool.specs.Lines.{line_text, text_of}
+use Rattle.waff_plan_text.specs.Lines.{line_text, text_of}
 
 -- what stood before, the rows before m, and that of m
 pub rows_further : (row : ℕ → List (List ℕ)) (m : ℕ) (before so_far now : List ℕ) → 1 ≤ m

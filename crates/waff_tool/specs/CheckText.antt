@@ -4,15 +4,15 @@ use Rattle.waff_model.specs.Layout.{Hierarchy}
 use Rattle.waff_model.specs.Messages.{Arrivals}
 use Rattle.waff_read.specs.Hierarchies.{hierarchy_of}
 use Rattle.waff_read.specs.Traces.{trace_of}
-use Rattle.waff_check.specs.Given.{Given}
-use Rattle.waff_check.specs.PlanTexts.{plan_of}
+use Rattle.waff_plan_text.specs.Given.{Given}
+use Rattle.waff_plan_text.specs.PlanTexts.{plan_of}
 use Rattle.waff_check.specs.Promises.{PromisesBound, PromisesChain, PromisesObeys, PromisesOneAtATime, PromisesShortest, PromisesWorkerPlan}
 use Rattle.waff_check.specs.Verdicts.{IsVerdict, claim_of}
-use Rattle.waff_check.specs.declared.refusal.PlanTextError.{PlanTextError}
+use Rattle.waff_plan_text.specs.declared.refusal.PlanTextError.{PlanTextError}
 use Rattle.waff_check.specs.declared.verdict.Verdict.{Verdict}
 use Rattle.waff_check.specs.declared.verdict.Verdict.TheVariants as verdict
 use Rattle.waff_tool.specs.Commands.{Accepts, Refuses}
-use Rattle.waff_tool.specs.Lines.{line_text}
+use Rattle.waff_plan_text.specs.Lines.{line_text}
 use Rattle.waff_tool.specs.declared.fault.ToolError.{ToolError}
 use Rattle.waff_tool.specs.declared.fault.ToolError.TheVariants as tool
 

@@ -11,13 +11,13 @@ use Rattle.waff_plan.specs.Obeys.{IsLeast}
 use Rattle.waff_plan.specs.Timetable.{timings_of}
 use Rattle.waff_plan.specs.Timing.{work_of, start_of}
 use Rattle.waff_plan.specs.Work.{Work, IsNumber}
-use Rattle.waff_list.specs.Bound.{IsWithinBound}
+use Rattle.waff_plan.specs.Bound.{IsWithinBound}
 use Rattle.waff_list.specs.ListRule.{IsListPlan}
 use Rattle.waff_list.specs.Seating.{worker_of}
 use Rattle.waff_list.specs.Seats.{IsSeated}
-use Rattle.waff_tool.specs.Lines.{text_of}
+use Rattle.waff_plan_text.specs.Lines.{text_of}
 use Rattle.waff_tool.specs.AssignText.{assign_lines}
-use Rattle.waff_tool.specs.PlanText.{unlimited_lines, worker_lines}
+use Rattle.waff_plan_text.specs.Spelling.{unlimited_lines, worker_lines}
 use Rattle.waff_tool.specs.declared.fault.ToolError.{ToolError}
 use Rattle.waff_tool.specs.declared.fault.ToolError.TheVariants as tool
 
@@ -66,7 +66,7 @@ pub record IsWorkerPlanText (hierarchy_file trace_file : List ℕ) (k : ℕ) (te
   pub printed : IsPrinted (IsOrdered layout.tree assigned) (work_in trace) (start_of starts) chain
   pub bound : IsWithinBound (work_in trace) k (start_of starts) chain
   pub lines : text ≡ text_of
-      (worker_lines trace.version layout.tree assigned (work_in trace) k (start_of starts) (worker_of workers) chain)
+      (worker_lines trace.version layout.tree assigned (work_in trace) k (start_of starts) workers chain)
 
 -- the text of the plan for this number of workers, or of the least plan where there is no number
 abbrev pub IsPlanTextFor : List ℕ → List ℕ → Option ℕ → List ℕ → Type 0

@@ -1,5 +1,5 @@
 -- What is printed where a classical and a hierarchical hierarchy are compared on one trace.
-use Rattle.std.specs.Prelude.{◌≡◌, ℕ, ◌-◌, ◌*◌, ◌≤◌, ◌⊎◌, ◌↔◌, Bool, true, false, IsTrue, List, [], ◌∷◌, ◌++◌, Ok, Err, codes, decimal}
+use Rattle.std.specs.Prelude.{◌≡◌, ℕ, ◌-◌, ◌*◌, ◌≤◌, ◌⊎◌, ◌↔◌, Bool, true, false, IsTrue, List, [], ◌∷◌, ◌++◌, Some, None, Ok, Err, codes, decimal}
 use Rattle.waff_model.specs.Layout.{Hierarchy, SameSpaces}
 use Rattle.waff_model.specs.Messages.{Arrivals}
 use Rattle.waff_model.specs.declared.kind.Kind.{Kind}
@@ -13,17 +13,17 @@ use Rattle.waff_assign.specs.Order.{IsOrdered, Refines}
 use Rattle.waff_plan.specs.Chain.{IsPrinted}
 use Rattle.waff_plan.specs.Obeys.{IsLeast}
 use Rattle.waff_plan.specs.Timing.{start_of}
+use Rattle.waff_plan.specs.Totals.{totals_of}
 use Rattle.waff_plan.specs.Work.{Work, IsNumber, length_of, total_of}
 use Rattle.waff_plan.specs.Workers.{IsWorkerPlan}
-use Rattle.waff_list.specs.Bound.{IsWithinBound}
+use Rattle.waff_plan.specs.declared.totals.Totals.{Totals}
+use Rattle.waff_plan.specs.Bound.{IsWithinBound}
 use Rattle.waff_list.specs.ListRule.{IsListPlan}
 use Rattle.waff_tool.specs.Commands.{work_in}
-use Rattle.waff_tool.specs.Lines.{text_of}
-use Rattle.waff_tool.specs.Summary.{unlimited_totals, worker_totals}
+use Rattle.waff_plan_text.specs.Lines.{text_of}
 use Rattle.waff_tool.specs.declared.fault.ToolError.{ToolError}
 use Rattle.waff_tool.specs.declared.fault.ToolError.TheVariants as tool
 use Rattle.waff_tool.specs.declared.measures.Measured.{Measured}
-use Rattle.waff_tool.specs.declared.summary.Totals.{Totals}
 
 -- what is told of a trace under one hierarchy: of its least plan, and of its list plan for k workers, each with its printed
 -- chain; the list plan is within the list bound of its chain, and at most twice as long as any worker plan for k, or 2 - 1/k
@@ -44,8 +44,8 @@ pub record IsMeasured (layout : Hierarchy) (assigned : List ℕ) (work : Work) (
       → (other : ℕ → ℕ) → IsWorkerPlan (IsOrdered layout.tree assigned) work k other
       → k * length_of work (start_of list_starts) ≤ (2 * k - 1) * length_of work other
   pub kind : measured.kind ≡ layout.kind
-  pub unlimited : measured.unlimited ≡ unlimited_totals work (start_of starts) chain
-  pub listed : measured.listed ≡ worker_totals work k (start_of list_starts) list_chain
+  pub unlimited : measured.unlimited ≡ totals_of None work (start_of starts) chain
+  pub listed : measured.listed ≡ totals_of (Some k) work (start_of list_starts) list_chain
 
 abbrev pub kind_field : Kind → List ℕ
 kind_field kind.Classical = codes "classical"

@@ -3,9 +3,4 @@ pub mod CheckText
 pub mod Commands
 pub mod Comparison
 pub mod Fault
-pub mod Lines
-pub mod Output
-pub mod PlanText
-pub mod Split
-pub mod Summary
 pub mod ToolErrors

@@ -4,8 +4,8 @@ use Rattle.waff_read.specs.declared.hier_error.HierError.{HierError}
 use Rattle.waff_read.specs.declared.hier_error.HierError.TheVariants as hier
 use Rattle.waff_read.specs.declared.trace_fault.TraceError.{TraceError}
 use Rattle.waff_read.specs.declared.trace_fault.TraceError.TheVariants as trace
-use Rattle.waff_check.specs.declared.refusal.PlanTextError.{PlanTextError}
-use Rattle.waff_check.specs.declared.refusal.PlanTextError.TheVariants as text
+use Rattle.waff_plan_text.specs.declared.refusal.PlanTextError.{PlanTextError}
+use Rattle.waff_plan_text.specs.declared.refusal.PlanTextError.TheVariants as text
 use Rattle.waff_tool.specs.declared.fault.ToolError.{ToolError}
 use Rattle.waff_tool.specs.declared.fault.ToolError.TheVariants as tool
 

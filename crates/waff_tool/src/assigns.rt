@@ -1,7 +1,7 @@
 //! The text of an assignment.
 ghost use Rattle.std.specs.Prelude.{◌≡◌, ◌<◌, [], ◌∷◌, ◌++◌, All, IfOk, OnOk, decimal, length, map, string_bytes};
 ghost use Rattle.std.specs.List.{range_with_len};
-ghost use Rattle.waff_tool.specs.Lines.{line_text, text_of};
+ghost use Rattle.waff_plan_text.specs.Lines.{line_text, text_of};
 ghost use Rattle.waff_tool.specs.AssignText.{assign_row, assign_lines};
 
 use std::alloc::{AllocError, Global};

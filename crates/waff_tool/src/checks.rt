@@ -2,7 +2,7 @@
 ghost use Rattle.std.specs.Prelude.{◌≡◌, ◌≢◌, IfOk, IfErr, IsErrOf, string_bytes};
 ghost use Rattle.std.specs.Io.KnownBytes.{Appends, Keeps};
 ghost use Rattle.waff_tool.specs.CheckText.{IsCheckText, RefusesCheck, status_after, verdict_text};
-ghost use Rattle.waff_tool.specs.Output.{AppendsPart};
+ghost use Rattle.waff_io.specs.Writing.{AppendsPart};
 
 use crate::commands::accept;
 use crate::fault::ToolError;

@@ -2,22 +2,22 @@
 ghost use Rattle.std.specs.Prelude.{◌≡◌, ◌≢◌, ◌<◌, ◌≤◌, ℕ, All, List, IfOk, IfErr, IsErrOf, IfSome, OnOk, length, string_bytes};
 ghost use Rattle.std.specs.Io.KnownBytes.{Appends, Keeps};
 ghost use Rattle.waff_tool.specs.Commands.{Accepts, IsAssignText, IsPlanText, IsPlanTextFor, IsWorkerPlanText, Refuses};
-ghost use Rattle.waff_tool.specs.Output.{AppendsPart};
+ghost use Rattle.waff_io.specs.Writing.{AppendsPart};
 
 use crate::assigns::assigned_text;
 use crate::fault::ToolError;
 use crate::output::write_text;
-use crate::plans::unlimited_text;
-use crate::worker_plans::worker_text;
 use std::alloc::{AllocError, Global};
 use std::io::Write;
 use waff_assign::{Assigned, assign};
-use waff_list::limits::MAX_WORKERS;
+use waff_list::laws::needs_make_the_same_plans;
 use waff_list::{list_chain, list_plan};
+use waff_model::limits::MAX_WORKERS;
 use waff_model::{Layout, Trace};
 use waff_order::predecessors::needs;
 use waff_plan::printed::chain;
 use waff_plan::unlimited::plan;
+use waff_plan_text::{unlimited_text, worker_text};
 use waff_read::{read_hierarchy, read_trace};
 
 /// Writes the affinity of each message of the trace under the hierarchy. Nothing is written before the whole text is made.
@@ -129,7 +129,14 @@ fn made_unlimited_text(alloc: Global, accepted: &Accepted) -> Result<String, All
     let plan = plan(alloc, tree, &accepted.assigned, &accepted.trace)?;
     let chain = chain(alloc, tree, &accepted.assigned, &plan)?;
     let version = accepted.trace.version();
-    unlimited_text(alloc, version, tree, &accepted.assigned, &plan, &chain)
+    unlimited_text(
+        alloc,
+        version,
+        tree,
+        &accepted.assigned,
+        &plan,
+        chain.messages(),
+    )
 }
 
 /// The text of the list plan for k workers.
@@ -147,7 +154,17 @@ fn made_worker_text(alloc: Global, accepted: &Accepted, k: u32) -> Result<String
     let made = list_plan(alloc, &needs, &accepted.trace, k)?;
     let chain = list_chain(alloc, tree, &accepted.assigned, &made)?;
     let version = accepted.trace.version();
-    worker_text(alloc, version, tree, &accepted.assigned, &made, &chain)
+    needs_make_the_same_plans();
+    worker_text(
+        alloc,
+        version,
+        tree,
+        &accepted.assigned,
+        made.plan(),
+        k,
+        made.seats(),
+        chain.messages(),
+    )
 }
 
 #[cfg(test)]

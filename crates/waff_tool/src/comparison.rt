@@ -5,7 +5,7 @@ ghost use Rattle.waff_model.specs.Layout.{SameSpaces};
 ghost use Rattle.waff_model.specs.Messages.{sizes_of};
 ghost use Rattle.waff_read.specs.Hierarchies.{hierarchy_of};
 ghost use Rattle.waff_tool.specs.Comparison.{AreModels, IsCompared, IsCompareText, RefusesComparison, RefusesHierarchy, RefusesModels};
-ghost use Rattle.waff_tool.specs.Output.{AppendsPart};
+ghost use Rattle.waff_io.specs.Writing.{AppendsPart};
 
 use crate::fault::ToolError;
 use crate::measures::{comparison_text, measure};
@@ -13,9 +13,10 @@ use crate::output::write_text;
 use std::alloc::{AllocError, Global};
 use std::io::Write;
 use waff_assign::assign;
-use waff_list::limits::MAX_WORKERS;
+use waff_model::limits::MAX_WORKERS;
 use waff_model::{Kind, Layout, Trace};
 use waff_order::refines;
+use waff_plan::laws::refined_is_no_longer;
 use waff_read::{read_hierarchy, read_trace};
 
 /// Writes what the trace comes to under the classical and the hierarchical one of two hierarchies, given in either order, for
@@ -121,6 +122,7 @@ fn compared_text(
     let fine = assign(alloc, hierarchical, trace)?;
     let of_classical = measure(alloc, classical, &coarse, trace, k)?;
     let of_hierarchical = measure(alloc, hierarchical, &fine, trace, k)?;
+    refined_is_no_longer();
     let refined = refines(hierarchical.tree(), &fine, classical.tree(), &coarse);
     let version = trace.version();
     comparison_text(alloc, version, k, &of_classical, &of_hierarchical, refined)

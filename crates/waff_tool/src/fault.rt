@@ -7,8 +7,8 @@ ghost use Rattle.waff_tool.specs.declared.fault.ToolError.TheVariants.{Memory};
 use crate::fault_names::{Hierarchy, PlanText, Trace};
 use std::alloc::{AllocError, Global};
 use thiserror::Error;
-use waff_check::PlanTextError;
 use waff_model::Text;
+use waff_plan_text::PlanTextError;
 use waff_read::{HierError, TraceError};
 
 /// Why a command gave no text, or not all of it.

@@ -3,8 +3,8 @@ ghost use Rattle.std.specs.Prelude.{◌≡◌, Some};
 ghost use Rattle.waff_tool.specs.Fault.{hierarchy_fault, key_name, layout_error_name, plan_text_fault, trace_fault, tree_error_name};
 
 use std::fmt;
-use waff_check::PlanTextError;
 use waff_model::{LayoutError, TreeError};
+use waff_plan_text::PlanTextError;
 use waff_read::{HierError, Key, TraceError};
 
 /// A fault of the hierarchy of this number.

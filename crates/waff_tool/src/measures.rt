@@ -2,17 +2,17 @@
 ghost use Rattle.std.specs.Prelude.{◌≡◌, ◌<◌, ◌≤◌, ◌++◌, All, IfOk, OnOk, length, string_bytes};
 ghost use Rattle.waff_plan.specs.Timetable.{timings_of};
 ghost use Rattle.waff_plan.specs.Timing.{work_of};
-ghost use Rattle.waff_tool.specs.Lines.{line_text, text_of};
+ghost use Rattle.waff_plan_text.specs.Lines.{line_text, text_of};
 ghost use Rattle.waff_tool.specs.Comparison.{IsMeasured, compare_lines, kind_field, measured_line, measures_header};
 
-use crate::summary::Totals;
-use crate::{plans, worker_plans};
 use std::alloc::{AllocError, Global};
 use waff_assign::Assigned;
-use waff_list::limits::MAX_WORKERS;
+use waff_list::laws::needs_make_the_same_plans;
 use waff_list::{list_chain, list_plan};
+use waff_model::limits::MAX_WORKERS;
 use waff_model::{Kind, Layout, Trace, Version};
 use waff_order::predecessors::needs;
+use waff_plan::Totals;
 use waff_plan::printed::chain;
 use waff_plan::unlimited::plan;
 
@@ -44,10 +44,12 @@ pub fn measure(
     let needs = needs(alloc, tree, assigned)?;
     let made = list_plan(alloc, &needs, trace, k)?;
     let list_chain = list_chain(alloc, tree, assigned, &made)?;
+    let listed = made.plan();
+    needs_make_the_same_plans();
     Ok(Measured {
         kind: layout.kind(),
-        unlimited: plans::totals(&plan, &chain),
-        listed: worker_plans::totals(&made, &list_chain),
+        unlimited: plan.totals(None, chain.messages()),
+        listed: listed.totals(Some(k), list_chain.messages()),
     })
 }
 

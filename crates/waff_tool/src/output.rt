@@ -1,72 +1,20 @@
 //! A text written out.
 ghost use Rattle.std.specs.Prelude.{◌≡◌, OnOk, OnErr, Err};
 ghost use Rattle.std.specs.Io.KnownBytes.{Appends};
-ghost use Rattle.waff_tool.specs.Output.{AppendsPart};
+ghost use Rattle.waff_io.specs.Writing.{AppendsPart};
 
 use crate::fault::ToolError;
 use std::io::Write;
+use waff_io::write_whole;
 
-/// Writes the text. An interrupted write is not tried again.
-pub fn write_text<W: Write>(writer: &mut W, text: &[u8]) -> Result<(), ToolError>
+/// Writes the text.
+pub(crate) fn write_text<W: Write>(writer: &mut W, text: &[u8]) -> Result<(), ToolError>
     ensures written { OnOk result (Appends (W.contents writer.old) (W.contents writer.new) text.now) }
     ensures part { OnErr result (AppendsPart (W.contents writer.old) (W.contents writer.new) text.now) }
     ensures fault { OnErr result (result ≡ Err ToolError.Write) }
 {
-    let mut written = 0;
-    while written < text.len() {
-        match writer.write(&text[written..]) {
-            Ok(0) | Err(_) => return Err(ToolError::Write),
-            Ok(count) => written += count,
-        }
-    }
-    Ok(())
-}
-
-#[cfg(test)]
-mod tests {
-    use super::*;
-    use std::io;
-
-    /// Takes a few bytes at a time, and at last gives an error or takes none.
-    #[derive(Drop)]
-    struct Slow {
-        room: usize,
-        fails: bool,
-        taken: Vec<u8>,
-    }
-
-    impl Write for Slow {
-        fn write(&mut self, buf: &[u8]) -> io::Result<usize> {
-            let count = buf.len().min(self.room).min(3);
-            if count == 0 && self.fails {
-                return Err(io::Error::from(io::ErrorKind::BrokenPipe));
-            }
-            self.taken.extend_from_slice(&buf[..count])?;
-            self.room -= count;
-            Ok(count)
-        }
-
-        fn flush(&mut self) -> io::Result<()> {
-            Ok(())
-        }
-    }
-
-    #[test]
-    fn writes_what_the_writer_takes(rt: HostRuntime) {
-        for (room, fails, want, taken) in [
-            (100, true, None, "message,affinity\n"),
-            (17, true, None, "message,affinity\n"),
-            (16, false, Some(ToolError::Write), "message,affinity"),
-            (4, true, Some(ToolError::Write), "mess"),
-            (0, false, Some(ToolError::Write), ""),
-        ] {
-            let mut writer = Slow {
-                room,
-                fails,
-                taken: Vec::new(rt.alloc()),
-            };
-            assert_eq!(rt; write_text(&mut writer, b"message,affinity\n").err(), want);
-            assert_eq!(rt; writer.taken.as_slice(), taken.as_bytes());
-        }
+    match write_whole(writer, text) {
+        Ok(()) => Ok(()),
+        Err(_) => Err(ToolError::Write),
     }
 }

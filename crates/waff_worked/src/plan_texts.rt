@@ -4,8 +4,8 @@ use crate::samples::{PLAN_H1_X1, PLAN_H1_X2, changed};
 use std::alloc::Global;
 use std::process::Abort;
 use std::test::Fail;
-use waff_check::{PlanTextError, read_plan};
 use waff_model::Version;
+use waff_plan_text::{PlanTextError, read_plan};
 
 /// The changed plan has to be refused so.
 fn is_refused(

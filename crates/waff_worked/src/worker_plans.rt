@@ -1,7 +1,7 @@
 //! Plans for workers.
 
 ghost use Rattle.std.specs.Prelude.{◌≤◌};
-ghost use Rattle.waff_list.specs.declared.limits.TheConstants.{MAX_WORKERS};
+ghost use Rattle.waff_model.specs.declared.limits.TheConstants.{MAX_WORKERS};
 
 use crate::running::push_number;
 use crate::samples::{H1, PLAN_H1_X1_WORKERS2, X1, X2};
@@ -10,8 +10,9 @@ use std::process::Abort;
 use std::test::Fail;
 use waff_assign::assign;
 use waff_list::{WorkerPlan, list_chain, list_plan};
+use waff_model::limits::MAX_TICK;
 use waff_order::predecessors::needs;
-use waff_plan::{Chain, MAX_TICK, Plan};
+use waff_plan::{Chain, Plan};
 use waff_read::{read_hierarchy, read_trace};
 use waff_tool::plan_text;
 

@@ -1,6 +1,6 @@
 -- What follows from the verdict.
 use Rattle.std.proofs.Common.{subst}
-use Rattle.waff_check.specs.Verdicts.{IsVerdict, claim_of}
+use Rattle.waff_check.specs.Verdicts.{IsVerdict, claim_of, work_in}
 use Rattle.waff_check.proofs.PromiseLaws.{bound, chain-of, faultless-of, obeys, one-at-a-time, shortest, worker-plan}
 use Rattle.waff_check.proofs.checking.check.Goals as goal
 
@@ -17,6 +17,7 @@ returns g c =
       worker_plan = λ a. worker-plan claim (faultless-of claim v h a);
       one_at_a_time = λ a. one-at-a-time claim (faultless-of claim v h a);
       chain = λ a. chain-of claim given rows (faultless-of claim v h a);
-      shortest = λ e. shortest claim given rows (subst (IsVerdict claim) e h);
-      bound = λ e. bound claim given rows (subst (IsVerdict claim) e h);
+      shortest = λ e. shortest claim (c.chains_are_within_length.ensures claim.tree claim.assigned (work_in claim)) given rows (subst (IsVerdict claim) e h);
+      bound = λ e. bound claim (c.bound_is_within_twice.ensures claim.tree claim.assigned (work_in claim))
+          (c.bound_is_within_ratio.ensures claim.tree claim.assigned (work_in claim)) given rows (subst (IsVerdict claim) e h);
     }

@@ -13,7 +13,7 @@ returns-in-Some-early_start g c =
     let work = work_of c.in_ok-plan.plan.timings in
     let start = start_of c.in_ok-plan.plan.starts in
     let workers = c.workers-workers.result in
-    let good = linked claim _ _ p.timings p.starts workers c.summary.result.now c.chain.result.now c.workers-workers.ensures c.summary.ensures.summary c.chain.ensures.chain
+    let good = linked claim _ _ p.timings p.starts workers claim.plan.summary c.chain.result.now c.workers-workers.ensures refl c.chain.ensures.chain
     (no-pair (before_of claim) work start _ c.in_default.not-Some c.in_ok-first.ensures)
     (none-found (IsCrowded work start workers) _ c.in_default-2.not-Some c.in_ok-tick.ensures)
     (none-found (HasWrongWorker work start (worker_in claim.plan) workers) _ c.in_default-3.not-Some c.in_ok-message.ensures)
@@ -30,7 +30,7 @@ returns g c =
     let work = work_of c.in_ok-plan.plan.timings in
     let start = start_of c.in_ok-plan.plan.starts in
     let workers = c.workers-workers.result in
-    let good = linked claim _ _ p.timings p.starts workers c.summary.result.now c.chain.result.now c.workers-workers.ensures c.summary.ensures.summary c.chain.ensures.chain
+    let good = linked claim _ _ p.timings p.starts workers claim.plan.summary c.chain.result.now c.workers-workers.ensures refl c.chain.ensures.chain
     (no-pair (before_of claim) work start _ c.in_default.not-Some c.in_ok-first.ensures)
     (none-found (IsCrowded work start workers) _ c.in_default-2.not-Some c.in_ok-tick.ensures)
     (none-found (HasWrongWorker work start (worker_in claim.plan) workers) _ c.in_default-3.not-Some c.in_ok-message.ensures)
@@ -39,4 +39,4 @@ returns g c =
     (c.if-not-has_totals.ensures.0 refl)
     (all-linked-found (before_of claim) c.chain.result.now _ c.in_default-broken_link.not-Some c.broken_link.ensures) in
     let whole = faultless claim _ _ p.timings p.starts good (none-found (StartsEarly work start) _ c.in_default-early_start.not-Some c.early_start.ensures) in
-    praised claim _ _ p.timings p.starts c.summary-2.result.now c.praise.result c.summary-2.ensures.summary whole c.praise.ensures
+    praised claim _ _ p.timings p.starts claim.plan.summary c.praise.result refl whole c.praise.ensures

@@ -1,8 +1,8 @@
 -- Each start of a row is within the limit.
 use Rattle.std.proofs.Common.{◌≤◌, ◌∙◌}
 use Rattle.std.proofs.lemmas.List.Elements.{All-map}
-use Rattle.waff_plan.specs.declared.timing.TheConstants.{MAX_TICK}
-use Rattle.waff_check.specs.declared.row.Row.{Row}
+use Rattle.waff_model.specs.declared.limits.TheConstants.{MAX_TICK}
+use Rattle.waff_plan_text.specs.declared.row.Row.{Row}
 use Rattle.waff_check.proofs.checking.told_plan.Goals as goal
 
 pub of_starts-requires-clause-printable : goal.of_starts-requires-clause-printable

@@ -1,7 +1,6 @@
-use Rattle.std.proofs.Common.{◌≡◌, ◌≤◌, List, length, All, sym, ◌∙◌, subst}
+use Rattle.std.proofs.Common.{◌≤◌, List, length, All, sym, subst}
 use Rattle.waff_model.specs.Cells.{cells_of}
 use Rattle.waff_model.specs.Layout.{IsCell, IsLayout}
-use Rattle.waff_model.specs.Messages.{IsTrace}
 use Rattle.waff_model.specs.declared.limits.TheConstants.{MAX_OPS}
 use Rattle.waff_model.specs.declared.op.Op.{Op}
 use Rattle.waff_core.proofs.Making.{few_operations, cells_operations, job_of}

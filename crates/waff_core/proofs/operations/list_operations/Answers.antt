@@ -1,8 +1,7 @@
-use Rattle.std.proofs.Common.{◌≡◌, ◌+◌, ◌-◌, ◌*◌, ◌≤◌, [], ◌∷◌, ◌++◌, length, take, arith, rules, sym, ◌∙◌, ap}
+use Rattle.std.proofs.Common.{◌≡◌, ◌+◌, ◌-◌, ◌≤◌, [], ◌∷◌, ◌++◌, length, take, arith, rules, sym, ◌∙◌, ap}
 use Rattle.std.proofs.lemmas.List.{take_more, map_push, length-append}
 use Rattle.std.proofs.lemmas.Option.{slice_get_within, get_or_from_slice_get}
 use Rattle.waff_model.specs.declared.message.Message.{Message}
-use Rattle.waff_order.specs.Cuts.{parts}
 use Rattle.waff_order.proofs.Parts.{parts_push, cuts_push}
 use Rattle.waff_cells.specs.Serial.{operations}
 use Rattle.waff_core.proofs.operations.list_operations.Goals as goal

@@ -1,4 +1,4 @@
-use Rattle.std.proofs.Common.{◌≡◌, All, take, length, arith, rules, refl, subst}
+use Rattle.std.proofs.Common.{All, arith, refl, subst}
 use Rattle.std.proofs.lemmas.List.{take_all}
 use Rattle.std.proofs.lemmas.List.Elements.{All-more}
 use Rattle.waff_core.specs.Orders.{IsMarked}

@@ -1,4 +1,4 @@
-use Rattle.std.proofs.Common.{◌≡◌, ◌<◌, ◌≤◌, ◌-◌, length, get_or, Contains, arith, subst}
+use Rattle.std.proofs.Common.{◌<◌, ◌≤◌, get_or, Contains, arith, subst}
 use Rattle.std.proofs.lemmas.List.Elements.{Contains-get_or}
 use Rattle.waff_order.specs.Needs.{IsNeed}
 use Rattle.waff_core.proofs.order.may_stand.Goals as goal

@@ -28,7 +28,7 @@ loop-m-preserved c =
     let found = found_at tree assigned finish m c.of-affinity.result.0 own under c.latest.result c.of-affinity.ensures
     c.loop-m.invariant.table c.latest.ensures in
     let link_is : link ≡ link_of c.latest.result (work.release m)
-    = c.waited_for-link.ensures ∙ ap (λ release. link_of c.latest.result release) c.release.ensures in
+    = c.waited_for-link.ensures ∙ ap (λ release. link_of c.latest.result release) c.release.ensures.release in
     let is : IsLink (IsOrdered tree assigned) work start m link
     = subst (λ x. IsLink (IsOrdered tree assigned) work start m x) (sym link_is) (is_link tree assigned work start m c.latest.result from to found) in
     let more = links_more (IsOrdered tree assigned) work start m links link from c.loop-m.invariant.count c.loop-m.invariant.links is in

@@ -1,8 +1,8 @@
-use Rattle.std.proofs.Common.{◌≡◌, ℕ, ◌+◌, ◌≤◌, List, length, All, arith, sym, ◌∙◌, ap, subst}
+use Rattle.std.proofs.Common.{◌≡◌, ℕ, ◌+◌, ◌≤◌, List, length, arith, sym, ◌∙◌, ap, subst}
 use Rattle.waff_model.specs.Tree.{Node}
 use Rattle.waff_assign.specs.Order.{IsOrdered}
-use Rattle.waff_plan.specs.Work.{IsNumber, length_of}
-use Rattle.waff_plan.specs.Chain.{IsChain, IsPrinted, chain_cost, chain_release}
+use Rattle.waff_plan.specs.Work.{length_of}
+use Rattle.waff_plan.specs.Chain.{IsChain, IsListed, IsPrinted, chain_cost, chain_release}
 use Rattle.waff_plan.specs.Timing.{work_of, start_of}
 use Rattle.waff_plan.specs.Timetable.{Timetable}
 use Rattle.waff_plan.proofs.Chains.{printed_is_chain, printed_is_as_long}
@@ -18,34 +18,34 @@ chain_from tree assigned plan messages same h =
     printed_is_chain (IsOrdered tree assigned) (work_of plan.timings) (IsOrdered_forward tree assigned (work_of plan.timings) (sym same))
     (start_of plan.starts) messages h
 
--- its messages are messages
-numbers_from : (tree : List Node) (assigned : List ℕ) (plan : Timetable) (messages : List ℕ) → length plan.timings ≡ length assigned
+-- its messages are messages, at most as many as there are
+listed_from : (tree : List Node) (assigned : List ℕ) (plan : Timetable) (messages : List ℕ) → length plan.timings ≡ length assigned
     → IsPrinted (IsOrdered tree assigned) (work_of plan.timings) (start_of plan.starts) messages
-    → All (IsNumber (work_of plan.timings)) messages
-numbers_from tree assigned plan messages same h =
-    chain_is_numbers (IsOrdered tree assigned) (work_of plan.timings) messages (chain_from tree assigned plan messages same h)
+    → IsListed (length plan.timings) messages
+listed_from tree assigned plan messages same h =
+    let before = IsOrdered tree assigned in
+    let work = work_of plan.timings in
+    let linked = chain_from tree assigned plan messages same h in
+    let numbers = chain_is_numbers before work messages linked in
+    record {
+      each = λ i d lt. let m = numbers i d lt in record { from = m.from; to = m.to };
+      few = chain_is_few before work (IsOrdered_forward tree assigned work (sym same)) messages linked;
+    }
 
-pub cost_of-cost-requires-clause-numbers : goal.cost_of-cost-requires-clause-numbers
-cost_of-cost-requires-clause-numbers c =
-    subst (λ xs. All (IsNumber (work_of c.args.plan.now.timings)) xs) (sym c.as_slice.ensures.value)
-    (numbers_from c.args.tree.now c.args.assigned.now c.args.plan.now c.in_ok-messages.messages.items c.requires.lengths c.in_ok-messages.ensures.printed)
-
-pub cost_of-cost-requires-clause-few : goal.cost_of-cost-requires-clause-few
-cost_of-cost-requires-clause-few c =
-    let tree = c.args.tree.now in
-    let assigned = c.args.assigned.now in
-    let work = work_of c.args.plan.now.timings in
-    let messages = c.in_ok-messages.messages.items in
-    let few : length messages ≤ work.count
-    = chain_is_few (IsOrdered tree assigned) work (IsOrdered_forward tree assigned work (sym c.requires.lengths)) messages
-    (chain_from tree assigned c.args.plan.now messages c.requires.lengths c.in_ok-messages.ensures.printed) in
-    let long : length c.as_slice.result.now ≡ length messages = ap length c.as_slice.ensures.value in
-    omega (arith, c.in_ok-messages.ensures.few)
+pub cost_of-cost-requires : goal.cost_of-cost-requires
+cost_of-cost-requires c =
+    subst (λ xs. IsListed (length c.args.plan.now.timings) xs) (sym c.as_slice.ensures.value)
+    (listed_from c.args.tree.now c.args.assigned.now c.args.plan.now c.in_ok-messages.messages.items c.requires.lengths c.in_ok-messages.ensures.printed)
 
 pub release_of-release-requires : goal.release_of-release-requires
 release_of-release-requires c =
-    subst (λ xs. All (IsNumber (work_of c.args.plan.now.timings)) xs) (sym c.as_slice-2.ensures.value)
-    (numbers_from c.args.tree.now c.args.assigned.now c.args.plan.now c.in_ok-messages.messages.items c.requires.lengths c.in_ok-messages.ensures.printed)
+    subst (λ xs. IsListed (length c.args.plan.now.timings) xs) (sym c.as_slice-2.ensures.value)
+    (listed_from c.args.tree.now c.args.assigned.now c.args.plan.now c.in_ok-messages.messages.items c.requires.lengths c.in_ok-messages.ensures.printed)
+
+pub returns-clause-listed : goal.returns-clause-listed
+returns-clause-listed c =
+    subst (λ xs. IsListed (length c.args.plan.now.timings) xs) (sym (ap (λ chain. chain.messages) c.new.ensures))
+    (listed_from c.args.tree.now c.args.assigned.now c.args.plan.now c.in_ok-messages.messages.items c.requires.lengths c.in_ok-messages.ensures.printed)
 
 pub returns-clause-chain : goal.returns-clause-chain
 returns-clause-chain c =
@@ -64,9 +64,9 @@ returns-clause-as_long c = λ least.
     = printed_is_as_long (IsOrdered tree assigned) work (IsOrdered_forward tree assigned work (sym c.requires.lengths)) start messages least
     c.in_ok-messages.ensures.printed in
     let cost : c.cost_of-cost.result ≡ chain_cost work messages
-    = c.cost_of-cost.ensures ∙ ap (λ xs. chain_cost work xs) c.as_slice.ensures.value in
+    = c.cost_of-cost.ensures.cost ∙ ap (λ xs. chain_cost work xs) c.as_slice.ensures.value in
     let release : c.release_of-release.result ≡ chain_release work messages
-    = c.release_of-release.ensures ∙ ap (λ xs. chain_release work xs) c.as_slice-2.ensures.value in
+    = c.release_of-release.ensures.release ∙ ap (λ xs. chain_release work xs) c.as_slice-2.ensures.value in
     let is_cost : c.new.result.cost ≡ c.cost_of-cost.result = ap (λ chain. chain.cost) c.new.ensures in
     let is_release : c.new.result.release ≡ c.release_of-release.result = ap (λ chain. chain.release) c.new.ensures in
     omega (arith, long, cost, release, is_cost, is_release)

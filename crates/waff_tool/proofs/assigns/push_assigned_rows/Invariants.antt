@@ -1,6 +1,6 @@
 use Rattle.std.proofs.Common.{◌≡◌, ◌-◌, ◌++◌, map, string_bytes}
 use Rattle.std.specs.List.{range_with_len}
-use Rattle.waff_tool.specs.Lines.{text_of}
+use Rattle.waff_plan_text.specs.Lines.{text_of}
 use Rattle.waff_tool.specs.AssignText.{assign_row}
 use Rattle.waff_tool.proofs.assigns.push_assigned_rows.Given as goal
 

@@ -5,7 +5,7 @@ use Rattle.waff_assign.specs.Order.{Refines}
 use Rattle.waff_plan.specs.Work.{total_of}
 use Rattle.waff_tool.specs.Commands.{work_in}
 use Rattle.waff_tool.specs.Comparison.{IsCompared, compare_lines}
-use Rattle.waff_tool.specs.Lines.{text_of}
+use Rattle.waff_plan_text.specs.Lines.{text_of}
 use Rattle.waff_tool.proofs.ComparisonLemmas.{refined_is_no_longer}
 use Rattle.waff_tool.proofs.comparison.compared_text.Goals as goal
 
@@ -40,7 +40,8 @@ returns c =
       hierarchical_measured = c.in_ok-of_hierarchical.ensures;
       told = told;
       no_longer = λ yes. refined_is_no_longer classical hierarchical coarse fine (work_in trace) c.args.k of_classical
-          of_hierarchical c.in_ok-of_classical.ensures c.in_ok-of_hierarchical.ensures (told.0 yes);
+          of_hierarchical c.in_ok-of_classical.ensures c.in_ok-of_hierarchical.ensures
+          (c.refined_is_no_longer.ensures hierarchical.tree classical.tree fine coarse (work_in trace) (told.0 yes));
       lines = lines ∙ ap (λ v. text_for v of_classical.unlimited.total) c.version-version.ensures
           ∙ ap (λ t. text_for trace.version t) total;
     })

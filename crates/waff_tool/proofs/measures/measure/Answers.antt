@@ -3,20 +3,7 @@ use Rattle.waff_assign.specs.Order.{IsOrdered}
 use Rattle.waff_plan.specs.Timing.{work_of, start_of}
 use Rattle.waff_plan.specs.Work.{IsNumber, length_of}
 use Rattle.waff_plan.specs.Workers.{IsWorkerPlan}
-use Rattle.waff_plan.proofs.Chains.{chains_are_within_length}
-use Rattle.waff_list.proofs.PathPlans.{plan_over_pairs}
 use Rattle.waff_tool.proofs.measures.measure.Goals as goal
-
-pub totals-requires-2-clause-within : goal.totals-requires-2-clause-within
-totals-requires-2-clause-within c =
-    let made = c.in_ok-made.made in
-    let work = work_of made.table.timings in
-    let chain = c.in_ok-list_chain.list_chain in
-    let plan = plan_over_pairs c.tree-tree.result.now c.args.assigned.now c.in_ok-needs.needs work c.args.k
-    (start_of made.table.starts) c.in_ok-needs.ensures.needs c.in_ok-made.ensures.follows in
-    let within = chains_are_within_length (IsOrdered c.tree-tree.result.now c.args.assigned.now) work chain.messages
-    (start_of made.table.starts) c.in_ok-list_chain.ensures.chain plan.within.obeys in
-    rw (c.in_ok-list_chain.ensures.release, c.in_ok-list_chain.ensures.cost) within
 
 pub returns : goal.returns
 returns c =
@@ -27,7 +14,7 @@ returns c =
     let timings = c.in_ok-plan.ensures.timings in
     let list_timings = c.in_ok-made.ensures.timings in
     let workers = c.in_ok-made.ensures.workers in
-    let plan = plan_over_pairs c.tree-tree.result.now c.args.assigned.now needs.needs (work_of made.table.timings) c.args.k
+    let plan = c.needs_make_the_same_plans.ensures c.tree-tree.result.now c.args.assigned.now needs.needs (work_of made.table.timings) c.args.k
     (start_of made.table.starts) needs.ensures.needs c.in_ok-made.ensures.follows in
     let bound = chain.ensures.bound needs.needs needs.ensures.needs (rw workers c.in_ok-made.ensures.follows) in
     let twice : (other : ℕ → ℕ)
@@ -54,6 +41,6 @@ returns c =
       twice = rw (workers, tree, list_timings) at twice;
       ratio = rw (workers, tree, list_timings) at ratio;
       kind = c.kind.ensures;
-      unlimited = rw timings at c.totals.ensures;
-      listed = rw (workers, list_timings) at c.totals-2.ensures;
+      unlimited = rw (c.messages.ensures, timings) at c.totals.ensures.totals;
+      listed = rw (c.plan-listed.ensures.plan, c.messages-2.ensures, list_timings) at c.totals-2.ensures.totals;
     }

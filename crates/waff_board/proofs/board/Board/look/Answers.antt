@@ -1,4 +1,4 @@
-use Rattle.std.proofs.Common.{◌≡◌, ◌≤◌, length, arith, sym, subst, rules}
+use Rattle.std.proofs.Common.{arith, sym, subst}
 use Rattle.waff_core.specs.Job.{JobValue, IsIn}
 use Rattle.waff_board.proofs.Looks.{looks_at}
 use Rattle.waff_board.proofs.board.Board.look.Goals as goal
@@ -8,8 +8,7 @@ load-word-requires c =
     let board = c.args.self.now in
     let chair = c.args.hand.chair in
     let words = board.words in
-    let to = c.requires.to in
-    (
+    let to = c.requires.to in (
       c.requires.of.0,
       omega (arith, words, to),
       looks_at (λ parcel. parcel.items) board.table.shared.key board.table.shared.table_id.slots chair.id c.args.n chair.me.0 chair.me.1

@@ -1,4 +1,4 @@
-use Rattle.std.proofs.Common.{◌≡◌, ◌≤◌, ◌<◌, ℕ, ◌+◌, take}
+use Rattle.std.proofs.Common.{◌≡◌, take}
 use Rattle.waff_board.specs.Calls.{IsOf, LooksOver}
 use Rattle.waff_board.proofs.board.Board.look_over.Given as goal
 

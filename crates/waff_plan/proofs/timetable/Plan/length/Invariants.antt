@@ -2,7 +2,7 @@ use Rattle.std.proofs.Common.{◌≡◌, ◌+◌, ◌-◌, ◌^◌, ◌<◌, map
 use Rattle.std.specs.List.{range_with_len}
 use Rattle.waff_plan.specs.Work.{finish_of, greatest}
 use Rattle.waff_plan.specs.Timing.{work_of, start_of}
-use Rattle.waff_plan.specs.declared.timing.TheConstants.{MAX_TICK}
+use Rattle.waff_model.specs.declared.limits.TheConstants.{MAX_TICK}
 use Rattle.waff_plan.proofs.timetable.Plan.length.Given as goal
 
 abbrev pub invariant-loop-n : goal.invariant-loop-n

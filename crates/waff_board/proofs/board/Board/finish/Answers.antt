@@ -1,0 +1,59 @@
+use Rattle.std.proofs.Common.{◌≡◌, ℕ, ◌+◌, Vec, Global, map, length, arith, sym, ap, ◌∙◌, subst}
+use Rattle.atomic_table.specs.Table.{Me}
+use Rattle.waff_cells.specs.Serial.{serial}
+use Rattle.waff_cells.specs.Parcel.{AreParcels}
+use Rattle.waff_core.specs.Job.{JobValue, owners_of}
+use Rattle.waff_board.specs.Plays.{finished_view}
+use Rattle.waff_board.specs.Seats.{has_seen}
+use Rattle.waff_board.specs.declared.view.View.{View}
+use Rattle.waff_board.proofs.Finishes.{finishes_at}
+use Rattle.waff_board.proofs.Carrying.{parcels_from}
+use Rattle.waff_board.proofs.Grants.{marks_finished}
+use Rattle.waff_board.proofs.board.Board.finish.Goals as goal
+
+pub store-requires : goal.store-requires
+store-requires c =
+    let words = c.args.self.now.words in
+    let finished = c.args.finished in
+    let v = finished.hand.chair.me.0 in
+    let W = c.put_in.new.chair.me.0 in
+    let m = finished.message in
+    let view : W ≡ v = c.put_in.ensures.view in
+    let ops : length v.job.ops ≡ length c.args.self.now.setup.job.ops = ap (λ (j : JobValue). length j.ops) c.requires.1 in
+    let to = finished.to in
+    let same : c.owners.result.now ≡ owners_of W.job.owners m
+    = c.owners.ensures.owners ∙ ap (λ (j : JobValue). owners_of j.owners m) (c.job.ensures.same ∙ sym c.requires.1 ∙ sym (ap (λ (u : View). u.job) view)) in
+    let rows : AreParcels v.job.layout.spaces (owners_of v.job.owners m) (serial v.job.ops m) (map (λ (slot : ℕ × Vec ℕ Global). slot.1.items) c.put_in.new.chair.me.1)
+    = subst (λ rows. AreParcels v.job.layout.spaces (owners_of v.job.owners m) (serial v.job.ops m) rows) (sym c.put_in.ensures.values) finished.after in (
+      c.put_in.ensures.table ∙ c.requires.0,
+      omega (arith, words, ops, to),
+      finishes_at (λ (parcel : Vec ℕ Global). parcel.items) c.args.self.now.table.shared.key c.args.self.now.table.shared.table_id.slots
+          c.put_in.new.chair.id m W c.put_in.new.chair.me.1 (ap (λ (u : View). u.phase) view ∙ finished.running)
+          (parcels_from (λ (parcel : Vec ℕ Global). parcel.items) W.job.layout.spaces (serial W.job.ops m) (owners_of W.job.owners m) c.put_in.new.chair.me.1
+          (c.put_in.ensures.held ∙ same)
+          (subst (λ (u : View). AreParcels u.job.layout.spaces (owners_of u.job.owners m) (serial u.job.ops m)
+          (map (λ (slot : ℕ × Vec ℕ Global). slot.1.items) c.put_in.new.chair.me.1)) (sym view) rows)),
+    )
+
+pub invariant_of-hand : goal.invariant_of-hand
+invariant_of-hand c =
+    let finished = c.args.finished in
+    let v = finished.hand.chair.me.0 in
+    let m = finished.message in
+    let X = c.store.new.seat.me.0 in
+    let view : X ≡ finished_view v m
+    = ap (λ (me : Me (Vec ℕ Global) View). me.0) c.store.ensures.2 ∙ ap (λ (u : View). finished_view u m) c.put_in.ensures.view in
+    let ops : length X.job.ops ≡ length v.job.ops = ap (λ (u : View). length u.job.ops) view in
+    let count = finished.hand.count in
+    let ok = finished.hand.seen.ok in
+    let to = finished.to in
+    let room = finished.hand.room in
+    let kept = c.put_in.ensures.room in
+    record {
+      count = omega (arith, ops, count);
+      marks = λ n within.
+          marks_finished v finished.hand.seen.items (length v.job.ops + 1) m n (omega (arith, ok, count)) finished.hand.marks
+          (omega (arith, to)) (omega (arith, within, ops))
+          ∙ ap (λ (u : View). has_seen u n) (sym view);
+      room = omega (arith, room, kept);
+    }

@@ -1,0 +1,20 @@
+use Rattle.std.proofs.Common.{ℕ, ◌-◌, List, Vec, Global, map, sym, subst}
+use Rattle.waff_cells.specs.Serial.{serial}
+use Rattle.waff_cells.specs.Parcel.{AreParcels}
+use Rattle.waff_core.specs.Job.{owners_of}
+use Rattle.waff_board.proofs.Grants.{parcel_sizes, parcels_in}
+use Rattle.waff_board.proofs.tokens.Grant.get.Goals as goal
+
+pub get-requires : goal.get-requires
+get-requires c =
+    let token = c.args.self.now in
+    let v = token.hand.chair.me.0 in
+    let m = token.message in
+    let rows = map (λ (row : Vec ℕ Global). row.items) c.as_slice.result.now in
+    let held : AreParcels v.job.layout.spaces (owners_of v.job.owners m) (serial v.job.ops (m - 1)) rows
+    = subst (λ (xs : List (Vec ℕ Global)). AreParcels v.job.layout.spaces (owners_of v.job.owners m) (serial v.job.ops (m - 1))
+    (map (λ (row : Vec ℕ Global). row.items) xs))
+    (sym c.as_slice.ensures.value) token.before in
+    parcel_sizes c.layout.result.now.spaces c.owners.result.now (serial v.job.ops (m - 1)) rows
+    (parcels_in v.job token.job.now c.layout.result.now c.owners.result.now m (serial v.job.ops (m - 1)) rows token.of c.layout.ensures
+    c.owners.ensures.owners held)

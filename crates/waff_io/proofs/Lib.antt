@@ -1,0 +1,2 @@
+pub mod KnownBytesLemmas
+pub mod SplitLemmas

@@ -1,0 +1,15 @@
+//! Input read whole, one input parted into two, and bytes written out.
+//!
+//! The readers of files and the commands work on bytes in memory; here is how the bytes come and go.
+//! - `reading`: all bytes of a reader, up to a limit.
+//! - `split`: what stands before and after the line `---` of one input.
+//! - `writing`: all bytes to a writer, one loop over `write`.
+#![tactic(auto)]
+
+mod reading;
+mod split;
+mod writing;
+
+pub use reading::{ReadFault, read_whole};
+pub use split::split_input;
+pub use writing::{WriteFault, write_whole};

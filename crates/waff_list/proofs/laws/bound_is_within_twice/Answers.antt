@@ -1,6 +1,0 @@
-use Rattle.waff_assign.specs.Order.{IsOrdered}
-use Rattle.waff_list.proofs.Ratios.{bound_is_within_twice}
-use Rattle.waff_list.proofs.laws.bound_is_within_twice.Goals as goal
-
-pub returns : goal.returns
-returns c = λ tree assigned work. bound_is_within_twice (IsOrdered tree assigned) work

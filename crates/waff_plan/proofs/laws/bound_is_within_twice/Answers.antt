@@ -1,0 +1,6 @@
+use Rattle.waff_assign.specs.Order.{IsOrdered}
+use Rattle.waff_plan.proofs.Ratios.{bound_is_within_twice}
+use Rattle.waff_plan.proofs.laws.bound_is_within_twice.Goals as goal
+
+pub returns : goal.returns
+returns c = λ tree assigned work. bound_is_within_twice (IsOrdered tree assigned) work

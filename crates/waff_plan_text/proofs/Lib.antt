@@ -1,0 +1,5 @@
+pub mod LinesLemmas
+pub mod LineLaws
+pub mod WalkLaws
+pub mod SlotLaws
+pub mod PlanLaws

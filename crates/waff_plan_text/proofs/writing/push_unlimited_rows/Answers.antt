@@ -1,0 +1,13 @@
+use Rattle.std.proofs.Common.{string_bytes}
+use Rattle.waff_plan.specs.Timing.{start_of, work_of}
+use Rattle.waff_plan_text.specs.Spelling.{message_row, no_worker}
+use Rattle.waff_plan_text.proofs.LinesLemmas.{rows_further}
+use Rattle.waff_plan_text.proofs.writing.push_unlimited_rows.Goals as goal
+
+pub loop-n-preserved : goal.loop-n-preserved
+loop-n-preserved c =
+    rows_further
+    (message_row c.args.tree.now c.args.assigned.now (work_of c.args.plan.now.timings) (start_of c.args.plan.now.starts) no_worker)
+    c.loop-n.n (string_bytes c.args.text.now) (string_bytes c.loop-n.text) (string_bytes c.push_plan_row.new.text)
+    c.loop-n.auto.n c.loop-n.invariant
+    (rw (c.name-affinity.ensures, c.of.ensures, c.start.ensures.start, c.finish.ensures.finish) at c.in_ok-push_plan_row.ensures)

@@ -1,0 +1,17 @@
+use Rattle.std.proofs.Common.{rules, None, map, string_bytes}
+use Rattle.waff_plan.specs.Timing.{start_of, work_of}
+use Rattle.waff_plan.specs.Totals.{totals_of}
+use Rattle.waff_plan.specs.Work.{numbers}
+use Rattle.waff_plan_text.specs.Spelling.{message_row, no_worker, plan_header, summary_lines, worker_field}
+use Rattle.waff_plan_text.proofs.LinesLemmas.{three_parts}
+use Rattle.waff_plan_text.proofs.writing.unlimited_text.Goals as goal
+
+pub returns : goal.returns
+returns c =
+    let work = work_of c.args.plan.now.timings in
+    let start = start_of c.args.plan.now.starts in
+    three_parts plan_header (map (message_row c.args.tree.now c.args.assigned.now work start no_worker) (numbers work))
+    (summary_lines c.args.version (worker_field None) c.args.chain.now (totals_of None work start c.args.chain.now))
+    (string_bytes c.push_str.new.self) (string_bytes c.push_unlimited_rows.new.text) (string_bytes c.push_summary.new.text)
+    (search rules) c.in_ok-push_unlimited_rows.ensures
+    (rw c.totals.ensures.totals at c.in_ok-push_summary.ensures)

@@ -1,0 +1,9 @@
+pub mod Lines
+pub mod Spelling
+pub mod Given
+pub mod Rows
+pub mod Fields
+pub mod Summaries
+pub mod PlanTexts
+pub mod Records
+pub mod Refusals

@@ -1,0 +1,73 @@
+-- The text of a plan as it is written: a header, a line for each message in the order of their numbers, and a summary (own).
+use Rattle.std.specs.Prelude.{ℕ, ◌-◌, List, [], ◌∷◌, ◌++◌, Option, Some, None, map, slice_index, codes, decimal}
+use Rattle.std.specs.List.{join_by}
+use Rattle.waff_model.specs.declared.message.Version.{Version}
+use Rattle.waff_model.specs.declared.message.Version.TheVariants.{V1, V2}
+use Rattle.waff_model.specs.Tree.{Node, name_of}
+use Rattle.waff_assign.specs.Order.{affinity_of}
+use Rattle.waff_plan.specs.Totals.{totals_of}
+use Rattle.waff_plan.specs.Work.{Work, finish_of, numbers}
+use Rattle.waff_plan.specs.declared.totals.Totals.{Totals}
+
+-- the header
+abbrev pub plan_header : List (List ℕ)
+plan_header = codes "message" ∷ codes "affinity" ∷ codes "start" ∷ codes "finish" ∷ codes "worker" ∷ []
+
+-- a worker's number, or `-` where the plan has no workers
+abbrev pub worker_field : Option ℕ → List ℕ
+worker_field None = codes "-"
+worker_field (Some worker) = decimal worker
+
+-- the line of a message: its number, the name of its affinity, start, finish and worker
+abbrev pub plan_row : ℕ → List ℕ → ℕ → ℕ → Option ℕ → List (List ℕ)
+plan_row message affinity start finish worker =
+    decimal message ∷ affinity ∷ decimal start ∷ decimal finish ∷ worker_field worker ∷ []
+
+-- the line of message n under a tree, the affinities assigned, and a plan
+abbrev pub message_row : List Node → List ℕ → Work → (ℕ → ℕ) → (ℕ → Option ℕ) → ℕ → List (List ℕ)
+message_row tree assigned work start worker n =
+    plan_row n (name_of tree (affinity_of assigned n)) (start n) (finish_of work start n) (worker n)
+
+-- numbers joined by spaces
+abbrev pub numbers_field : List ℕ → List ℕ
+numbers_field numbers = join_by decimal (32 ∷ []) numbers
+
+-- the release of the chain, which traces of the first version do not have
+abbrev pub release_lines : Version → ℕ → List (List (List ℕ))
+release_lines V1 release = []
+release_lines V2 release = (codes "release" ∷ decimal release ∷ []) ∷ []
+
+-- the workers, the total cost, the length, the printed chain, its release and cost, and the two sides of the bound
+abbrev pub summary_lines : Version → List ℕ → List ℕ → Totals → List (List (List ℕ))
+summary_lines version workers chain totals =
+    (codes "workers" ∷ workers ∷ [])
+    ∷ (codes "total" ∷ decimal totals.total ∷ [])
+    ∷ (codes "length" ∷ decimal totals.length ∷ [])
+    ∷ (codes "chain" ∷ numbers_field chain ∷ [])
+    ∷ release_lines version totals.release
+    ++ (codes "cost" ∷ decimal totals.cost ∷ [])
+    ∷ (codes "bound" ∷ decimal totals.left ∷ decimal totals.right ∷ [])
+    ∷ []
+
+-- the lines of a plan for this number of workers, or without workers, and of a chain of its messages
+abbrev pub plan_lines : Version → List Node → List ℕ → Work → Option ℕ → (ℕ → ℕ) → (ℕ → Option ℕ) → List ℕ → List (List (List ℕ))
+plan_lines version tree assigned work workers start worker chain =
+    plan_header ∷ map (message_row tree assigned work start worker) (numbers work)
+    ++ summary_lines version (worker_field workers) chain (totals_of workers work start chain)
+
+-- no message has a worker
+abbrev pub no_worker : ℕ → Option ℕ
+no_worker n = None
+
+-- each message has one, in a list by message
+abbrev pub seat_of : List ℕ → ℕ → Option ℕ
+seat_of seats n = Some (slice_index seats (n - 1))
+
+-- the lines of a plan without workers
+abbrev pub unlimited_lines : Version → List Node → List ℕ → Work → (ℕ → ℕ) → List ℕ → List (List (List ℕ))
+unlimited_lines version tree assigned work start chain = plan_lines version tree assigned work None start no_worker chain
+
+-- the lines of a plan for k workers, with the worker of each message
+abbrev pub worker_lines : Version → List Node → List ℕ → Work → ℕ → (ℕ → ℕ) → List ℕ → List ℕ → List (List (List ℕ))
+worker_lines version tree assigned work k start seats chain =
+    plan_lines version tree assigned work (Some k) start (seat_of seats) chain

@@ -1,0 +1,119 @@
+//! The plan that a text gives.
+
+ghost use Rattle.std.specs.Prelude.{◌≡◌, map, ◌^◌, ◌<◌, ◌≤◌, length, All, IfOk, IfSome, option_map};
+ghost use Rattle.waff_plan_text.specs.Rows.{IsWithinLimit};
+
+use crate::row::Row;
+use crate::summary::Summary;
+use std::alloc::{AllocError, Global};
+use std::marker::Model;
+use waff_model::Version;
+
+/// A plan as a text gives it, which need not be a plan of anything: a row for each message, and a summary. Messages are
+/// numbered from 1; all times are ticks.
+#[derive(Drop)]
+pub struct GivenPlan {
+    version: Version,
+    rows: Vec<Row>,
+    summary: Summary,
+}
+
+impl Model for GivenPlan {
+    ghost use Rattle.waff_plan_text.specs.Given.{Given, IsGiven};
+
+    ghost Value = { Given };
+
+    ghost view = { λ p. record { version = p.version; rows = p.rows.items; summary = p.summary } };
+
+    ghost invariant = { λ p. IsGiven (record { version = p.version; rows = p.rows.items; summary = p.summary }) };
+}
+
+impl GivenPlan {
+    ghost use Rattle.waff_plan_text.specs.Given.{IsGiven, row_at};
+
+    /// The plan of these rows and this summary.
+    pub(crate) fn new(version: Version, rows: Vec<Row>, summary: Summary) -> GivenPlan
+        requires { IsGiven (record { version = version; rows = rows.items; summary = summary }) }
+        ensures { result ≡ record { version = version; rows = rows.items; summary = summary } }
+    {
+        GivenPlan {
+            version,
+            rows,
+            summary,
+        }
+    }
+
+    /// How many messages there are.
+    pub fn len(&self) -> u32
+        ensures count { result ≡ length self.now.rows }
+        ensures given { IsGiven self.now }
+    {
+        self.rows.len() as u32
+    }
+
+    /// What the row of message `n` says.
+    pub fn row(&self, n: u32) -> &Row
+        requires from { 1 ≤ n }
+        requires to { n ≤ length self.now.rows }
+        ensures row { result.now ≡ row_at self.now.rows n }
+        ensures within { IsWithinLimit result.now }
+    {
+        &self.rows[n as usize - 1]
+    }
+
+    /// The tick at which message `n` starts by its row.
+    pub fn start(&self, n: u32) -> u64
+        requires from { 1 ≤ n }
+        requires to { n ≤ length self.now.rows }
+        ensures { result ≡ (row_at self.now.rows n).start }
+    {
+        self.rows[n as usize - 1].start
+    }
+
+    /// The tick at which message `n` has finished by its row.
+    pub fn finish(&self, n: u32) -> u64
+        requires from { 1 ≤ n }
+        requires to { n ≤ length self.now.rows }
+        ensures { result ≡ (row_at self.now.rows n).finish }
+    {
+        self.rows[n as usize - 1].finish
+    }
+
+    /// The starts by the rows, in the order of the messages.
+    pub fn starts(&self, alloc: Global) -> Result<Vec<u64>, AllocError>
+        ensures starts { IfOk result (λ v. v.items ≡ map (λ row. row.start) self.now.rows) }
+        ensures given { IsGiven self.now }
+    {
+        self.rows.iter().map(|row| row.start).collect(alloc)
+    }
+
+    /// The number of workers, if the plan has workers.
+    pub fn workers(&self) -> Option<u32>
+        ensures { result ≡ self.now.summary.workers }
+    {
+        self.summary.workers
+    }
+
+    /// The version of the text.
+    pub fn version(&self) -> Version
+        ensures { result ≡ self.now.version }
+    {
+        self.version
+    }
+
+    /// The messages of the chain.
+    pub fn chain(&self) -> &[u32]
+        ensures chain { result.now ≡ self.now.summary.chain }
+        ensures given { IsGiven self.now }
+    {
+        self.summary.chain.as_slice()
+    }
+
+    /// The lines of the summary.
+    pub fn summary(&self) -> &Summary
+        ensures summary { result.now ≡ self.now.summary }
+        ensures given { IsGiven self.now }
+    {
+        &self.summary
+    }
+}

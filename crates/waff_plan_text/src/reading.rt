@@ -1,0 +1,263 @@
+//! The reader of plan texts.
+
+ghost use Rattle.std.specs.Prelude.{◌≡◌, ◌+◌, ◌∷◌, true, ◌^◌, ◌<◌, ◌≤◌, length, drop, IfOk, OnOk};
+ghost use Rattle.csv.specs.Records.{fields_of};
+ghost use Rattle.waff_parse.specs.Fields.{five_of};
+ghost use Rattle.waff_parse.specs.Rows.{Reads, is_text, records_left};
+ghost use Rattle.waff_parse.specs.Stopping.{Gives};
+ghost use Rattle.waff_plan_text.specs.PlanTexts as texts;
+
+use crate::given::GivenPlan;
+use crate::lines::begins_summary;
+use crate::records::next_record;
+use crate::refusal::PlanTextError;
+use crate::row::read_row;
+use crate::slots::Slots;
+use crate::summary::read_summary;
+use csv::{Reader, StringRecord};
+use std::alloc::Global;
+use waff_model::Version;
+use waff_parse::{Stop, five_fields, text_rows};
+
+// Whether a record is the header.
+fn is_header(row: &StringRecord) -> bool
+    ensures { result ≡ texts.is_header (five_of (fields_of row.now)) }
+{
+    match five_fields(row) {
+        Some((message, affinity, start, finish, worker)) => {
+            message == "message"
+                && affinity == "affinity"
+                && start == "start"
+                && finish == "finish"
+                && worker == "worker"
+        }
+        None => false,
+    }
+}
+
+// Reads the header, which is the first record.
+fn read_header(rdr: &mut Reader<&[u8]>, row: &mut StringRecord) -> Result<(), Stop<PlanTextError>>
+    requires { Reads rdr.old }
+    ensures header { Gives (λ done. done) result (texts.header_of (records_left rdr.old)) }
+    ensures left { OnOk result (records_left rdr.new ≡ drop 1 (records_left rdr.old)) }
+    ensures reads { OnOk result (Reads rdr.new) }
+{
+    if next_record(1, rdr, row)? && is_header(row) {
+        Ok(())
+    } else {
+        Err(Stop::Fault(PlanTextError::Header { at: 1 }))
+    }
+}
+
+// The plan of the rows so far, and of the summary that begins with this row, the record of this number.
+#[tactic(auto, unfolding(crate::specs::PlanTexts::plan_of_summary))]
+fn read_end(
+    alloc: Global,
+    version: Version,
+    slots: Slots,
+    at: u64,
+    rdr: &mut Reader<&[u8]>,
+    row: &mut StringRecord,
+) -> Result<GivenPlan, Stop<PlanTextError>>
+    requires reads { Reads rdr.old }
+    requires text { is_text (fields_of row.old) ≡ true }
+    requires room { at + 8 < 2 ^ 64 }
+    ensures value { Gives (λ plan. plan) result (texts.plan_of_summary version (length slots) at slots (fields_of row.old ∷ records_left rdr.old)) }
+    ensures version { IfOk result (λ plan. plan.version ≡ version) }
+    ensures messages { IfOk result (λ plan. length plan.rows ≡ length slots) }
+{
+    let messages = slots.len();
+    let rows = slots.into_rows(alloc)?;
+    let summary = read_summary(alloc, version, messages, at, rdr, row)?;
+    Ok(GivenPlan::new(version, rows, summary))
+}
+
+// The plan of the records after the header.
+fn read_rows(
+    alloc: Global,
+    version: Version,
+    messages: u32,
+    rdr: &mut Reader<&[u8]>,
+    row: &mut StringRecord,
+) -> Result<GivenPlan, Stop<PlanTextError>>
+    requires reads { Reads rdr.old }
+    requires room { length (records_left rdr.old) + 16 < 2 ^ 64 }
+    ensures value { Gives (λ plan. plan) result (texts.plan_of_rows version messages (records_left rdr.old)) }
+    ensures version { IfOk result (λ plan. plan.version ≡ version) }
+    ensures messages { IfOk result (λ plan. length plan.rows ≡ messages) }
+{
+    let mut slots = Slots::new(alloc, messages)?;
+    let mut at = 2;
+    while next_record(at, rdr, row)? {
+        if begins_summary(row) {
+            return read_end(alloc, version, slots, at, rdr, row);
+        }
+        match read_row(alloc, &slots, row) {
+            Ok(given) => slots.put(given),
+            Err(Stop::Memory) => return Err(Stop::Memory),
+            Err(Stop::Fault(refusal)) => return Err(Stop::Fault(refusal.at_record(at))),
+        }
+        at += 1;
+    }
+    let _rows = slots.into_rows(alloc)?;
+    Err(Stop::Fault(PlanTextError::Summary { at }))
+}
+
+// The plan that bytes spell.
+#[tactic(auto, unfolding(crate::specs::PlanTexts::plan_of_records))]
+fn plan_of(
+    alloc: Global,
+    version: Version,
+    messages: u32,
+    bytes: &[u8],
+) -> Result<GivenPlan, Stop<PlanTextError>>
+    ensures value { Gives (λ plan. plan) result (texts.plan_of version messages bytes.now) }
+    ensures version { IfOk result (λ plan. plan.version ≡ version) }
+    ensures messages { IfOk result (λ plan. length plan.rows ≡ messages) }
+{
+    let mut rdr = text_rows(alloc, bytes);
+    let mut row = StringRecord::new(alloc);
+    read_header(&mut rdr, &mut row)?;
+    read_rows(alloc, version, messages, &mut rdr, &mut row)
+}
+
+/// The plan that the bytes spell, in the text of a plan of this version and for as many messages: CSV with a header, then a
+/// row for each message in any order, and then the summary. Records are numbered from 1, the header's. The first record with
+/// a fault decides; the end of the text counts as a record.
+pub fn read_plan(
+    alloc: Global,
+    version: Version,
+    messages: u32,
+    bytes: &[u8],
+) -> Result<GivenPlan, PlanTextError>
+    ensures exact { texts.GivesPlan result (texts.plan_of version messages bytes.now) }
+    ensures version { IfOk result (λ plan. plan.version ≡ version) }
+    ensures messages { IfOk result (λ plan. length plan.rows ≡ messages) }
+{
+    match plan_of(alloc, version, messages, bytes) {
+        Ok(plan) => Ok(plan),
+        Err(Stop::Memory) => Err(PlanTextError::Memory),
+        Err(Stop::Fault(e)) => Err(e),
+    }
+}
+
+#[cfg(test)]
+mod tests {
+    use super::*;
+    use std::test::Fail;
+
+    const HEADER: &str = "message,affinity,start,finish,worker\n";
+
+    const FIRST: &str = "1,A0,0,4,-\n2,B0,0,3,-\n";
+
+    const THIRD: &str = "3,VolA,4,6,-\n";
+
+    const OTHERS: &str = "4,B1,0,5,-\n5,Serial,6,7,-\n6,A0,7,9,-\n";
+
+    const TOTALS: &str = "workers,-\ntotal,17\nlength,9\nchain,1 3 5 6\n";
+
+    const COST: &str = "cost,9\n";
+
+    const BOUND: &str = "bound,9,9\n";
+
+    // The parts in a row.
+    fn text(alloc: Global, parts: &[&str]) -> Result<String, Fail> {
+        let mut text = String::new(alloc);
+        for part in parts {
+            text.push_str(part)?;
+        }
+        Ok(text)
+    }
+
+    #[test]
+    fn reads_a_plan(rt: HostRuntime) -> Result<(), Fail> {
+        let alloc = rt.alloc();
+        let whole = text(alloc, &[HEADER, OTHERS, THIRD, FIRST, TOTALS, COST, BOUND])?;
+        let plan = read_plan(alloc, Version::V1, 6, whole.as_bytes())?;
+        assert_eq!(rt; plan.len(), 6);
+        assert_eq!(rt; plan.workers(), None);
+        assert_eq!(rt; plan.version(), Version::V1);
+        assert!(rt; 3 <= plan.len());
+        assert_eq!(rt; plan.start(3), 4);
+        assert_eq!(rt; plan.finish(3), 6);
+        Ok(())
+    }
+
+    #[test]
+    fn reads_a_plan_of_the_second_version(rt: HostRuntime) -> Result<(), Fail> {
+        let alloc = rt.alloc();
+        let rows = "1,A0,10,14,64\nworkers,64\ntotal,4\nlength,14\nchain,\nrelease,0\n";
+        let whole = text(alloc, &[HEADER, rows, COST, BOUND])?;
+        let plan = read_plan(alloc, Version::V2, 1, whole.as_bytes())?;
+        assert_eq!(rt; plan.workers(), Some(64));
+        let first = read_plan(alloc, Version::V1, 1, whole.as_bytes());
+        assert_eq!(rt; first.err(), Some(PlanTextError::Summary { at: 7 }));
+        Ok(())
+    }
+
+    #[test]
+    fn refuses_in_order(rt: HostRuntime) -> Result<(), Fail> {
+        let alloc = rt.alloc();
+        let rows: &[&str] = &[HEADER, FIRST, THIRD, OTHERS];
+        for (parts, refusal) in [
+            (
+                &[HEADER, FIRST, THIRD, OTHERS, TOTALS, COST],
+                PlanTextError::Summary { at: 13 },
+            ),
+            (
+                &[HEADER, FIRST, OTHERS, TOTALS, COST, BOUND],
+                PlanTextError::Missing { message: 3 },
+            ),
+            (
+                &[HEADER, FIRST, THIRD, THIRD, OTHERS, TOTALS],
+                PlanTextError::Twice { at: 5 },
+            ),
+            (
+                &[HEADER, "1,A0,1000000000000001,4,-\n", FIRST, "", "", ""],
+                PlanTextError::TooLarge { at: 2 },
+            ),
+            (
+                &[HEADER, "7,A0,0,4,-\n", "", "", "", ""],
+                PlanTextError::Row { at: 2 },
+            ),
+            (
+                &[HEADER, FIRST, THIRD, OTHERS, "workers,65\n", ""],
+                PlanTextError::Summary { at: 8 },
+            ),
+            (
+                &[
+                    HEADER,
+                    FIRST,
+                    THIRD,
+                    OTHERS,
+                    "workers,-\ntotal,17\nlength,9\nchain\n",
+                    "",
+                ],
+                PlanTextError::Summary { at: 11 },
+            ),
+            (
+                &[
+                    HEADER,
+                    FIRST,
+                    THIRD,
+                    OTHERS,
+                    TOTALS,
+                    "cost,99999999999999999999\n",
+                ],
+                PlanTextError::TooLarge { at: 12 },
+            ),
+            (&["", "", "", "", "", ""], PlanTextError::Header { at: 1 }),
+        ] {
+            let whole = text(alloc, parts)?;
+            let read = read_plan(alloc, Version::V1, 6, whole.as_bytes());
+            assert_eq!(rt; read.err(), Some(refusal));
+        }
+        let seventh = text(alloc, rows)?;
+        let more = text(alloc, &[seventh.as_str(), TOTALS, COST, BOUND, BOUND])?;
+        let read = read_plan(alloc, Version::V1, 6, more.as_bytes());
+        assert_eq!(rt; read.err(), Some(PlanTextError::Summary { at: 14 }));
+        let read = read_plan(alloc, Version::V1, 6, b"message,\xff\n");
+        assert_eq!(rt; read.err(), Some(PlanTextError::Csv { at: 1 }));
+        Ok(())
+    }
+}
