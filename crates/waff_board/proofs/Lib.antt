@@ -18,3 +18,4 @@ pub mod Looks
 pub mod Sweeps
 pub mod Makings
 pub mod Takings
+pub mod Outside

@@ -2,7 +2,6 @@
 
 ghost use Rattle.std.specs.Prelude.{◌≡◌, ◌≢◌, ◌+◌, ◌<◌, ◌≤◌, ℕ, [], length, slice_index, vec_capacity, IfOk, IfErr, IfSome, IfNone};
 ghost use Rattle.std.specs.Slots.{slots_items, slots_len, IsFull};
-ghost use Rattle.waff_model.specs.Layout.{IsCell};
 ghost use Rattle.waff_model.specs.Messages.{sizes_of};
 ghost use Rattle.waff_model.specs.declared.cell.Cell.{Cell};
 ghost use Rattle.waff_cells.specs.Grid.{cells_in, HasSizes};
@@ -37,7 +36,7 @@ impl Board {
     pub fn close(self, seat: EndSeat) -> Result<State, CloseError>
         requires { IsOf self seat.hand }
         ensures sizes { IfOk result (λ state. HasSizes state (sizes_of self.setup.job.layout.spaces)) }
-        ensures cells { IfOk result (λ state. (cell : Cell) → IsCell self.setup.job.layout.spaces cell
+        ensures cells { IfOk result (λ state. (cell : Cell)
             → cells_in state cell ≡ serial self.setup.job.ops (length self.setup.job.ops) cell) }
         ensures refused { IfErr result (Refuses seat.hand.chair.me.0) }
     {
