@@ -3,3 +3,4 @@ pub mod Seats
 pub mod Rule
 pub mod Plays
 pub mod Calls
+pub mod Laws

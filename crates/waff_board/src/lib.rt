@@ -6,6 +6,7 @@ mod clearing;
 mod drawing;
 mod hand;
 mod law;
+pub mod laws;
 mod plays;
 mod reading;
 mod running;
