@@ -16,3 +16,7 @@ pub mod Splits
 pub mod Opens
 pub mod Closes
 pub mod Looks
+pub mod Sweeps
+pub mod Makings
+pub mod Takings
+pub mod Outside

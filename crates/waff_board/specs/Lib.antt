@@ -4,3 +4,5 @@ pub mod Rule
 pub mod Plays
 pub mod Calls
 pub mod Laws
+pub mod Openings
+pub mod Endings

@@ -3,10 +3,13 @@
 
 mod board;
 mod clearing;
+mod closing;
 mod drawing;
+mod ending;
 mod hand;
 mod law;
 pub mod laws;
+mod opening;
 mod plays;
 mod reading;
 mod running;
@@ -15,5 +18,7 @@ mod view;
 
 pub use board::Board;
 pub use clearing::Clear;
+pub use closing::CloseError;
 pub use drawing::Draw;
+pub use opening::BoardError;
 pub use tokens::{Cleared, Drawn, EndSeat, Finished, Grant, Seat};

@@ -3,3 +3,4 @@ pub mod Writes
 pub mod Meanings
 pub mod Zeros
 pub mod Holdings
+pub mod Gathers

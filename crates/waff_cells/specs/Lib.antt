@@ -3,4 +3,5 @@ pub mod Serial
 pub mod Grid
 pub mod Held
 pub mod Parcel
+pub mod Gathered
 pub mod Laws

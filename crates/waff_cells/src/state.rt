@@ -15,7 +15,7 @@ use waff_model::{Cell, Layout, Message, Op};
 /// The number that each cell of a layout holds: a row for each space.
 #[derive(Drop)]
 pub struct State {
-    rows: Vec<Vec<u64>>,
+    pub(crate) rows: Vec<Vec<u64>>,
 }
 
 impl Model for State {
