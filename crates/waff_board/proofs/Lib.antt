@@ -6,6 +6,7 @@ pub mod Draws
 pub mod Numbers
 pub mod Lookings
 pub mod Carrying
+pub mod Between
 pub mod Grants
 pub mod Owners
 pub mod Handing
