@@ -15,3 +15,6 @@ pub mod Splits
 pub mod Opens
 pub mod Closes
 pub mod Looks
+pub mod Sweeps
+pub mod Makings
+pub mod Takings

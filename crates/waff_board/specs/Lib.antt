@@ -3,3 +3,5 @@ pub mod Seats
 pub mod Rule
 pub mod Plays
 pub mod Calls
+pub mod Openings
+pub mod Endings

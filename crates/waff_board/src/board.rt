@@ -1,6 +1,6 @@
 //! The board.
 
-ghost use Rattle.std.specs.Prelude.{◌≡◌, ◌+◌, length};
+ghost use Rattle.std.specs.Prelude.{◌≡◌, ◌+◌, ◌<◌, ◌^◌, length};
 ghost use Rattle.waff_core.specs.Job.{IsJob};
 
 use crate::law::Law;
@@ -19,6 +19,7 @@ pub struct Board {
     ghost told: { table.shared.key ≡ setup },
     ghost words: { table.shared.table_id.words ≡ length setup.job.ops + 1 },
     ghost slots: { table.shared.table_id.slots ≡ length setup.job.layout.tree },
+    ghost short: { length setup.job.ops < 2 ^ 32 },
 }
 
 impl Board {

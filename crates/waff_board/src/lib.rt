@@ -3,9 +3,12 @@
 
 mod board;
 mod clearing;
+mod closing;
 mod drawing;
+mod ending;
 mod hand;
 mod law;
+mod opening;
 mod plays;
 mod reading;
 mod running;
@@ -14,5 +17,7 @@ mod view;
 
 pub use board::Board;
 pub use clearing::Clear;
+pub use closing::CloseError;
 pub use drawing::Draw;
+pub use opening::BoardError;
 pub use tokens::{Cleared, Drawn, EndSeat, Finished, Grant, Seat};

@@ -1,6 +1,6 @@
 //! The tokens of a board, each of which one call takes and gives the next.
 
-ghost use Rattle.std.specs.Prelude.{◌≡◌, ◌-◌, ◌≤◌, ℕ, [], length, map};
+ghost use Rattle.std.specs.Prelude.{◌^◌, ◌<◌, ◌≡◌, ◌-◌, ◌≤◌, ℕ, [], length, map};
 ghost use Rattle.waff_order.specs.Needs.{IsNeed};
 ghost use Rattle.waff_cells.specs.Serial.{serial};
 ghost use Rattle.waff_core.specs.Job.{owners_of};
@@ -76,4 +76,5 @@ pub struct EndSeat {
     pub(crate) hand: Hand,
     ghost ended: { hand.chair.me.0.phase ≡ Ended },
     ghost empty: { hand.chair.me.1 ≡ [] },
+    ghost short: { length hand.chair.me.0.job.ops < 2 ^ 32 },
 }

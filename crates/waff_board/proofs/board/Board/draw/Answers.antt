@@ -1,4 +1,4 @@
-use Rattle.std.proofs.Common.{◌≡◌, ◌<◌, ◌≤◌, Some, length, slice_get, arith, sym, ◌∙◌, subst}
+use Rattle.std.proofs.Common.{◌≡◌, ◌^◌, ◌<◌, ◌≤◌, Some, length, slice_get, arith, sym, ◌∙◌, subst}
 use Rattle.waff_core.specs.Job.{JobValue}
 use Rattle.waff_board.proofs.Draws.{draws}
 use Rattle.waff_board.proofs.Numbers.{first_same, second_same, drawn_job, drawn_phase, ended_phase}
@@ -30,6 +30,9 @@ invariant_of-result-in-None c =
     record {
       ended = ended_phase c.args.seat.hand.chair.me.0 c.fetch_add-number.new.seat.me.0 c.args.self.now.setup.job c.fetch_add-number.result view c.requires.1 c.in-None.ensures.drawn;
       empty = second_same _ _ c.fetch_add-number.ensures.2 ∙ c.args.seat.empty;
+      short = subst (λ (j : JobValue). length j.ops < 2 ^ 32)
+          (sym (drawn_job c.args.seat.hand.chair.me.0 c.fetch_add-number.new.seat.me.0 c.args.self.now.setup.job c.fetch_add-number.result view c.requires.1))
+          c.args.self.now.short;
     }
 
 pub returns-in-Some : goal.returns-in-Some

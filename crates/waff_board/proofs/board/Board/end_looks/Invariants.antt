@@ -1,0 +1,10 @@
+use Rattle.std.proofs.Common.{◌≡◌}
+use Rattle.waff_board.specs.Calls.{IsOf}
+use Rattle.waff_board.specs.Endings.{LookedUpTo}
+use Rattle.waff_board.proofs.board.Board.end_looks.Given as goal
+
+abbrev pub invariant-loop-before : goal.invariant-loop-before
+invariant-loop-before l =
+    LookedUpTo l.before l.fn.seat.hand.chair.me.0 l.hand.chair.me.0
+    × (l.hand.chair.me.1 ≡ l.fn.seat.hand.chair.me.1)
+    × IsOf l.self l.hand
