@@ -2,5 +2,10 @@
 #![tactic(auto)]
 
 mod arrival;
+mod gate;
+mod replaying;
+mod work;
 
 pub use arrival::serial;
+pub use gate::{Gate, Open};
+pub use replaying::replay;
