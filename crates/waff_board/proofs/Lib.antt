@@ -6,6 +6,7 @@ pub mod Draws
 pub mod Numbers
 pub mod Lookings
 pub mod Carrying
+pub mod Between
 pub mod Grants
 pub mod Owners
 pub mod Handing
@@ -18,3 +19,4 @@ pub mod Looks
 pub mod Sweeps
 pub mod Makings
 pub mod Takings
+pub mod Outside

@@ -14,7 +14,8 @@ looks_from n (answer ∷ answers) = (n, answer) ∷ looks_from (n + 1) answers
 -- `looks` has one more for each of the first k messages, in order, and nothing else changes
 abbrev pub LookedUpTo : ℕ → View → View → Type 0
 LookedUpTo k v w =
-    (answers : List Bool) × (length answers ≡ k) × (w ≡ record v { looks = v.looks ++ looks_from 1 answers })
+    (answers : List Bool) × (length answers ≡ k)
+    × (w ≡ record v { looks = v.looks ++ looks_from 1 answers })
 
 -- a look at each message, in order
 abbrev pub LookedOver : View → View → Type 0

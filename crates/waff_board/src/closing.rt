@@ -2,7 +2,6 @@
 
 ghost use Rattle.std.specs.Prelude.{◌≡◌, ◌≢◌, ◌+◌, ◌<◌, ◌≤◌, ℕ, [], length, slice_index, vec_capacity, IfOk, IfErr, IfSome, IfNone};
 ghost use Rattle.std.specs.Slots.{slots_items, slots_len, IsFull};
-ghost use Rattle.waff_model.specs.Layout.{IsCell};
 ghost use Rattle.waff_model.specs.Messages.{sizes_of};
 ghost use Rattle.waff_model.specs.declared.cell.Cell.{Cell};
 ghost use Rattle.waff_cells.specs.Grid.{cells_in, HasSizes};
@@ -36,8 +35,9 @@ impl Board {
     /// Ends the board. The state is the one that all messages leave.
     pub fn close(self, seat: EndSeat) -> Result<State, CloseError>
         requires { IsOf self seat.hand }
-        ensures sizes { IfOk result (λ state. HasSizes state (sizes_of self.setup.job.layout.spaces)) }
-        ensures cells { IfOk result (λ state. (cell : Cell) → IsCell self.setup.job.layout.spaces cell
+        ensures sizes { IfOk result (λ state. HasSizes state
+            (sizes_of self.setup.job.layout.spaces)) }
+        ensures cells { IfOk result (λ state. (cell : Cell)
             → cells_in state cell ≡ serial self.setup.job.ops (length self.setup.job.ops) cell) }
         ensures refused { IfErr result (Refuses seat.hand.chair.me.0) }
     {
@@ -64,9 +64,12 @@ impl Board {
 fn first_unfinished(closed: &Closed<Vec<u64>, Global>, messages: u32) -> Option<u32>
     requires full { IsFull closed.now.words }
     requires count { slots_len closed.now.words ≡ messages + 1 }
-    ensures some { IfSome result (λ m. (1 ≤ m) × (m ≤ messages) × (slice_index (slots_items closed.now.words) m ≢ 2)) }
-    ensures least { IfSome result (λ m. (n : ℕ) → 1 ≤ n → n < m → slice_index (slots_items closed.now.words) n ≡ 2) }
-    ensures none { IfNone result ((n : ℕ) → 1 ≤ n → n ≤ messages → slice_index (slots_items closed.now.words) n ≡ 2) }
+    ensures some { IfSome result (λ m. (1 ≤ m) × (m ≤ messages)
+        × (slice_index (slots_items closed.now.words) m ≢ 2)) }
+    ensures least { IfSome result (λ m. (n : ℕ) → 1 ≤ n → n < m
+        → slice_index (slots_items closed.now.words) n ≡ 2) }
+    ensures none { IfNone result ((n : ℕ) → 1 ≤ n → n ≤ messages
+        → slice_index (slots_items closed.now.words) n ≡ 2) }
 {
     for before in 0..messages {
         let n = before + 1;

@@ -8,6 +8,7 @@ mod drawing;
 mod ending;
 mod hand;
 mod law;
+pub mod laws;
 mod opening;
 mod plays;
 mod reading;

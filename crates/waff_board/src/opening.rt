@@ -17,7 +17,8 @@ use thiserror::Error;
 use waff_core::Job;
 use waff_model::{AffinityId, Layout};
 
-/// As many parcels as a seat has places for: a message has at most 32 operations, each of at most two cells.
+/// As many parcels as a seat has places for: a message has at most 32 operations, each of at most
+/// two cells.
 const PARCELS: usize = 64;
 
 /// Why no board is made.

@@ -14,7 +14,8 @@ use std::alloc::{AllocError, Global};
 use waff_model::{Cell, Layout};
 
 impl State {
-    /// The state in which each cell has its number in these parcels, of which there is one for each affinity.
+    /// The state in which each cell has its number in these parcels, of which there is one for each
+    /// affinity.
     pub fn of_parcels(
         alloc: Global,
         layout: &Layout,
@@ -43,7 +44,8 @@ fn row_of(
     requires space { s < length layout.now.spaces }
     requires lie { LieIn layout.now.spaces (rows_of parcels.now) }
     ensures { IfOk result (λ row. row.items ≡ map
-        (λ i. cells_of_parcels layout.now.spaces (rows_of parcels.now) (record { space = s; index = i }))
+        (λ i. cells_of_parcels layout.now.spaces (rows_of parcels.now)
+        (record { space = s; index = i }))
         (range_with_len 0 (size_at layout.now.spaces s))) }
 {
     let mut row = Vec::with_capacity(alloc, layout.space_size(s) as usize)?;

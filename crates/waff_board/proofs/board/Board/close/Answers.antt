@@ -1,10 +1,13 @@
 use Rattle.std.proofs.Common.{◌≡◌, ℕ, List, length, Vec, Global, arith, sym, ap, ◌∙◌, subst}
 use Rattle.std.specs.Slots.{slots_items}
 use Rattle.waff_model.specs.Layout.{Hierarchy, IsCell}
+use Rattle.waff_model.specs.Messages.{sizes_of}
+use Rattle.waff_cells.specs.Grid.{HasSizes}
 use Rattle.waff_cells.specs.Gathered.{LieIn, cells_of_parcels}
 use Rattle.waff_cells.specs.Held.{rows_of}
 use Rattle.waff_cells.specs.Serial.{serial}
 use Rattle.waff_board.specs.declared.view.Setup.{Setup}
+use Rattle.waff_board.proofs.Outside.{everywhere}
 use Rattle.waff_board.proofs.Takings.{undone_unseen, closed_serial, parcels_lie, parcels_tell}
 use Rattle.waff_board.proofs.board.Board.close.Goals as goal
 
@@ -44,8 +47,10 @@ returns-in-Ok-of_parcels-clause-cells c =
     c.close_with-closed.ensures.values.2 (ap (λ (s : Setup). s.job) board.told)
     (λ n from to. c.in_default-unfinished.ensures.none n from (omega (arith, to, c.len.ensures.count))) in
     let same : c.deref.result.now ≡ slots = c.deref.ensures.value ∙ c.unload-parcels.ensures in
-    λ cell is_cell.
+    everywhere job c.len.ensures.job c.in-Ok-of_parcels.state (length job.ops)
+    (subst (λ (h : Hierarchy). HasSizes c.in-Ok-of_parcels.state (sizes_of h.spaces)) c.layout.ensures c.in-Ok-of_parcels.ensures.sizes)
+    (λ cell is_cell.
     c.in-Ok-of_parcels.ensures.cells cell (subst (λ (h : Hierarchy). IsCell h.spaces cell) (sym c.layout.ensures) is_cell)
     ∙ ap (λ (h : Hierarchy). cells_of_parcels h.spaces (rows_of c.deref.result.now) cell) c.layout.ensures
     ∙ ap (λ (vs : List (Vec ℕ Global)). cells_of_parcels job.layout.spaces (rows_of vs) cell) same
-    ∙ parcels_tell job c.len.ensures.job.layout (serial job.ops (length job.ops)) slots are cell is_cell
+    ∙ parcels_tell job c.len.ensures.job.layout (serial job.ops (length job.ops)) slots are cell is_cell)

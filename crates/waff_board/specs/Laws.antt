@@ -1,0 +1,68 @@
+-- What holds between any two atomic steps of a board, whichever threads make them.
+use Rattle.std.specs.Prelude.{◌≡◌, ◌⊎◌, ℕ, ◌+◌, ◌<◌, ◌≤◌, Some, length, slice_get, slice_index}
+use Rattle.std.specs.Global.{Vec}
+use mathlib.Core.Option.{some}
+use lib.ListN.{get_elem?}
+use Rattle.atomic_table.specs.Table.{State}
+use Rattle.waff_core.specs.Job.{IsIn, StandsAt}
+use Rattle.waff_core.specs.declared.phase.Phase.TheVariants.{Drawn, Running}
+use Rattle.waff_board.specs.Rule.{Holds}
+use Rattle.waff_board.specs.Seats.{HasSeen}
+use Rattle.waff_board.specs.declared.view.Setup.{Setup}
+use Rattle.waff_board.specs.declared.view.View.{View}
+
+-- the words, the slots at home and the views between two steps
+abbrev pub IsBetween : Setup → State (Vec ℕ) View → Type 0
+IsBetween setup s = Holds (λ parcel. parcel.items) setup s
+
+-- the view of a seat
+abbrev pub Knows : State (Vec ℕ) View → ℕ → View → Type 0
+Knows s seat v = get_elem? s.views seat ≡ some v
+
+-- no two seats are one actor
+abbrev pub ActorsDiffer : Setup → Type 0
+ActorsDiffer setup =
+    (s : State (Vec ℕ) View) → IsBetween setup s
+    → (seat other : ℕ) (v w : View) → Knows s seat v → Knows s other w
+    → v.actor ≡ w.actor → seat ≡ other
+
+-- no number is drawn twice, and each is below the number of draws
+abbrev pub NumbersDiffer : Setup → Type 0
+NumbersDiffer setup =
+    (s : State (Vec ℕ) View) → IsBetween setup s
+    → (seat other : ℕ) (v w : View) → Knows s seat v → Knows s other w
+    → (i j p : ℕ) → slice_get v.draws i ≡ Some p → slice_get w.draws j ≡ Some p
+    → (seat ≡ other) × (i ≡ j) × (p < slice_index s.words 0)
+
+-- no message is handed out twice
+abbrev pub HandedOutOnce : Setup → Type 0
+HandedOutOnce setup =
+    (s : State (Vec ℕ) View) → IsBetween setup s
+    → (seat other : ℕ) (v w : View) → Knows s seat v → Knows s other w
+    → (i j p q m : ℕ) → slice_get v.draws i ≡ Some p → slice_get w.draws j ≡ Some q
+    → StandsAt setup.job.order p m → StandsAt setup.job.order q m
+    → (seat ≡ other) × (i ≡ j)
+
+-- the view is that of a seat that holds or runs the message
+abbrev pub IsAt : View → ℕ → Type 0
+IsAt v m = (v.phase ≡ Drawn m) ⊎ (v.phase ≡ Running m)
+
+-- no two seats hold or run one message
+abbrev pub RunByOne : Setup → Type 0
+RunByOne setup =
+    (s : State (Vec ℕ) View) → IsBetween setup s
+    → (seat other : ℕ) (v w : View) → Knows s seat v → Knows s other w
+    → (m : ℕ) → IsAt v m → IsAt w m → seat ≡ other
+
+-- what a seat has seen is done
+abbrev pub SeenIsDone : Setup → Type 0
+SeenIsDone setup =
+    (s : State (Vec ℕ) View) → IsBetween setup s
+    → (seat : ℕ) (v : View) → Knows s seat v
+    → (m : ℕ) → IsIn setup.job m → HasSeen v m → slice_index s.words m ≡ 2
+
+-- there are no more draws than messages and seats
+abbrev pub DrawsAreFew : Setup → Type 0
+DrawsAreFew setup =
+    (s : State (Vec ℕ) View) → IsBetween setup s
+    → slice_index s.words 0 ≤ length setup.job.ops + setup.seats
