@@ -3,7 +3,6 @@
 ghost use Rattle.std.specs.Prelude.{◌≡◌, ◌≤◌, length, All, IfOk};
 ghost use Rattle.std.specs.Thread.{IsSync};
 ghost use Rattle.waff_model.specs.Messages.{sizes_of};
-ghost use Rattle.waff_model.specs.Layout.{IsCell};
 ghost use Rattle.waff_model.specs.declared.cell.Cell.{Cell};
 ghost use Rattle.waff_cells.specs.Grid.{cells_in, HasSizes};
 ghost use Rattle.waff_cells.specs.Serial.{serial};
@@ -33,7 +32,7 @@ pub fn replay<R: Threads + Wait + Sync, G: Gate>(
     requires some { 1 ≤ workers }
     requires few { workers ≤ MAX_SEATS }
     ensures sizes { IfOk result (λ state. HasSizes state (sizes_of job.layout.spaces)) }
-    ensures cells { IfOk result (λ state. (cell : Cell) → IsCell job.layout.spaces cell
+    ensures cells { IfOk result (λ state. (cell : Cell)
         → cells_in state cell ≡ serial job.ops (length job.ops) cell) }
 {
     let Ok((board, mut others)) = Board::new(alloc, job, workers) else {
