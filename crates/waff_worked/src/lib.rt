@@ -10,8 +10,6 @@ mod comparisons;
 #[cfg(test)]
 mod hierarchies_read;
 #[cfg(test)]
-mod machines;
-#[cfg(test)]
 mod plan_texts;
 #[cfg(test)]
 mod plans;
