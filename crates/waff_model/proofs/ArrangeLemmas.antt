@@ -78,6 +78,7 @@ module _ (tree : List Node) (rooted : IsRooted tree) (shares : List Share) (shar
     count = are.count;
     parents = λ b within. (are.each b within).parent;
     filled = λ b within. omega (arith, (are.each b within).end, shared.filled b within);
+    few = λ b within. (are.each b within).few;
     after = λ b p within parent. omega (arith, (are.each b within).first p parent, shared.after b p within parent);
     within = λ b p within parent.
         let up : p < b = rooted.earlier b p parent in

@@ -4,7 +4,7 @@ use Rattle.std.proofs.lemmas.Bool.{cases_order}
 use Rattle.std.proofs.lemmas.List.{get_or_default}
 use Rattle.waff_model.specs.Tree.{Node, parent_of, Leads, AtOrAbove, IsRooted}
 use Rattle.waff_model.specs.declared.places.Place.{Place}
-use Rattle.waff_model.specs.Places.{place_at, Spans, ArePlaces}
+use Rattle.waff_model.specs.Places.{place_at, Spans, ArePlaces, AreNested}
 use Rattle.waff_model.proofs.TreeLemmas.{reflexive, above_child, above_parent, earlier}
 
 -- a read of an affinity's place, whatever stands past the end
@@ -114,3 +114,6 @@ module _ (tree : List Node) (places : List Place) (rooted : IsRooted tree) (are 
   -- an affinity's places are those of the affinities that it is at or above
   pub spans_where_above : (a b : ℕ) → a < length tree → b < length tree → Spans (place_at places a) (place_at places b) ↔ AtOrAbove tree a b
   spans_where_above a b within_a within_b = (spans_above a b within_a within_b, above_spans a b within_b)
+
+  pub nested : AreNested tree places
+  nested = record { count = are.count; filled = are.filled; few = are.few; spans = spans_where_above }

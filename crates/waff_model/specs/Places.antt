@@ -1,5 +1,5 @@
-use Rattle.std.specs.Prelude.{◌≡◌, ℕ, ◌+◌, ◌<◌, ◌≤◌, List, length, Some, None, slice_index_or}
-use Rattle.waff_model.specs.Tree.{Node, parent_of}
+use Rattle.std.specs.Prelude.{◌≡◌, ℕ, ◌+◌, ◌<◌, ◌≤◌, ◌↔◌, List, length, Some, None, slice_index_or}
+use Rattle.waff_model.specs.Tree.{Node, parent_of, AtOrAbove}
 use Rattle.waff_model.specs.declared.places.Place.{Place}
 use Rattle.waff_model.specs.declared.places.Share.{Share}
 
@@ -16,6 +16,7 @@ pub record ArePlaces (tree : List Node) (places : List Place) : Type 0 where
   pub count : length places ≡ length tree
   pub parents : (b : ℕ) → b < length tree → (place_at places b).parent ≡ parent_of tree b
   pub filled : (b : ℕ) → b < length tree → (place_at places b).first < (place_at places b).end
+  pub few : (b : ℕ) → b < length tree → (place_at places b).end ≤ length tree
   pub after : (b p : ℕ) → b < length tree → parent_of tree b ≡ Some p → (place_at places p).first < (place_at places b).first
   pub within : (b p : ℕ) → b < length tree → parent_of tree b ≡ Some p → (place_at places b).end ≤ (place_at places p).end
   pub apart : (b c p : ℕ) → b < c → c < length tree → parent_of tree b ≡ Some p → parent_of tree c ≡ Some p → (place_at places c).end ≤ (place_at places b).first
@@ -36,3 +37,10 @@ pub record AreShares (tree : List Node) (shares : List Share) : Type 0 where
   pub after : (b p : ℕ) → b < length tree → parent_of tree b ≡ Some p → 0 < (share_at shares b).offset
   pub within : (b p : ℕ) → b < length tree → parent_of tree b ≡ Some p → (share_at shares b).offset + (share_at shares b).size ≤ (share_at shares p).size
   pub apart : (b c p : ℕ) → b < c → c < length tree → parent_of tree b ≡ Some p → parent_of tree c ≡ Some p → (share_at shares c).offset + (share_at shares c).size ≤ (share_at shares b).offset
+
+-- places that nest: one affinity is at or above another exactly where the other's place is one of its own
+pub record AreNested (tree : List Node) (places : List Place) : Type 0 where
+  pub count : length places ≡ length tree
+  pub filled : (b : ℕ) → b < length tree → (place_at places b).first < (place_at places b).end
+  pub few : (b : ℕ) → b < length tree → (place_at places b).end ≤ length tree
+  pub spans : (a b : ℕ) → a < length tree → b < length tree → Spans (place_at places a) (place_at places b) ↔ AtOrAbove tree a b

@@ -25,6 +25,7 @@ pub use layout_rows::{LayoutError, MapSpec, SpaceSpec};
 pub use message::{Message, Version};
 pub use name::{Text, is_name};
 pub use op::{Op, Ops};
+pub use places::Place;
 pub use texts::Texts;
 pub use trace::Trace;
 pub use tree::{AffinityId, Tree, TreeBuilder, TreeError};

@@ -9,10 +9,10 @@ use std::alloc::AllocError;
 
 /// Where an affinity stands in preorder: at `first`, and those below it after it, up to `end`.
 #[derive(Clone, Copy)]
-pub(crate) struct Place {
+pub struct Place {
     pub(crate) parent: Option<u16>,
-    first: u16,
-    end: u16,
+    pub first: u16,
+    pub end: u16,
 }
 
 impl Place {

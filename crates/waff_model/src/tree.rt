@@ -2,6 +2,7 @@
 
 ghost use Rattle.std.specs.Prelude.{◌≡◌, ◌+◌, ◌==◌, if◌then◌else◌, ◌<◌, ◌↔◌, [], ◌∷◌, ◌++◌, length, option_map, unwrap_or, None, IsTrue, IfOk, IfErr, IfSome, OnOk, OnErr};
 ghost use Rattle.waff_model.specs.Tree.{parent_of, number_of, name_of, AtOrAbove, Excludes, IsTree};
+ghost use Rattle.waff_model.specs.Places.{AreNested};
 ghost use Rattle.waff_model.specs.TreeRefusal.{node_of, refusal_of};
 
 use crate::limits::MAX_AFFINITIES;
@@ -184,6 +185,14 @@ impl Tree {
         ensures tree { IsTree self.now }
     {
         self.places[above.0 as usize].spans(&self.places[below.0 as usize])
+    }
+
+    /// The place of each affinity in preorder, by its number: the affinities at or below one stand at the places from its
+    /// `first` up to its `end`.
+    pub fn places(&self) -> &[Place]
+        ensures { AreNested self.now result.now }
+    {
+        self.places.as_slice()
     }
 
     /// Whether one of the two is at or above the other, so that their messages never run at the same time.
