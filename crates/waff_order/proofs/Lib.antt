@@ -1,7 +1,10 @@
 pub mod Parts
 pub mod NeedLemmas
-pub mod OpenLemmas
+pub mod Taking
+pub mod Noting
+pub mod Holding
 pub mod Closure
 pub mod UpTo
+pub mod Reaching
 pub mod LowestLemmas
 pub mod CarryLemmas

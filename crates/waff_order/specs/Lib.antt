@@ -1,4 +1,5 @@
 pub mod Needs
 pub mod Cuts
 pub mod Open
+pub mod Runs
 pub mod Lowests

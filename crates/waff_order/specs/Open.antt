@@ -1,6 +1,7 @@
 -- The open messages: those that no later message at or above them has taken as a need. A message takes as needs the open
--- messages at or below it, or, where there is none, the latest open message above it.
-use Rattle.std.specs.Prelude.{◌≡◌, ℕ, zero, suc, ◌+◌, ◌<◌, ◌≤◌, ◌⊎◌, List, [], ◌∷◌, length, All, AllPairs, Contains}
+-- messages at or below it, or, where there is none, the latest message above it.
+use Rattle.std.specs.Prelude.{ℕ, zero, suc, ◌+◌, ◌<◌, ◌≤◌, ◌⊎◌, List, [], ◌∷◌, All, Contains}
+use Rattle.std.specs.List.Sorted.{IsStrictlyIncreasing}
 use Rattle.waff_model.specs.Tree.{Node, AtOrAbove}
 use Rattle.waff_assign.specs.Order.{affinity_of}
 
@@ -8,28 +9,25 @@ use Rattle.waff_assign.specs.Order.{affinity_of}
 abbrev pub IsAbove : List Node → List ℕ → ℕ → ℕ → Type 0
 IsAbove tree assigned i j = AtOrAbove tree (affinity_of assigned i) (affinity_of assigned j)
 
--- a list of open messages before m: they rise, and none is at or above an earlier one
-pub record AreOpen (Above : ℕ → ℕ → Type 0) (m : ℕ) (opened : List ℕ) : Type 0 where
-  pub messages : All (λ i. (1 ≤ i) × (i < m)) opened
-  pub free : AllPairs (λ i j. (i < j) × ¬ Above j i) opened
+-- after n messages message i is open: none that came after it is at or above it
+pub record IsOpen (Above : ℕ → ℕ → Type 0) (n i : ℕ) : Type 0 where
+  pub from : 1 ≤ i
+  pub to : i ≤ n
+  pub free : (j : ℕ) → i < j → j ≤ n → ¬ Above j i
 
--- the open messages that m takes, those that are kept, and the latest of these that is above m, or 0
-pub record IsParted (Above : ℕ → ℕ → Type 0) (m : ℕ) (opened taken kept : List ℕ) (above : ℕ) : Type 0 where
-  pub takes : All (λ i. Contains opened i × Above m i) taken
-  pub keeps : All (λ i. Contains opened i × ¬ Above m i) kept
-  pub each : All (λ i. Contains taken i ⊎ Contains kept i) opened
-  pub rising : AllPairs (λ i j. i < j) taken
-  pub free : AllPairs (λ i j. (i < j) × ¬ Above j i) kept
-  pub count : length taken + length kept ≡ length opened
-  pub none : above ≡ 0 → All (λ i. ¬ Above i m) kept
-  pub some : 0 < above → Contains kept above × Above above m × All (λ i. Above i m → i ≤ above) kept
+-- the open messages that message n + 1 takes: those at or below it
+pub record AreTaken (Above : ℕ → ℕ → Type 0) (n : ℕ) (taken : List ℕ) : Type 0 where
+  pub takes : All (λ i. IsOpen Above n i × Above (n + 1) i) taken
+  pub each : (i : ℕ) → IsOpen Above n i → Contains taken i ⊎ ¬ Above (n + 1) i
+  pub rising : IsStrictlyIncreasing taken
+
+-- the latest of the first n messages that is at or above message m, 0 where there is none
+pub record IsLatest (Above : ℕ → ℕ → Type 0) (n m above : ℕ) : Type 0 where
+  pub some : 0 < above → (above ≤ n) × Above above m
+  pub latest : (i : ℕ) → 1 ≤ i → i ≤ n → Above i m → i ≤ above
 
 -- the needs: the messages that are taken, or, where there is none, the latest above
 abbrev pub chosen : List ℕ → ℕ → List ℕ
 chosen [] zero = []
 chosen [] (suc n) = suc n ∷ []
 chosen (i ∷ rest) above = i ∷ rest
-
--- these are the needs of m, and these messages are kept
-abbrev pub TakesNeeds : (ℕ → ℕ → Type 0) → ℕ → List ℕ → List ℕ → List ℕ → Type 0
-TakesNeeds Above m opened kept needs = (taken : List ℕ) × (above : ℕ) × IsParted Above m opened taken kept above × (needs ≡ chosen taken above)

@@ -1,14 +1,16 @@
 //! The needs of each message, found from the messages that are open.
 
-ghost use Rattle.std.specs.Prelude.{◌≡◌, ◌+◌, ◌*◌, ◌<◌, ◌≤◌, ◌++◌, ℕ, List, [], length, All, IfOk, sum_by};
+ghost use Rattle.std.specs.Prelude.{◌≡◌, ◌+◌, ◌*◌, ◌<◌, ◌≤◌, List, ℕ, [], length, All, IfOk, OnOk, sum_by};
 ghost use Rattle.waff_order.specs.Needs.{AreNeeds, IsWithinDepth};
-ghost use Rattle.waff_order.specs.Open.{IsAbove, AreOpen, IsParted, TakesNeeds};
+ghost use Rattle.waff_order.specs.Open.{chosen};
+ghost use Rattle.waff_order.specs.Runs.{noted_at, AreFilled, AreGathered};
 
 use crate::Needs;
+use crate::latest::Latest;
+use crate::opened::Opened;
 use std::alloc::{AllocError, Global};
-use std::mem;
 use waff_assign::Assigned;
-use waff_model::Tree;
+use waff_model::{Place, Tree};
 
 /// The needs of each message: earlier messages that exclude it, so many that every other such message is led to it by a path
 /// through needs.
@@ -18,76 +20,49 @@ pub fn needs(alloc: Global, tree: &Tree, assigned: &Assigned) -> Result<Needs, A
     ensures few { IfOk result (λ needs. (depth : ℕ) → IsWithinDepth tree.now depth → sum_by length needs ≤ length assigned.now * (depth + 1)) }
     ensures twice { IfOk result (λ needs. sum_by length needs ≤ 2 * length assigned.now) }
 {
+    let count = tree.len() as usize;
+    let places = tree.places();
+    let mut opened = Opened::none(alloc, count)?;
+    let mut latest = Latest::none(alloc, count)?;
     let mut all = Vec::new(alloc);
     let mut ends = Vec::with_capacity(alloc, assigned.len() as usize)?;
-    let affinities = tree.len() as usize;
-    let mut opened = Vec::with_capacity(alloc, affinities)?;
-    let mut kept = Vec::with_capacity(alloc, affinities)?;
+    let mut needs = Vec::new(alloc);
     for m in 1..assigned.len() + 1 {
-        kept.clear();
-        take_needs(tree, assigned, m, opened.as_slice(), &mut kept, &mut all)?;
+        let place = places[assigned.of(m).0 as usize];
+        needs.clear();
+        take_needs(&mut opened, &latest, place, &mut needs)?;
+        opened.put(place.first as usize, m);
+        latest.note(place.first as usize, place.end as usize, m);
+        all.extend_from_slice(needs.as_slice())?;
         ends.push(all.len() as u32)?;
-        kept.push(m)?;
-        mem::swap(&mut opened, &mut kept);
     }
     Ok(Needs::new(all, ends))
 }
 
-/// Appends the needs of message `m`, and keeps the open messages that it does not take.
+/// Lists the needs of a message at this place, and closes the messages that it takes.
 fn take_needs(
-    tree: &Tree,
-    assigned: &Assigned,
-    m: u32,
-    opened: &[u32],
-    kept: &mut Vec<u32>,
-    all: &mut Vec<u32>,
+    opened: &mut Opened,
+    latest: &Latest,
+    place: Place,
+    needs: &mut Vec<u32>,
 ) -> Result<(), AllocError>
-    requires known { All (λ a. a < length tree.now) assigned.now }
-    requires from { 1 ≤ m }
-    requires to { m ≤ length assigned.now }
-    requires opened { AreOpen (IsAbove tree.now assigned.now) m opened.now }
-    requires empty { kept.old.items ≡ [] }
-    ensures { IfOk result (λ _. (needs : List ℕ) × (all.new.items ≡ all.old.items ++ needs)
-        × TakesNeeds (IsAbove tree.now assigned.now) m opened.now kept.new.items needs) }
+    requires forward { place.first < place.end }
+    requires within { place.end ≤ length opened.old.messages.items }
+    requires filled { AreFilled opened.old.messages.items opened.old.filled.items }
+    requires noted { place.end ≤ length latest.now.places.items }
+    requires room { length latest.now.places.items ≤ 64 * length latest.now.blocks.items }
+    requires empty { needs.old.items ≡ [] }
+    ensures filled { OnOk result (AreFilled opened.new.messages.items opened.new.filled.items) }
+    ensures needs { OnOk result ((gathered : List ℕ)
+        × AreGathered place.first place.end opened.old.messages.items opened.new.messages.items gathered
+        × (needs.new.items ≡ chosen gathered (noted_at latest.now.places.items latest.now.blocks.items place.first))) }
 {
-    let before = all.len();
-    let above = part_open(tree, assigned, m, opened, kept, all)?;
-    if all.len() == before && above > 0 {
-        all.push(above)?;
+    opened.take(place.first as usize, place.end as usize, needs)?;
+    needs.sort_unstable();
+    needs.dedup();
+    let above = latest.at(place.first as usize);
+    if needs.is_empty() && above > 0 {
+        needs.push(above)?;
     }
     Ok(())
-}
-
-/// Appends the open messages at or below message `m`, keeps the others, and answers the latest above it, 0 where there is none.
-fn part_open(
-    tree: &Tree,
-    assigned: &Assigned,
-    m: u32,
-    opened: &[u32],
-    kept: &mut Vec<u32>,
-    all: &mut Vec<u32>,
-) -> Result<u32, AllocError>
-    requires known { All (λ a. a < length tree.now) assigned.now }
-    requires from { 1 ≤ m }
-    requires to { m ≤ length assigned.now }
-    requires opened { AreOpen (IsAbove tree.now assigned.now) m opened.now }
-    requires empty { kept.old.items ≡ [] }
-    ensures { IfOk result (λ above. (taken : List ℕ) × (all.new.items ≡ all.old.items ++ taken)
-        × IsParted (IsAbove tree.now assigned.now) m opened.now taken kept.new.items above) }
-{
-    let affinity = assigned.of(m);
-    let mut above = 0;
-    for at in 0..opened.len() {
-        let i = opened[at];
-        let other = assigned.of(i);
-        if tree.at_or_above(affinity, other) {
-            all.push(i)?;
-        } else {
-            if tree.at_or_above(other, affinity) {
-                above = i;
-            }
-            kept.push(i)?;
-        }
-    }
-    Ok(above)
 }

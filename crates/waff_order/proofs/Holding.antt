@@ -1,0 +1,182 @@
+-- The tables by places hold the open messages, and the latest message at or above each affinity.
+use Rattle.std.proofs.Common.{◌≡◌, ◌≢◌, ℕ, ◌+◌, ◌<◌, ◌≤◌, ◌⊎◌, ◌↔◌, inl, inr, List, length, get_or, set, replicate, Contains, arith, sym, ◌∙◌, ap, subst}
+use Rattle.std.proofs.lemmas.Bool.{cases_eq, cases_lt}
+use Rattle.std.proofs.lemmas.List.{get_or-set_same, get_or-set_other}
+use Rattle.std.proofs.lemmas.List.Elements.{Contains-get_or}
+use Rattle.waff_order.specs.Open.{IsOpen, AreTaken, IsLatest}
+use Rattle.waff_order.specs.Runs.{AreGathered, IsNoted, noted_at}
+use Rattle.waff_order.proofs.Taking.{none_at}
+
+-- each open message stands at its place in the table, and nothing else
+pub record AreHeld (Above : ℕ → ℕ → Type 0) (first : ℕ → ℕ) (n : ℕ) (messages : List ℕ) : Type 0 where
+  pub held : (p : ℕ) → 0 < get_or messages p 0 → IsOpen Above n (get_or messages p 0) × (first (get_or messages p 0) ≡ p)
+  pub each : (i : ℕ) → IsOpen Above n i → get_or messages (first i) 0 ≡ i
+
+-- at the place of each message the latest before that is at or above it is noted
+abbrev pub AreLatest : (ℕ → ℕ → Type 0) → (ℕ → ℕ) → ℕ → ℕ → (ℕ → ℕ) → Type 0
+AreLatest Above first count n at = (m : ℕ) → 1 ≤ m → m ≤ count → IsLatest Above n m (at (first m))
+
+module _ (Above : ℕ → ℕ → Type 0) where
+  pub open_more : (n i : ℕ) → IsOpen Above n i → ¬ Above (n + 1) i → IsOpen Above (n + 1) i
+  open_more n i h apart =
+      let to : i ≤ n = h.to in
+      record {
+        from = h.from;
+        to = omega arith;
+        free = λ j after before. elim (cases_eq j (n + 1)) [
+          | inl last ↦ subst (λ x. ¬ Above x i) (sym last) apart
+          | inr other ↦ h.free j after (omega arith)
+        ];
+      }
+
+  pub open_last : (n : ℕ) → IsOpen Above (n + 1) (n + 1)
+  open_last n = record { from = omega arith; to = omega arith; free = λ j after before. absurd (omega arith) }
+
+  pub open_before : (n i : ℕ) → i ≢ n + 1 → IsOpen Above (n + 1) i → IsOpen Above n i × ¬ Above (n + 1) i
+  open_before n i other h =
+      let to : i ≤ n + 1 = h.to in (
+        record { from = h.from; to = omega arith; free = λ j after before. h.free j after (omega arith) },
+        h.free (n + 1) (omega arith) (omega arith),
+      )
+
+  latest_more : (n m above : ℕ) → ¬ Above (n + 1) m → IsLatest Above n m above → IsLatest Above (n + 1) m above
+  latest_more n m above apart h = record {
+    some = λ some. let there = h.some some in let before : above ≤ n = there.0 in (omega arith, there.1);
+    latest = λ i from to is. elim (cases_eq i (n + 1)) [
+      | inl last ↦ absurd (apart (subst (λ x. Above x m) last is))
+      | inr other ↦ h.latest i from (omega arith) is
+    ];
+  }
+
+  latest_last : (n m : ℕ) → Above (n + 1) m → IsLatest Above (n + 1) m (n + 1)
+  latest_last n m is = record { some = λ some. (omega arith, is); latest = λ i from to above. omega arith }
+
+  pub held_none : (first : ℕ → ℕ) (size : ℕ) → AreHeld Above first 0 (replicate size 0)
+  held_none first size = record {
+    held = λ p some. let none = none_at size p in absurd (omega (arith, none));
+    each = λ i is_open. let from = is_open.from in let to = is_open.to in absurd (omega (arith, from, to));
+  }
+
+  pub latest_none : (first : ℕ → ℕ) (count : ℕ) (at : ℕ → ℕ) → ((p : ℕ) → at p ≡ 0) → AreLatest Above first count 0 at
+  latest_none first count at none m from to = record {
+    some = λ some. let nothing = none (first m) in absurd (omega (arith, nothing));
+    latest = λ i from to is. absurd (omega arith);
+  }
+
+  module _ (first end : ℕ → ℕ) (count : ℕ)
+      (spans : (i j : ℕ) → 1 ≤ i → i ≤ count → 1 ≤ j → j ≤ count → ((first i ≤ first j) × (first j < end i)) ↔ Above i j)
+      (filled : (i : ℕ) → 1 ≤ i → i ≤ count → first i < end i) (n : ℕ) (room : n + 1 ≤ count) where
+    -- what the next message takes
+    pub taken : (old new list : List ℕ) → AreHeld Above first n old → AreGathered (first (n + 1)) (end (n + 1)) old new list → AreTaken Above n list
+    taken old new list h gathers = record {
+      takes = λ k d within.
+          let i : ℕ = get_or list k d in
+          let at = gathers.only i (Contains-get_or list k d within) in
+          let p : ℕ = at.place in
+          let is : get_or old p 0 ≡ i = at.is in
+          let some : 0 < i = at.some in
+          let there = h.held p (omega arith) in
+          let is_open : IsOpen Above n i = subst (λ x. IsOpen Above n x) is there.0 in
+          let place : first i ≡ p = subst (λ x. first x ≡ p) is there.1 in
+          let low : first (n + 1) ≤ p = at.after in
+          let high : p < end (n + 1) = at.before in
+          let to : i ≤ n = is_open.to in
+          (is_open, (spans (n + 1) i (omega arith) room is_open.from (omega arith)).0 (omega arith, omega arith));
+      each = λ i is_open.
+          let from : 1 ≤ i = is_open.from in
+          let to : i ≤ n = is_open.to in
+          let law = spans (n + 1) i (omega arith) room from (omega arith) in
+          let here : get_or old (first i) 0 ≡ i = h.each i is_open in
+          elim (cases_lt (first i) (first (n + 1))) [
+            | inl before ↦ inr (λ is. let low : first (n + 1) ≤ first i = (law.1 is).0 in omega arith)
+            | inr low ↦ elim (cases_lt (first i) (end (n + 1))) [
+              | inl high ↦ inl (subst (λ x. Contains list x) here (gathers.takes (first i) low high (omega arith)))
+              | inr past ↦ inr (λ is. let high : first i < end (n + 1) = (law.1 is).1 in omega arith)
+            ]
+          ];
+      rising = gathers.rising;
+    }
+
+    -- what is held after it
+    pub held_more : (old new list : List ℕ) → first (n + 1) < length old → AreHeld Above first n old → AreGathered (first (n + 1)) (end (n + 1)) old new list
+        → AreHeld Above first (n + 1) (set new (first (n + 1)) (n + 1))
+    held_more old new list short h gathers =
+        let clears = gathers.clears in
+        let at = first (n + 1) in
+        let here : get_or (set new at (n + 1)) at 0 ≡ n + 1 = get_or-set_same new at (n + 1) 0 (omega (arith, clears.count)) in
+        let full : first (n + 1) < end (n + 1) = filled (n + 1) (omega arith) room in
+        record {
+          held = λ p some. elim (cases_eq p at) [
+            | inl same ↦
+                let is : n + 1 ≡ get_or (set new at (n + 1)) p 0 = sym here ∙ ap (λ x. get_or (set new at (n + 1)) x 0) (sym same) in
+                subst (λ x. IsOpen Above (n + 1) x × (first x ≡ p)) is (open_last n, sym same)
+            | inr other ↦
+                let kept : get_or (set new at (n + 1)) p 0 ≡ get_or new p 0 = get_or-set_other new at p (n + 1) 0 other in
+                held_other p (omega (arith, kept)) kept
+          ];
+          each = λ i is_open. elim (cases_eq i (n + 1)) [
+            | inl last ↦ subst (λ x. get_or (set new at (n + 1)) (first x) 0 ≡ x) (sym last) here
+            | inr other ↦
+                let there = open_before n i other is_open in
+                let from : 1 ≤ i = is_open.from in
+                let to : i ≤ n = there.0.to in
+                let law = spans (n + 1) i (omega arith) room from (omega arith) in
+                let old_at : get_or old (first i) 0 ≡ i = h.each i there.0 in
+                elim (cases_lt (first i) at) [
+                  | inl before ↦ get_or-set_other new at (first i) (n + 1) 0 (λ same. omega arith) ∙ clears.before (first i) before ∙ old_at
+                  | inr low ↦ elim (cases_lt (first i) (end (n + 1))) [
+                    | inl high ↦ absurd (there.1 (law.0 (low, high)))
+                    | inr past ↦ get_or-set_other new at (first i) (n + 1) 0 (λ same. omega arith) ∙ clears.after (first i) past ∙ old_at
+                  ]
+                ]
+          ];
+        }
+      where
+        held_outside : (p : ℕ) → (p < first (n + 1)) ⊎ (end (n + 1) ≤ p) → 0 < get_or old p 0
+            → IsOpen Above (n + 1) (get_or old p 0) × (first (get_or old p 0) ≡ p)
+        held_outside p outside some =
+            let there = h.held p some in
+            let place : first (get_or old p 0) ≡ p = there.1 in
+            let from : 1 ≤ get_or old p 0 = there.0.from in
+            let to : get_or old p 0 ≤ n = there.0.to in
+            let law = spans (n + 1) (get_or old p 0) (omega arith) room from (omega arith) in (
+              open_more n (get_or old p 0) there.0 (λ is.
+                  let run = law.1 is in
+                  let low : first (n + 1) ≤ first (get_or old p 0) = run.0 in
+                  let high : first (get_or old p 0) < end (n + 1) = run.1 in
+                  elim outside [ inl before ↦ omega arith | inr past ↦ omega arith ]),
+              place,
+            )
+
+        held_other : (p : ℕ) → 0 < get_or new p 0 → get_or (set new (first (n + 1)) (n + 1)) p 0 ≡ get_or new p 0
+            → IsOpen Above (n + 1) (get_or (set new (first (n + 1)) (n + 1)) p 0) × (first (get_or (set new (first (n + 1)) (n + 1)) p 0) ≡ p)
+        held_other p some kept = elim (cases_lt p (first (n + 1))) [
+          | inl before ↦
+              let same : get_or old p 0 ≡ get_or new p 0 = sym (gathers.clears.before p before) in
+              subst (λ x. IsOpen Above (n + 1) x × (first x ≡ p)) (same ∙ sym kept) (held_outside p (inl before) (omega (arith, same)))
+          | inr low ↦ elim (cases_lt p (end (n + 1))) [
+            | inl high ↦ let none : get_or new p 0 ≡ 0 = gathers.clears.cleared p low high in absurd (omega arith)
+            | inr past ↦
+                let same : get_or old p 0 ≡ get_or new p 0 = sym (gathers.clears.after p past) in
+                subst (λ x. IsOpen Above (n + 1) x × (first x ≡ p)) (same ∙ sym kept) (held_outside p (inr past) (omega (arith, same)))
+          ]
+        ]
+
+    -- what is noted after it
+    pub latest_next : (places blocks new_places new_blocks : List ℕ) → AreLatest Above first count n (noted_at places blocks)
+        → IsNoted (first (n + 1)) (end (n + 1)) (n + 1) places blocks new_places new_blocks
+        → AreLatest Above first count (n + 1) (noted_at new_places new_blocks)
+    latest_next places blocks new_places new_blocks h notes m from to =
+        let law = spans (n + 1) m (omega arith) room from to in
+        let before = h m from to in
+        elim (cases_lt (first m) (first (n + 1))) [
+          | inl early ↦
+              subst (λ x. IsLatest Above (n + 1) m x) (sym (notes.before (first m) early))
+              (latest_more n m (noted_at places blocks (first m)) (λ is. let low : first (n + 1) ≤ first m = (law.1 is).0 in omega arith) before)
+          | inr low ↦ elim (cases_lt (first m) (end (n + 1))) [
+            | inl high ↦ subst (λ x. IsLatest Above (n + 1) m x) (sym (notes.noted (first m) low high)) (latest_last n m (law.0 (low, high)))
+            | inr past ↦
+                subst (λ x. IsLatest Above (n + 1) m x) (sym (notes.after (first m) past))
+                (latest_more n m (noted_at places blocks (first m)) (λ is. let high : first m < end (n + 1) = (law.1 is).1 in omega arith) before)
+          ]
+        ]

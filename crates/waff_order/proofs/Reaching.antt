@@ -1,0 +1,122 @@
+-- What the tables and the lists hold after the first messages, and after one more.
+use Rattle.std.proofs.Common.{◌≡◌, ℕ, ◌+◌, ◌-◌, ◌*◌, ◌<◌, ◌≤◌, ◌↔◌, List, All, [], ◌∷◌, ◌++◌, length, set, replicate, arith, refl, ◌∙◌}
+use Rattle.std.proofs.lemmas.List.{length-append, length-set, length-replicate}
+use Rattle.waff_model.specs.Tree.{Node, IsTree}
+use Rattle.waff_model.specs.Places.{place_at, AreNested}
+use Rattle.waff_model.specs.declared.places.Place.{Place}
+use Rattle.waff_assign.specs.Order.{affinity_of}
+use Rattle.waff_order.specs.Needs.{IsWithinDepth}
+use Rattle.waff_order.specs.Cuts.{parts, AreCuts}
+use Rattle.waff_order.specs.Open.{IsAbove, AreTaken, IsLatest, chosen}
+use Rattle.waff_order.specs.Runs.{held, noted_at, AreGathered, AreNotes, IsNoted}
+use Rattle.waff_order.proofs.Parts.{parts_push, cuts_push}
+use Rattle.waff_order.proofs.Taking.{held-put, held-none}
+use Rattle.waff_order.proofs.Noting.{noted_nothing}
+use Rattle.waff_order.proofs.Holding.{AreHeld, AreLatest, held_none, latest_none, taken, held_more, latest_next}
+use Rattle.waff_order.proofs.Closure.{length-chosen, length-chosen_all}
+use Rattle.waff_order.proofs.UpTo.{AreNeedsUpTo, up_to_none, up_to_more, all_above}
+
+-- the place of the affinity of message i
+abbrev pub message_place : List Place → List ℕ → ℕ → Place
+message_place places assigned i = place_at places (affinity_of assigned i)
+
+abbrev pub first_of : List Place → List ℕ → ℕ → ℕ
+first_of places assigned i = (message_place places assigned i).first
+
+abbrev pub end_of : List Place → List ℕ → ℕ → ℕ
+end_of places assigned i = (message_place places assigned i).end
+
+-- what is known after n messages
+pub record IsReached (tree : List Node) (assigned : List ℕ) (places : List Place) (all ends messages noted noted_blocks : List ℕ) (n : ℕ) : Type 0 where
+  pub cuts : AreCuts all 0 ends
+  pub needs : AreNeedsUpTo tree assigned (parts all 0 ends) n
+  pub count : length messages ≡ length tree
+  pub holds : AreHeld (IsAbove tree assigned) (first_of places assigned) n messages
+  pub notes : AreNotes (length tree) n noted noted_blocks
+  pub latest : AreLatest (IsAbove tree assigned) (first_of places assigned) (length assigned) n (noted_at noted noted_blocks)
+  pub total : length all + held messages ≤ 2 * n
+  pub flat : IsWithinDepth tree 0 → length all + held messages ≤ n
+
+module _ (tree : List Node) (assigned : List ℕ) (places : List Place) (is_tree : IsTree tree) (nested : AreNested tree places)
+    (known : All (λ a. a < length tree) assigned) where
+  pub known_affinity : (i : ℕ) → 1 ≤ i → i ≤ length assigned → affinity_of assigned i < length tree
+  known_affinity i from to = known (i - 1) 0 (omega arith)
+
+  spans : (i j : ℕ) → 1 ≤ i → i ≤ length assigned → 1 ≤ j → j ≤ length assigned
+      → ((first_of places assigned i ≤ first_of places assigned j) × (first_of places assigned j < end_of places assigned i)) ↔ IsAbove tree assigned i j
+  spans i j i_from i_to j_from j_to =
+      nested.spans (affinity_of assigned i) (affinity_of assigned j) (known_affinity i i_from i_to) (known_affinity j j_from j_to)
+
+  filled : (i : ℕ) → 1 ≤ i → i ≤ length assigned → first_of places assigned i < end_of places assigned i
+  filled i from to = nested.filled (affinity_of assigned i) (known_affinity i from to)
+
+  pub reached_none : (noted noted_blocks : List ℕ) → AreNotes (length tree) 0 noted noted_blocks
+      → IsReached tree assigned places [] [] (replicate (length tree) 0) noted noted_blocks 0
+  reached_none noted noted_blocks notes =
+      let none = held-none (length tree) in
+      record {
+        cuts = refl;
+        needs = up_to_none tree assigned;
+        count = length-replicate (length tree) 0;
+        holds = held_none (IsAbove tree assigned) (first_of places assigned) (length tree);
+        notes = notes;
+        latest = latest_none (IsAbove tree assigned) (first_of places assigned) (length assigned) (noted_at noted noted_blocks)
+            (λ p. noted_nothing (length tree) p noted noted_blocks notes);
+        total = omega (arith, none);
+        flat = λ depth. omega (arith, none);
+      }
+
+  module _ (all ends messages noted noted_blocks : List ℕ) (n : ℕ) (room : n + 1 ≤ length assigned)
+      (h : IsReached tree assigned places all ends messages noted noted_blocks n) (left gathered : List ℕ)
+      (gathers : AreGathered (first_of places assigned (n + 1)) (end_of places assigned (n + 1)) messages left gathered) where
+    abbrev pub above : ℕ
+    above = noted_at noted noted_blocks (first_of places assigned (n + 1))
+
+    takes : AreTaken (IsAbove tree assigned) n gathered
+    takes = taken (IsAbove tree assigned) (first_of places assigned) (end_of places assigned) (length assigned) spans filled n room messages left gathered h.holds gathers
+
+    is_latest : IsLatest (IsAbove tree assigned) n (n + 1) above
+    is_latest = h.latest (n + 1) (omega arith) room
+
+    -- the needs of one message more
+    pub needs_count : length all + length (chosen gathered above) + held (set left (first_of places assigned (n + 1)) (n + 1)) ≤ 2 * (n + 1)
+    needs_count =
+        let few = length-chosen (IsAbove tree assigned) gathered above in
+        let put = held-put left (first_of places assigned (n + 1)) (n + 1) in
+        omega (arith, few, put, gathers.sum, h.total)
+
+    flat_count : IsWithinDepth tree 0 → length all + length (chosen gathered above) + held (set left (first_of places assigned (n + 1)) (n + 1)) ≤ n + 1
+    flat_count depth =
+        let few = length-chosen_all (IsAbove tree assigned) n gathered above
+        (λ i is_open.
+        let from : 1 ≤ i = is_open.from in
+        let to : i ≤ n = is_open.to in
+        all_above tree assigned is_tree depth known (n + 1) i (omega arith) room from (omega arith))
+        (λ i from to. let lead = h.needs.closed.leads i from to in (lead.0, lead.1))
+        takes is_latest in
+        let put = held-put left (first_of places assigned (n + 1)) (n + 1) in
+        omega (arith, few, put, gathers.sum, h.flat depth)
+
+    pub reached_more : (new_noted new_blocks : List ℕ) → AreNotes (length tree) (n + 1) new_noted new_blocks
+        → IsNoted (first_of places assigned (n + 1)) (end_of places assigned (n + 1)) (n + 1) noted noted_blocks new_noted new_blocks
+        → IsReached tree assigned places (all ++ chosen gathered above) (ends ++ length (all ++ chosen gathered above) ∷ [])
+        (set left (first_of places assigned (n + 1)) (n + 1)) new_noted new_blocks (n + 1)
+    reached_more new_noted new_blocks notes notes_more =
+        let more = chosen gathered above in
+        let at = first_of places assigned (n + 1) in
+        let within : affinity_of assigned (n + 1) < length tree = known_affinity (n + 1) (omega arith) room in
+        let short : end_of places assigned (n + 1) ≤ length tree = nested.few (affinity_of assigned (n + 1)) within in
+        let full : at < end_of places assigned (n + 1) = filled (n + 1) (omega arith) room in
+        let long : length (all ++ more) ≡ length all + length more = length-append all more in
+        record {
+          cuts = cuts_push all more 0 ends h.cuts;
+          needs = rw (parts_push all more 0 ends h.cuts) (up_to_more tree assigned (parts all 0 ends) gathered above n room h.needs takes is_latest);
+          count = length-set left at (n + 1) ∙ gathers.clears.count ∙ h.count;
+          holds = held_more (IsAbove tree assigned) (first_of places assigned) (end_of places assigned) (length assigned) spans filled n room messages left gathered
+              (omega (arith, h.count)) h.holds gathers;
+          notes = notes;
+          latest = latest_next (IsAbove tree assigned) (first_of places assigned) (end_of places assigned) (length assigned) spans filled n room noted noted_blocks new_noted new_blocks
+              h.latest notes_more;
+          total = let bound = needs_count in omega (arith, bound, long);
+          flat = λ depth. let bound = flat_count depth in omega (arith, bound, long);
+        }
