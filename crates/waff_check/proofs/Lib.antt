@@ -10,3 +10,4 @@ pub mod VerdictLaws
 pub mod LinkLaws
 pub mod PromiseLaws
 pub mod Uniqueness
+pub mod OwnLaws

@@ -5,3 +5,4 @@ pub mod Verdicts
 pub mod Shifts
 pub mod Promises
 pub mod Unique
+pub mod OwnPlans

@@ -4,12 +4,14 @@
 //! - `overlap`, `crowd`, `worker`, `told`, `totals`, `links`: one kind of fault each; `shifts`: whether any worker is wrong;
 //!   `ticks`: whether a tick is crowded.
 //! - `checking`: the check, over all kinds.
+//! - `own`, `unique`: laws of verdicts.
 #![tactic(auto)]
 
 mod checking;
 mod crowd;
 mod links;
 mod overlap;
+pub mod own;
 mod shifts;
 mod ticks;
 mod told;

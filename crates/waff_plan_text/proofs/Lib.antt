@@ -3,3 +3,4 @@ pub mod LineLaws
 pub mod WalkLaws
 pub mod SlotLaws
 pub mod PlanLaws
+pub mod WrittenPlans

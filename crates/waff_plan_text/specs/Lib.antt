@@ -7,3 +7,4 @@ pub mod Summaries
 pub mod PlanTexts
 pub mod Records
 pub mod Refusals
+pub mod Laws

@@ -12,11 +12,14 @@
 //! - `summary`, `closing`: the lines of the summary.
 //! - `given`: the plan that a text gives.
 //! - `reading`: the reader, over all records.
+//!
+//! `laws`: that what is written is read.
 #![tactic(auto)]
 
 mod closing;
 mod field;
 mod given;
+pub mod laws;
 mod lines;
 mod reading;
 mod records;

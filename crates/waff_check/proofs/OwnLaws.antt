@@ -1,0 +1,204 @@
+-- The verdicts on plans that tell what they are.
+use Rattle.std.proofs.Common.{◌≡◌, ℕ, ◌+◌, ◌-◌, ◌*◌, ◌<◌, ◌≤◌, inl, inr, List, length, map, cond, Option, Some, None, refl, sym, ap, ◌∙◌, arith, subst}
+use Rattle.std.specs.Prelude.{nat_le, nat_lt, ◌&&◌}
+use Rattle.std.proofs.lemmas.Bool.{cases_eq}
+use Rattle.std.proofs.lemmas.List.{get_or-map, length-map}
+use Rattle.std.proofs.lemmas.List.FromFn.{get_or-map-range_with_len, length-map-range_with_len}
+use Rattle.waff_model.specs.Tree.{Node}
+use Rattle.waff_model.specs.declared.message.Message.{Message}
+use Rattle.waff_model.specs.declared.message.Version.{Version}
+use Rattle.waff_assign.specs.Order.{IsOrdered}
+use Rattle.waff_plan.specs.Bound.{right_side}
+use Rattle.waff_plan.specs.Chain.{IsChain, chain_cost, chain_release}
+use Rattle.waff_plan.specs.Obeys.{Obeys}
+use Rattle.waff_plan.specs.Totals.{totals_of}
+use Rattle.waff_plan.specs.Unique.{AreSame}
+use Rattle.waff_plan.specs.Work.{Work, IsNumber, finish_of, length_of, numbers, total_of}
+use Rattle.waff_plan.specs.Workers.{running, runs_at}
+use Rattle.waff_plan.specs.declared.timing.Timing.{Timing}
+use Rattle.waff_plan.specs.declared.totals.Totals.{Totals}
+use Rattle.waff_plan.proofs.Ticks.{sum_by-numbers-le}
+use Rattle.waff_plan.proofs.Uniqueness.{same_length}
+use Rattle.waff_plan_text.specs.Given.{no_row, row_at}
+use Rattle.waff_plan_text.specs.Laws.{row_told}
+use Rattle.waff_plan_text.specs.Spelling.{no_worker}
+use Rattle.waff_plan_text.specs.declared.row.Row.{Row}
+use Rattle.waff_check.specs.Faults.{HasWrongWorker, IsCrowded, IsMisplaced, IsTaken, NoneOf, RunTogether}
+use Rattle.waff_check.specs.OwnPlans.{AreManned, OwnPlanIsShortest, OwnPlanIsWithinBound, claim_told, work_for}
+use Rattle.waff_check.specs.Shifts.{IsOneOf}
+use Rattle.waff_check.specs.Verdicts.{Claim, IsFaultless, start_in, worker_in}
+use Rattle.waff_check.proofs.LinkLaws.{chain-linked}
+
+-- the totals of plans with the same starts are equal
+pub totals_same : (workers : Option ℕ) (work : Work) (start other : ℕ → ℕ) (chain : List ℕ) → AreSame work start other
+    → totals_of workers work start chain ≡ totals_of workers work other chain
+totals_same None work start other chain same =
+    let totals : ℕ → Totals = λ n. record {
+      total = total_of work;
+      length = n;
+      release = chain_release work chain;
+      cost = chain_cost work chain;
+      left = n;
+      right = chain_release work chain + chain_cost work chain;
+    } in
+    ap totals (same_length work start other same)
+totals_same (Some k) work start other chain same =
+    let totals : ℕ → Totals = λ n. record {
+      total = total_of work;
+      length = n;
+      release = chain_release work chain;
+      cost = chain_cost work chain;
+      left = k * n;
+      right = right_side work k chain;
+    } in
+    ap totals (same_length work start other same)
+
+-- no more run at a tick under the same starts
+no_more_run : (work : Work) (start other : ℕ → ℕ) → AreSame work start other → (t : ℕ) → running work start t ≤ running work other t
+no_more_run work start other same t =
+    sum_by-numbers-le work (λ m. cond (runs_at work start t m) 1 0) (λ m. cond (runs_at work other t m) 1 0)
+    (λ m number.
+    let equal : cond {A = ℕ} (runs_at work start t m) 1 0 ≡ cond (runs_at work other t m) 1 0 =
+    ap (λ s. cond {A = ℕ} (nat_le s t && nat_lt t (s + work.cost m)) 1 0) (same m number) in
+    omega arith)
+
+-- messages run together under the same starts
+together_too : (work : Work) (start other : ℕ → ℕ) → AreSame work start other → (i j : ℕ) → IsNumber work i → IsNumber work j
+    → RunTogether work start i j → RunTogether work other i j
+together_too work start other same i j i_number j_number together =
+    let runs = λ (m s : ℕ). nat_le s together.0 && nat_lt together.0 (s + work.cost m) in
+    (together.0, ap (runs i) (sym (same i i_number)) ∙ together.1, ap (runs j) (sym (same j j_number)) ∙ together.2)
+
+uncrowded : (work : Work) (start : ℕ → ℕ) (workers : Option ℕ) → ((k : ℕ) → workers ≡ Some k → (t : ℕ) → running work start t ≤ k)
+    → NoneOf (IsCrowded work start workers)
+uncrowded work start None within t crowded = crowded
+uncrowded work start (Some k) within t crowded = let few = within k refl t in omega (arith, few, crowded)
+
+-- workers as they are, are right
+manned_for : (work : Work) (start : ℕ → ℕ) (worker told : ℕ → Option ℕ) (k n : ℕ) (w : Option ℕ) → told n ≡ w → IsOneOf k w
+    → ((i v : ℕ) → IsTaken work start told v n i → told n ≡ Some v → ⊥) → IsMisplaced work start told (Some k) n w → ⊥
+manned_for work start worker told k n None is one free wrong = one
+manned_for work start worker told k n (Some w) is one free wrong = elim wrong [
+  | inl none ↦ let from = one.0 in omega (arith, from, none)
+  | inr (inl past) ↦ let to = one.1 in omega (arith, to, past)
+  | inr (inr taken) ↦ free taken.0 w taken.1 is
+]
+
+right_workers : (work : Work) (start other : ℕ → ℕ) (worker told : ℕ → Option ℕ) (k : ℕ) → AreSame work other start
+    → ((n : ℕ) → IsNumber work n → told n ≡ worker n) → AreManned work start worker k → NoneOf (HasWrongWorker work other told (Some k))
+right_workers work start other worker told k same tells manned n wrong =
+    let number = wrong.number in
+    let to : n ≤ work.count = number.to in
+    manned_for work other worker told k n (told n) refl (subst (IsOneOf k) (sym (tells n number)) (manned.each n number))
+    (λ i v taken is.
+    let earlier : i < n = taken.earlier in
+    let i_number : IsNumber work i = record { from = taken.from; to = omega arith } in
+    manned.apart i n v i_number number earlier (sym (tells i i_number) ∙ taken.same) (sym (tells n number) ∙ is)
+    (together_too work other start same i n i_number number taken.together))
+    wrong.wrong
+
+no_workers : (work : Work) (start : ℕ → ℕ) (told : ℕ → Option ℕ) → ((n : ℕ) → IsNumber work n → told n ≡ None)
+    → NoneOf (HasWrongWorker work start told None)
+no_workers work start told tells n wrong =
+    subst (λ w. IsMisplaced work start told None n w) (tells n wrong.number) wrong.wrong
+
+module _ (tree : List Node) (assigned : List ℕ) (messages : List Message) (version : Version) (workers : Option ℕ) (start : ℕ → ℕ)
+    (worker : ℕ → Option ℕ) (chain : List ℕ) where
+  abbrev claim : Claim
+  claim = claim_told tree assigned messages version workers start worker chain
+
+  abbrev work : Work
+  work = work_for messages
+
+  -- the claim tells the rows
+  tells_row : (n : ℕ) → IsNumber work n → row_at claim.plan.rows n ≡ row_told tree assigned work start worker n
+  tells_row n number =
+      let from : 1 ≤ n = number.from in
+      let to : n ≤ work.count = number.to in
+      get_or-map-range_with_len (row_told tree assigned work start worker) 1 work.count (n - 1) n no_row (omega arith) (omega arith)
+
+  tells_start : AreSame work (start_in claim) start
+  tells_start n number =
+      let from : 1 ≤ n = number.from in
+      let to : n ≤ work.count = number.to in
+      get_or-map (λ (row : Row). row.start) (map (row_told tree assigned work start worker) (numbers work)) (n - 1) no_row 0
+      (omega (arith, length-map-range_with_len (row_told tree assigned work start worker) 1 work.count))
+      ∙ ap (λ (row : Row). row.start) (tells_row n number)
+
+  tells_back : AreSame work start (start_in claim)
+  tells_back n number = sym (tells_start n number)
+
+  tells_worker : (n : ℕ) → IsNumber work n → worker_in claim.plan n ≡ worker n
+  tells_worker n number = ap (λ (row : Row). row.worker) (tells_row n number)
+
+  -- a claim of an obeying plan with its chain has no fault
+  no_fault : length assigned ≡ length messages → Obeys (IsOrdered tree assigned) work start → IsChain (IsOrdered tree assigned) work chain
+      → ((k : ℕ) → workers ≡ Some k → (t : ℕ) → running work start t ≤ k)
+      → NoneOf (HasWrongWorker work (start_in claim) (worker_in claim.plan) workers) → IsFaultless claim
+  no_fault count obeys is_chain within manned = record {
+    linked = record {
+      summed = record {
+        finished = record {
+          named = record {
+            manned = record {
+              roomy = record {
+                orderly = record {
+                  pairs = λ i j overlap.
+                      let from : 1 ≤ i = overlap.ordered.from in
+                      let earlier : i < j = overlap.ordered.earlier in
+                      let to : j ≤ length assigned = overlap.ordered.to in
+                      let all : work.count ≡ length messages = length-map messages (λ (message : Message). let t : Timing = record { cost = message.cost; release = message.release } in t) in
+                      let one : start_in claim i ≡ start i = tells_start i (record { from = from; to = omega arith }) in
+                      let other : start_in claim j ≡ start j = tells_start j (record { from = omega arith; to = omega arith }) in
+                      let after : finish_of work start i ≤ start j = obeys.ordered i j overlap.ordered in
+                      let early : start_in claim j < finish_of work (start_in claim) i = overlap.early in
+                      omega (arith, one, other, after, early);
+                };
+                ticks = uncrowded work (start_in claim) workers
+                    (λ k is t. let few = within k is t in let same = no_more_run work (start_in claim) start tells_start t in omega (arith, few, same));
+              };
+              workers = manned;
+            };
+            names = λ n wrong. wrong.wrong (ap (λ (row : Row). row.affinity) (tells_row n wrong.number));
+          };
+          finishes = λ n wrong. wrong.wrong
+              (ap (λ (row : Row). row.finish) (tells_row n wrong.number) ∙ ap (λ s. s + work.cost n) (tells_back n wrong.number));
+        };
+        sums = totals_same workers work start (start_in claim) chain tells_back;
+      };
+      links = chain-linked (IsOrdered tree assigned) work chain is_chain;
+    };
+    starts = λ n early.
+        let same : start_in claim n ≡ start n = tells_start n early.number in
+        let released : work.release n ≤ start n = obeys.released n early.number in
+        let sooner : start_in claim n < work.release n = early.early in
+        omega (arith, same, released, sooner);
+  }
+
+pub own_plan_is_shortest : (tree : List Node) (assigned : List ℕ) (messages : List Message) (version : Version) (start : ℕ → ℕ) (chain : List ℕ)
+    → OwnPlanIsShortest tree assigned messages version start chain
+own_plan_is_shortest tree assigned messages version start chain count obeys is_chain as_long =
+    let told = claim_told tree assigned messages version None start no_worker chain in (
+      no_fault tree assigned messages version None start no_worker chain count obeys is_chain (λ k none. absurd (cc))
+          (no_workers (work_for messages) (start_in told) (worker_in told.plan) (tells_worker tree assigned messages version None start no_worker chain)),
+      as_long ∙ same_length (work_for messages) start (start_in told) (tells_back tree assigned messages version None start no_worker chain),
+    )
+
+pub own_plan_is_within_bound : (tree : List Node) (assigned : List ℕ) (messages : List Message) (version : Version) (k : ℕ) (start : ℕ → ℕ)
+    (worker : ℕ → Option ℕ) (chain : List ℕ) → OwnPlanIsWithinBound tree assigned messages version k start worker chain
+own_plan_is_within_bound tree assigned messages version k start worker chain count plan manned is_chain bound =
+    let told = claim_told tree assigned messages version (Some k) start worker chain in
+    let all = work_for messages in
+    let same = tells_start tree assigned messages version (Some k) start worker chain in
+    let good : IsFaultless told =
+    no_fault tree assigned messages version (Some k) start worker chain count plan.obeys is_chain
+    (λ j is t. subst (λ n. running all start t ≤ n) (some_is k j is) (plan.within t))
+    (right_workers all start (start_in told) worker (worker_in told.plan) k same (tells_worker tree assigned messages version (Some k) start worker chain) manned) in
+    let kept = subst (λ n. k * n ≤ right_side all k chain) (same_length all start (start_in told) (tells_back tree assigned messages version (Some k) start worker chain)) bound in
+    elim (cases_eq (chain_release all chain + chain_cost all chain) (length_of all (start_in told))) [
+      | inl as_long ↦ inl (good, as_long)
+      | inr shorter ↦ inr (good, (shorter, kept))
+    ]
+  where
+    some_is : (k j : ℕ) → Some k ≡ Some j → k ≡ j
+    some_is k j is = cc
