@@ -3,6 +3,7 @@ pub mod DocumentLemmas
 pub mod HierarchyLemmas
 pub mod LevelLemmas
 pub mod NameLemmas
+pub mod SpaceLemmas
 pub mod MessageLaws
 pub mod TraceLaws
 pub mod OpsLaws

@@ -2,8 +2,8 @@
 //!
 //! - `hierarchy`: the reader of hierarchies, over `document` (the values of a TOML document), `shape` (the keys and their
 //!   types), `affinities` (the tree) and `spaces` (the rows of a layout); `hier_error` has what it refuses.
-//! - `trace`: the reader of traces, over `message` (one record), `ops` (the operations of a message) and `op` (one
-//!   operation); `trace_fault` has what it refuses.
+//! - `trace`: the reader of traces, over `message` (one record), `ops` (the operations of a message), `op` (one operation)
+//!   and `space_table` (the spaces by name); `trace_fault` has what it refuses.
 //! - `laws`: what holds of all files that are accepted or refused; `limit_laws`: that what is read is within the limits.
 //!
 //! What the files stand for is defined in `specs/`. Of a hierarchy: `Hierarchies` (whole files), over `Documents`, `Shapes`,
@@ -22,6 +22,7 @@ mod names;
 mod op;
 mod ops;
 mod shape;
+mod space_table;
 mod spaces;
 mod trace;
 mod trace_fault;

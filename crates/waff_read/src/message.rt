@@ -7,11 +7,12 @@ ghost use Rattle.waff_parse.specs.Stopping.{Gives};
 ghost use Rattle.waff_read.specs.Messages as messages;
 
 use crate::ops::read_ops;
+use crate::space_table::SpaceTable;
 use crate::trace_fault::TraceFault;
 use csv::StringRecord;
 use std::alloc::Global;
 use waff_model::limits::{MAX_COST, MAX_MESSAGES, MAX_RELEASE};
-use waff_model::{Layout, Message, Text, Version, is_name};
+use waff_model::{Message, Text, Version, is_name};
 use waff_parse::{Stop, four_fields, number_within, three_fields};
 
 // Whether a record is the header of the first version.
@@ -76,14 +77,14 @@ fn read_release(text: Option<&str>) -> Result<u32, TraceFault>
 #[tactic(auto, unfolding(crate::specs::Messages::message_of_fields))]
 fn message_of_fields(
     alloc: Global,
-    layout: &Layout,
+    spaces: &SpaceTable<'_>,
     at: u32,
     name: &str,
     cost: &str,
     release: Option<&str>,
     ops: &str,
 ) -> Result<Message, Stop<TraceFault>>
-    ensures { Gives (λ m. m) result (messages.message_of_fields layout.now.spaces at name.now cost.now (option_map (λ s. s.now) release.entry) ops.now) }
+    ensures { Gives (λ m. m) result (messages.message_of_fields spaces.now at name.now cost.now (option_map (λ s. s.now) release.entry) ops.now) }
 {
     if !is_name(name) {
         return Err(Stop::Fault(TraceFault::Name));
@@ -92,7 +93,7 @@ fn message_of_fields(
         Ok(cost) => cost,
         Err(fault) => return Err(Stop::Fault(fault)),
     };
-    let ops = read_ops(alloc, layout, ops)?;
+    let ops = read_ops(alloc, spaces, ops)?;
     if MAX_MESSAGES as u32 + 1 < at {
         return Err(Stop::Fault(TraceFault::TooManyMessages));
     }
@@ -111,23 +112,23 @@ fn message_of_fields(
 /// The message of the record with this number.
 pub(crate) fn read_message(
     alloc: Global,
-    layout: &Layout,
+    spaces: &SpaceTable<'_>,
     version: Version,
     at: u32,
     row: &StringRecord,
 ) -> Result<Message, Stop<TraceFault>>
-    ensures { Gives (λ m. m) result (messages.message_of version layout.now.spaces at (fields_of row.now)) }
+    ensures { Gives (λ m. m) result (messages.message_of version spaces.now at (fields_of row.now)) }
 {
     match version {
         Version::V1 => match three_fields(row) {
             Some((name, cost, ops)) => {
-                message_of_fields(alloc, layout, at, name, cost, None, ops)
+                message_of_fields(alloc, spaces, at, name, cost, None, ops)
             }
             None => Err(Stop::Fault(TraceFault::Fields)),
         },
         Version::V2 => match four_fields(row) {
             Some((name, cost, release, ops)) => {
-                message_of_fields(alloc, layout, at, name, cost, Some(release), ops)
+                message_of_fields(alloc, spaces, at, name, cost, Some(release), ops)
             }
             None => Err(Stop::Fault(TraceFault::Fields)),
         },

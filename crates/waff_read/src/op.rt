@@ -4,16 +4,17 @@ ghost use Rattle.std.specs.Prelude.{ℕ, ◌≡◌, ◌<◌, length};
 ghost use Rattle.waff_parse.specs.Texts.{small};
 ghost use Rattle.waff_read.specs.Ops as ops;
 
+use crate::space_table::SpaceTable;
 use crate::trace_fault::TraceFault;
-use waff_model::{Cell, Layout, Op, is_name};
+use waff_model::{Cell, Op, is_name};
 use waff_parse::{cut, number, pair};
 
 // The cell with this index in a space; none is the index where it is 2^64 or more.
-fn cell_in(layout: &Layout, space: u32, index: Option<u64>) -> Result<Cell, TraceFault>
-    requires { space < length layout.now.spaces }
-    ensures { (n : ℕ) → index ≡ small n → result ≡ ops.cell_in layout.now.spaces space n }
+fn cell_in(spaces: &SpaceTable<'_>, space: u32, index: Option<u64>) -> Result<Cell, TraceFault>
+    requires { space < length spaces.now }
+    ensures { (n : ℕ) → index ≡ small n → result ≡ ops.cell_in spaces.now space n }
 {
-    let size = layout.space_size(space);
+    let size = spaces.size(space);
     let Some(index) = index else {
         return Err(TraceFault::IndexTooLarge);
     };
@@ -28,8 +29,8 @@ fn cell_in(layout: &Layout, space: u32, index: Option<u64>) -> Result<Cell, Trac
 }
 
 // The cell of a name and an index.
-fn named_cell(layout: &Layout, name: &str, index: &str) -> Result<Cell, TraceFault>
-    ensures { result ≡ ops.cell_of_name layout.now.spaces name.now index.now }
+fn named_cell(spaces: &SpaceTable<'_>, name: &str, index: &str) -> Result<Cell, TraceFault>
+    ensures { result ≡ ops.cell_of_name spaces.now name.now index.now }
 {
     if !is_name(name) {
         return Err(TraceFault::Op);
@@ -37,16 +38,16 @@ fn named_cell(layout: &Layout, name: &str, index: &str) -> Result<Cell, TraceFau
     let Some(index) = number(index) else {
         return Err(TraceFault::Op);
     };
-    let Some(space) = layout.find_space(name) else {
+    let Some(space) = spaces.find(name) else {
         return Err(TraceFault::SpaceUnknown);
     };
-    cell_in(layout, space, index)
+    cell_in(spaces, space, index)
 }
 
 // The cell that a text spells.
 #[tactic(auto, unfolding(crate::specs::Ops::cell_of))]
-fn read_cell(layout: &Layout, text: &str) -> Result<Cell, TraceFault>
-    ensures { result ≡ ops.cell_of layout.now.spaces text.now }
+fn read_cell(spaces: &SpaceTable<'_>, text: &str) -> Result<Cell, TraceFault>
+    ensures { result ≡ ops.cell_of spaces.now text.now }
 {
     let (name, rest) = cut(text, ':');
     match rest {
@@ -54,7 +55,7 @@ fn read_cell(layout: &Layout, text: &str) -> Result<Cell, TraceFault>
         Some(rest) => {
             let (index, more) = cut(rest, ':');
             match more {
-                None => named_cell(layout, name, index),
+                None => named_cell(spaces, name, index),
                 Some(_) => Err(TraceFault::Op),
             }
         }
@@ -75,35 +76,40 @@ fn read_value(text: &str) -> Result<u64, TraceFault>
 
 // The operation of a verb and one word.
 #[tactic(auto, unfolding(crate::specs::Ops::op_of_one))]
-fn read_one(layout: &Layout, verb: &str, cell: &str) -> Result<Op, TraceFault>
-    ensures { result ≡ ops.op_of_one layout.now.spaces verb.now cell.now }
+fn read_one(spaces: &SpaceTable<'_>, verb: &str, cell: &str) -> Result<Op, TraceFault>
+    ensures { result ≡ ops.op_of_one spaces.now verb.now cell.now }
 {
     if verb != "read" {
         return Err(TraceFault::Op);
     }
-    let cell = read_cell(layout, cell)?;
+    let cell = read_cell(spaces, cell)?;
     Ok(Op::Read { cell })
 }
 
 // The operation of a verb and two words.
 #[tactic(auto, unfolding(crate::specs::Ops::op_of_two))]
-fn read_two(layout: &Layout, verb: &str, first: &str, second: &str) -> Result<Op, TraceFault>
-    ensures { result ≡ ops.op_of_two layout.now.spaces verb.now first.now second.now }
+fn read_two(
+    spaces: &SpaceTable<'_>,
+    verb: &str,
+    first: &str,
+    second: &str,
+) -> Result<Op, TraceFault>
+    ensures { result ≡ ops.op_of_two spaces.now verb.now first.now second.now }
 {
     if verb == "set" {
-        let (cell, value) = pair(read_cell(layout, first), read_value(second))?;
+        let (cell, value) = pair(read_cell(spaces, first), read_value(second))?;
         return Ok(Op::Set { cell, value });
     }
     if verb == "add" {
-        let (cell, value) = pair(read_cell(layout, first), read_value(second))?;
+        let (cell, value) = pair(read_cell(spaces, first), read_value(second))?;
         return Ok(Op::Add { cell, value });
     }
     if verb == "copy" {
-        let (cell, source) = pair(read_cell(layout, first), read_cell(layout, second))?;
+        let (cell, source) = pair(read_cell(spaces, first), read_cell(spaces, second))?;
         return Ok(Op::Copy { cell, source });
     }
     if verb == "swap" {
-        let (cell, other) = pair(read_cell(layout, first), read_cell(layout, second))?;
+        let (cell, other) = pair(read_cell(spaces, first), read_cell(spaces, second))?;
         return Ok(Op::Swap { cell, other });
     }
     Err(TraceFault::Op)
@@ -111,16 +117,16 @@ fn read_two(layout: &Layout, verb: &str, first: &str, second: &str) -> Result<Op
 
 // The operation of a verb and the words after it.
 #[tactic(auto, unfolding(crate::specs::Ops::op_of_verb))]
-fn read_words(layout: &Layout, verb: &str, words: &str) -> Result<Op, TraceFault>
-    ensures { result ≡ ops.op_of_verb layout.now.spaces verb.now words.now }
+fn read_words(spaces: &SpaceTable<'_>, verb: &str, words: &str) -> Result<Op, TraceFault>
+    ensures { result ≡ ops.op_of_verb spaces.now verb.now words.now }
 {
     let (first, rest) = cut(words, ' ');
     match rest {
-        None => read_one(layout, verb, first),
+        None => read_one(spaces, verb, first),
         Some(rest) => {
             let (second, rest) = cut(rest, ' ');
             match rest {
-                None => read_two(layout, verb, first, second),
+                None => read_two(spaces, verb, first, second),
                 Some(_) => Err(TraceFault::Op),
             }
         }
@@ -129,12 +135,12 @@ fn read_words(layout: &Layout, verb: &str, words: &str) -> Result<Op, TraceFault
 
 /// The operation that a piece spells.
 #[tactic(auto, unfolding(crate::specs::Ops::op_of, crate::specs::Ops::op_of_verb))]
-pub(crate) fn read_op(layout: &Layout, piece: &str) -> Result<Op, TraceFault>
-    ensures { result ≡ ops.op_of layout.now.spaces piece.now }
+pub(crate) fn read_op(spaces: &SpaceTable<'_>, piece: &str) -> Result<Op, TraceFault>
+    ensures { result ≡ ops.op_of spaces.now piece.now }
 {
     let (verb, rest) = cut(piece, ' ');
     match rest {
         None => Err(TraceFault::Op),
-        Some(words) => read_words(layout, verb, words),
+        Some(words) => read_words(spaces, verb, words),
     }
 }

@@ -8,10 +8,11 @@ ghost use Rattle.waff_read.specs.Ops as ops;
 ghost use Rattle.waff_read.specs.TraceFaults.{number};
 
 use crate::op::read_op;
+use crate::space_table::SpaceTable;
 use crate::trace_fault::TraceFault;
 use std::alloc::{AllocError, Global};
 use waff_model::limits::MAX_OPS;
-use waff_model::{Layout, Op, Ops};
+use waff_model::{Op, Ops};
 use waff_parse::{Stop, least};
 
 // Adds an operation to those that are kept: the first ones, as far as one above the limit.
@@ -48,27 +49,31 @@ fn with_op(
 // The operations of the pieces of a text, as far as one above the limit.
 fn read_pieces(
     alloc: Global,
-    layout: &Layout,
+    spaces: &SpaceTable<'_>,
     text: &str,
 ) -> Result<Result<Ops, TraceFault>, AllocError>
-    ensures { IfOk result (λ r. r ≡ ops.first_ops (ops.pieces_of layout.now.spaces text.now)) }
+    ensures { IfOk result (λ r. r ≡ ops.first_ops (ops.pieces_of spaces.now text.now)) }
 {
     let mut list = Ok(Ops::new(alloc));
     for piece in text.split(';') {
-        list = with_op(list, read_op(layout, piece))?;
+        list = with_op(list, read_op(spaces, piece))?;
     }
     Ok(list)
 }
 
 /// The operations of a message.
 #[tactic(auto, unfolding(crate::specs::Ops::ops_of))]
-pub(crate) fn read_ops(alloc: Global, layout: &Layout, text: &str) -> Result<Ops, Stop<TraceFault>>
-    ensures { Gives (λ list. list) result (ops.ops_of layout.now.spaces text.now) }
+pub(crate) fn read_ops(
+    alloc: Global,
+    spaces: &SpaceTable<'_>,
+    text: &str,
+) -> Result<Ops, Stop<TraceFault>>
+    ensures { Gives (λ list. list) result (ops.ops_of spaces.now text.now) }
 {
     if text.is_empty() {
         return Err(Stop::Fault(TraceFault::NoOps));
     }
-    match read_pieces(alloc, layout, text)? {
+    match read_pieces(alloc, spaces, text)? {
         Ok(list) => {
             if MAX_OPS < list.len() {
                 Err(Stop::Fault(TraceFault::TooManyOps))

@@ -7,6 +7,7 @@ ghost use Rattle.waff_parse.specs.Stopping.{Gives};
 ghost use Rattle.waff_read.specs.Traces as traces;
 
 use crate::message::{read_message, read_version};
+use crate::space_table::SpaceTable;
 use crate::trace_fault::{TraceError, TraceFault};
 use csv::{Reader, StringRecord};
 use std::alloc::Global;
@@ -34,18 +35,18 @@ fn read_header(rdr: &mut Reader<&[u8]>, row: &mut StringRecord) -> Result<Versio
 // The message of the next record, whose number this is, if there is one.
 fn next_message(
     alloc: Global,
-    layout: &Layout,
+    spaces: &SpaceTable<'_>,
     version: Version,
     at: u32,
     rdr: &mut Reader<&[u8]>,
     row: &mut StringRecord,
 ) -> Result<Option<Message>, Stop<TraceError>>
     requires { Reads rdr.old }
-    ensures message { traces.GivesMessage version layout.now.spaces at result (records_left rdr.old) (records_left rdr.new) }
+    ensures message { traces.GivesMessage version spaces.now at result (records_left rdr.old) (records_left rdr.new) }
     ensures reads { OnOk result (Reads rdr.new) }
 {
     match next_text(rdr, row) {
-        Ok(true) => match read_message(alloc, layout, version, at, row) {
+        Ok(true) => match read_message(alloc, spaces, version, at, row) {
             Ok(message) => Ok(Some(message)),
             Err(Stop::Memory) => Err(Stop::Memory),
             Err(Stop::Fault(fault)) => Err(Stop::Fault(fault.at_record(at))),
@@ -59,17 +60,17 @@ fn next_message(
 // The trace of the messages that are left.
 fn read_messages(
     alloc: Global,
-    layout: &Layout,
+    spaces: &SpaceTable<'_>,
     version: Version,
     rdr: &mut Reader<&[u8]>,
     row: &mut StringRecord,
 ) -> Result<Trace, Stop<TraceError>>
     requires { Reads rdr.old }
-    ensures { Gives (λ trace. trace) result (traces.trace_of_rows version layout.now.spaces (records_left rdr.old)) }
+    ensures { Gives (λ trace. trace) result (traces.trace_of_rows version spaces.now (records_left rdr.old)) }
 {
-    let mut trace = Trace::with_version(alloc, layout, version)?;
+    let mut trace = Trace::with_version(alloc, spaces.layout(), version)?;
     let mut at = 2;
-    while let Some(message) = next_message(alloc, layout, version, at, rdr, row)? {
+    while let Some(message) = next_message(alloc, spaces, version, at, rdr, row)? {
         trace.push(message)?;
         at += 1;
     }
@@ -81,10 +82,11 @@ fn read_messages(
 fn trace_of(alloc: Global, layout: &Layout, bytes: &[u8]) -> Result<Trace, Stop<TraceError>>
     ensures { Gives (λ trace. trace) result (traces.trace_of layout.now.spaces bytes.now) }
 {
+    let spaces = SpaceTable::new(alloc, layout)?;
     let mut rdr = text_rows(alloc, bytes);
     let mut row = StringRecord::new(alloc);
     let version = read_header(&mut rdr, &mut row)?;
-    read_messages(alloc, layout, version, &mut rdr, &mut row)
+    read_messages(alloc, &spaces, version, &mut rdr, &mut row)
 }
 
 /// The trace that the bytes spell, for cells of the layout: CSV with a header, and then a record for each message.

@@ -20,7 +20,7 @@ with_op-requires c = rw c.loop-piece.invariant (first_ops-few _)
 pub loop-piece-preserved : goal.loop-piece-preserved
 loop-piece-preserved c =
     let now : Bor (List ℕ) → List ℕ = λ piece. piece.now in
-    let read = op_of c.args.layout.now.spaces in
+    let read = op_of c.args.spaces.now in
     let before = gather number read (map now c.loop-piece.yielded) in
     let step = c.in_ok-list.ensures in
     let kept = first_ops-both before c.read_op.result in

@@ -5,4 +5,4 @@ use Rattle.waff_read.specs.TraceFaults.{number}
 use Rattle.waff_read.proofs.ops.read_pieces.Given as goal
 
 abbrev pub invariant-loop-piece : goal.invariant-loop-piece
-invariant-loop-piece l = l.list ≡ first_ops (gather number (op_of l.layout.spaces) (map (λ piece. piece.now) l.yielded))
+invariant-loop-piece l = l.list ≡ first_ops (gather number (op_of l.spaces) (map (λ piece. piece.now) l.yielded))

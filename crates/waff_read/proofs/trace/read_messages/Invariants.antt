@@ -10,11 +10,11 @@ abbrev pub invariant-loop-trace : goal.invariant-loop-trace
 invariant-loop-trace l = record {
   reads : Reads l.rdr;
   version : l.trace.version ≡ l.version;
-  sizes : l.trace.sizes ≡ sizes_of l.layout.spaces;
+  sizes : l.trace.sizes ≡ sizes_of l.spaces;
   number : l.at ≡ length l.trace.messages + 2;
   few : l.at ≤ MAX_MESSAGES + 2;
-  messages : with_front l.trace.messages (messages_at l.version l.layout.spaces l.at (records_left l.rdr))
-      ≡ messages_at l.version l.layout.spaces 2 (records_left l.initial.rdr);
+  messages : with_front l.trace.messages (messages_at l.version l.spaces l.at (records_left l.rdr))
+      ≡ messages_at l.version l.spaces 2 (records_left l.initial.rdr);
 }
 
 abbrev pub decreases-loop-trace : goal.decreases-loop-trace

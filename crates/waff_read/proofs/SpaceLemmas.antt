@@ -1,0 +1,47 @@
+-- The names of spaces, and the space of a name.
+use Rattle.std.proofs.Common.{◌≡◌, ◌≢◌, ℕ, ◌+◌, ◌<◌, List, [], ◌∷◌, ◌++◌, length, map, take, get_or, Option, Some, None, slice_get, position, refl, sym, ap, ◌∙◌, arith}
+use Rattle.std.specs.Prelude.{AllPairs}
+use Rattle.std.specs.List.{position_or_len}
+use Rattle.std.specs.Str.{bytes_eq}
+use Rattle.std.proofs.lemmas.Bool.{false_from_ne_true}
+use Rattle.std.proofs.lemmas.Bool.Decides.{nat_tests}
+use Rattle.std.proofs.lemmas.List.{get_or-take, length-take, map_push, take_more}
+use Rattle.std.proofs.lemmas.List.Sums.{position_or_len_is}
+use Rattle.std.proofs.lemmas.Option.{slice_get-get_or}
+use Rattle.std.proofs.lemmas.Slice.Eq.{bytes_eq-Decides}
+use Rattle.waff_model.specs.Layout.{Space, name_at, names_of, space_named}
+use Rattle.waff_read.proofs.NameLemmas.{position_map}
+
+-- the place of a name is the number of the space of this name
+pub place_of_name : (spaces : List Space) (name : List ℕ) → position (bytes_eq name) (names_of spaces) ≡ space_named spaces name
+place_of_name spaces name = position_map (bytes_eq name) (λ (space : Space). space.name) spaces
+
+abbrev no_space : Space
+no_space = record { name = []; size = 0; unit = 0; to = [] }
+
+name_there : (spaces : List Space) (s : ℕ) (name : List ℕ) → s < length spaces → name_at spaces s ≡ Some name → (get_or spaces s no_space).name ≡ name
+name_there spaces s name inside is =
+    let here : Some (get_or spaces s no_space).name ≡ Some name = rw (slice_get-get_or spaces s no_space inside) at is in
+    cc
+
+-- no space before another has its name
+pub no_earlier : (spaces : List Space) (s : ℕ) (name : List ℕ) → AllPairs (λ (a b : Space). a.name ≢ b.name) spaces → s < length spaces → name_at spaces s ≡ Some name
+    → position (bytes_eq name) (names_of (take s spaces)) ≡ None
+no_earlier spaces s name different inside is =
+    let there = name_there spaces s name inside is in
+    let before = take s spaces in
+    let all : length before ≡ s = omega (arith, length-take s spaces) in
+    let past : position_or_len (λ (space : Space). bytes_eq name space.name) before ≡ length before =
+    position_or_len_is (λ (space : Space). bytes_eq name space.name) before (length before) no_space (omega arith)
+    (λ k below. false_from_ne_true _ (λ same.
+    let at_k : get_or before k no_space ≡ get_or spaces k no_space = get_or-take s spaces k no_space (omega arith) in
+    different k s no_space (omega arith) inside
+    (ap (λ (space : Space). space.name) (sym at_k) ∙ (sym ((bytes_eq-Decides name (get_or before k no_space).name).0 same) ∙ sym there))))
+    (λ within. absurd (omega arith)) in
+    place_of_name before name ∙ grind (arith, nat_tests, past)
+
+-- one name more
+pub names_more : (spaces : List Space) (s : ℕ) (name : List ℕ) → s < length spaces → name_at spaces s ≡ Some name
+    → names_of (take s spaces) ++ name ∷ [] ≡ names_of (take (s + 1) spaces)
+names_more spaces s name inside is =
+    rw (take_more spaces s no_space inside, map_push (λ (space : Space). space.name) (take s spaces) (get_or spaces s no_space), name_there spaces s name inside is) refl

@@ -1,0 +1,74 @@
+//! The spaces of a layout, found by name in one step.
+
+ghost use Rattle.std.specs.Prelude.{◌≡◌, ◌<◌, length, IfOk, IfSome};
+ghost use Rattle.waff_model.specs.Layout.{IsLayout, names_of, size_at, space_named};
+
+use crate::names::Names;
+use std::alloc::{AllocError, Global};
+use std::marker::Model;
+use waff_model::Layout;
+
+/// A layout, with a table of the names of its spaces.
+#[derive(Drop)]
+pub(crate) struct SpaceTable<'a> {
+    layout: &'a Layout,
+    names: Names,
+}
+
+impl<'a> Model for SpaceTable<'a> {
+    ghost use Rattle.std.specs.Prelude.{◌≡◌, List};
+    ghost use Rattle.waff_model.specs.Layout.{IsLayout, Space, names_of};
+
+    ghost Value = { List Space };
+
+    ghost view = { λ t. t.layout.now.spaces };
+
+    ghost invariant = { λ t. IsLayout t.layout.now × (t.names ≡ names_of t.layout.now.spaces) };
+}
+
+impl<'a> SpaceTable<'a> {
+    pub(crate) fn new(alloc: Global, layout: &'a Layout) -> Result<Self, AllocError>
+        ensures { IfOk result (λ table. table ≡ layout.now.spaces) }
+    {
+        let names = space_names(alloc, layout)?;
+        Ok(SpaceTable { layout, names })
+    }
+
+    pub(crate) fn layout(&self) -> &Layout
+        ensures { result.now.spaces ≡ self.now }
+    {
+        self.layout
+    }
+
+    /// The number of the space with this name.
+    pub(crate) fn find(&self, name: &str) -> Option<u32>
+        ensures found { result ≡ space_named self.now name.now }
+        ensures within { IfSome result (λ s. s < length self.now) }
+    {
+        match self.names.number(name) {
+            Some(s) => Some(s as u32),
+            None => None,
+        }
+    }
+
+    /// The size of the space with this number, in cells.
+    pub(crate) fn size(&self, s: u32) -> u32
+        requires { s < length self.now }
+        ensures { result ≡ size_at self.now s }
+    {
+        let layout = self.layout;
+        layout.space_size(s)
+    }
+}
+
+/// The names of the spaces, in their order.
+fn space_names(alloc: Global, layout: &Layout) -> Result<Names, AllocError>
+    ensures names { IfOk result (λ names. names ≡ names_of layout.now.spaces) }
+    ensures layout { IsLayout layout.now }
+{
+    let mut names = Names::new(alloc);
+    for s in 0..layout.space_count() {
+        names.push(layout.space_name(s))?;
+    }
+    Ok(names)
+}
