@@ -10,3 +10,4 @@ pub mod OrderKept
 pub mod Linkings
 pub mod Ratios
 pub mod Uniqueness
+pub mod Shares

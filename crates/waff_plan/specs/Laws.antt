@@ -1,5 +1,5 @@
 -- What holds of all plans, whoever made them.
-use Rattle.std.specs.Prelude.{◌≡◌, ℕ, ◌+◌, ◌*◌, ◌≤◌, List}
+use Rattle.std.specs.Prelude.{◌≡◌, ℕ, ◌+◌, ◌*◌, ◌/◌, ◌%◌, ◌≤◌, max, min, List}
 use Rattle.waff_plan.specs.Work.{Work, length_of, total_of}
 use Rattle.waff_plan.specs.Obeys.{Obeys, IsLeast}
 use Rattle.waff_plan.specs.Chain.{IsChain, IsPrinted, chain_cost, chain_release}
@@ -39,3 +39,17 @@ abbrev pub LeastIsNoLonger : (ℕ → ℕ → Type 0) → (ℕ → ℕ → Type 
 LeastIsNoLonger before other_before work =
     (start other : ℕ → ℕ) → IsLeast before work start → IsLeast other_before work other
     → length_of work start ≤ length_of work other
+
+-- the work shared among k workers: the whole ticks of each, and one more where work is left over
+abbrev pub share_of : ℕ → ℕ → ℕ
+share_of total k = total / k + min 1 (total % k)
+
+-- no plan for k workers is shorter than the least plan, nor than each worker's share of the work
+abbrev pub least_for : ℕ → ℕ → ℕ → ℕ
+least_for k total length = max length (share_of total k)
+
+-- no worker plan for k is shorter than the greater of the length of the least plan and the total over k, rounded up
+abbrev pub NoneIsShorter : (ℕ → ℕ → Type 0) → Work → Type 0
+NoneIsShorter before work =
+    (k : ℕ) (start other : ℕ → ℕ) → 1 ≤ k → IsLeast before work start → IsWorkerPlan before work k other
+    → least_for k (total_of work) (length_of work start) ≤ length_of work other

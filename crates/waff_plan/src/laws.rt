@@ -6,7 +6,7 @@ ghost use Rattle.std.specs.Prelude.{◌≡◌, ℕ, List, length};
 ghost use Rattle.waff_model.specs.Tree.{Node};
 ghost use Rattle.waff_assign.specs.Order.{IsOrdered, Refines};
 ghost use Rattle.waff_plan.specs.Work.{Work};
-ghost use Rattle.waff_plan.specs.Laws.{ChainsAreWithinLength, LeastIsShortest, PrintedIsChain, PrintedIsAsLong, TotalIsWithinWorkers, LeastIsNoLonger};
+ghost use Rattle.waff_plan.specs.Laws.{ChainsAreWithinLength, LeastIsShortest, PrintedIsChain, PrintedIsAsLong, TotalIsWithinWorkers, NoneIsShorter, LeastIsNoLonger};
 ghost use Rattle.waff_plan.specs.Bound.{BoundIsWithinTwice, BoundIsWithinRatio};
 
 /// The certificate: no obeying plan is shorter than the release plus the cost of any chain.
@@ -37,6 +37,12 @@ pub fn printed_is_as_long()
 pub fn total_is_within_workers()
     ensures { (tree : List Node) (assigned : List ℕ) (work : Work)
         → TotalIsWithinWorkers (IsOrdered tree assigned) work }
+{}
+
+/// No worker plan for k is shorter than the least plan, nor than the total over k, rounded up.
+pub fn none_is_shorter()
+    ensures { (tree : List Node) (assigned : List ℕ) (work : Work)
+        → NoneIsShorter (IsOrdered tree assigned) work }
 {}
 
 /// What is within the bound of a chain is at most twice as long as any worker plan for as many workers.

@@ -91,7 +91,7 @@ impl Plan {
     }
 
     /// The running time of message `n`.
-    pub(crate) fn cost(&self, n: u32) -> u64
+    pub fn cost(&self, n: u32) -> u64
         requires from { 1 ≤ n }
         requires to { n ≤ length self.now.timings }
         ensures cost { result ≡ (timing_of self.now.timings n).cost }
