@@ -37,7 +37,8 @@ use Rattle.waff_tool.specs.AssignText.{assign_lines}
 use Rattle.waff_tool.specs.Commands.{Accepts, IsAssignText, IsPlanText, IsPlanTextFor, IsWorkerPlanText, work_in}
 use Rattle.waff_tool.specs.CheckText.{IsCheckText}
 use Rattle.waff_tool.specs.Comparison.{AreModels, IsCompared, IsCompareText, IsMeasured, compare_lines}
-use Rattle.waff_tool.specs.Unique.{AssignTextIsOne, CheckTextIsOne, CompareTextIsOne, PlanTextIsOne}
+use Rattle.waff_tool.specs.ReplayText.{state_after, state_lines}
+use Rattle.waff_tool.specs.Unique.{AssignTextIsOne, CheckTextIsOne, CompareTextIsOne, PlanTextIsOne, ReplayTextIsOne}
 use Rattle.waff_tool.specs.declared.measures.Measured.{Measured}
 use Rattle.waff_tool.proofs.CertificateLemmas.{pairs_forward}
 use Rattle.waff_tool.proofs.LineLaws.{lines_same, totals_same}
@@ -264,3 +265,13 @@ compare_text_is_one first second trace_file k text other p q =
     (subst (λ t. IsCompared q.classical q.hierarchical t k other) (sym trace) q.compared)) in
     compared_is_one p.classical p.hierarchical p.trace k text other trees.0 trees.1
     (trace_runs p.classical trace_file p.trace p.is_trace) p.compared compared
+
+-- the state
+pub replay_text_is_one : (hierarchy_file trace_file : List ℕ) → ReplayTextIsOne hierarchy_file trace_file
+replay_text_is_one hierarchy_file trace_file text other p q =
+    let layouts = same_ok (hierarchy_of hierarchy_file) p.layout q.layout p.is_layout q.is_layout in
+    let traces = same_trace p.layout q.layout trace_file p.trace q.trace layouts p.is_trace q.is_trace in
+    p.lines
+    ∙ ap (λ (l : Hierarchy). text_of (state_lines l.spaces (state_after p.trace))) layouts
+    ∙ ap (λ (t : Arrivals). text_of (state_lines q.layout.spaces (state_after t))) traces
+    ∙ sym q.lines

@@ -4,5 +4,7 @@ pub mod CheckText
 pub mod Commands
 pub mod Comparison
 pub mod Fault
+pub mod PrintedSpaces
+pub mod ReplayText
 pub mod ToolErrors
 pub mod Unique

@@ -4,6 +4,7 @@ use Rattle.waff_check.specs.declared.verdict.Verdict.{Verdict}
 use Rattle.waff_tool.specs.CheckText.{IsCheckText}
 use Rattle.waff_tool.specs.Commands.{IsAssignText, IsPlanTextFor}
 use Rattle.waff_tool.specs.Comparison.{IsCompareText}
+use Rattle.waff_tool.specs.ReplayText.{IsReplayText}
 
 -- two texts of the affinities of a hierarchy and a trace are equal
 abbrev pub AssignTextIsOne : List ℕ → List ℕ → Type 0
@@ -28,3 +29,9 @@ abbrev pub CompareTextIsOne : List ℕ → List ℕ → List ℕ → ℕ → Typ
 CompareTextIsOne first_file second_file trace_file k =
     (text other : List ℕ) → IsCompareText first_file second_file trace_file k text
     → IsCompareText first_file second_file trace_file k other → text ≡ other
+
+-- two texts of the state that a trace leaves under a hierarchy are equal
+abbrev pub ReplayTextIsOne : List ℕ → List ℕ → Type 0
+ReplayTextIsOne hierarchy_file trace_file =
+    (text other : List ℕ) → IsReplayText hierarchy_file trace_file text → IsReplayText hierarchy_file trace_file other
+    → text ≡ other

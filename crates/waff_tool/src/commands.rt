@@ -1,6 +1,7 @@
 //! The commands: from the bytes of files to a text written.
 ghost use Rattle.std.specs.Prelude.{◌≡◌, ◌≢◌, ◌<◌, ◌≤◌, ℕ, All, List, IfOk, IfErr, IsErrOf, IfSome, OnOk, length, string_bytes};
 ghost use Rattle.std.specs.Io.KnownBytes.{Appends, Keeps};
+ghost use Rattle.waff_model.specs.Messages.{sizes_of};
 ghost use Rattle.waff_tool.specs.Commands.{Accepts, IsAssignText, IsPlanText, IsPlanTextFor, IsWorkerPlanText, Refuses};
 ghost use Rattle.waff_io.specs.Writing.{AppendsPart};
 
@@ -72,6 +73,7 @@ pub(crate) struct Accepted {
 pub(crate) fn accept(alloc: Global, hierarchy: &[u8], trace: &[u8]) -> Result<Accepted, ToolError>
     ensures accepted { IfOk result (λ a. Accepts hierarchy.now trace.now a.layout a.trace a.assigned) }
     ensures known { IfOk result (λ a. All (λ affinity. affinity < length a.layout.tree) a.assigned) }
+    ensures fits { IfOk result (λ a. a.trace.sizes ≡ sizes_of a.layout.spaces) }
     ensures refused { IfErr result (Refuses hierarchy.now trace.now) }
     ensures nothing { IfErr result (λ e. e ≢ ToolError.Write) }
 {

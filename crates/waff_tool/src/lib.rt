@@ -9,6 +9,8 @@ mod fault;
 mod fault_names;
 mod measures;
 mod output;
+mod replays;
+mod state_text;
 pub mod unique;
 mod verdict_line;
 
@@ -16,4 +18,5 @@ pub use checks::{check_text, verdict_status};
 pub use commands::{assign_text, plan_text};
 pub use comparison::compare_text;
 pub use fault::{ToolError, fault_status, fault_text};
+pub use replays::replay_text;
 pub use waff_io::{ReadFault, read_whole, split_input};

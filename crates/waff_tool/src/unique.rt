@@ -1,7 +1,7 @@
 //! One text for each input. Each law is a function that does nothing and whose contract is the law.
 
 ghost use Rattle.std.specs.Prelude.{ℕ, List, Option};
-ghost use Rattle.waff_tool.specs.Unique.{AssignTextIsOne, PlanTextIsOne, CheckTextIsOne, CompareTextIsOne};
+ghost use Rattle.waff_tool.specs.Unique.{AssignTextIsOne, PlanTextIsOne, CheckTextIsOne, CompareTextIsOne, ReplayTextIsOne};
 
 /// The text of the affinities of a hierarchy and a trace is one.
 pub fn assign_text_is_one()
@@ -24,4 +24,9 @@ pub fn check_text_is_one()
 pub fn compare_text_is_one()
     ensures equal { (first_file second_file trace_file : List ℕ) (k : ℕ)
         → CompareTextIsOne first_file second_file trace_file k }
+{}
+
+/// The text of the state that a trace leaves under a hierarchy is one, whoever replays the trace.
+pub fn replay_text_is_one()
+    ensures equal { (hierarchy_file trace_file : List ℕ) → ReplayTextIsOne hierarchy_file trace_file }
 {}

@@ -1,0 +1,56 @@
+-- What a replay prints: a header, and a line for each cell whose number is not 0.
+use Rattle.std.specs.Prelude.{◌≡◌, ℕ, ◌==◌, Bool, not, List, [], ◌∷◌, Ok, length, map, codes, decimal}
+use Rattle.std.specs.List.{filter, flat_map, range_with_len}
+use Rattle.waff_model.specs.Layout.{Hierarchy, Space, size_at}
+use Rattle.waff_model.specs.Messages.{Arrivals}
+use Rattle.waff_model.specs.declared.cell.Cell.{Cell}
+use Rattle.waff_read.specs.Hierarchies.{hierarchy_of}
+use Rattle.waff_read.specs.Spellings.{cell_spelled}
+use Rattle.waff_read.specs.Traces.{trace_of}
+use Rattle.waff_cells.specs.Meaning.{Cells}
+use Rattle.waff_cells.specs.Serial.{operations, serial}
+use Rattle.waff_plan_text.specs.Lines.{text_of}
+
+-- the header
+abbrev pub state_header : List (List ℕ)
+state_header = codes "cell" ∷ codes "value" ∷ []
+
+-- the cells of the space s below an index, by index
+abbrev pub cells_below : ℕ → ℕ → List Cell
+cells_below s end = map (λ i. record { space = s; index = i }) (range_with_len 0 end)
+
+-- the cells of the spaces below a number, by space and then by index
+abbrev pub cells_before : List Space → ℕ → List Cell
+cells_before spaces end = flat_map (λ s. cells_below s (size_at spaces s)) (range_with_len 0 end)
+
+-- all cells, by space and then by index
+abbrev pub cells_in_order : List Space → List Cell
+cells_in_order spaces = cells_before spaces (length spaces)
+
+-- a cell is told of where its number is not 0
+abbrev pub is_told : Cells → Cell → Bool
+is_told cells cell = not (cells cell == 0)
+
+-- the line of a cell: the cell as a trace spells it, and its number
+abbrev pub cell_line : List Space → Cells → Cell → List (List ℕ)
+cell_line spaces cells cell = cell_spelled spaces cell ∷ decimal (cells cell) ∷ []
+
+-- the lines of some cells
+abbrev pub cell_lines : List Space → Cells → List Cell → List (List (List ℕ))
+cell_lines spaces cells some = map (cell_line spaces cells) (filter (is_told cells) some)
+
+-- the lines of a state
+abbrev pub state_lines : List Space → Cells → List (List (List ℕ))
+state_lines spaces cells = state_header ∷ cell_lines spaces cells (cells_in_order spaces)
+
+-- the state that the messages of a trace leave in the order of arrival
+abbrev pub state_after : Arrivals → Cells
+state_after trace = serial (operations trace.messages) (length trace.messages)
+
+-- the text of the state that a trace leaves under a hierarchy: that of arrival order, after all messages
+pub record IsReplayText (hierarchy_file trace_file text : List ℕ) : Type 0 where
+  pub layout : Hierarchy
+  pub trace : Arrivals
+  pub is_layout : hierarchy_of hierarchy_file ≡ Ok layout
+  pub is_trace : trace_of layout.spaces trace_file ≡ Ok trace
+  pub lines : text ≡ text_of (state_lines layout.spaces (state_after trace))

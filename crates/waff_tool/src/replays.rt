@@ -1,0 +1,115 @@
+//! The replay of a trace.
+
+ghost use Rattle.std.specs.Prelude.{◌≡◌, ◌≢◌, ◌<◌, ◌≤◌, ℕ, All, List, IfErr, IfOk, IsErrOf, OnOk, length, string_bytes};
+ghost use Rattle.std.specs.Io.KnownBytes.{Appends, Keeps};
+ghost use Rattle.waff_model.specs.Messages.{IsTrace, sizes_of};
+ghost use Rattle.waff_assign.specs.Lowest.{IsAssignment};
+ghost use Rattle.waff_cells.specs.Serial.{operations};
+ghost use Rattle.waff_io.specs.Writing.{AppendsPart};
+ghost use Rattle.waff_plan_text.specs.Lines.{text_of};
+ghost use Rattle.waff_tool.specs.Commands.{Refuses};
+ghost use Rattle.waff_tool.specs.ReplayText.{IsReplayText, state_after, state_lines};
+
+use crate::commands::{Accepted, accept};
+use crate::fault::ToolError;
+use crate::output::write_text;
+use crate::state_text::{printed_spaces, state_text};
+use std::alloc::{AllocError, Global};
+use std::io::Write;
+use std::sync::Wait;
+use std::thread::Threads;
+use waff_core::limits::MAX_SEATS;
+use waff_core::{Job, JobError};
+use waff_list::laws::needs_make_the_same_plans;
+use waff_list::list_plan;
+use waff_order::predecessors::needs;
+use waff_replay::{Open, replay};
+
+/// Writes the state that the messages of the trace leave under the hierarchy. They are replayed by this many workers, each in
+/// a thread of its own, in the order of the list plan for as many; releases are not waited for. Nothing is written before the
+/// whole text is made.
+pub fn replay_text<R: Threads + Wait + Sync, W: Write>(
+    rt: &R,
+    alloc: Global,
+    hierarchy: &[u8],
+    trace: &[u8],
+    workers: u32,
+    writer: &mut W,
+) -> Result<(), ToolError>
+    requires some { 1 ≤ workers }
+    requires few { workers ≤ MAX_SEATS }
+    ensures written { OnOk result ((text : List ℕ) × IsReplayText hierarchy.now trace.now text
+        × Appends (W.contents writer.old) (W.contents writer.new) text) }
+    ensures prefix { IsErrOf result ToolError.Write → (text : List ℕ) × IsReplayText hierarchy.now trace.now text
+        × AppendsPart (W.contents writer.old) (W.contents writer.new) text }
+    ensures refused { IfErr result (Refuses hierarchy.now trace.now) }
+    ensures nothing { IfErr result (λ e. e ≢ ToolError.Write → Keeps (W.contents writer.old) (W.contents writer.new)) }
+{
+    let text = made_replay_text(rt, alloc, hierarchy, trace, workers)?;
+    write_text(writer, text.as_bytes())
+}
+
+fn made_replay_text<R: Threads + Wait + Sync>(
+    rt: &R,
+    alloc: Global,
+    hierarchy: &[u8],
+    trace: &[u8],
+    workers: u32,
+) -> Result<String, ToolError>
+    requires some { 1 ≤ workers }
+    requires few { workers ≤ MAX_SEATS }
+    ensures made { IfOk result (λ text. IsReplayText hierarchy.now trace.now (string_bytes text)) }
+    ensures refused { IfErr result (Refuses hierarchy.now trace.now) }
+    ensures nothing { IfErr result (λ e. e ≢ ToolError.Write) }
+{
+    let accepted = accept(alloc, hierarchy, trace)?;
+    Ok(replayed_text(rt, alloc, accepted, workers)?)
+}
+
+/// The text of the state that a replay leaves.
+fn replayed_text<R: Threads + Wait + Sync>(
+    rt: &R,
+    alloc: Global,
+    accepted: Accepted,
+    workers: u32,
+) -> Result<String, AllocError>
+    requires fits { accepted.trace.sizes ≡ sizes_of accepted.layout.spaces }
+    requires trace { IsTrace accepted.trace }
+    requires assignment { IsAssignment accepted.layout accepted.trace.messages accepted.assigned }
+    requires known { All (λ affinity. affinity < length accepted.layout.tree) accepted.assigned }
+    requires some { 1 ≤ workers }
+    requires few { workers ≤ MAX_SEATS }
+    ensures { IfOk result (λ text. string_bytes text
+        ≡ text_of (state_lines accepted.layout.spaces (state_after accepted.trace))) }
+{
+    let printed = printed_spaces(alloc, &accepted.layout)?;
+    let job = job_in_list_order(alloc, accepted, workers)?;
+    let state = replay(rt, alloc, job, workers, &Open)?;
+    state_text(alloc, &printed, &state)
+}
+
+/// The job of what was accepted, in the order of the list plan for k workers.
+fn job_in_list_order(alloc: Global, accepted: Accepted, k: u32) -> Result<Job, AllocError>
+    requires fits { accepted.trace.sizes ≡ sizes_of accepted.layout.spaces }
+    requires trace { IsTrace accepted.trace }
+    requires assignment { IsAssignment accepted.layout accepted.trace.messages accepted.assigned }
+    requires known { All (λ affinity. affinity < length accepted.layout.tree) accepted.assigned }
+    requires some { 1 ≤ k }
+    requires few { k ≤ MAX_SEATS }
+    ensures layout { IfOk result (λ job. job.layout ≡ accepted.layout) }
+    ensures ops { IfOk result (λ job. job.ops ≡ operations accepted.trace.messages) }
+{
+    let Accepted {
+        layout,
+        trace,
+        assigned,
+    } = accepted;
+    let needs = needs(alloc, layout.tree(), &assigned)?;
+    let plan = list_plan(alloc, &needs, &trace, k)?;
+    needs_make_the_same_plans();
+    match Job::new(alloc, layout, trace, assigned, needs, plan.order()) {
+        Ok(job) => Ok(job),
+        Err(JobError::Memory) => Err(AllocError),
+        Err(JobError::Order) => unreachable!(),
+    }
+}
