@@ -86,6 +86,7 @@ impl TreeBuilder {
     /// The tree of the affinities that were added. Memory is answered only where it ran out.
     pub fn build(self) -> Result<Tree, TreeError>
         ensures kept { IfOk result (λ tree. tree ≡ self) }
+        ensures accepted { OnOk result (0 < length self) }
         ensures refused { IfErr result (λ e. e ≡ (if length self == 0 then TreeError.NoRoot else TreeError.Memory)) }
     {
         if self.nodes.len() == 0 {
