@@ -6,3 +6,4 @@ pub mod Comparison
 pub mod Fault
 pub mod ToolErrors
 pub mod Unique
+pub mod OwnPlans
