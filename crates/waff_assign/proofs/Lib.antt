@@ -3,3 +3,4 @@ pub mod Coverings
 pub mod Assignments
 pub mod CellOrder
 pub mod Uniqueness
+pub mod Knowing

@@ -102,7 +102,7 @@ rooted-tree_of [] read done = absurd (cc)
 rooted-tree_of (row ∷ more) read done = rooted-tree_from [] (row ∷ more) read rooted-none done
 
 -- a layout is of the kind and over the tree that it is made of
-layout_of-over : (kind : Kind) (tree : List Node) (spaces : List SpaceSpec) (maps : List MapSpec) (layout : Hierarchy)
+pub layout_of-over : (kind : Kind) (tree : List Node) (spaces : List SpaceSpec) (maps : List MapSpec) (layout : Hierarchy)
     → model.layout_of kind tree spaces maps ≡ Ok layout → (layout.kind ≡ kind) × (layout.tree ≡ tree)
 layout_of-over kind tree spaces maps layout h = by (layout_refusal tree spaces maps) refl
   where

@@ -14,3 +14,4 @@ pub mod SpellingLaws
 pub mod TraceSpellings
 pub mod RefusalLaws
 pub mod LimitLaws
+pub mod NamedLaws

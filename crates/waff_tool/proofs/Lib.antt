@@ -5,3 +5,4 @@ pub mod LineLaws
 pub mod OrderLemmas
 pub mod StateLines
 pub mod Uniqueness
+pub mod OwnPlanLaws

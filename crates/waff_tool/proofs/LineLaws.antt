@@ -1,17 +1,14 @@
 -- The lines of plans with the same starts and the same workers are equal.
-use Rattle.std.proofs.Common.{◌≡◌, ℕ, ◌+◌, ◌-◌, ◌*◌, ◌<◌, ◌≤◌, List, [], ◌∷◌, ◌++◌, map, length, get_or, Option, Some, None, arith, sym, ◌∙◌, ap, subst}
+use Rattle.std.proofs.Common.{◌≡◌, ℕ, ◌+◌, ◌<◌, List, ◌∷◌, ◌++◌, map, Option, arith, sym, ◌∙◌, ap, subst}
 use Rattle.std.proofs.lemmas.List.{same_lists}
 use Rattle.std.proofs.lemmas.List.FromFn.{length-map-range_with_len, get_or-map-range_with_len}
 use Rattle.waff_model.specs.declared.message.Version.{Version}
 use Rattle.waff_model.specs.Tree.{Node, name_of}
 use Rattle.waff_assign.specs.Order.{affinity_of}
-use Rattle.waff_plan.specs.Bound.{right_side}
-use Rattle.waff_plan.specs.Chain.{chain_cost, chain_release}
 use Rattle.waff_plan.specs.Totals.{totals_of}
 use Rattle.waff_plan.specs.Unique.{AreSame}
-use Rattle.waff_plan.specs.Work.{Work, IsNumber, finish_of, length_of, numbers, total_of}
-use Rattle.waff_plan.specs.declared.totals.Totals.{Totals}
-use Rattle.waff_plan.proofs.Uniqueness.{same_length}
+use Rattle.waff_plan.specs.Work.{Work, IsNumber, numbers}
+use Rattle.waff_check.proofs.OwnLaws.{totals_same}
 use Rattle.waff_plan_text.specs.Spelling.{message_row, plan_header, plan_lines, plan_row, summary_lines, worker_field}
 
 -- lists by message that are the same at each message are equal
@@ -24,30 +21,6 @@ map_same work f g same =
     get_or-map-range_with_len f 1 work.count k (k + 1) d below (omega arith)
     ∙ same (k + 1) (record { from = omega arith; to = omega arith })
     ∙ sym (get_or-map-range_with_len g 1 work.count k (k + 1) d below (omega arith)))
-
--- the totals of plans of the same length are equal
-pub totals_same : (workers : Option ℕ) (work : Work) (start other : ℕ → ℕ) (chain : List ℕ) → AreSame work start other
-    → totals_of workers work start chain ≡ totals_of workers work other chain
-totals_same None work start other chain same =
-    let totals : ℕ → Totals = λ n. record {
-      total = total_of work;
-      length = n;
-      release = chain_release work chain;
-      cost = chain_cost work chain;
-      left = n;
-      right = chain_release work chain + chain_cost work chain;
-    } in
-    ap totals (same_length work start other same)
-totals_same (Some k) work start other chain same =
-    let totals : ℕ → Totals = λ n. record {
-      total = total_of work;
-      length = n;
-      release = chain_release work chain;
-      cost = chain_cost work chain;
-      left = k * n;
-      right = right_side work k chain;
-    } in
-    ap totals (same_length work start other same)
 
 -- the lines of a plan
 pub lines_same : (version : Version) (tree : List Node) (assigned : List ℕ) (work : Work) (workers : Option ℕ) (start other : ℕ → ℕ)

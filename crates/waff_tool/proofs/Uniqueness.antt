@@ -1,8 +1,8 @@
 -- Of the same bytes each command has one text.
-use Rattle.std.proofs.Common.{◌≡◌, ℕ, ◌⊎◌, ◌↔◌, inl, inr, Bool, IsTrue, List, length, Option, Some, None, Result, Ok, Err, refl, sym, ◌∙◌, ap, subst}
+use Rattle.std.proofs.Common.{◌≡◌, ℕ, ◌↔◌, inl, inr, IsTrue, List, length, Option, Some, None, Result, Ok, refl, sym, ◌∙◌, ap, subst}
 use Rattle.std.proofs.lemmas.Bool.Decides.{same_from_decides}
-use Rattle.waff_model.specs.Layout.{Hierarchy, SameSpaces}
-use Rattle.waff_model.specs.Messages.{Arrivals, IsTrace}
+use Rattle.waff_model.specs.Layout.{Hierarchy}
+use Rattle.waff_model.specs.Messages.{Arrivals}
 use Rattle.waff_model.specs.Tree.{IsTree}
 use Rattle.waff_model.specs.declared.kind.Kind.{Kind}
 use Rattle.waff_model.specs.declared.kind.Kind.TheVariants as kind
@@ -16,8 +16,7 @@ use Rattle.waff_plan.specs.Chain.{IsPrinted}
 use Rattle.waff_plan.specs.Obeys.{IsForward, IsLeast}
 use Rattle.waff_plan.specs.Timing.{start_of}
 use Rattle.waff_plan.specs.Totals.{totals_of}
-use Rattle.waff_plan.specs.Unique.{AreSame}
-use Rattle.waff_plan.specs.Work.{Work, IsNumber, total_of}
+use Rattle.waff_plan.specs.Work.{Work, total_of}
 use Rattle.waff_plan.specs.declared.totals.Totals.{Totals}
 use Rattle.waff_plan.proofs.Uniqueness.{least_is_one, printed_is_one}
 use Rattle.waff_list.specs.ListRule.{IsListPlan}
@@ -32,16 +31,16 @@ use Rattle.waff_plan_text.specs.PlanTexts.{plan_of}
 use Rattle.waff_plan_text.specs.Spelling.{no_worker, seat_of, unlimited_lines, worker_lines}
 use Rattle.waff_check.specs.Verdicts.{IsVerdict, claim_of}
 use Rattle.waff_check.specs.declared.verdict.Verdict.{Verdict}
+use Rattle.waff_check.proofs.OwnLaws.{totals_same}
 use Rattle.waff_check.proofs.Uniqueness.{verdict_is_one}
 use Rattle.waff_tool.specs.AssignText.{assign_lines}
-use Rattle.waff_tool.specs.Commands.{Accepts, IsAssignText, IsPlanText, IsPlanTextFor, IsWorkerPlanText, work_in}
-use Rattle.waff_tool.specs.CheckText.{IsCheckText}
-use Rattle.waff_tool.specs.Comparison.{AreModels, IsCompared, IsCompareText, IsMeasured, compare_lines}
+use Rattle.waff_tool.specs.Commands.{Accepts, IsPlanText, IsWorkerPlanText, work_in}
+use Rattle.waff_tool.specs.Comparison.{AreModels, IsCompared, IsMeasured, compare_lines}
 use Rattle.waff_tool.specs.ReplayText.{state_after, state_lines}
 use Rattle.waff_tool.specs.Unique.{AssignTextIsOne, CheckTextIsOne, CompareTextIsOne, PlanTextIsOne, ReplayTextIsOne}
 use Rattle.waff_tool.specs.declared.measures.Measured.{Measured}
 use Rattle.waff_tool.proofs.CertificateLemmas.{pairs_forward}
-use Rattle.waff_tool.proofs.LineLaws.{lines_same, totals_same}
+use Rattle.waff_tool.proofs.LineLaws.{lines_same}
 
 -- bytes are read as one thing
 same_ok : {A E : Type 0} (read : Result A E) (a b : A) → read ≡ Ok a → read ≡ Ok b → a ≡ b

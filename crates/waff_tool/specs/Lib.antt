@@ -8,3 +8,4 @@ pub mod PrintedSpaces
 pub mod ReplayText
 pub mod ToolErrors
 pub mod Unique
+pub mod OwnPlans

@@ -9,6 +9,7 @@ mod fault;
 mod fault_names;
 mod measures;
 mod output;
+pub mod own;
 mod replays;
 mod state_text;
 pub mod unique;
