@@ -1,16 +1,16 @@
 -- Laws of the parts of a text, and of numbers.
-use Rattle.std.proofs.Common.{◌≡◌, ◌≢◌, ℕ, ◌<◌, ◌^◌, List, [], ◌∷◌, ◌∙◌, length, Bool, true, false, cond, Option, Some, None, Result, Ok, Err, refl, sym, ap, arith, rules, Bor, inl, inr}
-use Rattle.std.specs.Prelude.{option_map, MatchOption, ◌==◌, not, ◌&&◌}
-use Rattle.std.specs.Char.{is_ascii_digit}
-use Rattle.std.specs.List.{onto_first, list_all, position_or_len}
-use Rattle.std.specs.Result.{OkIff, result_ok}
-use Rattle.std.specs.Str.Parse.{digits_value, ParsesUnsigned}
-use Rattle.std.proofs.lemmas.Bool.{not-true, lt-ltb, le-ltb, cases_lt, and_parts, eqb-false}
+use Rattle.std.proofs.Common.{◌≡◌, ℕ, ◌-◌, ◌<◌, List, [], ◌∷◌, ◌∙◌, length, Bool, true, false, cond, Option, Some, None, refl, ap, arith, Bor}
+use Rattle.std.specs.Prelude.{MatchOption, ◌==◌, not}
+use Rattle.std.specs.Char.{digit_value, is_ascii_digit}
+use Rattle.std.specs.Int.{IsInRange}
+use Rattle.std.specs.List.{onto_first, position_or_len}
+use Rattle.std.proofs.lemmas.Bool.{not-true}
+use Rattle.std.proofs.lemmas.Bool.Decides.{nat_tests}
 use Rattle.std.proofs.lemmas.List.Splits.{slice_split_none, slice_split_first}
 use Rattle.std.proofs.lemmas.List.Sums.{prefix_len_passes}
 use Rattle.std.proofs.lemmas.Str.Pattern.{IsSplitOnceResult, split_once_first}
-use Rattle.std.proofs.lemmas.Str.Parse.{IsNumeralModel, IsDigitsTest, numerals_by_value, parse_digits}
-use Rattle.waff_parse.specs.Texts.{parts, small, is_number, number_of, has_leading_zero}
+use Rattle.std.proofs.lemmas.Str.{digit_value_digit}
+use Rattle.waff_parse.specs.Texts.{parts}
 
 -- what `split_once` gives are the first part and the others
 pub parts-split_once : (c : ℕ) (text : List ℕ) (r : Option (Bor (List ℕ) × Bor (List ℕ))) → IsSplitOnceResult c text r → c < 128
@@ -24,36 +24,14 @@ parts-split_once c text (Some x) h lt =
     let cut = split_once_first c text (Some x) h lt in
     rw (cut.1, cut.2) (slice_split_first (λ b. b == c) text 0 cut.0)
 
--- texts of digits, as the library knows them
-digits_test : IsDigitsTest (λ ds. list_all is_ascii_digit ds ≡ true)
-digits_test = search rules
-
-digits_model : IsNumeralModel (λ ds. list_all is_ascii_digit ds ≡ true) (digits_value 10)
-digits_model = numerals_by_value _ digits_test
-
--- digits are read as their number where it fits 64 bits
-pub small-parse : {E : Type 0} (text : List ℕ) (r : Result ℕ E) → ParsesUnsigned 64 10 text r
-    → list_all is_ascii_digit text ≡ true → 0 < length text
-    → result_ok r ≡ small (digits_value 10 text)
-small-parse {E} text r h digits nonempty = by r (parse_digits digits_model 64 text r h digits)
+-- the value of a digit
+pub value_of_digit : (c : ℕ) → is_ascii_digit c ≡ true → digit_value c ≡ c - 48
+value_of_digit c h =
+    let value = digit_value_digit c (digit_range c h) in
+    omega (arith, value)
   where
-    by : (r : Result ℕ E) → OkIff r ((0 < length text) × (digits_value 10 text < 2 ^ 64)) (digits_value 10 text) → result_ok r ≡ small (digits_value 10 text)
-    by (Ok n) k = rw (k.1, lt-ltb _ _ k.0.1) refl
-    by (Err e) k =
-        elim (cases_lt (digits_value 10 text) (2 ^ 64)) [
-          | inl lt ↦ absurd (k (nonempty, lt))
-          | inr ge ↦ rw (le-ltb _ _ ge) refl
-        ]
-
--- a text that is a number is parsed so
-pub number-parse : {E : Type 0} (text : List ℕ) (r : Result ℕ E) → ParsesUnsigned 64 10 text r → true ≡ is_number text
-    → Some (result_ok r) ≡ option_map small (number_of text)
-number-parse text r h is =
-    let outer = and_parts (not (length text == 0)) (not (has_leading_zero text) && list_all is_ascii_digit text) (sym is) in
-    let inner = and_parts (not (has_leading_zero text)) (list_all is_ascii_digit text) outer.1 in
-    let some : length text ≢ 0 = eqb-false (length text) 0 (not-true (length text == 0) outer.0) in
-    let nonempty : 0 < length text = omega (arith, some) in
-    rw (← is) (ap Some (small-parse text r h inner.1 nonempty))
+    digit_range : (d : ℕ) → is_ascii_digit d ≡ true → IsInRange 48 57 d
+    digit_range d e = grind (arith, nat_tests)
 
 -- a text has a first part
 pub parts-cons : (c : ℕ) (text : List ℕ) → (first : List ℕ) × (others : List (List ℕ)) × (parts c text ≡ first ∷ others)
