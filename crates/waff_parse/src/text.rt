@@ -1,18 +1,25 @@
 //! Parts of a text, and numbers.
 
-ghost use Rattle.std.specs.Prelude.{ℕ, ◌≡◌, ◌<◌, ◌≤◌, ◌∷◌, ◌+◌, ◌*◌, if◌then◌else◌, option_map, IfSome, Some, None};
+ghost use Rattle.std.specs.Prelude.{ℕ, ◌≡◌, ◌==◌, position, ◌<◌, ◌≤◌, ◌∷◌, ◌+◌, ◌*◌, if◌then◌else◌, option_map, IfSome, Some, None};
 ghost use Rattle.std.specs.Char.{is_ascii_digit};
 ghost use Rattle.std.specs.List.{list_all};
 ghost use Rattle.std.specs.Str.Parse.{digits_value};
 ghost use Rattle.waff_parse.specs.Texts as texts;
+
+// The first place of a byte.
+fn place_of(bytes: &[u8], wanted: u8) -> Option<usize>
+    ensures { result ≡ position (λ b. b == wanted) bytes.now }
+{
+    bytes.iter().position(|byte| *byte == wanted)
+}
 
 /// The part of a text before the first `at`, an ASCII character, and the text after it, if it is there.
 pub fn cut(text: &str, at: char) -> (&str, Option<&str>)
     requires { at < 128 }
     ensures { texts.parts at text.now ≡ result.0.now ∷ texts.parts_after at (option_map (λ s. s.now) result.1) }
 {
-    match text.split_once(at) {
-        Some((first, others)) => (first, Some(others)),
+    match place_of(text.as_bytes(), at as u8) {
+        Some(place) => (&text[..place], Some(&text[place + 1..])),
         None => (text, None),
     }
 }
