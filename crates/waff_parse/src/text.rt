@@ -1,17 +1,25 @@
 //! Parts of a text, and numbers.
 
-ghost use Rattle.std.specs.Prelude.{◌≡◌, ◌<◌, ◌≤◌, ◌∷◌, option_map, IfSome};
+ghost use Rattle.std.specs.Prelude.{ℕ, ◌≡◌, ◌==◌, position, ◌<◌, ◌≤◌, ◌∷◌, ◌+◌, ◌*◌, if◌then◌else◌, option_map, IfSome, Some, None};
 ghost use Rattle.std.specs.Char.{is_ascii_digit};
 ghost use Rattle.std.specs.List.{list_all};
+ghost use Rattle.std.specs.Str.Parse.{digits_value};
 ghost use Rattle.waff_parse.specs.Texts as texts;
+
+// The first place of a byte.
+fn place_of(bytes: &[u8], wanted: u8) -> Option<usize>
+    ensures { result ≡ position (λ b. b == wanted) bytes.now }
+{
+    bytes.iter().position(|byte| *byte == wanted)
+}
 
 /// The part of a text before the first `at`, an ASCII character, and the text after it, if it is there.
 pub fn cut(text: &str, at: char) -> (&str, Option<&str>)
     requires { at < 128 }
     ensures { texts.parts at text.now ≡ result.0.now ∷ texts.parts_after at (option_map (λ s. s.now) result.1) }
 {
-    match text.split_once(at) {
-        Some((first, others)) => (first, Some(others)),
+    match place_of(text.as_bytes(), at as u8) {
+        Some(place) => (&text[..place], Some(&text[place + 1..])),
         None => (text, None),
     }
 }
@@ -23,36 +31,40 @@ fn has_leading_zero(digits: &[u8]) -> bool
     digits.len() > 1 && digits[0] == b'0'
 }
 
-// Whether each byte is a digit.
-fn are_digits(bytes: &[u8]) -> bool
-    ensures { result ≡ list_all is_ascii_digit bytes.now }
+// A number with one more digit, none where it is 2^64 or more.
+fn with_digit(value: Option<u64>, digit: u8) -> Option<u64>
+    requires { digit < 10 }
+    ensures { (n : ℕ) → value ≡ texts.small n → result ≡ texts.small (n * 10 + digit) }
 {
-    bytes.iter().all(|byte| byte.is_ascii_digit())
+    value?.checked_mul(10)?.checked_add(u64::from(digit))
 }
 
-// Whether a text is a number.
-fn is_number(text: &str) -> bool
-    ensures { result ≡ texts.is_number text.now }
+// The number that bytes write if each is a digit.
+fn digits_number(bytes: &[u8]) -> Option<Option<u64>>
+    ensures { result ≡ (if list_all is_ascii_digit bytes.now then Some (texts.small (digits_value 10 bytes.now)) else None) }
 {
-    let digits = text.as_bytes();
-    if digits.is_empty() {
-        return false;
+    let mut value = Some(0);
+    for byte in bytes {
+        if !byte.is_ascii_digit() {
+            return None;
+        }
+        value = with_digit(value, *byte - b'0');
     }
-    if has_leading_zero(digits) {
-        return false;
-    }
-    are_digits(digits)
+    Some(value)
 }
 
 /// The number that a text writes: none where it is no number, and `Some(None)` where it is one of 2^64 or more.
 pub fn number(text: &str) -> Option<Option<u64>>
     ensures { result ≡ option_map texts.small (texts.number_of text.now) }
 {
-    if is_number(text) {
-        Some(text.parse::<u64>().ok())
-    } else {
-        None
+    let digits = text.as_bytes();
+    if digits.is_empty() {
+        return None;
     }
+    if has_leading_zero(digits) {
+        return None;
+    }
+    digits_number(digits)
 }
 
 /// The number from `low` to `high` that a text writes, if it writes one.

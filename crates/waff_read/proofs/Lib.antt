@@ -4,6 +4,7 @@ pub mod HierarchyLemmas
 pub mod LevelLemmas
 pub mod NameLemmas
 pub mod SpaceLemmas
+pub mod PartLemmas
 pub mod MessageLaws
 pub mod TraceLaws
 pub mod OpsLaws

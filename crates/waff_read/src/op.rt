@@ -44,21 +44,15 @@ fn named_cell(spaces: &SpaceTable<'_>, name: &str, index: &str) -> Result<Cell, 
     cell_in(spaces, space, index)
 }
 
-// The cell that a text spells.
+// The cell that a text spells. An index with a `:` is no number.
 #[tactic(auto, unfolding(crate::specs::Ops::cell_of))]
 fn read_cell(spaces: &SpaceTable<'_>, text: &str) -> Result<Cell, TraceFault>
     ensures { result ≡ ops.cell_of spaces.now text.now }
 {
-    let (name, rest) = cut(text, ':');
-    match rest {
+    let (name, index) = cut(text, ':');
+    match index {
+        Some(index) => named_cell(spaces, name, index),
         None => Err(TraceFault::Op),
-        Some(rest) => {
-            let (index, more) = cut(rest, ':');
-            match more {
-                None => named_cell(spaces, name, index),
-                Some(_) => Err(TraceFault::Op),
-            }
-        }
     }
 }
 
@@ -115,21 +109,15 @@ fn read_two(
     Err(TraceFault::Op)
 }
 
-// The operation of a verb and the words after it.
+// The operation of a verb and the words after it. A second word with a space is neither a cell nor a number.
 #[tactic(auto, unfolding(crate::specs::Ops::op_of_verb))]
 fn read_words(spaces: &SpaceTable<'_>, verb: &str, words: &str) -> Result<Op, TraceFault>
     ensures { result ≡ ops.op_of_verb spaces.now verb.now words.now }
 {
-    let (first, rest) = cut(words, ' ');
-    match rest {
+    let (first, second) = cut(words, ' ');
+    match second {
+        Some(second) => read_two(spaces, verb, first, second),
         None => read_one(spaces, verb, first),
-        Some(rest) => {
-            let (second, rest) = cut(rest, ' ');
-            match rest {
-                None => read_two(spaces, verb, first, second),
-                Some(_) => Err(TraceFault::Op),
-            }
-        }
     }
 }
 
