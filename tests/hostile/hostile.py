@@ -17,13 +17,14 @@ HANGS = 100
 FAULT = re.compile(rb"waff: [A-Z][A-Za-z]*(\.[A-Z][A-Za-z]*)*( [0-9]+)?( [0-9A-Z][0-9A-Za-z]*)?\n")
 
 # The words of each command. A letter in braces is a file: H a hierarchical tree, C a classical one, T a trace, P its unlimited plan
-# under H, and K its plan for two workers.
+# under H, K its plan for two workers, and F the first with a fault, which is named by threads.
 WORDS = (
     "assign {H} {T}",
     "plan {H} {T}",
     "plan {H} {T} --workers 2",
     "check {H} {T} {P}",
     "check {H} {T} {K}",
+    "check {H} {T} {F}",
     "compare {C} {H} {T} --workers 2",
     "replay {H} {T} --workers 2",
     "sweep {H} {T}",
@@ -96,6 +97,7 @@ class Files:
         """The files with the plans that the program prints of them."""
         self.lay(files)
         made = {"P": run(self.words("plan {H} {T}")).stdout, "K": run(self.words("plan {H} {T} --workers 2")).stdout}
+        made["F"] = re.sub(rb"\n3,VolA,\d+,\d+,-\n", b"\n3,VolA,3,5,-\n", made["P"])
         self.lay(made)
         return {**files, **made}
 
