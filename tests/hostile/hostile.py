@@ -16,8 +16,8 @@ HANGS = 100
 
 FAULT = re.compile(rb"waff: [A-Z][A-Za-z]*(\.[A-Z][A-Za-z]*)*( [0-9]+)?( [0-9A-Z][0-9A-Za-z]*)?\n")
 
-# The words of each command. A letter in braces is a file: H a hierarchical tree, C a classical one, T a trace, P its unlimited plan
-# under H, K its plan for two workers, and F the first with a fault, which is named by threads.
+# The words of each command. A letter in braces is a file: H a hierarchical tree, C a classical one, T a trace, P its
+# unlimited plan under H, K its plan for two workers, and F the first with a fault, which is named by threads.
 WORDS = (
     "assign {H} {T}",
     "plan {H} {T}",
