@@ -10,6 +10,8 @@ mod comparisons;
 #[cfg(test)]
 mod hierarchies_read;
 #[cfg(test)]
+mod hostile_writes;
+#[cfg(test)]
 mod plan_texts;
 #[cfg(test)]
 mod plans;

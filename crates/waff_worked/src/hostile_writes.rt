@@ -1,0 +1,173 @@
+//! Writers that fail or take little, and readers that fail: what was written or read by then.
+
+use crate::samples::{ASSIGN_H1_X1, C1, COMPARE_C1_H1_X1, H1, PLAN_H1_X1, PLAN_H1_X1_WORKERS2, X1};
+use std::alloc::Global;
+use std::io::{self, Read, Write};
+use std::process::Abort;
+use std::test::Fail;
+use std::thread::Threads;
+use waff_tool::{
+    ReadFault, ToolError, assign_text, check_text, compare_text, plan_text, read_whole,
+};
+
+/// The calls that write a text.
+#[derive(Clone, Copy)]
+enum Call {
+    Assign,
+    Plan,
+    PlanForTwo,
+    Check,
+    Compare,
+}
+
+/// Has room for some bytes, of which it takes a few at once, and then fails, or takes none.
+#[derive(Drop)]
+struct Narrow {
+    room: usize,
+    at_once: usize,
+    fails: bool,
+    taken: Vec<u8>,
+}
+
+impl Write for Narrow {
+    fn write(&mut self, bytes: &[u8]) -> io::Result<usize> {
+        let count = bytes.len().min(self.room).min(self.at_once);
+        if count == 0 && self.fails {
+            return Err(io::Error::from(io::ErrorKind::BrokenPipe));
+        }
+        self.taken.extend_from_slice(&bytes[..count])?;
+        self.room -= count;
+        Ok(count)
+    }
+
+    fn flush(&mut self) -> io::Result<()> {
+        Ok(())
+    }
+}
+
+/// Writes the text of the call for the samples.
+fn write_text<R: Threads + Sync>(
+    rt: &R,
+    alloc: Global,
+    call: Call,
+    writer: &mut Narrow,
+) -> Result<(), ToolError> {
+    let (hierarchy, trace) = (H1.as_bytes(), X1.as_bytes());
+    match call {
+        Call::Assign => assign_text(alloc, hierarchy, trace, writer),
+        Call::Plan => plan_text(alloc, hierarchy, trace, None, writer),
+        Call::PlanForTwo => plan_text(alloc, hierarchy, trace, Some(2), writer),
+        Call::Check => {
+            check_text(rt, alloc, hierarchy, trace, PLAN_H1_X1.as_bytes(), writer)?;
+            Ok(())
+        }
+        Call::Compare => compare_text(alloc, C1.as_bytes(), hierarchy, trace, 2, writer),
+    }
+}
+
+/// A writer with less room than the text has to be left with as much of it as it has room for.
+fn fails_at_each_byte<R: Threads + Sync + Abort>(
+    rt: &R,
+    alloc: Global,
+    call: Call,
+    text: &str,
+    fails: bool,
+) -> Result<(), Fail> {
+    for room in 0..text.len() {
+        let mut writer = Narrow {
+            room,
+            at_once: 50,
+            fails,
+            taken: Vec::new(alloc),
+        };
+        let result = write_text(rt, alloc, call, &mut writer);
+        assert!(rt; result == Err(ToolError::Write));
+        assert_eq!(rt; writer.taken.as_slice(), &text.as_bytes()[..room]);
+    }
+    Ok(())
+}
+
+/// A writer with room for the text has to be given the whole, if it takes one byte at once.
+fn is_taken_byte_by_byte<R: Threads + Sync + Abort>(
+    rt: &R,
+    alloc: Global,
+    call: Call,
+    text: &str,
+) -> Result<(), Fail> {
+    let mut writer = Narrow {
+        room: text.len(),
+        at_once: 1,
+        fails: true,
+        taken: Vec::new(alloc),
+    };
+    write_text(rt, alloc, call, &mut writer)?;
+    assert_eq!(rt; writer.taken.as_slice(), text.as_bytes());
+    Ok(())
+}
+
+/// The calls with the texts that they write for the samples.
+const TEXTS: [(Call, &str); 5] = [
+    (Call::Assign, ASSIGN_H1_X1),
+    (Call::Plan, PLAN_H1_X1),
+    (Call::PlanForTwo, PLAN_H1_X1_WORKERS2),
+    (Call::Check, "shortest\n"),
+    (Call::Compare, COMPARE_C1_H1_X1),
+];
+
+#[test]
+fn leave_the_part_that_was_taken_before_an_error(rt: HostRuntime) -> Result<(), Fail> {
+    for (call, text) in TEXTS {
+        fails_at_each_byte(&rt, rt.alloc(), call, text, true)?;
+    }
+    Ok(())
+}
+
+#[test]
+fn leave_the_part_before_no_byte_is_taken(rt: HostRuntime) -> Result<(), Fail> {
+    for (call, text) in TEXTS {
+        fails_at_each_byte(&rt, rt.alloc(), call, text, false)?;
+    }
+    Ok(())
+}
+
+#[test]
+fn are_taken_byte_by_byte(rt: HostRuntime) -> Result<(), Fail> {
+    for (call, text) in TEXTS {
+        is_taken_byte_by_byte(&rt, rt.alloc(), call, text)?;
+    }
+    Ok(())
+}
+
+/// Gives some bytes, a few at once, and then an error.
+#[derive(Drop)]
+struct Breaks {
+    left: usize,
+    at_once: usize,
+}
+
+impl Read for Breaks {
+    fn read(&mut self, buffer: &mut [u8]) -> io::Result<usize> {
+        let count = buffer.len().min(self.left).min(self.at_once);
+        if count == 0 {
+            return Err(io::Error::from(io::ErrorKind::Interrupted));
+        }
+        self.left -= count;
+        Ok(count)
+    }
+}
+
+#[test]
+fn fail_after_any_number_of_bytes(rt: HostRuntime) {
+    for left in 0..210 {
+        let fault = if left <= 200 {
+            ReadFault::Failed
+        } else {
+            ReadFault::TooLong
+        };
+        for at_once in [1, 7, 1000] {
+            let mut reader = Breaks { left, at_once };
+            let result = read_whole(rt.alloc(), &mut reader, 200);
+            assert!(rt; result.err() == Some(fault));
+        }
+    }
+}

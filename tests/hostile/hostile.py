@@ -1,0 +1,192 @@
+"""What the scripts of this folder share: the samples, the commands that the built program knows, and runs of it."""
+import argparse
+import os
+import re
+import resource
+import subprocess
+import sys
+import tempfile
+
+ROOT = os.path.normpath(os.path.join(os.path.dirname(os.path.realpath(__file__)), "..", ".."))
+PROGRAM = os.path.join(ROOT, "crates", "waff", "out", "waff")
+
+# The seconds of processor time that a run on small files may take, and the seconds after which a run counts as one that hangs.
+SECONDS = 1.0
+HANGS = 100
+
+FAULT = re.compile(rb"waff: [A-Z][A-Za-z]*(\.[A-Z][A-Za-z]*)*( [0-9]+)?( [0-9A-Z][0-9A-Za-z]*)?\n")
+
+# The words of each command. A letter in braces is a file: H a hierarchical tree, C a classical one, T a trace, P its
+# unlimited plan under H, K its plan for two workers, and F the first with a fault, which is named by threads.
+WORDS = (
+    "assign {H} {T}",
+    "plan {H} {T}",
+    "plan {H} {T} --workers 2",
+    "check {H} {T} {P}",
+    "check {H} {T} {K}",
+    "check {H} {T} {F}",
+    "compare {C} {H} {T} --workers 2",
+    "replay {H} {T} --workers 2",
+    "sweep {H} {T}",
+    "where {H} {T}",
+    "where {H} {T} --names",
+    "draw {H} {T} {P}",
+    "draw {H} {T} {P} --as events",
+)
+
+
+class Run:
+    """What a run printed, its status (a negative number for a signal, None where it hung) and its seconds of processor time."""
+
+    def __init__(self, status, stdout, stderr, seconds):
+        self.status = status
+        self.stdout = stdout
+        self.stderr = stderr
+        self.seconds = seconds
+
+    def __repr__(self):
+        return "status %s, stdout %r, stderr %r" % (self.status, self.stdout[:200], self.stderr[:200])
+
+    def is_as(self, other):
+        return (self.status, self.stdout, self.stderr) == (other.status, other.stdout, other.stderr)
+
+
+class Count:
+    """Counts runs, and prints the first of those that are wrong."""
+
+    shown = 10
+
+    def __init__(self):
+        self.passed = 0
+        self.failed = 0
+
+    def take(self, name, faults, run=None):
+        if not faults:
+            self.passed += 1
+            return
+        self.failed += 1
+        if self.failed <= self.shown:
+            print("FAILED %s: %s" % (name, "; ".join(faults)))
+            if run is not None:
+                print("    %r" % run)
+
+    def end(self):
+        """Prints the last line, and ends with 0 only where there was a run and none failed."""
+        print("%d passed, %d failed" % (self.passed, self.failed))
+        sys.exit(0 if self.passed > 0 and self.failed == 0 else 1)
+
+
+class Files:
+    """A folder of files that words name by a letter."""
+
+    def __init__(self, folder):
+        self.folder = folder
+
+    def name(self, letter):
+        return os.path.join(self.folder, letter)
+
+    def lay(self, files):
+        for letter, data in files.items():
+            with open(self.name(letter), "wb") as file:
+                file.write(data)
+
+    def words(self, line):
+        return [self.name(word[1]) if word.startswith("{") else word for word in line.split()]
+
+    def with_plans(self, files):
+        """The files with the plans that the program prints of them."""
+        self.lay(files)
+        made = {"P": run(self.words("plan {H} {T}")).stdout, "K": run(self.words("plan {H} {T} --workers 2")).stdout}
+        made["F"] = re.sub(rb"\n3,VolA,\d+,\d+,-\n", b"\n3,VolA,3,5,-\n", made["P"])
+        self.lay(made)
+        return {**files, **made}
+
+
+def letters(line):
+    return [word[1] for word in line.split() if word.startswith("{")]
+
+
+def processor_seconds():
+    used = resource.getrusage(resource.RUSAGE_CHILDREN)
+    return used.ru_utime + used.ru_stime
+
+
+def run(words, stdin=b"", before=()):
+    """Runs the program with the words; `before` are words that start it."""
+    begin = processor_seconds()
+    command = [*before, PROGRAM, *words]
+    try:
+        done = subprocess.run(command, input=stdin, stdout=subprocess.PIPE, stderr=subprocess.PIPE, timeout=HANGS)
+    except subprocess.TimeoutExpired:
+        return Run(None, b"", b"", processor_seconds() - begin)
+    return Run(done.returncode, done.stdout, done.stderr, processor_seconds() - begin)
+
+
+def faults_of(run):
+    """What is wrong with how a run on small files ended, whatever they held. Its words were right."""
+    if run.status is None:
+        return ["it hangs"]
+    faults = []
+    if run.status not in (0, 1, 3, 4):
+        faults.append("the status is %d" % run.status)
+    elif run.status <= 1:
+        if run.stderr:
+            faults.append("standard error is not empty")
+        if not run.stdout.endswith(b"\n"):
+            faults.append("standard output is no text")
+    else:
+        if run.stdout:
+            faults.append("standard output is not empty")
+        if not FAULT.fullmatch(run.stderr):
+            faults.append("standard error is not one fault line")
+    if run.seconds > SECONDS:
+        faults.append("it takes %.2f s" % run.seconds)
+    return faults
+
+
+def read(*name):
+    """A file of this repository."""
+    with open(os.path.join(ROOT, *name), "rb") as file:
+        return file.read()
+
+
+def samples(trace="X1.csv"):
+    """The sample files by the letters that words name them with."""
+    return {"H": read("examples", "H1.toml"), "C": read("examples", "C1.toml"), "T": read("examples", trace)}
+
+
+def commands():
+    """The names of the commands that the program knows, from its help."""
+    listed = run(["--help"]).stdout.decode().partition("Commands:")[2].partition("\n\n")[0]
+    return set(re.findall(r"^  ([a-z]+)  ", listed, re.M)) - {"help"}
+
+
+def known_words():
+    """The words of each command that the program knows."""
+    known = commands()
+    return [line for line in WORDS if line.split()[0] in known]
+
+
+def scratch():
+    return tempfile.TemporaryDirectory(prefix="waff-hostile-")
+
+
+def arguments(about, *options):
+    """The arguments of a script. The program is built where that is needed, if no other one is named."""
+    global PROGRAM
+    parser = argparse.ArgumentParser(description=about)
+    parser.add_argument("--program", help="another build of the program")
+    for name, kind, value, text in options:
+        parser.add_argument(name, type=kind, nargs="?", default=value, help=text)
+    given = parser.parse_args()
+    if given.program:
+        PROGRAM = os.path.realpath(given.program)
+    else:
+        build()
+    return given
+
+
+def build():
+    words = [os.path.join(ROOT, "waff"), "--help"]
+    if subprocess.run(words, stdin=subprocess.DEVNULL, stdout=subprocess.DEVNULL).returncode != 0:
+        sys.exit("hostile: no program")
