@@ -1,0 +1,155 @@
+-- Names numbered in the order in which they first appear.
+use Rattle.std.proofs.Common.{◌≡◌, ℕ, ◌+◌, ◌-◌, ◌<◌, ◌≤◌, Bool, true, false, inl, inr, cond, ◌==◌, List, [], ◌∷◌, ◌++◌, length, get_or, map, take, Some, slice_get, option_map, ◌||◌, Bor, arith, refl, sym, ◌∙◌, ap, subst}
+use Rattle.std.specs.List.{list_any}
+use Rattle.std.specs.Str.{bytes_eq}
+use Rattle.std.proofs.lemmas.Bool.{cases_eq, cases_lt, cases_Bool}
+use Rattle.std.proofs.lemmas.Bool.Decides.{nat_tests}
+use Rattle.std.proofs.lemmas.List.{map_push, get_or_push, get_or_append_left, length_push}
+use Rattle.std.proofs.lemmas.List.Folds.{list_any_at}
+use Rattle.std.proofs.lemmas.List.Sums.{fold_more}
+use Rattle.std.proofs.lemmas.Option.{get_or_from_slice_get, slice_get-map}
+use Rattle.indexmap.specs.IndexSet.{insert_key}
+use Rattle.std.proofs.lemmas.Slice.Eq.{bytes_eq-Decides}
+use Rattle.waff_figures.specs.ByName.{distinct_names, is_named, with_name}
+use Rattle.waff_figures.specs.Tally.{is_in}
+
+-- no two of the keys are equal
+abbrev AreApart : List (List ℕ) → Type 0
+AreApart keys = (i j : ℕ) → i < length keys → j < length keys → get_or keys i [] ≡ get_or keys j [] → i ≡ j
+
+-- the keys are the distinct ones of the names so far, and a place is that of its name
+pub record AreNumbered (names keys : List (List ℕ)) (places : List ℕ) : Type 0 where
+  pub distinct : keys ≡ distinct_names (take (length places) names)
+  pub few : length keys ≤ length places
+  pub apart : AreApart keys
+  pub within : (i : ℕ) → i < length places → get_or places i 0 < length keys
+  pub each : (i : ℕ) → i < length places → get_or keys (get_or places i 0) [] ≡ get_or names i []
+
+pub none_numbered : (names : List (List ℕ)) → AreNumbered names [] []
+none_numbered names = record {
+  distinct = refl;
+  few = omega arith;
+  apart = λ i j low high same. absurd (omega (arith, low));
+  within = λ i low. absurd (omega (arith, low));
+  each = λ i low. absurd (omega (arith, low));
+}
+
+-- a name more keeps the places of the others, and takes at most one place
+with_name_length : (keys : List (List ℕ)) (name : List ℕ) → (length keys ≤ length (with_name keys name)) × (length (with_name keys name) ≤ length keys + 1)
+with_name_length keys name = elim (cases_Bool (list_any (bytes_eq name) keys)) [
+  | inl there ↦ let e : with_name keys name ≡ keys = ap (λ b. cond b keys (keys ++ name ∷ [])) there in rw e (omega arith, omega arith)
+  | inr new ↦ let e : with_name keys name ≡ keys ++ name ∷ [] = ap (λ b. cond b keys (keys ++ name ∷ [])) new in
+      rw e (omega (arith, length_push keys name), omega (arith, length_push keys name))
+]
+
+with_name_keeps : (keys : List (List ℕ)) (name : List ℕ) (i : ℕ) → i < length keys → get_or (with_name keys name) i [] ≡ get_or keys i []
+with_name_keeps keys name i low = elim (cases_Bool (list_any (bytes_eq name) keys)) [
+  | inl there ↦ ap (λ b. get_or (cond b keys (keys ++ name ∷ [])) i []) there
+  | inr new ↦ ap (λ b. get_or (cond b keys (keys ++ name ∷ [])) i []) new ∙ get_or_append_left keys (name ∷ []) [] i low
+]
+
+-- a key that is there is not added
+not_there : (keys : List (List ℕ)) (name : List ℕ) → list_any (bytes_eq name) keys ≡ false → (i : ℕ) → i < length keys → get_or keys i [] ≡ name → ⊥
+not_there keys name new i low same =
+    let found = list_any_at (bytes_eq name) keys i [] low ((bytes_eq-Decides name (get_or keys i [])).1 (sym same)) in
+    cc
+
+with_name_apart : (keys : List (List ℕ)) (name : List ℕ) → AreApart keys → AreApart (with_name keys name)
+with_name_apart keys name apart = elim (cases_Bool (list_any (bytes_eq name) keys)) [
+  | inl there ↦ subst (λ b. AreApart (cond b keys (keys ++ name ∷ []))) (sym there) apart
+  | inr new ↦ subst (λ b. AreApart (cond b keys (keys ++ name ∷ []))) (sym new) (λ i j low high same.
+      let long = length_push keys name in
+      let last : get_or (keys ++ name ∷ []) (length keys) [] ≡ name = get_or_push keys name [] (length keys) refl in
+      elim (cases_lt i (length keys)) [
+        | inl i_old ↦ elim (cases_lt j (length keys)) [
+          | inl j_old ↦ apart i j i_old j_old (sym (get_or_append_left keys (name ∷ []) [] i i_old) ∙ same ∙ get_or_append_left keys (name ∷ []) [] j j_old)
+          | inr j_new ↦
+              let is : j ≡ length keys = omega (arith, j_new, high, long) in
+              absurd (not_there keys name new i i_old (sym (get_or_append_left keys (name ∷ []) [] i i_old) ∙ same ∙ ap (λ x. get_or (keys ++ name ∷ []) x []) is ∙ last))
+        ]
+        | inr i_new ↦
+            let is : i ≡ length keys = omega (arith, i_new, low, long) in
+            elim (cases_lt j (length keys)) [
+              | inl j_old ↦ absurd (not_there keys name new j j_old (sym (get_or_append_left keys (name ∷ []) [] j j_old) ∙ sym same ∙ ap (λ x. get_or (keys ++ name ∷ []) x []) is ∙ last))
+              | inr j_new ↦ omega (arith, is, j_new, high, long)
+            ]
+      ])
+]
+
+pub numbered_next : (names keys : List (List ℕ)) (places : List ℕ) (name : List ℕ) (place : ℕ) → AreNumbered names keys places
+    → length places < length names → name ≡ get_or names (length places) [] → place < length (with_name keys name)
+    → get_or (with_name keys name) place [] ≡ name → AreNumbered names (with_name keys name) (places ++ place ∷ [])
+numbered_next names keys places name place are inside is within at =
+    let long = length_push places place in
+    record {
+      distinct =
+          ap (λ ks. with_name ks name) are.distinct
+          ∙ ap (λ x. with_name (distinct_names (take (length places) names)) x) is
+          ∙ sym (fold_more with_name [] names (length places) [] inside)
+          ∙ ap (λ n. distinct_names (take n names)) (sym long);
+      few = omega (arith, long, are.few, (with_name_length keys name).1);
+      apart = with_name_apart keys name are.apart;
+      within = λ i low. elim (cases_lt i (length places)) [
+        | inl old ↦
+            let same = get_or_append_left places (place ∷ []) 0 i old in
+            omega (arith, same, are.within i old, (with_name_length keys name).0)
+        | inr new ↦
+            let same : i ≡ length places = omega (arith, new, low, long) in
+            let last : get_or (places ++ place ∷ []) i 0 ≡ place = get_or_push places place 0 i (sym same) in
+            omega (arith, last, within)
+      ];
+      each = λ i low. elim (cases_lt i (length places)) [
+        | inl old ↦
+            ap (λ p. get_or (with_name keys name) p []) (get_or_append_left places (place ∷ []) 0 i old)
+            ∙ with_name_keeps keys name (get_or places i 0) (are.within i old) ∙ are.each i old
+        | inr new ↦
+            let same : i ≡ length places = omega (arith, new, low, long) in
+            let last : get_or (places ++ place ∷ []) i 0 ≡ place = get_or_push places place 0 i (sym same) in
+            ap (λ p. get_or (with_name keys name) p []) last ∙ at ∙ is ∙ ap (λ x. get_or names x []) (sym same)
+      ];
+    }
+
+-- a message is at a place exactly where it has the name there
+pub place_tells : (names keys : List (List ℕ)) (places : List ℕ) → AreNumbered names keys places → (g m : ℕ) → g < length keys → 1 ≤ m → m ≤ length places
+    → is_in places g m ≡ is_named names (get_or keys g []) m
+place_tells names keys places are g m low from to =
+    let i = m - 1 in
+    let inside : i < length places = omega (arith, from, to) in
+    let place = get_or places i 0 in
+    let each = are.each i inside in
+    let same_name = bytes_eq-Decides (get_or names i []) (get_or keys g []) in
+    elim (cases_eq place g) [
+      | inl same ↦
+          let yes : (place == g) ≡ true = grind (arith, nat_tests, same) in
+          yes ∙ sym (same_name.1 (sym each ∙ ap (λ x. get_or keys x []) same))
+      | inr other ↦
+          let no : (place == g) ≡ false = grind (arith, nat_tests, other) in
+          no ∙ sym (elim (cases_Bool (bytes_eq (get_or names i []) (get_or keys g []))) [
+            | inl pass ↦ absurd (other (are.apart place g (are.within i inside) low (each ∙ same_name.0 pass)))
+            | inr differ ↦ differ
+          ])
+    ]
+
+list_any-map : {X Y : Type 0} (p : Y → Bool) (f : X → Y) (xs : List X) → list_any p (map f xs) ≡ list_any (λ x. p (f x)) xs
+list_any-map p f [] = refl
+list_any-map p f (x ∷ xs) = ap (λ b. p (f x) || b) (list_any-map p f xs)
+
+-- the texts of a set once a name is inserted
+pub names_inserted : (keys : List (Bor (List ℕ))) (name : Bor (List ℕ))
+    → map (λ x. x.now) (insert_key (λ x y. bytes_eq x.now y.now) keys name) ≡ with_name (map (λ x. x.now) keys) name.now
+names_inserted keys name = elim (cases_Bool (list_any (λ k. bytes_eq name.now k.now) keys)) [
+  | inl there ↦
+      ap (λ b. map (λ x. x.now) (cond b keys (keys ++ name ∷ []))) there
+      ∙ sym (ap (λ b. cond b (map (λ x. x.now) keys) (map (λ x. x.now) keys ++ name.now ∷ [])) (list_any-map (bytes_eq name.now) (λ x. x.now) keys ∙ there))
+  | inr new ↦
+      ap (λ b. map (λ x. x.now) (cond b keys (keys ++ name ∷ []))) new
+      ∙ map_push (λ x. x.now) keys name
+      ∙ sym (ap (λ b. cond b (map (λ x. x.now) keys) (map (λ x. x.now) keys ++ name.now ∷ [])) (list_any-map (bytes_eq name.now) (λ x. x.now) keys ∙ new))
+]
+
+-- the text of a key at a place
+pub name_at : (keys : List (Bor (List ℕ))) (place : ℕ) (key : Bor (List ℕ)) → slice_get keys place ≡ Some key
+    → get_or (map (λ x. x.now) keys) place [] ≡ key.now
+name_at keys place key at =
+    get_or_from_slice_get (map (λ x. x.now) keys) place key.now []
+    (slice_get-map (λ x. x.now) keys place ∙ ap (λ o. option_map (λ x. x.now) o) at)

@@ -1,0 +1,38 @@
+use Rattle.std.proofs.Common.{◌≡◌, ℕ, ◌<◌, ◌++◌, rules, Bor, List, [], length, get_or, map, string_bytes, arith, sym, ◌∙◌, ap, subst}
+use Rattle.std.specs.List.{range_with_len}
+use Rattle.std.proofs.lemmas.List.{length-map}
+use Rattle.waff_plan.specs.Timing.{work_of}
+use Rattle.waff_plan_text.specs.Lines.{text_of}
+use Rattle.waff_figures.specs.ByName.{distinct_names, is_named, message_names, name_row, named_row, names_header, tallied_name_row}
+use Rattle.waff_figures.specs.Tally.{is_in, no_tally, tally_of}
+use Rattle.waff_figures.proofs.LineLemmas.{two_parts}
+use Rattle.waff_figures.proofs.RowLemmas.{map_by_places, map_range_same, tally_same}
+use Rattle.waff_figures.proofs.by_name.names_text.Goals as goal
+
+pub returns : goal.returns
+returns c =
+    let names = message_names c.args.trace.now.messages in
+    let work = work_of c.args.plan.now.timings in
+    let chain = c.args.chain.now in
+    let keys = c.in_ok-found.found.names.keys in
+    let texts : List (List ℕ) = map (λ (x : Bor (List ℕ)). x.now) keys in
+    let places = c.in_ok-found.found.places.items in
+    let tallies = c.in_ok-tallies.tallies.items in
+    let long : length texts ≡ length keys = length-map keys (λ (x : Bor (List ℕ)). x.now) in
+    let count : work.count ≡ length c.args.trace.now.messages = ap length c.requires.timings ∙ length-map c.args.trace.now.messages _ in
+    let tally : (p : ℕ) → p < length keys → get_or tallies p no_tally ≡ tally_of work chain (is_named names (get_or texts p []))
+    = λ p low.
+    subst (λ gs. get_or tallies p no_tally ≡ tally_of work chain (is_in gs p)) c.as_slice.ensures.value
+    (c.in_ok-tallies.ensures.each p (omega (arith, low, c.len.ensures.len)))
+    ∙ tally_same work chain (is_in places p) (is_named names (get_or texts p [])) c.requires.chain.each
+    (λ m from to. c.in_ok-found.ensures.each p m low from (omega (arith, to, count))) in
+    let rows : map (tallied_name_row texts tallies) (range_with_len 0 (length keys)) ≡ map (name_row names work chain) (distinct_names names)
+    = map_range_same (tallied_name_row texts tallies) (λ p. name_row names work chain (get_or texts p [])) 0 (length keys)
+    (λ p from to. ap (λ t. named_row (get_or texts p []) t) (tally p (omega (arith, to))))
+    ∙ ap (λ n. map (λ p. name_row names work chain (get_or texts p [])) (range_with_len 0 n)) (sym long)
+    ∙ map_by_places (name_row names work chain) texts []
+    ∙ ap (map (name_row names work chain)) c.in_ok-found.ensures.names in
+    let pushed = rw c.as_slice-2.ensures.value at c.in_ok-push_rows.ensures in
+    two_parts names_header (map (name_row names work chain) (distinct_names names))
+    (string_bytes c.push_str.new.self) (string_bytes c.push_rows.new.text) (search rules)
+    (pushed ∙ ap (λ rs. string_bytes c.push_str.new.self ++ text_of rs) rows)

@@ -1,0 +1,10 @@
+use Rattle.std.proofs.Common.{◌≡◌, ◌++◌, map, string_bytes}
+use Rattle.std.specs.List.{range_with_len}
+use Rattle.waff_plan_text.specs.Lines.{text_of}
+use Rattle.waff_figures.specs.ByName.{tallied_name_row}
+use Rattle.waff_figures.proofs.by_name.push_rows.Given as goal
+
+abbrev pub invariant-loop-place : goal.invariant-loop-place
+invariant-loop-place l =
+    string_bytes l.text ≡ string_bytes l.initial.text
+    ++ text_of (map (tallied_name_row (map (λ name. name.now) l.names.keys) l.tallies) (range_with_len 0 l.place))

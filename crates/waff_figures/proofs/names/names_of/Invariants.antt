@@ -1,0 +1,10 @@
+use Rattle.std.proofs.Common.{◌≡◌, ◌-◌, length, map}
+use Rattle.waff_figures.specs.ByName.{message_names}
+use Rattle.waff_figures.proofs.NameLemmas.{AreNumbered}
+use Rattle.waff_figures.proofs.names.names_of.Given as goal
+
+abbrev pub invariant-loop-n : goal.invariant-loop-n
+invariant-loop-n l = record {
+  numbered : AreNumbered (message_names l.trace.messages) (map (λ name. name.now) l.names.keys) l.places.items;
+  count : length l.places.items ≡ l.n - 1;
+}

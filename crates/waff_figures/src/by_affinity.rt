@@ -1,0 +1,111 @@
+//! Where the time goes, by affinity.
+
+ghost use Rattle.std.specs.Prelude.{◌≡◌, ◌<◌, ◌++◌, ℕ, List, All, IfOk, OnOk, length, map, slice_index, slice_index_or, string_bytes};
+ghost use Rattle.std.specs.List.{range_with_len};
+ghost use Rattle.waff_model.specs.Tree.{name_of, parent_of};
+ghost use Rattle.waff_plan.specs.Chain.{IsListed};
+ghost use Rattle.waff_plan.specs.Timing.{work_of};
+ghost use Rattle.waff_plan_text.specs.Lines.{line_text, text_of};
+ghost use Rattle.waff_figures.specs.ByAffinity.{AreCostsBelow, affinities_lines, parent_field, tally_row, tallied_row};
+ghost use Rattle.waff_figures.specs.Tally.{no_tally};
+
+use crate::Tally;
+use crate::below::costs_below;
+use crate::tally::tallies;
+use std::alloc::{AllocError, Global};
+use waff_assign::Assigned;
+use waff_model::{AffinityId, Tree};
+use waff_plan::Plan;
+
+/// The text that tells for each affinity how many messages run in it, and the sums of their costs.
+pub fn affinities_text(
+    alloc: Global,
+    tree: &Tree,
+    assigned: &Assigned,
+    plan: &Plan,
+    chain: &[u32],
+) -> Result<String, AllocError>
+    requires lengths { length assigned.now ≡ length plan.now.timings }
+    requires known { All (λ a. a < length tree.now) assigned.now }
+    requires chain { IsListed (length plan.now.timings) chain.now }
+    ensures { IfOk result (λ text. (below : List ℕ) × AreCostsBelow tree.now assigned.now (work_of plan.now.timings) below
+        × (string_bytes text ≡ text_of (affinities_lines tree.now assigned.now (work_of plan.now.timings) chain.now below))) }
+{
+    let _total = plan.total();
+    let affinities = affinities_of(alloc, assigned)?;
+    let tallies = tallies(
+        alloc,
+        affinities.as_slice(),
+        tree.len() as usize,
+        plan,
+        chain,
+    )?;
+    let below = costs_below(alloc, tree, tallies.as_slice())?;
+    let mut text = String::new(alloc);
+    text.push_str("affinity,parent,messages,cost,below,chain\n")?;
+    push_rows(&mut text, tree, tallies.as_slice(), below.as_slice())?;
+    Ok(text)
+}
+
+/// The affinity of each message, in the order of arrival.
+fn affinities_of(alloc: Global, assigned: &Assigned) -> Result<Vec<u32>, AllocError>
+    ensures { IfOk result (λ affinities. affinities.items ≡ assigned.now) }
+{
+    let mut affinities = Vec::with_capacity(alloc, assigned.len() as usize)?;
+    for n in 1..assigned.len() + 1 {
+        affinities.push(u32::from(assigned.of(n).0))?;
+    }
+    Ok(affinities)
+}
+
+/// Appends the lines of all affinities.
+fn push_rows(
+    text: &mut String,
+    tree: &Tree,
+    tallies: &[Tally],
+    below: &[u64],
+) -> Result<(), AllocError>
+    requires tallies { length tallies.now ≡ length tree.now }
+    requires below { length below.now ≡ length tree.now }
+    ensures { OnOk result (string_bytes text.new ≡ string_bytes text.old
+        ++ text_of (map (tallied_row tree.now tallies.now below.now) (range_with_len 0 (length tree.now)))) }
+{
+    for a in 0..tree.len() {
+        let affinity = AffinityId(a as u16);
+        let name = tree.name(affinity);
+        let parent = parent_name(tree, affinity);
+        push_row(text, name, parent, below[a as usize], &tallies[a as usize])?;
+    }
+    Ok(())
+}
+
+/// The name of the parent, `-` for the root.
+fn parent_name(tree: &Tree, affinity: AffinityId) -> &str
+    requires { affinity.0 < length tree.now }
+    ensures { result.now ≡ parent_field tree.now (parent_of tree.now affinity.0) }
+{
+    let _affinities = tree.len();
+    match tree.parent(affinity) {
+        Some(parent) => tree.name(parent),
+        None => "-",
+    }
+}
+
+/// Appends the line of one affinity.
+fn push_row(
+    text: &mut String,
+    name: &str,
+    parent: &str,
+    below: u64,
+    tally: &Tally,
+) -> Result<(), AllocError>
+    ensures { OnOk result (string_bytes text.new
+        ≡ string_bytes text.old ++ line_text (tally_row name.now parent.now below tally.now)) }
+{
+    let Tally {
+        messages,
+        cost,
+        chain,
+    } = *tally;
+    writeln!(text, "{name},{parent},{messages},{cost},{below},{chain}")
+}

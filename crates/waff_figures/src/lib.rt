@@ -1,0 +1,23 @@
+//! Figures of a trace under a hierarchy: how long it takes by the number of workers, and where the time goes.
+//!
+//! - `ratio`: ratios as they are printed.
+//! - `figures`: what is told of one plan; `sweep`: of the plans for 1 to 64 workers, and their text.
+//! - `tally`: what is told of some of the messages; `below`: costs summed up the tree; `names`: the distinct names.
+//! - `by_affinity`, `by_name`: the texts of these.
+#![tactic(auto)]
+
+mod below;
+mod by_affinity;
+mod by_name;
+mod figures;
+pub mod laws;
+mod names;
+mod ratio;
+mod sweep;
+mod tally;
+
+pub use by_affinity::affinities_text;
+pub use by_name::names_text;
+pub use figures::Figures;
+pub use sweep::{figures_text, list_figures};
+pub use tally::Tally;

@@ -1,0 +1,178 @@
+//! The sweep over numbers of workers.
+
+ghost use Rattle.std.specs.Prelude.{◌≡◌, ◌<◌, ◌++◌, ℕ, List, All, IfOk, OnOk, Some, None, length, map, string_bytes};
+ghost use Rattle.waff_model.specs.Tree.{Node};
+ghost use Rattle.waff_assign.specs.Order.{IsOrdered};
+ghost use Rattle.waff_plan.specs.Bound.{IsWorkers};
+ghost use Rattle.waff_plan.specs.Obeys.{IsLeast};
+ghost use Rattle.waff_plan.specs.Timetable.{timings_of};
+ghost use Rattle.waff_plan.specs.Timing.{start_of, work_of};
+ghost use Rattle.waff_plan.specs.Work.{length_of};
+ghost use Rattle.waff_plan_text.specs.Lines.{line_text, text_of};
+ghost use Rattle.waff_plan_text.specs.Spelling.{worker_field};
+ghost use Rattle.waff_order.specs.Needs.{AreNeeds};
+ghost use Rattle.waff_figures.specs.Figures.{figures_of};
+ghost use Rattle.waff_figures.specs.Sweep.{AreListed, IsListed, busy_field, sweep_lines, sweep_row};
+
+use crate::Figures;
+use crate::figures::told_of;
+use crate::ratio::Ratio;
+use std::alloc::{AllocError, Global};
+use std::fmt;
+use waff_assign::Assigned;
+use waff_list::laws::needs_make_the_same_plans;
+use waff_list::list_plan;
+use waff_model::{Trace, Tree};
+use waff_order::Needs;
+use waff_order::predecessors::needs;
+use waff_plan::Plan;
+use waff_plan::laws::none_is_shorter;
+
+/// The numbers of workers that a sweep tells of.
+const WORKERS: [u32; 12] = [1, 2, 3, 4, 6, 8, 12, 16, 24, 32, 48, 64];
+
+/// The figures of the list plans, where this is the unlimited plan.
+pub fn list_figures(
+    alloc: Global,
+    tree: &Tree,
+    assigned: &Assigned,
+    trace: &Trace,
+    unlimited: &Plan,
+) -> Result<Vec<Figures>, AllocError>
+    requires lengths { length assigned.now ≡ length trace.now.messages }
+    requires known { All (λ a. a < length tree.now) assigned.now }
+    requires timings { unlimited.now.timings ≡ timings_of trace.now.messages }
+    requires least { IsLeast (IsOrdered tree.now assigned.now) (work_of unlimited.now.timings) (start_of unlimited.now.starts) }
+    ensures { IfOk result (λ listed. AreListed (IsOrdered tree.now assigned.now) (work_of unlimited.now.timings)
+        (length_of (work_of unlimited.now.timings) (start_of unlimited.now.starts)) listed.items) }
+{
+    let needs = needs(alloc, tree, assigned)?;
+    list_figures_for(alloc, trace, unlimited, &needs, &WORKERS)
+}
+
+/// The figures of the list plans for these numbers of workers.
+fn list_figures_for(
+    alloc: Global,
+    trace: &Trace,
+    unlimited: &Plan,
+    needs: &Needs,
+    workers: &[u32],
+) -> Result<Vec<Figures>, AllocError>
+    requires lengths { length needs.now ≡ length trace.now.messages }
+    requires timings { unlimited.now.timings ≡ timings_of trace.now.messages }
+    requires workers { All IsWorkers workers.now }
+    ensures workers { IfOk result (λ listed. map (λ figures. figures.workers) listed.items ≡ map Some workers.now) }
+    ensures each { IfOk result (λ listed. (tree : List Node) (assigned : List ℕ) → AreNeeds tree assigned needs.now
+        → IsLeast (IsOrdered tree assigned) (work_of unlimited.now.timings) (start_of unlimited.now.starts)
+        → All (IsListed (IsOrdered tree assigned) (work_of unlimited.now.timings)
+        (length_of (work_of unlimited.now.timings) (start_of unlimited.now.starts))) listed.items) }
+{
+    let mut listed = Vec::with_capacity(alloc, workers.len())?;
+    for k in workers {
+        let figures = figures_for(alloc, trace, unlimited, needs, *k)?;
+        listed.push(figures)?;
+    }
+    Ok(listed)
+}
+
+/// The figures of the list plan for k workers.
+fn figures_for(
+    alloc: Global,
+    trace: &Trace,
+    unlimited: &Plan,
+    needs: &Needs,
+    k: u32,
+) -> Result<Figures, AllocError>
+    requires lengths { length needs.now ≡ length trace.now.messages }
+    requires timings { unlimited.now.timings ≡ timings_of trace.now.messages }
+    requires workers { IsWorkers k }
+    ensures workers { IfOk result (λ figures. figures.workers ≡ Some k) }
+    ensures listed { IfOk result (λ figures. (tree : List Node) (assigned : List ℕ) → AreNeeds tree assigned needs.now
+        → IsLeast (IsOrdered tree assigned) (work_of unlimited.now.timings) (start_of unlimited.now.starts)
+        → IsListed (IsOrdered tree assigned) (work_of unlimited.now.timings)
+        (length_of (work_of unlimited.now.timings) (start_of unlimited.now.starts)) figures) }
+{
+    let made = list_plan(alloc, needs, trace, k)?;
+    needs_make_the_same_plans();
+    none_is_shorter();
+    Ok(told_of(made.plan(), Some(k), unlimited.length()))
+}
+
+/// The text of the figures of the list plans and of the unlimited plan.
+pub fn figures_text(
+    alloc: Global,
+    listed: &[Figures],
+    unlimited: &Plan,
+) -> Result<String, AllocError>
+    ensures { IfOk result (λ text. string_bytes text ≡ text_of (sweep_lines listed.now
+        (figures_of None (work_of unlimited.now.timings)
+        (length_of (work_of unlimited.now.timings) (start_of unlimited.now.starts)) (start_of unlimited.now.starts)))) }
+{
+    let mut text = String::new(alloc);
+    text.push_str("workers,length,speedup,busy,least,over,waits,latency\n")?;
+    push_rows(&mut text, listed)?;
+    push_row(&mut text, &told_of(unlimited, None, unlimited.length()))?;
+    Ok(text)
+}
+
+/// Appends the lines of these plans.
+fn push_rows(text: &mut String, rows: &[Figures]) -> Result<(), AllocError>
+    ensures { OnOk result (string_bytes text.new ≡ string_bytes text.old ++ text_of (map sweep_row rows.now)) }
+{
+    for figures in rows {
+        push_row(text, figures)?;
+    }
+    Ok(())
+}
+
+/// Appends the line of one plan.
+fn push_row(text: &mut String, figures: &Figures) -> Result<(), AllocError>
+    ensures { OnOk result (string_bytes text.new ≡ string_bytes text.old ++ line_text (sweep_row figures.now)) }
+{
+    let Figures {
+        workers,
+        total,
+        length,
+        least,
+        waits,
+        latency,
+    } = *figures;
+    let speedup = Ratio(total, u128::from(length));
+    let busy = BusyField(workers, total, length);
+    let over = Ratio(length, u128::from(least));
+    let workers = WorkerField(workers);
+    writeln!(
+        text,
+        "{workers},{length},{speedup},{busy},{least},{over},{waits},{latency}"
+    )
+}
+
+/// A number of workers, `-` where there is none.
+#[derive(Clone, Copy)]
+struct WorkerField(Option<u32>);
+
+impl fmt::Display for WorkerField {
+    ghost output = { λ workers. Some (worker_field workers.0) };
+
+    fn fmt<W: fmt::Write>(&self, f: &mut fmt::Formatter<W>) -> fmt::Result {
+        match self.0 {
+            Some(k) => write!(f, "{k}"),
+            None => write!(f, "-"),
+        }
+    }
+}
+
+/// How much of the time workers are busy: their number, the total and the length.
+#[derive(Clone, Copy)]
+struct BusyField(Option<u32>, u64, u64);
+
+impl fmt::Display for BusyField {
+    ghost output = { λ busy. Some (busy_field busy.0 busy.1 busy.2) };
+
+    fn fmt<W: fmt::Write>(&self, f: &mut fmt::Formatter<W>) -> fmt::Result {
+        match self.0 {
+            Some(k) => write!(f, "{}", Ratio(self.1, u128::from(k) * u128::from(self.2))),
+            None => write!(f, "-"),
+        }
+    }
+}
