@@ -12,10 +12,14 @@ use files::{read_file, read_input};
 use std::alloc::Global;
 use std::process::ExitCode;
 use std::rt::Runtime;
+use std::sync::Wait;
 use std::thread::Threads;
 use std::{env, io};
+use waff_core::limits::MAX_SEATS;
 use waff_model::limits::MAX_WORKERS;
-use waff_tool::{assign_text, check_text, compare_text, plan_text, split_input, verdict_status};
+use waff_tool::{
+    assign_text, check_text, compare_text, plan_text, replay_text, split_input, verdict_status,
+};
 use words::{FileNames, Request, read_words};
 
 fn main(rt: HostRuntime) -> ExitCode {
@@ -27,7 +31,7 @@ fn main(rt: HostRuntime) -> ExitCode {
 }
 
 /// Does what the words ask for, and gives the exit status.
-fn run<R: Runtime + AllocGlobal + Threads + Sync>(rt: &R) -> Result<u8, Failure> {
+fn run<R: Runtime + AllocGlobal + Threads + Wait + Sync>(rt: &R) -> Result<u8, Failure> {
     let alloc = rt.alloc();
     let words = words_of(rt)?;
     match read_words(alloc, words.as_slice())? {
@@ -35,6 +39,7 @@ fn run<R: Runtime + AllocGlobal + Threads + Sync>(rt: &R) -> Result<u8, Failure>
         Request::Assign(files) => print_assignment(rt, alloc, files)?,
         Request::Plan(files, workers) => print_plan(rt, alloc, files, workers)?,
         Request::Check(files, plan) => return print_verdict(rt, alloc, files, plan),
+        Request::Replay(files, workers) => print_state(rt, alloc, files, workers)?,
         Request::Compare(files, other, k) => print_comparison(rt, alloc, files, other, k)?,
     }
     Ok(0)
@@ -100,6 +105,27 @@ fn print_verdict<R: Runtime + Threads + Sync>(
         &mut io::writer(rt),
     )?;
     Ok(verdict_status(&verdict))
+}
+
+fn print_state<R: Runtime + Threads + Wait + Sync>(
+    rt: &R,
+    alloc: Global,
+    files: FileNames<'_>,
+    workers: u32,
+) -> Result<(), Failure>
+    requires some { 1 ≤ workers }
+    requires few { workers ≤ MAX_SEATS }
+{
+    let hierarchy = read_file(rt, alloc, files.hierarchy, 1)?;
+    let trace = read_file(rt, alloc, files.trace, 2)?;
+    Ok(replay_text(
+        rt,
+        alloc,
+        hierarchy.as_slice(),
+        trace.as_slice(),
+        workers,
+        &mut io::writer(rt),
+    )?)
 }
 
 fn print_comparison<R: Runtime>(

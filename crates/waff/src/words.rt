@@ -5,6 +5,7 @@ ghost use Rattle.waff.specs.Requests.{IsWithinLimits};
 use crate::failure::Failure;
 use clap::{Arg, ArgMatches, Command, value_parser};
 use std::alloc::{AllocError, Global};
+use waff_core::limits::MAX_SEATS;
 use waff_model::limits::MAX_WORKERS;
 
 /// What the words ask for.
@@ -17,6 +18,8 @@ pub enum Request<'a> {
     Plan(FileNames<'a>, Option<u32>),
     /// The verdict on the plan in the file of this name.
     Check(FileNames<'a>, &'a str),
+    /// The state that the trace leaves, replayed by this number of workers.
+    Replay(FileNames<'a>, u32),
     /// The hierarchy compared with the one in the file of this name, for this number of workers.
     Compare(FileNames<'a>, &'a str, u32),
 }
@@ -35,13 +38,20 @@ pub fn read_words<'a>(alloc: Global, words: &'a [String]) -> Result<Request<'a>,
     let matches = waff(alloc)?.try_get_matches_from(words)?;
     match matches.subcommand() {
         Some(("assign", matches)) => Ok(Request::Assign(file_names(matches)?)),
-        Some(("plan", matches)) => Ok(Request::Plan(file_names(matches)?, workers(matches)?)),
+        Some(("plan", matches)) => {
+            let k = workers(matches, MAX_WORKERS)?;
+            Ok(Request::Plan(file_names(matches)?, k))
+        }
         Some(("check", matches)) => Ok(Request::Check(
             file_names(matches)?,
             word(matches, "PLAN")?,
         )),
+        Some(("replay", matches)) => {
+            let workers = workers(matches, MAX_SEATS)?.ok_or(Failure::NoWords)?;
+            Ok(Request::Replay(file_names(matches)?, workers))
+        }
         Some(("compare", matches)) => {
-            let k = workers(matches)?.ok_or(Failure::NoWords)?;
+            let k = workers(matches, MAX_WORKERS)?.ok_or(Failure::NoWords)?;
             Ok(Request::Compare(file_names(matches)?, word(matches, "OTHER")?, k))
         }
         Some(_) => Err(Failure::NoWords),
@@ -60,13 +70,13 @@ fn word<'a>(matches: &ArgMatches<'a>, id: &str) -> Result<&'a str, Failure> {
     matches.get_str(id).ok_or(Failure::NoWords)
 }
 
-/// The number of workers, where it is given.
-fn workers(matches: &ArgMatches<'_>) -> Result<Option<u32>, Failure>
+/// The number of workers, where it is given; there are this many at most.
+fn workers(matches: &ArgMatches<'_>, most: u32) -> Result<Option<u32>, Failure>
     ensures some { IfOk result (λ number. IfSome number (λ k. 1 ≤ k)) }
-    ensures few { IfOk result (λ number. IfSome number (λ k. k ≤ MAX_WORKERS)) }
+    ensures few { IfOk result (λ number. IfSome number (λ k. k ≤ most)) }
 {
     match matches.get_one::<u32>("workers") {
-        Some(k) if k == 0 || k > MAX_WORKERS => Err(Failure::NoWords),
+        Some(k) if k == 0 || k > most => Err(Failure::NoWords),
         number => Ok(number),
     }
 }
@@ -94,6 +104,12 @@ fn waff<'a>(alloc: Global) -> Result<Command<'a>, AllocError> {
             "Tells the first fault of a plan, or how good the plan is",
         )?
         .arg(file(alloc, "PLAN", "The text of the plan, a CSV file"))?)?
+        .subcommand(command(
+            alloc,
+            "replay",
+            "Runs the messages in threads, and prints each cell that is not 0 then",
+        )?
+        .arg(number_of_threads(alloc))?)?
         .subcommand(compare(alloc)?)
 }
 
@@ -124,10 +140,23 @@ fn file<'a>(alloc: Global, id: &'a str, help: &'a str) -> Arg<'a> {
     Arg::new(alloc, id).required(true).help(help)
 }
 
+/// The workers of a plan.
 fn number_of_workers<'a>(alloc: Global) -> Arg<'a> {
+    workers_up_to(alloc, MAX_WORKERS)
+        .value_name("K")
+        .help("How many messages may run at once, from 1 to 64")
+}
+
+/// The workers of a replay.
+fn number_of_threads<'a>(alloc: Global) -> Arg<'a> {
+    workers_up_to(alloc, MAX_SEATS)
+        .value_name("W")
+        .help("How many threads run messages, from 1 to 16")
+        .required(true)
+}
+
+fn workers_up_to<'a>(alloc: Global, most: u32) -> Arg<'a> {
     Arg::new(alloc, "workers")
         .long("workers")
-        .value_name("K")
-        .value_parser(value_parser!(u32).range(1..=i64::from(MAX_WORKERS)))
-        .help("How many messages may run at once, from 1 to 64")
+        .value_parser(value_parser!(u32).range(1..=i64::from(most)))
 }
