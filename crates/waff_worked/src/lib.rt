@@ -10,9 +10,13 @@ mod comparisons;
 #[cfg(test)]
 mod hierarchies_read;
 #[cfg(test)]
+mod jobs;
+#[cfg(test)]
 mod plan_texts;
 #[cfg(test)]
 mod plans;
+#[cfg(test)]
+mod replays;
 #[cfg(test)]
 mod running;
 #[cfg(test)]
