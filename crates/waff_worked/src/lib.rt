@@ -12,9 +12,13 @@ mod hierarchies_read;
 #[cfg(test)]
 mod hostile_writes;
 #[cfg(test)]
+mod jobs;
+#[cfg(test)]
 mod plan_texts;
 #[cfg(test)]
 mod plans;
+#[cfg(test)]
+mod replays;
 #[cfg(test)]
 mod running;
 #[cfg(test)]

@@ -14,7 +14,7 @@ use waff_read::{read_hierarchy, read_trace};
 use waff_replay::serial;
 
 /// The cells that are not 0, each with its number.
-fn numbers(alloc: Global, layout: &Layout, state: &State) -> Result<String, Fail>
+pub fn numbers(alloc: Global, layout: &Layout, state: &State) -> Result<String, Fail>
     requires { HasSizes state.now (sizes_of layout.now.spaces) }
 {
     let mut text = String::new(alloc);
