@@ -3,3 +3,4 @@ pub mod ComparisonLemmas
 pub mod LinesLemmas
 pub mod LineLaws
 pub mod Uniqueness
+pub mod FigureUniqueness

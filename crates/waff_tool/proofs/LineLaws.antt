@@ -1,5 +1,5 @@
 -- The lines of plans with the same starts and the same workers are equal.
-use Rattle.std.proofs.Common.{◌≡◌, ℕ, ◌+◌, ◌-◌, ◌*◌, ◌<◌, ◌≤◌, List, [], ◌∷◌, ◌++◌, map, length, get_or, Option, Some, None, arith, sym, ◌∙◌, ap, subst}
+use Rattle.std.proofs.Common.{◌≡◌, ℕ, ◌+◌, ◌*◌, ◌<◌, List, ◌∷◌, ◌++◌, map, Option, Some, None, arith, sym, ◌∙◌, ap, subst}
 use Rattle.std.proofs.lemmas.List.{same_lists}
 use Rattle.std.proofs.lemmas.List.FromFn.{length-map-range_with_len, get_or-map-range_with_len}
 use Rattle.waff_model.specs.declared.message.Version.{Version}
@@ -9,7 +9,7 @@ use Rattle.waff_plan.specs.Bound.{right_side}
 use Rattle.waff_plan.specs.Chain.{chain_cost, chain_release}
 use Rattle.waff_plan.specs.Totals.{totals_of}
 use Rattle.waff_plan.specs.Unique.{AreSame}
-use Rattle.waff_plan.specs.Work.{Work, IsNumber, finish_of, length_of, numbers, total_of}
+use Rattle.waff_plan.specs.Work.{Work, IsNumber, numbers, total_of}
 use Rattle.waff_plan.specs.declared.totals.Totals.{Totals}
 use Rattle.waff_plan.proofs.Uniqueness.{same_length}
 use Rattle.waff_plan_text.specs.Spelling.{message_row, plan_header, plan_lines, plan_row, summary_lines, worker_field}

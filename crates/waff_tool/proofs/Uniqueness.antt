@@ -1,8 +1,8 @@
 -- Of the same bytes each command has one text.
-use Rattle.std.proofs.Common.{◌≡◌, ℕ, ◌⊎◌, ◌↔◌, inl, inr, Bool, IsTrue, List, length, Option, Some, None, Result, Ok, Err, refl, sym, ◌∙◌, ap, subst}
+use Rattle.std.proofs.Common.{◌≡◌, ℕ, ◌↔◌, inl, inr, IsTrue, List, length, Option, Some, None, Result, Ok, refl, sym, ◌∙◌, ap, subst}
 use Rattle.std.proofs.lemmas.Bool.Decides.{same_from_decides}
-use Rattle.waff_model.specs.Layout.{Hierarchy, SameSpaces}
-use Rattle.waff_model.specs.Messages.{Arrivals, IsTrace}
+use Rattle.waff_model.specs.Layout.{Hierarchy}
+use Rattle.waff_model.specs.Messages.{Arrivals}
 use Rattle.waff_model.specs.Tree.{IsTree}
 use Rattle.waff_model.specs.declared.kind.Kind.{Kind}
 use Rattle.waff_model.specs.declared.kind.Kind.TheVariants as kind
@@ -16,8 +16,7 @@ use Rattle.waff_plan.specs.Chain.{IsPrinted}
 use Rattle.waff_plan.specs.Obeys.{IsForward, IsLeast}
 use Rattle.waff_plan.specs.Timing.{start_of}
 use Rattle.waff_plan.specs.Totals.{totals_of}
-use Rattle.waff_plan.specs.Unique.{AreSame}
-use Rattle.waff_plan.specs.Work.{Work, IsNumber, total_of}
+use Rattle.waff_plan.specs.Work.{Work, total_of}
 use Rattle.waff_plan.specs.declared.totals.Totals.{Totals}
 use Rattle.waff_plan.proofs.Uniqueness.{least_is_one, printed_is_one}
 use Rattle.waff_list.specs.ListRule.{IsListPlan}
@@ -34,9 +33,8 @@ use Rattle.waff_check.specs.Verdicts.{IsVerdict, claim_of}
 use Rattle.waff_check.specs.declared.verdict.Verdict.{Verdict}
 use Rattle.waff_check.proofs.Uniqueness.{verdict_is_one}
 use Rattle.waff_tool.specs.AssignText.{assign_lines}
-use Rattle.waff_tool.specs.Commands.{Accepts, IsAssignText, IsPlanText, IsPlanTextFor, IsWorkerPlanText, work_in}
-use Rattle.waff_tool.specs.CheckText.{IsCheckText}
-use Rattle.waff_tool.specs.Comparison.{AreModels, IsCompared, IsCompareText, IsMeasured, compare_lines}
+use Rattle.waff_tool.specs.Commands.{Accepts, IsPlanText, IsWorkerPlanText, work_in}
+use Rattle.waff_tool.specs.Comparison.{AreModels, IsCompared, IsMeasured, compare_lines}
 use Rattle.waff_tool.specs.Unique.{AssignTextIsOne, CheckTextIsOne, CompareTextIsOne, PlanTextIsOne}
 use Rattle.waff_tool.specs.declared.measures.Measured.{Measured}
 use Rattle.waff_tool.proofs.CertificateLemmas.{pairs_forward}
@@ -52,7 +50,7 @@ same_trace layout other file trace more same one two =
     same_ok (trace_of layout.spaces file) trace more one (subst (λ (l : Hierarchy). trace_of l.spaces file ≡ Ok more) (sym same) two)
 
 -- each message of a trace that is read runs
-trace_runs : (layout : Hierarchy) (file : List ℕ) (trace : Arrivals) → trace_of layout.spaces file ≡ Ok trace → EachRuns (work_in trace)
+pub trace_runs : (layout : Hierarchy) (file : List ℕ) (trace : Arrivals) → trace_of layout.spaces file ≡ Ok trace → EachRuns (work_in trace)
 trace_runs layout file trace read =
     let small = trace_is_small trace (trace_is_within_limits layout.spaces file trace read) in
     small.some_cost
@@ -61,12 +59,12 @@ layout_tree : (file : List ℕ) (layout : Hierarchy) → hierarchy_of file ≡ O
 layout_tree file layout read = let limits = layout_is_within_limits file layout read in limits.tree
 
 -- what was read, and the assignment
-record IsSameInput (layout other : Hierarchy) (trace more : Arrivals) (assigned affinities : List ℕ) : Type 0 where
-  layouts : layout ≡ other
-  traces : trace ≡ more
-  assignments : assigned ≡ affinities
+pub record IsSameInput (layout other : Hierarchy) (trace more : Arrivals) (assigned affinities : List ℕ) : Type 0 where
+  pub layouts : layout ≡ other
+  pub traces : trace ≡ more
+  pub assignments : assigned ≡ affinities
 
-same_input : (hierarchy_file trace_file : List ℕ) (layout other : Hierarchy) (trace more : Arrivals) (assigned affinities : List ℕ)
+pub same_input : (hierarchy_file trace_file : List ℕ) (layout other : Hierarchy) (trace more : Arrivals) (assigned affinities : List ℕ)
     → Accepts hierarchy_file trace_file layout trace assigned → Accepts hierarchy_file trace_file other more affinities
     → IsSameInput layout other trace more assigned affinities
 same_input hierarchy_file trace_file layout other trace more assigned affinities one two =
@@ -80,7 +78,7 @@ same_input hierarchy_file trace_file layout other trace more assigned affinities
       assignments = assignment_is_one layout trace.messages (layout_tree hierarchy_file layout one.is_layout) assigned affinities one.assignment moved;
     }
 
-moved_back : (P : Hierarchy → Arrivals → List ℕ → Type 0) (layout other : Hierarchy) (trace more : Arrivals) (assigned affinities : List ℕ)
+pub moved_back : (P : Hierarchy → Arrivals → List ℕ → Type 0) (layout other : Hierarchy) (trace more : Arrivals) (assigned affinities : List ℕ)
     → IsSameInput layout other trace more assigned affinities → P other more affinities → P layout trace assigned
 moved_back P layout other trace more assigned affinities same h =
     subst (λ l. P l trace assigned) (sym same.layouts)

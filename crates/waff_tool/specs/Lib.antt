@@ -4,5 +4,6 @@ pub mod CheckText
 pub mod Commands
 pub mod Comparison
 pub mod Fault
+pub mod Figures
 pub mod ToolErrors
 pub mod Unique
