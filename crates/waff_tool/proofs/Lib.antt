@@ -6,3 +6,4 @@ pub mod OrderLemmas
 pub mod StateLines
 pub mod Uniqueness
 pub mod OwnPlanLaws
+pub mod FigureUniqueness

@@ -52,7 +52,7 @@ same_trace layout other file trace more same one two =
     same_ok (trace_of layout.spaces file) trace more one (subst (λ (l : Hierarchy). trace_of l.spaces file ≡ Ok more) (sym same) two)
 
 -- each message of a trace that is read runs
-trace_runs : (layout : Hierarchy) (file : List ℕ) (trace : Arrivals) → trace_of layout.spaces file ≡ Ok trace → EachRuns (work_in trace)
+pub trace_runs : (layout : Hierarchy) (file : List ℕ) (trace : Arrivals) → trace_of layout.spaces file ≡ Ok trace → EachRuns (work_in trace)
 trace_runs layout file trace read =
     let small = trace_is_small trace (trace_is_within_limits layout.spaces file trace read) in
     small.some_cost
@@ -61,12 +61,12 @@ layout_tree : (file : List ℕ) (layout : Hierarchy) → hierarchy_of file ≡ O
 layout_tree file layout read = let limits = layout_is_within_limits file layout read in limits.tree
 
 -- what was read, and the assignment
-record IsSameInput (layout other : Hierarchy) (trace more : Arrivals) (assigned affinities : List ℕ) : Type 0 where
-  layouts : layout ≡ other
-  traces : trace ≡ more
-  assignments : assigned ≡ affinities
+pub record IsSameInput (layout other : Hierarchy) (trace more : Arrivals) (assigned affinities : List ℕ) : Type 0 where
+  pub layouts : layout ≡ other
+  pub traces : trace ≡ more
+  pub assignments : assigned ≡ affinities
 
-same_input : (hierarchy_file trace_file : List ℕ) (layout other : Hierarchy) (trace more : Arrivals) (assigned affinities : List ℕ)
+pub same_input : (hierarchy_file trace_file : List ℕ) (layout other : Hierarchy) (trace more : Arrivals) (assigned affinities : List ℕ)
     → Accepts hierarchy_file trace_file layout trace assigned → Accepts hierarchy_file trace_file other more affinities
     → IsSameInput layout other trace more assigned affinities
 same_input hierarchy_file trace_file layout other trace more assigned affinities one two =
@@ -80,7 +80,7 @@ same_input hierarchy_file trace_file layout other trace more assigned affinities
       assignments = assignment_is_one layout trace.messages (layout_tree hierarchy_file layout one.is_layout) assigned affinities one.assignment moved;
     }
 
-moved_back : (P : Hierarchy → Arrivals → List ℕ → Type 0) (layout other : Hierarchy) (trace more : Arrivals) (assigned affinities : List ℕ)
+pub moved_back : (P : Hierarchy → Arrivals → List ℕ → Type 0) (layout other : Hierarchy) (trace more : Arrivals) (assigned affinities : List ℕ)
     → IsSameInput layout other trace more assigned affinities → P other more affinities → P layout trace assigned
 moved_back P layout other trace more assigned affinities same h =
     subst (λ l. P l trace assigned) (sym same.layouts)

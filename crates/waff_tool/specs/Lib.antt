@@ -6,6 +6,7 @@ pub mod Comparison
 pub mod Fault
 pub mod PrintedSpaces
 pub mod ReplayText
+pub mod Figures
 pub mod ToolErrors
 pub mod Unique
 pub mod OwnPlans
