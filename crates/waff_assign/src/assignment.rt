@@ -1,7 +1,7 @@
 //! The assignment of affinities to messages.
 
 ghost use Rattle.std.specs.Prelude.{◌≡◌, ◌<◌, ◌++◌, length, All, IfOk, OnOk};
-ghost use Rattle.waff_assign.specs.Lowest.{IsAssignment};
+ghost use Rattle.waff_assign.specs.Lowest.{AreLowest, IsAssignment};
 ghost use Rattle.waff_model.specs.Cells.{cells_of, cells_of_op};
 ghost use Rattle.waff_model.specs.Messages.{sizes_of};
 
@@ -13,6 +13,8 @@ use waff_model::{Cell, Layout, Op, Ops, Trace};
 pub fn assign(alloc: Global, layout: &Layout, trace: &Trace) -> Result<Assigned, AllocError>
     requires fits { trace.now.sizes ≡ sizes_of layout.now.spaces }
     ensures assignment { IfOk result (IsAssignment layout.now trace.now.messages) }
+    ensures count { IfOk result (λ assigned. length assigned ≡ length trace.now.messages) }
+    ensures lowest { IfOk result (AreLowest layout.now trace.now.messages) }
     ensures known { IfOk result (All (λ a. a < length layout.now.tree)) }
 {
     let mut affinities = Vec::with_capacity(alloc, trace.len() as usize)?;
