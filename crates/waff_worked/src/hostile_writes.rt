@@ -81,7 +81,7 @@ fn fails_at_each_byte<R: Threads + Sync + Abort>(
             taken: Vec::new(alloc),
         };
         let result = write_text(rt, alloc, call, &mut writer);
-        assert!(rt; result == Err(ToolError::Write));
+        assert_eq!(rt; result.err(), Some(ToolError::Write));
         assert_eq!(rt; writer.taken.as_slice(), &text.as_bytes()[..room]);
     }
     Ok(())
@@ -167,7 +167,7 @@ fn fail_after_any_number_of_bytes(rt: HostRuntime) {
         for at_once in [1, 7, 1000] {
             let mut reader = Breaks { left, at_once };
             let result = read_whole(rt.alloc(), &mut reader, 200);
-            assert!(rt; result.err() == Some(fault));
+            assert_eq!(rt; result.err(), Some(fault));
         }
     }
 }
