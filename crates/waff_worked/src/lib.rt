@@ -14,6 +14,8 @@ mod plan_texts;
 #[cfg(test)]
 mod plans;
 #[cfg(test)]
+mod replay_texts;
+#[cfg(test)]
 mod running;
 #[cfg(test)]
 mod samples;
