@@ -18,6 +18,8 @@ mod plan_texts;
 #[cfg(test)]
 mod plans;
 #[cfg(test)]
+mod replay_texts;
+#[cfg(test)]
 mod replays;
 #[cfg(test)]
 mod running;

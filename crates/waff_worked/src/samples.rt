@@ -191,3 +191,20 @@ classical,1,1,1,1,2,3\n\
 hierarchical,2,2,2,2,4,4\n\
 refines,no\n\
 ";
+
+/// The state that the first trace leaves under the hierarchical sample.
+pub const STATE_H1_X1: &str = "cell,value\n\
+f:0,5\n\
+f:2,7\n\
+f:4,1\n\
+g:0,5\n\
+g:4,1\n\
+";
+
+/// The state that the second trace leaves under the hierarchical sample.
+pub const STATE_H1_X2: &str = "cell,value\n\
+f:0,5\n\
+f:2,7\n\
+g:0,5\n\
+g:4,1\n\
+";
