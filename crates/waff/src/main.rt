@@ -5,6 +5,7 @@ ghost use Rattle.std.specs.Prelude.{◌≤◌, IfSome};
 
 mod failure;
 mod files;
+mod help;
 mod words;
 
 use failure::Failure;
@@ -15,7 +16,10 @@ use std::rt::Runtime;
 use std::thread::Threads;
 use std::{env, io};
 use waff_model::limits::MAX_WORKERS;
-use waff_tool::{assign_text, check_text, compare_text, plan_text, split_input, verdict_status};
+use waff_tool::{
+    assign_text, check_text, compare_text, plan_text, split_input, sweep_text, verdict_status,
+    where_text,
+};
 use words::{FileNames, Request, read_words};
 
 fn main(rt: HostRuntime) -> ExitCode {
@@ -36,6 +40,8 @@ fn run<R: Runtime + AllocGlobal + Threads + Sync>(rt: &R) -> Result<u8, Failure>
         Request::Plan(files, workers) => print_plan(rt, alloc, files, workers)?,
         Request::Check(files, plan) => return print_verdict(rt, alloc, files, plan),
         Request::Compare(files, other, k) => print_comparison(rt, alloc, files, other, k)?,
+        Request::Sweep(files) => print_sweep(rt, alloc, files)?,
+        Request::Where(files, by_name) => print_where(rt, alloc, files, by_name)?,
     }
     Ok(0)
 }
@@ -121,6 +127,34 @@ fn print_comparison<R: Runtime>(
         second.as_slice(),
         trace.as_slice(),
         k,
+        &mut io::writer(rt),
+    )?)
+}
+
+fn print_sweep<R: Runtime>(rt: &R, alloc: Global, files: FileNames<'_>) -> Result<(), Failure> {
+    let hierarchy = read_file(rt, alloc, files.hierarchy, 1)?;
+    let trace = read_file(rt, alloc, files.trace, 2)?;
+    Ok(sweep_text(
+        alloc,
+        hierarchy.as_slice(),
+        trace.as_slice(),
+        &mut io::writer(rt),
+    )?)
+}
+
+fn print_where<R: Runtime>(
+    rt: &R,
+    alloc: Global,
+    files: FileNames<'_>,
+    by_name: bool,
+) -> Result<(), Failure> {
+    let hierarchy = read_file(rt, alloc, files.hierarchy, 1)?;
+    let trace = read_file(rt, alloc, files.trace, 2)?;
+    Ok(where_text(
+        alloc,
+        hierarchy.as_slice(),
+        trace.as_slice(),
+        by_name,
         &mut io::writer(rt),
     )?)
 }
