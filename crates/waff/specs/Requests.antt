@@ -13,3 +13,5 @@ IsWithinLimits (request.Assign files) = Unit {0}
 IsWithinLimits (request.Check files plan) = Unit {0}
 IsWithinLimits (request.Replay files workers) = (1 ≤ workers) × (workers ≤ MAX_SEATS)
 IsWithinLimits (request.Compare files other k) = (1 ≤ k) × (k ≤ MAX_WORKERS)
+IsWithinLimits (request.Sweep files) = Unit {0}
+IsWithinLimits (request.Where files by_name) = Unit {0}

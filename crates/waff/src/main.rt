@@ -5,6 +5,7 @@ ghost use Rattle.std.specs.Prelude.{◌≤◌, IfSome};
 
 mod failure;
 mod files;
+mod help;
 mod words;
 
 use failure::Failure;
@@ -18,7 +19,8 @@ use std::{env, io};
 use waff_core::limits::MAX_SEATS;
 use waff_model::limits::MAX_WORKERS;
 use waff_tool::{
-    assign_text, check_text, compare_text, plan_text, replay_text, split_input, verdict_status,
+    assign_text, check_text, compare_text, plan_text, replay_text, split_input, sweep_text,
+    verdict_status, where_text,
 };
 use words::{FileNames, Request, read_words};
 
@@ -41,6 +43,8 @@ fn run<R: Runtime + AllocGlobal + Threads + Wait + Sync>(rt: &R) -> Result<u8, F
         Request::Check(files, plan) => return print_verdict(rt, alloc, files, plan),
         Request::Replay(files, workers) => print_state(rt, alloc, files, workers)?,
         Request::Compare(files, other, k) => print_comparison(rt, alloc, files, other, k)?,
+        Request::Sweep(files) => print_sweep(rt, alloc, files)?,
+        Request::Where(files, by_name) => print_where(rt, alloc, files, by_name)?,
     }
     Ok(0)
 }
@@ -147,6 +151,34 @@ fn print_comparison<R: Runtime>(
         second.as_slice(),
         trace.as_slice(),
         k,
+        &mut io::writer(rt),
+    )?)
+}
+
+fn print_sweep<R: Runtime>(rt: &R, alloc: Global, files: FileNames<'_>) -> Result<(), Failure> {
+    let hierarchy = read_file(rt, alloc, files.hierarchy, 1)?;
+    let trace = read_file(rt, alloc, files.trace, 2)?;
+    Ok(sweep_text(
+        alloc,
+        hierarchy.as_slice(),
+        trace.as_slice(),
+        &mut io::writer(rt),
+    )?)
+}
+
+fn print_where<R: Runtime>(
+    rt: &R,
+    alloc: Global,
+    files: FileNames<'_>,
+    by_name: bool,
+) -> Result<(), Failure> {
+    let hierarchy = read_file(rt, alloc, files.hierarchy, 1)?;
+    let trace = read_file(rt, alloc, files.trace, 2)?;
+    Ok(where_text(
+        alloc,
+        hierarchy.as_slice(),
+        trace.as_slice(),
+        by_name,
         &mut io::writer(rt),
     )?)
 }

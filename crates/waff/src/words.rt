@@ -3,7 +3,8 @@ ghost use Rattle.std.specs.Prelude.{◌≤◌, IfOk, IfSome};
 ghost use Rattle.waff.specs.Requests.{IsWithinLimits};
 
 use crate::failure::Failure;
-use clap::{Arg, ArgMatches, Command, value_parser};
+use crate::help;
+use clap::{Arg, ArgAction, ArgMatches, Command, value_parser};
 use std::alloc::{AllocError, Global};
 use waff_core::limits::MAX_SEATS;
 use waff_model::limits::MAX_WORKERS;
@@ -22,6 +23,10 @@ pub enum Request<'a> {
     Replay(FileNames<'a>, u32),
     /// The hierarchy compared with the one in the file of this name, for this number of workers.
     Compare(FileNames<'a>, &'a str, u32),
+    /// How long the trace takes, by the number of workers.
+    Sweep(FileNames<'a>),
+    /// Where the time goes, by the names of messages or by affinity.
+    Where(FileNames<'a>, bool),
 }
 
 /// The names of the files of a command.
@@ -54,6 +59,11 @@ pub fn read_words<'a>(alloc: Global, words: &'a [String]) -> Result<Request<'a>,
             let k = workers(matches, MAX_WORKERS)?.ok_or(Failure::NoWords)?;
             Ok(Request::Compare(file_names(matches)?, word(matches, "OTHER")?, k))
         }
+        Some(("sweep", matches)) => Ok(Request::Sweep(file_names(matches)?)),
+        Some(("where", matches)) => Ok(Request::Where(
+            file_names(matches)?,
+            matches.get_flag("names"),
+        )),
         Some(_) => Err(Failure::NoWords),
         None => Ok(Request::PlanOfInput),
     }
@@ -83,6 +93,7 @@ fn workers(matches: &ArgMatches<'_>, most: u32) -> Result<Option<u32>, Failure>
 
 fn waff<'a>(alloc: Global) -> Result<Command<'a>, AllocError> {
     Command::new(alloc, "waff")
+        .version("0.1.0")
         .about("How much parallelism a tree of affinities allows a trace of messages")
         .after_help(
             "With no words: the plan of the hierarchy and the trace on standard input, a line --- between them.",
@@ -91,26 +102,51 @@ fn waff<'a>(alloc: Global) -> Result<Command<'a>, AllocError> {
             alloc,
             "assign",
             "Prints the affinity in which each message runs",
-        )?)?
+        )?
+        .after_help(help::ASSIGN))?
+        .subcommand(
+            command(
+                alloc,
+                "plan",
+                "Prints a shortest plan, with no limit on the workers, or a plan for a number of workers",
+            )?
+            .arg(number_of_workers(alloc))?
+            .after_help(help::PLAN),
+        )?
+        .subcommand(
+            command(
+                alloc,
+                "check",
+                "Tells the first fault of a plan, or how good the plan is",
+            )?
+            .arg(file(alloc, "PLAN", "The text of the plan, a CSV file"))?
+            .after_help(help::CHECK),
+        )?
         .subcommand(command(
             alloc,
-            "plan",
-            "Prints a shortest plan, with no limit on the workers, or a plan for a number of workers",
+            "sweep",
+            "Prints how long the trace takes for 1 to 64 workers, and how busy the workers are",
         )?
-        .arg(number_of_workers(alloc))?)?
-        .subcommand(command(
-            alloc,
-            "check",
-            "Tells the first fault of a plan, or how good the plan is",
+        .after_help(help::SWEEP))?
+        .subcommand(
+            command(
+                alloc,
+                "where",
+                "Prints where the time goes, by affinity or by the names of messages",
+            )?
+            .arg(by_name(alloc))?
+            .after_help(help::WHERE),
         )?
-        .arg(file(alloc, "PLAN", "The text of the plan, a CSV file"))?)?
-        .subcommand(command(
-            alloc,
-            "replay",
-            "Runs the messages in threads, and prints each cell that is not 0 then",
+        .subcommand(
+            command(
+                alloc,
+                "replay",
+                "Runs the messages in threads, and prints each cell that is not 0 then",
+            )?
+            .arg(number_of_threads(alloc))?
+            .after_help(help::REPLAY),
         )?
-        .arg(number_of_threads(alloc))?)?
-        .subcommand(compare(alloc)?)
+        .subcommand(compare(alloc)?.after_help(help::COMPARE))
 }
 
 /// A command on a hierarchy and a trace.
@@ -159,4 +195,11 @@ fn workers_up_to<'a>(alloc: Global, most: u32) -> Arg<'a> {
     Arg::new(alloc, "workers")
         .long("workers")
         .value_parser(value_parser!(u32).range(1..=i64::from(most)))
+}
+
+fn by_name<'a>(alloc: Global) -> Arg<'a> {
+    Arg::new(alloc, "names")
+        .long("names")
+        .action(ArgAction::SetTrue)
+        .help("A line for each name of messages in place of each affinity")
 }
