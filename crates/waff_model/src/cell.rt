@@ -6,16 +6,3 @@ pub struct Cell {
     pub space: u32,
     pub index: u32,
 }
-
-#[cfg(test)]
-mod tests {
-    use super::*;
-
-    #[test]
-    fn is_ordered_by_space_first(rt: HostRuntime) {
-        let last_of_first = Cell { space: 0, index: 9 };
-        let first_of_second = Cell { space: 1, index: 0 };
-        assert!(rt; last_of_first < first_of_second);
-        assert!(rt; first_of_second < Cell { space: 1, index: 1 });
-    }
-}

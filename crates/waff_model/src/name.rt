@@ -58,30 +58,3 @@ impl Text {
         self.text.as_str()
     }
 }
-
-#[cfg(test)]
-mod tests {
-    use super::*;
-    use std::test::Fail;
-
-    #[test]
-    fn tells_names(rt: HostRuntime) {
-        for (text, is) in [
-            ("f", true),
-            ("A-Z_a.z09", true),
-            ("", false),
-            ("m 1", false),
-            ("caf\u{e9}", false),
-            ("0123456789abcdef0123456789abcdef", true),
-            ("0123456789abcdef0123456789abcdef0", false),
-        ] {
-            assert_eq!(rt; is_name(text), is, "{text}");
-        }
-    }
-
-    #[test]
-    fn keeps_a_text(rt: HostRuntime) -> Result<(), Fail> {
-        assert_eq!(rt; Text::of(rt.alloc(), "m 1")?.as_str(), "m 1");
-        Ok(())
-    }
-}

@@ -81,22 +81,3 @@ impl Ops {
         self.list.iter()
     }
 }
-
-#[cfg(test)]
-mod tests {
-    use super::*;
-    use std::test::Fail;
-
-    #[test]
-    fn keeps_operations_in_order(rt: HostRuntime) -> Result<(), Fail> {
-        let cell = Cell { space: 0, index: 4 };
-        let mut ops = Ops::new(rt.alloc());
-        assert!(rt; ops.is_empty());
-        ops.push(Op::Read { cell })?;
-        ops.push(Op::Add { cell, value: 7 })?;
-        assert_eq!(rt; ops.len(), 2);
-        assert_eq!(rt; ops.get(1), Op::Add { cell, value: 7 });
-        assert_eq!(rt; ops.iter().count(), 2);
-        Ok(())
-    }
-}

@@ -56,20 +56,3 @@ impl Texts {
         self.texts.as_slice()
     }
 }
-
-#[cfg(test)]
-mod tests {
-    use super::*;
-    use std::test::Fail;
-
-    #[test]
-    fn keeps_texts_in_order(rt: HostRuntime) -> Result<(), Fail> {
-        let mut texts = Texts::new(rt.alloc());
-        texts.push(Text::of(rt.alloc(), "v1")?)?;
-        texts.push(Text::of(rt.alloc(), "")?)?;
-        assert_eq!(rt; texts.len(), 2);
-        assert_eq!(rt; texts.get(0).as_str(), "v1");
-        assert_eq!(rt; texts.get(1).as_str(), "");
-        Ok(())
-    }
-}

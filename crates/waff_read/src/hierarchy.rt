@@ -143,6 +143,3 @@ fn read_layout(alloc: Global, kind: Kind, tree: Tree, document: &Value) -> Resul
         },
     }
 }
-
-#[cfg(test)]
-mod tests;

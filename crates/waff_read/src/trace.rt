@@ -101,6 +101,3 @@ pub fn read_trace(alloc: Global, layout: &Layout, bytes: &[u8]) -> Result<Trace,
         Err(Stop::Fault(e)) => Err(e),
     }
 }
-
-#[cfg(test)]
-mod tests;

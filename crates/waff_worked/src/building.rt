@@ -46,14 +46,16 @@ pub fn layout(alloc: Global) -> Result<Layout, Fail> {
     Ok(Layout::new(alloc, Kind::Hierarchical, tree, &spaces, &maps)?)
 }
 
-fn space(alloc: Global, name: &str, size: i64) -> Result<SpaceSpec, Fail> {
+/// A space to be.
+pub fn space(alloc: Global, name: &str, size: i64) -> Result<SpaceSpec, Fail> {
     Ok(SpaceSpec {
         name: Text::of(alloc, name)?,
         size,
     })
 }
 
-fn map(alloc: Global, space: &str, unit: i64, owners: &[&str]) -> Result<MapSpec, Fail> {
+/// A map to be.
+pub fn map(alloc: Global, space: &str, unit: i64, owners: &[&str]) -> Result<MapSpec, Fail> {
     let mut to = Texts::new(alloc);
     for owner in owners {
         to.push(Text::of(alloc, owner)?)?;

@@ -3,7 +3,7 @@
 use crate::samples::{self, H1};
 use std::alloc::Global;
 use std::test::Fail;
-use waff_model::{AffinityId, LayoutError, TreeError};
+use waff_model::{AffinityId, Cell, Kind, LayoutError, TreeError};
 use waff_read::{HierError, Key, read_hierarchy};
 
 /// The sample with the first of these parts in place of the other.
@@ -18,10 +18,14 @@ fn fault(alloc: Global, hierarchy: &str) -> Option<HierError> {
 #[test]
 fn are_no_documents(rt: HostRuntime) -> Result<(), Fail> {
     let alloc = rt.alloc();
-    assert_eq!(rt; fault(alloc, H1), None);
-    assert_eq!(rt; fault(alloc, ""), Some(HierError::Model));
-    assert_eq!(rt; fault(alloc, "model = \"hier"), Some(HierError::Toml));
-    assert_eq!(rt; fault(alloc, "model = \"hybrid\""), Some(HierError::Model));
+    for (text, refusal) in [
+        (H1, None),
+        ("", Some(HierError::Model)),
+        ("model = \"hier", Some(HierError::Toml)),
+        ("model = \"hybrid\"", Some(HierError::Model)),
+    ] {
+        assert_eq!(rt; fault(alloc, text), refusal);
+    }
     let mut bytes = changed(alloc, "Serial", "Serial")?.into_bytes();
     for byte in bytes.iter_mut() {
         if *byte == b'S' {
@@ -32,6 +36,24 @@ fn are_no_documents(rt: HostRuntime) -> Result<(), Fail> {
         read_hierarchy(alloc, bytes.as_slice()).err(),
         Some(HierError::Toml)
     );
+    Ok(())
+}
+
+#[test]
+fn are_read_with_what_the_format_does_not_name(rt: HostRuntime) -> Result<(), Fail> {
+    let text = "\u{feff}model = 'classical'\nowner = 'ignored'\n\
+        [[affinity]]\nname = 'Serial'\n[[affinity]]\nname = 'T0'\nparent = 'Serial'\n\
+        [[map]]\nspace = 'f'\nunit = 2\nto = ['T0', 'Serial']\n\
+        [[space]]\nname = 'f'\nsize = 8\n";
+    let layout = read_hierarchy(rt.alloc(), text.as_bytes())?;
+    assert_eq!(rt; layout.kind(), Kind::Classical);
+    assert_eq!(rt; layout.tree().len(), 2);
+    assert_eq!(rt; layout.tree().parent(AffinityId(1)), Some(AffinityId(0)));
+    assert_eq!(rt; layout.space_count(), 1);
+    assert_eq!(rt; layout.space_size(0), 8);
+    let third = Cell { space: 0, index: 2 };
+    assert!(rt; layout.has(third));
+    assert_eq!(rt; layout.owner(third), AffinityId(0));
     Ok(())
 }
 

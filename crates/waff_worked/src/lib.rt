@@ -6,13 +6,23 @@ mod affinities;
 #[cfg(test)]
 mod building;
 #[cfg(test)]
+mod commands;
+#[cfg(test)]
 mod comparisons;
 #[cfg(test)]
+mod faults;
+#[cfg(test)]
 mod hierarchies_read;
+#[cfg(test)]
+mod hierarchies_refused;
 #[cfg(test)]
 mod hostile_writes;
 #[cfg(test)]
 mod jobs;
+#[cfg(test)]
+mod layouts;
+#[cfg(test)]
+mod parts;
 #[cfg(test)]
 mod plan_texts;
 #[cfg(test)]
@@ -28,9 +38,15 @@ mod samples;
 #[cfg(test)]
 mod states;
 #[cfg(test)]
+mod sweeps;
+#[cfg(test)]
 mod texts;
 #[cfg(test)]
 mod traces_read;
+#[cfg(test)]
+mod traces_refused;
+#[cfg(test)]
+mod trees;
 #[cfg(test)]
 mod verdicts;
 #[cfg(test)]

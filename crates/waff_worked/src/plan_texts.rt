@@ -2,112 +2,99 @@
 
 use crate::samples::{PLAN_H1_X1, PLAN_H1_X2, changed};
 use std::alloc::Global;
-use std::process::Abort;
 use std::test::Fail;
 use waff_model::Version;
 use waff_plan_text::{PlanTextError, read_plan};
 
-/// The changed plan has to be refused so.
-fn is_refused(
-    rt: &impl Abort,
-    alloc: Global,
-    part: &str,
-    other: &str,
-    fault: PlanTextError,
-) -> Result<(), Fail> {
+/// Why the plan is refused, with another part in place of this one.
+fn refusal(alloc: Global, part: &str, other: &str) -> Result<Option<PlanTextError>, Fail> {
     let text = changed(alloc, PLAN_H1_X1, part, other)?;
-    let refusal = read_plan(alloc, Version::V1, 6, text.as_bytes()).err();
-    assert_eq!(rt; refusal, Some(fault));
+    Ok(read_plan(alloc, Version::V1, 6, text.as_bytes()).err())
+}
+
+#[test]
+fn have_another_row_than_the_format_asks_for(rt: HostRuntime) -> Result<(), Fail> {
+    let third = "3,VolA,4,6,-\n";
+    for (part, other, fault) in [
+        ("start", "begin", PlanTextError::Header { at: 1 }),
+        ("2,B0,0,3,-", "2,B0,0,03,-", PlanTextError::Row { at: 3 }),
+        ("2,B0,0,3,-", "7,B0,0,3,-", PlanTextError::Row { at: 3 }),
+        ("1,A0,0,4,-", "7,A0,0,4,-", PlanTextError::Row { at: 2 }),
+        (third, "", PlanTextError::Missing { message: 3 }),
+        (
+            third,
+            "3,VolA,4,6,-\n3,VolA,4,6,-\n",
+            PlanTextError::Twice { at: 5 },
+        ),
+        (
+            "1,A0,0,4,-",
+            "1,A0,1000000000000001,4,-",
+            PlanTextError::TooLarge { at: 2 },
+        ),
+    ] {
+        assert_eq!(rt; refusal(rt.alloc(), part, other)?, Some(fault), "{other}");
+    }
     Ok(())
 }
 
 #[test]
-fn lack_a_row_or_have_it_twice(rt: HostRuntime) -> Result<(), Fail> {
-    let alloc = rt.alloc();
-    let (row, twice) = ("3,VolA,4,6,-\n", "3,VolA,4,6,-\n3,VolA,4,6,-\n");
-    is_refused(&rt, alloc, row, "", PlanTextError::Missing { message: 3 })?;
-    is_refused(&rt, alloc, row, twice, PlanTextError::Twice { at: 5 })
+fn have_another_line_than_the_format_asks_for(rt: HostRuntime) -> Result<(), Fail> {
+    let bound = "bound,9,9\n";
+    for (part, other, fault) in [
+        ("workers,-", "workers,65", PlanTextError::Summary { at: 8 }),
+        ("chain,1 3 5 6", "chain", PlanTextError::Summary { at: 11 }),
+        (
+            "chain,1 3 5 6",
+            "chain,1  3",
+            PlanTextError::Summary { at: 11 },
+        ),
+        (
+            "cost,9",
+            "release,0\ncost,9",
+            PlanTextError::Summary { at: 12 },
+        ),
+        (bound, "", PlanTextError::Summary { at: 13 }),
+        (
+            bound,
+            "bound,9,9\nbound,9,9\n",
+            PlanTextError::Summary { at: 14 },
+        ),
+        (
+            "total,17",
+            "total,99999999999999999999",
+            PlanTextError::TooLarge { at: 9 },
+        ),
+        (
+            "cost,9",
+            "cost,99999999999999999999",
+            PlanTextError::TooLarge { at: 12 },
+        ),
+    ] {
+        assert_eq!(rt; refusal(rt.alloc(), part, other)?, Some(fault), "{other}");
+    }
+    Ok(())
 }
 
 #[test]
-fn lack_a_line_of_the_summary_or_have_another(rt: HostRuntime) -> Result<(), Fail> {
-    let alloc = rt.alloc();
-    is_refused(
-        &rt,
-        alloc,
-        "bound,9,9\n",
-        "",
-        PlanTextError::Summary { at: 13 },
-    )?;
-    let seventh = "bound,9,9\nbound,9,9\n";
-    is_refused(
-        &rt,
-        alloc,
-        "bound,9,9\n",
-        seventh,
-        PlanTextError::Summary { at: 14 },
-    )?;
-    is_refused(
-        &rt,
-        alloc,
-        "cost,9",
-        "release,0\ncost,9",
-        PlanTextError::Summary { at: 12 },
-    )?;
-    is_refused(
-        &rt,
-        alloc,
-        "chain,1 3 5 6",
-        "chain,1  3",
-        PlanTextError::Summary { at: 11 },
-    )
+fn lack_a_header_in_text(rt: HostRuntime) {
+    for (text, fault) in [
+        (b"".as_slice(), PlanTextError::Header { at: 1 }),
+        (b"message,\xff\n", PlanTextError::Csv { at: 1 }),
+    ] {
+        let found = read_plan(rt.alloc(), Version::V1, 6, text).err();
+        assert_eq!(rt; found, Some(fault));
+    }
 }
 
 #[test]
-fn have_a_number_above_the_limit(rt: HostRuntime) -> Result<(), Fail> {
-    let alloc = rt.alloc();
-    let start = "1,A0,1000000000000001,4,-";
-    is_refused(
-        &rt,
-        alloc,
-        "1,A0,0,4,-",
-        start,
-        PlanTextError::TooLarge { at: 2 },
-    )?;
-    let total = "total,99999999999999999999";
-    is_refused(
-        &rt,
-        alloc,
-        "total,17",
-        total,
-        PlanTextError::TooLarge { at: 9 },
-    )
-}
-
-#[test]
-fn have_records_of_another_shape(rt: HostRuntime) -> Result<(), Fail> {
-    let alloc = rt.alloc();
-    is_refused(
-        &rt,
-        alloc,
-        "start",
-        "begin",
-        PlanTextError::Header { at: 1 },
-    )?;
-    is_refused(
-        &rt,
-        alloc,
-        "2,B0,0,3,-",
-        "2,B0,0,03,-",
-        PlanTextError::Row { at: 3 },
-    )?;
-    is_refused(
-        &rt,
-        alloc,
-        "2,B0,0,3,-",
-        "7,B0,0,3,-",
-        PlanTextError::Row { at: 3 },
-    )
+fn may_tell_a_release_in_the_second_version_alone(rt: HostRuntime) -> Result<(), Fail> {
+    let text = "message,affinity,start,finish,worker\n1,A0,10,14,64\nworkers,64\ntotal,4\n\
+        length,14\nchain,\nrelease,0\ncost,9\nbound,9,9\n";
+    let given = read_plan(rt.alloc(), Version::V2, 1, text.as_bytes())?;
+    assert_eq!(rt; given.workers(), Some(64));
+    let found = read_plan(rt.alloc(), Version::V1, 1, text.as_bytes()).err();
+    assert_eq!(rt; found, Some(PlanTextError::Summary { at: 7 }));
+    Ok(())
 }
 
 #[test]
@@ -134,8 +121,9 @@ fn give_their_rows_in_the_order_of_the_messages(rt: HostRuntime) -> Result<(), F
     )?;
     let given = read_plan(alloc, Version::V1, 6, text.as_bytes())?;
     assert_eq!(rt; given.len(), 6);
-    assert_eq!(rt; given.workers(), None);
+    assert_eq!(rt; (given.workers(), given.version()), (None, Version::V1));
     if given.len() == 6 {
+        assert_eq!(rt; (given.start(3), given.finish(3)), (4, 6));
         assert_eq!(rt; (given.start(1), given.finish(1)), (0, 4));
         assert_eq!(rt; (given.start(6), given.finish(6)), (7, 9));
     }

@@ -43,16 +43,15 @@ fn on_plans_as_they_are_printed(rt: HostRuntime) -> Result<(), Fail> {
     let alloc = rt.alloc();
     let shortest = (Verdict::Shortest, "shortest\n", 0);
     let within = (Verdict::WithinBound, "withinbound\n", 0);
-    is_found(&rt, alloc, X1, PLAN_H1_X1, shortest)?;
-    is_found(&rt, alloc, X1, PLAN_H1_X1_WORKERS2, within)?;
-    is_found(&rt, alloc, X2, PLAN_H1_X2, shortest)?;
-    is_found(
-        &rt,
-        alloc,
-        "message,cost,ops\n",
-        PLAN_H1_HEADER_ALONE,
-        shortest,
-    )
+    for (trace, plan, want) in [
+        (X1, PLAN_H1_X1, shortest),
+        (X1, PLAN_H1_X1_WORKERS2, within),
+        (X2, PLAN_H1_X2, shortest),
+        ("message,cost,ops\n", PLAN_H1_HEADER_ALONE, shortest),
+    ] {
+        is_found(&rt, alloc, trace, plan, want)?;
+    }
+    Ok(())
 }
 
 #[test]
@@ -89,77 +88,96 @@ fn on_rows_in_another_order(rt: HostRuntime) -> Result<(), Fail> {
     )
 }
 
-/// The verdict on the plan of the trace with one change has to be this.
-fn is_fault<R: Threads + Sync + Abort>(
-    rt: &R,
-    alloc: Global,
-    files: (&str, &str),
-    change: (&str, &str),
-    want: (Verdict, &str),
-) -> Result<(), Fail> {
-    let plan = changed(alloc, files.1, change.0, change.1)?;
-    is_found(rt, alloc, files.0, plan.as_str(), (want.0, want.1, 1))
-}
-
 #[test]
-fn on_two_messages_that_overlap(rt: HostRuntime) -> Result<(), Fail> {
-    let overlap = Verdict::Overlap {
-        first: 1,
-        second: 3,
-    };
-    let change = ("3,VolA,4,6,-", "3,VolA,3,5,-");
-    is_fault(
-        &rt,
-        rt.alloc(),
-        (X1, PLAN_H1_X1),
-        change,
-        (overlap, "overlap,1,3\n"),
-    )
-}
-
-#[test]
-fn on_workers(rt: HostRuntime) -> Result<(), Fail> {
+fn on_plans_with_a_fault(rt: HostRuntime) -> Result<(), Fail> {
     let alloc = rt.alloc();
-    let files = (X1, PLAN_H1_X1_WORKERS2);
-    let too_many = (Verdict::TooManyAt { tick: 0 }, "toomany,0\n");
-    is_fault(&rt, alloc, files, ("4,B1,3,8,2", "4,B1,0,5,2"), too_many)?;
-    let worker = (Verdict::Worker { message: 4 }, "worker,4\n");
-    is_fault(&rt, alloc, files, ("4,B1,3,8,2", "4,B1,3,8,1"), worker)
+    let (first, second) = (1, 3);
+    for (part, other, verdict, line) in [
+        (
+            "3,VolA,4,6,-",
+            "3,VolA,3,5,-",
+            Verdict::Overlap { first, second },
+            "overlap,1,3\n",
+        ),
+        (
+            "2,B0,0,3,-",
+            "2,VolB,0,3,-",
+            Verdict::Affinity { message: 2 },
+            "affinity,2\n",
+        ),
+        (
+            "2,B0,0,3,-",
+            "2,B0,0,4,-",
+            Verdict::Finish { message: 2 },
+            "finish,2\n",
+        ),
+        ("cost,9", "cost,10", Verdict::Totals, "totals\n"),
+        (
+            "chain,1 3 5 6",
+            "chain,1 4",
+            Verdict::NotAChain { place: 2 },
+            "notachain,2\n",
+        ),
+    ] {
+        let plan = changed(alloc, PLAN_H1_X1, part, other)?;
+        is_found(&rt, alloc, X1, plan.as_str(), (verdict, line, 1))?;
+    }
+    Ok(())
 }
 
 #[test]
-fn on_rows_that_tell_wrong_things(rt: HostRuntime) -> Result<(), Fail> {
+fn on_plans_for_workers_with_a_fault(rt: HostRuntime) -> Result<(), Fail> {
     let alloc = rt.alloc();
-    let files = (X1, PLAN_H1_X1);
-    let affinity = (Verdict::Affinity { message: 2 }, "affinity,2\n");
-    is_fault(&rt, alloc, files, ("2,B0,0,3,-", "2,VolB,0,3,-"), affinity)?;
-    let finish = (Verdict::Finish { message: 2 }, "finish,2\n");
-    is_fault(&rt, alloc, files, ("2,B0,0,3,-", "2,B0,0,4,-"), finish)
-}
-
-#[test]
-fn on_a_summary_that_tells_wrong_things(rt: HostRuntime) -> Result<(), Fail> {
-    let alloc = rt.alloc();
-    let files = (X1, PLAN_H1_X1);
-    is_fault(
-        &rt,
-        alloc,
-        files,
-        ("cost,9", "cost,10"),
-        (Verdict::Totals, "totals\n"),
-    )?;
-    let no_chain = (Verdict::NotAChain { place: 2 }, "notachain,2\n");
-    is_fault(&rt, alloc, files, ("chain,1 3 5 6", "chain,1 4"), no_chain)
+    for (other, verdict, line) in [
+        ("4,B1,0,5,2", Verdict::TooManyAt { tick: 0 }, "toomany,0\n"),
+        ("4,B1,3,8,1", Verdict::Worker { message: 4 }, "worker,4\n"),
+    ] {
+        let plan = changed(alloc, PLAN_H1_X1_WORKERS2, "4,B1,3,8,2", other)?;
+        is_found(&rt, alloc, X1, plan.as_str(), (verdict, line, 1))?;
+    }
+    Ok(())
 }
 
 #[test]
 fn on_a_start_before_the_release(rt: HostRuntime) -> Result<(), Fail> {
-    let early = (Verdict::Early { message: 2 }, "early,2\n");
-    is_fault(
-        &rt,
-        rt.alloc(),
-        (X2, PLAN_H1_X2),
-        ("2,B0,2,5,-", "2,B0,1,4,-"),
-        early,
-    )
+    let early = (Verdict::Early { message: 2 }, "early,2\n", 1);
+    let plan = changed(rt.alloc(), PLAN_H1_X2, "2,B0,2,5,-", "2,B0,1,4,-")?;
+    is_found(&rt, rt.alloc(), X2, plan.as_str(), early)
+}
+
+#[test]
+fn on_plans_of_no_message(rt: HostRuntime) -> Result<(), Fail> {
+    let alloc = rt.alloc();
+    for (part, other, want) in [
+        (
+            "workers,-",
+            "workers,64",
+            (Verdict::Shortest, "shortest\n", 0),
+        ),
+        ("total,0", "total,1", (Verdict::Totals, "totals\n", 1)),
+    ] {
+        let plan = changed(alloc, PLAN_H1_HEADER_ALONE, part, other)?;
+        is_found(&rt, alloc, "message,cost,ops\n", plan.as_str(), want)?;
+    }
+    Ok(())
+}
+
+#[test]
+fn have_statuses(rt: HostRuntime) {
+    let (first, second) = (1, 2);
+    for (verdict, status) in [
+        (Verdict::Overlap { first, second }, 1),
+        (Verdict::TooManyAt { tick: 3 }, 1),
+        (Verdict::Worker { message: 1 }, 1),
+        (Verdict::Affinity { message: 1 }, 1),
+        (Verdict::Finish { message: 1 }, 1),
+        (Verdict::Totals, 1),
+        (Verdict::NotAChain { place: 2 }, 1),
+        (Verdict::Obeys, 0),
+        (Verdict::Shortest, 0),
+        (Verdict::WithinBound, 0),
+        (Verdict::Early { message: 1 }, 1),
+    ] {
+        assert_eq!(rt; verdict_status(&verdict), status);
+    }
 }

@@ -1,0 +1,50 @@
+//! Names, texts, operations and cells.
+
+use std::test::Fail;
+use waff_model::{Cell, Op, Ops, Text, Texts, is_name};
+
+#[test]
+fn tell_names(rt: HostRuntime) {
+    for (text, is) in [
+        ("f", true),
+        ("A-Z_a.z09", true),
+        ("", false),
+        ("m 1", false),
+        ("caf\u{e9}", false),
+        ("0123456789abcdef0123456789abcdef", true),
+        ("0123456789abcdef0123456789abcdef0", false),
+    ] {
+        assert!(rt; is_name(text) == is);
+    }
+}
+
+#[test]
+fn keep_texts_in_order(rt: HostRuntime) -> Result<(), Fail> {
+    let mut texts = Texts::new(rt.alloc());
+    for text in ["m 1", ""] {
+        texts.push(Text::of(rt.alloc(), text)?)?;
+    }
+    assert_eq!(rt; texts.len(), 2);
+    assert!(rt; (texts.get(0).as_str(), texts.get(1).as_str()) == ("m 1", ""));
+    Ok(())
+}
+
+#[test]
+fn keep_operations_in_order(rt: HostRuntime) -> Result<(), Fail> {
+    let cell = Cell { space: 0, index: 4 };
+    let mut ops = Ops::new(rt.alloc());
+    assert!(rt; ops.is_empty());
+    for op in [Op::Read { cell }, Op::Add { cell, value: 7 }] {
+        ops.push(op)?;
+    }
+    assert_eq!(rt; ops.len(), 2);
+    assert!(rt; ops.get(1) == Op::Add { cell, value: 7 });
+    assert!(rt; ops.iter().count() == 2);
+    Ok(())
+}
+
+#[test]
+fn order_cells_by_space_first(rt: HostRuntime) {
+    let cells = [(0, 9), (1, 0), (1, 1)].map(|(space, index)| Cell { space, index });
+    assert!(rt; cells[0] < cells[1] && cells[1] < cells[2]);
+}

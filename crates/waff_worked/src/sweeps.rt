@@ -1,0 +1,97 @@
+//! Sweeps over numbers of workers, and where the time goes.
+
+use crate::samples::{H1, X1, X2};
+use std::alloc::Global;
+use std::process::Abort;
+use std::test::Fail;
+use waff_tool::{sweep_text, where_text};
+
+const SWEEP_H1_X1: &str = "workers,length,speedup,busy,least,over,waits,latency\n\
+    1,17,1.00,1.00,17,1.00,49,17\n\
+    2,11,1.54,0.77,9,1.22,24,11\n\
+    3,9,1.88,0.62,9,1.00,17,9\n\
+    4,9,1.88,0.47,9,1.00,17,9\n\
+    6,9,1.88,0.31,9,1.00,17,9\n\
+    8,9,1.88,0.23,9,1.00,17,9\n\
+    12,9,1.88,0.15,9,1.00,17,9\n\
+    16,9,1.88,0.11,9,1.00,17,9\n\
+    24,9,1.88,0.07,9,1.00,17,9\n\
+    32,9,1.88,0.05,9,1.00,17,9\n\
+    48,9,1.88,0.03,9,1.00,17,9\n\
+    64,9,1.88,0.02,9,1.00,17,9\n\
+    -,9,1.88,-,9,1.00,17,9\n";
+
+const SWEEP_H1_X2: &str = "workers,length,speedup,busy,least,over,waits,latency\n\
+    1,15,1.00,1.00,15,1.00,25,15\n\
+    2,13,1.15,0.57,13,1.00,14,13\n\
+    3,13,1.15,0.38,13,1.00,12,13\n\
+    4,13,1.15,0.28,13,1.00,12,13\n\
+    6,13,1.15,0.19,13,1.00,12,13\n\
+    8,13,1.15,0.14,13,1.00,12,13\n\
+    12,13,1.15,0.09,13,1.00,12,13\n\
+    16,13,1.15,0.07,13,1.00,12,13\n\
+    24,13,1.15,0.04,13,1.00,12,13\n\
+    32,13,1.15,0.03,13,1.00,12,13\n\
+    48,13,1.15,0.02,13,1.00,12,13\n\
+    64,13,1.15,0.01,13,1.00,12,13\n\
+    -,13,1.15,-,13,1.00,12,13\n";
+
+/// Of no message: every ratio is of nothing.
+const SWEEP_OF_NONE: &str = "workers,length,speedup,busy,least,over,waits,latency\n\
+    1,0,-,-,0,-,0,0\n\
+    2,0,-,-,0,-,0,0\n\
+    3,0,-,-,0,-,0,0\n\
+    4,0,-,-,0,-,0,0\n\
+    6,0,-,-,0,-,0,0\n\
+    8,0,-,-,0,-,0,0\n\
+    12,0,-,-,0,-,0,0\n\
+    16,0,-,-,0,-,0,0\n\
+    24,0,-,-,0,-,0,0\n\
+    32,0,-,-,0,-,0,0\n\
+    48,0,-,-,0,-,0,0\n\
+    64,0,-,-,0,-,0,0\n\
+    -,0,-,-,0,-,0,0\n";
+
+const WHERE_H1_X1: &str = "affinity,parent,messages,cost,below,chain\n\
+    Serial,-,1,1,17,1\n\
+    VolA,Serial,1,2,8,2\n\
+    VolB,Serial,0,0,8,0\n\
+    A0,VolA,2,6,6,6\n\
+    A1,VolA,0,0,0,0\n\
+    B0,VolB,1,3,3,0\n\
+    B1,VolB,1,5,5,0\n";
+
+const WHERE_H1_X1_NAMES: &str = "name,messages,cost,chain\n\
+    m1,1,4,4\n\
+    m2,1,3,0\n\
+    m3,1,2,2\n\
+    m4,1,5,0\n\
+    m5,1,1,1\n\
+    m6,1,2,2\n";
+
+/// The sweep of the trace has to be this.
+fn is_swept(rt: &impl Abort, alloc: Global, trace: &str, text: &str) -> Result<(), Fail> {
+    let mut written = Vec::new(alloc);
+    sweep_text(alloc, H1.as_bytes(), trace.as_bytes(), &mut written)?;
+    assert_eq!(rt; written.as_slice(), text.as_bytes());
+    Ok(())
+}
+
+#[test]
+fn of_workers(rt: HostRuntime) -> Result<(), Fail> {
+    let alloc = rt.alloc();
+    is_swept(&rt, alloc, X1, SWEEP_H1_X1)?;
+    is_swept(&rt, alloc, X2, SWEEP_H1_X2)?;
+    is_swept(&rt, alloc, "message,cost,ops\n", SWEEP_OF_NONE)
+}
+
+#[test]
+fn of_places(rt: HostRuntime) -> Result<(), Fail> {
+    let alloc = rt.alloc();
+    for (by_name, text) in [(false, WHERE_H1_X1), (true, WHERE_H1_X1_NAMES)] {
+        let mut written = Vec::new(alloc);
+        where_text(alloc, H1.as_bytes(), X1.as_bytes(), by_name, &mut written)?;
+        assert_eq!(rt; written.as_slice(), text.as_bytes());
+    }
+    Ok(())
+}
