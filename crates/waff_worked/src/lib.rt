@@ -12,6 +12,8 @@ mod hierarchies_read;
 #[cfg(test)]
 mod jobs;
 #[cfg(test)]
+mod machines;
+#[cfg(test)]
 mod plan_texts;
 #[cfg(test)]
 mod plans;
