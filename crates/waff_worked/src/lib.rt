@@ -22,6 +22,8 @@ mod jobs;
 #[cfg(test)]
 mod layouts;
 #[cfg(test)]
+mod machines;
+#[cfg(test)]
 mod parts;
 #[cfg(test)]
 mod plan_texts;
