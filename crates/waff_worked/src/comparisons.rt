@@ -1,12 +1,13 @@
 //! Comparisons of two hierarchies.
 
-use crate::samples::{C1, COMPARE_C1_H1_X1, COMPARE_C2_H1, H1, X1, X2, changed};
+use crate::changes::changed;
 use std::alloc::Global;
 use std::process::Abort;
 use std::test::Fail;
 use waff_assign::assign;
 use waff_order::refines;
 use waff_read::{HierError, read_hierarchy, read_trace};
+use waff_samples::{C1, COMPARE_C1_H1_X1, COMPARE_C2_H1, H1, X1, X2};
 use waff_tool::{ToolError, compare_text};
 
 /// The text of the comparison for two workers has to be this.

@@ -1,11 +1,11 @@
 //! Writers that fail or take little, and readers that fail: what was written or read by then.
 
-use crate::samples::{ASSIGN_H1_X1, C1, COMPARE_C1_H1_X1, H1, PLAN_H1_X1, PLAN_H1_X1_WORKERS2, X1};
 use std::alloc::Global;
 use std::io::{self, Read, Write};
 use std::process::Abort;
 use std::test::Fail;
 use std::thread::Threads;
+use waff_samples::{ASSIGN_H1_X1, C1, COMPARE_C1_H1_X1, H1, PLAN_H1_X1, PLAN_H1_X1_WORKERS2, X1};
 use waff_tool::{
     ReadFault, ToolError, assign_text, check_text, compare_text, plan_text, read_whole,
 };

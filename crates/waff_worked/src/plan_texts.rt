@@ -1,10 +1,11 @@
 //! Plan texts accepted and refused: the unlimited plan of the first trace with one change each.
 
-use crate::samples::{PLAN_H1_X1, PLAN_H1_X2, changed};
+use crate::changes::changed;
 use std::alloc::Global;
 use std::test::Fail;
 use waff_model::Version;
 use waff_plan_text::{PlanTextError, read_plan};
+use waff_samples::{PLAN_H1_X1, PLAN_H1_X2};
 
 /// Why the plan is refused, with another part in place of this one.
 fn refusal(alloc: Global, part: &str, other: &str) -> Result<Option<PlanTextError>, Fail> {

@@ -2,12 +2,12 @@
 
 ghost use Rattle.std.specs.Prelude.{◌≤◌};
 
-use crate::samples::{H1, STATE_H1_X1, STATE_H1_X2, X1, X2};
 use std::alloc::Global;
 use std::process::Abort;
 use std::sync::Wait;
 use std::test::Fail;
 use std::thread::Threads;
+use waff_samples::{H1, STATE_H1_X1, STATE_H1_X2, X1, X2};
 use waff_tool::replay_text;
 
 /// What this many workers leave, as text, has to be this.

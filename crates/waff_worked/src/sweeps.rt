@@ -1,9 +1,9 @@
 //! Sweeps over numbers of workers, and where the time goes.
 
-use crate::samples::{H1, X1, X2};
 use std::alloc::Global;
 use std::process::Abort;
 use std::test::Fail;
+use waff_samples::{H1, X1, X2};
 use waff_tool::{sweep_text, where_text};
 
 const SWEEP_H1_X1: &str = "workers,length,speedup,busy,least,over,waits,latency\n\

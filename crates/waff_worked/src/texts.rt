@@ -1,10 +1,10 @@
 //! Texts of the commands, from bytes to bytes.
 
-use crate::samples::{ASSIGN_H1_X1, H1, PLAN_H1_HEADER_ALONE, PLAN_H1_X1, PLAN_H1_X2, X1, X2};
 use std::alloc::Global;
 use std::io::{self, Read, Write};
 use std::process::Abort;
 use std::test::Fail;
+use waff_samples::{ASSIGN_H1_X1, H1, PLAN_H1_HEADER_ALONE, PLAN_H1_X1, PLAN_H1_X2, X1, X2};
 use waff_tool::{ReadFault, ToolError, assign_text, fault_text, plan_text, read_whole};
 
 /// The text of the unlimited plan has to be this.

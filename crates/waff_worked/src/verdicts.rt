@@ -1,13 +1,12 @@
 //! Verdicts on plans under the hierarchical sample.
 
-use crate::samples::{
-    H1, PLAN_H1_HEADER_ALONE, PLAN_H1_X1, PLAN_H1_X1_WORKERS2, PLAN_H1_X2, X1, X2, changed,
-};
+use crate::changes::changed;
 use std::alloc::Global;
 use std::process::Abort;
 use std::test::Fail;
 use std::thread::Threads;
 use waff_check::Verdict;
+use waff_samples::{H1, PLAN_H1_HEADER_ALONE, PLAN_H1_X1, PLAN_H1_X1_WORKERS2, PLAN_H1_X2, X1, X2};
 use waff_tool::{ToolError, check_text, verdict_status};
 
 /// The verdict on a plan of the trace, with its line.

@@ -3,8 +3,7 @@
 ghost use Rattle.std.specs.Prelude.{◌≤◌};
 ghost use Rattle.waff_model.specs.declared.limits.TheConstants.{MAX_WORKERS};
 
-use crate::running::push_number;
-use crate::samples::{H1, PLAN_H1_X1_WORKERS2, X1, X2};
+use crate::words::push_number;
 use std::alloc::Global;
 use std::process::Abort;
 use std::test::Fail;
@@ -14,6 +13,7 @@ use waff_model::limits::MAX_TICK;
 use waff_order::predecessors::needs;
 use waff_plan::{Chain, Plan};
 use waff_read::{read_hierarchy, read_trace};
+use waff_samples::{H1, PLAN_H1_X1_WORKERS2, X1, X2};
 use waff_tool::plan_text;
 
 /// What a case has to tell of the plan of a trace for workers under the hierarchical sample: the starts, the workers, the

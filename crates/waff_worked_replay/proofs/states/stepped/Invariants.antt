@@ -1,6 +1,6 @@
 use Rattle.waff_model.specs.Messages.{sizes_of}
 use Rattle.waff_cells.specs.Grid.{HasSizes}
-use Rattle.waff_worked.proofs.states.stepped.Given as goal
+use Rattle.waff_worked_replay.proofs.states.stepped.Given as goal
 
 abbrev pub invariant-loop-n : goal.invariant-loop-n
 invariant-loop-n g l = HasSizes l.state (sizes_of l.layout.spaces)

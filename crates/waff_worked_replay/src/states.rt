@@ -3,7 +3,6 @@
 ghost use Rattle.waff_model.specs.Messages.{sizes_of};
 ghost use Rattle.waff_cells.specs.Grid.{HasSizes};
 
-use crate::samples::{H1, X1, X2};
 use std::alloc::Global;
 use std::fmt::Write;
 use std::process::Abort;
@@ -12,6 +11,7 @@ use waff_cells::State;
 use waff_model::{Cell, Layout, Trace};
 use waff_read::{read_hierarchy, read_trace};
 use waff_replay::serial;
+use waff_samples::{H1, X1, X2};
 
 /// The cells that are not 0, each with its number.
 pub fn numbers(alloc: Global, layout: &Layout, state: &State) -> Result<String, Fail>

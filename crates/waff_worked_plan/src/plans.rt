@@ -1,10 +1,10 @@
 //! Unlimited plans.
 
 use crate::running::unlimited;
-use crate::samples::{C1, H1, X1, X2};
 use std::alloc::Global;
 use std::process::Abort;
 use std::test::Fail;
+use waff_samples::{C1, H1, X1, X2};
 
 /// What a case has to tell of an unlimited plan.
 #[derive(Drop)]

@@ -4,11 +4,11 @@ ghost use Rattle.waff_model.specs.Messages.{sizes_of};
 ghost use Rattle.waff_cells.specs.Grid.{HasSizes};
 
 use crate::jobs::job;
-use crate::samples::{H1, X1};
 use std::process::Abort;
 use std::test::Fail;
 use waff_core::{CoreError, CoreState, Event, Job, JobError, Status, run_events};
 use waff_model::{AffinityId, Cell};
+use waff_samples::{H1, X1};
 
 /// Orders that do not list each message once, after its needs.
 const NO_ORDERS: [[u32; 6]; 2] = [[1, 2, 3, 4, 6, 5], [1, 1, 2, 3, 4, 5]];

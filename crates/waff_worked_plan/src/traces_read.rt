@@ -1,12 +1,12 @@
 //! Traces accepted and refused under the hierarchical sample.
 
 use crate::running::unlimited;
-use crate::samples::H1;
 use std::alloc::Global;
 use std::process::Abort;
 use std::test::Fail;
 use waff_model::Layout;
 use waff_read::{TraceError, read_hierarchy, read_trace};
+use waff_samples::H1;
 
 /// Why a trace of one record is refused, after this header.
 fn fault_of_record(

@@ -1,13 +1,5 @@
-//! The sample files, and what is printed for them.
-
-use std::alloc::Global;
-use std::test::Fail;
-
-/// The text with another part in place of the first part like this one, which has to be there.
-pub fn changed(alloc: Global, text: &str, part: &str, other: &str) -> Result<String, Fail> {
-    let (before, after) = text.split_once(part).ok_or("the part is not there")?;
-    Ok(format!(in alloc; "{before}{other}{after}")?)
-}
+//! The sample files, and what is printed for them: hierarchies H1 and C1, traces X1 and X2.
+#![tactic(auto)]
 
 /// The hierarchical sample: Serial; VolA and VolB below it; A0 and A1 below VolA; B0 and B1 below VolB.
 pub const H1: &str = "model = \"hierarchical\"\n\

@@ -1,14 +1,15 @@
 //! Hierarchies accepted and refused: the hierarchical sample with one change each.
 
-use crate::samples::{self, H1};
 use std::alloc::Global;
 use std::test::Fail;
 use waff_model::{AffinityId, Cell, Kind, LayoutError, TreeError};
 use waff_read::{HierError, Key, read_hierarchy};
+use waff_samples::H1;
 
-/// The sample with the first of these parts in place of the other.
+/// The sample with a new part in place of the first one like this, which has to be there.
 fn changed(alloc: Global, part: &str, new: &str) -> Result<String, Fail> {
-    samples::changed(alloc, H1, part, new)
+    let (before, after) = H1.split_once(part).ok_or("the part is not there")?;
+    Ok(format!(in alloc; "{before}{new}{after}")?)
 }
 
 fn fault(alloc: Global, hierarchy: &str) -> Option<HierError> {

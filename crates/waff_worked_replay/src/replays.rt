@@ -3,7 +3,6 @@
 ghost use Rattle.std.specs.Prelude.{◌<◌, ◌≤◌};
 
 use crate::jobs::{count_to, job};
-use crate::samples::{H1, X1, X2};
 use crate::states::numbers;
 use std::alloc::Global;
 use std::hint::spin_loop;
@@ -15,6 +14,7 @@ use std::thread::Threads;
 use waff_board::Grant;
 use waff_read::read_hierarchy;
 use waff_replay::{Gate, Open, replay};
+use waff_samples::{H1, X1, X2};
 
 /// The cells that are not 0 after a replay of this trace of so many messages, each with its
 /// number.
