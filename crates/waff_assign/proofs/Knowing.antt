@@ -16,7 +16,7 @@ use Rattle.waff_assign.proofs.Assignments.{cells_of_layout}
 use Rattle.waff_assign.proofs.Climbs.{root_above}
 
 -- the owner of a cell is an affinity
-owner_known : (layout : Hierarchy) → IsLayout layout → (cell : Cell) → IsCell layout.spaces cell → owner_of layout.spaces cell < length layout.tree
+pub owner_known : (layout : Hierarchy) → IsLayout layout → (cell : Cell) → IsCell layout.spaces cell → owner_of layout.spaces cell < length layout.tree
 owner_known layout is cell small = at (slice_get layout.spaces cell.space) refl small
   where
     at : (o : Option Space) → slice_get layout.spaces cell.space ≡ o → cell.index < unwrap_or (option_map (λ (s : Space). s.size) o) 0

@@ -1,5 +1,5 @@
 pub mod Climbs
-pub mod Coverings
+mod Coverings
 pub mod Assignments
 pub mod CellOrder
 pub mod Uniqueness

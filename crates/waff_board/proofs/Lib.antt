@@ -1,22 +1,22 @@
-pub mod Phases
-pub mod Known
-pub mod Moves
-pub mod Seen
-pub mod Draws
-pub mod Numbers
-pub mod Lookings
-pub mod Carrying
-pub mod Between
-pub mod Grants
-pub mod Owners
-pub mod Handing
-pub mod Begins
-pub mod Finishes
-pub mod Splits
-pub mod Opens
-pub mod Closes
-pub mod Looks
-pub mod Sweeps
-pub mod Makings
-pub mod Takings
-pub mod Outside
+mod Phases
+mod Known
+mod Moves
+mod Seen
+mod Draws
+mod Numbers
+mod Lookings
+mod Carrying
+mod Between
+mod Grants
+mod Owners
+mod Handing
+mod Begins
+mod Finishes
+mod Splits
+mod Opens
+mod Closes
+mod Looks
+mod Sweeps
+mod Makings
+mod Takings
+mod Outside

@@ -1,6 +1,6 @@
 pub mod MeaningLaws
-pub mod Writes
-pub mod Meanings
+mod Writes
+mod Meanings
 pub mod Zeros
-pub mod Holdings
-pub mod Gathers
+mod Holdings
+mod Gathers

@@ -1,13 +1,13 @@
-pub mod FirstLaws
-pub mod TextLaws
-pub mod TickLaws
-pub mod CrowdLaws
-pub mod ShiftLaws
-pub mod ShiftSteps
-pub mod PlaceLaws
-pub mod OverlapLaws
-pub mod VerdictLaws
-pub mod LinkLaws
+mod FirstLaws
+mod TextLaws
+mod TickLaws
+mod CrowdLaws
+mod ShiftLaws
+mod ShiftSteps
+mod PlaceLaws
+mod OverlapLaws
+mod VerdictLaws
+mod LinkLaws
 pub mod PromiseLaws
 pub mod Uniqueness
 pub mod OwnLaws

@@ -2,17 +2,17 @@ pub mod Phases
 pub mod Settling
 pub mod Sound
 pub mod Clearings
-pub mod Determined
-pub mod OneActor
-pub mod Deciding
-pub mod Reaching
-pub mod OrderLength
-pub mod Arrival
-pub mod StatusLaws
+mod Determined
+mod OneActor
+mod Deciding
+mod Reaching
+mod OrderLength
+mod Arrival
+mod StatusLaws
 pub mod Listing
-pub mod Ordering
-pub mod Making
-pub mod Reading
-pub mod Pace
-pub mod StatusLemmas
-pub mod Lending
+mod Ordering
+mod Making
+mod Reading
+mod Pace
+mod StatusLemmas
+mod Lending

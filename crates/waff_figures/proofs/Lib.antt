@@ -1,7 +1,7 @@
 pub mod SumLemmas
-pub mod BelowLemmas
-pub mod TallyLemmas
-pub mod NameLemmas
-pub mod LineLemmas
+mod BelowLemmas
+mod TallyLemmas
+mod NameLemmas
+mod LineLemmas
 pub mod AddingUp
 pub mod RowLemmas

@@ -1,2 +1,2 @@
-pub mod KnownBytesLemmas
-pub mod SplitLemmas
+mod KnownBytesLemmas
+mod SplitLemmas

@@ -1,18 +1,18 @@
 pub mod Graham
 pub mod Pigeonhole
-pub mod Running
-pub mod Settling
-pub mod Placing
-pub mod Freeing
-pub mod Progressing
+mod Running
+mod Settling
+mod Placing
+mod Freeing
+mod Progressing
 pub mod TraceWork
-pub mod Events
-pub mod Filling
-pub mod PathPlans
-pub mod ChainBounds
-pub mod CandidateLemmas
-pub mod WakeLemmas
-pub mod OrderingLemmas
-pub mod DependentLemmas
+mod Events
+mod Filling
+mod PathPlans
+mod ChainBounds
+mod CandidateLemmas
+mod WakeLemmas
+mod OrderingLemmas
+mod DependentLemmas
 pub mod Uniqueness
 pub mod SeatsUniqueness

@@ -1,12 +1,12 @@
-pub mod NodeEntries
+mod NodeEntries
 pub mod RefusalLemmas
 pub mod TreeLemmas
-pub mod PlaceLemmas
-pub mod ShareLemmas
-pub mod ArrangeLemmas
+mod PlaceLemmas
+mod ShareLemmas
+mod ArrangeLemmas
 pub mod LayoutLemmas
-pub mod SpaceLemmas
+mod SpaceLemmas
 pub mod ParcelLemmas
 pub mod ParcelTableLemmas
-pub mod RunLemmas
+mod RunLemmas
 pub mod TraceLemmas

@@ -1,3 +1,4 @@
+-- The cells that operations name, and whether a cell lies in spaces of given sizes.
 use Rattle.std.specs.Prelude.{ℕ, ◌<◌, List, [], ◌∷◌, slice_index}
 use Rattle.std.specs.List.{flat_map}
 use Rattle.waff_model.specs.declared.cell.Cell.{Cell}

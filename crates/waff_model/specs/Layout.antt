@@ -1,3 +1,4 @@
+-- Layouts: spaces of cells over a tree of affinities, and the owner of each cell.
 use Rattle.std.specs.Prelude.{◌≡◌, ◌≢◌, ℕ, ◌/◌, ◌%◌, ◌<◌, ◌≤◌, IsTrue, List, length, map, Option, option_map, unwrap_or, slice_get, slice_index, position, sum_by, All, AllPairs}
 use Rattle.std.specs.Str.{bytes_eq}
 use Rattle.waff_model.specs.Names.{is_name}

@@ -1,3 +1,4 @@
+-- The layout that rows of spaces and maps stand for.
 use Rattle.std.specs.Prelude.{ℕ, List, [], Option, Some, None, option_map, unwrap_or, map, find, Result, Ok, Err}
 use Rattle.std.specs.Str.{bytes_eq}
 use Rattle.waff_model.specs.Tree.{Node, number_of}

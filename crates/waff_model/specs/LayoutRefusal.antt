@@ -1,3 +1,4 @@
+-- Why rows of spaces and maps are no layout: the checks, in their order.
 use Rattle.std.specs.Prelude.{ℕ, ℤ, pos, negsuc, Bool, List, [], ◌∷◌, length, Option, Some, None, is_none, unwrap_or, count_by, sum_by, not, ◌==◌, nat_le, nat_lt, ◌&&◌, ◌||◌, if◌then◌else◌}
 use Rattle.std.specs.List.{list_any}
 use Rattle.std.specs.Str.{bytes_eq}

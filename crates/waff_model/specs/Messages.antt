@@ -1,3 +1,4 @@
+-- Messages and traces, and the limits that they keep.
 use Rattle.std.specs.Prelude.{◌≡◌, ℕ, ◌≤◌, true, List, length, map, All}
 use Rattle.waff_model.specs.Layout.{Space}
 use Rattle.waff_model.specs.Names.{is_name}

@@ -1,3 +1,4 @@
+-- The entries of a table of names, as the nodes of a tree.
 use Rattle.std.specs.Prelude.{ℕ, List, map, Option, String, string_bytes}
 use Rattle.waff_model.specs.Tree.{Node}
 

@@ -1,3 +1,4 @@
+-- The places of affinities in preorder: those below an affinity follow right after it.
 use Rattle.std.specs.Prelude.{◌≡◌, ℕ, ◌+◌, ◌<◌, ◌≤◌, ◌↔◌, List, length, Some, None, slice_index_or}
 use Rattle.waff_model.specs.Tree.{Node, parent_of, AtOrAbove}
 use Rattle.waff_model.specs.declared.places.Place.{Place}

@@ -1,3 +1,4 @@
+-- Checks in a row, the first of which that holds refuses.
 use Rattle.std.specs.Prelude.{Bool, List, [], ◌∷◌, Option, Some, None, if◌then◌else◌}
 
 -- what a list of checks, each with its refusal, refuses: the refusal of the first check that holds

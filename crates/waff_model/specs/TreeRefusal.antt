@@ -1,3 +1,4 @@
+-- Why an affinity is not added to a tree: the checks, in their order.
 use Rattle.std.specs.Prelude.{ℕ, Bool, false, List, length, Option, Some, None, option_map, is_some, is_none, not, nat_le, ◌&&◌, [], ◌∷◌}
 use Rattle.waff_model.specs.Names.{is_name}
 use Rattle.waff_model.specs.Refusals.{first_refusal}

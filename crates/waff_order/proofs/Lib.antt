@@ -1,10 +1,10 @@
 pub mod Parts
 pub mod NeedLemmas
-pub mod Taking
-pub mod Noting
-pub mod Holding
-pub mod Closure
-pub mod UpTo
-pub mod Reaching
-pub mod LowestLemmas
-pub mod CarryLemmas
+mod Taking
+mod Noting
+mod Holding
+mod Closure
+mod UpTo
+mod Reaching
+mod LowestLemmas
+mod CarryLemmas

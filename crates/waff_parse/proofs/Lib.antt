@@ -1,5 +1,5 @@
 pub mod Laws
 pub mod TextLaws
 pub mod RowLaws
-pub mod FieldLaws
+mod FieldLaws
 pub mod WrittenRows

@@ -1,13 +1,13 @@
 pub mod Longest
 pub mod Chains
 pub mod Ticks
-pub mod Steps
+mod Steps
 pub mod Forward
-pub mod Latests
-pub mod Tables
-pub mod Planned
-pub mod OrderKept
+mod Latests
+mod Tables
+mod Planned
+mod OrderKept
 pub mod Linkings
 pub mod Ratios
 pub mod Uniqueness
-pub mod Shares
+mod Shares

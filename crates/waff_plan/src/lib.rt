@@ -1,4 +1,13 @@
 //! The unlimited plan of a trace, its printed chain, and the laws of plans.
+//!
+//! A plan gives each message a start, in ticks; it obeys where a message starts when all earlier messages that exclude it have
+//! finished, and not before its release. The unlimited plan is the least that obeys, message by message. Its chain shows that no
+//! shorter plan obeys: messages that wait for one another, whose first release and costs add up to the length.
+//! - `timing`, `timetable`: costs and releases; plans.
+//! - `unlimited`, over `least`, `latest` and `table`: the unlimited plan.
+//! - `printed`, over `links` and `linked`: the printed chain; `totals`: what the summary of a plan tells.
+//! - `ordered`: whether a plan keeps the order of the messages.
+//! - `laws`: what holds of all plans; `unique`: that the definitions leave no choice.
 #![tactic(auto)]
 
 mod latest;

@@ -1,6 +1,6 @@
 pub mod LinesLemmas
-pub mod LineLaws
-pub mod WalkLaws
-pub mod SlotLaws
-pub mod PlanLaws
+mod LineLaws
+mod WalkLaws
+mod SlotLaws
+mod PlanLaws
 pub mod WrittenPlans

@@ -1,18 +1,18 @@
-pub mod AffinityLemmas
-pub mod DocumentLemmas
-pub mod HierarchyLemmas
-pub mod LevelLemmas
-pub mod NameLemmas
-pub mod SpaceLemmas
-pub mod PartLemmas
-pub mod MessageLaws
-pub mod TraceLaws
-pub mod OpsLaws
-pub mod ExactLaws
+mod AffinityLemmas
+mod DocumentLemmas
+mod HierarchyLemmas
+mod LevelLemmas
+mod NameLemmas
+mod SpaceLemmas
+mod PartLemmas
+mod MessageLaws
+mod TraceLaws
+mod OpsLaws
+mod ExactLaws
 pub mod FaultLaws
-pub mod HierarchyLaws
-pub mod SpellingLaws
-pub mod TraceSpellings
-pub mod RefusalLaws
+mod HierarchyLaws
+mod SpellingLaws
+mod TraceSpellings
+mod RefusalLaws
 pub mod LimitLaws
 pub mod NamedLaws

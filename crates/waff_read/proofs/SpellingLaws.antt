@@ -1,21 +1,19 @@
 -- A message is read from the record that spells it.
-use Rattle.std.proofs.Common.{◌≡◌, ◌≢◌, ℕ, zero, suc, ◌+◌, ◌<◌, ◌≤◌, ◌^◌, List, [], ◌∷◌, ◌++◌, length, map, get_or, Bool, true, false, Option, Some, None, Result, Ok, slice_get, refl, sym, ap, ◌∙◌, arith, rules, inl, inr}
-use Rattle.std.specs.Prelude.{All, codes, unwrap_or, nat_lt, ◌==◌}
+use Rattle.std.proofs.Common.{◌≡◌, ◌≢◌, ℕ, ◌+◌, ◌<◌, ◌≤◌, ◌^◌, List, [], ◌∷◌, ◌++◌, length, map, get_or, true, false, Option, Some, None, Result, Ok, slice_get, refl, sym, ap, ◌∙◌, arith, inl, inr}
+use Rattle.std.specs.Prelude.{All, codes, unwrap_or, ◌==◌}
 use Rattle.std.specs.Char.{is_ascii_digit}
 use Rattle.std.specs.Fmt.{decimal}
 use Rattle.std.specs.List.{join_with_byte, list_all, position_or_len}
 use Rattle.std.specs.Str.{bytes_eq}
-use Rattle.std.specs.Str.Parse.{digits_value}
-use Rattle.std.proofs.lemmas.Bool.{and_parts, and_right, both_ways, cases_lt, eq-eqb, eqb-true, false_from_ne_true, lt-ltb, ne_eqb}
+use Rattle.std.proofs.lemmas.Bool.{and_parts, both_ways, cases_lt, eq-eqb, eqb-true, false_from_ne_true, lt-ltb}
 use Rattle.std.proofs.lemmas.Bool.Decides.{nat_tests}
-use Rattle.std.proofs.lemmas.Fmt.{decimal_digit, decimal_nonempty, digits_decimal, digits_value-decimal, first_decimal}
+use Rattle.std.proofs.lemmas.Fmt.{digits_decimal}
 use Rattle.std.proofs.lemmas.List.{length-map}
 use Rattle.std.proofs.lemmas.List.Elements.{All-append, All-cons, All-head, All-nil, All-tail, All-get_or}
 use Rattle.std.proofs.lemmas.List.Splits.{slice_split_at, slice_split_none}
 use Rattle.std.proofs.lemmas.List.Sums.{position_or_len_is}
 use Rattle.std.proofs.lemmas.Option.{slice_get-get_or, slice_get_past}
 use Rattle.std.proofs.lemmas.Slice.Eq.{bytes_eq-Decides}
-use Rattle.std.proofs.lemmas.Str.Parse.{IsDigitsTest, IsNumeralModel, numerals_by_value}
 use Rattle.waff_model.specs.Cells.{LiesIn, cells_of, cells_of_op}
 use Rattle.waff_model.specs.Layout.{Hierarchy, IsCell, IsLayout, IsSpace, Space, name_at, size_at, space_named}
 use Rattle.waff_model.specs.Messages.{IsMessage, sizes_of}
@@ -29,7 +27,8 @@ use Rattle.waff_model.specs.declared.op.Op.{Op}
 use Rattle.waff_model.specs.declared.op.Op.TheVariants as op
 use Rattle.waff_model.proofs.TraceLemmas.{lies_in-sizes_of}
 use Rattle.waff_parse.specs.Fields.{Field}
-use Rattle.waff_parse.specs.Texts.{has_leading_zero, number_of, parts}
+use Rattle.waff_parse.specs.Texts.{parts}
+use Rattle.waff_parse.proofs.WrittenRows.{all_if, digits_model, number_of-decimal}
 use Rattle.waff_read.specs.Laws.{IsRelease, Spells, SpelledIsRead}
 use Rattle.waff_read.specs.Ops.{cell_of, op_of, op_of_one, op_of_parts, op_of_two, value_of}
 use Rattle.waff_read.specs.Spellings.{HasSmallNumber, cell_spelled, op_spelled, ops_spelled, record_of, words_of}
@@ -57,13 +56,6 @@ parts-join c p (q ∷ qs) here rest =
     slice_split_at (λ b. b == c) p c (join_with_byte c (q ∷ qs)) here (eq-eqb c c refl)
     ∙ ap (λ (l : List (List ℕ)). p ∷ l) (parts-join c q qs (All-head (Free c) q qs rest) (All-tail (Free c) q qs rest))
 
--- what holds of each byte that passes a test holds of the bytes of a text that pass it
-pub all_if : (P : ℕ → Type 0) (test : ℕ → Bool) → ((b : ℕ) → test b ≡ true → P b) → (text : List ℕ) → list_all test text ≡ true → All P text
-all_if P test each [] passes = All-nil P
-all_if P test each (b ∷ bs) passes =
-    let parts = and_parts (test b) (list_all test bs) passes in
-    All-cons P b bs (each b parts.0) (all_if P test each bs parts.1)
-
 pub All-joined : (P : ℕ → Type 0) (d : ℕ) (ps : List (List ℕ)) → P d → All (All P) ps → All P (join_with_byte d ps)
 All-joined P d [] joint each = All-nil P
 All-joined P d (p ∷ ps) joint each = All-join P d p ps joint (All-head (All P) p ps each) (All-tail (All P) p ps each)
@@ -84,30 +76,7 @@ All-both P (x ∷ xs) ys each =
     let rest = All-both P xs ys (All-tail P x (xs ++ ys) each) in
     (All-cons P x xs (All-head P x (xs ++ ys) each) rest.0, rest.1)
 
--- numbers in decimal
-digits_test : IsDigitsTest (λ ds. list_all is_ascii_digit ds ≡ true)
-digits_test = search rules
-
-digits_model : IsNumeralModel (λ ds. list_all is_ascii_digit ds ≡ true) (digits_value 10)
-digits_model = numerals_by_value _ digits_test
-
-no_leading_zero : (n : ℕ) → n < 2 ^ 64 → has_leading_zero (decimal n) ≡ false
-no_leading_zero zero small =
-    let one : decimal zero ≡ 48 ∷ [] = decimal_digit 0 (omega arith) in
-    rw one refl
-no_leading_zero (suc n) small =
-    let first : 48 < get_or (decimal (suc n)) 0 0 = first_decimal (suc n) (omega arith) small in
-    and_right (nat_lt 1 (length (decimal (suc n)))) (get_or (decimal (suc n)) 0 0 == 48)
-    (ne_eqb (get_or (decimal (suc n)) 0 0) 48 (λ same. absurd (omega arith)))
-
-number_of-decimal : (n : ℕ) → n < 2 ^ 64 → number_of (decimal n) ≡ Some n
-number_of-decimal n small =
-    let filled : 0 < length (decimal n) = decimal_nonempty n small in
-    let some : (length (decimal n) == 0) ≡ false = ne_eqb (length (decimal n)) 0 (λ none. absurd (omega arith)) in
-    let lead = no_leading_zero n small in
-    let digits = digits_decimal digits_model n small in
-    rw (some, lead, digits) (ap Some (digits_value-decimal digits_model n small))
-
+-- a number is read from its digits
 value_of-decimal : (n : ℕ) → n < 2 ^ 64 → value_of (decimal n) ≡ Ok n
 unfolding value_of
 value_of-decimal n small = rw (number_of-decimal n small, lt-ltb n (2 ^ 64) small) refl

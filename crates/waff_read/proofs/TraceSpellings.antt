@@ -29,7 +29,8 @@ use Rattle.waff_read.specs.Laws.{SpelledTraceIsRead}
 use Rattle.waff_read.specs.Spellings.{HasSmallNumber, header_row, op_spelled, ops_spelled, record_of, text_of}
 use Rattle.waff_read.specs.TraceFaults.{at_record}
 use Rattle.waff_read.specs.Traces.{header_of, message_at, messages_at, trace_of_records}
-use Rattle.waff_read.proofs.SpellingLaws.{All-joined, all_if, decimal_all, name_all, ops_all, spelled_is_read}
+use Rattle.waff_parse.proofs.WrittenRows.{all_if}
+use Rattle.waff_read.proofs.SpellingLaws.{All-joined, decimal_all, name_all, ops_all, spelled_is_read}
 use Rattle.waff_read.proofs.TraceLaws.{message_at-text}
 
 -- records that are written are read, where each has a field

@@ -1,9 +1,8 @@
-pub mod CertificateLemmas
-pub mod ComparisonLemmas
-pub mod LinesLemmas
-pub mod LineLaws
-pub mod OrderLemmas
-pub mod StateLines
-pub mod Uniqueness
-pub mod OwnPlanLaws
-pub mod FigureUniqueness
+mod CertificateLemmas
+mod ComparisonLemmas
+mod LineLaws
+mod OrderLemmas
+mod StateLines
+mod Uniqueness
+mod OwnPlanLaws
+mod FigureUniqueness

@@ -1,5 +1,5 @@
 -- Each space has a name that none before it has.
-use Rattle.std.proofs.Common.{◌∙◌, ap, sym, arith, ◌++◌, ◌∷◌, [], List, ℕ}
+use Rattle.std.proofs.Common.{◌∙◌, ap, arith, ◌++◌, ◌∷◌, [], List, ℕ}
 use Rattle.waff_read.proofs.SpaceLemmas.{names_more, no_earlier}
 use Rattle.waff_read.proofs.space_table.space_names.Goals as goal
 

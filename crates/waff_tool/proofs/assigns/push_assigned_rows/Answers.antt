@@ -1,6 +1,6 @@
 use Rattle.std.proofs.Common.{string_bytes}
 use Rattle.waff_tool.specs.AssignText.{assign_row}
-use Rattle.waff_tool.proofs.LinesLemmas.{rows_further}
+use Rattle.waff_plan_text.proofs.LinesLemmas.{rows_further}
 use Rattle.waff_tool.proofs.assigns.push_assigned_rows.Goals as goal
 
 pub loop-n-preserved : goal.loop-n-preserved

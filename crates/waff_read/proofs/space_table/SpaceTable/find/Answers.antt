@@ -1,5 +1,5 @@
 -- The table has the names of the spaces.
-use Rattle.std.proofs.Common.{◌≡◌, ◌∙◌, ap, sym, position}
+use Rattle.std.proofs.Common.{◌∙◌, ap, sym, position}
 use Rattle.std.specs.Str.{bytes_eq}
 use Rattle.waff_model.specs.Layout.{space_named}
 use Rattle.waff_read.proofs.SpaceLemmas.{place_of_name}
