@@ -3,6 +3,7 @@ pub mod Chains
 pub mod Ticks
 pub mod Steps
 pub mod Forward
+pub mod Later
 pub mod Latests
 pub mod Tables
 pub mod Planned
