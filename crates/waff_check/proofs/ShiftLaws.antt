@@ -6,7 +6,7 @@ use Rattle.std.proofs.lemmas.List.{get_or_default}
 use Rattle.std.proofs.lemmas.Bool.{cases_lt, cond-true, cond-false, lt-ltb, le-ltb, eq-eqb, false≢true}
 use Rattle.waff_plan.specs.Work.{Work, IsNumber, finish_of}
 use Rattle.waff_check.specs.Faults.{HasWrongWorker, IsMisplaced, IsTaken, NoneOf, RunTogether}
-use Rattle.waff_check.specs.Shifts.{AreApart, AreShifts, IsOneOf, IsShift, Shift, shift_at}
+use Rattle.waff_check.specs.Shifts.{AreApart, AreShifts, IsOneOf, IsShift, Shift, first_of, shift_at}
 use Rattle.waff_check.proofs.CrowdLaws.{runs-from, runs-parts}
 
 -- what a sort says of neighbours: the workers do not fall, nor the starts of one worker
@@ -162,3 +162,24 @@ module _ (work : Work) (start : ℕ → ℕ) (worker : ℕ → Option ℕ) (shif
             | inr more ↦ not-taken work start worker k none s.2 t.2 s.0 one.number one.same_worker
                 (record { from = two.number.from; earlier = omega (arith, apart); same = two.same_worker ∙ ap Some (sym same); together = (t.1, second, first) })
           ]
+
+module _ (work : Work) (start : ℕ → ℕ) (worker : ℕ → Option ℕ) (workers : Option ℕ) where
+  -- what is wrong with a message is wrong among the first messages
+  misplaced-first : (many n : ℕ) (k o : Option ℕ) → IsMisplaced work start worker k n o → IsMisplaced (first_of work many) start worker k n o
+  misplaced-first many n None None wrong = wrong
+  misplaced-first many n None (Some w) wrong = wrong
+  misplaced-first many n (Some k) None wrong = wrong
+  misplaced-first many n (Some k) (Some w) (inl low) = inl low
+  misplaced-first many n (Some k) (Some w) (inr (inl high)) = inr (inl high)
+  misplaced-first many n (Some k) (Some w) (inr (inr (i, taken))) =
+      inr (inr (i, record { from = taken.from; earlier = taken.earlier; same = taken.same; together = taken.together }))
+
+  -- where the first messages have right workers, none of them has a wrong one
+  pub right-below : (many : ℕ) → NoneOf (HasWrongWorker (first_of work many) start worker workers)
+      → (n : ℕ) → n < many + 1 → HasWrongWorker work start worker workers n → ⊥
+  right-below many none n below h =
+      none n (record { number = record { from = h.number.from; to = omega arith }; wrong = misplaced-first many n workers (worker n) h.wrong })
+
+  -- nothing is wrong with no message
+  pub right-none : NoneOf (HasWrongWorker (first_of work 0) start worker workers)
+  right-none n h = let from = h.number.from in let to = h.number.to in omega (arith, from, to)

@@ -7,6 +7,10 @@ abbrev pub IsOneOf : ℕ → Option ℕ → Type 0
 IsOneOf k None = ⊥
 IsOneOf k (Some w) = (1 ≤ w) × (w ≤ k)
 
+-- the first messages of the work, this many
+abbrev pub first_of : Work → ℕ → Work
+first_of work many = record { count = many; cost = work.cost; release = work.release }
+
 -- a worker, a start and the number of a message
 abbrev pub Shift : Type 0
 Shift = ℕ × ℕ × ℕ

@@ -32,8 +32,7 @@ fn told_plan(alloc: Global, trace: &Trace, given: &GivenPlan) -> Result<Plan, Al
 }
 
 /// The verdict on a plan that is given for the messages of a trace, whose affinities are assigned: the first fault of the first kind
-/// that there is, or else how good the plan is. Pairs of messages are walked over only to name a fault that is there, those of an
-/// overlap in threads.
+/// that there is, or else how good the plan is. Pairs of messages are walked over only to name an overlap that is there, in threads.
 pub fn check<R: Threads + Sync>(
     rt: &R,
     alloc: Global,

@@ -4,19 +4,21 @@ ghost use Rattle.std.specs.Prelude.{◌≡◌, ◌+◌, ◌<◌, ◌≤◌, ◌�
 ghost use Rattle.waff_plan.specs.Timing.{start_of, work_of};
 ghost use Rattle.waff_plan.specs.Work.{IsNumber};
 ghost use Rattle.waff_check.specs.Faults.{HasWrongWorker, NoneOf};
-ghost use Rattle.waff_check.specs.Shifts.{AreApart, AreShifts, Follows, IsOneOf, IsShiftOf};
+ghost use Rattle.waff_check.specs.Shifts.{AreApart, AreShifts, Follows, IsOneOf, IsShiftOf, first_of};
 ghost use Rattle.waff_check.specs.Verdicts.{worker_in};
 
 use std::alloc::{AllocError, Global};
 use waff_plan::Plan;
 use waff_plan_text::GivenPlan;
 
-// Whether each row tells one of `k` workers.
-fn are_seated(plan: &Plan, given: &GivenPlan, k: u32) -> bool
+// Whether the row of each of the first messages tells one of `k` workers.
+fn are_seated(plan: &Plan, given: &GivenPlan, k: u32, many: u32) -> bool
     requires lengths { length given.now.rows ≡ length plan.now.timings }
-    ensures { IsTrue result ↔ ((n : ℕ) → IsNumber (work_of plan.now.timings) n → IsOneOf k (worker_in given.now n)) }
+    requires many { many ≤ length plan.now.timings }
+    ensures { IsTrue result ↔ ((n : ℕ) → IsNumber (first_of (work_of plan.now.timings) many) n → IsOneOf k (worker_in given.now n)) }
 {
-    for n in 1..plan.len() + 1 {
+    let _messages = plan.len();
+    for n in 1..many + 1 {
         if !is_one_of(k, given.row(n).worker) {
             return false;
         }
@@ -39,7 +41,7 @@ fn shift(plan: &Plan, given: &GivenPlan, n: u32) -> Option<(u64, u64, u32)>
     requires lengths { length given.now.rows ≡ length plan.now.timings }
     requires from { 1 ≤ n }
     requires to { n ≤ length plan.now.timings }
-    ensures { IsShiftOf (work_of plan.now.timings) (start_of plan.now.starts) (worker_in given.now) n result }
+    ensures { (many : ℕ) → n ≤ many → IsShiftOf (first_of (work_of plan.now.timings) many) (start_of plan.now.starts) (worker_in given.now) n result }
 {
     let start = plan.start(n);
     match given.row(n).worker {
@@ -48,13 +50,20 @@ fn shift(plan: &Plan, given: &GivenPlan, n: u32) -> Option<(u64, u64, u32)>
     }
 }
 
-// The shifts of all workers: each is a worker, a start and the number of a message.
-fn shifts(alloc: Global, plan: &Plan, given: &GivenPlan) -> Result<Vec<(u64, u64, u32)>, AllocError>
+// The shifts of the first messages: each is a worker, a start and the number of a message.
+fn shifts(
+    alloc: Global,
+    plan: &Plan,
+    given: &GivenPlan,
+    many: u32,
+) -> Result<Vec<(u64, u64, u32)>, AllocError>
     requires lengths { length given.now.rows ≡ length plan.now.timings }
-    ensures { IfOk result (λ shifts. AreShifts (work_of plan.now.timings) (start_of plan.now.starts) (worker_in given.now) shifts.items) }
+    requires many { many ≤ length plan.now.timings }
+    ensures { IfOk result (λ shifts. AreShifts (first_of (work_of plan.now.timings) many) (start_of plan.now.starts) (worker_in given.now) shifts.items) }
 {
-    let mut shifts = Vec::with_capacity(alloc, plan.len() as usize)?;
-    for n in 1..plan.len() + 1 {
+    let _messages = plan.len();
+    let mut shifts = Vec::with_capacity(alloc, many as usize)?;
+    for n in 1..many + 1 {
         if let Some(shift) = shift(plan, given, n) {
             shifts.push(shift)?;
         }
@@ -85,20 +94,23 @@ fn are_apart(plan: &Plan, shifts: &[(u64, u64, u32)]) -> bool
     true
 }
 
-/// Whether the row of each message tells a right one of `k` workers. The shifts are sorted, and only neighbours are looked at.
+/// Whether the row of each of the first messages tells a right one of `k` workers. The shifts are sorted, and only neighbours are
+/// looked at.
 pub(crate) fn are_right(
     alloc: Global,
     plan: &Plan,
     given: &GivenPlan,
     k: u32,
+    many: u32,
 ) -> Result<bool, AllocError>
     requires lengths { length given.now.rows ≡ length plan.now.timings }
+    requires many { many ≤ length plan.now.timings }
     ensures { IfOk result (λ right. IsTrue right
-        ↔ NoneOf (HasWrongWorker (work_of plan.now.timings) (start_of plan.now.starts) (worker_in given.now) (Some k))) }
+        ↔ NoneOf (HasWrongWorker (first_of (work_of plan.now.timings) many) (start_of plan.now.starts) (worker_in given.now) (Some k))) }
 {
-    if !are_seated(plan, given, k) {
+    if !are_seated(plan, given, k, many) {
         return Ok(false);
     }
-    let shifts = shifts(alloc, plan, given)?;
+    let shifts = shifts(alloc, plan, given, many)?;
     Ok(are_apart(plan, shifts.as_slice()))
 }

@@ -1,8 +1,9 @@
 //! Workers that rows tell.
 
-ghost use Rattle.std.specs.Prelude.{◌≡◌, ◌<◌, ◌≤◌, ◌↔◌, ℕ, IfOk, IsTrue, MatchOption, length};
+ghost use Rattle.std.specs.Prelude.{◌≡◌, ◌<◌, ◌≤◌, ◌↔◌, ℕ, IfOk, IsTrue, MatchOption, Some, length};
 ghost use Rattle.waff_plan.specs.Timing.{start_of, work_of};
 ghost use Rattle.waff_check.specs.Faults.{HasWrongWorker, IsLeastOf, IsMisplaced, IsTaken, NoneOf, RunTogether};
+ghost use Rattle.waff_check.specs.Shifts.{first_of};
 ghost use Rattle.waff_check.specs.Verdicts.{worker_in};
 
 use crate::shifts::are_right;
@@ -63,13 +64,17 @@ fn is_misplaced(plan: &Plan, given: &GivenPlan, workers: Option<u32>, n: u32) ->
     }
 }
 
-// The first message whose row tells a wrong worker, by a walk over the pairs.
-fn first_misplaced(plan: &Plan, given: &GivenPlan, workers: Option<u32>) -> Option<u32>
+// The first message whose row tells a wrong worker, where those of the first messages are right. Each message is looked at with
+// all before it.
+fn first_misplaced(plan: &Plan, given: &GivenPlan, workers: Option<u32>, right: u32) -> Option<u32>
     requires lengths { length given.now.rows ≡ length plan.now.timings }
+    requires many { right ≤ length plan.now.timings }
+    requires right { NoneOf (HasWrongWorker (first_of (work_of plan.now.timings) right) (start_of plan.now.starts) (worker_in given.now) workers) }
     ensures { MatchOption result (NoneOf (HasWrongWorker (work_of plan.now.timings) (start_of plan.now.starts) (worker_in given.now) workers))
         (IsLeastOf (HasWrongWorker (work_of plan.now.timings) (start_of plan.now.starts) (worker_in given.now) workers)) }
 {
-    for n in 1..plan.len() + 1 {
+    let messages = plan.len();
+    for n in right + 1..messages + 1 {
         if is_misplaced(plan, given, workers, n) {
             return Some(n);
         }
@@ -77,7 +82,32 @@ fn first_misplaced(plan: &Plan, given: &GivenPlan, workers: Option<u32>) -> Opti
     None
 }
 
-/// The first message whose row tells a wrong worker. The pairs are walked over only where there is one.
+// So many of the first messages tell right ones of `k` workers: all, or those before the first that does not. The number is halved
+// in on.
+fn right_ones(alloc: Global, plan: &Plan, given: &GivenPlan, k: u32) -> Result<u32, AllocError>
+    requires lengths { length given.now.rows ≡ length plan.now.timings }
+    ensures many { IfOk result (λ right. right ≤ length plan.now.timings) }
+    ensures right { IfOk result (λ right. NoneOf (HasWrongWorker (first_of (work_of plan.now.timings) right) (start_of plan.now.starts)
+        (worker_in given.now) (Some k))) }
+{
+    let messages = plan.len();
+    if are_right(alloc, plan, given, k, messages)? {
+        return Ok(messages);
+    }
+    let mut right = 0;
+    let mut wrong = messages;
+    while right + 1 < wrong {
+        let half = right + (wrong - right) / 2;
+        if are_right(alloc, plan, given, k, half)? {
+            right = half;
+        } else {
+            wrong = half;
+        }
+    }
+    Ok(right)
+}
+
+/// The first message whose row tells a wrong worker.
 pub(crate) fn wrong_worker(
     alloc: Global,
     plan: &Plan,
@@ -89,10 +119,11 @@ pub(crate) fn wrong_worker(
         (NoneOf (HasWrongWorker (work_of plan.now.timings) (start_of plan.now.starts) (worker_in given.now) workers))
         (IsLeastOf (HasWrongWorker (work_of plan.now.timings) (start_of plan.now.starts) (worker_in given.now) workers))) }
 {
-    if let Some(k) = workers
-        && are_right(alloc, plan, given, k)?
-    {
-        return Ok(None);
+    match workers {
+        None => Ok(first_misplaced(plan, given, None, 0)),
+        Some(k) => {
+            let right = right_ones(alloc, plan, given, k)?;
+            Ok(first_misplaced(plan, given, Some(k), right))
+        }
     }
-    Ok(first_misplaced(plan, given, workers))
 }

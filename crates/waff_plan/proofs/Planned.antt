@@ -1,30 +1,41 @@
 -- The starts of the least plan, one message after another, by the table of the latest messages.
-use Rattle.std.proofs.Common.{◌≡◌, ◌≢◌, ℕ, ◌+◌, ◌-◌, ◌*◌, ◌^◌, ◌<◌, ◌≤◌, max, List, [], ◌∷◌, ◌++◌, length, get_or, Option, Some, None, MatchOption, All, arith, sym, ◌∙◌, ap, subst, ⊎_elim}
+use Rattle.std.proofs.Common.{◌≡◌, ◌≢◌, ℕ, ◌+◌, ◌-◌, ◌*◌, ◌/◌, ◌^◌, ◌<◌, ◌≤◌, max, List, [], ◌∷◌, ◌++◌, length, get_or, Option, Some, None, MatchOption, All, arith, sym, ◌∙◌, ap, subst, ⊎_elim}
 use Rattle.std.proofs.lemmas.Bool.{cases_eq}
 use Rattle.std.proofs.lemmas.List.{get_or_append_left, get_or_push, get_or_default, length_push}
-use Rattle.waff_model.specs.Tree.{Node, AtOrAbove}
+use Rattle.waff_model.specs.Tree.{Node}
+use Rattle.waff_model.specs.Places.{place_at, AreNested}
+use Rattle.waff_model.specs.declared.places.Place.{Place}
 use Rattle.waff_assign.specs.Order.{affinity_of, IsOrdered}
 use Rattle.waff_plan.specs.Work.{Work, finish_of}
 use Rattle.waff_plan.specs.Obeys.{IsForward}
-use Rattle.waff_plan.specs.Table.{IsUpTo, IsTable, IsLatestExcluding}
+use Rattle.waff_plan.specs.Table.{IsUpTo, noted_at, message_place, IsTable, IsLatestMeeting, IsLatestExcluding}
 use Rattle.waff_plan.specs.Timing.{start_of}
 use Rattle.waff_plan.specs.declared.latest.Latest.{Latest}
+use Rattle.waff_plan.specs.declared.table.Table.{Table}
 use Rattle.waff_model.specs.declared.limits.TheConstants.{MAX_TICK}
 use Rattle.waff_plan.proofs.Forward.{IsOrdered_forward}
 use Rattle.waff_plan.proofs.Latests.{found_again}
-use Rattle.waff_plan.proofs.Steps.{IsEarliest, IsLeastUpTo, up_to_more}
+use Rattle.waff_plan.proofs.Tables.{meeting_excludes}
+use Rattle.waff_plan.proofs.Steps.{IsEarliest, IsLeastUpTo, up_to_none, up_to_more}
 
 -- with the same finishes the table is the same
-pub table_again : (tree : List Node) (assigned : List ℕ) (finish again : ℕ → ℕ) (n : ℕ) (own under : List (Option Latest))
-    → ((i : ℕ) → 1 ≤ i → i ≤ n → again i ≡ finish i) → IsTable tree assigned finish n own under → IsTable tree assigned again n own under
-table_again tree assigned finish again n own under same table = record {
-  own_each = λ a within.
-      found_again (λ i. IsUpTo n i × (affinity_of assigned i ≡ a)) finish again (get_or own a None)
-      (λ i is. same i is.0.from is.0.to) (table.own_each a within);
-  under_each = λ a within.
-      found_again (λ i. IsUpTo n i × AtOrAbove tree a (affinity_of assigned i)) finish again (get_or under a None)
-      (λ i is. same i is.0.from is.0.to) (table.under_each a within);
-}
+pub table_again : (places : List Place) (assigned : List ℕ) (finish again : ℕ → ℕ) (n : ℕ) (table : Table)
+    → ((i : ℕ) → 1 ≤ i → i ≤ n → again i ≡ finish i) → IsTable places assigned finish n table → IsTable places assigned again n table
+table_again places assigned finish again n table same h =
+    let place : ℕ → Place = λ i. message_place places assigned i in
+    record {
+      own = record {
+        places_each = λ p.
+            found_again (λ i. IsUpTo n i × ((place i).first ≡ p)) finish again (get_or table.own.places.items p None)
+            (λ i is. same i is.0.from is.0.to) (h.own.places_each p);
+        blocks_each = λ b.
+            found_again (λ i. IsUpTo n i × ((place i).first / 64 ≡ b)) finish again (get_or table.own.blocks.items b None)
+            (λ i is. same i is.0.from is.0.to) (h.own.blocks_each b);
+      };
+      over = λ p.
+          found_again (λ i. IsUpTo n i × (((place i).first ≤ p) × (p < (place i).end))) finish again
+          (noted_at table.over.places.items table.over.blocks.items p) (λ i is. same i is.0.from is.0.to) (h.over p);
+    }
 
 -- a message starts at its release or at the finish of the latest message that excludes it
 pub earliest_after : (tree : List Node) (assigned : List ℕ) (work : Work) (start : ℕ → ℕ) (n s : ℕ) (latest : Option Latest) → n + 1 ≤ length assigned
@@ -56,28 +67,42 @@ earliest_after tree assigned work start n s (Some latest) room found is =
     }
 
 -- what is known of the first n starts
-pub record IsPlanned (tree : List Node) (assigned : List ℕ) (work : Work) (starts : List ℕ) (n : ℕ) (own under : List (Option Latest)) : Type 0 where
+pub record IsPlanned (tree : List Node) (places : List Place) (assigned : List ℕ) (work : Work) (starts : List ℕ) (n : ℕ) (so_far : Table) : Type 0 where
   pub count : length starts ≡ n
   pub least : IsLeastUpTo (IsOrdered tree assigned) work (start_of starts) n
-  pub table : IsTable tree assigned (finish_of work (start_of starts)) n own under
+  pub table : IsTable places assigned (finish_of work (start_of starts)) n so_far
   pub early : (i : ℕ) → 1 ≤ i → i ≤ n → finish_of work (start_of starts) i ≤ 2 ^ 32 * (i + 1)
 
+-- before the first message
+pub planned_none : (tree : List Node) (places : List Place) (assigned : List ℕ) (work : Work) (starts : List ℕ) (table : Table) → length assigned ≡ work.count
+    → length starts ≡ 0 → ((finish : ℕ → ℕ) → IsTable places assigned finish 0 table) → IsPlanned tree places assigned work starts 0 table
+planned_none tree places assigned work starts table same none empty = record {
+  count = none;
+  least = up_to_none (IsOrdered tree assigned) work (start_of starts) (IsOrdered_forward tree assigned work same);
+  table = empty (finish_of work (start_of starts));
+  early = λ i from to. absurd (omega arith);
+}
+
 -- the latest message that message m waits for
-pub found_at : (tree : List Node) (assigned : List ℕ) (finish : ℕ → ℕ) (m a : ℕ) (own under : List (Option Latest)) (latest : Option Latest)
-    → a ≡ affinity_of assigned m → IsTable tree assigned finish (m - 1) own under
-    → ((assigned : List ℕ) (finish : ℕ → ℕ) (n : ℕ) → IsTable tree assigned finish n own under → IsLatestExcluding tree assigned finish n a latest)
+pub found_at : (tree : List Node) (places : List Place) (assigned : List ℕ) (finish : ℕ → ℕ) (m a : ℕ) (table : Table) (latest : Option Latest)
+    → AreNested tree places → All (λ a. a < length tree) assigned → 1 ≤ m → m ≤ length assigned
+    → a ≡ affinity_of assigned m → IsTable places assigned finish (m - 1) table
+    → ((others : List Place) (assigned : List ℕ) (finish : ℕ → ℕ) (n : ℕ) → IsTable others assigned finish n table
+    → IsLatestMeeting others assigned finish n (place_at places a) latest)
     → IsLatestExcluding tree assigned finish (m - 1) (affinity_of assigned m) latest
-found_at tree assigned finish m a own under latest is table answer =
-    subst (λ x. IsLatestExcluding tree assigned finish (m - 1) x latest) is (answer assigned finish (m - 1) table)
+found_at tree places assigned finish m a table latest nested known from to is h answer =
+    let within : affinity_of assigned m < length tree = known (m - 1) 0 (omega arith) in
+    subst (λ x. IsLatestExcluding tree assigned finish (m - 1) x latest) is
+    (meeting_excludes tree places assigned finish m a latest nested known to (subst (λ x. x < length tree) (sym is) within) (answer places assigned finish (m - 1) h))
 
 -- the start of the next message is early
-pub start_early : (tree : List Node) (assigned : List ℕ) (work : Work) (starts : List ℕ) (m s : ℕ) (own under : List (Option Latest)) (latest : Option Latest)
-    → 1 ≤ m → IsPlanned tree assigned work starts (m - 1) own under → work.release m < 2 ^ 32
+pub start_early : (tree : List Node) (places : List Place) (assigned : List ℕ) (work : Work) (starts : List ℕ) (m s : ℕ) (table : Table) (latest : Option Latest)
+    → 1 ≤ m → IsPlanned tree places assigned work starts (m - 1) table → work.release m < 2 ^ 32
     → IsLatestExcluding tree assigned (finish_of work (start_of starts)) (m - 1) (affinity_of assigned m) latest
     → MatchOption latest (s ≡ work.release m) (λ l. s ≡ max (work.release m) l.finish)
     → s ≤ 2 ^ 32 * m
-start_early tree assigned work starts m s own under None from planned small none is = omega arith
-start_early tree assigned work starts m s own under (Some latest) from planned small found is =
+start_early tree places assigned work starts m s table None from planned small none is = omega arith
+start_early tree places assigned work starts m s table (Some latest) from planned small found is =
     let finish_is : latest.finish ≡ finish_of work (start_of starts) latest.number = found.finish_is in
     let to : latest.number ≤ m - 1 = found.number.one.0.to in
     let bound : finish_of work (start_of starts) latest.number ≤ 2 ^ 32 * (latest.number + 1)
@@ -89,12 +114,12 @@ kept : (starts : List ℕ) (n s i : ℕ) → length starts ≡ n → 1 ≤ i →
 kept starts n s i count from to = get_or_append_left starts (s ∷ []) 0 (i - 1) (omega arith)
 
 -- one more start
-pub planned_more : (tree : List Node) (assigned : List ℕ) (work : Work) (starts : List ℕ) (n s : ℕ) (own under more_own more_under : List (Option Latest))
+pub planned_more : (tree : List Node) (places : List Place) (assigned : List ℕ) (work : Work) (starts : List ℕ) (n s : ℕ) (table more : Table)
     → IsForward (IsOrdered tree assigned) work → n + 1 ≤ work.count → work.cost (n + 1) < 2 ^ 32 → s ≤ 2 ^ 32 * (n + 1)
-    → IsPlanned tree assigned work starts n own under → IsEarliest (IsOrdered tree assigned) work (start_of starts) (n + 1) s
-    → ((finish : ℕ → ℕ) → IsTable tree assigned finish n own under → finish (n + 1) ≡ s + work.cost (n + 1) → IsTable tree assigned finish (n + 1) more_own more_under)
-    → IsPlanned tree assigned work (starts ++ s ∷ []) (n + 1) more_own more_under
-planned_more tree assigned work starts n s own under more_own more_under forward room small early planned earliest note =
+    → IsPlanned tree places assigned work starts n table → IsEarliest (IsOrdered tree assigned) work (start_of starts) (n + 1) s
+    → ((finish : ℕ → ℕ) → IsTable places assigned finish n table → finish (n + 1) ≡ s + work.cost (n + 1) → IsTable places assigned finish (n + 1) more)
+    → IsPlanned tree places assigned work (starts ++ s ∷ []) (n + 1) more
+planned_more tree places assigned work starts n s table more forward room small early planned earliest note =
     let later = starts ++ s ∷ [] in
     let last : start_of later (n + 1) ≡ s = get_or_push starts s 0 (n + 1 - 1) (omega (arith, planned.count)) in
     record {
@@ -103,7 +128,7 @@ planned_more tree assigned work starts n s own under more_own more_under forward
           (λ i from to. kept starts n s i planned.count from to)
           (subst (λ x. IsEarliest (IsOrdered tree assigned) work (start_of starts) (n + 1) x) (sym last) earliest);
       table = note (finish_of work (start_of later))
-          (table_again tree assigned (finish_of work (start_of starts)) (finish_of work (start_of later)) n own under
+          (table_again places assigned (finish_of work (start_of starts)) (finish_of work (start_of later)) n table
           (λ i from to. ap (λ x. x + work.cost i) (kept starts n s i planned.count from to)) planned.table)
           (ap (λ x. x + work.cost (n + 1)) last);
       early = λ i from to.
@@ -121,14 +146,14 @@ planned_more tree assigned work starts n s own under more_own more_under forward
     }
 
 -- the same by the number of the message
-pub planned_next : (tree : List Node) (assigned : List ℕ) (work : Work) (starts : List ℕ) (m s : ℕ) (own under more_own more_under : List (Option Latest))
+pub planned_next : (tree : List Node) (places : List Place) (assigned : List ℕ) (work : Work) (starts : List ℕ) (m s : ℕ) (table more : Table)
     (latest : Option Latest) → length assigned ≡ work.count → 1 ≤ m → m ≤ work.count → work.cost m < 2 ^ 32 → s ≤ 2 ^ 32 * m
-    → IsPlanned tree assigned work starts (m - 1) own under
+    → IsPlanned tree places assigned work starts (m - 1) table
     → IsLatestExcluding tree assigned (finish_of work (start_of starts)) (m - 1) (affinity_of assigned m) latest
     → MatchOption latest (s ≡ work.release m) (λ l. s ≡ max (work.release m) l.finish)
-    → ((finish : ℕ → ℕ) → IsTable tree assigned finish (m - 1) own under → finish m ≡ s + work.cost m → IsTable tree assigned finish m more_own more_under)
-    → IsPlanned tree assigned work (starts ++ s ∷ []) (m + 1 - 1) more_own more_under
-planned_next tree assigned work starts m s own under more_own more_under latest same from to small early planned found is note =
+    → ((finish : ℕ → ℕ) → IsTable places assigned finish (m - 1) table → finish m ≡ s + work.cost m → IsTable places assigned finish m more)
+    → IsPlanned tree places assigned work (starts ++ s ∷ []) (m + 1 - 1) more
+planned_next tree places assigned work starts m s table more latest same from to small early planned found is note =
     let n = m - 1 in
     let this : m ≡ n + 1 = omega arith in
     let next : n + 1 ≡ m + 1 - 1 = omega arith in
@@ -137,15 +162,15 @@ planned_next tree assigned work starts m s own under more_own more_under latest 
     = earliest_after tree assigned work (start_of starts) n s latest (omega arith)
     (subst (λ x. IsLatestExcluding tree assigned (finish_of work (start_of starts)) n (affinity_of assigned x) latest) this found)
     (subst (λ x. MatchOption latest (s ≡ work.release x) (λ l. s ≡ max (work.release x) l.finish)) this is) in
-    subst (λ x. IsPlanned tree assigned work (starts ++ s ∷ []) x more_own more_under) next
-    (planned_more tree assigned work starts n s own under more_own more_under forward (omega arith)
+    subst (λ x. IsPlanned tree places assigned work (starts ++ s ∷ []) x more) next
+    (planned_more tree places assigned work starts n s table more forward (omega arith)
     (subst (λ x. work.cost x < 2 ^ 32) this small) (omega arith) planned earliest
-    (subst (λ x. (finish : ℕ → ℕ) → IsTable tree assigned finish n own under → finish x ≡ s + work.cost x → IsTable tree assigned finish x more_own more_under) this note))
+    (subst (λ x. (finish : ℕ → ℕ) → IsTable places assigned finish n table → finish x ≡ s + work.cost x → IsTable places assigned finish x more) this note))
 
 -- early starts of few messages are printable
-pub early_is_printable : (tree : List Node) (assigned : List ℕ) (work : Work) (starts : List ℕ) (n : ℕ) (own under : List (Option Latest)) → n ≤ 65536
-    → IsPlanned tree assigned work starts n own under → All (λ start. start ≤ MAX_TICK) starts
-early_is_printable tree assigned work starts n own under few planned k d within =
+pub early_is_printable : (tree : List Node) (places : List Place) (assigned : List ℕ) (work : Work) (starts : List ℕ) (n : ℕ) (table : Table) → n ≤ 65536
+    → IsPlanned tree places assigned work starts n table → All (λ start. start ≤ MAX_TICK) starts
+early_is_printable tree places assigned work starts n table few planned k d within =
     let same : get_or starts k d ≡ get_or starts k 0 = get_or_default starts k d 0 within in
     let count : length starts ≡ n = planned.count in
     let one_more : start_of starts (k + 1) ≡ get_or starts k 0 = ap (λ x. get_or starts x 0) (omega arith) in

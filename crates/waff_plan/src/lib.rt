@@ -17,6 +17,8 @@ mod linked;
 mod links;
 pub mod ordered;
 pub mod printed;
+mod spread;
+mod standing;
 mod table;
 mod timetable;
 mod timing;
@@ -28,3 +30,6 @@ pub use linked::Chain;
 pub use timetable::Plan;
 pub use timing::Timing;
 pub use totals::Totals;
+
+/// Tables by places are cut into blocks of so many places.
+const BLOCK: usize = 64;

@@ -30,13 +30,14 @@ pub(crate) fn links(
     ensures links { IfOk result (λ links. AreLinks (IsOrdered tree.now assigned.now)
         (work_of plan.now.timings) (start_of plan.now.starts) (length plan.now.timings) links.items) }
 {
-    let mut table = Table::new(alloc, tree)?;
+    let places = tree.places();
+    let mut table = Table::new(alloc, tree.len() as usize)?;
     let mut links = Vec::with_capacity(alloc, plan.len() as usize)?;
     for m in 1..plan.len() + 1 {
-        let affinity = assigned.of(m);
-        let link = waited_for(table.latest(tree, affinity), plan.release(m));
+        let place = places[assigned.of(m).0 as usize];
+        let link = waited_for(table.latest(place), plan.release(m));
         let finish = plan.finish(m);
-        table.note(tree, affinity, Latest { finish, number: m });
+        table.note(place, Latest { finish, number: m });
         links.push(link)?;
     }
     Ok(links)

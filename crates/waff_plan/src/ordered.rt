@@ -13,7 +13,7 @@ use waff_assign::Assigned;
 use waff_model::Tree;
 
 /// Whether each message starts only when every earlier message that excludes it has finished. Each
-/// message is looked at once, with the affinities above its own.
+/// message is looked at once, by the place of its affinity.
 pub fn keeps_order(
     alloc: Global,
     tree: &Tree,
@@ -25,14 +25,15 @@ pub fn keeps_order(
     ensures { IfOk result (λ kept. IsTrue kept ↔ KeepsOrder (IsOrdered tree.now assigned.now)
         (work_of plan.now.timings) (start_of plan.now.starts)) }
 {
-    let mut table = Table::new(alloc, tree)?;
+    let places = tree.places();
+    let mut table = Table::new(alloc, tree.len() as usize)?;
     for m in 1..assigned.len() + 1 {
-        let affinity = assigned.of(m);
-        if !is_finished_by(table.latest(tree, affinity), plan.start(m)) {
+        let place = places[assigned.of(m).0 as usize];
+        if !is_finished_by(table.latest(place), plan.start(m)) {
             return Ok(false);
         }
         let finish = plan.finish(m);
-        table.note(tree, affinity, Latest { finish, number: m });
+        table.note(place, Latest { finish, number: m });
     }
     Ok(true)
 }

@@ -1,16 +1,23 @@
 -- Workers are right where each is one of all, and the shifts follow one another.
+use Rattle.std.proofs.Common.{arith}
 use Rattle.waff_plan.specs.Timing.{start_of, work_of}
+use Rattle.waff_check.specs.Shifts.{first_of}
 use Rattle.waff_check.specs.Verdicts.{worker_in}
 use Rattle.waff_check.proofs.ShiftLaws.{apart-where-right, right, seated-where-right}
 use Rattle.waff_check.proofs.shifts.are_right.Goals as goal
 
 pub returns-then-not-are_seated : goal.returns-then-not-are_seated
 returns-then-not-are_seated c =
-    (λ t n h. cc t, λ none. c.if-not-are_seated.ensures.1 (seated-where-right (work_of c.args.plan.now.timings) (start_of c.args.plan.now.starts) (worker_in c.args.given.now) c.args.k none))
+    (λ t n h. cc t, λ none. c.if-not-are_seated.ensures.1 (seated-where-right (first_of (work_of c.args.plan.now.timings) c.args.many) (start_of c.args.plan.now.starts) (worker_in c.args.given.now) c.args.k none))
+
+pub are_apart-requires : goal.are_apart-requires
+are_apart-requires c =
+    rw c.as_slice.ensures.value
+    (λ i d lt. let one = (c.in_ok-shifts.ensures.only i d lt).number in record { from = one.from; to = omega (arith, one.to, c.requires.many) })
 
 pub returns : goal.returns
 returns c =
-    let work = work_of c.args.plan.now.timings in
+    let work = first_of (work_of c.args.plan.now.timings) c.args.many in
     let start = start_of c.args.plan.now.starts in
     let worker = worker_in c.args.given.now in
     let are = c.in_ok-shifts.ensures in

@@ -1,28 +1,30 @@
 -- One message after another, and all of them sorted.
 use Rattle.std.proofs.Common.{arith}
 use Rattle.waff_plan.specs.Timing.{start_of, work_of}
+use Rattle.waff_check.specs.Shifts.{first_of}
 use Rattle.waff_check.specs.Verdicts.{worker_in}
 use Rattle.waff_check.proofs.ShiftSteps.{shifts-more, shifts-none, shifts-same, shifts-sorted}
 use Rattle.waff_check.proofs.shifts.shifts.Goals as goal
 use Rattle.waff_check.proofs.shifts.shifts.Goals.{in-Some+in_ok-push, in_default}
 
 pub loop-n-init : goal.loop-n-init
-loop-n-init c = rw c.in_ok-shifts.ensures.items (shifts-none (work_of c.args.plan.now.timings) (start_of c.args.plan.now.starts) (worker_in c.args.given.now))
+loop-n-init c = rw c.in_ok-shifts.ensures.items (shifts-none (first_of (work_of c.args.plan.now.timings) c.args.many) (start_of c.args.plan.now.starts) (worker_in c.args.given.now))
 
 pub loop-n-preserved : goal.loop-n-preserved
 loop-n-preserved c =
-    let work = work_of c.args.plan.now.timings in
+    let work = first_of (work_of c.args.plan.now.timings) c.args.many in
     let start = start_of c.args.plan.now.starts in
     let worker = worker_in c.args.given.now in
     let n = c.loop-n.n in
     let so_far = c.loop-n.invariant in
+    let is = c.shift.ensures c.args.many (omega arith) in
     elim c.match-shift.branch [
-      | in-Some+in_ok-push w ↦ rw (w.shifts-is, w.in_ok-push.ensures.items) (shifts-more work start worker n w.in-Some.shift c.shift.result c.loop-n.shifts.items w.in-Some.is c.shift.ensures so_far)
-      | in_default w ↦ rw w.shifts-is (shifts-same work start worker n c.shift.result c.loop-n.shifts.items w.in_default.not-Some c.shift.ensures so_far)
+      | in-Some+in_ok-push w ↦ rw (w.shifts-is, w.in_ok-push.ensures.items) (shifts-more work start worker n w.in-Some.shift c.shift.result c.loop-n.shifts.items w.in-Some.is is so_far)
+      | in_default w ↦ rw w.shifts-is (shifts-same work start worker n c.shift.result c.loop-n.shifts.items w.in_default.not-Some is so_far)
     ]
 
 pub returns : goal.returns
 returns c =
-    shifts-sorted (work_of c.args.plan.now.timings) (start_of c.args.plan.now.starts) (worker_in c.args.given.now) c.loop-n.n c.loop-n.shifts.items c.sort_unstable.new.self.items
-    (omega (arith, c.len-n-end.ensures.count)) c.loop-n.invariant c.sort_unstable.ensures.permutation
+    shifts-sorted (first_of (work_of c.args.plan.now.timings) c.args.many) (start_of c.args.plan.now.starts) (worker_in c.args.given.now) c.loop-n.n c.loop-n.shifts.items c.sort_unstable.new.self.items
+    (omega arith) c.loop-n.invariant c.sort_unstable.ensures.permutation
     (λ i lt. c.sort_unstable.ensures.sorted i (0, 0, 0) (omega arith) lt)

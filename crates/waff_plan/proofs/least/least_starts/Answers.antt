@@ -1,11 +1,12 @@
-use Rattle.std.proofs.Common.{◌≡◌, ℕ, ◌+◌, ◌-◌, ◌*◌, ◌^◌, ◌<◌, ◌≤◌, arith, sym, ◌∙◌, ap, subst}
-use Rattle.waff_assign.specs.Order.{IsOrdered, affinity_of}
+use Rattle.std.proofs.Common.{◌≡◌, ℕ, ◌+◌, ◌-◌, ◌*◌, ◌^◌, ◌<◌, ◌≤◌, length, arith, sym, ◌∙◌, ap, subst}
+use Rattle.waff_model.specs.Places.{place_at}
+use Rattle.waff_assign.specs.Order.{IsOrdered}
 use Rattle.waff_plan.specs.Work.{finish_of}
 use Rattle.waff_plan.specs.Timing.{work_of, start_of}
-use Rattle.waff_plan.specs.Table.{IsTable}
+use Rattle.waff_plan.specs.Table.{message_place, HasPlaces, IsTable}
 use Rattle.waff_plan.proofs.Forward.{IsOrdered_forward}
 use Rattle.waff_plan.proofs.Steps.{IsLeastUpTo, up_to_all}
-use Rattle.waff_plan.proofs.Planned.{found_at, start_early, planned_next, early_is_printable}
+use Rattle.waff_plan.proofs.Planned.{planned_none, found_at, start_early, planned_next, early_is_printable}
 use Rattle.waff_plan.proofs.least.least_starts.Goals as goal
 
 pub overflow_add-finish : goal.overflow_add-finish
@@ -17,46 +18,51 @@ overflow_add-finish c =
     let from : 1 ≤ m = c.loop-m.auto.m in
     let to : m ≤ 65536 = omega (arith, c.len-m-end.ensures.few, c.len-m-end.ensures.count, c.loop-m-test.true) in
     let early : c.start_after-start.result ≤ 2 ^ 32 * m
-    = start_early c.args.tree.now assigned work starts m c.start_after-start.result c.loop-m.table.own.items c.loop-m.table.under.items c.latest.result
+    = start_early c.args.tree.now c.places-places.result.now assigned work starts m c.start_after-start.result c.loop-m.table c.latest.result
     from c.loop-m.invariant.planned c.start_after-start.ensures.release
-    (found_at c.args.tree.now assigned (finish_of work (start_of starts)) m c.of-affinity.result.0 c.loop-m.table.own.items c.loop-m.table.under.items
-    c.latest.result c.of-affinity.ensures c.loop-m.invariant.planned.table c.latest.ensures)
+    (found_at c.args.tree.now c.places-places.result.now assigned (finish_of work (start_of starts)) m c.of.result.0 c.loop-m.table
+    c.latest.result c.places-places.ensures c.requires.known from (omega (arith, c.len-m-end.ensures.count, c.loop-m-test.true)) c.of.ensures c.loop-m.invariant.planned.table c.latest.ensures)
     c.start_after-start.ensures.start in
     let cost : c.from.result < 2 ^ 32 = omega (arith, c.from.ensures, c.start_after-start.ensures.cost) in
     omega arith
 
+pub loop-m-init : goal.loop-m-init
+loop-m-init c = record {
+  planned = planned_none c.args.tree.now c.places-places.result.now c.args.assigned.now (work_of c.args.timings.now) c.in_ok-starts.starts.items c.in_ok-table.table (sym c.requires.lengths)
+      (ap length c.in_ok-starts.ensures.items) (c.in_ok-table.ensures.table c.places-places.result.now c.args.assigned.now);
+  places = subst (λ x. HasPlaces x c.in_ok-table.table) c.len.ensures.count c.in_ok-table.ensures.places;
+}
+
 pub loop-m-preserved : goal.loop-m-preserved
 loop-m-preserved c =
     let tree = c.args.tree.now in
+    let places = c.places-places.result.now in
     let assigned = c.args.assigned.now in
     let work = work_of c.args.timings.now in
     let starts = c.loop-m.starts.items in
-    let own = c.loop-m.table.own.items in
-    let under = c.loop-m.table.under.items in
-    let more_own = c.note.new.self.own.items in
-    let more_under = c.note.new.self.under.items in
+    let table = c.loop-m.table in
+    let next = c.note.new.self in
     let start = c.start_after-start.result in
     let m = c.loop-m.m in
     let from : 1 ≤ m = c.loop-m.auto.m in
     let to : m ≤ work.count = omega (arith, c.len-m-end.ensures.count, c.loop-m-test.true, c.requires.lengths) in
     let planned = c.loop-m.invariant.planned in
-    let found = found_at tree assigned (finish_of work (start_of starts)) m c.of-affinity.result.0 own under c.latest.result c.of-affinity.ensures
-    planned.table c.latest.ensures in
+    let found = found_at tree places assigned (finish_of work (start_of starts)) m c.of.result.0 table c.latest.result c.places-places.ensures c.requires.known
+    from (omega (arith, to, c.requires.lengths)) c.of.ensures planned.table c.latest.ensures in
     let is = c.start_after-start.ensures.start in
-    let early = start_early tree assigned work starts m start own under c.latest.result from planned c.start_after-start.ensures.release found is in
+    let early = start_early tree places assigned work starts m start table c.latest.result from planned c.start_after-start.ensures.release found is in
     let this : m - 1 + 1 ≡ m = omega arith in
-    let note : (finish : ℕ → ℕ) → IsTable tree assigned finish (m - 1) own under → finish m ≡ start + work.cost m → IsTable tree assigned finish m more_own more_under
-    = λ finish table finish_is.
-    subst (λ x. IsTable tree assigned finish x more_own more_under) this
-    (c.note.ensures.table assigned finish (m - 1) table (sym this)
-    (ap (λ x. affinity_of assigned x) this ∙ sym c.of-affinity.ensures)
+    let note : (finish : ℕ → ℕ) → IsTable places assigned finish (m - 1) table → finish m ≡ start + work.cost m → IsTable places assigned finish m next
+    = λ finish h finish_is.
+    subst (λ x. IsTable places assigned finish x next) this
+    (c.note.ensures.table places assigned finish (m - 1) h (sym this)
+    (ap (λ x. message_place places assigned x) this ∙ ap (λ x. place_at places x) (sym c.of.ensures))
     (ap finish this ∙ finish_is ∙ ap (λ x. start + x) (sym c.from.ensures))) in
-    let more = planned_next tree assigned work starts m start own under more_own more_under c.latest.result (sym c.requires.lengths) from to
+    let more = planned_next tree places assigned work starts m start table next c.latest.result (sym c.requires.lengths) from to
     c.start_after-start.ensures.cost early planned found is note in
     record {
       planned = rw c.in_ok-push.ensures.items more;
-      own = c.note.ensures.own;
-      under = c.note.ensures.under;
+      places = subst (λ x. HasPlaces x next) c.loop-m.invariant.places.own.count c.note.ensures.places;
     }
 
 pub returns-clause-least : goal.returns-clause-least
@@ -70,5 +76,5 @@ returns-clause-least c =
 
 pub returns-clause-printable : goal.returns-clause-printable
 returns-clause-printable c =
-    early_is_printable c.args.tree.now c.args.assigned.now (work_of c.args.timings.now) c.loop-m.starts.items (c.loop-m.m - 1)
-    c.loop-m.table.own.items c.loop-m.table.under.items (omega (arith, c.len-m-end.ensures.few, c.len-m-end.ensures.count)) c.loop-m.invariant.planned
+    early_is_printable c.args.tree.now c.places-places.result.now c.args.assigned.now (work_of c.args.timings.now) c.loop-m.starts.items (c.loop-m.m - 1)
+    c.loop-m.table (omega (arith, c.len-m-end.ensures.few, c.len-m-end.ensures.count)) c.loop-m.invariant.planned

@@ -1,11 +1,11 @@
-use Rattle.std.proofs.Common.{◌≡◌, ◌-◌, length}
+use Rattle.std.proofs.Common.{◌-◌, length}
+use Rattle.waff_plan.specs.Table.{HasPlaces}
 use Rattle.waff_plan.specs.Timing.{work_of}
 use Rattle.waff_plan.proofs.Planned.{IsPlanned}
 use Rattle.waff_plan.proofs.least.least_starts.Given as goal
 
 abbrev pub invariant-loop-m : goal.invariant-loop-m
 invariant-loop-m l = record {
-  planned : IsPlanned l.tree l.assigned (work_of l.timings) l.starts.items (l.m - 1) l.table.own.items l.table.under.items;
-  own : length l.table.own.items ≡ length l.tree;
-  under : length l.table.under.items ≡ length l.tree;
+  planned : IsPlanned l.tree l.places l.assigned (work_of l.timings) l.starts.items (l.m - 1) l.table;
+  places : HasPlaces (length l.tree) l.table;
 }

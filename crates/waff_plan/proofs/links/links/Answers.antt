@@ -1,13 +1,22 @@
 use Rattle.std.proofs.Common.{◌≡◌, ◌+◌, ◌-◌, ◌≤◌, [], ◌∷◌, ◌++◌, length, arith, sym, ◌∙◌, ap, subst}
 use Rattle.std.proofs.lemmas.List.{length_push}
-use Rattle.waff_assign.specs.Order.{IsOrdered, affinity_of}
+use Rattle.waff_model.specs.Places.{place_at}
+use Rattle.waff_assign.specs.Order.{IsOrdered}
 use Rattle.waff_plan.specs.Work.{finish_of}
 use Rattle.waff_plan.specs.Timing.{work_of, start_of}
-use Rattle.waff_plan.specs.Table.{IsTable}
+use Rattle.waff_plan.specs.Table.{message_place, HasPlaces, IsTable}
 use Rattle.waff_plan.specs.Links.{IsLink, link_of}
 use Rattle.waff_plan.proofs.Linkings.{is_link, links_more}
 use Rattle.waff_plan.proofs.Planned.{found_at}
 use Rattle.waff_plan.proofs.links.links.Goals as goal
+
+pub loop-m-init : goal.loop-m-init
+loop-m-init c = record {
+  count = ap length c.in_ok-links.ensures.items;
+  links = λ m from to. absurd (omega arith);
+  table = c.in_ok-table.ensures.table c.places-places.result.now c.args.assigned.now _;
+  places = subst (λ x. HasPlaces x c.in_ok-table.table) c.len.ensures.count c.in_ok-table.ensures.places;
+}
 
 pub loop-m-preserved : goal.loop-m-preserved
 loop-m-preserved c =
@@ -17,28 +26,26 @@ loop-m-preserved c =
     let start = start_of c.args.plan.now.starts in
     let finish = finish_of work start in
     let links = c.loop-m.links.items in
-    let own = c.loop-m.table.own.items in
-    let under = c.loop-m.table.under.items in
+    let places = c.places-places.result.now in
     let m = c.loop-m.m in
     let link = c.waited_for-link.result in
     let from : 1 ≤ m = c.loop-m.auto.m in
     let to : m ≤ length assigned = omega (arith, c.len-m-end.ensures.count, c.loop-m-test.true, c.requires.lengths) in
     let this : m - 1 + 1 ≡ m = omega arith in
     let next : m ≡ m + 1 - 1 = omega arith in
-    let found = found_at tree assigned finish m c.of-affinity.result.0 own under c.latest.result c.of-affinity.ensures
+    let found = found_at tree places assigned finish m c.of.result.0 c.loop-m.table c.latest.result c.places-places.ensures c.requires.known from to c.of.ensures
     c.loop-m.invariant.table c.latest.ensures in
     let link_is : link ≡ link_of c.latest.result (work.release m)
     = c.waited_for-link.ensures ∙ ap (λ release. link_of c.latest.result release) c.release.ensures.release in
     let is : IsLink (IsOrdered tree assigned) work start m link
     = subst (λ x. IsLink (IsOrdered tree assigned) work start m x) (sym link_is) (is_link tree assigned work start m c.latest.result from to found) in
     let more = links_more (IsOrdered tree assigned) work start m links link from c.loop-m.invariant.count c.loop-m.invariant.links is in
-    let noted = c.note.ensures.table assigned finish (m - 1) c.loop-m.invariant.table (sym this)
-    (ap (λ x. affinity_of assigned x) this ∙ sym c.of-affinity.ensures) (ap finish this ∙ sym c.finish-finish.ensures.finish) in
+    let noted = c.note.ensures.table places assigned finish (m - 1) c.loop-m.invariant.table (sym this)
+    (ap (λ x. message_place places assigned x) this ∙ ap (λ x. place_at places x) (sym c.of.ensures)) (ap finish this ∙ sym c.finish-finish.ensures.finish) in
     let items : c.push.new.self.items ≡ links ++ link ∷ [] = c.in_ok-push.ensures.items in
     record {
       count = rw items (let long = length_push links link in omega (arith, long, c.loop-m.invariant.count));
       links = rw items more;
-      table = subst (λ x. IsTable tree assigned finish x c.note.new.self.own.items c.note.new.self.under.items) (this ∙ next) noted;
-      own = c.note.ensures.own;
-      under = c.note.ensures.under;
+      table = subst (λ x. IsTable places assigned finish x c.note.new.self) (this ∙ next) noted;
+      places = subst (λ x. HasPlaces x c.note.new.self) c.loop-m.invariant.places.own.count c.note.ensures.places;
     }

@@ -2,7 +2,7 @@ use Rattle.std.proofs.Common.{◌≡◌, ◌-◌, length}
 use Rattle.waff_assign.specs.Order.{IsOrdered}
 use Rattle.waff_plan.specs.Work.{finish_of}
 use Rattle.waff_plan.specs.Timing.{work_of, start_of}
-use Rattle.waff_plan.specs.Table.{IsTable}
+use Rattle.waff_plan.specs.Table.{HasPlaces, IsTable}
 use Rattle.waff_plan.specs.Links.{AreLinks}
 use Rattle.waff_plan.proofs.links.links.Given as goal
 
@@ -10,7 +10,6 @@ abbrev pub invariant-loop-m : goal.invariant-loop-m
 invariant-loop-m l = record {
   count : length l.links.items ≡ l.m - 1;
   links : AreLinks (IsOrdered l.tree l.assigned) (work_of l.plan.timings) (start_of l.plan.starts) (l.m - 1) l.links.items;
-  table : IsTable l.tree l.assigned (finish_of (work_of l.plan.timings) (start_of l.plan.starts)) (l.m - 1) l.table.own.items l.table.under.items;
-  own : length l.table.own.items ≡ length l.tree;
-  under : length l.table.under.items ≡ length l.tree;
+  table : IsTable l.places l.assigned (finish_of (work_of l.plan.timings) (start_of l.plan.starts)) (l.m - 1) l.table;
+  places : HasPlaces (length l.tree) l.table;
 }

@@ -1,6 +1,6 @@
-use Rattle.std.proofs.Common.{◌≡◌, ◌-◌, length}
+use Rattle.std.proofs.Common.{◌-◌, length}
 use Rattle.waff_plan.specs.Work.{finish_of}
-use Rattle.waff_plan.specs.Table.{IsTable}
+use Rattle.waff_plan.specs.Table.{HasPlaces, IsTable}
 use Rattle.waff_plan.specs.Timing.{work_of, start_of}
 use Rattle.waff_plan.proofs.OrderKept.{KeepsOrderBelow}
 use Rattle.waff_plan.proofs.ordered.keeps_order.Given as goal
@@ -8,7 +8,6 @@ use Rattle.waff_plan.proofs.ordered.keeps_order.Given as goal
 abbrev pub invariant-loop-m : goal.invariant-loop-m
 invariant-loop-m l = record {
   kept : KeepsOrderBelow l.tree l.assigned (work_of l.plan.timings) (start_of l.plan.starts) l.m;
-  table : IsTable l.tree l.assigned (finish_of (work_of l.plan.timings) (start_of l.plan.starts)) (l.m - 1) l.table.own.items l.table.under.items;
-  own : length l.table.own.items ≡ length l.tree;
-  under : length l.table.under.items ≡ length l.tree;
+  table : IsTable l.places l.assigned (finish_of (work_of l.plan.timings) (start_of l.plan.starts)) (l.m - 1) l.table;
+  places : HasPlaces (length l.tree) l.table;
 }
