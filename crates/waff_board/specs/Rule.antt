@@ -5,14 +5,11 @@ use Rattle.atomic_table.specs.Table.{State}
 use Rattle.waff_core.specs.Job.{IsJob}
 use Rattle.waff_core.specs.Machine.{Core, Runs, opening}
 use Rattle.waff_core.specs.declared.event.Event.{Event}
+pub use Rattle.waff_core.specs.declared.limits.TheConstants.{MAX_SEATS}
 use Rattle.waff_board.specs.Shows.{Words, Slots}
 use Rattle.waff_board.specs.Seats.{Seats}
 use Rattle.waff_board.specs.declared.view.Setup.{Setup}
 use Rattle.waff_board.specs.declared.view.View.{View}
-
--- as many seats as a board may have
-abbrev pub MAX_SEATS : ℕ
-MAX_SEATS = 16
 
 -- what a board may be told
 pub record IsSetup (setup : Setup) : Type 0 where

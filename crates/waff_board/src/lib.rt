@@ -33,3 +33,5 @@ pub use closing::CloseError;
 pub use drawing::Draw;
 pub use opening::BoardError;
 pub use tokens::{Cleared, Drawn, EndSeat, Finished, Grant, Seat};
+pub use waff_cells::State;
+pub use waff_core::{CoreError, CoreState, Event, Job, JobError, Status, run_events};

@@ -1,9 +1,9 @@
 //! Making a board and its seats.
 
 ghost use Rattle.std.specs.Prelude.{◌≡◌, ◌≤◌, [], length, map, All, IfOk};
+ghost use Rattle.waff_core.specs.declared.limits.TheConstants.{MAX_SEATS};
 ghost use Rattle.waff_board.specs.Calls.{IsOf};
 ghost use Rattle.waff_board.specs.Openings.{IsFresh, AreFresh, zero_parcels_of};
-ghost use Rattle.waff_board.specs.Rule.{MAX_SEATS};
 ghost use Rattle.waff_board.specs.Seats.{first};
 
 use crate::board::Board;

@@ -1,0 +1,205 @@
+//! The running board over the hierarchical sample.
+
+ghost use Rattle.std.specs.Prelude.{◌≡◌, ◌≤◌, length, All, IfOk};
+ghost use Rattle.waff_model.specs.Messages.{sizes_of};
+ghost use Rattle.waff_board.specs.Calls.{IsOf};
+
+use crate::jobs::job;
+use crate::states::numbers;
+use std::alloc::Global;
+use std::process::Abort;
+use std::test::Fail;
+use waff_board::{Board, Clear, Cleared, CloseError, Draw, Drawn, EndSeat, Seat};
+use waff_core::Job;
+use waff_model::{Cell, Layout};
+use waff_read::read_hierarchy;
+use waff_samples::{H1, X1};
+
+/// Cells of the sample: f:0, f:2 and g:0.
+const F0: Cell = Cell { space: 0, index: 0 };
+
+const F2: Cell = Cell { space: 0, index: 2 };
+
+const G0: Cell = Cell { space: 2, index: 0 };
+
+/// A board for the job and so many seats. The layout has to have the spaces of the job's.
+pub fn seated(
+    rt: &impl Abort,
+    alloc: Global,
+    layout: &Layout,
+    job: Job,
+    seats: u32,
+) -> Result<(Board, Vec<Seat>), Fail>
+    requires some { 1 ≤ seats }
+    requires few { seats ≤ 16 }
+    ensures count { IfOk result (λ made. length made.1.items ≡ seats) }
+    ensures of { IfOk result (λ made. All (λ seat. IsOf made.0 seat.hand) made.1.items) }
+    ensures sizes { IfOk result (λ made. sizes_of made.0.setup.job.layout.spaces ≡ sizes_of layout.now.spaces) }
+{
+    assert!(rt; layout.same_spaces(job.layout()));
+    Ok(Board::new(alloc, job, seats)?)
+}
+
+/// Takes the last of the seats.
+fn sit(rt: &impl Abort, board: &Board, seats: &mut Vec<Seat>) -> Seat
+    requires { All (λ seat. IsOf board.now seat.hand) seats.old.items }
+    ensures seat { IsOf board.now result.hand }
+    ensures others { All (λ seat. IsOf board.now seat.hand) seats.new.items }
+{
+    match seats.pop() {
+        Some(seat) => seat,
+        None => panic!(rt; "no seat is left"),
+    }
+}
+
+/// Draws a message, which has to be there.
+fn draw(rt: &impl Abort, board: &Board, seat: Seat) -> Drawn
+    requires { IsOf board.now seat.hand }
+    ensures { IsOf board.now result.hand }
+{
+    match board.draw(seat) {
+        Draw::Got(drawn) => drawn,
+        Draw::Over(_) => panic!(rt; "no message is left"),
+    }
+}
+
+/// Draws past the end of the order.
+fn draw_over(rt: &impl Abort, board: &Board, seat: Seat) -> EndSeat
+    requires { IsOf board.now seat.hand }
+    ensures { IsOf board.now result.hand }
+{
+    match board.draw(seat) {
+        Draw::Over(seat) => seat,
+        Draw::Got(_) => panic!(rt; "a message is left"),
+    }
+}
+
+/// Looks at the needs of a message, which have to be done.
+fn clear(rt: &impl Abort, board: &Board, drawn: Drawn) -> Cleared
+    requires { IsOf board.now drawn.hand }
+    ensures { IsOf board.now result.hand }
+{
+    match board.clear(drawn) {
+        Clear::Go(cleared) => cleared,
+        Clear::Wait { .. } => panic!(rt; "a need is not done"),
+    }
+}
+
+/// Looks at the needs of a message, one of which is not done: which one.
+fn wait(rt: &impl Abort, board: &Board, drawn: Drawn) -> (Drawn, u32)
+    requires { IsOf board.now drawn.hand }
+    ensures { IsOf board.now result.0.hand }
+{
+    match board.clear(drawn) {
+        Clear::Wait { drawn, on } => (drawn, on),
+        Clear::Go(_) => panic!(rt; "all needs are done"),
+    }
+}
+
+/// Runs the message that the seat has drawn.
+fn run(rt: &impl Abort, board: &Board, drawn: Drawn) -> Seat
+    requires { IsOf board.now drawn.hand }
+    ensures { IsOf board.now result.hand }
+{
+    let grant = board.begin(clear(rt, board, drawn));
+    board.finish(grant.run())
+}
+
+/// Draws and runs so many messages.
+fn run_next(rt: &impl Abort, board: &Board, mut seat: Seat, count: u32) -> Seat
+    requires { IsOf board.now seat.hand }
+    ensures { IsOf board.now result.hand }
+{
+    for _ in 0..count {
+        let drawn = draw(rt, board, seat);
+        seat = run(rt, board, drawn);
+    }
+    seat
+}
+
+#[test]
+fn one_seat_runs_all_messages(rt: HostRuntime) -> Result<(), Fail> {
+    let alloc = rt.alloc();
+    let layout = read_hierarchy(alloc, H1.as_bytes())?;
+    let job = job(alloc, H1, X1, &[1, 2, 3, 4, 5, 6])??;
+    let (board, mut seats) = seated(&rt, alloc, &layout, job, 1)?;
+    let seat = sit(&rt, &board, &mut seats);
+    let seat = run_next(&rt, &board, seat, 6);
+    let end = board.end_looks(draw_over(&rt, &board, seat));
+    assert!(rt; end.unseen().is_none());
+    let state = numbers(alloc, &layout, &board.close(end)?)?;
+    assert_eq!(rt; state.as_str(), "f:0 5, f:2 7, f:4 1, g:0 5, g:4 1");
+    Ok(())
+}
+
+#[test]
+fn a_board_closes_unfinished(rt: HostRuntime) -> Result<(), Fail> {
+    let alloc = rt.alloc();
+    let trace = "message,cost,ops\nm1,1,read f:0\nm2,1,read f:0\nm3,1,read f:0\n";
+    let (board, mut seats) = Board::new(alloc, job(alloc, H1, trace, &[1, 2, 3])??, 3)?;
+    let first = sit(&rt, &board, &mut seats);
+    let second = sit(&rt, &board, &mut seats);
+    let third = sit(&rt, &board, &mut seats);
+    let first = run_next(&rt, &board, first, 1);
+    let _two = draw(&rt, &board, first);
+    let _three = draw(&rt, &board, second);
+    let end = draw_over(&rt, &board, third);
+    assert_eq!(rt;
+        board.close(end).err(),
+        Some(CloseError::Unfinished { message: 2 })
+    );
+    Ok(())
+}
+
+#[test]
+fn a_grant_holds_the_cells_of_its_owners(rt: HostRuntime) -> Result<(), Fail> {
+    let alloc = rt.alloc();
+    let (board, mut seats) = Board::new(alloc, job(alloc, H1, X1, &[1, 2, 4, 3, 5, 6])??, 1)?;
+    let seat = sit(&rt, &board, &mut seats);
+    let seat = run_next(&rt, &board, seat, 3);
+    let cleared = clear(&rt, &board, draw(&rt, &board, seat));
+    assert_eq!(rt; cleared.message(), 3);
+    let grant = board.begin(cleared);
+    assert_eq!(rt; grant.get(F0), Some(5));
+    assert_eq!(rt; grant.get(F2), Some(0));
+    assert!(rt; grant.get(G0).is_none());
+    assert_eq!(rt; grant.run().get(F2), Some(5));
+    Ok(())
+}
+
+#[test]
+fn a_seat_waits_for_a_need(rt: HostRuntime) -> Result<(), Fail> {
+    let alloc = rt.alloc();
+    let (board, mut seats) = Board::new(alloc, job(alloc, H1, X1, &[1, 2, 3, 4, 5, 6])??, 2)?;
+    let first = sit(&rt, &board, &mut seats);
+    let second = sit(&rt, &board, &mut seats);
+    let one = draw(&rt, &board, first);
+    let second = run_next(&rt, &board, second, 1);
+    let three = draw(&rt, &board, second);
+    let (three, on) = wait(&rt, &board, three);
+    assert_eq!(rt; on, 1);
+    let (three, on) = wait(&rt, &board, three);
+    assert_eq!(rt; on, 1);
+    let _first = run(&rt, &board, one);
+    let grant = board.begin(clear(&rt, &board, three));
+    assert_eq!(rt; grant.get(F0), Some(5));
+    Ok(())
+}
+
+#[test]
+fn a_dropped_grant_stays_unfinished(rt: HostRuntime) -> Result<(), Fail> {
+    let alloc = rt.alloc();
+    let trace = "message,cost,ops\nm1,1,set f:0 1\nm2,1,set g:0 1\n";
+    let (board, mut seats) = Board::new(alloc, job(alloc, H1, trace, &[1, 2])??, 2)?;
+    let first = sit(&rt, &board, &mut seats);
+    let second = sit(&rt, &board, &mut seats);
+    let cleared = clear(&rt, &board, draw(&rt, &board, first));
+    drop(board.begin(cleared));
+    let second = run_next(&rt, &board, second, 1);
+    let end = board.end_looks(draw_over(&rt, &board, second));
+    assert_eq!(rt;
+        board.close(end).err(),
+        Some(CloseError::Unfinished { message: 1 })
+    );
+    Ok(())
+}
