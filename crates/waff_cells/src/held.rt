@@ -49,20 +49,23 @@ fn apply_op<A: Addresses>(rows: &mut [Vec<u64>], op: Op, addresses: &A)
         (rows_of rows.old) (rows_of rows.new) (effect op) }
 {
     match op {
-        Op::Set { cell, value } => write(rows, addresses, cell, value),
+        Op::Set { cell, value } => write(rows, addresses, cell, addresses.address(cell), value),
         Op::Add { cell, value } => {
-            let before = read(rows, addresses, cell);
-            write(rows, addresses, cell, before.wrapping_add(value));
+            let at = addresses.address(cell);
+            let before = number_at(rows, at);
+            write(rows, addresses, cell, at, before.wrapping_add(value));
         }
         Op::Copy { cell, source } => {
             let value = read(rows, addresses, source);
-            write(rows, addresses, cell, value);
+            write(rows, addresses, cell, addresses.address(cell), value);
         }
         Op::Swap { cell, other } => {
-            let one = read(rows, addresses, cell);
-            let two = read(rows, addresses, other);
-            write(rows, addresses, cell, two);
-            write(rows, addresses, other, one);
+            let first = addresses.address(cell);
+            let second = addresses.address(other);
+            let one = number_at(rows, first);
+            let two = number_at(rows, second);
+            write(rows, addresses, cell, first, two);
+            write(rows, addresses, other, second, one);
         }
         Op::Read { .. } => {}
     }
@@ -74,20 +77,33 @@ pub(crate) fn read<A: Addresses>(rows: &[Vec<u64>], addresses: &A, cell: Cell) -
     requires within { IsWithin (map length (rows_of rows.now)) (A.at addresses.now cell) }
     ensures { result ≡ number_at (rows_of rows.now) (A.at addresses.now cell) }
 {
-    let (row, column) = addresses.address(cell);
-    rows[row][column]
+    number_at(rows, addresses.address(cell))
 }
 
-/// Gives the cell this number.
-fn write<A: Addresses>(rows: &mut [Vec<u64>], addresses: &A, cell: Cell, number: u64)
+/// The number at the address.
+fn number_at(rows: &[Vec<u64>], at: (usize, usize)) -> u64
+    requires { IsWithin (map length (rows_of rows.now)) at }
+    ensures { result ≡ number_at (rows_of rows.now) at }
+{
+    rows[at.0][at.1]
+}
+
+/// Gives the cell, whose address is looked up once for all that is done to it, this number.
+fn write<A: Addresses>(
+    rows: &mut [Vec<u64>],
+    addresses: &A,
+    cell: Cell,
+    at: (usize, usize),
+    number: u64,
+)
     requires has { A.has addresses.now cell }
+    requires at { at ≡ A.at addresses.now cell }
     requires within { IsWithin (map length (rows_of rows.old)) (A.at addresses.now cell) }
     requires apart { AreApart (A.has addresses.now) (A.at addresses.now) }
     ensures sizes { HasSizes (rows_of rows.new) (map length (rows_of rows.old)) }
     ensures holds { HoldAfter (A.has addresses.now) (A.at addresses.now)
         (rows_of rows.old) (rows_of rows.new) (λ cells. with_number cells cell number) }
 {
-    let (row, column) = addresses.address(cell);
-    let row = &mut rows[row];
-    row[column] = number;
+    let row = &mut rows[at.0];
+    row[at.1] = number;
 }

@@ -22,8 +22,10 @@ returns-in-Swap-clause-holds g c =
     let has_cell : Has cell = named 0 cell (omega arith) in
     let has_other : Has other = named 1 cell (omega arith) in
     λ cells hold x has.
-    let first : c.read-one.result ≡ cells cell = read_is Has at rows cells cell _ c.read-one.ensures hold has_cell in
-    let second : c.read-two.result ≡ cells other = read_is Has at rows cells other _ c.read-two.ensures hold has_other in
+    let first : c.number_at-one.result ≡ cells cell
+    = read_is Has at rows cells cell _ (c.number_at-one.ensures ∙ ap (number_at rows) c.address-first.ensures) hold has_cell in
+    let second : c.number_at-two.result ≡ cells other
+    = read_is Has at rows cells other _ (c.number_at-two.ensures ∙ ap (number_at rows) c.address-second.ensures) hold has_other in
     c.write-in-Swap-2.ensures.holds _ (c.write-in-Swap.ensures.holds cells hold) x has
     ∙ ap₂ (λ m n. with_number (with_number cells cell m) other n x) second first
     ∙ ap (λ (op : Op). effect op cells x) (sym c.in-Swap.is)

@@ -8,9 +8,9 @@ use Rattle.waff_cells.proofs.held.write.Goals as goal
 pub index_mut-requires : goal.index_mut-requires
 index_mut-requires g c =
     let vecs = c.args.rows.now in
-    let at = c.address-row.result in
-    let vec = c.index-rows-row.result in
-    let there = inside (rows_of vecs) at (subst (λ a. IsWithin (map length (rows_of vecs)) a) (sym c.address-row.ensures) c.requires.within) in
+    let at = c.args.at in
+    let vec = c.index-rows-at.result in
+    let there = inside (rows_of vecs) at (subst (λ a. IsWithin (map length (rows_of vecs)) a) (sym c.requires.at) c.requires.within) in
     let short : at.0 < length vecs = omega (arith, there.row, count_of vecs) in
     let same : (get_or vecs at.0 vec).items ≡ get_or (rows_of vecs) at.0 [] = row_of vecs at.0 vec short in
     omega (arith, there.column, ap length same, (get_or vecs at.0 vec).ok.0)
@@ -18,9 +18,9 @@ index_mut-requires g c =
 pub returns-clause-sizes : goal.returns-clause-sizes
 returns-clause-sizes g c =
     let vecs = c.args.rows.now in
-    let at = c.address-row.result in
-    let vec = c.index-rows-row.result in
-    let there = inside (rows_of vecs) at (subst (λ a. IsWithin (map length (rows_of vecs)) a) (sym c.address-row.ensures) c.requires.within) in
+    let at = c.args.at in
+    let vec = c.index-rows-at.result in
+    let there = inside (rows_of vecs) at (subst (λ a. IsWithin (map length (rows_of vecs)) a) (sym c.requires.at) c.requires.within) in
     let short : at.0 < length vecs = omega (arith, there.row, count_of vecs) in
     ap (map length) (written_rows vecs at vec c.args.number short) ∙ written_sizes (rows_of vecs) at c.args.number there
 
@@ -31,11 +31,11 @@ returns-clause-holds g c =
     let n = c.args.number in
     let Has : Cell → Type 0 = g.A.Addresses.has c.args.addresses.now in
     let at : Cell → Address = g.A.Addresses.at c.args.addresses.now in
-    let address = c.address-row.result in
-    let vec = c.index-rows-row.result in
+    let address = c.args.at in
+    let vec = c.index-rows-at.result in
     let there = inside (rows_of vecs) (at cell) c.requires.within in
-    let here : address.0 ≡ (at cell).0 = ap (λ (a : Address). a.0) c.address-row.ensures in
+    let here : address.0 ≡ (at cell).0 = ap (λ (a : Address). a.0) c.requires.at in
     let short : address.0 < length vecs = omega (arith, there.row, count_of vecs, here) in
-    let same = written_rows vecs address vec n short ∙ ap (λ a. with_number_at (rows_of vecs) a n) c.address-row.ensures in
+    let same = written_rows vecs address vec n short ∙ ap (λ a. with_number_at (rows_of vecs) a n) c.requires.at in
     λ cells hold. subst (λ rows. Hold Has at rows (with_number cells cell n)) (sym same)
     (written_holds Has at c.requires.apart (rows_of vecs) cell n c.requires.has there cells hold)
