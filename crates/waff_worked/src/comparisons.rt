@@ -66,7 +66,7 @@ fn are_refused(
     let mut written = Vec::new(alloc);
     let (first, second) = (first.as_bytes(), second.as_bytes());
     let result = compare_text(alloc, first, second, b"", 2, &mut written);
-    assert!(rt; result == Err(error));
+    assert_eq!(rt; result.err(), Some(error));
     assert!(rt; written.is_empty());
     Ok(())
 }

@@ -60,7 +60,7 @@ fn are_written_as_far_as_the_writer_takes_them(rt: HostRuntime) -> Result<(), Fa
         taken: Vec::new(alloc),
     };
     let result = plan_text(alloc, H1.as_bytes(), X1.as_bytes(), None, &mut writer);
-    assert!(rt; result == Err(ToolError::Write));
+    assert_eq!(rt; result.err(), Some(ToolError::Write));
     assert_eq!(rt; writer.taken.as_slice(), b"message,af".as_slice());
     assert_eq!(rt;
         fault_text(alloc, &ToolError::Write)?.as_str(),
@@ -97,9 +97,15 @@ fn are_read_whole(rt: HostRuntime) -> Result<(), Fail> {
         b"abcde".as_slice()
     );
     let mut five: &[u8] = b"abcde";
-    assert!(rt; read_whole(alloc, &mut five, 4).err() == Some(ReadFault::TooLong));
+    assert_eq!(rt;
+        read_whole(alloc, &mut five, 4).err(),
+        Some(ReadFault::TooLong)
+    );
     let mut failing = GivesThree { given: false };
-    assert!(rt; read_whole(alloc, &mut failing, 5).err() == Some(ReadFault::Failed));
+    assert_eq!(rt;
+        read_whole(alloc, &mut failing, 5).err(),
+        Some(ReadFault::Failed)
+    );
     let mut empty: &[u8] = b"";
     assert!(rt; read_whole(alloc, &mut empty, 0)?.is_empty());
     Ok(())

@@ -10,6 +10,7 @@ use std::test::Fail;
 use waff_assign::assign;
 use waff_list::{WorkerPlan, list_chain, list_plan};
 use waff_model::limits::MAX_TICK;
+use waff_order::Needs;
 use waff_order::predecessors::needs;
 use waff_plan::{Chain, Plan};
 use waff_read::{read_hierarchy, read_trace};
@@ -226,13 +227,18 @@ fn of_one_worker_with_releases(rt: HostRuntime) -> Result<(), Fail> {
     tells(&rt, rt.alloc(), X2, 1, case)
 }
 
+/// The needs of the messages of a trace under the hierarchical sample.
+fn needed(alloc: Global, trace: &str) -> Result<Needs, Fail> {
+    let layout = read_hierarchy(alloc, H1.as_bytes())?;
+    let trace = read_trace(alloc, &layout, trace.as_bytes())?;
+    let assigned = assign(alloc, &layout, &trace)?;
+    Ok(needs(alloc, layout.tree(), &assigned)?)
+}
+
 #[test]
 fn wait_for_their_needs(rt: HostRuntime) -> Result<(), Fail> {
     let alloc = rt.alloc();
-    let layout = read_hierarchy(alloc, H1.as_bytes())?;
-    let trace = read_trace(alloc, &layout, X1.as_bytes())?;
-    let assigned = assign(alloc, &layout, &trace)?;
-    let needs = needs(alloc, layout.tree(), &assigned)?;
+    let needs = needed(alloc, X1)?;
     assert_eq!(rt; needs.len(), 6);
     let expected = ["", "", "1", "", "2 3 4", "5"];
     for n in 1..7u32 {
@@ -242,6 +248,23 @@ fn wait_for_their_needs(rt: HostRuntime) -> Result<(), Fail> {
             "message {n}"
         );
     }
+    Ok(())
+}
+
+#[test]
+fn wait_for_few_of_many(rt: HostRuntime) -> Result<(), Fail> {
+    let alloc = rt.alloc();
+    let mut trace = String::from_str(alloc, "message,cost,ops\n")?;
+    for _turn in 0..2048u32 {
+        trace.push_str("m,1,read f:0\nm,1,read g:0\n")?;
+    }
+    let needs = needed(alloc, trace.as_str())?;
+    assert_eq!(rt; needs.len(), 4096);
+    let mut all = Vec::new(alloc);
+    for n in 1..needs.len() + 1 {
+        all.extend_from_slice(needs.of(n))?;
+    }
+    assert!(rt; all.len() <= 12288, "there are {} needs", all.len());
     Ok(())
 }
 
