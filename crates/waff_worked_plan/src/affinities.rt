@@ -37,6 +37,16 @@ fn of_two_volumes_is_the_root(rt: HostRuntime) -> Result<(), Fail> {
 }
 
 #[test]
+fn hold_cells_at_their_places(rt: HostRuntime) -> Result<(), Fail> {
+    let layout = layout(rt.alloc())?;
+    let f = Cell { space: 0, index: 4 };
+    assert!(rt; layout.has(f));
+    let (owner, place) = layout.place(f);
+    assert!(rt; (layout.tree().name(owner), place) == ("A0", 2));
+    Ok(())
+}
+
+#[test]
 fn come_from_footprints_without_repeats(rt: HostRuntime) -> Result<(), Fail> {
     let layout = layout(rt.alloc())?;
     let trace = trace(&rt, rt.alloc(), &layout)?;
