@@ -23,6 +23,19 @@ pub fn read_file(
     read_whole(alloc, &mut file, MAX_INPUT).map_err(|fault| Failure::of_read(place, fault))
 }
 
+/// The bytes of the file that stands at this place, where its name is given.
+pub fn read_given(
+    rt: &impl Files,
+    alloc: Global,
+    name: Option<&str>,
+    place: u32,
+) -> Result<Option<Vec<u8>>, Failure> {
+    match name {
+        Some(name) => Ok(Some(read_file(rt, alloc, name, place)?)),
+        None => Ok(None),
+    }
+}
+
 /// The bytes of standard input.
 pub fn read_input(rt: &impl Input, alloc: Global) -> Result<Vec<u8>, Failure> {
     read_whole(alloc, &mut rt.reader(), MAX_INPUT).map_err(|fault| Failure::of_read(0, fault))

@@ -12,6 +12,11 @@ pub const CHECK: &str = "Example: waff check hier.toml trace.csv plan.csv
 
 Exit status: 0 no fault in the plan, 1 a fault, 2 words refused, 3 a file refused, 4 not read, not written or no memory.";
 
+pub const EXPLAIN: &str = "Example: waff explain hier.toml trace.csv plan.csv
+
+Exit status: that of the fault or the verdict: 0 nothing is wrong, 1 a fault in the plan, 2 words refused, 3 a file refused,
+4 not read, not written or no memory.";
+
 pub const REPLAY: &str = "Example: waff replay hier.toml trace.csv --workers 4
 
 Exit status: 0 done, 2 words refused, 3 a file refused, 4 not read, not written or no memory.";

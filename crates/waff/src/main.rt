@@ -14,7 +14,7 @@ mod help;
 mod words;
 
 use failure::Failure;
-use files::{read_file, read_input};
+use files::{read_file, read_given, read_input};
 use std::alloc::Global;
 use std::process::ExitCode;
 use std::rt::Runtime;
@@ -24,8 +24,8 @@ use std::{env, io};
 use waff_core::limits::MAX_SEATS;
 use waff_model::limits::MAX_WORKERS;
 use waff_tool::{
-    assign_text, check_text, compare_text, plan_text, replay_text, split_input, sweep_text,
-    verdict_status, where_text,
+    assign_text, check_text, compare_text, explain_text, explained_status, plan_text, replay_text,
+    split_input, sweep_text, verdict_status, where_text,
 };
 use words::{FileNames, Request, read_words};
 
@@ -46,6 +46,9 @@ fn run<R: Runtime + AllocGlobal + Threads + Wait + Sync>(rt: &R) -> Result<u8, F
         Request::Assign(files) => print_assignment(rt, alloc, files)?,
         Request::Plan(files, workers) => print_plan(rt, alloc, files, workers)?,
         Request::Check(files, plan) => return print_verdict(rt, alloc, files, plan),
+        Request::Explain(hierarchy, trace, plan) => {
+            return print_explanation(rt, alloc, hierarchy, trace, plan);
+        }
         Request::Replay(files, workers) => print_state(rt, alloc, files, workers)?,
         Request::Compare(files, other, k) => print_comparison(rt, alloc, files, other, k)?,
         Request::Sweep(files) => print_sweep(rt, alloc, files)?,
@@ -114,6 +117,36 @@ fn print_verdict<R: Runtime + Threads + Sync>(
         &mut io::writer(rt),
     )?;
     Ok(verdict_status(&verdict))
+}
+
+/// Prints the first fault or the verdict in plain words, and gives its exit status.
+fn print_explanation<R: Runtime + Threads + Sync>(
+    rt: &R,
+    alloc: Global,
+    hierarchy: &str,
+    trace: Option<&str>,
+    plan: Option<&str>,
+) -> Result<u8, Failure> {
+    let hierarchy = read_file(rt, alloc, hierarchy, 1)?;
+    let trace = read_given(rt, alloc, trace, 2)?;
+    let plan = read_given(rt, alloc, plan, 3)?;
+    let explained = explain_text(
+        rt,
+        alloc,
+        hierarchy.as_slice(),
+        bytes_of(&trace),
+        bytes_of(&plan),
+        &mut io::writer(rt),
+    )?;
+    Ok(explained_status(&explained))
+}
+
+/// The bytes of a file, where there is one.
+fn bytes_of(file: &Option<Vec<u8>>) -> Option<&[u8]> {
+    match file {
+        Some(bytes) => Some(bytes.as_slice()),
+        None => None,
+    }
 }
 
 fn print_state<R: Runtime + Threads + Wait + Sync>(

@@ -27,6 +27,8 @@ pub enum Request<'a> {
     Sweep(FileNames<'a>),
     /// Where the time goes, by the names of messages or by affinity.
     Where(FileNames<'a>, bool),
+    /// The first fault, or the verdict, of a hierarchy, of a trace where there is one, and of a plan where there is one.
+    Explain(&'a str, Option<&'a str>, Option<&'a str>),
 }
 
 /// The names of the files of a command.
@@ -64,6 +66,11 @@ pub fn read_words<'a>(alloc: Global, words: &'a [String]) -> Result<Request<'a>,
             file_names(matches)?,
             matches.get_flag("names"),
         )),
+        Some(("explain", matches)) => Ok(Request::Explain(
+            word(matches, "HIER")?,
+            matches.get_str("TRACE"),
+            matches.get_str("PLAN"),
+        )),
         Some(_) => Err(Failure::NoWords),
         None => Ok(Request::PlanOfInput),
     }
@@ -98,62 +105,89 @@ fn waff<'a>(alloc: Global) -> Result<Command<'a>, AllocError> {
         .after_help(
             "With no words: the plan of the hierarchy and the trace on standard input, a line --- between them.",
         )
-        .subcommand(command(
-            alloc,
-            "assign",
-            "Prints the affinity in which each message runs",
-        )?
-        .after_help(help::ASSIGN))?
-        .subcommand(
-            command(
-                alloc,
-                "plan",
-                "Prints a shortest plan, with no limit on the workers, or a plan for a number of workers",
-            )?
-            .arg(number_of_workers(alloc))?
-            .after_help(help::PLAN),
-        )?
-        .subcommand(
-            command(
-                alloc,
-                "check",
-                "Tells the first fault of a plan, or how good the plan is",
-            )?
-            .arg(file(alloc, "PLAN", "The text of the plan, a CSV file"))?
-            .after_help(help::CHECK),
-        )?
-        .subcommand(command(
-            alloc,
-            "sweep",
-            "Prints how long the trace takes for 1 to 64 workers, and how busy the workers are",
-        )?
-        .after_help(help::SWEEP))?
-        .subcommand(
-            command(
-                alloc,
-                "where",
-                "Prints where the time goes, by affinity or by the names of messages",
-            )?
-            .arg(by_name(alloc))?
-            .after_help(help::WHERE),
-        )?
-        .subcommand(
-            command(
-                alloc,
-                "replay",
-                "Runs the messages in threads, and prints each cell that is not 0 then",
-            )?
-            .arg(number_of_threads(alloc))?
-            .after_help(help::REPLAY),
-        )?
+        .subcommand(assign(alloc)?.after_help(help::ASSIGN))?
+        .subcommand(plan(alloc)?.after_help(help::PLAN))?
+        .subcommand(check(alloc)?.after_help(help::CHECK))?
+        .subcommand(explain(alloc)?.after_help(help::EXPLAIN))?
+        .subcommand(sweep(alloc)?.after_help(help::SWEEP))?
+        .subcommand(place(alloc)?.after_help(help::WHERE))?
+        .subcommand(replay(alloc)?.after_help(help::REPLAY))?
         .subcommand(compare(alloc)?.after_help(help::COMPARE))
 }
+
+fn assign<'a>(alloc: Global) -> Result<Command<'a>, AllocError> {
+    command(
+        alloc,
+        "assign",
+        "Prints the affinity in which each message runs",
+    )
+}
+
+fn plan<'a>(alloc: Global) -> Result<Command<'a>, AllocError> {
+    command(
+        alloc,
+        "plan",
+        "Prints a shortest plan, with no limit on the workers, or a plan for a number of workers",
+    )?
+    .arg(number_of_workers(alloc))
+}
+
+fn check<'a>(alloc: Global) -> Result<Command<'a>, AllocError> {
+    command(
+        alloc,
+        "check",
+        "Tells the first fault of a plan, or how good the plan is",
+    )?
+    .arg(file(alloc, "PLAN", PLAN_FILE))
+}
+
+/// The command on a hierarchy, and a trace and a plan where they are given.
+fn explain<'a>(alloc: Global) -> Result<Command<'a>, AllocError> {
+    Command::new(alloc, "explain")
+        .about("Tells the first fault of the files, or the verdict on the plan, in plain words")
+        .arg(file(alloc, "HIER", HIERARCHY_FILE))?
+        .arg(file(alloc, "TRACE", TRACE_FILE).required(false))?
+        .arg(file(alloc, "PLAN", PLAN_FILE).required(false))
+}
+
+fn sweep<'a>(alloc: Global) -> Result<Command<'a>, AllocError> {
+    command(
+        alloc,
+        "sweep",
+        "Prints how long the trace takes for 1 to 64 workers, and how busy the workers are",
+    )
+}
+
+/// The command `where`.
+fn place<'a>(alloc: Global) -> Result<Command<'a>, AllocError> {
+    command(
+        alloc,
+        "where",
+        "Prints where the time goes, by affinity or by the names of messages",
+    )?
+    .arg(by_name(alloc))
+}
+
+fn replay<'a>(alloc: Global) -> Result<Command<'a>, AllocError> {
+    command(
+        alloc,
+        "replay",
+        "Runs the messages in threads, and prints each cell that is not 0 then",
+    )?
+    .arg(number_of_threads(alloc))
+}
+
+const HIERARCHY_FILE: &str = "The hierarchy, a TOML file";
+
+const TRACE_FILE: &str = "The trace, a CSV file";
+
+const PLAN_FILE: &str = "The text of the plan, a CSV file";
 
 /// A command on a hierarchy and a trace.
 fn command<'a>(alloc: Global, name: &'a str, about: &'a str) -> Result<Command<'a>, AllocError> {
     Command::new(alloc, name)
         .about(about)
-        .arg(file(alloc, "HIER", "The hierarchy, a TOML file"))?
+        .arg(file(alloc, "HIER", HIERARCHY_FILE))?
         .arg(file(alloc, "TRACE", "The trace, a CSV file"))
 }
 
@@ -168,7 +202,7 @@ fn compare<'a>(alloc: Global) -> Result<Command<'a>, AllocError> {
             "The hierarchy of the other model, a TOML file",
         )
         .value_name("HIER"))?
-        .arg(file(alloc, "TRACE", "The trace, a CSV file"))?
+        .arg(file(alloc, "TRACE", TRACE_FILE))?
         .arg(number_of_workers(alloc).required(true))
 }
 

@@ -3,6 +3,7 @@ pub mod Certificates
 pub mod CheckText
 pub mod Commands
 pub mod Comparison
+pub mod Explanations
 pub mod Fault
 pub mod PrintedSpaces
 pub mod ReplayText

@@ -37,7 +37,7 @@ pub fn check_text<R: Threads + Sync, W: Write>(
 }
 
 /// The verdict on the plan of the text. The hierarchy is read first, then the trace.
-fn made_verdict<R: Threads + Sync>(
+pub(crate) fn made_verdict<R: Threads + Sync>(
     rt: &R,
     alloc: Global,
     hierarchy: &[u8],
@@ -55,7 +55,8 @@ fn made_verdict<R: Threads + Sync>(
     Ok(check(rt, alloc, tree, &accepted.assigned, trace, &given)?)
 }
 
-fn made_line(alloc: Global, verdict: Verdict) -> Result<String, AllocError>
+/// The line of a verdict.
+pub(crate) fn made_line(alloc: Global, verdict: Verdict) -> Result<String, AllocError>
     ensures { IfOk result (λ text. string_bytes text ≡ verdict_text verdict) }
 {
     format!(in alloc; "{}\n", VerdictFields(verdict))

@@ -1,0 +1,136 @@
+//! A tree of affinities that is refused.
+
+use crate::document::{push_row, rows, text_at};
+use crate::shown::Shown;
+use std::alloc::AllocError;
+use toml::Value;
+use waff_model::limits::{MAX_AFFINITIES, MAX_NAME};
+use waff_model::{AffinityId, TreeError, is_name};
+
+/// Appends which affinity is refused first, what was found and what is wanted.
+pub(crate) fn push_no_tree(
+    text: &mut String,
+    document: &Value,
+    error: TreeError,
+) -> Result<(), AllocError> {
+    let affinities = rows(document, "affinity");
+    for number in 0..affinities.len() {
+        let row = &affinities[number];
+        if has_error(affinities, number, row, error) {
+            push_row(text, "affinity", number, row)?;
+            return push_error(text, affinities, number, row, error);
+        }
+    }
+    text.push_str(
+        "where: hierarchy, affinity\nfound: no affinity\nwanted: one affinity or more, the root first\n",
+    )
+}
+
+/// Whether the affinity of a row has the error; those before it have none.
+fn has_error(affinities: &[Value], number: usize, row: &Value, error: TreeError) -> bool {
+    let name = text_at(row, "name");
+    match error {
+        TreeError::Name => !is_name(name),
+        TreeError::Twice => place_of(affinities, number, name).is_some(),
+        TreeError::SecondRoot => number > 0 && row.get("parent").is_none(),
+        TreeError::ParentUnknown => match row.get("parent") {
+            Some(parent) => place_of(affinities, number, parent.as_str().unwrap_or("")).is_none(),
+            None => false,
+        },
+        TreeError::TooMany => number >= MAX_AFFINITIES,
+        TreeError::NoRoot | TreeError::Memory => false,
+    }
+}
+
+/// The first of these many affinities that has the name.
+fn place_of(affinities: &[Value], many: usize, name: &str) -> Option<usize> {
+    affinities
+        .iter()
+        .take(many)
+        .position(|row| text_at(row, "name") == name)
+}
+
+fn push_error(
+    text: &mut String,
+    affinities: &[Value],
+    number: usize,
+    row: &Value,
+    error: TreeError,
+) -> Result<(), AllocError> {
+    let name = Shown(text_at(row, "name").as_bytes());
+    let parent = text_at(row, "parent");
+    match error {
+        TreeError::Name => writeln!(
+            text,
+            "found: the name `{name}`\nwanted: a name, 1 to {MAX_NAME} of A-Z a-z 0-9 . _ -"
+        ),
+        TreeError::Twice => {
+            let other = place_of(affinities, number, text_at(row, "name")).unwrap_or(0);
+            writeln!(
+                text,
+                "found: the name `{name}`, which affinity {other} has\nwanted: a name that no affinity before it has"
+            )
+        }
+        TreeError::SecondRoot => text.push_str(
+            "found: no parent\nwanted: a parent, as each affinity but the first has one\n",
+        ),
+        TreeError::ParentUnknown => push_unknown(text, affinities, number, parent),
+        TreeError::TooMany => {
+            let found = affinities.len();
+            writeln!(
+                text,
+                "found: {found} affinities\nwanted: {MAX_AFFINITIES} affinities or fewer"
+            )
+        }
+        TreeError::NoRoot | TreeError::Memory => Ok(()),
+    }
+}
+
+/// Appends that a parent is none of the affinities before.
+fn push_unknown(
+    text: &mut String,
+    affinities: &[Value],
+    number: usize,
+    parent: &str,
+) -> Result<(), AllocError> {
+    let shown = Shown(parent.as_bytes());
+    write!(text, "found: the parent `{shown}`, which ")?;
+    match place_of(affinities, affinities.len(), parent) {
+        Some(place) if place == number => text.push_str("is the affinity itself\n")?,
+        Some(place) => writeln!(text, "is affinity {place}, behind it")?,
+        None => text.push_str("no affinity has as its name\n")?,
+    }
+    if number == 0 {
+        text.push_str("wanted: no parent, as the first affinity is the root\n")
+    } else {
+        text.push_str("wanted: the name of an affinity that stands before it\n")
+    }
+}
+
+/// Appends which affinity of a classical hierarchy is below a child of the root.
+pub(crate) fn push_third_level(
+    text: &mut String,
+    document: &Value,
+    affinity: AffinityId,
+) -> Result<(), AllocError> {
+    let affinities = rows(document, "affinity");
+    let number = usize::from(affinity.0);
+    let Some(row) = affinities.get(number) else {
+        return Ok(());
+    };
+    push_row(text, "affinity", number, row)?;
+    let parent = Shown(text_at(row, "parent").as_bytes());
+    let root = match affinities.first() {
+        Some(root) => text_at(root, "name"),
+        None => "",
+    };
+    let root = Shown(root.as_bytes());
+    writeln!(
+        text,
+        "found: the parent `{parent}` in a classical hierarchy"
+    )?;
+    writeln!(
+        text,
+        "wanted: the root `{root}` as parent, or the model \"hierarchical\""
+    )
+}

@@ -1,0 +1,224 @@
+//! A plan that was given, with what it is a plan of.
+
+ghost use Rattle.std.specs.Prelude.{◌≡◌, ◌↔◌, ◌<◌, ◌≤◌, All, IsTrue, length};
+
+use crate::walk::Walk;
+use std::alloc::{AllocError, Global};
+use waff_assign::Assigned;
+use waff_model::{AffinityId, Message, Trace, Tree};
+use waff_plan::{Plan, Totals};
+use waff_plan_text::{GivenPlan, Row};
+
+/// A plan that was given, and the bytes that give it. What is asked of a message that there is not is 0, or empty.
+#[derive(Clone, Copy)]
+pub(crate) struct Case<'a> {
+    pub(crate) tree: &'a Tree,
+    pub(crate) assigned: &'a Assigned,
+    pub(crate) trace: &'a Trace,
+    pub(crate) given: &'a GivenPlan,
+    pub(crate) bytes: &'a [u8],
+    ghost lengths: { length trace.now.messages ≡ length assigned.now },
+    ghost rows: { length given.now.rows ≡ length trace.now.messages },
+    ghost known: { All (λ a. a < length tree.now) assigned.now },
+}
+
+impl<'a> Case<'a> {
+    fn has(&self, n: u32) -> bool
+        ensures { IsTrue result ↔ (1 ≤ n) × (n ≤ length self.now.trace.now.messages) }
+    {
+        1 <= n && n <= self.trace.len()
+    }
+
+    fn row(&self, n: u32) -> Option<&Row> {
+        if self.has(n) {
+            Some(self.given.row(n))
+        } else {
+            None
+        }
+    }
+
+    fn message(&self, n: u32) -> Option<&Message> {
+        if self.has(n) {
+            Some(self.trace.message(n))
+        } else {
+            None
+        }
+    }
+
+    /// How many workers there are, 0 where the plan has none.
+    pub(crate) fn workers(&self) -> u32 {
+        self.given.workers().unwrap_or(0)
+    }
+
+    pub(crate) fn release(&self, n: u32) -> u64 {
+        match self.message(n) {
+            Some(message) => u64::from(message.release),
+            None => 0,
+        }
+    }
+
+    pub(crate) fn start(&self, n: u32) -> u64 {
+        match self.row(n) {
+            Some(row) => row.start,
+            None => 0,
+        }
+    }
+
+    /// The start and the cost of a message.
+    pub(crate) fn end(&self, n: u32) -> u64 {
+        match self.message(n) {
+            Some(message) => self.start(n).saturating_add(u64::from(message.cost)),
+            None => 0,
+        }
+    }
+
+    /// The finish that the row tells.
+    pub(crate) fn told_finish(&self, n: u32) -> u64 {
+        match self.row(n) {
+            Some(row) => row.finish,
+            None => 0,
+        }
+    }
+
+    /// The affinity that the row tells.
+    pub(crate) fn told_affinity(&self, n: u32) -> &str {
+        match self.row(n) {
+            Some(row) => row.affinity.as_str(),
+            None => "",
+        }
+    }
+
+    /// The worker that the row tells.
+    pub(crate) fn worker(&self, n: u32) -> Option<u64> {
+        match self.row(n) {
+            Some(row) => row.worker,
+            None => None,
+        }
+    }
+
+    /// The name of the affinity of a message.
+    pub(crate) fn affinity(&self, n: u32) -> &str {
+        if self.has(n) {
+            self.tree.name(self.assigned.of(n))
+        } else {
+            ""
+        }
+    }
+
+    /// Whether a message runs at a tick.
+    pub(crate) fn runs_at(&self, n: u32, tick: u64) -> bool {
+        self.start(n) <= tick && tick < self.end(n)
+    }
+
+    /// Whether two messages run at a common tick.
+    pub(crate) fn run_together(&self, one: u32, other: u32) -> bool {
+        self.start(one).max(self.start(other)) < self.end(one).min(self.end(other))
+    }
+
+    /// The message at a place of the chain, from 1.
+    pub(crate) fn link(&self, place: u64) -> u32 {
+        let place = usize::try_from(place.saturating_sub(1)).unwrap_or(usize::MAX);
+        self.given.chain().get(place).copied().unwrap_or(0)
+    }
+
+    /// The totals that the starts of the rows and the chain of the summary make.
+    pub(crate) fn totals(&self, alloc: Global) -> Result<Totals, AllocError> {
+        let starts = self.given.starts(alloc)?;
+        let plan = Plan::of_starts(alloc, self.trace, starts.as_slice())?;
+        Ok(plan.totals(self.given.workers(), self.given.chain()))
+    }
+
+    /// Appends where the row of a message stands, and what there is to tell of the message.
+    pub(crate) fn push_message(
+        &self,
+        alloc: Global,
+        text: &mut String,
+        n: u32,
+    ) -> Result<(), AllocError> {
+        let number = format!(in alloc; "{n}")?;
+        self.push_line(alloc, text, number.as_str())?;
+        self.push_facts(text, n)
+    }
+
+    /// Appends where the first record behind the header stands that begins with this field.
+    pub(crate) fn push_line(
+        &self,
+        alloc: Global,
+        text: &mut String,
+        first: &str,
+    ) -> Result<(), AllocError> {
+        let mut walk = Walk::new(alloc, self.bytes);
+        let _header = walk.next()?;
+        if walk.find(first)? {
+            walk.push_place(text, "plan")?;
+        }
+        Ok(())
+    }
+
+    /// Appends what there is to tell of a message.
+    pub(crate) fn push_facts(&self, text: &mut String, n: u32) -> Result<(), AllocError> {
+        let Some(message) = self.message(n) else {
+            return Ok(());
+        };
+        let name = message.name.as_str();
+        let (affinity, release, cost) = (self.affinity(n), message.release, message.cost);
+        let (start, finish) = (self.start(n), self.told_finish(n));
+        write!(
+            text,
+            "message {n}: {name}, affinity {affinity}, release {release}, cost {cost}, start {start}, finish {finish}"
+        )?;
+        match self.worker(n) {
+            Some(worker) => writeln!(text, ", worker {worker}"),
+            None => text.push_str("\n"),
+        }
+    }
+
+    /// Appends why the affinities of two messages exclude each other.
+    pub(crate) fn push_exclusion(
+        &self,
+        text: &mut String,
+        one: u32,
+        other: u32,
+    ) -> Result<(), AllocError> {
+        if !self.has(one) || !self.has(other) {
+            return Ok(());
+        }
+        let (first, second) = (self.assigned.of(one), self.assigned.of(other));
+        if first == second {
+            let name = self.tree.name(first);
+            return writeln!(
+                text,
+                "why: both run in {name}, and an affinity excludes itself"
+            );
+        }
+        if self.tree.at_or_above(first, second) {
+            self.push_way(text, second, first)
+        } else {
+            self.push_way(text, first, second)
+        }
+    }
+
+    /// Appends the way in the tree from an affinity up to one above it.
+    fn push_way(
+        &self,
+        text: &mut String,
+        low: AffinityId,
+        high: AffinityId,
+    ) -> Result<(), AllocError>
+        requires low { low.0 < length self.now.tree.now }
+        requires high { high.0 < length self.now.tree.now }
+    {
+        let (below, above) = (self.tree.name(low), self.tree.name(high));
+        write!(
+            text,
+            "why: {below} and {above} exclude each other, as {below} is below {above}: {below}"
+        )?;
+        for number in (0..low.0).rev() {
+            let between = AffinityId(number);
+            if self.tree.at_or_above(between, low) && self.tree.at_or_above(high, between) {
+                write!(text, " -> {}", self.tree.name(between))?;
+            }
+        }
+        text.push_str("\n")
+    }
+}

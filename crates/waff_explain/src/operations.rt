@@ -1,0 +1,157 @@
+//! What is wrong with an operation of a message.
+
+use crate::shown::Shown;
+use std::alloc::AllocError;
+use waff_model::{Layout, is_name};
+use waff_parse::{cut, number};
+use waff_read::TraceError;
+
+/// What is wrong with a piece, in the order in which faults are told.
+#[derive(Clone, Copy)]
+pub(crate) enum Flaw<'a> {
+    /// It is no operation by its words.
+    Words,
+    /// This word is no cell.
+    Cell(&'a str),
+    /// This word is no number below 2^64.
+    Number(&'a str),
+    /// No space has this name.
+    Space(&'a str),
+    /// The cell of this word is behind the end of its space, which has this size.
+    Index(&'a str, u32),
+}
+
+impl<'a> Flaw<'a> {
+    fn rank(self) -> u32 {
+        match self {
+            Flaw::Words | Flaw::Cell(_) | Flaw::Number(_) => 1,
+            Flaw::Space(_) => 2,
+            Flaw::Index(..) => 3,
+        }
+    }
+
+    /// Whether this is what the fault of a trace tells.
+    pub(crate) fn is_of(self, fault: TraceError) -> bool {
+        match fault {
+            TraceError::Op { .. } => self.rank() == 1,
+            TraceError::SpaceUnknown { .. } => self.rank() == 2,
+            TraceError::IndexTooLarge { .. } => self.rank() == 3,
+            _ => false,
+        }
+    }
+
+    /// Appends what was found, and what is wanted.
+    pub(crate) fn push_words(
+        self,
+        text: &mut String,
+        piece: u64,
+        op: &str,
+    ) -> Result<(), AllocError> {
+        let op = Shown(op.as_bytes());
+        write!(text, "found: operation {piece}, `{op}`: ")?;
+        match self {
+            Flaw::Words => writeln!(
+                text,
+                "these words are no operation\nwanted: `set C N`, `add C N`, `copy C D`, `swap C D` or `read C`"
+            ),
+            Flaw::Cell(word) => writeln!(
+                text,
+                "`{}` is no cell\nwanted: a cell: a name, `:` and a number without a leading zero",
+                Shown(word.as_bytes())
+            ),
+            Flaw::Number(word) => writeln!(
+                text,
+                "`{}` is no number in range\nwanted: a number from 0 to 18446744073709551615 without a leading zero",
+                Shown(word.as_bytes())
+            ),
+            Flaw::Space(word) => writeln!(
+                text,
+                "no space has the name `{word}`\nwanted: the name of a space of the hierarchy"
+            ),
+            Flaw::Index(word, size) => writeln!(
+                text,
+                "`{word}` is behind the end of its space\nwanted: a number below the size of the space, which is {size}"
+            ),
+        }
+    }
+}
+
+/// What is wrong with a piece, if anything is.
+pub(crate) fn flaw_of<'a>(layout: &Layout, piece: &'a str) -> Option<Flaw<'a>> {
+    let (verb, words) = cut(piece, ' ');
+    let Some(words) = words else {
+        return Some(Flaw::Words);
+    };
+    let (first, second) = cut(words, ' ');
+    match second {
+        None => flaw_of_one(layout, verb, first),
+        Some(second) => flaw_of_two(layout, verb, first, second),
+    }
+}
+
+fn flaw_of_one<'a>(layout: &Layout, verb: &str, cell: &'a str) -> Option<Flaw<'a>> {
+    if verb == "read" {
+        cell_flaw(layout, cell)
+    } else {
+        Some(Flaw::Words)
+    }
+}
+
+fn flaw_of_two<'a>(
+    layout: &Layout,
+    verb: &str,
+    first: &'a str,
+    second: &'a str,
+) -> Option<Flaw<'a>> {
+    if verb == "set" || verb == "add" {
+        return least(cell_flaw(layout, first), number_flaw(second));
+    }
+    if verb == "copy" || verb == "swap" {
+        return least(cell_flaw(layout, first), cell_flaw(layout, second));
+    }
+    Some(Flaw::Words)
+}
+
+fn least<'a>(one: Option<Flaw<'a>>, other: Option<Flaw<'a>>) -> Option<Flaw<'a>> {
+    match (one, other) {
+        (Some(a), Some(b)) => Some(if a.rank() <= b.rank() { a } else { b }),
+        (Some(a), None) => Some(a),
+        (None, b) => b,
+    }
+}
+
+fn number_flaw<'a>(word: &'a str) -> Option<Flaw<'a>> {
+    match number(word) {
+        Some(Some(_)) => None,
+        _ => Some(Flaw::Number(word)),
+    }
+}
+
+fn index_flaw<'a>(word: &'a str, index: u64, size: u32) -> Option<Flaw<'a>> {
+    if index < u64::from(size) {
+        None
+    } else {
+        Some(Flaw::Index(word, size))
+    }
+}
+
+fn cell_flaw<'a>(layout: &Layout, word: &'a str) -> Option<Flaw<'a>> {
+    let (name, index) = cut(word, ':');
+    let Some(index) = index else {
+        return Some(Flaw::Cell(word));
+    };
+    if !is_name(name) {
+        return Some(Flaw::Cell(word));
+    }
+    let Some(index) = number(index) else {
+        return Some(Flaw::Cell(word));
+    };
+    let Some(space) = layout.find_space(name) else {
+        return Some(Flaw::Space(name));
+    };
+    let size = layout.space_size(space);
+    match index {
+        Some(index) => index_flaw(word, index, size),
+        None => Some(Flaw::Index(word, size)),
+    }
+}
