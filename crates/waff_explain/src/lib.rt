@@ -7,8 +7,9 @@
 //! - `verdicts`: a verdict, with the messages that it names, over `case` (a plan with what it is a plan of).
 //! - `sizes`: how much there is where nothing is wrong.
 //!
-//! `files` reads the files once more, `walk` goes over the records of CSV and tells where each stands; `shown` shows bytes on one line. What is refused is the
-//! matter of the readers, which decide: these words look at the same bytes again and tell what the readers saw.
+//! `files` reads the files once more, `walk` goes over the records of CSV and tells where each stands; `shown` shows bytes on one
+//! line. What is refused is the matter of the readers, which decide: these words look at the same bytes again and tell what the
+//! readers saw.
 #![tactic(auto)]
 
 mod affinities;

@@ -2,7 +2,8 @@
 //!
 //! The whole text is made before the first byte is written, so a refusal leaves nothing written, and a writer that fails has
 //! taken a prefix of it.
-//! - `commands` (assign, plan), `checks` (check), `comparison` (compare), `replays` (replay), `sweeps` and `wheres`: the calls.
+//! - `commands` (assign, plan), `checks` (check), `comparison` (compare), `replays` (replay), `sweeps`, `wheres` and
+//!   `explains`: the calls.
 //! - `assigns`, `measures`, `state_text`, `verdict_line`: the texts; `output`: how they are written.
 //! - `fault`, `fault_names`: why a command gave no text, its line and its exit status.
 //! - `unique`: one text for each input; `own`: plans that are printed pass the check.
