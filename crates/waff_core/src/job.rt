@@ -5,7 +5,7 @@ ghost use Rattle.waff_model.specs.Cells.{cells_of};
 ghost use Rattle.waff_model.specs.Layout.{IsCell};
 ghost use Rattle.waff_model.specs.Messages.{sizes_of};
 ghost use Rattle.waff_model.specs.declared.limits.TheConstants.{MAX_MESSAGES};
-ghost use Rattle.waff_assign.specs.Lowest.{AreLowest};
+ghost use Rattle.waff_assign.specs.Lowest.{IsAssignment};
 ghost use Rattle.waff_assign.specs.Order.{IsOrdered};
 ghost use Rattle.waff_order.specs.Needs.{AreNeeds, needs_of};
 ghost use Rattle.waff_cells.specs.Serial.{ops_of};
@@ -71,8 +71,7 @@ impl Job {
         order: &[u32],
     ) -> Result<Job, JobError>
         requires fits { trace.sizes ≡ sizes_of layout.spaces }
-        requires count { length assigned ≡ length trace.messages }
-        requires lowest { AreLowest layout trace.messages assigned }
+        requires assignment { IsAssignment layout trace.messages assigned }
         requires known { All (λ a. a < length layout.tree) assigned }
         requires needs { AreNeeds layout.tree assigned needs }
         ensures kept { IfOk result
@@ -166,8 +165,7 @@ fn make(
     order: &[u32],
 ) -> Result<Job, AllocError>
     requires fits { trace.sizes ≡ sizes_of layout.spaces }
-    requires count { length assigned ≡ length trace.messages }
-    requires lowest { AreLowest layout trace.messages assigned }
+    requires assignment { IsAssignment layout trace.messages assigned }
     requires known { All (λ a. a < length layout.tree) assigned }
     requires needs { AreNeeds layout.tree assigned needs }
     requires order { IsOrder needs order.now }

@@ -14,5 +14,7 @@ mod HierarchyLaws
 mod SpellingLaws
 mod TraceSpellings
 mod RefusalLaws
+mod AffinityLaws
+mod RefusedLaws
 pub mod LimitLaws
 pub mod NamedLaws

@@ -12,3 +12,4 @@ pub mod Traces
 pub mod Spellings
 pub mod Laws
 pub mod Limits
+pub mod Refused

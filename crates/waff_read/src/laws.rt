@@ -2,6 +2,7 @@
 //! is the law.
 
 ghost use Rattle.std.specs.Prelude.{ℕ, List};
+ghost use Rattle.toml.specs.Data.{Data};
 ghost use Rattle.waff_model.specs.Layout.{Space, Hierarchy};
 ghost use Rattle.waff_model.specs.Messages.{Arrivals};
 ghost use Rattle.waff_model.specs.declared.message.Message.{Message};
@@ -9,6 +10,7 @@ ghost use Rattle.waff_model.specs.declared.message.Version.{Version};
 ghost use Rattle.waff_parse.specs.Fields.{Field};
 ghost use Rattle.waff_parse.specs.Rows.{Record};
 ghost use Rattle.waff_read.specs.Laws.{FirstVersionIsExact, SecondVersionIsExact, SpelledIsRead, SpelledTraceIsRead, LeastCheckDecides, TraceIsExact, FirstFaultDecides, HierarchyIsExact, ClassicalHasTwoLevels};
+ghost use Rattle.waff_read.specs.Refused.{TreeIsExact, FirstAffinityDecides, FirstCheckDecides};
 
 /// A message of three fields is accepted exactly where no check holds, and has the values that they write.
 pub fn first_version_is_exact()
@@ -53,4 +55,20 @@ pub fn hierarchy_is_exact()
 /// A classical hierarchy has two levels at most.
 pub fn classical_has_two_levels()
     ensures { (bytes : List ℕ) (layout : Hierarchy) → ClassicalHasTwoLevels bytes layout }
+{}
+
+/// Rows are read as a tree exactly where there is one and each is an affinity, whose parent is one of those before it; and
+/// the affinities of the tree are theirs.
+pub fn tree_is_exact()
+    ensures { (rows : List Data) → TreeIsExact rows }
+{}
+
+/// The first row that is no affinity decides, and of the checks that hold of it the one of least number.
+pub fn first_affinity_decides()
+    ensures { (rows : List Data) → FirstAffinityDecides rows }
+{}
+
+/// A hierarchy is refused for an error exactly where its check holds and none before it.
+pub fn first_check_decides()
+    ensures { (bytes : List ℕ) → FirstCheckDecides bytes }
 {}

@@ -133,5 +133,9 @@ fn no_message_is_drawn_from_an_empty_order(rt: HostRuntime) -> Result<(), Fail> 
             "{event:?}"
         );
     }
+    for actor in [0, 3] {
+        let refused = run_events(rt.alloc(), &job, 2, &[Event::Draw(actor)]).err();
+        assert!(rt; refused == Some(CoreError::Nothing { place: 1 }), "{actor}");
+    }
     Ok(())
 }

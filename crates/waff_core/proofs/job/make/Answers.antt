@@ -20,12 +20,12 @@ pub invariant_of-result : goal.invariant_of-result
 invariant_of-result c =
     rw c.in_ok-order.ensures.items
     (job_of c.args.layout c.args.trace c.args.assigned c.args.needs c.args.order.now c.in_ok-ops.ops c.in_ok-owners.owners
-    (subst IsLayout c.layout.view_is c.layout.invariant.0) c.len.ensures.trace c.requires.fits c.requires.count c.requires.lowest c.requires.known
+    (subst IsLayout c.layout.view_is c.layout.invariant.0) c.len.ensures.trace c.requires.fits c.requires.assignment.count c.requires.assignment.lowest c.requires.known
     c.requires.needs c.requires.order c.in_ok-ops.ensures c.in_ok-owners.ensures)
 
 pub returns-clause-job : goal.returns-clause-job
 returns-clause-job c =
     rw c.in_ok-order.ensures.items
     (job_of c.args.layout c.args.trace c.args.assigned c.args.needs c.args.order.now c.in_ok-ops.ops c.in_ok-owners.owners
-    (subst IsLayout c.layout.view_is c.layout.invariant.0) c.len.ensures.trace c.requires.fits c.requires.count c.requires.lowest c.requires.known
+    (subst IsLayout c.layout.view_is c.layout.invariant.0) c.len.ensures.trace c.requires.fits c.requires.assignment.count c.requires.assignment.lowest c.requires.known
     c.requires.needs c.requires.order c.in_ok-ops.ensures c.in_ok-owners.ensures)
