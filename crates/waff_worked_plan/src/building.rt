@@ -1,180 +1,164 @@
-//! The hierarchical sample and its first trace, made by hand.
+//! Trees, layouts and traces made by hand, among them the hierarchical sample and its two traces.
 
 ghost use Rattle.std.specs.Prelude.{◌≡◌, ◌≤◌, IsTrue, All};
 ghost use Rattle.waff_model.specs.Layout.{IsCell};
 ghost use Rattle.waff_model.specs.Cells.{cells_of_op};
 
-use crate::running::unlimited_of;
-use std::alloc::Global;
+use std::alloc::{AllocError, Global};
 use std::process::Abort;
 use std::test::Fail;
 use waff_model::limits::{MAX_COST, MAX_MESSAGES, MAX_OPS, MAX_RELEASE};
 use waff_model::{
-    AffinityId, Cell, Kind, Layout, MapSpec, Message, Op, Ops, SpaceSpec, Text, Texts, Trace,
-    TreeBuilder, Version, is_name,
+    AffinityId, Cell, Kind, Layout, LayoutError, MapSpec, Message, Op, Ops, SpaceSpec, Text, Texts,
+    Trace, Tree, TreeBuilder, TreeError, Version, is_name,
 };
 
-const F: u32 = 0;
+/// The name of a space, how many cells in a row go to one affinity, and the affinities that take turns.
+pub type Map<'a> = (&'a str, i64, &'a [&'a str]);
 
-const G: u32 = 2;
+/// The tree of these affinities, each with the number of its parent.
+pub fn tree(alloc: Global, rows: &[(&str, Option<u16>)]) -> Result<Tree, TreeError> {
+    let mut builder = TreeBuilder::new(alloc);
+    for (name, parent) in rows {
+        builder.add(name, parent.map(AffinityId))?;
+    }
+    builder.build()
+}
+
+fn spaces_to_be(alloc: Global, rows: &[(&str, i64)]) -> Result<Vec<SpaceSpec>, AllocError> {
+    let mut spaces = Vec::new(alloc);
+    for (name, size) in rows {
+        let name = Text::of(alloc, name)?;
+        spaces.push(SpaceSpec { name, size: *size })?;
+    }
+    Ok(spaces)
+}
+
+fn texts(alloc: Global, words: &[&str]) -> Result<Texts, AllocError> {
+    let mut texts = Texts::new(alloc);
+    for word in words {
+        texts.push(Text::of(alloc, word)?)?;
+    }
+    Ok(texts)
+}
+
+fn map_to_be(alloc: Global, row: &Map) -> Result<MapSpec, AllocError> {
+    let (space, unit, owners) = *row;
+    let to = texts(alloc, owners)?;
+    let space = Text::of(alloc, space)?;
+    Ok(MapSpec { space, unit, to })
+}
+
+fn maps_to_be(alloc: Global, rows: &[Map]) -> Result<Vec<MapSpec>, AllocError> {
+    let mut maps = Vec::new(alloc);
+    for row in rows {
+        maps.push(map_to_be(alloc, row)?)?;
+    }
+    Ok(maps)
+}
+
+/// The layout of these spaces and maps over the tree, or why they are refused.
+pub fn laid_out(
+    alloc: Global,
+    tree: Tree,
+    spaces: &[(&str, i64)],
+    maps: &[Map],
+) -> Result<Result<Layout, LayoutError>, AllocError> {
+    let spaces = spaces_to_be(alloc, spaces)?;
+    let maps = maps_to_be(alloc, maps)?;
+    let kind = Kind::Hierarchical;
+    Ok(Layout::new(alloc, kind, tree, &spaces, &maps))
+}
+
+const TREE: &[(&str, Option<u16>)] = &[
+    ("Serial", None),
+    ("VolA", Some(0)),
+    ("VolB", Some(0)),
+    ("A0", Some(1)),
+    ("A1", Some(1)),
+    ("B0", Some(2)),
+    ("B1", Some(2)),
+];
+
+const SPACES: &[(&str, i64)] = &[("f", 8), ("m", 2), ("g", 8)];
+
+const MAPS: &[Map] = &[
+    ("f", 2, &["A0", "A1"]),
+    ("m", 1, &["VolA"]),
+    ("g", 4, &["B0", "B1"]),
+];
 
 /// The layout of the hierarchical sample.
 pub fn layout(alloc: Global) -> Result<Layout, Fail> {
-    let mut builder = TreeBuilder::new(alloc);
-    for (name, parent) in [
-        ("Serial", None),
-        ("VolA", Some(0)),
-        ("VolB", Some(0)),
-        ("A0", Some(1)),
-        ("A1", Some(1)),
-        ("B0", Some(2)),
-        ("B1", Some(2)),
-    ] {
-        builder.add(name, parent.map(AffinityId))?;
-    }
-    let tree = builder.build()?;
-    let spaces = [
-        space(alloc, "f", 8)?,
-        space(alloc, "m", 2)?,
-        space(alloc, "g", 8)?,
-    ];
-    let maps = [
-        map(alloc, "f", 2, &["A0", "A1"])?,
-        map(alloc, "m", 1, &["VolA"])?,
-        map(alloc, "g", 4, &["B0", "B1"])?,
-    ];
-    Ok(Layout::new(alloc, Kind::Hierarchical, tree, &spaces, &maps)?)
+    let tree = tree(alloc, TREE)?;
+    let layout = laid_out(alloc, tree, SPACES, MAPS)??;
+    Ok(layout)
 }
 
-/// A space to be.
-pub fn space(alloc: Global, name: &str, size: i64) -> Result<SpaceSpec, Fail> {
-    Ok(SpaceSpec {
-        name: Text::of(alloc, name)?,
-        size,
-    })
-}
+/// A message of one operation: its name, cost and release, and the operation.
+pub type Row<'a> = (&'a str, u32, u32, Op);
 
-/// A map to be.
-pub fn map(alloc: Global, space: &str, unit: i64, owners: &[&str]) -> Result<MapSpec, Fail> {
-    let mut to = Texts::new(alloc);
-    for owner in owners {
-        to.push(Text::of(alloc, owner)?)?;
-    }
-    Ok(MapSpec {
-        space: Text::of(alloc, space)?,
-        unit,
-        to,
-    })
-}
+const F0: Cell = Cell { space: 0, index: 0 };
 
-/// The trace of the first sample: six messages.
-pub fn trace(rt: &impl Abort, alloc: Global, layout: &Layout) -> Result<Trace, Fail> {
-    let f = |index| Cell { space: F, index };
-    let g = |index| Cell { space: G, index };
-    let mut trace = Trace::new(alloc, layout)?;
-    for (name, cost, op) in [
-        (
-            "m1",
-            4,
-            Op::Set {
-                cell: f(0),
-                value: 5,
-            },
-        ),
-        (
-            "m2",
-            3,
-            Op::Set {
-                cell: g(0),
-                value: 7,
-            },
-        ),
-        (
-            "m3",
-            2,
-            Op::Copy {
-                cell: f(2),
-                source: f(0),
-            },
-        ),
-        (
-            "m4",
-            5,
-            Op::Add {
-                cell: g(4),
-                value: 1,
-            },
-        ),
-        (
-            "m5",
-            1,
-            Op::Swap {
-                cell: f(2),
-                other: g(0),
-            },
-        ),
-        (
-            "m6",
-            2,
-            Op::Add {
-                cell: f(4),
-                value: 1,
-            },
-        ),
-    ] {
-        push(rt, alloc, layout, &mut trace, name, (cost, 0), op)?;
-    }
-    Ok(trace)
-}
+const F2: Cell = Cell { space: 0, index: 2 };
 
-/// The trace of the second sample: five messages with releases.
-pub fn released_trace(rt: &impl Abort, alloc: Global, layout: &Layout) -> Result<Trace, Fail> {
-    let f = |index| Cell { space: F, index };
-    let g = |index| Cell { space: G, index };
-    let mut trace = Trace::with_version(alloc, layout, Version::V2)?;
-    for (name, times, op) in [
-        (
-            "m1",
-            (4, 0),
-            Op::Set {
-                cell: f(0),
-                value: 5,
-            },
-        ),
-        (
-            "m2",
-            (3, 2),
-            Op::Set {
-                cell: g(0),
-                value: 7,
-            },
-        ),
-        (
-            "m3",
-            (2, 10),
-            Op::Copy {
-                cell: f(2),
-                source: f(0),
-            },
-        ),
-        (
-            "m4",
-            (5, 0),
-            Op::Add {
-                cell: g(4),
-                value: 1,
-            },
-        ),
-        (
-            "m5",
-            (1, 0),
-            Op::Swap {
-                cell: f(2),
-                other: g(0),
-            },
-        ),
-    ] {
-        push(rt, alloc, layout, &mut trace, name, times, op)?;
+const F4: Cell = Cell { space: 0, index: 4 };
+
+const G0: Cell = Cell { space: 2, index: 0 };
+
+const G4: Cell = Cell { space: 2, index: 4 };
+
+const SET_F0: Op = Op::Set { cell: F0, value: 5 };
+
+const SET_G0: Op = Op::Set { cell: G0, value: 7 };
+
+const COPY: Op = Op::Copy {
+    cell: F2,
+    source: F0,
+};
+
+const ADD_G4: Op = Op::Add { cell: G4, value: 1 };
+
+const SWAP: Op = Op::Swap {
+    cell: F2,
+    other: G0,
+};
+
+const ADD_F4: Op = Op::Add { cell: F4, value: 1 };
+
+/// The first trace of the samples: six messages.
+pub const FIRST: &[Row] = &[
+    ("m1", 4, 0, SET_F0),
+    ("m2", 3, 0, SET_G0),
+    ("m3", 2, 0, COPY),
+    ("m4", 5, 0, ADD_G4),
+    ("m5", 1, 0, SWAP),
+    ("m6", 2, 0, ADD_F4),
+];
+
+/// The second trace of the samples: five messages with releases.
+pub const SECOND: &[Row] = &[
+    ("m1", 4, 0, SET_F0),
+    ("m2", 3, 2, SET_G0),
+    ("m3", 2, 10, COPY),
+    ("m4", 5, 0, ADD_G4),
+    ("m5", 1, 0, SWAP),
+];
+
+/// The trace of these messages, which have to be some for the layout.
+pub fn trace(
+    rt: &impl Abort,
+    alloc: Global,
+    layout: &Layout,
+    version: Version,
+    rows: &[Row],
+) -> Result<Trace, AllocError> {
+    let mut trace = match version {
+        Version::V1 => Trace::new(alloc, layout)?,
+        Version::V2 => Trace::with_version(alloc, layout, version)?,
+    };
+    for (name, cost, release, op) in rows {
+        push(rt, alloc, layout, &mut trace, name, (*cost, *release), *op)?;
     }
     Ok(trace)
 }
@@ -188,7 +172,7 @@ fn push(
     name: &str,
     times: (u32, u32),
     op: Op,
-) -> Result<(), Fail> {
+) -> Result<(), AllocError> {
     let (cost, release) = times;
     assert!(rt; trace.fits(layout));
     assert!(rt; trace.len() < MAX_MESSAGES as u32);
@@ -199,13 +183,13 @@ fn push(
     assert!(rt; lies(layout, op));
     let mut ops = Ops::new(alloc);
     ops.push(op)?;
+    let name = Text::of(alloc, name)?;
     trace.push(Message {
-        name: Text::of(alloc, name)?,
+        name,
         cost,
         release,
         ops,
-    })?;
-    Ok(())
+    })
 }
 
 /// Whether the cells of the operation are cells of the layout.
@@ -217,17 +201,4 @@ fn lies(layout: &Layout, op: Op) -> bool
         Op::Copy { cell, source } => layout.has(cell) && layout.has(source),
         Op::Swap { cell, other } => layout.has(cell) && layout.has(other),
     }
-}
-
-#[test]
-fn with_releases_is_planned_as_the_file_is(rt: HostRuntime) -> Result<(), Fail> {
-    let alloc = rt.alloc();
-    let layout = layout(alloc)?;
-    let trace = released_trace(&rt, alloc, &layout)?;
-    let told = unlimited_of(&rt, alloc, &layout, &trace)?;
-    assert_eq!(rt; told.starts.as_str(), "0 2 10 0 12");
-    assert_eq!(rt; told.length, 13);
-    assert_eq!(rt; told.chain.as_str(), "3 5");
-    assert_eq!(rt; told.release, 10);
-    Ok(())
 }

@@ -1,34 +1,18 @@
 //! Layouts over a root with two children.
 
-use crate::building::{map, space};
+use crate::building::{Map, laid_out, tree};
 use std::alloc::Global;
+use std::process::Abort;
 use std::test::Fail;
-use waff_model::{AffinityId, Cell, Kind, Layout, LayoutError, Trace, TreeBuilder, Version};
+use waff_model::{AffinityId, Cell, Kind, Layout, LayoutError, Trace, Version};
 
-/// The name of a space, how many cells in a row go to one affinity, and the affinities that take turns.
-type Map<'a> = (&'a str, i64, &'a [&'a str]);
+const TREE: &[(&str, Option<u16>)] = &[("root", None), ("v1", Some(0)), ("v2", Some(0))];
 
-/// The layout of these spaces and maps, or why they are refused.
-fn laid_out(
-    alloc: Global,
-    spaces: &[(&str, i64)],
-    maps: &[Map],
-) -> Result<Result<Layout, LayoutError>, Fail> {
-    let mut builder = TreeBuilder::new(alloc);
-    for (name, parent) in [("root", None), ("v1", Some(0)), ("v2", Some(0))] {
-        builder.add(name, parent.map(AffinityId))?;
-    }
-    let tree = builder.build()?;
-    let mut space_rows = Vec::new(alloc);
-    for (name, size) in spaces {
-        space_rows.push(space(alloc, name, *size)?)?;
-    }
-    let mut map_rows = Vec::new(alloc);
-    for (space, unit, owners) in maps {
-        map_rows.push(map(alloc, space, *unit, owners)?)?;
-    }
-    let kind = Kind::Hierarchical;
-    Ok(Layout::new(alloc, kind, tree, &space_rows, &map_rows))
+/// The layout of these spaces and maps, which have to be accepted.
+fn made(alloc: Global, spaces: &[(&str, i64)], maps: &[Map]) -> Result<Layout, Fail> {
+    let tree = tree(alloc, TREE)?;
+    let layout = laid_out(alloc, tree, spaces, maps)??;
+    Ok(layout)
 }
 
 /// The owner of a cell and the cell's place, if it is one of the layout's.
@@ -59,52 +43,80 @@ fn parcel_len(layout: &Layout, a: u16) -> Option<u32> {
     }
 }
 
+const SPACES: &[(&str, i64)] = &[("f", 8), ("g", 4)];
+
+const MAPS: &[Map] = &[("f", 2, &["v1", "v2"]), ("g", 1, &["v1"])];
+
+fn has_its_parts(rt: &impl Abort, layout: &Layout) {
+    assert!(rt; layout.kind() == Kind::Hierarchical);
+    assert!(rt; layout.tree().len() == 3);
+    assert!(rt; parts(layout, 0) == Some(("f", 8)));
+    assert!(rt; parts(layout, 1) == Some(("g", 4)));
+    assert!(rt; parts(layout, 2).is_none());
+    assert!(rt; layout.find_space("g") == Some(1));
+    assert!(rt; layout.find_space("h").is_none());
+}
+
 #[test]
 fn show_what_they_were_made_of(rt: HostRuntime) -> Result<(), Fail> {
-    let maps: [Map; 2] = [("g", 1, &["root"]), ("f", 2, &["v1", "v2"])];
-    let layout = laid_out(rt.alloc(), &[("f", 8), ("g", 4)], &maps)??;
-    assert!(rt; (layout.kind(), layout.tree().len()) == (Kind::Hierarchical, 3));
-    for (s, found) in [(0, Some(("f", 8))), (1, Some(("g", 4))), (2, None)] {
-        assert!(rt; parts(&layout, s) == found);
-    }
-    for (name, found) in [("g", Some(1)), ("h", None)] {
-        assert!(rt; layout.find_space(name) == found);
-    }
+    let layout = made(rt.alloc(), SPACES, MAPS)?;
+    has_its_parts(&rt, &layout);
     Ok(())
+}
+
+/// Cells with their owners and places, where they are of the layout.
+const PLACES: &[(u32, u32, Option<(AffinityId, AffinityId, u32)>)] = &[
+    (0, 2, Some((AffinityId(2), AffinityId(2), 0))),
+    (0, 4, Some((AffinityId(1), AffinityId(1), 2))),
+    (1, 3, Some((AffinityId(1), AffinityId(1), 7))),
+    (1, 4, None),
+    (2, 0, None),
+];
+
+/// How many cells each affinity owns, where it is of the tree.
+const LENGTHS: &[(u16, Option<u32>)] = &[(0, Some(0)), (1, Some(8)), (2, Some(4)), (3, None)];
+
+fn has_places(rt: &impl Abort, layout: &Layout) {
+    for (space, index, found) in PLACES {
+        let (space, index) = (*space, *index);
+        assert!(rt; place(layout, Cell { space, index }) == *found);
+    }
+}
+
+fn has_parcels(rt: &impl Abort, layout: &Layout) {
+    for (a, found) in LENGTHS {
+        assert!(rt; parcel_len(layout, *a) == *found);
+    }
 }
 
 #[test]
 fn place_cells_in_parcels(rt: HostRuntime) -> Result<(), Fail> {
-    let maps: [Map; 2] = [("f", 2, &["v1", "v2"]), ("g", 1, &["v1"])];
-    let layout = laid_out(rt.alloc(), &[("f", 8), ("g", 4)], &maps)??;
-    let (first, second) = (AffinityId(1), AffinityId(2));
-    for (space, index, found) in [
-        (0, 2, Some((second, second, 0))),
-        (0, 4, Some((first, first, 2))),
-        (1, 3, Some((first, first, 7))),
-        (1, 4, None),
-        (2, 0, None),
-    ] {
-        assert!(rt; place(&layout, Cell { space, index }) == found);
-    }
-    for (a, found) in [(0, Some(0)), (1, Some(8)), (2, Some(4)), (3, None)] {
-        assert!(rt; parcel_len(&layout, a) == found);
-    }
+    let layout = made(rt.alloc(), SPACES, MAPS)?;
+    has_places(&rt, &layout);
+    has_parcels(&rt, &layout);
     Ok(())
+}
+
+const OTHER_MAPS: &[Map] = &[("g", 1, &["root"]), ("f", 2, &["v1", "v2"])];
+
+/// The spaces of other layouts, and whether they are the same.
+const OTHERS: &[(&[(&str, i64)], bool)] = &[
+    (SPACES, true),
+    (&[("g", 4), ("f", 8)], false),
+    (&[("f", 8), ("g", 5)], false),
+];
+
+/// Whether a layout has the spaces of another one, which is made of these.
+fn are_same(alloc: Global, layout: &Layout, spaces: &[(&str, i64)]) -> Result<bool, Fail> {
+    let other = made(alloc, spaces, MAPS)?;
+    Ok(layout.same_spaces(&other))
 }
 
 #[test]
 fn tell_whether_spaces_are_the_same(rt: HostRuntime) -> Result<(), Fail> {
-    let maps: [Map; 2] = [("g", 1, &["root"]), ("f", 2, &["v1", "v2"])];
-    let others: [Map; 2] = [("f", 1, &["v2"]), ("g", 4, &["v1"])];
-    let one = laid_out(rt.alloc(), &[("f", 8), ("g", 4)], &maps)??;
-    for (spaces, found) in [
-        ([("f", 8), ("g", 4)], true),
-        ([("g", 4), ("f", 8)], false),
-        ([("f", 8), ("g", 5)], false),
-    ] {
-        let other = laid_out(rt.alloc(), &spaces, &others)??;
-        assert!(rt; one.same_spaces(&other) == found);
+    let layout = made(rt.alloc(), SPACES, OTHER_MAPS)?;
+    for (spaces, found) in OTHERS {
+        assert!(rt; are_same(rt.alloc(), &layout, spaces)? == *found);
     }
     Ok(())
 }
@@ -115,52 +127,64 @@ const F: &[(&str, i64)] = &[("f", 1)];
 
 const BOTH: &[(&str, i64)] = &[("f", 262144), ("g", 1)];
 
+/// Spaces and maps that are refused, with why.
+const REFUSED: &[(&[(&str, i64)], &[Map], LayoutError)] = &[
+    (&[], &[], LayoutError::Space),
+    (&[("a b", 1)], &[], LayoutError::Space),
+    (F, &[("f", 1, ONE), ("g", 1, ONE)], LayoutError::Space),
+    (&[("f", -1)], &[], LayoutError::Size),
+    (&[("f", 0)], &[], LayoutError::Size),
+    (&[("f", 262145)], &[], LayoutError::Size),
+    (&[("f", 1), ("f", 2)], &[], LayoutError::SpaceTwice),
+    (BOTH, &[("f", 0, ONE)], LayoutError::NoMap),
+    (F, &[("f", 1, ONE), ("f", 0, ONE)], LayoutError::MapTwice),
+    (F, &[("f", 0, &[])], LayoutError::Unit),
+    (F, &[("f", 1, &[])], LayoutError::To),
+    (F, &[("f", 1, &["v1", "v3"])], LayoutError::To),
+    (
+        BOTH,
+        &[("f", 1, ONE), ("g", 1, ONE)],
+        LayoutError::TooManyCells,
+    ),
+];
+
+/// Why spaces and maps are refused.
+fn refusal(
+    alloc: Global,
+    spaces: &[(&str, i64)],
+    maps: &[Map],
+) -> Result<Option<LayoutError>, Fail> {
+    let tree = tree(alloc, TREE)?;
+    Ok(laid_out(alloc, tree, spaces, maps)?.err())
+}
+
 #[test]
-fn are_refused_for_their_spaces(rt: HostRuntime) -> Result<(), Fail> {
-    for (spaces, maps, error) in [
-        (&[] as &[(&str, i64)], &[] as &[Map], LayoutError::Space),
-        (&[("a b", 1)], &[], LayoutError::Space),
-        (F, &[("f", 1, ONE), ("g", 1, ONE)], LayoutError::Space),
-        (&[("f", -1)], &[], LayoutError::Size),
-        (&[("f", 0)], &[], LayoutError::Size),
-        (&[("f", 262145)], &[], LayoutError::Size),
-        (&[("f", 1), ("f", 2)], &[], LayoutError::SpaceTwice),
-    ] {
-        let found = laid_out(rt.alloc(), spaces, maps)?.err();
-        assert!(rt; found == Some(error));
+fn are_refused_for_their_spaces_and_maps(rt: HostRuntime) -> Result<(), Fail> {
+    for (spaces, maps, error) in REFUSED {
+        let found = refusal(rt.alloc(), spaces, maps)?;
+        assert!(rt; found == Some(*error));
     }
     Ok(())
 }
 
-#[test]
-fn are_refused_for_their_maps(rt: HostRuntime) -> Result<(), Fail> {
-    for (spaces, maps, error) in [
-        (BOTH, &[("f", 0_i64, ONE)] as &[Map], LayoutError::NoMap),
-        (F, &[("f", 1, ONE), ("f", 0, ONE)], LayoutError::MapTwice),
-        (F, &[("f", 0, &[])], LayoutError::Unit),
-        (F, &[("f", 1, &[])], LayoutError::To),
-        (F, &[("f", 1, &["v1", "v3"])], LayoutError::To),
-        (
-            BOTH,
-            &[("f", 1, ONE), ("g", 1, ONE)],
-            LayoutError::TooManyCells,
-        ),
-    ] {
-        let found = laid_out(rt.alloc(), spaces, maps)?.err();
-        assert!(rt; found == Some(error));
-    }
-    Ok(())
+/// A trace of no message for a layout of one space of eight cells.
+fn of_eight(alloc: Global) -> Result<Trace, Fail> {
+    let eight = made(alloc, &[("f", 8)], &[("f", 1, ONE)])?;
+    Ok(Trace::with_version(alloc, &eight, Version::V2)?)
+}
+
+/// Whether the trace fits a layout of one space of so many cells.
+fn fits(alloc: Global, trace: &Trace, size: i64) -> Result<bool, Fail> {
+    let layout = made(alloc, &[("f", size)], &[("f", 1, ONE)])?;
+    Ok(trace.fits(&layout))
 }
 
 #[test]
 fn fit_the_traces_of_their_sizes(rt: HostRuntime) -> Result<(), Fail> {
-    let alloc = rt.alloc();
-    let maps: [Map; 1] = [("f", 1, ONE)];
-    let eight = laid_out(alloc, &[("f", 8)], &maps)??;
-    let four = laid_out(alloc, &[("f", 4)], &maps)??;
-    let trace = Trace::with_version(alloc, &eight, Version::V2)?;
-    assert!(rt; (trace.version(), trace.len()) == (Version::V2, 0));
-    assert!(rt; Trace::new(alloc, &eight)?.version() == Version::V1);
-    assert!(rt; (trace.fits(&eight), trace.fits(&four)) == (true, false));
+    let trace = of_eight(rt.alloc())?;
+    assert!(rt; trace.version() == Version::V2);
+    assert!(rt; trace.len() == 0);
+    assert!(rt; fits(rt.alloc(), &trace, 8)?);
+    assert!(rt; !fits(rt.alloc(), &trace, 4)?);
     Ok(())
 }

@@ -6,20 +6,18 @@ mod affinities;
 #[cfg(test)]
 mod building;
 #[cfg(test)]
-mod hierarchies_read;
-#[cfg(test)]
-mod hierarchies_refused;
+mod hierarchies;
 #[cfg(test)]
 mod layouts;
 #[cfg(test)]
 mod parts;
 #[cfg(test)]
+mod paths;
+#[cfg(test)]
 mod plans;
 #[cfg(test)]
 mod running;
 #[cfg(test)]
-mod traces_read;
-#[cfg(test)]
-mod traces_refused;
+mod traces;
 #[cfg(test)]
 mod trees;

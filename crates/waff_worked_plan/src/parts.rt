@@ -3,18 +3,20 @@
 use std::test::Fail;
 use waff_model::{Cell, Op, Ops, Text, Texts, is_name};
 
+const NAMES: &[(&str, bool)] = &[
+    ("f", true),
+    ("A-Z_a.z09", true),
+    ("", false),
+    ("m 1", false),
+    ("caf\u{e9}", false),
+    ("0123456789abcdef0123456789abcdef", true),
+    ("0123456789abcdef0123456789abcdef0", false),
+];
+
 #[test]
 fn tell_names(rt: HostRuntime) {
-    for (text, is) in [
-        ("f", true),
-        ("A-Z_a.z09", true),
-        ("", false),
-        ("m 1", false),
-        ("caf\u{e9}", false),
-        ("0123456789abcdef0123456789abcdef", true),
-        ("0123456789abcdef0123456789abcdef0", false),
-    ] {
-        assert!(rt; is_name(text) == is);
+    for (text, is) in NAMES {
+        assert!(rt; is_name(text) == *is, "{text}");
     }
 }
 
@@ -24,8 +26,9 @@ fn keep_texts_in_order(rt: HostRuntime) -> Result<(), Fail> {
     for text in ["m 1", ""] {
         texts.push(Text::of(rt.alloc(), text)?)?;
     }
-    assert_eq!(rt; texts.len(), 2);
-    assert!(rt; (texts.get(0).as_str(), texts.get(1).as_str()) == ("m 1", ""));
+    assert!(rt; texts.len() == 2);
+    assert!(rt; texts.get(0).as_str() == "m 1");
+    assert!(rt; texts.get(1).as_str() == "");
     Ok(())
 }
 
@@ -37,7 +40,7 @@ fn keep_operations_in_order(rt: HostRuntime) -> Result<(), Fail> {
     for op in [Op::Read { cell }, Op::Add { cell, value: 7 }] {
         ops.push(op)?;
     }
-    assert_eq!(rt; ops.len(), 2);
+    assert!(rt; ops.len() == 2);
     assert!(rt; ops.get(1) == Op::Add { cell, value: 7 });
     assert!(rt; ops.iter().count() == 2);
     Ok(())

@@ -1,22 +1,17 @@
 //! Trees of affinities.
 
-use std::alloc::Global;
+use crate::building::tree;
+use std::alloc::{AllocError, Global};
 use std::test::Fail;
 use waff_model::{AffinityId, Tree, TreeBuilder, TreeError};
 
 /// A root with two children, the second of which has one.
-fn builder(alloc: Global) -> Result<TreeBuilder, Fail> {
-    let mut builder = TreeBuilder::new(alloc);
-    for (name, parent) in [
-        ("Serial", None),
-        ("VolA", Some(0)),
-        ("VolB", Some(0)),
-        ("B0", Some(2)),
-    ] {
-        builder.add(name, parent.map(AffinityId))?;
-    }
-    Ok(builder)
-}
+const TREE: &[(&str, Option<u16>)] = &[
+    ("Serial", None),
+    ("VolA", Some(0)),
+    ("VolB", Some(0)),
+    ("B0", Some(2)),
+];
 
 /// The parts of an affinity: its name and its parent, if the tree has it.
 fn parts(tree: &Tree, number: u16) -> Option<(&str, Option<AffinityId>)> {
@@ -40,70 +35,87 @@ fn relation(tree: &Tree, one: u16, other: u16) -> Option<(bool, bool)> {
 
 #[test]
 fn keep_names_and_parents(rt: HostRuntime) -> Result<(), Fail> {
-    let tree = builder(rt.alloc())?.build()?;
-    for (number, found) in [
-        (0, Some(("Serial", None))),
-        (3, Some(("B0", Some(AffinityId(2))))),
-        (4, None),
-    ] {
-        assert!(rt; parts(&tree, number) == found);
-    }
-    for (name, found) in [("VolB", Some(AffinityId(2))), ("B1", None)] {
-        assert!(rt; tree.find(name) == found);
-    }
+    let tree = tree(rt.alloc(), TREE)?;
+    assert!(rt; parts(&tree, 0) == Some(("Serial", None)));
+    assert!(rt; parts(&tree, 3) == Some(("B0", Some(AffinityId(2)))));
+    assert!(rt; parts(&tree, 4).is_none());
+    assert!(rt; tree.find("VolB") == Some(AffinityId(2)));
+    assert!(rt; tree.find("B1").is_none());
     assert!(rt; tree.root() == AffinityId(0));
     Ok(())
 }
 
+/// Affinities, with whether the first is at or above the second, and whether they exclude each other.
+const RELATIONS: &[(u16, u16, (bool, bool))] = &[
+    (0, 3, (true, true)),
+    (1, 3, (false, false)),
+    (3, 2, (false, true)),
+    (3, 1, (false, false)),
+];
+
 #[test]
 fn tell_what_is_above(rt: HostRuntime) -> Result<(), Fail> {
-    let tree = builder(rt.alloc())?.build()?;
-    for (one, other, found) in [
-        (0, 3, (true, true)),
-        (1, 3, (false, false)),
-        (3, 2, (false, true)),
-        (3, 1, (false, false)),
-    ] {
-        assert!(rt; relation(&tree, one, other) == Some(found));
+    let tree = tree(rt.alloc(), TREE)?;
+    for (one, other, found) in RELATIONS {
+        assert!(rt; relation(&tree, *one, *other) == Some(*found));
     }
     Ok(())
 }
 
+/// Lists of affinities, and how they are refused.
+const REFUSED: &[(&[(&str, Option<u16>)], TreeError)] = &[
+    (&[], TreeError::NoRoot),
+    (&[("B 1", None)], TreeError::Name),
+    (&[("a", None), ("B 1", None)], TreeError::Name),
+    (&[("a", None), ("a", None)], TreeError::Twice),
+    (&[("a", None), ("b", None)], TreeError::SecondRoot),
+    (&[("a", None), ("b", Some(1))], TreeError::ParentUnknown),
+];
+
 #[test]
-fn refuse_in_order(rt: HostRuntime) -> Result<(), Fail> {
-    let mut builder = builder(rt.alloc())?;
-    for (name, parent, found) in [
-        ("B 1", None, Err(TreeError::Name)),
-        ("VolB", None, Err(TreeError::Twice)),
-        ("B1", None, Err(TreeError::SecondRoot)),
-        ("B1", Some(AffinityId(4)), Err(TreeError::ParentUnknown)),
-        ("B1", Some(AffinityId(2)), Ok(AffinityId(4))),
-    ] {
-        assert!(rt; builder.add(name, parent) == found);
+fn are_refused_in_order(rt: HostRuntime) {
+    for (rows, error) in REFUSED {
+        assert!(rt; tree(rt.alloc(), rows).err() == Some(*error));
     }
-    assert!(rt; TreeBuilder::new(rt.alloc()).build().err() == Some(TreeError::NoRoot));
-    Ok(())
+}
+
+/// Adds the affinity n below the one before it, and answers its number.
+fn add_below(
+    builder: &mut TreeBuilder,
+    alloc: Global,
+    n: u16,
+) -> Result<Result<AffinityId, TreeError>, AllocError> {
+    let name = format!(in alloc; "n{n}")?;
+    let parent = n.checked_sub(1).map(AffinityId);
+    Ok(builder.add(name.as_str(), parent))
 }
 
 /// A path of so many affinities, each below the one before it.
 fn path(alloc: Global, count: u16) -> Result<TreeBuilder, Fail> {
     let mut builder = TreeBuilder::new(alloc);
-    builder.add("n0", None)?;
-    for n in 1..count {
-        let name = format!(in alloc; "n{n}")?;
-        builder.add(name.as_str(), Some(AffinityId(n - 1)))?;
+    for n in 0..count {
+        add_below(&mut builder, alloc, n)??;
     }
     Ok(builder)
 }
 
 #[test]
 fn have_the_affinities_of_the_limit(rt: HostRuntime) -> Result<(), Fail> {
-    let mut builder = path(rt.alloc(), 4096)?;
-    let more = builder.add("n4096", Some(AffinityId(4095)));
+    let alloc = rt.alloc();
+    let mut builder = path(alloc, 4096)?;
+    let more = add_below(&mut builder, alloc, 4096)?;
     assert!(rt; more == Err(TreeError::TooMany));
     let tree = builder.build()?;
-    assert_eq!(rt; tree.len(), 4096);
+    assert!(rt; tree.len() == 4096);
     assert!(rt; relation(&tree, 1, 4095) == Some((true, true)));
     assert!(rt; relation(&tree, 4095, 4094) == Some((false, true)));
+    Ok(())
+}
+
+#[test]
+fn stay_as_they_are_where_an_affinity_is_refused(rt: HostRuntime) -> Result<(), Fail> {
+    let mut builder = path(rt.alloc(), 2)?;
+    assert!(rt; builder.add("n0", Some(AffinityId(9))) == Err(TreeError::Twice));
+    assert!(rt; builder.add("n2", Some(AffinityId(1))) == Ok(AffinityId(2)));
     Ok(())
 }

@@ -1,0 +1,214 @@
+//! Hierarchies accepted and refused.
+
+use std::alloc::Global;
+use std::process::Abort;
+use std::test::Fail;
+use waff_model::{AffinityId, Cell, Kind, Layout};
+use waff_read::read_hierarchy;
+use waff_samples::H1;
+
+/// The hierarchy has to be refused so, or to be read, which is told as None.
+fn is_told(rt: &impl Abort, alloc: Global, hierarchy: &[u8], wanted: &str) -> Result<(), Fail> {
+    let refusal = read_hierarchy(alloc, hierarchy).err();
+    let told = format!(in alloc; "{refusal:?}")?;
+    assert_eq!(rt; told.as_str(), wanted);
+    Ok(())
+}
+
+/// Bytes that are no hierarchy, with why.
+const BYTES: &[(&[u8], &str)] = &[
+    (b"", "Some(Model)"),
+    (b"model = \"hier", "Some(Toml)"),
+    (b"model = \"\xff\"", "Some(Toml)"),
+    (b"model = 1", "Some(Model)"),
+    (b"model = \"hybrid\"\naffinity = 1", "Some(Model)"),
+];
+
+#[test]
+fn are_no_documents(rt: HostRuntime) -> Result<(), Fail> {
+    for (bytes, wanted) in BYTES {
+        is_told(&rt, rt.alloc(), bytes, wanted)?;
+    }
+    Ok(())
+}
+
+/// What follows a model, refused by its first fault: in the order of the keys, the tree, and then the layout.
+const PARTS: &[(&str, &str)] = &[
+    (
+        "affinity = [1]\nspace = []\nmap = 2",
+        "Some(Shape { key: Affinities })",
+    ),
+    (
+        "affinity = []\nspace = {}\nmap = 2",
+        "Some(Shape { key: Spaces })",
+    ),
+    (
+        "affinity = []\nspace = []\nmap = [{}, 2]",
+        "Some(Shape { key: Maps })",
+    ),
+    (
+        "affinity = [{parent = 1}]\nspace = [{}]\nmap = [{}]",
+        "Some(Shape { key: Name })",
+    ),
+    (
+        "affinity = [{name = 'a', parent = 1}]\nspace = [{name = 'f'}]\nmap = [{}]",
+        "Some(Shape { key: Parent })",
+    ),
+    (
+        "affinity = []\nspace = [{name = 'f', size = 8.0}]\nmap = [{}]",
+        "Some(Shape { key: Size })",
+    ),
+    (
+        "affinity = []\nspace = []\nmap = [{unit = true}]",
+        "Some(Shape { key: Space })",
+    ),
+    (
+        "affinity = []\nspace = []\nmap = [{space = 'f', unit = '1'}]",
+        "Some(Shape { key: Unit })",
+    ),
+    (
+        "affinity = []\nspace = []\nmap = [{space = 'f', unit = 1, to = ['a', 1]}]",
+        "Some(Shape { key: To })",
+    ),
+    ("affinity = []\nspace = []\nmap = []", "Some(Tree(NoRoot))"),
+    (
+        "affinity = [{name = 'a b', parent = 'c'}]\nspace = []\nmap = []",
+        "Some(Tree(Name))",
+    ),
+    (
+        "affinity = [{name = 'a'}, {name = 'a', parent = 'c'}]\nspace = []\nmap = []",
+        "Some(Tree(Twice))",
+    ),
+    (
+        "affinity = [{name = 'a'}, {name = 'b'}]\nspace = []\nmap = []",
+        "Some(Tree(SecondRoot))",
+    ),
+    (
+        "affinity = [{name = 'a', parent = 'a'}]\nspace = []\nmap = []",
+        "Some(Tree(ParentUnknown))",
+    ),
+    (
+        "affinity = [{name = 'a'}, {name = 'b', parent = ''}]\nspace = []\nmap = []",
+        "Some(Tree(ParentUnknown))",
+    ),
+    (
+        "affinity = [{name = 'a'}]\nspace = []\nmap = [{space = 'f', unit = 1, to = []}]",
+        "Some(Layout(Space))",
+    ),
+    (
+        "affinity = [{name = 'a'}]\nspace = [{name = 'f', size = 8}]\nmap = []",
+        "Some(Layout(NoMap))",
+    ),
+    (
+        "affinity = [{name = 'a'}]\nspace = [{name = 'f', size = 8}]\n\
+            map = [{space = 'f', unit = 2, to = ['b']}]",
+        "Some(Layout(To))",
+    ),
+    (
+        "affinity = [{name = 'a'}]\nspace = [{name = 'f', size = 8}]\n\
+            map = [{space = 'f', unit = 2, to = ['a']}]",
+        "None",
+    ),
+];
+
+fn is_told_of_parts(rt: &impl Abort, alloc: Global, parts: &str, wanted: &str) -> Result<(), Fail> {
+    let text = format!(in alloc; "model = 'hierarchical'\n{parts}\n")?;
+    is_told(rt, alloc, text.as_bytes(), wanted)
+}
+
+#[test]
+fn are_refused_by_their_first_fault(rt: HostRuntime) -> Result<(), Fail> {
+    for (parts, wanted) in PARTS {
+        is_told_of_parts(&rt, rt.alloc(), parts, wanted)?;
+    }
+    Ok(())
+}
+
+/// The sample with one change each: a part, what stands in its place, and the refusal.
+const CHANGES: &[(&str, &str, &str)] = &[
+    ("Serial", "Serial", "None"),
+    ("size = 8", "size = \"8\"", "Some(Shape { key: Size })"),
+    (
+        "name = \"A0\"\nparent = \"VolA\"",
+        "name = \"A0\"\nparent = 1",
+        "Some(Shape { key: Parent })",
+    ),
+    (
+        "to = [\"A0\", \"A1\"]",
+        "to = [\"A0\", 1]",
+        "Some(Shape { key: To })",
+    ),
+    ("size = 8", "size = 0", "Some(Layout(Size))"),
+    ("size = 8", "size = 262145", "Some(Layout(Size))"),
+    ("size = 8", "size = 262135", "Some(Layout(TooManyCells))"),
+    ("size = 8", "size = 262134", "None"),
+    ("unit = 2", "unit = 0", "Some(Layout(Unit))"),
+    ("unit = 2", "unit = -1", "Some(Layout(Unit))"),
+    ("to = [\"A0\", \"A1\"]", "to = []", "Some(Layout(To))"),
+    (
+        "name = \"VolA\"\nparent = \"Serial\"",
+        "name = \"VolA\"",
+        "Some(Tree(SecondRoot))",
+    ),
+    (
+        "parent = \"VolA\"",
+        "parent = \"A0\"",
+        "Some(Tree(ParentUnknown))",
+    ),
+    (
+        "model = \"hierarchical\"",
+        "model = \"classical\"",
+        "Some(NotClassical { affinity: AffinityId(3) })",
+    ),
+];
+
+/// The sample with another part in place of the first one like this, which has to be there.
+fn is_told_of_change(
+    rt: &impl Abort,
+    alloc: Global,
+    part: &str,
+    new: &str,
+    wanted: &str,
+) -> Result<(), Fail> {
+    let (before, after) = H1.split_once(part).ok_or("the part is not there")?;
+    let text = format!(in alloc; "{before}{new}{after}")?;
+    is_told(rt, alloc, text.as_bytes(), wanted)
+}
+
+#[test]
+fn are_refused_for_one_change(rt: HostRuntime) -> Result<(), Fail> {
+    for (part, new, wanted) in CHANGES {
+        is_told_of_change(&rt, rt.alloc(), part, new, wanted)?;
+    }
+    let (without_maps, _) = H1.split_once("[[map]]").ok_or("no map")?;
+    is_told(
+        &rt,
+        rt.alloc(),
+        without_maps.as_bytes(),
+        "Some(Shape { key: Maps })",
+    )
+}
+
+const WITH_MORE: &str = "\u{feff}model = 'classical'\nowner = 'ignored'\n\
+    [[affinity]]\nname = 'Serial'\n[[affinity]]\nname = 'T0'\nparent = 'Serial'\n\
+    [[map]]\nspace = 'f'\nunit = 2\nto = ['T0', 'Serial']\n\
+    [[space]]\nname = 'f'\nsize = 8\n";
+
+/// The layout has to be that of two affinities and one space.
+fn has_two_affinities(rt: &impl Abort, layout: &Layout) {
+    assert!(rt; layout.kind() == Kind::Classical);
+    assert!(rt; layout.tree().len() == 2);
+    assert!(rt; layout.tree().parent(AffinityId(1)) == Some(AffinityId(0)));
+    assert!(rt; layout.space_count() == 1);
+    assert!(rt; layout.space_size(0) == 8);
+    let third = Cell { space: 0, index: 2 };
+    assert!(rt; layout.has(third));
+    assert!(rt; layout.owner(third) == AffinityId(0));
+}
+
+#[test]
+fn are_read_with_what_the_format_does_not_name(rt: HostRuntime) -> Result<(), Fail> {
+    let layout = read_hierarchy(rt.alloc(), WITH_MORE.as_bytes())?;
+    has_two_affinities(&rt, &layout);
+    Ok(())
+}
