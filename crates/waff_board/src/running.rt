@@ -132,6 +132,7 @@ impl Board {
 
 impl<'a> Grant<'a> {
     /// Runs the message's operations on the parcels.
+    #[inline(always)]
     pub fn run(self) -> Finished<'a>
         ensures message { result.message ≡ self.entry.message }
         ensures table { result.hand.chair.table_id ≡ self.entry.hand.chair.table_id }

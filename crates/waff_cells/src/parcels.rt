@@ -70,10 +70,13 @@ impl<'a> Addresses for InParcels<'a> {
     }
 }
 
-/// The slot of the affinity.
+/// The slot of the affinity. That of one affinity alone asks nothing of `owner`, so that no owner is looked up for it.
 fn slot(owners: &[u16], owner: u16) -> usize
     ensures { result ≡ slot_of owners.now owner }
 {
+    if owners.len() == 1 {
+        return 0;
+    }
     find(owners, owner).unwrap_or(0)
 }
 

@@ -30,6 +30,7 @@ pub(crate) fn work<R: Wait, G: Gate>(rt: &R, board: &Board, mut seat: Seat, gate
 }
 
 /// Looks at the needs of the message until all are done.
+#[inline(always)]
 fn wait_until_clear<R: Wait>(rt: &R, board: &Board, mut drawn: Drawn) -> Cleared
     requires { IsOf board.now drawn.hand }
     ensures { IsOf board.now result.hand }
