@@ -1,0 +1,5 @@
+pub mod TextLemmas
+pub mod LaneLemmas
+pub mod WalkLemmas
+pub mod BarLemmas
+pub mod OnceLemmas
