@@ -1,10 +1,9 @@
 -- What is read of a scene for a bar.
-use Rattle.std.proofs.Common.{◌≡◌, ℕ, ◌+◌, ◌-◌, ◌<◌, ◌≤◌, [], get_or, length, map, Some, slice_get, sym, ◌∙◌, ap, arith}
+use Rattle.std.proofs.Common.{◌≡◌, ℕ, ◌+◌, ◌-◌, ◌<◌, ◌≤◌, [], length, Some, slice_get, sym, ◌∙◌, ap, arith}
 use Rattle.std.proofs.lemmas.List.{get_or-map, length-map}
 use Rattle.std.proofs.lemmas.Option.{get_or_from_slice_get}
 use Rattle.waff_model.specs.declared.message.Message.{Message}
 use Rattle.waff_assign.specs.Order.{affinity_of}
-use Rattle.waff_plan.specs.declared.timing.Timing.{Timing}
 use Rattle.waff_draw.specs.Charts.{IsChart}
 use Rattle.waff_draw.specs.Scene.{Scene, name_in}
 use Rattle.waff_draw.specs.declared.bars.Chart.{Chart}

@@ -1,6 +1,6 @@
 -- Which numbers a list has, the rows of lanes, and the children of affinities.
-use Rattle.std.proofs.Common.{All, ◌≡◌, ◌≢◌, ℕ, zero, suc, ◌+◌, ◌-◌, ◌<◌, ◌≤◌, Bool, true, false, inl, inr, cond, ◌==◌, ◌||◌, List, [], ◌∷◌, ◌++◌, drop, length, get_or, set, map, Option, Some, None, arith, refl, sym, ◌∙◌, ap, subst, length-set, get_or-set_other, get_or-set_same}
-use Rattle.std.specs.List.{filter, list_any, range_with_len}
+use Rattle.std.proofs.Common.{All, ◌≡◌, ◌≢◌, ℕ, suc, ◌+◌, ◌<◌, Bool, true, false, inl, inr, cond, ◌==◌, ◌||◌, List, [], ◌∷◌, ◌++◌, drop, length, get_or, set, Some, None, arith, refl, sym, ◌∙◌, ap, subst, length-set, get_or-set_other, get_or-set_same}
+use Rattle.std.specs.List.{filter, range_with_len}
 use Rattle.std.proofs.Math.Seq.{drop-cons}
 use Rattle.std.proofs.lemmas.Bool.{cases_eq}
 use Rattle.std.proofs.lemmas.Bool.Decides.{nat_tests}
@@ -10,7 +10,7 @@ use Rattle.std.proofs.lemmas.List.Folds.{list_any-append}
 use Rattle.std.proofs.lemmas.List.FromFn.{length-map-range_with_len, get_or-map-range_with_len, get_or-range_with_len, length-range_with_len}
 use Rattle.waff_model.specs.Tree.{Node, parent_of}
 use Rattle.waff_plan.proofs.Longest.{range_with_len_more}
-use Rattle.waff_draw.specs.Lanes.{children_of, families_of, is_among, is_parent, lane_of, row_from}
+use Rattle.waff_draw.specs.Lanes.{children_of, families_of, is_among, is_parent, row_from}
 use Rattle.waff_draw.specs.declared.lanes.Lane.{Lane}
 use Rattle.waff_draw.proofs.TextLemmas.{append_none, get_or-any}
 

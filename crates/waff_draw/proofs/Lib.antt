@@ -3,3 +3,4 @@ pub mod LaneLemmas
 pub mod WalkLemmas
 pub mod BarLemmas
 pub mod OnceLemmas
+pub mod RowLemmas

@@ -7,7 +7,7 @@ use Rattle.std.proofs.lemmas.List.Elements.{filter_passes}
 use Rattle.std.proofs.lemmas.List.FromFn.{get_or-map-range_with_len, length-range_with_len}
 use Rattle.std.proofs.lemmas.List.Sums.{length-filter}
 use Rattle.waff_model.specs.Tree.{IsRooted, IsTree, Node, parent_of}
-use Rattle.waff_draw.specs.Lanes.{children_of, families_of, is_among, is_parent, lane_of, lanes_of, preorder, walk_from}
+use Rattle.waff_draw.specs.Lanes.{children_of, families_of, is_among, is_parent, lanes_of, preorder, walk_from}
 use Rattle.waff_draw.specs.Laws.{LaneIsOne}
 use Rattle.waff_draw.specs.declared.lanes.Lane.{Lane}
 use Rattle.waff_draw.proofs.LaneLemmas.{children_known, other_tests, range_known, same_tests}
@@ -88,7 +88,7 @@ mark a c = cond (c == a) 1 0
 mark_same : (a c : ℕ) → c ≡ a → mark a c ≡ 1
 mark_same a c same = ap (λ b. cond b 1 0) (same_tests c a same)
 
-mark_other : (a c : ℕ) → c ≢ a → mark a c ≡ 0
+pub mark_other : (a c : ℕ) → c ≢ a → mark a c ≡ 0
 mark_other a c other = ap (λ b. cond b 1 0) (other_tests c a other)
 
 -- how many of the lanes are of the affinity a
@@ -127,10 +127,11 @@ abbrev IsChild : List Node → ℕ → ℕ → Type 0
 IsChild tree r c = (parent_of tree c ≡ Some r) × (c < length tree)
 
 are_children : (tree : List Node) (r : ℕ) → All (IsChild tree r) (children_of tree r)
-are_children tree r k d low =
-    (parent_is r (parent_of tree (get_or (children_of tree r) k d))
+are_children tree r k d low = (
+  parent_is r (parent_of tree (get_or (children_of tree r) k d))
       (filter_passes (λ c. is_parent r (parent_of tree c)) (range_with_len 0 (length tree)) k d low),
-    children_known tree r k d low)
+  children_known tree r k d low,
+)
 
 -- a walk has no affinity that stands before its own
 none_before : (tree : List Node) → IsRooted tree → (k d r a : ℕ) → r < length tree → a < r
@@ -160,9 +161,9 @@ among_children : (tree : List Node) (a p r : ℕ) → a < length tree → parent
 among_children tree a p r low parent =
     let turned : mark r p ≡ mark p r
     = elim (cases_eq r p) [
-        | inl same ↦ mark_same r p (sym same) ∙ sym (mark_same p r same)
-        | inr other ↦ mark_other r p (λ e. other (sym e)) ∙ sym (mark_other p r other)
-      ] in
+      | inl same ↦ mark_same r p (sym same) ∙ sym (mark_same p r same)
+      | inr other ↦ mark_other r p (λ e. other (sym e)) ∙ sym (mark_other p r other)
+    ] in
     total_one (mark a) (λ c. is_parent r (parent_of tree c)) a 0 (length tree) (mark_same a a refl) (mark_other a) (omega arith) (omega (arith, low))
     ∙ ap (λ o. cond (is_parent r o) 1 0) parent ∙ turned
 
@@ -179,15 +180,15 @@ as_parent tree is a p inside parent (suc k) d e r low other =
     let upper = λ (c : ℕ). times a (walk_from (families_of tree) (suc k) (d + 1) c) in
     let each : (c : ℕ) → IsChild tree r c → upper c ≡ lower c + mark a c
     = λ c child. elim (cases_eq c a) [
-        | inl same ↦
-            let once : upper c ≡ 1 = subst (λ x. times a (walk_from (families_of tree) (suc k) (d + 1) x) ≡ 1) (sym same) (own_once tree is k (d + 1) a inside) in
-            let none : lower c ≡ 0
-            = none_before tree is k (e + 1) c p child.1 (omega (arith, is.earlier a p parent, same)) in
-            omega (arith, once, none, mark_same a c same)
-        | inr apart ↦
-            let as_often : upper c ≡ lower c = as_parent tree is a p inside parent k (d + 1) (e + 1) c child.1 apart in
-            omega (arith, as_often, mark_other a c apart)
-      ] in
+      | inl same ↦
+          let once : upper c ≡ 1 = subst (λ x. times a (walk_from (families_of tree) (suc k) (d + 1) x) ≡ 1) (sym same) (own_once tree is k (d + 1) a inside) in
+          let none : lower c ≡ 0
+          = none_before tree is k (e + 1) c p child.1 (omega (arith, is.earlier a p parent, same)) in
+          omega (arith, once, none, mark_same a c same)
+      | inr apart ↦
+          let as_often : upper c ≡ lower c = as_parent tree is a p inside parent k (d + 1) (e + 1) c child.1 apart in
+          omega (arith, as_often, mark_other a c apart)
+    ] in
     let sums : total upper (children_of tree r) ≡ total lower (children_of tree r) + total (mark a) (children_of tree r)
     = total_same upper (λ c. lower c + mark a c) (IsChild tree r) (children_of tree r) each (are_children tree r)
     ∙ total_both lower (mark a) (children_of tree r) in
@@ -281,13 +282,13 @@ kept_other false true a x xs ys none h =
     sums
 kept_other false false a x xs ys none h = h
 
-none_either : (b : Bool) → 0 ≡ cond b 0 0
-none_either true = refl
-none_either false = refl
+same_either : (b : Bool) (n : ℕ) → n ≡ cond b n n
+same_either true n = refl
+same_either false n = refl
 
-times_filter : (assigned : List ℕ) (a : ℕ) (xs : List Lane)
+pub times_filter : (assigned : List ℕ) (a : ℕ) (xs : List Lane)
     → times a (filter (λ lane. is_among assigned lane.affinity) xs) ≡ cond (is_among assigned a) (times a xs) 0
-times_filter assigned a [] = none_either (is_among assigned a)
+times_filter assigned a [] = same_either (is_among assigned a) 0
 times_filter assigned a (x ∷ xs) =
     let ys = filter (λ (lane : Lane). is_among assigned lane.affinity) xs in
     let rest = times_filter assigned a xs in

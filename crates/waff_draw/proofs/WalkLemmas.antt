@@ -1,5 +1,5 @@
 -- Walks.
-use Rattle.std.proofs.Common.{◌≡◌, ℕ, zero, suc, ◌+◌, ◌-◌, ◌<◌, List, [], ◌∷◌, ◌++◌, flat_map, get_or, replicate, append_assoc, arith, refl, sym, ◌∙◌, ap}
+use Rattle.std.proofs.Common.{◌≡◌, ℕ, zero, suc, ◌+◌, ◌-◌, ◌<◌, List, [], ◌∷◌, ◌++◌, flat_map, get_or, replicate, append_assoc, arith, sym, ◌∙◌, ap}
 use Rattle.std.proofs.lemmas.List.{replicate-append-replicate}
 use Rattle.waff_draw.specs.Lanes.{lane_of, walk_from}
 use Rattle.waff_draw.specs.declared.lanes.Lane.{Lane}

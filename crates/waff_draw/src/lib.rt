@@ -1,6 +1,6 @@
 //! A picture of a plan, whoever made it: a lane for each affinity and each worker, a bar for each message.
 //!
-//! - `lanes`: the affinities that have a message, in preorder; `marks`: which numbers a list has; `laws`: each has one lane.
+//! - `lanes`: the affinities that have a message, in preorder; `marks`: which numbers a list has; `laws`: each has one lane, where its bars are.
 //! - `axis`: round numbers of ticks; `xml`: names in a document of markup.
 //! - `svg`: the text of the picture; `bars`: its bars; `pieces`: what both are made of.
 #![tactic(auto)]
@@ -14,5 +14,5 @@ mod pieces;
 mod svg;
 mod xml;
 
-pub use laws::lane_is_one;
+pub use laws::{lane_is_one, row_is_of_lane};
 pub use svg::svg_text;

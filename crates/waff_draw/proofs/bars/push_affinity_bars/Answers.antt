@@ -1,8 +1,8 @@
-use Rattle.std.proofs.Common.{◌≡◌, ℕ, ◌+◌, ◌-◌, ◌<◌, ◌++◌, [], get_or, length, map, string_bytes, sym, ◌∙◌, ap, arith}
+use Rattle.std.proofs.Common.{◌≡◌, string_bytes, ◌∙◌, ap, arith}
 use Rattle.std.proofs.lemmas.List.{get_or_read}
 use Rattle.waff_model.specs.Tree.{name_of}
 use Rattle.waff_assign.specs.Order.{affinity_of}
-use Rattle.waff_draw.specs.Bars.{affinity_bar, bar_at, bar_text}
+use Rattle.waff_draw.specs.Bars.{affinity_bar, bar_at}
 use Rattle.waff_draw.specs.Lanes.{row_of}
 use Rattle.waff_draw.specs.Scene.{affinity_in, lanes_in, name_in, scene_of}
 use Rattle.waff_draw.proofs.BarLemmas.{affinity_within, name_read, number_within}

@@ -1,5 +1,5 @@
-use Rattle.std.proofs.Common.{◌≡◌, ◌+◌, ◌-◌, ◌<◌, ◌++◌, ◌∷◌, [], All, flat_map, get_or, length, map, take}
-use Rattle.waff_draw.specs.Lanes.{lane_of, walk_from}
+use Rattle.std.proofs.Common.{◌≡◌, ◌+◌, ◌-◌, ◌<◌, ◌++◌, [], All, flat_map, get_or, length, map, take}
+use Rattle.waff_draw.specs.Lanes.{walk_from}
 use Rattle.waff_draw.proofs.lanes.+walk.Given as goal
 
 abbrev pub decreases-walk : goal.decreases-walk

@@ -1,4 +1,4 @@
-use Rattle.std.proofs.Common.{◌≡◌, ◌<◌, All, length, map}
+use Rattle.std.proofs.Common.{◌≡◌, length, map}
 use Rattle.waff_draw.proofs.LaneLemmas.{AreChildren}
 use Rattle.waff_draw.proofs.lanes.families.Given as goal
 

@@ -1,4 +1,4 @@
-use Rattle.std.proofs.Common.{◌≡◌, ◌++◌, string_bytes, get_or, arith, sym, ◌∙◌, ap}
+use Rattle.std.proofs.Common.{◌++◌, string_bytes, arith, ◌∙◌, ap}
 use Rattle.waff_draw.specs.Lanes.{lane_of}
 use Rattle.waff_draw.specs.Svg.{affinity_lane, affinity_lane_text}
 use Rattle.waff_draw.proofs.TextLemmas.{get_or-any, more_from}

@@ -1,13 +1,10 @@
-use Rattle.std.proofs.Common.{◌≡◌, ℕ, ◌+◌, ◌++◌, List, flat_map, length, map, max, string_bytes, sym, ◌∙◌, ap}
+use Rattle.std.proofs.Common.{◌≡◌, ◌+◌, ◌++◌, flat_map, length, max, string_bytes, ◌∙◌, ap}
 use Rattle.std.specs.List.{range_with_len}
 use Rattle.std.proofs.lemmas.Result.{on_ok_weaker}
-use Rattle.waff_model.specs.declared.message.Message.{Message}
-use Rattle.waff_plan.specs.Timetable.{timings_of}
 use Rattle.waff_plan.specs.Work.{length_of, total_of}
 use Rattle.waff_plan.specs.Timing.{start_of, work_of}
-use Rattle.waff_draw.specs.Lanes.{lanes_of}
 use Rattle.waff_draw.specs.Scene.{lanes_in, length_in, rows_in, scene_of, span_in, work_in, workers_in}
-use Rattle.waff_draw.specs.Svg.{affinity_lane, each_step, grid_text, ground_text, heading_text, plan_text, tick_text, top_text, worker_lane}
+use Rattle.waff_draw.specs.Svg.{affinity_lane, each_step, grid_text, heading_text, plan_text, tick_text, top_text, worker_lane}
 use Rattle.waff_draw.proofs.TextLemmas.{behind}
 use Rattle.waff_draw.proofs.svg.push_ground.Goals as goal
 
