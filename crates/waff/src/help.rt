@@ -32,3 +32,7 @@ Exit status: 0 done, 2 words refused, 3 a file refused, 4 not read, not written 
 pub const WHERE: &str = "Example: waff where hier.toml trace.csv --names
 
 Exit status: 0 done, 2 words refused, 3 a file refused, 4 not read, not written or no memory.";
+
+pub const DRAW: &str = "Example: waff draw hier.toml trace.csv plan.csv >plan.svg
+
+Exit status: 0 done, 2 words refused, 3 a file refused, 4 not read, not written or no memory.";

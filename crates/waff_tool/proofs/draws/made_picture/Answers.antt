@@ -2,7 +2,7 @@ use Rattle.std.proofs.Common.{◌≡◌, ◌∙◌, ap, string_bytes}
 use Rattle.std.proofs.lemmas.Result.{IfOk-weaker}
 use Rattle.waff_draw.specs.Scene.{scene_of}
 use Rattle.waff_draw.specs.Svg.{svg_text}
-use Rattle.waff_tool.proofs.draws.made_svg_text.Goals as goal
+use Rattle.waff_tool.proofs.draws.made_picture.Goals as goal
 
 pub returns-clause-made : goal.returns-clause-made
 returns-clause-made c =
@@ -16,5 +16,5 @@ returns-clause-made c =
       given = c.in_ok-given.given;
       accepts = c.in_ok-accepted.ensures.accepted;
       is_plan = given;
-      drawn = rw tree at c.in_ok-svg_text.ensures;
+      drawn = rw tree at c.in_ok-pictured.ensures;
     }
