@@ -6,4 +6,5 @@ pub mod Scene
 pub mod Bars
 pub mod Charts
 pub mod Svg
+pub mod Events
 pub mod Laws

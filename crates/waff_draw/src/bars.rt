@@ -88,7 +88,7 @@ pub(crate) fn push_worker_bars(
 }
 
 /// The row of a worker, whose lanes stand below this many others.
-fn row_of_worker(first: u64, workers: Option<u32>, worker: Option<u64>) -> Option<u64>
+pub(crate) fn row_of_worker(first: u64, workers: Option<u32>, worker: Option<u64>) -> Option<u64>
     requires first { first ≤ 65536 }
     requires workers { IfSome workers IsWorkers }
     ensures { result ≡ worker_row first (worker_count workers) worker }
