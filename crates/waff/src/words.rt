@@ -110,6 +110,7 @@ fn workers(matches: &ArgMatches<'_>, most: u32) -> Result<Option<u32>, Failure>
 fn picture(matches: &ArgMatches<'_>) -> Result<Picture, Failure> {
     match matches.get_str("as") {
         Some("svg") => Ok(Picture::Svg),
+        Some("events") => Ok(Picture::TraceEvents),
         _ => Err(Failure::NoWords),
     }
 }
@@ -262,7 +263,7 @@ fn by_name<'a>(alloc: Global) -> Arg<'a> {
 }
 
 /// What a plan is drawn as.
-static PICTURES: [&str; 1] = ["svg"];
+static PICTURES: [&str; 2] = ["svg", "events"];
 
 fn kind_of_picture<'a>(alloc: Global) -> Arg<'a> {
     Arg::new(alloc, "as")
@@ -270,5 +271,5 @@ fn kind_of_picture<'a>(alloc: Global) -> Arg<'a> {
         .value_name("PICTURE")
         .value_parser(PICTURES.as_slice())
         .default_value("svg")
-        .help("A document for a browser")
+        .help("A picture for a browser, or events for a viewer of traces")
 }

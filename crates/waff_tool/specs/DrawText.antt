@@ -4,6 +4,7 @@ use Rattle.waff_model.specs.Layout.{Hierarchy}
 use Rattle.waff_model.specs.Messages.{Arrivals}
 use Rattle.waff_plan_text.specs.Given.{Given}
 use Rattle.waff_plan_text.specs.PlanTexts.{plan_of}
+use Rattle.waff_draw.specs.Events.{events_text}
 use Rattle.waff_draw.specs.Scene.{Scene, scene_of}
 use Rattle.waff_draw.specs.Svg.{svg_text}
 use Rattle.waff_tool.specs.Commands.{Accepts}
@@ -13,6 +14,7 @@ use Rattle.waff_tool.specs.declared.draws.Picture.TheVariants as picture
 -- a scene as what it is drawn
 abbrev pub picture_of : Picture → Scene → List ℕ
 picture_of picture.Svg scene = svg_text scene
+picture_of picture.TraceEvents scene = events_text scene
 
 -- bytes that are a hierarchy, a trace over it and the text of a plan for its messages, and the picture of that plan
 pub record IsDrawText (hierarchy_file trace_file plan_file : List ℕ) (picture : Picture) (text : List ℕ) : Type 0 where

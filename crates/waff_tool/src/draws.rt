@@ -13,13 +13,14 @@ use std::alloc::{AllocError, Global};
 use std::io::Write;
 use waff_assign::Assigned;
 use waff_check::{GivenPlan, read_plan};
-use waff_draw::svg_text;
+use waff_draw::{events_text, svg_text};
 use waff_model::{Trace, Tree};
 
-/// As what a plan is drawn.
+/// As what a plan is drawn: a document in SVG for a browser, or events for a viewer of traces.
 #[derive(Clone, Copy, Debug, PartialEq, Eq)]
 pub enum Picture {
     Svg,
+    TraceEvents,
 }
 
 /// Writes the picture of the plan that the text gives for the trace under the hierarchy, whether or not the plan obeys. Nothing
@@ -79,6 +80,7 @@ fn pictured(
 {
     match picture {
         Picture::Svg => svg_text(alloc, tree, assigned, trace, given),
+        Picture::TraceEvents => events_text(alloc, tree, assigned, trace, given),
     }
 }
 
