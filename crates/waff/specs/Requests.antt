@@ -15,4 +15,5 @@ IsWithinLimits (request.Replay files workers) = (1 ≤ workers) × (workers ≤ 
 IsWithinLimits (request.Compare files other k) = (1 ≤ k) × (k ≤ MAX_WORKERS)
 IsWithinLimits (request.Sweep files) = Unit {0}
 IsWithinLimits (request.Where files by_name) = Unit {0}
+IsWithinLimits (request.Draw files plan picture) = Unit {0}
 IsWithinLimits (request.Explain hierarchy trace plan) = Unit {0}

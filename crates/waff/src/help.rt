@@ -55,3 +55,7 @@ A line for each affinity: its parent; how many messages run in it, and their cos
 chain, the cost of those in it on the chain of the shortest plan. With --names a line for each name of messages.
 
 Exit status: 0 done, 2 words refused, 3 a file refused, 4 not read, not written or no memory.";
+
+pub const DRAW: &str = "Example: waff draw hier.toml trace.csv plan.csv >plan.svg
+
+Exit status: 0 done, 2 words refused, 3 a file refused, 4 not read, not written or no memory.";

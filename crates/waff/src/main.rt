@@ -24,8 +24,8 @@ use std::{env, io};
 use waff_core::limits::MAX_SEATS;
 use waff_model::limits::MAX_WORKERS;
 use waff_tool::{
-    assign_text, check_text, compare_text, explain_text, explained_status, plan_text, replay_text,
-    split_input, sweep_text, verdict_status, where_text,
+    Picture, assign_text, check_text, compare_text, draw_text, explain_text, explained_status,
+    plan_text, replay_text, split_input, sweep_text, verdict_status, where_text,
 };
 use words::{FileNames, Request, read_words};
 
@@ -53,6 +53,7 @@ fn run<R: Runtime + AllocGlobal + Threads + Wait + Sync>(rt: &R) -> Result<u8, F
         Request::Compare(files, other, k) => print_comparison(rt, alloc, files, other, k)?,
         Request::Sweep(files) => print_sweep(rt, alloc, files)?,
         Request::Where(files, by_name) => print_where(rt, alloc, files, by_name)?,
+        Request::Draw(files, plan, picture) => print_picture(rt, alloc, files, plan, picture)?,
     }
     Ok(0)
 }
@@ -217,6 +218,26 @@ fn print_where<R: Runtime>(
         hierarchy.as_slice(),
         trace.as_slice(),
         by_name,
+        &mut io::writer(rt),
+    )?)
+}
+
+fn print_picture<R: Runtime>(
+    rt: &R,
+    alloc: Global,
+    files: FileNames<'_>,
+    plan: &str,
+    picture: Picture,
+) -> Result<(), Failure> {
+    let hierarchy = read_file(rt, alloc, files.hierarchy, 1)?;
+    let trace = read_file(rt, alloc, files.trace, 2)?;
+    let plan = read_file(rt, alloc, plan, 3)?;
+    Ok(draw_text(
+        alloc,
+        hierarchy.as_slice(),
+        trace.as_slice(),
+        plan.as_slice(),
+        picture,
         &mut io::writer(rt),
     )?)
 }

@@ -8,6 +8,7 @@ use clap::{Arg, ArgAction, ArgMatches, Command, value_parser};
 use std::alloc::{AllocError, Global};
 use waff_core::limits::MAX_SEATS;
 use waff_model::limits::MAX_WORKERS;
+use waff_tool::Picture;
 
 /// What the words ask for.
 #[derive(Clone, Copy)]
@@ -27,6 +28,8 @@ pub enum Request<'a> {
     Sweep(FileNames<'a>),
     /// Where the time goes, by the names of messages or by affinity.
     Where(FileNames<'a>, bool),
+    /// The plan in the file of this name, drawn as this picture.
+    Draw(FileNames<'a>, &'a str, Picture),
     /// The first fault, or the verdict, of a hierarchy, of a trace where there is one, and of a plan where there is one.
     Explain(&'a str, Option<&'a str>, Option<&'a str>),
 }
@@ -66,6 +69,11 @@ pub fn read_words<'a>(alloc: Global, words: &'a [String]) -> Result<Request<'a>,
             file_names(matches)?,
             matches.get_flag("names"),
         )),
+        Some(("draw", matches)) => Ok(Request::Draw(
+            file_names(matches)?,
+            word(matches, "PLAN")?,
+            picture(matches)?,
+        )),
         Some(("explain", matches)) => Ok(Request::Explain(
             word(matches, "HIER")?,
             matches.get_str("TRACE"),
@@ -98,6 +106,15 @@ fn workers(matches: &ArgMatches<'_>, most: u32) -> Result<Option<u32>, Failure>
     }
 }
 
+/// As what the plan is drawn.
+fn picture(matches: &ArgMatches<'_>) -> Result<Picture, Failure> {
+    match matches.get_str("as") {
+        Some("svg") => Ok(Picture::Svg),
+        Some("events") => Ok(Picture::TraceEvents),
+        _ => Err(Failure::NoWords),
+    }
+}
+
 fn waff<'a>(alloc: Global) -> Result<Command<'a>, AllocError> {
     Command::new(alloc, "waff")
         .version("0.1.0")
@@ -111,6 +128,7 @@ fn waff<'a>(alloc: Global) -> Result<Command<'a>, AllocError> {
         .subcommand(explain(alloc)?.after_help(help::EXPLAIN))?
         .subcommand(sweep(alloc)?.after_help(help::SWEEP))?
         .subcommand(place(alloc)?.after_help(help::WHERE))?
+        .subcommand(draw(alloc)?.after_help(help::DRAW))?
         .subcommand(replay(alloc)?.after_help(help::REPLAY))?
         .subcommand(compare(alloc)?.after_help(help::COMPARE))
 }
@@ -166,6 +184,12 @@ fn place<'a>(alloc: Global) -> Result<Command<'a>, AllocError> {
         "Prints where the time goes, by affinity or by the names of messages",
     )?
     .arg(by_name(alloc))
+}
+
+fn draw<'a>(alloc: Global) -> Result<Command<'a>, AllocError> {
+    command(alloc, "draw", "Prints a picture of a plan")?
+        .arg(file(alloc, "PLAN", PLAN_FILE))?
+        .arg(kind_of_picture(alloc))
 }
 
 fn replay<'a>(alloc: Global) -> Result<Command<'a>, AllocError> {
@@ -236,4 +260,16 @@ fn by_name<'a>(alloc: Global) -> Arg<'a> {
         .long("names")
         .action(ArgAction::SetTrue)
         .help("A line for each name of messages in place of each affinity")
+}
+
+/// What a plan is drawn as.
+static PICTURES: [&str; 2] = ["svg", "events"];
+
+fn kind_of_picture<'a>(alloc: Global) -> Arg<'a> {
+    Arg::new(alloc, "as")
+        .long("as")
+        .value_name("PICTURE")
+        .value_parser(PICTURES.as_slice())
+        .default_value("svg")
+        .help("A picture for a browser, or events for a viewer of traces")
 }

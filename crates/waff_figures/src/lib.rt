@@ -19,5 +19,6 @@ mod tally;
 pub use by_affinity::affinities_text;
 pub use by_name::names_text;
 pub use figures::Figures;
+pub use ratio::Ratio;
 pub use sweep::{figures_text, list_figures};
 pub use tally::Tally;

@@ -7,7 +7,7 @@ use std::fmt;
 
 /// A ratio of two numbers, printed in hundredths: `3.35`, and `-` where the second number is 0.
 #[derive(Clone, Copy)]
-pub(crate) struct Ratio(pub u64, pub u128);
+pub struct Ratio(pub u64, pub u128);
 
 impl fmt::Display for Ratio {
     ghost output = { λ ratio. Some (ratio_field ratio.0 ratio.1) };

@@ -33,11 +33,14 @@ use Rattle.waff_check.specs.Verdicts.{IsVerdict, claim_of}
 use Rattle.waff_check.specs.declared.verdict.Verdict.{Verdict}
 use Rattle.waff_check.proofs.OwnLaws.{totals_same}
 use Rattle.waff_check.proofs.Uniqueness.{verdict_is_one}
+use Rattle.waff_draw.specs.Scene.{scene_of}
 use Rattle.waff_tool.specs.AssignText.{assign_lines}
 use Rattle.waff_tool.specs.Commands.{Accepts, IsPlanText, IsWorkerPlanText, work_in}
 use Rattle.waff_tool.specs.Comparison.{AreModels, IsCompared, IsMeasured, compare_lines}
+use Rattle.waff_tool.specs.DrawText.{DrawTextIsOne, picture_of}
 use Rattle.waff_tool.specs.ReplayText.{state_after, state_lines}
 use Rattle.waff_tool.specs.Unique.{AssignTextIsOne, CheckTextIsOne, CompareTextIsOne, PlanTextIsOne, ReplayTextIsOne}
+use Rattle.waff_tool.specs.declared.draws.Picture.{Picture}
 use Rattle.waff_tool.specs.declared.measures.Measured.{Measured}
 use Rattle.waff_tool.proofs.CertificateLemmas.{pairs_forward}
 use Rattle.waff_tool.proofs.LineLaws.{lines_same}
@@ -173,6 +176,20 @@ check_text_is_one hierarchy_file trace_file plan_file one other p q =
     let given = same_ok (plan_of p.trace.version (length p.trace.messages) plan_file) p.given q.given p.is_plan found.0 in
     verdict_is_one (claim_of p.layout.tree p.assigned p.trace.messages p.given) one other p.verdict
     (subst (λ g. IsVerdict (claim_of p.layout.tree p.assigned p.trace.messages g) other) (sym given) found.1)
+
+-- the picture
+abbrev IsDrawnOf : List ℕ → Picture → Given → List ℕ → Hierarchy → Arrivals → List ℕ → Type 0
+IsDrawnOf plan_file picture given text layout trace assigned =
+    (plan_of trace.version (length trace.messages) plan_file ≡ Ok given)
+    × (text ≡ picture_of picture (scene_of layout.tree assigned trace.messages given))
+
+pub draw_text_is_one : (hierarchy_file trace_file plan_file : List ℕ) (picture : Picture)
+    → DrawTextIsOne hierarchy_file trace_file plan_file picture
+draw_text_is_one hierarchy_file trace_file plan_file picture text other p q =
+    let same = same_input hierarchy_file trace_file p.layout q.layout p.trace q.trace p.assigned q.assigned p.accepts q.accepts in
+    let drawn = moved_back (IsDrawnOf plan_file picture q.given other) p.layout q.layout p.trace q.trace p.assigned q.assigned same (q.is_plan, q.drawn) in
+    let given = same_ok (plan_of p.trace.version (length p.trace.messages) plan_file) p.given q.given p.is_plan drawn.0 in
+    p.drawn ∙ ap (λ g. picture_of picture (scene_of p.layout.tree p.assigned p.trace.messages g)) given ∙ sym drawn.1
 
 -- what is told of a trace under one hierarchy
 made_of : Kind → Totals → Totals → Measured

@@ -11,3 +11,4 @@ pub mod Figures
 pub mod ToolErrors
 pub mod Unique
 pub mod OwnPlans
+pub mod DrawText

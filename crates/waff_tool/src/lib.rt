@@ -2,7 +2,7 @@
 //!
 //! The whole text is made before the first byte is written, so a refusal leaves nothing written, and a writer that fails has
 //! taken a prefix of it.
-//! - `commands` (assign, plan), `checks` (check), `comparison` (compare), `replays` (replay), `sweeps`, `wheres` and
+//! - `commands` (assign, plan), `checks` (check), `comparison` (compare), `replays` (replay), `sweeps`, `wheres`, `draws` and
 //!   `explains`: the calls.
 //! - `assigns`, `measures`, `state_text`, `verdict_line`: the texts; `output`: how they are written.
 //! - `fault`, `fault_names`: why a command gave no text, its line and its exit status.
@@ -13,6 +13,7 @@ mod assigns;
 mod checks;
 mod commands;
 mod comparison;
+pub mod draws;
 mod explains;
 mod fault;
 mod fault_names;
@@ -29,6 +30,7 @@ pub mod wheres;
 pub use checks::{check_text, verdict_status};
 pub use commands::{assign_text, plan_text};
 pub use comparison::compare_text;
+pub use draws::{Picture, draw_text};
 pub use explains::{Explained, explain_text, explained_status};
 pub use fault::{ToolError, fault_status, fault_text};
 pub use replays::replay_text;

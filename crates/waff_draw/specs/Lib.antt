@@ -1,0 +1,10 @@
+pub mod Lanes
+pub mod Axis
+pub mod Xml
+pub mod Pieces
+pub mod Scene
+pub mod Bars
+pub mod Charts
+pub mod Svg
+pub mod Events
+pub mod Laws

@@ -1,0 +1,70 @@
+-- The picture as a document in SVG.
+use Rattle.std.specs.Prelude.{ℕ, ◌+◌, ◌-◌, ◌*◌, ◌/◌, min, List, [], ◌++◌, Option, if◌then◌else◌, length, nat_le, slice_index_or}
+use Rattle.std.specs.List.{flat_map, range_with_len}
+use Rattle.waff_model.specs.Tree.{Node, name_of}
+use Rattle.waff_plan.specs.Work.{total_of}
+use Rattle.waff_plan_text.specs.Spelling.{worker_field}
+use Rattle.waff_draw.specs.Axis.{step_of}
+use Rattle.waff_draw.specs.Bars.{affinity_bars, worker_bars}
+use Rattle.waff_draw.specs.Lanes.{lane_of}
+use Rattle.waff_draw.specs.Pieces.{document_end, grid_line, heading_end, heading_start, lane_end, lane_start, legend_text, plan_start, style_text, tick_label, top_start, worker_name}
+use Rattle.waff_draw.specs.Scene.{Scene, lanes_in, length_in, rows_in, span_in, work_in, workers_in}
+use Rattle.waff_draw.specs.Xml.{xml_text}
+use Rattle.waff_draw.specs.declared.lanes.Lane.{Lane}
+
+-- the top of the document, for this many rows
+abbrev pub top_text : ℕ → List ℕ
+top_text rows = top_start (rows * 20 + 112) ++ style_text ++ legend_text
+
+-- what is told of the plan
+abbrev pub heading_text : ℕ → ℕ → Option ℕ → List ℕ
+heading_text length total workers = heading_start length total ++ worker_field workers ++ heading_end
+
+-- a lane with its name, set in by depth, twelve steps at most
+abbrev pub lane_text : ℕ → ℕ → List ℕ → List ℕ
+lane_text row depth name = lane_start (row * 20 + 80) (min depth 12 * 8 + 8) (row * 20 + 94) ++ name ++ lane_end
+
+-- the lane of an affinity
+abbrev pub affinity_lane_text : List Node → ℕ → Lane → List ℕ
+affinity_lane_text tree row lane = lane_text row lane.depth (xml_text (name_of tree lane.affinity))
+
+abbrev pub affinity_lane : List Node → List Lane → ℕ → List ℕ
+affinity_lane tree lanes row = affinity_lane_text tree row (slice_index_or lanes row (lane_of 0 0))
+
+-- the lane of a worker, below this many others
+abbrev pub worker_lane : ℕ → ℕ → List ℕ
+worker_lane first worker = lane_text (first + worker - 1) 0 (worker_name worker)
+
+-- a number of ticks where it stands between the left and the right of the lanes
+abbrev pub tick_text : ℕ → ℕ → ℕ → List ℕ
+tick_text rows span tick = tick_label (tick * 1000 / span + 320) (rows * 20 + 98) tick
+
+-- a line through all rows
+abbrev pub grid_text : ℕ → ℕ → List ℕ
+grid_text rows tick = grid_line tick (rows * 10)
+
+-- the steps of the axis that are not past the length
+abbrev pub upto : ℕ → (ℕ → List ℕ) → ℕ → List ℕ
+upto length text tick = if nat_le tick length then text tick else []
+
+abbrev pub each_step : ℕ → (ℕ → List ℕ) → List ℕ
+each_step length text = flat_map (λ i. upto length text (i * step_of length)) (range_with_len 0 11)
+
+-- the ground of the bars, in ticks and tenths of a lane
+abbrev pub plan_text : ℕ → ℕ → List ℕ
+plan_text rows span = plan_start (rows * 20) span (rows * 10)
+
+-- what stands before the bars
+abbrev pub ground_text : Scene → List ℕ
+ground_text scene =
+    top_text (rows_in scene)
+    ++ heading_text (length_in scene) (total_of (work_in scene)) scene.plan.summary.workers
+    ++ flat_map (affinity_lane scene.tree (lanes_in scene)) (range_with_len 0 (length (lanes_in scene)))
+    ++ flat_map (worker_lane (length (lanes_in scene))) (range_with_len 1 (workers_in scene))
+    ++ each_step (length_in scene) (tick_text (rows_in scene) (span_in scene))
+    ++ plan_text (rows_in scene) (span_in scene)
+    ++ each_step (length_in scene) (grid_text (rows_in scene))
+
+-- the document
+abbrev pub svg_text : Scene → List ℕ
+svg_text scene = ground_text scene ++ affinity_bars scene ++ worker_bars scene ++ document_end

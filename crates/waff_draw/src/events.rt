@@ -1,0 +1,358 @@
+//! The picture in the Trace Event Format, which Perfetto and the tracing page of Chromium open.
+
+ghost use Rattle.std.specs.Prelude.{◌≡◌, ◌+◌, ◌*◌, ◌^◌, ◌<◌, ◌≤◌, ◌++◌, ℕ, List, All, IfOk, IfSome, OnOk, false, length, map, slice_index, slice_index_or, string_bytes};
+ghost use Rattle.std.specs.List.{flat_map, range_with_len};
+ghost use Rattle.waff_plan.specs.Bound.{IsWorkers};
+ghost use Rattle.waff_plan.specs.Timetable.{timings_of};
+ghost use Rattle.waff_draw.specs.Bars.{worker_row};
+ghost use Rattle.waff_draw.specs.Charts.{IsChart};
+ghost use Rattle.waff_draw.specs.Events.{affinity_events, affinity_thread, category, document_end, document_start, event_args, event_at, event_start, event_text, event_thread, events_text, quoted, thread_name, thread_place, thread_text, worker_events, worker_thread, worker_threads, workers_start};
+ghost use Rattle.waff_draw.specs.Lanes.{is_among, lanes_of, row_of};
+ghost use Rattle.waff_draw.specs.Scene.{Scene, lanes_in, scene_of, worker_count};
+
+use crate::bars::{Chart, row_of_worker};
+use crate::lanes::{Lane, lanes, rows};
+use crate::marks::marks;
+use crate::pieces::push_worker_name;
+use serde_json::Value;
+use std::alloc::{AllocError, Global};
+use waff_assign::Assigned;
+use waff_model::{AffinityId, Trace, Tree};
+use waff_plan::Plan;
+use waff_plan_text::GivenPlan;
+
+/// A message as it runs in a thread of a process.
+#[derive(Clone, Copy)]
+pub struct Event {
+    pub message: u32,
+    pub process: u32,
+    pub thread: u128,
+    pub start: u64,
+    pub cost: u64,
+    pub release: u64,
+    pub is_link: bool,
+}
+
+/// The events of a plan that is given for the messages of a trace with their affinities.
+pub fn events_text(
+    alloc: Global,
+    tree: &Tree,
+    assigned: &Assigned,
+    trace: &Trace,
+    given: &GivenPlan,
+) -> Result<String, AllocError>
+    requires lengths { length assigned.now ≡ length trace.now.messages }
+    requires known { All (λ a. a < length tree.now) assigned.now }
+    requires rows { length given.now.rows ≡ length trace.now.messages }
+    ensures { IfOk result (λ text. string_bytes text ≡ events_text (scene_of tree.now assigned.now trace.now.messages given.now)) }
+{
+    let starts = given.starts(alloc)?;
+    let plan = Plan::of_starts(alloc, trace, starts.as_slice())?;
+    let lanes = lanes(alloc, tree, assigned)?;
+    let chart = Chart {
+        rows: rows(alloc, tree.len() as usize, lanes.as_slice())?,
+        links: marks(alloc, trace.len() as usize + 1, given.chain())?,
+        plan,
+    };
+    let first = lanes.len() as u64;
+    let mut text = String::new(alloc);
+    push_document_start(&mut text)?;
+    push_affinity_threads(alloc, &mut text, tree, &lanes)?;
+    push_worker_threads(alloc, &mut text, first, given.workers())?;
+    push_affinity_events(alloc, &mut text, tree, assigned, trace, given, &chart)?;
+    push_worker_events(
+        alloc, &mut text, tree, assigned, trace, given, &chart, first,
+    )?;
+    push_document_end(&mut text)?;
+    Ok(text)
+}
+
+/// Appends the start of the document, with the process of the affinities.
+fn push_document_start(text: &mut String) -> Result<(), AllocError>
+    ensures { OnOk result (string_bytes text.new ≡ string_bytes text.old ++ document_start) }
+{
+    write!(
+        text,
+        "{{\"traceEvents\":[\n{{\"name\":\"process_name\",\"ph\":\"M\",\"pid\":1,\"args\":{{\"name\":\"affinities\"}}}},\n{{\"name\":\"process_sort_index\",\"ph\":\"M\",\"pid\":1,\"args\":{{\"sort_index\":1}}}}"
+    )
+}
+
+/// Appends the threads of the lanes of affinities.
+fn push_affinity_threads(
+    alloc: Global,
+    text: &mut String,
+    tree: &Tree,
+    lanes: &[Lane],
+) -> Result<(), AllocError>
+    requires known { All (λ lane. lane.affinity < length tree.now) lanes.now }
+    requires few { length lanes.now ≤ 65536 }
+    ensures { OnOk result (string_bytes text.new ≡ string_bytes text.old
+        ++ flat_map (affinity_thread tree.now lanes.now) (range_with_len 0 (length lanes.now))) }
+{
+    let _affinities = tree.len();
+    for row in 0..lanes.len() {
+        let name = tree.name(AffinityId(lanes[row].affinity as u16));
+        push_thread(alloc, text, 1, row as u128 + 1, name)?;
+    }
+    Ok(())
+}
+
+/// Appends the process of the workers with the threads of their lanes, below this many others, for a plan that has workers.
+fn push_worker_threads(
+    alloc: Global,
+    text: &mut String,
+    first: u64,
+    workers: Option<u32>,
+) -> Result<(), AllocError>
+    requires { IfSome workers IsWorkers }
+    ensures { OnOk result (string_bytes text.new ≡ string_bytes text.old ++ worker_threads first workers) }
+{
+    match workers {
+        Some(k) => {
+            push_workers_start(text)?;
+            push_threads_of(alloc, text, first, k)
+        }
+        None => Ok(()),
+    }
+}
+
+/// Appends the threads of the lanes of so many workers, below this many others.
+fn push_threads_of(
+    alloc: Global,
+    text: &mut String,
+    first: u64,
+    workers: u32,
+) -> Result<(), AllocError>
+    requires { workers ≤ 65536 }
+    ensures { OnOk result (string_bytes text.new ≡ string_bytes text.old
+        ++ flat_map (worker_thread first) (range_with_len 1 workers)) }
+{
+    for worker in 1..workers + 1 {
+        push_worker_thread(alloc, text, first, worker)?;
+    }
+    Ok(())
+}
+
+/// Appends the process of the workers.
+fn push_workers_start(text: &mut String) -> Result<(), AllocError>
+    ensures { OnOk result (string_bytes text.new ≡ string_bytes text.old ++ workers_start) }
+{
+    write!(
+        text,
+        ",\n{{\"name\":\"process_name\",\"ph\":\"M\",\"pid\":2,\"args\":{{\"name\":\"workers\"}}}},\n{{\"name\":\"process_sort_index\",\"ph\":\"M\",\"pid\":2,\"args\":{{\"sort_index\":2}}}}"
+    )
+}
+
+/// Appends the thread of a worker's lane, below this many others.
+fn push_worker_thread(
+    alloc: Global,
+    text: &mut String,
+    first: u64,
+    worker: u32,
+) -> Result<(), AllocError>
+    ensures { OnOk result (string_bytes text.new ≡ string_bytes text.old ++ worker_thread first worker) }
+{
+    let mut name = String::new(alloc);
+    push_worker_name(&mut name, worker)?;
+    push_thread(
+        alloc,
+        text,
+        2,
+        u128::from(first) + u128::from(worker),
+        name.as_str(),
+    )
+}
+
+/// Appends a thread of a process.
+fn push_thread(
+    alloc: Global,
+    text: &mut String,
+    process: u32,
+    thread: u128,
+    name: &str,
+) -> Result<(), AllocError>
+    ensures { OnOk result (string_bytes text.new ≡ string_bytes text.old ++ thread_text process thread name.now) }
+{
+    let name = json(alloc, name)?;
+    push_thread_name(text, process, thread, name.as_str())?;
+    push_thread_place(text, process, thread)
+}
+
+/// Appends the name of a thread, which is given as JSON.
+fn push_thread_name(
+    text: &mut String,
+    process: u32,
+    thread: u128,
+    name: &str,
+) -> Result<(), AllocError>
+    ensures { OnOk result (string_bytes text.new ≡ string_bytes text.old ++ thread_name process thread name.now) }
+{
+    write!(
+        text,
+        ",\n{{\"name\":\"thread_name\",\"ph\":\"M\",\"pid\":{process},\"tid\":{thread},\"args\":{{\"name\":{name}}}}}"
+    )
+}
+
+/// Appends the place of a thread.
+fn push_thread_place(text: &mut String, process: u32, thread: u128) -> Result<(), AllocError>
+    ensures { OnOk result (string_bytes text.new ≡ string_bytes text.old ++ thread_place process thread) }
+{
+    write!(
+        text,
+        ",\n{{\"name\":\"thread_sort_index\",\"ph\":\"M\",\"pid\":{process},\"tid\":{thread},\"args\":{{\"sort_index\":{thread}}}}}"
+    )
+}
+
+/// Appends the events of all messages in the lanes of their affinities.
+fn push_affinity_events(
+    alloc: Global,
+    text: &mut String,
+    tree: &Tree,
+    assigned: &Assigned,
+    trace: &Trace,
+    given: &GivenPlan,
+    chart: &Chart,
+) -> Result<(), AllocError>
+    requires chart { IsChart (scene_of tree.now assigned.now trace.now.messages given.now) chart.now }
+    ensures { OnOk result (string_bytes text.new ≡ string_bytes text.old
+        ++ affinity_events (scene_of tree.now assigned.now trace.now.messages given.now)) }
+{
+    for n in 1..chart.plan.len() + 1 {
+        let affinity = assigned.of(n);
+        let row = chart.rows[affinity.0 as usize];
+        let event = event_of(chart, 1, row, n);
+        let name = trace.message(n).name.as_str();
+        push_event(alloc, text, &event, name, tree.name(affinity))?;
+    }
+    Ok(())
+}
+
+/// Appends the events of all messages that have a worker in the lanes of their workers, which stand below this many others.
+fn push_worker_events(
+    alloc: Global,
+    text: &mut String,
+    tree: &Tree,
+    assigned: &Assigned,
+    trace: &Trace,
+    given: &GivenPlan,
+    chart: &Chart,
+    first: u64,
+) -> Result<(), AllocError>
+    requires chart { IsChart (scene_of tree.now assigned.now trace.now.messages given.now) chart.now }
+    requires few { first ≤ 65536 }
+    requires first { first ≡ length (lanes_in (scene_of tree.now assigned.now trace.now.messages given.now)) }
+    ensures { OnOk result (string_bytes text.new ≡ string_bytes text.old
+        ++ worker_events (scene_of tree.now assigned.now trace.now.messages given.now)) }
+{
+    let _messages = given.len();
+    for n in 1..chart.plan.len() + 1 {
+        if let Some(row) = row_of_worker(first, given.workers(), given.row(n).worker) {
+            let event = event_of(chart, 2, row, n);
+            let name = trace.message(n).name.as_str();
+            push_event(alloc, text, &event, name, tree.name(assigned.of(n)))?;
+        }
+    }
+    Ok(())
+}
+
+/// The event of message `n` in this row of a process.
+fn event_of(chart: &Chart, process: u32, row: u64, n: u32) -> Event
+    requires from { 1 ≤ n }
+    requires to { n ≤ length chart.now.plan.timings }
+    requires links { length chart.now.plan.timings < length chart.now.links.items }
+    ensures { (scene : Scene) → IsChart scene chart.now → result ≡ event_at scene process row n }
+{
+    Event {
+        message: n,
+        process,
+        thread: u128::from(row) + 1,
+        start: chart.plan.start(n),
+        cost: chart.plan.cost(n),
+        release: chart.plan.release(n),
+        is_link: chart.links[n as usize],
+    }
+}
+
+/// Appends an event.
+fn push_event(
+    alloc: Global,
+    text: &mut String,
+    event: &Event,
+    name: &str,
+    affinity: &str,
+) -> Result<(), AllocError>
+    ensures { OnOk result (string_bytes text.new ≡ string_bytes text.old ++ event_text event.now name.now affinity.now) }
+{
+    let name = json(alloc, name)?;
+    let affinity = json(alloc, affinity)?;
+    let category = category(event.is_link);
+    push_event_start(text, name.as_str(), category, event.start, event.cost)?;
+    push_event_thread(text, event.process, event.thread)?;
+    push_event_args(
+        text,
+        event.message,
+        name.as_str(),
+        affinity.as_str(),
+        event.release,
+    )
+}
+
+/// Appends what runs, from when and for how long, with its name as JSON.
+fn push_event_start(
+    text: &mut String,
+    name: &str,
+    category: &str,
+    start: u64,
+    cost: u64,
+) -> Result<(), AllocError>
+    ensures { OnOk result (string_bytes text.new ≡ string_bytes text.old ++ event_start name.now category.now start cost) }
+{
+    write!(
+        text,
+        ",\n{{\"name\":{name},\"cat\":\"{category}\",\"ph\":\"X\",\"ts\":{start},\"dur\":{cost},"
+    )
+}
+
+/// Appends where it runs.
+fn push_event_thread(text: &mut String, process: u32, thread: u128) -> Result<(), AllocError>
+    ensures { OnOk result (string_bytes text.new ≡ string_bytes text.old ++ event_thread process thread) }
+{
+    write!(text, "\"pid\":{process},\"tid\":{thread},")
+}
+
+/// Appends what is told of a message, with its name and that of its affinity as JSON.
+fn push_event_args(
+    text: &mut String,
+    message: u32,
+    name: &str,
+    affinity: &str,
+    release: u64,
+) -> Result<(), AllocError>
+    ensures { OnOk result (string_bytes text.new ≡ string_bytes text.old ++ event_args message name.now affinity.now release) }
+{
+    write!(
+        text,
+        "\"args\":{{\"number\":{message},\"name\":{name},\"affinity\":{affinity},\"release\":{release}}}}}"
+    )
+}
+
+/// The category of a message.
+fn category(is_link: bool) -> &'static str
+    ensures { result.now ≡ category is_link }
+{
+    if is_link { "chain" } else { "message" }
+}
+
+/// A text as JSON.
+fn json(alloc: Global, text: &str) -> Result<String, AllocError>
+    ensures { IfOk result (λ json. string_bytes json ≡ quoted text.now) }
+{
+    Value::try_from_str(alloc, text)?.to_string(alloc)
+}
+
+/// Appends the end of the document.
+fn push_document_end(text: &mut String) -> Result<(), AllocError>
+    ensures { OnOk result (string_bytes text.new ≡ string_bytes text.old ++ document_end) }
+{
+    write!(text, "\n]}}\n")
+}

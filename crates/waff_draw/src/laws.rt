@@ -1,0 +1,15 @@
+//! What holds of the lanes of every picture. Each law is a function that does nothing and whose contract is the law.
+
+ghost use Rattle.std.specs.Prelude.{ℕ, List};
+ghost use Rattle.waff_model.specs.Tree.{IsTree, Node};
+ghost use Rattle.waff_draw.specs.Laws.{LaneIsOne, RowIsOfLane};
+
+/// An affinity that has a message has one lane, and no other affinity has any.
+pub fn lane_is_one()
+    ensures one { (tree : List Node) (assigned : List ℕ) → IsTree tree → LaneIsOne tree assigned }
+{}
+
+/// The row in which the messages of an affinity are drawn is that of its lane.
+pub fn row_is_of_lane()
+    ensures row { (tree : List Node) (assigned : List ℕ) → IsTree tree → RowIsOfLane tree assigned }
+{}

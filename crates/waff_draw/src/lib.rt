@@ -1,0 +1,22 @@
+//! A picture of a plan, whoever made it: a lane for each affinity and each worker, a bar for each message.
+//!
+//! - `lanes`: the affinities that have a message, in preorder; `marks`: which numbers a list has; `laws`: each has one lane,
+//!   where its bars are.
+//! - `axis`: round numbers of ticks; `xml`: names in a document of markup.
+//! - `svg`: the text of the picture; `bars`: its bars; `pieces`: what both are made of.
+//! - `events`: the same as events of threads, for a viewer of traces.
+#![tactic(auto)]
+
+mod axis;
+mod bars;
+mod events;
+mod lanes;
+mod laws;
+mod marks;
+mod pieces;
+mod svg;
+mod xml;
+
+pub use events::events_text;
+pub use laws::{lane_is_one, row_is_of_lane};
+pub use svg::svg_text;

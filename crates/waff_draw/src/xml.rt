@@ -1,0 +1,28 @@
+//! Text in a document of markup.
+
+ghost use Rattle.std.specs.Prelude.{◌≡◌, ◌++◌, OnOk, string_bytes};
+ghost use Rattle.waff_draw.specs.Xml.{xml_char, xml_text};
+
+use std::alloc::AllocError;
+
+/// Appends the characters of a text, those of markup by their entities.
+pub(crate) fn push_xml(text: &mut String, added: &str) -> Result<(), AllocError>
+    ensures { OnOk result (string_bytes text.new ≡ string_bytes text.old ++ xml_text added.now) }
+{
+    for character in added.chars() {
+        push_character(text, character)?;
+    }
+    Ok(())
+}
+
+/// Appends one character, by its entity where it is one of markup.
+fn push_character(text: &mut String, character: char) -> Result<(), AllocError>
+    ensures { OnOk result (string_bytes text.new ≡ string_bytes text.old ++ xml_char character) }
+{
+    match character {
+        '&' => text.push_str("&amp;"),
+        '<' => text.push_str("&lt;"),
+        '>' => text.push_str("&gt;"),
+        _ => text.push(character),
+    }
+}
