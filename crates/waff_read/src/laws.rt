@@ -57,8 +57,8 @@ pub fn classical_has_two_levels()
     ensures { (bytes : List ℕ) (layout : Hierarchy) → ClassicalHasTwoLevels bytes layout }
 {}
 
-/// Rows are read as a tree exactly where there is one and each is an affinity, whose parent is one of those before it; and
-/// the affinities of the tree are theirs.
+/// Rows are read as a tree exactly where there is one and each is an affinity, whose parent is one
+/// of those before it; and the affinities of the tree are theirs.
 pub fn tree_is_exact()
     ensures { (rows : List Data) → TreeIsExact rows }
 {}
