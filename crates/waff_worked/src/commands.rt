@@ -1,130 +1,74 @@
-//! The commands on a small hierarchy and its trace: what they write, and what they refuse first.
+//! The files of a command, refused in order: the hierarchy before the trace, and the trace before the plan.
 
 use std::alloc::Global;
+use std::process::Abort;
 use std::test::Fail;
 use std::thread::Threads;
-use waff_check::Verdict;
-use waff_plan_text::PlanTextError;
-use waff_read::{HierError, TraceError};
-use waff_tool::{ToolError, assign_text, check_text, plan_text};
+use waff_samples::{H1, X1};
+use waff_tool::{assign_text, check_text};
 
-const HIERARCHY: &str = "model = \"hierarchical\"
-    affinity = [{ name = \"Serial\" }, { name = \"A\", parent = \"Serial\" }]
-    space = [{ name = \"f\", size = 2 }]
-    map = [{ space = \"f\", unit = 1, to = [\"A\", \"Serial\"] }]";
-
-const TRACE: &str = "message,cost,ops\nm1,4,set f:0 5\nm2,1,copy f:1 f:0\n";
-
-#[test]
-fn write_affinities(rt: HostRuntime) -> Result<(), Fail> {
-    let mut writer = Vec::new(rt.alloc());
-    assign_text(
-        rt.alloc(),
-        HIERARCHY.as_bytes(),
-        TRACE.as_bytes(),
-        &mut writer,
-    )?;
-    let text = "message,name,affinity\n1,m1,A\n2,m2,Serial\n";
-    assert_eq!(rt; writer.as_slice(), text.as_bytes());
-    Ok(())
-}
-
-#[test]
-fn write_plans(rt: HostRuntime) -> Result<(), Fail> {
-    let (hierarchy, trace) = (HIERARCHY.as_bytes(), TRACE.as_bytes());
-    let mut writer = Vec::new(rt.alloc());
-    plan_text(rt.alloc(), hierarchy, trace, None, &mut writer)?;
-    let text = "message,affinity,start,finish,worker\n1,A,0,4,-\n2,Serial,4,5,-\n\
-        workers,-\ntotal,5\nlength,5\nchain,1 2\ncost,5\nbound,5,5\n";
-    assert_eq!(rt; writer.as_slice(), text.as_bytes());
-    let mut writer = Vec::new(rt.alloc());
-    plan_text(rt.alloc(), hierarchy, trace, Some(2), &mut writer)?;
-    let text = "message,affinity,start,finish,worker\n1,A,0,4,1\n2,Serial,4,5,1\n\
-        workers,2\ntotal,5\nlength,5\nchain,1 2\ncost,5\nbound,10,10\n";
-    assert_eq!(rt; writer.as_slice(), text.as_bytes());
-    Ok(())
-}
-
-#[test]
-fn find_their_own_plan_shortest(rt: HostRuntime) -> Result<(), Fail> {
-    let alloc = rt.alloc();
-    let (hierarchy, trace) = (HIERARCHY.as_bytes(), TRACE.as_bytes());
-    let mut plan = Vec::new(alloc);
-    plan_text(alloc, hierarchy, trace, None, &mut plan)?;
-    let mut writer = Vec::new(alloc);
-    let verdict = check_text(&rt, alloc, hierarchy, trace, plan.as_slice(), &mut writer)?;
-    assert_eq!(rt; verdict, Verdict::Shortest);
-    assert_eq!(rt; writer.as_slice(), b"shortest\n".as_slice());
-    Ok(())
-}
-
-/// What a check of these texts answers, and how much it writes.
-fn answer<R: Threads + Sync>(
+/// A check of these texts has to be answered so, with so many bytes written.
+fn is_answered<R: Threads + Sync + Abort>(
     rt: &R,
     alloc: Global,
-    hierarchy: &str,
-    trace: &str,
-    plan: &str,
-) -> (Result<Verdict, ToolError>, usize) {
+    texts: [&str; 3],
+    wanted: &str,
+    written: usize,
+) -> Result<(), Fail> {
+    let [hierarchy, trace, plan] = texts.map(|text| text.as_bytes());
     let mut writer = Vec::new(alloc);
-    let result = check_text(
-        rt,
-        alloc,
-        hierarchy.as_bytes(),
-        trace.as_bytes(),
-        plan.as_bytes(),
-        &mut writer,
-    );
-    (result, writer.len())
+    let answer = check_text(rt, alloc, hierarchy, trace, plan, &mut writer);
+    let told = format!(in alloc; "{answer:?}")?;
+    assert_eq!(rt; told.as_str(), wanted);
+    assert!(rt; writer.len() == written);
+    Ok(())
 }
 
 /// The second message starts before the first has finished.
-const OVERLAPPING: &str = "message,affinity,start,finish,worker\n1,A,0,4,-\n2,Serial,3,4,-\n\
+const OVERLAPPING: &str = "message,affinity,start,finish,worker\n1,A0,0,4,-\n2,A0,3,4,-\n\
     workers,-\ntotal,5\nlength,4\nchain,1 2\ncost,5\nbound,4,5\n";
 
+const TWO: &str = "message,cost,ops\nm1,4,set f:0 5\nm2,1,read f:0\n";
+
+/// The texts of a check, its answer, and how many bytes it writes.
+const CHECKS: &[([&str; 3], &str, usize)] = &[
+    (["", "", ""], "Err(Hier { file: 1, fault: Model })", 0),
+    ([H1, "", ""], "Err(Trace(Header { at: 1 }))", 0),
+    ([H1, X1, ""], "Err(PlanText(Header { at: 1 }))", 0),
+    (
+        [H1, TWO, OVERLAPPING],
+        "Ok(Overlap { first: 1, second: 2 })",
+        12,
+    ),
+];
+
 #[test]
-fn check_the_files_in_order(rt: HostRuntime) {
-    let (file, fault) = (1, HierError::Model);
-    let (first, second) = (1, 2);
-    for (hierarchy, trace, plan, result, written) in [
-        ("", "", "", Err(ToolError::Hier { file, fault }), 0),
-        (
-            HIERARCHY,
-            "",
-            "",
-            Err(ToolError::Trace(TraceError::Header { at: 1 })),
-            0,
-        ),
-        (
-            HIERARCHY,
-            TRACE,
-            "",
-            Err(ToolError::PlanText(PlanTextError::Header { at: 1 })),
-            0,
-        ),
-        (
-            HIERARCHY,
-            TRACE,
-            OVERLAPPING,
-            Ok(Verdict::Overlap { first, second }),
-            12,
-        ),
-    ] {
-        let told = answer(&rt, rt.alloc(), hierarchy, trace, plan);
-        assert!(rt; told == (result, written));
+fn are_checked_in_order(rt: HostRuntime) -> Result<(), Fail> {
+    for (texts, wanted, written) in CHECKS {
+        is_answered(&rt, rt.alloc(), *texts, wanted, *written)?;
     }
+    Ok(())
+}
+
+/// Affinities of these texts have to be refused so, with nothing written.
+fn is_refused(
+    rt: &impl Abort,
+    alloc: Global,
+    hierarchy: &str,
+    trace: &str,
+    wanted: &str,
+) -> Result<(), Fail> {
+    let mut writer = Vec::new(alloc);
+    let answer = assign_text(alloc, hierarchy.as_bytes(), trace.as_bytes(), &mut writer);
+    let told = format!(in alloc; "{answer:?}")?;
+    assert_eq!(rt; told.as_str(), wanted);
+    assert!(rt; writer.is_empty());
+    Ok(())
 }
 
 #[test]
-fn refuse_the_hierarchy_before_the_trace(rt: HostRuntime) {
-    let (file, fault) = (1, HierError::Model);
-    for (hierarchy, error) in [
-        ("", ToolError::Hier { file, fault }),
-        (HIERARCHY, ToolError::Trace(TraceError::Header { at: 1 })),
-    ] {
-        let mut writer = Vec::new(rt.alloc());
-        let result = assign_text(rt.alloc(), hierarchy.as_bytes(), b"", &mut writer);
-        assert!(rt; result == Err(error));
-        assert!(rt; writer.is_empty());
-    }
+fn refuse_the_hierarchy_before_the_trace(rt: HostRuntime) -> Result<(), Fail> {
+    let alloc = rt.alloc();
+    is_refused(&rt, alloc, "", "", "Err(Hier { file: 1, fault: Model })")?;
+    is_refused(&rt, alloc, H1, "", "Err(Trace(Header { at: 1 }))")
 }

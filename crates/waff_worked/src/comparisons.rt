@@ -1,10 +1,11 @@
 //! Comparisons of two hierarchies.
 
 use crate::changes::changed;
-use std::alloc::Global;
+use std::alloc::{AllocError, Global};
 use std::process::Abort;
 use std::test::Fail;
 use waff_assign::assign;
+use waff_model::{Layout, Trace};
 use waff_order::refines;
 use waff_read::{HierError, read_hierarchy, read_trace};
 use waff_samples::{C1, COMPARE_C1_H1_X1, COMPARE_C2_H1, H1, X1, X2};
@@ -77,14 +78,29 @@ fn want_a_second_hierarchy(rt: HostRuntime) -> Result<(), Fail> {
     are_refused(&rt, rt.alloc(), C1, "", ToolError::Hier { file: 2, fault })
 }
 
+/// The hierarchy with a smaller space than the classical sample has.
+fn smaller(alloc: Global, hierarchy: &str) -> Result<String, Fail> {
+    changed(
+        alloc,
+        hierarchy,
+        "name = \"g\"\nsize = 8",
+        "name = \"g\"\nsize = 4",
+    )
+}
+
 #[test]
 fn want_equal_sizes_even_of_one_model(rt: HostRuntime) -> Result<(), Fail> {
-    let alloc = rt.alloc();
-    let (eight, four) = ("name = \"g\"\nsize = 8", "name = \"g\"\nsize = 4");
-    let smaller = changed(alloc, H1, eight, four)?;
-    are_refused(&rt, alloc, C1, smaller.as_str(), ToolError::SpacesDiffer)?;
-    let smaller = changed(alloc, C1, eight, four)?;
-    are_refused(&rt, alloc, C1, smaller.as_str(), ToolError::SpacesDiffer)
+    for hierarchy in [H1, C1] {
+        let smaller = smaller(rt.alloc(), hierarchy)?;
+        are_refused(
+            &rt,
+            rt.alloc(),
+            C1,
+            smaller.as_str(),
+            ToolError::SpacesDiffer,
+        )?;
+    }
+    Ok(())
 }
 
 #[test]
@@ -93,15 +109,37 @@ fn want_two_models(rt: HostRuntime) -> Result<(), Fail> {
     are_refused(&rt, rt.alloc(), H1, H1, ToolError::ModelsSame)
 }
 
+/// Whether the first layout refines the second on the trace, which has to be one for both.
+fn refines_on(
+    rt: &impl Abort,
+    alloc: Global,
+    first: &Layout,
+    second: &Layout,
+    trace: &Trace,
+) -> Result<bool, AllocError> {
+    assert!(rt; trace.fits(first));
+    assert!(rt; trace.fits(second));
+    let fine = assign(alloc, first, trace)?;
+    let coarse = assign(alloc, second, trace)?;
+    Ok(refines(first.tree(), &fine, second.tree(), &coarse))
+}
+
+/// Whether the layout refines the hierarchy on the first trace.
+fn layout_refines(
+    rt: &impl Abort,
+    alloc: Global,
+    layout: &Layout,
+    hierarchy: &str,
+) -> Result<bool, Fail> {
+    let second = read_hierarchy(alloc, hierarchy.as_bytes())?;
+    let trace = read_trace(alloc, layout, X1.as_bytes())?;
+    Ok(refines_on(rt, alloc, layout, &second, &trace)?)
+}
+
 /// Whether the first hierarchy refines the second on the first trace.
 fn first_refines(rt: &impl Abort, alloc: Global, first: &str, second: &str) -> Result<bool, Fail> {
     let first = read_hierarchy(alloc, first.as_bytes())?;
-    let second = read_hierarchy(alloc, second.as_bytes())?;
-    let trace = read_trace(alloc, &first, X1.as_bytes())?;
-    assert!(rt; trace.fits(&second));
-    let fine = assign(alloc, &first, &trace)?;
-    let coarse = assign(alloc, &second, &trace)?;
-    Ok(refines(first.tree(), &fine, second.tree(), &coarse))
+    layout_refines(rt, alloc, &first, second)
 }
 
 #[test]

@@ -106,7 +106,7 @@ fn is_taken_byte_by_byte<R: Threads + Sync + Abort>(
 }
 
 /// The calls with the texts that they write for the samples.
-const TEXTS: [(Call, &str); 5] = [
+const TEXTS: &[(Call, &str)] = &[
     (Call::Assign, ASSIGN_H1_X1),
     (Call::Plan, PLAN_H1_X1),
     (Call::PlanForTwo, PLAN_H1_X1_WORKERS2),
@@ -115,25 +115,11 @@ const TEXTS: [(Call, &str); 5] = [
 ];
 
 #[test]
-fn leave_the_part_that_was_taken_before_an_error(rt: HostRuntime) -> Result<(), Fail> {
+fn leave_the_part_that_was_taken(rt: HostRuntime) -> Result<(), Fail> {
     for (call, text) in TEXTS {
-        fails_at_each_byte(&rt, rt.alloc(), call, text, true)?;
-    }
-    Ok(())
-}
-
-#[test]
-fn leave_the_part_before_no_byte_is_taken(rt: HostRuntime) -> Result<(), Fail> {
-    for (call, text) in TEXTS {
-        fails_at_each_byte(&rt, rt.alloc(), call, text, false)?;
-    }
-    Ok(())
-}
-
-#[test]
-fn are_taken_byte_by_byte(rt: HostRuntime) -> Result<(), Fail> {
-    for (call, text) in TEXTS {
-        is_taken_byte_by_byte(&rt, rt.alloc(), call, text)?;
+        fails_at_each_byte(&rt, rt.alloc(), *call, text, true)?;
+        fails_at_each_byte(&rt, rt.alloc(), *call, text, false)?;
+        is_taken_byte_by_byte(&rt, rt.alloc(), *call, text)?;
     }
     Ok(())
 }
@@ -156,6 +142,12 @@ impl Read for Breaks {
     }
 }
 
+/// The reader has to fail so at this limit.
+fn fails(rt: &impl Abort, alloc: Global, mut reader: Breaks, limit: u64, fault: ReadFault) {
+    let result = read_whole(alloc, &mut reader, limit);
+    assert!(rt; result.err() == Some(fault));
+}
+
 #[test]
 fn fail_after_any_number_of_bytes(rt: HostRuntime) {
     for left in 0..210 {
@@ -165,9 +157,15 @@ fn fail_after_any_number_of_bytes(rt: HostRuntime) {
             ReadFault::TooLong
         };
         for at_once in [1, 7, 1000] {
-            let mut reader = Breaks { left, at_once };
-            let result = read_whole(rt.alloc(), &mut reader, 200);
-            assert_eq!(rt; result.err(), Some(fault));
+            fails(&rt, rt.alloc(), Breaks { left, at_once }, 200, fault);
         }
     }
+    let (left, at_once) = (3, 3);
+    fails(
+        &rt,
+        rt.alloc(),
+        Breaks { left, at_once },
+        5,
+        ReadFault::Failed,
+    );
 }

@@ -3,11 +3,10 @@
 use std::fmt::Write;
 use std::test::Fail;
 
-/// Appends the number, after a space where it is not the first.
-pub fn push_number(words: &mut String, number: u64) -> Result<(), Fail> {
-    if !words.is_empty() {
-        words.push_str(" ")?;
+/// Appends the numbers, each after a space.
+pub fn push_numbers(words: &mut String, numbers: &[u32]) -> Result<(), Fail> {
+    for number in numbers {
+        write!(words, " {number}")?;
     }
-    write!(words, "{number}")?;
     Ok(())
 }

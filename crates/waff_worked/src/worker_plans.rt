@@ -3,13 +3,15 @@
 ghost use Rattle.std.specs.Prelude.{◌≤◌};
 ghost use Rattle.waff_model.specs.declared.limits.TheConstants.{MAX_WORKERS};
 
-use crate::words::push_number;
-use std::alloc::Global;
+use crate::words::push_numbers;
+use std::alloc::{AllocError, Global};
+use std::fmt::Write;
 use std::process::Abort;
 use std::test::Fail;
 use waff_assign::assign;
 use waff_list::{WorkerPlan, list_chain, list_plan};
 use waff_model::limits::MAX_TICK;
+use waff_model::{Layout, Trace};
 use waff_order::Needs;
 use waff_order::predecessors::needs;
 use waff_plan::{Chain, Plan};
@@ -17,254 +19,226 @@ use waff_read::{read_hierarchy, read_trace};
 use waff_samples::{H1, PLAN_H1_X1_WORKERS2, X1, X2};
 use waff_tool::plan_text;
 
-/// What a case has to tell of the plan of a trace for workers under the hierarchical sample: the starts, the workers, the
-/// order and the printed chain, each joined by spaces, numbers, and the text.
-#[derive(Clone, Copy)]
-struct Case<'a> {
-    starts: &'a str,
-    workers: &'a str,
-    order: &'a str,
-    length: u64,
-    chain: &'a str,
-    cost: u64,
-    release: u64,
-    text: &'a str,
-}
-
-fn tells(rt: &impl Abort, alloc: Global, trace: &str, k: u32, case: Case<'_>) -> Result<(), Fail>
-    requires some { 1 ≤ k }
-    requires few { k ≤ MAX_WORKERS }
-{
-    has_text(rt, alloc, trace, k, case.text)?;
-    let told = listed(alloc, trace, k)?;
-    assert_eq!(rt; told.starts.as_str(), case.starts);
-    assert_eq!(rt; told.workers.as_str(), case.workers);
-    assert_eq!(rt; told.order.as_str(), case.order);
-    assert_eq!(rt; told.length, case.length);
-    assert_eq!(rt; told.chain.as_str(), case.chain);
-    assert_eq!(rt; told.cost, case.cost);
-    assert_eq!(rt; told.release, case.release);
-    Ok(())
-}
-
-/// The text of the plan has to be this.
+/// The text of the plan for k workers has to be this.
 fn has_text(rt: &impl Abort, alloc: Global, trace: &str, k: u32, text: &str) -> Result<(), Fail>
     requires some { 1 ≤ k }
     requires few { k ≤ MAX_WORKERS }
 {
+    let (hierarchy, trace) = (H1.as_bytes(), trace.as_bytes());
     let mut written = Vec::new(alloc);
-    plan_text(
-        alloc,
-        H1.as_bytes(),
-        trace.as_bytes(),
-        Some(k),
-        &mut written,
-    )?;
+    plan_text(alloc, hierarchy, trace, Some(k), &mut written)?;
     assert_eq!(rt; written.as_slice(), text.as_bytes());
     Ok(())
 }
 
-/// What is told of a plan for workers.
-#[derive(Drop)]
-struct Told {
-    starts: String,
-    workers: String,
-    order: String,
-    length: u64,
-    chain: String,
-    cost: u64,
-    release: u64,
+/// The plan for k workers and its chain, of a trace that has to be one for the layout.
+fn made(
+    rt: &impl Abort,
+    alloc: Global,
+    layout: &Layout,
+    trace: &Trace,
+    k: u32,
+) -> Result<(WorkerPlan, Chain), AllocError>
+    requires some { 1 ≤ k }
+    requires few { k ≤ MAX_WORKERS }
+{
+    assert!(rt; trace.fits(layout));
+    let assigned = assign(alloc, layout, trace)?;
+    let needs = needs(alloc, layout.tree(), &assigned)?;
+    let made = list_plan(alloc, &needs, trace, k)?;
+    let chain = list_chain(alloc, layout.tree(), &assigned, &made)?;
+    Ok((made, chain))
 }
 
-/// The plan of a trace for k workers under the hierarchical sample.
-fn listed(alloc: Global, trace: &str, k: u32) -> Result<Told, Fail>
+/// The plan of a trace for k workers under the hierarchical sample, and its chain.
+fn listed(rt: &impl Abort, alloc: Global, trace: &str, k: u32) -> Result<(WorkerPlan, Chain), Fail>
     requires some { 1 ≤ k }
     requires few { k ≤ MAX_WORKERS }
 {
     let layout = read_hierarchy(alloc, H1.as_bytes())?;
     let trace = read_trace(alloc, &layout, trace.as_bytes())?;
-    let assigned = assign(alloc, &layout, &trace)?;
-    let needs = needs(alloc, layout.tree(), &assigned)?;
-    let made = list_plan(alloc, &needs, &trace, k)?;
-    let chain = list_chain(alloc, layout.tree(), &assigned, &made)?;
-    told_of(alloc, &made, &chain)
+    Ok(made(rt, alloc, &layout, &trace, k)?)
 }
 
-fn told_of(alloc: Global, made: &WorkerPlan, chain: &Chain) -> Result<Told, Fail> {
-    Ok(Told {
-        starts: starts(alloc, made)?,
-        workers: workers(alloc, made)?,
-        order: joined(alloc, made.order())?,
-        length: made.plan().length(),
-        chain: joined(alloc, chain.messages())?,
-        cost: chain.cost(),
-        release: chain.release(),
-    })
+/// What is told of a plan: starts, workers, order, length, and the chain with its cost and release.
+fn told(alloc: Global, made: &WorkerPlan, chain: &Chain) -> Result<String, Fail> {
+    let mut told = String::new(alloc);
+    push_starts(&mut told, made)?;
+    push_workers(&mut told, made)?;
+    push_order(&mut told, made)?;
+    push_chain(&mut told, chain)?;
+    Ok(told)
 }
 
-fn starts(alloc: Global, made: &WorkerPlan) -> Result<String, Fail> {
-    let mut words = String::new(alloc);
+fn push_starts(told: &mut String, made: &WorkerPlan) -> Result<(), Fail> {
+    told.push_str("starts")?;
     for n in 1..made.plan().len() + 1 {
-        push_number(&mut words, made.plan().start(n))?;
+        write!(told, " {}", made.plan().start(n))?;
     }
-    Ok(words)
+    Ok(())
 }
 
-fn workers(alloc: Global, made: &WorkerPlan) -> Result<String, Fail> {
-    let mut words = String::new(alloc);
+fn push_workers(told: &mut String, made: &WorkerPlan) -> Result<(), Fail> {
+    told.push_str(" workers")?;
     for n in 1..made.plan().len() + 1 {
-        push_number(&mut words, u64::from(made.worker(n)))?;
+        write!(told, " {}", made.worker(n))?;
     }
-    Ok(words)
+    Ok(())
 }
 
-/// The numbers, joined by spaces.
-fn joined(alloc: Global, numbers: &[u32]) -> Result<String, Fail> {
-    let mut words = String::new(alloc);
-    for number in numbers {
-        push_number(&mut words, u64::from(*number))?;
-    }
-    Ok(words)
+fn push_order(told: &mut String, made: &WorkerPlan) -> Result<(), Fail> {
+    told.push_str(" order")?;
+    push_numbers(told, made.order())?;
+    write!(told, " length {}", made.plan().length())?;
+    Ok(())
 }
 
-#[test]
-fn of_two_workers(rt: HostRuntime) -> Result<(), Fail> {
-    let case = Case {
-        starts: "0 0 4 3 8 9",
-        workers: "1 2 1 2 1 1",
-        order: "1 2 4 3 5 6",
-        length: 11,
-        chain: "4 5 6",
-        cost: 8,
-        release: 0,
-        text: PLAN_H1_X1_WORKERS2,
-    };
-    tells(&rt, rt.alloc(), X1, 2, case)
+fn push_chain(told: &mut String, chain: &Chain) -> Result<(), Fail> {
+    told.push_str(" chain")?;
+    push_numbers(told, chain.messages())?;
+    write!(told, " cost {} release {}", chain.cost(), chain.release())?;
+    Ok(())
 }
 
-#[test]
-fn of_one_worker(rt: HostRuntime) -> Result<(), Fail> {
-    let case = Case {
-        starts: "0 4 7 9 14 15",
-        workers: "1 1 1 1 1 1",
-        order: "1 2 3 4 5 6",
-        length: 17,
-        chain: "4 5 6",
-        cost: 8,
-        release: 0,
-        text: "message,affinity,start,finish,worker\n1,A0,0,4,1\n2,B0,4,7,1\n3,VolA,7,9,1\n\
-            4,B1,9,14,1\n5,Serial,14,15,1\n6,A0,15,17,1\nworkers,1\ntotal,17\nlength,17\nchain,4 5 6\n\
-            cost,8\nbound,17,17\n",
-    };
-    tells(&rt, rt.alloc(), X1, 1, case)
-}
-
-#[test]
-fn of_no_message(rt: HostRuntime) -> Result<(), Fail> {
-    let case = Case {
-        starts: "",
-        workers: "",
-        order: "",
-        length: 0,
-        chain: "",
-        cost: 0,
-        release: 0,
-        text: "message,affinity,start,finish,worker\nworkers,2\ntotal,0\nlength,0\nchain,\ncost,0\nbound,0,0\n",
-    };
-    tells(&rt, rt.alloc(), "message,cost,ops\n", 2, case)
+/// The plan for k workers has to be told so.
+fn is_told(rt: &impl Abort, alloc: Global, trace: &str, k: u32, wanted: &str) -> Result<(), Fail>
+    requires some { 1 ≤ k }
+    requires few { k ≤ MAX_WORKERS }
+{
+    let (made, chain) = listed(rt, alloc, trace, k)?;
+    let told = told(alloc, &made, &chain)?;
+    assert_eq!(rt; told.as_str(), wanted);
+    Ok(())
 }
 
 const AS_LONG_AS_THE_BOUND: &str =
     "message,cost,ops\nm1,1,read f:0\nm2,1,read g:0\nm3,2,read g:4\n";
 
-#[test]
-fn as_long_as_the_bound(rt: HostRuntime) -> Result<(), Fail> {
-    let case = Case {
-        starts: "0 0 1",
-        workers: "1 2 1",
-        order: "1 2 3",
-        length: 3,
-        chain: "3",
-        cost: 2,
-        release: 0,
-        text: "message,affinity,start,finish,worker\n1,A0,0,1,1\n2,B0,0,1,2\n3,B1,1,3,1\n\
+/// Traces with a number of workers, what is told of their plans, and the text.
+const CASES: &[(&str, u32, &str, &str)] = &[
+    (
+        X1,
+        2,
+        "starts 0 0 4 3 8 9 workers 1 2 1 2 1 1 order 1 2 4 3 5 6 length 11 \
+            chain 4 5 6 cost 8 release 0",
+        PLAN_H1_X1_WORKERS2,
+    ),
+    (
+        X1,
+        1,
+        "starts 0 4 7 9 14 15 workers 1 1 1 1 1 1 order 1 2 3 4 5 6 length 17 \
+            chain 4 5 6 cost 8 release 0",
+        "message,affinity,start,finish,worker\n1,A0,0,4,1\n2,B0,4,7,1\n3,VolA,7,9,1\n\
+            4,B1,9,14,1\n5,Serial,14,15,1\n6,A0,15,17,1\nworkers,1\ntotal,17\nlength,17\nchain,4 5 6\n\
+            cost,8\nbound,17,17\n",
+    ),
+    (
+        "message,cost,ops\n",
+        2,
+        "starts workers order length 0 chain cost 0 release 0",
+        "message,affinity,start,finish,worker\nworkers,2\ntotal,0\nlength,0\nchain,\ncost,0\nbound,0,0\n",
+    ),
+    (
+        AS_LONG_AS_THE_BOUND,
+        2,
+        "starts 0 0 1 workers 1 2 1 order 1 2 3 length 3 chain 3 cost 2 release 0",
+        "message,affinity,start,finish,worker\n1,A0,0,1,1\n2,B0,0,1,2\n3,B1,1,3,1\n\
             workers,2\ntotal,4\nlength,3\nchain,3\ncost,2\nbound,6,6\n",
-    };
-    tells(&rt, rt.alloc(), AS_LONG_AS_THE_BOUND, 2, case)
-}
-
-#[test]
-fn with_releases(rt: HostRuntime) -> Result<(), Fail> {
-    let case = Case {
-        starts: "0 4 10 0 12",
-        workers: "1 1 1 2 1",
-        order: "1 4 2 3 5",
-        length: 13,
-        chain: "3 5",
-        cost: 3,
-        release: 10,
-        text: "message,affinity,start,finish,worker\n1,A0,0,4,1\n2,B0,4,7,1\n3,VolA,10,12,1\n\
+    ),
+    (
+        X2,
+        2,
+        "starts 0 4 10 0 12 workers 1 1 1 2 1 order 1 4 2 3 5 length 13 \
+            chain 3 5 cost 3 release 10",
+        "message,affinity,start,finish,worker\n1,A0,0,4,1\n2,B0,4,7,1\n3,VolA,10,12,1\n\
             4,B1,0,5,2\n5,Serial,12,13,1\nworkers,2\ntotal,15\nlength,13\nchain,3 5\nrelease,10\n\
             cost,3\nbound,26,38\n",
-    };
-    tells(&rt, rt.alloc(), X2, 2, case)
-}
-
-#[test]
-fn of_one_worker_with_releases(rt: HostRuntime) -> Result<(), Fail> {
-    let case = Case {
-        starts: "0 4 12 7 14",
-        workers: "1 1 1 1 1",
-        order: "1 2 4 3 5",
-        length: 15,
-        chain: "3 5",
-        cost: 3,
-        release: 10,
-        text: "message,affinity,start,finish,worker\n1,A0,0,4,1\n2,B0,4,7,1\n3,VolA,12,14,1\n\
+    ),
+    (
+        X2,
+        1,
+        "starts 0 4 12 7 14 workers 1 1 1 1 1 order 1 2 4 3 5 length 15 \
+            chain 3 5 cost 3 release 10",
+        "message,affinity,start,finish,worker\n1,A0,0,4,1\n2,B0,4,7,1\n3,VolA,12,14,1\n\
             4,B1,7,12,1\n5,Serial,14,15,1\nworkers,1\ntotal,15\nlength,15\nchain,3 5\nrelease,10\n\
             cost,3\nbound,15,25\n",
-    };
-    tells(&rt, rt.alloc(), X2, 1, case)
-}
-
-/// The needs of the messages of a trace under the hierarchical sample.
-fn needed(alloc: Global, trace: &str) -> Result<Needs, Fail> {
-    let layout = read_hierarchy(alloc, H1.as_bytes())?;
-    let trace = read_trace(alloc, &layout, trace.as_bytes())?;
-    let assigned = assign(alloc, &layout, &trace)?;
-    Ok(needs(alloc, layout.tree(), &assigned)?)
-}
+    ),
+];
 
 #[test]
-fn wait_for_their_needs(rt: HostRuntime) -> Result<(), Fail> {
-    let alloc = rt.alloc();
-    let needs = needed(alloc, X1)?;
-    assert_eq!(rt; needs.len(), 6);
-    let expected = ["", "", "1", "", "2 3 4", "5"];
-    for n in 1..7u32 {
-        assert_eq!(rt;
-            joined(alloc, needs.of(n))?.as_str(),
-            expected[n as usize - 1],
-            "message {n}"
-        );
+fn are_as_worked_by_hand(rt: HostRuntime) -> Result<(), Fail> {
+    for (trace, k, wanted, text) in CASES {
+        let k = *k;
+        assert!(rt; 1 <= k && k <= 64);
+        is_told(&rt, rt.alloc(), trace, k, wanted)?;
+        has_text(&rt, rt.alloc(), trace, k, text)?;
     }
     Ok(())
 }
 
+/// The needs of the messages of a trace that has to be one for the layout.
+fn needs_of(
+    rt: &impl Abort,
+    alloc: Global,
+    layout: &Layout,
+    trace: &Trace,
+) -> Result<Needs, AllocError> {
+    assert!(rt; trace.fits(layout));
+    let assigned = assign(alloc, layout, trace)?;
+    needs(alloc, layout.tree(), &assigned)
+}
+
+/// The needs of the messages of a trace under the hierarchical sample.
+fn needed(rt: &impl Abort, alloc: Global, trace: &str) -> Result<Needs, Fail> {
+    let layout = read_hierarchy(alloc, H1.as_bytes())?;
+    let trace = read_trace(alloc, &layout, trace.as_bytes())?;
+    Ok(needs_of(rt, alloc, &layout, &trace)?)
+}
+
+/// The needs of each message.
+fn listed_needs(alloc: Global, needs: &Needs) -> Result<String, Fail> {
+    let mut words = String::new(alloc);
+    for n in 1..needs.len() + 1 {
+        write!(words, "{n}:")?;
+        push_numbers(&mut words, needs.of(n))?;
+        words.push_str("\n")?;
+    }
+    Ok(words)
+}
+
 #[test]
-fn wait_for_few_of_many(rt: HostRuntime) -> Result<(), Fail> {
-    let alloc = rt.alloc();
+fn wait_for_their_needs(rt: HostRuntime) -> Result<(), Fail> {
+    let needs = needed(&rt, rt.alloc(), X1)?;
+    let words = listed_needs(rt.alloc(), &needs)?;
+    assert_eq!(rt; words.as_str(), "1:\n2:\n3: 1\n4:\n5: 2 3 4\n6: 5\n");
+    Ok(())
+}
+
+/// A trace of two messages of two volumes, so many times.
+fn turns(alloc: Global, count: u32) -> Result<String, AllocError> {
     let mut trace = String::from_str(alloc, "message,cost,ops\n")?;
-    for _turn in 0..2048u32 {
+    for _turn in 0..count {
         trace.push_str("m,1,read f:0\nm,1,read g:0\n")?;
     }
-    let needs = needed(alloc, trace.as_str())?;
-    assert_eq!(rt; needs.len(), 4096);
+    Ok(trace)
+}
+
+/// How many needs there are.
+fn count(alloc: Global, needs: &Needs) -> Result<usize, AllocError> {
     let mut all = Vec::new(alloc);
     for n in 1..needs.len() + 1 {
         all.extend_from_slice(needs.of(n))?;
     }
-    assert!(rt; all.len() <= 12288, "there are {} needs", all.len());
+    Ok(all.len())
+}
+
+#[test]
+fn wait_for_few_of_many(rt: HostRuntime) -> Result<(), Fail> {
+    let trace = turns(rt.alloc(), 2048)?;
+    let needs = needed(&rt, rt.alloc(), trace.as_str())?;
+    assert!(rt; needs.len() == 4096);
+    let count = count(rt.alloc(), &needs)?;
+    assert!(rt; count <= 12288, "there are {count} needs");
     Ok(())
 }
 
@@ -272,24 +246,27 @@ fn wait_for_few_of_many(rt: HostRuntime) -> Result<(), Fail> {
 fn of_starts(
     rt: &impl Abort,
     alloc: Global,
-    trace: &str,
+    trace: &Trace,
     starts: &[u64],
-) -> Result<(u64, u64), Fail> {
-    let layout = read_hierarchy(alloc, H1.as_bytes())?;
-    let trace = read_trace(alloc, &layout, trace.as_bytes())?;
-    assert_eq!(rt; trace.len() as usize, starts.len());
+) -> Result<(u64, u64), AllocError> {
+    assert!(rt; trace.len() as usize == starts.len());
     assert!(rt; starts.iter().all(|start| *start <= MAX_TICK));
-    let plan = Plan::of_starts(alloc, &trace, starts)?;
+    let plan = Plan::of_starts(alloc, trace, starts)?;
     Ok((plan.length(), plan.total()))
 }
 
+/// Traces with starts, and the length and the total.
+const STARTS: &[(&str, &[u64], (u64, u64))] = &[
+    (X1, &[0, 0, 4, 3, 8, 9], (11, 17)),
+    (AS_LONG_AS_THE_BOUND, &[0, 1, 0], (2, 4)),
+];
+
 #[test]
 fn are_as_long_as_their_starts_say(rt: HostRuntime) -> Result<(), Fail> {
-    let alloc = rt.alloc();
-    assert_eq!(rt; of_starts(&rt, alloc, X1, &[0, 0, 4, 3, 8, 9])?, (11, 17));
-    assert_eq!(rt;
-        of_starts(&rt, alloc, AS_LONG_AS_THE_BOUND, &[0, 1, 0])?,
-        (2, 4)
-    );
+    let layout = read_hierarchy(rt.alloc(), H1.as_bytes())?;
+    for (trace, starts, wanted) in STARTS {
+        let trace = read_trace(rt.alloc(), &layout, trace.as_bytes())?;
+        assert!(rt; of_starts(&rt, rt.alloc(), &trace, starts)? == *wanted);
+    }
     Ok(())
 }
