@@ -5,7 +5,7 @@ use Rattle.std.proofs.lemmas.Option.{get_or_from_slice_get, same_Some, slice_get
 use Rattle.waff_model.specs.Tree.{Node}
 use Rattle.waff_assign.specs.Order.{IsOrdered}
 use Rattle.waff_plan.specs.Obeys.{KeepsOrder}
-use Rattle.waff_plan.specs.Work.{Work, IsNumber, finish_of}
+use Rattle.waff_plan.specs.Work.{Work, IsNumber}
 use Rattle.waff_order.specs.Needs.{AreNeeds}
 use Rattle.waff_list.specs.Seats.{ComesBefore, IsInOrder}
 use Rattle.waff_list.specs.Unique.{EachRuns}

@@ -1,7 +1,3 @@
-use Rattle.std.proofs.Common.{◌≡◌, ◌∙◌, ap, string_bytes}
-use Rattle.std.proofs.lemmas.Result.{IfOk-weaker}
-use Rattle.waff_draw.specs.Scene.{scene_of}
-use Rattle.waff_draw.specs.Svg.{svg_text}
 use Rattle.waff_tool.proofs.draws.made_picture.Goals as goal
 
 pub returns-clause-made : goal.returns-clause-made
