@@ -4,3 +4,8 @@ mod WalkLaws
 mod SlotLaws
 mod PlanLaws
 pub mod WrittenPlans
+mod RowLaws
+mod SummaryLaws
+mod PlaceLaws
+mod KeptLaws
+pub mod FaultLaws

@@ -7,4 +7,5 @@ pub mod Summaries
 pub mod PlanTexts
 pub mod Records
 pub mod Refusals
+pub mod Refused
 pub mod Laws

@@ -1,15 +1,22 @@
-//! That what is written is read. The law is a function that does nothing and whose contract is the
-//! law.
+//! What is known of all plan texts that are read or refused, and of those that are written. Each law is a
+//! function that does nothing and whose contract is the law.
 
 ghost use Rattle.std.specs.Prelude.{ℕ, List, Option};
 ghost use Rattle.waff_model.specs.Tree.{Node};
 ghost use Rattle.waff_model.specs.declared.message.Version.{Version};
 ghost use Rattle.waff_plan.specs.Work.{Work};
 ghost use Rattle.waff_plan_text.specs.Laws.{WrittenIsRead};
+ghost use Rattle.waff_plan_text.specs.Refused.{FirstFaultDecides};
 
 /// A plan is read from the text that is written of it.
 pub fn written_is_read()
     ensures read { (version : Version) (tree : List Node) (assigned : List ℕ) (work : Work) (workers : Option ℕ)
         (start : ℕ → ℕ) (worker : ℕ → Option ℕ) (chain : List ℕ)
         → WrittenIsRead version tree assigned work workers start worker chain }
+{}
+
+/// A text is refused for an error exactly where the first record with a fault has it, and no fault of
+/// a lower number. The end of the text counts as one more record.
+pub fn first_fault_decides()
+    ensures decides { (version : Version) (messages : ℕ) (bytes : List ℕ) → FirstFaultDecides version messages bytes }
 {}
