@@ -216,14 +216,14 @@ module _ (version : Version) (messages : ℕ) (before : List Record) (row : Reco
   among_rows none begins error.Memory h = h
 
 module _ (version : Version) (messages : ℕ) (rows : List Record) where
-  abbrev HoldsAt : ℕ → PlanTextError → Type 0
+  abbrev pub HoldsAt : ℕ → PlanTextError → Type 0
   HoldsAt k e = Holds version messages (take k rows) (slice_get rows k) e
 
   -- no check holds before a place
-  abbrev Clean : ℕ → Type 0
+  abbrev pub Clean : ℕ → Type 0
   Clean k = (j : ℕ) (e : PlanTextError) → j < k → HoldsAt j e → ⊥
 
-  abbrev Decides : Option PlanTextError → Type 0
+  abbrev pub Decides : Option PlanTextError → Type 0
   Decides (Some e) = (place : ℕ) × IsFirstFault version messages rows place e
   Decides None = Clean (suc (length rows))
 
@@ -237,7 +237,7 @@ module _ (version : Version) (messages : ℕ) (rows : List Record) where
 
   -- a place with a record, and the end
   module _ (k : ℕ) (within : k ≤ length rows) (clean : Clean k) where
-    number_is : k + 2 ≡ number_behind (take k rows)
+    pub number_is : k + 2 ≡ number_behind (take k rows)
     number_is = let l = length-take-le k rows within in omega (arith, l)
 
     fault_of : (row : Record) (e : PlanTextError) → slice_get rows k ≡ Some row → HoldsOf version messages (take k rows) row e
@@ -351,7 +351,7 @@ module _ (version : Version) (messages : ℕ) (rows : List Record) where
       by true text others = read text others (line row) refl (only.0 row)
 
   -- the rows so far, where one is missing, and where none is
-  missing_of : (slots : Slots) (before : List Record) (j : ℕ) → Kept messages slots before → j < length slots → get_or slots j None ≡ None
+  pub missing_of : (slots : Slots) (before : List Record) (j : ℕ) → Kept messages slots before → j < length slots → get_or slots j None ≡ None
       → ((i : ℕ) → i < j → (row : Row) × (get_or slots i None ≡ Some row)) → IsMissing messages before (j + 1)
   missing_of slots before j so_far lt free all =
       let count = so_far.count in
@@ -500,7 +500,7 @@ module _ (version : Version) (messages : ℕ) (rows : List Record) where
       by true text true begins others = summary_decides k slots row more d within none text begins so_far clean
       by true text false begins others = read (summary_none (take k rows) row none ∙ ap (λ b. if b then row ∷ [] else []) begins) text begins others (row_of slots row) (row_read slots row)
 
-  rows_decided : Decides (refusal_of (plan_of_rows version messages rows))
+  pub rows_decided : Decides (refusal_of (plan_of_rows version messages rows))
   rows_decided = rows_decide rows 0 (replicate messages None) refl (omega arith) refl (kept_start messages) (λ j e lt. absurd (omega (arith, lt)))
 
 -- errors of one number that hold at one place are one error

@@ -9,3 +9,4 @@ mod SummaryLaws
 mod PlaceLaws
 mod KeptLaws
 pub mod FaultLaws
+pub mod ExactLaws

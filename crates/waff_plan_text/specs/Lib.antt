@@ -8,4 +8,5 @@ pub mod PlanTexts
 pub mod Records
 pub mod Refusals
 pub mod Refused
+pub mod Exact
 pub mod Laws

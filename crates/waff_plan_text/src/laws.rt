@@ -5,6 +5,8 @@ ghost use Rattle.std.specs.Prelude.{ℕ, List, Option};
 ghost use Rattle.waff_model.specs.Tree.{Node};
 ghost use Rattle.waff_model.specs.declared.message.Version.{Version};
 ghost use Rattle.waff_plan.specs.Work.{Work};
+ghost use Rattle.waff_plan_text.specs.Exact.{PlanIsExact};
+ghost use Rattle.waff_plan_text.specs.Given.{Given};
 ghost use Rattle.waff_plan_text.specs.Laws.{WrittenIsRead};
 ghost use Rattle.waff_plan_text.specs.Refused.{FirstFaultDecides};
 
@@ -19,4 +21,10 @@ pub fn written_is_read()
 /// a lower number. The end of the text counts as one more record.
 pub fn first_fault_decides()
     ensures decides { (version : Version) (messages : ℕ) (bytes : List ℕ) → FirstFaultDecides version messages bytes }
+{}
+
+/// A text is read as a plan exactly where its first record is the header, each record before the summary is a
+/// row, each message has exactly one, and the lines of the summary follow; and the plan has their values.
+pub fn plan_is_exact()
+    ensures exact { (version : Version) (messages : ℕ) (bytes : List ℕ) (plan : Given) → PlanIsExact version messages bytes plan }
 {}
