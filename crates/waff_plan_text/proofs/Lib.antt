@@ -9,4 +9,5 @@ mod SummaryLaws
 mod PlaceLaws
 mod KeptLaws
 pub mod FaultLaws
+mod SpelledLaws
 pub mod ExactLaws

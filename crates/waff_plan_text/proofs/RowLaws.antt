@@ -19,11 +19,11 @@ use Rattle.waff_plan_text.specs.declared.row.NumberedRow.{NumberedRow}
 use Rattle.waff_plan_text.specs.declared.row.Row.{Row}
 
 -- what a number from low to high says of its text
-abbrev NumberIn : ℕ → ℕ → Field → Option ℕ → Type 0
+abbrev pub NumberIn : ℕ → ℕ → Field → Option ℕ → Type 0
 NumberIn low high text (Some n) = (number_of text ≡ Some n) × (low ≤ n) × (n ≤ high)
 NumberIn low high text None = (n : ℕ) → number_of text ≡ Some n → low ≤ n → n ≤ high → ⊥
 
-number_in : (low high : ℕ) (text : Field) → NumberIn low high text (number_within low high text)
+pub number_in : (low high : ℕ) (text : Field) → NumberIn low high text (number_within low high text)
 number_in low high text = by (number_of text) refl
   where
     limits : (n : ℕ) → number_of text ≡ Some n → (a b : Bool) → nat_lt n low ≡ a → nat_lt high n ≡ b

@@ -54,7 +54,7 @@ pub ok_last : {A B : Type 0} (r : Result A PlanTextError) (g : A → B) → refu
 ok_last (Ok a) g = refl
 ok_last (Err e) g = refl
 
-drop-one : {A : Type 0} (n : ℕ) (xs : List A) → drop (suc n) xs ≡ drop 1 (drop n xs)
+pub drop-one : {A : Type 0} (n : ℕ) (xs : List A) → drop (suc n) xs ≡ drop 1 (drop n xs)
 drop-one zero xs = refl
 drop-one (suc n) [] = refl
 drop-one (suc n) (x ∷ xs) = drop-one n xs

@@ -8,5 +8,6 @@ pub mod PlanTexts
 pub mod Records
 pub mod Refusals
 pub mod Refused
+pub mod SpelledSummaries
 pub mod Exact
 pub mod Laws

@@ -4,11 +4,13 @@
 ghost use Rattle.std.specs.Prelude.{ℕ, List, Option};
 ghost use Rattle.waff_model.specs.Tree.{Node};
 ghost use Rattle.waff_model.specs.declared.message.Version.{Version};
+ghost use Rattle.waff_parse.specs.Rows.{Record};
 ghost use Rattle.waff_plan.specs.Work.{Work};
 ghost use Rattle.waff_plan_text.specs.Exact.{PlanIsExact};
-ghost use Rattle.waff_plan_text.specs.Given.{Given};
+ghost use Rattle.waff_plan_text.specs.Given.{Given, SummaryLines};
 ghost use Rattle.waff_plan_text.specs.Laws.{WrittenIsRead};
 ghost use Rattle.waff_plan_text.specs.Refused.{FirstFaultDecides};
+ghost use Rattle.waff_plan_text.specs.SpelledSummaries.{SummaryIsExact};
 
 /// A plan is read from the text that is written of it.
 pub fn written_is_read()
@@ -27,4 +29,11 @@ pub fn first_fault_decides()
 /// row, each message has exactly one, and the lines of the summary follow; and the plan has their values.
 pub fn plan_is_exact()
     ensures exact { (version : Version) (messages : ℕ) (bytes : List ℕ) (plan : Given) → PlanIsExact version messages bytes plan }
+{}
+
+/// Records of text are read as a summary exactly where they are its lines in their order, and the summary has
+/// the values that they write.
+pub fn summary_is_exact()
+    ensures exact { (version : Version) (messages : ℕ) (at : ℕ) (records : List Record) (summary : SummaryLines)
+        → SummaryIsExact version messages at records summary }
 {}
