@@ -1,6 +1,6 @@
 -- A text is read as a plan exactly where it is one.
 use Rattle.std.proofs.Common.{◌≡◌, ◌⊎◌, ℕ, zero, suc, ◌+◌, ◌<◌, ◌≤◌, List, [], ◌∷◌, ◌++◌, length, map, drop, take, replicate, get_or, Bool, true, false, Option, Some, None, Result, Ok, Err, slice_get, refl, ap, sym, ◌∙◌, subst, arith, inl, inr}
-use Rattle.std.specs.Prelude.{◌-◌, ◌↔◌, Contains, if◌then◌else◌}
+use Rattle.std.specs.Prelude.{◌-◌, Contains, if◌then◌else◌}
 use Rattle.std.proofs.lemmas.Bool.{cases_order}
 use Rattle.std.proofs.lemmas.List.{ext_get_or, get_or-replicate, length-map, length-replicate, length-take-le}
 use Rattle.std.proofs.lemmas.Option.{slice_get_within}
@@ -13,8 +13,9 @@ use Rattle.waff_plan_text.specs.Exact.{HasOneRow, IsReadAs, IsRowIn, PlanIsExact
 use Rattle.waff_plan_text.specs.Given.{Given, SummaryLines, no_row, row_at}
 use Rattle.waff_plan_text.specs.PlanTexts.{header_of, plan_after, plan_of_end, plan_of_records, plan_of_rows, plan_of_summary, put, rows_in}
 use Rattle.waff_plan_text.specs.Refusals.{at_record}
-use Rattle.waff_plan_text.specs.Refused.{HasSmallNumbers, HoldsOf, IsMissing, IsRowOf, number_behind, refusal_of, summary_in}
+use Rattle.waff_plan_text.specs.Refused.{HasSmallNumbers, HoldsOf, IsRowOf, number_behind, refusal_of, summary_in}
 use Rattle.waff_plan_text.specs.Rows.{Slots, row_of, slot_of}
+use Rattle.waff_plan_text.specs.SpelledSummaries.{AreTexts}
 use Rattle.waff_plan_text.specs.Summaries.{begins_summary, summary_of}
 use Rattle.waff_plan_text.specs.declared.refusal.PlanTextError.{PlanTextError}
 use Rattle.waff_plan_text.specs.declared.refusal.PlanTextError.TheVariants as error
@@ -22,10 +23,11 @@ use Rattle.waff_plan_text.specs.declared.refusal.Refusal.{Refusal}
 use Rattle.waff_plan_text.specs.declared.refusal.Refusal.TheVariants as refusal
 use Rattle.waff_plan_text.specs.declared.row.NumberedRow.{NumberedRow}
 use Rattle.waff_plan_text.specs.declared.row.Row.{Row}
-use Rattle.waff_plan_text.proofs.FaultLaws.{Clean, Decides, HoldsAt, missing_of, number_is, rows_decided}
+use Rattle.waff_plan_text.proofs.FaultLaws.{Clean, Decides, missing_of, rows_decided}
 use Rattle.waff_plan_text.proofs.KeptLaws.{Kept, RowsAre, kept_put, kept_start, rows_are, slot_filled}
-use Rattle.waff_plan_text.proofs.PlaceLaws.{IsAt, among, at_end, front_same, is_at, left_at, none_before, parted, place_of, summary_none, taken, taken_at}
-use Rattle.waff_plan_text.proofs.RowLaws.{ReadAs, RefusedAs, one_message, one_row, row_read, row_within}
+use Rattle.waff_plan_text.proofs.PlaceLaws.{IsAt, among, at_end, front_same, in_all, is_at, left_at, none_before, parted, place_of, summary_none, taken, taken_at}
+use Rattle.waff_plan_text.proofs.SpelledLaws.{summary_is_exact}
+use Rattle.waff_plan_text.proofs.RowLaws.{ReadAs, one_message, one_row, row_read, row_within}
 
 -- the row of a message, among those of all
 slot_row : (says : List Row) (slots : Slots) (n : ℕ) (row : Row) → slots ≡ map Some says → slot_of slots n ≡ Some row → row_at says n ≡ row
@@ -212,10 +214,9 @@ module _ (version : Version) (messages : ℕ) (rows : List Record) where
         let count = length-map plan.rows (λ (row : Row). let slot : Option Row = Some row in slot) in
         let all = ap length w.are in
         let kept = w.so_far.count in
-        let long = length-take-le w.place rows w.within in
-        let numbered : length (rows_in_front rows) + 2 ≡ w.place + 2 = ap (λ (rs : List Record). length rs + 2) front.0 ∙ ap (λ n. n + 2) long in
+        let texts : AreTexts rows = λ fields is. let at = place_of rows fields is in text_at clean at.0 fields at.1 in
         record {
-          text = λ fields is. let at = place_of rows fields is in text_at clean at.0 fields at.1;
+          text = texts;
           rows = λ fields is.
               let inside : Contains (take w.place rows) fields = subst (λ rs. Contains rs fields) front.0 is in
               let found = row_in_front clean w.place w.within w.none fields inside in
@@ -236,7 +237,8 @@ module _ (version : Version) (messages : ℕ) (rows : List Record) where
                     one_place clean w.place w.within w.none other at.0 n another found.0 says filled.0 there at.1 is found.2;
               });
           count = omega (arith, count, all, kept);
-          summary = ap (λ n. summary_of version messages n (summary_in rows)) numbered ∙ ap (summary_of version messages (w.place + 2)) front.1 ∙ w.summary;
+          summary = (summary_is_exact version messages (w.place + 2) (summary_in rows) plan.summary (λ fields is. texts fields (in_all rows fields is))).0
+              (ap (summary_of version messages (w.place + 2)) front.1 ∙ w.summary);
           of_version = w.of_version;
         }
 
@@ -265,6 +267,9 @@ module _ (version : Version) (messages : ℕ) (rows : List Record) (plan : Given
         let w = row_within messages a n r is in
         let once = reads.once n w.0 w.1 in
         once.only i a r (in_front i a first i_lt) is ∙ sym (once.only j b s (in_front j b second j_lt) other)
+
+  lines_read : (at : ℕ) → summary_of version messages at (summary_in rows) ≡ Ok plan.summary
+  lines_read at = (summary_is_exact version messages at (summary_in rows) plan.summary (λ fields is. reads.text fields (in_all rows fields is))).1 reads.summary
 
   -- all rows are there
   rows_read : (k : ℕ) (slots : Slots) (row : Record) (more : List Record) → drop k rows ≡ row ∷ more → k ≤ length rows → summary_in (take k rows) ≡ []
@@ -308,9 +313,8 @@ module _ (version : Version) (messages : ℕ) (rows : List Record) (plan : Given
   summary_read k slots row more d within none begins so_far =
       let front = parted rows k row more d none begins in
       let says = rows_read k slots row more d within none begins so_far (rows_in slots) (rows_are 0 slots) in
-      let long = ap length front.0 ∙ length-take-le k rows within in
       let summary : summary_of version messages (k + 2) (row ∷ more) ≡ Ok plan.summary =
-      ap (summary_of version messages (k + 2)) (sym front.1) ∙ ap (λ n. summary_of version messages n (summary_in rows)) (ap (λ n. n + 2) (sym long)) ∙ reads.summary in
+      ap (summary_of version messages (k + 2)) (sym front.1) ∙ lines_read (k + 2) in
       let whole : ◌≡◌ {A = Given} (record { version = version; rows = plan.rows; summary = plan.summary }) plan = rw (← reads.of_version) refl in
       rw (says, summary) (ap Ok whole)
 
@@ -353,8 +357,7 @@ module _ (version : Version) (messages : ℕ) (rows : List Record) (plan : Given
   unfolding plan_after
   plan_read [] k slots d within none so_far =
       let no_summary : summary_in rows ≡ [] = ap summary_in (sym (all_taken rows k within d)) ∙ none in
-      absurd (summary_none_refused version messages (length (rows_in_front rows) + 2) plan.summary
-      (ap (summary_of version messages (length (rows_in_front rows) + 2)) (sym no_summary) ∙ reads.summary))
+      absurd (summary_none_refused version messages (k + 2) plan.summary (ap (summary_of version messages (k + 2)) (sym no_summary) ∙ lines_read (k + 2)))
   plan_read (row ∷ more) k slots d within none so_far =
       let at = is_at rows k row more d in
       by (is_text row) (reads.text row (among rows k row at.there)) (begins_summary row) refl

@@ -1,17 +1,16 @@
 -- The rows so far, by message, are those of the records so far.
-use Rattle.std.proofs.Common.{◌≡◌, ◌⊎◌, ℕ, zero, suc, ◌+◌, ◌<◌, ◌≤◌, List, [], ◌∷◌, ◌++◌, length, map, get_or, replicate, set, Option, Some, None, Result, Ok, Err, refl, ap, sym, ◌∙◌, arith, inl, inr}
+use Rattle.std.proofs.Common.{◌≡◌, ◌⊎◌, ℕ, zero, suc, ◌+◌, ◌<◌, ◌≤◌, List, [], ◌∷◌, ◌++◌, length, map, get_or, replicate, Option, Some, None, Result, Ok, Err, refl, ap, sym, ◌∙◌, arith, inl, inr}
 use Rattle.std.specs.Prelude.{◌-◌, Contains}
 use Rattle.std.proofs.Math.ListN.{length-set}
 use Rattle.std.proofs.lemmas.Bool.{cases_eq}
 use Rattle.std.proofs.lemmas.Grind.{get_or-set_at}
 use Rattle.std.proofs.lemmas.List.{get_or-replicate, get_or-set_other, length-replicate}
 use Rattle.std.proofs.lemmas.List.Elements.{Contains-append_cases, Contains-append_left, Contains-push}
-use Rattle.waff_parse.specs.Fields.{five_of}
 use Rattle.waff_parse.specs.Refusals.{◌>>=◌}
 use Rattle.waff_parse.specs.Rows.{Record}
 use Rattle.waff_parse.specs.Walks.{walk}
 use Rattle.waff_plan_text.specs.PlanTexts.{next_message, put, row_in}
-use Rattle.waff_plan_text.specs.Refused.{HasRow, IsRowOf}
+use Rattle.waff_plan_text.specs.Refused.{IsRowOf}
 use Rattle.waff_plan_text.specs.Rows.{Slots, slot_of}
 use Rattle.waff_plan_text.specs.declared.refusal.PlanTextError.{PlanTextError}
 use Rattle.waff_plan_text.specs.declared.refusal.PlanTextError.TheVariants as error

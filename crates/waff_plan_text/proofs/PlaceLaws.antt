@@ -1,5 +1,5 @@
 -- Places in a list of records, and the summary of those before.
-use Rattle.std.proofs.Common.{◌≡◌, ℕ, zero, suc, ◌+◌, ◌<◌, ◌≤◌, List, [], ◌∷◌, ◌++◌, length, drop, take, Bool, true, false, Some, slice_get, refl, ap, sym, ◌∙◌, arith}
+use Rattle.std.proofs.Common.{◌≡◌, ℕ, zero, suc, ◌<◌, ◌≤◌, List, [], ◌∷◌, ◌++◌, length, drop, take, Bool, true, false, Some, slice_get, refl, ap, ◌∙◌, arith}
 use Rattle.std.specs.Prelude.{Contains, if◌then◌else◌}
 use Rattle.std.proofs.lemmas.Option.{get_or_from_slice_get, slice_get-get_or, slice_get_within}
 use Rattle.waff_parse.specs.Rows.{Record}
@@ -124,3 +124,15 @@ taken items zero j item h lt = absurd (omega (arith, lt))
 taken [] (suc k) j item h lt = absurd (cc)
 taken (x ∷ items) (suc k) zero item h lt = h
 taken (x ∷ items) (suc k) (suc j) item h lt = taken items k j item h (omega (arith, lt))
+
+pub in_all : (rows : List Record) (fields : Record) → Contains (summary_in rows) fields → Contains rows fields
+in_all [] fields h = h
+in_all (first ∷ more) fields h = by (begins_summary first) h (in_all more fields)
+  where
+    behind : Contains more fields → Contains (first ∷ more) fields
+    behind (k, lt, is) = (suc k, omega (arith, lt), is)
+
+    by : (t : Bool) → Contains (if t then first ∷ more else summary_in more) fields → (Contains (summary_in more) fields → Contains more fields)
+        → Contains (first ∷ more) fields
+    by true is others = is
+    by false is others = behind (others is)

@@ -1,8 +1,7 @@
 -- A row after the rows so far, in the words of the format.
-use Rattle.std.proofs.Common.{◌≡◌, ◌⊎◌, ℕ, ◌<◌, ◌≤◌, List, length, Bool, true, false, Option, Some, None, Result, Ok, Err, IfSome, codes, refl, ap, sym, ◌∙◌, subst, inl, inr, arith}
-use Rattle.std.specs.Prelude.{◌&&◌, ◌||◌, is_some, nat_lt, ok_or, option_and_then, if◌then◌else◌}
-use Rattle.std.specs.Str.{bytes_eq}
-use Rattle.std.proofs.lemmas.Bool.{and_parts, le-ltb, ltb-false, ltb-true, or_cases}
+use Rattle.std.proofs.Common.{◌≡◌, ◌⊎◌, ℕ, ◌≤◌, length, Bool, true, false, Option, Some, None, Result, Ok, Err, IfSome, codes, refl, ap, sym, ◌∙◌, inl, inr, arith}
+use Rattle.std.specs.Prelude.{◌||◌, is_some, nat_lt, ok_or, option_and_then, if◌then◌else◌}
+use Rattle.std.proofs.lemmas.Bool.{and_parts, ltb-false, ltb-true, or_cases}
 use Rattle.std.proofs.lemmas.Slice.Eq.{bytes_eq-Decides}
 use Rattle.waff_model.specs.Names.{is_name}
 use Rattle.waff_model.specs.declared.limits.TheConstants.{MAX_TICK}
@@ -12,7 +11,7 @@ use Rattle.waff_parse.specs.Rows.{Record}
 use Rattle.waff_parse.specs.Texts.{number_of, number_within, within}
 use Rattle.waff_plan_text.specs.Fields.{is_dash, is_worker, number_within_limit, worker_of}
 use Rattle.waff_plan_text.specs.Refused.{HasSmallNumbers, IsRowOf, IsRowOfFive, IsWorkerField, SpellsRow}
-use Rattle.waff_plan_text.specs.Rows.{Slots, fresh, is_row, message_of, numbered_row_of, numbered_row_of_five, row_of, row_of_fields, shaped, slot_of}
+use Rattle.waff_plan_text.specs.Rows.{Slots, fresh, is_row, numbered_row_of, numbered_row_of_five, row_of, row_of_fields, shaped, slot_of}
 use Rattle.waff_plan_text.specs.declared.refusal.Refusal.{Refusal}
 use Rattle.waff_plan_text.specs.declared.refusal.Refusal.TheVariants as refusal
 use Rattle.waff_plan_text.specs.declared.row.NumberedRow.{NumberedRow}

@@ -1,6 +1,6 @@
 -- A summary is read exactly where it is spelled.
-use Rattle.std.proofs.Common.{◌≡◌, ◌≢◌, ◌⊎◌, ℕ, zero, suc, ◌+◌, ◌<◌, ◌≤◌, List, [], ◌∷◌, ◌++◌, All, length, map, drop, Bool, true, false, Option, Some, None, Result, Ok, Err, codes, refl, sym, ap, ◌∙◌, subst, arith, inl, inr}
-use Rattle.std.specs.Prelude.{◌&&◌, ◌==◌, Contains, is_some, nat_le, ok_or, option_map, if◌then◌else◌}
+use Rattle.std.proofs.Common.{◌≡◌, ◌≢◌, ℕ, suc, ◌+◌, ◌≤◌, List, [], ◌∷◌, ◌++◌, All, length, map, drop, Bool, true, false, Option, Some, None, Result, Ok, Err, codes, refl, sym, ap, ◌∙◌, subst, arith, inl, inr}
+use Rattle.std.specs.Prelude.{◌==◌, is_some, nat_le, ok_or, option_map, if◌then◌else◌}
 use Rattle.std.specs.Str.{bytes_eq}
 use Rattle.std.proofs.lemmas.Bool.{and_parts, eqb-true, eqb-false, le-leb, leb-true, le-ltb, ne_eqb}
 use Rattle.std.proofs.lemmas.List.Elements.{All-cons, All-head, All-nil, All-tail}
@@ -8,18 +8,17 @@ use Rattle.std.proofs.lemmas.Slice.Eq.{bytes_eq-Decides}
 use Rattle.waff_model.specs.declared.limits.TheConstants.{MAX_TICK, MAX_WORKERS}
 use Rattle.waff_model.specs.declared.message.Version.{Version}
 use Rattle.waff_model.specs.declared.message.Version.TheVariants.{V1, V2}
-use Rattle.waff_parse.specs.Fields.{Field, two_of, three_of}
+use Rattle.waff_parse.specs.Fields.{Field, two_of}
 use Rattle.waff_parse.specs.Refusals.{◌>>=◌, told}
 use Rattle.waff_parse.specs.Rows.{Record, is_text}
 use Rattle.waff_parse.specs.Texts.{number_of, number_within, parts}
 use Rattle.waff_parse.specs.Walks.{walk}
-use Rattle.waff_plan.specs.Bound.{IsWorkers}
 use Rattle.waff_plan.specs.Chain.{IsListed, IsMessage}
 use Rattle.waff_plan_text.specs.Fields.{is_dash, number_within_limit}
 use Rattle.waff_plan_text.specs.Given.{SummaryLines}
 use Rattle.waff_plan_text.specs.Refusals.{at_record}
 use Rattle.waff_plan_text.specs.SpelledSummaries.{AreNumbers, AreTexts, IsRelease, IsTick, IsWorkersField, SpellsSummary, SummaryIsExact, release_line}
-use Rattle.waff_plan_text.specs.Summaries.{bound_line, bound_of, chain_line, chain_of, closing_of, ending_of, ends, few, is_bound, link_of, links_of, next_line, same, sides_of, summary_of, tick_line, tick_of, value_of, with_closing, workers_line, workers_of}
+use Rattle.waff_plan_text.specs.Summaries.{bound_line, chain_line, chain_of, closing_of, ending_of, ends, few, is_bound, link_of, next_line, same, summary_of, tick_line, tick_of, value_of, with_closing, workers_line, workers_of}
 use Rattle.waff_plan_text.specs.declared.closing.Closing.{Closing}
 use Rattle.waff_plan_text.specs.declared.refusal.PlanTextError.{PlanTextError}
 use Rattle.waff_plan_text.specs.declared.refusal.Refusal.{Refusal}
@@ -280,9 +279,9 @@ ending_ok release at rows closing h =
         let bound = bound_ok second.0 b second.2 in
         let none = ends_ok (at + 2) (drop 2 rows) u r in
         let others : drop 1 rows ≡ (codes "bound" ∷ bound.0 ∷ bound.1 ∷ []) ∷ [] =
-            second.1 ∙ ap (λ (rs : List Record). second.0 ∷ rs) (sym (drop-one 1 rows) ∙ none) ∙ ap (λ (r : Record). r ∷ []) bound.2 in
+        second.1 ∙ ap (λ (rs : List Record). second.0 ∷ rs) (sym (drop-one 1 rows) ∙ none) ∙ ap (λ (r : Record). r ∷ []) bound.2 in
         let lines : rows ≡ (codes "cost" ∷ cost.0 ∷ []) ∷ (codes "bound" ∷ bound.0 ∷ bound.1 ∷ []) ∷ [] =
-            first.1 ∙ ap (λ (rs : List Record). first.0 ∷ rs) others ∙ ap (λ (r : Record). r ∷ (codes "bound" ∷ bound.0 ∷ bound.1 ∷ []) ∷ []) cost.1 in
+        first.1 ∙ ap (λ (rs : List Record). first.0 ∷ rs) others ∙ ap (λ (r : Record). r ∷ (codes "bound" ∷ bound.0 ∷ bound.1 ∷ []) ∷ []) cost.1 in
         subst (SpellsEnding release rows) whole (record {
           cost_text = cost.0;
           left_text = bound.0;
@@ -316,7 +315,7 @@ closing_ok V2 at rows closing h =
     let e = ending_ok both.0 (at + 1) (drop 1 rows) closing both.2 in
     let others : List Record = (codes "cost" ∷ e.cost_text ∷ []) ∷ (codes "bound" ∷ e.left_text ∷ e.right_text ∷ []) ∷ [] in
     let lines : rows ≡ (codes "release" ∷ release.0 ∷ []) ∷ others =
-        first.1 ∙ ap (λ (rs : List Record). first.0 ∷ rs) e.lines ∙ ap (λ (r : Record). r ∷ others) release.1 in
+    first.1 ∙ ap (λ (rs : List Record). first.0 ∷ rs) e.lines ∙ ap (λ (r : Record). r ∷ others) release.1 in
     record {
       release_text = release.0;
       cost_text = e.cost_text;
@@ -368,15 +367,15 @@ spelled version messages at rows summary h =
         let closing = closing_ok version (at + 4) (drop 4 rows) k ki in
         let end : List Record = release_line version closing.release_text ++ (codes "cost" ∷ closing.cost_text ∷ []) ∷ (codes "bound" ∷ closing.left_text ∷ closing.right_text ∷ []) ∷ [] in
         let four : drop 3 rows ≡ (codes "chain" ∷ chain.0 ∷ []) ∷ end =
-            e.1 ∙ ap (λ (rs : List Record). e.0 ∷ rs) (sym (drop-one 3 rows) ∙ closing.lines) ∙ ap (λ (r : Record). r ∷ end) chain.1 in
+        e.1 ∙ ap (λ (rs : List Record). e.0 ∷ rs) (sym (drop-one 3 rows) ∙ closing.lines) ∙ ap (λ (r : Record). r ∷ end) chain.1 in
         let three : drop 2 rows ≡ (codes "length" ∷ long.0 ∷ []) ∷ (codes "chain" ∷ chain.0 ∷ []) ∷ end =
-            d.1 ∙ ap (λ (rs : List Record). d.0 ∷ rs) (sym (drop-one 2 rows) ∙ four) ∙ ap (λ (r : Record). r ∷ (codes "chain" ∷ chain.0 ∷ []) ∷ end) long.1 in
+        d.1 ∙ ap (λ (rs : List Record). d.0 ∷ rs) (sym (drop-one 2 rows) ∙ four) ∙ ap (λ (r : Record). r ∷ (codes "chain" ∷ chain.0 ∷ []) ∷ end) long.1 in
         let two : drop 1 rows ≡ (codes "total" ∷ total.0 ∷ []) ∷ (codes "length" ∷ long.0 ∷ []) ∷ (codes "chain" ∷ chain.0 ∷ []) ∷ end =
-            b.1 ∙ ap (λ (rs : List Record). b.0 ∷ rs) (sym (drop-one 1 rows) ∙ three)
-            ∙ ap (λ (r : Record). r ∷ (codes "length" ∷ long.0 ∷ []) ∷ (codes "chain" ∷ chain.0 ∷ []) ∷ end) total.1 in
+        b.1 ∙ ap (λ (rs : List Record). b.0 ∷ rs) (sym (drop-one 1 rows) ∙ three)
+        ∙ ap (λ (r : Record). r ∷ (codes "length" ∷ long.0 ∷ []) ∷ (codes "chain" ∷ chain.0 ∷ []) ∷ end) total.1 in
         let lines : rows ≡ (codes "workers" ∷ workers.0 ∷ []) ∷ (codes "total" ∷ total.0 ∷ []) ∷ (codes "length" ∷ long.0 ∷ []) ∷ (codes "chain" ∷ chain.0 ∷ []) ∷ end =
-            a.1 ∙ ap (λ (rs : List Record). a.0 ∷ rs) two
-            ∙ ap (λ (r : Record). r ∷ (codes "total" ∷ total.0 ∷ []) ∷ (codes "length" ∷ long.0 ∷ []) ∷ (codes "chain" ∷ chain.0 ∷ []) ∷ end) workers.1 in
+        a.1 ∙ ap (λ (rs : List Record). a.0 ∷ rs) two
+        ∙ ap (λ (r : Record). r ∷ (codes "total" ∷ total.0 ∷ []) ∷ (codes "length" ∷ long.0 ∷ []) ∷ (codes "chain" ∷ chain.0 ∷ []) ∷ end) workers.1 in
         subst (SpellsSummary version messages rows) whole (record {
           workers_text = workers.0;
           total_text = total.0;
@@ -427,16 +426,16 @@ unfolding closing_of
 ok_closing V1 at rows closing texts s =
     let read = ok_ending 0 at closing.cost closing.left closing.right s.cost_text s.left_text s.right_text (subst AreTexts s.lines texts) s.cost s.left s.right in
     let whole : ◌≡◌ {A = Closing} (record { release = 0; cost = closing.cost; left = closing.left; right = closing.right }) closing =
-        let none : closing.release ≡ 0 = s.release in rw (← none) refl in
+    let none : closing.release ≡ 0 = s.release in rw (← none) refl in
     ap (ending_of 0 at) s.lines ∙ read ∙ ap Ok whole
 ok_closing V2 at rows closing texts s =
     let here : AreTexts ((codes "release" ∷ s.release_text ∷ []) ∷ (codes "cost" ∷ s.cost_text ∷ []) ∷ (codes "bound" ∷ s.left_text ∷ s.right_text ∷ []) ∷ []) =
-        subst AreTexts s.lines texts in
+    subst AreTexts s.lines texts in
     let others : List Record = (codes "cost" ∷ s.cost_text ∷ []) ∷ (codes "bound" ∷ s.left_text ∷ s.right_text ∷ []) ∷ [] in
     let release = ok_line (tick_line (codes "release")) at (codes "release" ∷ s.release_text ∷ []) others closing.release
-        (first_text (codes "release" ∷ s.release_text ∷ []) others here) (ok_tick (codes "release") s.release_text closing.release s.release) in
+    (first_text (codes "release" ∷ s.release_text ∷ []) others here) (ok_tick (codes "release") s.release_text closing.release s.release) in
     let read = ok_ending closing.release (at + 1) closing.cost closing.left closing.right s.cost_text s.left_text s.right_text
-        (other_texts (codes "release" ∷ s.release_text ∷ []) others here) s.cost s.left s.right in
+    (other_texts (codes "release" ∷ s.release_text ∷ []) others here) s.cost s.left s.right in
     ap (closing_of V2 at) s.lines ∙ ap (λ r. r >>= (λ release. ending_of release (at + 1) others)) release ∙ read
 
 is_read : (version : Version) (messages at : ℕ) (rows : List Record) (summary : SummaryLines) → AreTexts rows → SpellsSummary version messages rows summary

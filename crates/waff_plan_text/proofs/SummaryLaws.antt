@@ -1,5 +1,5 @@
 -- A summary is refused at the first of its lines that is.
-use Rattle.std.proofs.Common.{◌≡◌, ℕ, zero, suc, ◌+◌, List, [], ◌∷◌, length, drop, Bool, true, false, Option, Some, None, Result, Ok, Err, codes, refl, sym, ap, ◌∙◌, arith}
+use Rattle.std.proofs.Common.{◌≡◌, ℕ, zero, suc, ◌+◌, List, [], ◌∷◌, length, drop, Bool, true, false, Option, Some, None, Result, Ok, Err, codes, refl, ap, ◌∙◌, arith}
 use Rattle.std.specs.Prelude.{is_some, nat_le, ok_or, option_map, if◌then◌else◌, ◌==◌}
 use Rattle.std.specs.Str.{bytes_eq}
 use Rattle.waff_model.specs.declared.limits.TheConstants.{MAX_TICK, MAX_WORKERS}
@@ -11,11 +11,9 @@ use Rattle.waff_parse.specs.Rows.{Record, is_text}
 use Rattle.waff_parse.specs.Texts.{number_of, number_within, parts}
 use Rattle.waff_parse.specs.Walks.{walk}
 use Rattle.waff_plan_text.specs.Fields.{is_dash, number_within_limit}
-use Rattle.waff_plan_text.specs.Given.{SummaryLines}
 use Rattle.waff_plan_text.specs.Refusals.{at_record}
 use Rattle.waff_plan_text.specs.Refused.{Line, bound, chain, lines_of, refusal_of, tick, workers}
 use Rattle.waff_plan_text.specs.Summaries.{bound_line, bound_of, chain_line, chain_of, closing_of, ending_of, ends, few, is_bound, link_of, links_of, next_line, same, sides_of, summary_of, tick_line, tick_of, value_of, with_closing, workers_line, workers_of}
-use Rattle.waff_plan_text.specs.declared.closing.Closing.{Closing}
 use Rattle.waff_plan_text.specs.declared.refusal.PlanTextError.{PlanTextError}
 use Rattle.waff_plan_text.specs.declared.refusal.PlanTextError.TheVariants as error
 use Rattle.waff_plan_text.specs.declared.refusal.Refusal.{Refusal}

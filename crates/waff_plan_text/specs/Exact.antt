@@ -1,11 +1,12 @@
 -- Which texts are read as a plan, in the words of the format. Records here are those after the header.
-use Rattle.std.specs.Prelude.{◌≡◌, ◌↔◌, ℕ, ◌+◌, ◌≤◌, true, if◌then◌else◌, List, [], ◌∷◌, drop, length, Contains, Some, Ok, slice_get}
+use Rattle.std.specs.Prelude.{◌≡◌, ◌↔◌, ℕ, ◌≤◌, if◌then◌else◌, List, [], ◌∷◌, drop, length, Contains, Some, Ok, slice_get}
 use Rattle.waff_model.specs.declared.message.Version.{Version}
-use Rattle.waff_parse.specs.Rows.{Record, is_text, records_of}
+use Rattle.waff_parse.specs.Rows.{Record, records_of}
 use Rattle.waff_plan_text.specs.Given.{Given, row_at}
 use Rattle.waff_plan_text.specs.PlanTexts.{header_of, plan_of}
 use Rattle.waff_plan_text.specs.Refused.{HasSmallNumbers, IsRowOf, summary_in}
-use Rattle.waff_plan_text.specs.Summaries.{begins_summary, summary_of}
+use Rattle.waff_plan_text.specs.SpelledSummaries.{AreTexts, SpellsSummary}
+use Rattle.waff_plan_text.specs.Summaries.{begins_summary}
 use Rattle.waff_plan_text.specs.declared.row.Row.{Row}
 
 -- the records before the first one that begins the summary
@@ -29,11 +30,11 @@ pub record HasOneRow (messages : ℕ) (records : List Record) (n : ℕ) : Type 0
 -- each record before the summary is the row of a message, each message has exactly one, the plan has them by message, and
 -- the records from the summary on are its lines in their order, with its values
 pub record IsReadAs (version : Version) (messages : ℕ) (records : List Record) (plan : Given) : Type 0 where
-  pub text : (fields : Record) → Contains records fields → is_text fields ≡ true
+  pub text : AreTexts records
   pub rows : (fields : Record) → Contains (rows_in_front records) fields → IsRowIn messages plan.rows fields
   pub once : (n : ℕ) → 1 ≤ n → n ≤ messages → HasOneRow messages (rows_in_front records) n
   pub count : length plan.rows ≡ messages
-  pub summary : summary_of version messages (length (rows_in_front records) + 2) (summary_in records) ≡ Ok plan.summary
+  pub summary : SpellsSummary version messages (summary_in records) plan.summary
   pub of_version : plan.version ≡ version
 
 -- bytes are read as a plan exactly where the first record is the header and the others are its rows and its summary

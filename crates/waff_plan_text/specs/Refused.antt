@@ -1,5 +1,5 @@
 -- What the text of a plan is refused for, in the words of the format. Records here are those after the header.
-use Rattle.std.specs.Prelude.{◌≡◌, ◌↔◌, ◌⊎◌, ℕ, ◌+◌, ◌<◌, ◌≤◌, Bool, true, false, if◌then◌else◌, List, [], ◌∷◌, ◌++◌, drop, length, take, Contains, Option, Some, None, IfSome, IsSome, Result, Ok, Err, slice_get, codes}
+use Rattle.std.specs.Prelude.{◌≡◌, ◌↔◌, ◌⊎◌, ℕ, ◌+◌, ◌<◌, ◌≤◌, true, false, if◌then◌else◌, List, [], ◌∷◌, ◌++◌, drop, length, take, Contains, Option, Some, None, IfSome, IsSome, Result, Ok, Err, slice_get, codes}
 use Rattle.waff_model.specs.Names.{is_name}
 use Rattle.waff_model.specs.declared.limits.TheConstants.{MAX_TICK}
 use Rattle.waff_model.specs.declared.message.Version.{Version}
