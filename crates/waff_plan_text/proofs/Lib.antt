@@ -10,4 +10,5 @@ mod PlaceLaws
 mod KeptLaws
 pub mod FaultLaws
 mod SpelledLaws
+pub mod SpelledLineLaws
 pub mod ExactLaws

@@ -117,7 +117,7 @@ record SpellsRest (name start_text finish_text worker_text : Field) (row : Row) 
   finish : number_of finish_text ≡ Some row.finish
   worker : IsWorkerField worker_text row.worker
 
-number_some : (o : Option ℕ) → is_some o ≡ true → (n : ℕ) × (o ≡ Some n)
+pub number_some : (o : Option ℕ) → is_some o ≡ true → (n : ℕ) × (o ≡ Some n)
 number_some None h = absurd (cc)
 number_some (Some n) h = (n, refl)
 

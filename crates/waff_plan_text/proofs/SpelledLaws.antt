@@ -47,7 +47,7 @@ ok_line : {A : Type 0} (read : Record → Result A Refusal) (at : ℕ) (row : Re
 ok_line read at row more a text is = rw (text, is) refl
 
 -- the value of a line with a name
-value_ok : (name : Field) (row : Record) (text : Field) → value_of name (two_of row) ≡ Ok text → row ≡ name ∷ text ∷ []
+pub value_ok : (name : Field) (row : Record) (text : Field) → value_of name (two_of row) ≡ Ok text → row ≡ name ∷ text ∷ []
 value_ok name [] text h = absurd (cc)
 value_ok name (a ∷ []) text h = absurd (cc)
 value_ok name (a ∷ b ∷ []) text h = by (bytes_eq a name) refl h
@@ -60,7 +60,7 @@ value_ok name (a ∷ b ∷ []) text h = by (bytes_eq a name) refl h
     by false is same = absurd (cc)
 value_ok name (a ∷ b ∷ c ∷ more) text h = absurd (cc)
 
-ok_value : (name text : Field) → value_of name (two_of (name ∷ text ∷ [])) ≡ Ok text
+pub ok_value : (name text : Field) → value_of name (two_of (name ∷ text ∷ [])) ≡ Ok text
 ok_value name text = rw ((bytes_eq-Decides name name).1 refl) refl
 
 -- a number within the limit
@@ -76,7 +76,7 @@ limit_ok text n h = by (number_within 0 MAX_TICK text) (number_in 0 MAX_TICK tex
 within_is : (low high : ℕ) (text : Field) (n : ℕ) → number_of text ≡ Some n → low ≤ n → n ≤ high → number_within low high text ≡ Some n
 within_is low high text n is from to = rw (is, le-ltb n low from, le-ltb high n to) refl
 
-ok_limit : (text : Field) (n : ℕ) → IsTick text n → number_within_limit text ≡ Ok n
+pub ok_limit : (text : Field) (n : ℕ) → IsTick text n → number_within_limit text ≡ Ok n
 ok_limit text n is = rw (within_is 0 MAX_TICK text n is.number (omega arith) is.within) refl
 
 tick_ok : (name : Field) (row : Record) (n : ℕ) → tick_line name row ≡ Ok n → (text : Field) × (row ≡ name ∷ text ∷ []) × IsTick text n
@@ -88,13 +88,13 @@ tick_ok name row n h =
     by text true same = limit_ok text n same
     by text false same = absurd (cc)
 
-ok_tick : (name text : Field) (n : ℕ) → IsTick text n → tick_line name (name ∷ text ∷ []) ≡ Ok n
+pub ok_tick : (name text : Field) (n : ℕ) → IsTick text n → tick_line name (name ∷ text ∷ []) ≡ Ok n
 ok_tick name text n is =
     let some : is_some (number_of text) ≡ true = ap is_some is.number in
     ap (λ r. r >>= tick_of) (ok_value name text) ∙ ap (λ t. if t then number_within_limit text else Err refusal.Summary) some ∙ ok_limit text n is
 
 -- the workers
-workers_ok : (row : Record) (workers : Option ℕ) → workers_line row ≡ Ok workers → (text : Field) × (row ≡ codes "workers" ∷ text ∷ []) × IsWorkersField text workers
+pub workers_ok : (row : Record) (workers : Option ℕ) → workers_line row ≡ Ok workers → (text : Field) × (row ≡ codes "workers" ∷ text ∷ []) × IsWorkersField text workers
 workers_ok row workers h =
     let value = bind_ok (value_of (codes "workers") (two_of row)) workers_of workers h in
     (value.0, value_ok (codes "workers") row value.0 value.1, by value.0 (is_dash value.0) refl value.2)
@@ -125,7 +125,7 @@ not_dash text k is = by (is_dash text) refl
         let some : number_of (codes "-") ≡ Some k = ap number_of (sym same) ∙ is in
         absurd (cc)
 
-ok_workers : (text : Field) (workers : Option ℕ) → IsWorkersField text workers → workers_line (codes "workers" ∷ text ∷ []) ≡ Ok workers
+pub ok_workers : (text : Field) (workers : Option ℕ) → IsWorkersField text workers → workers_line (codes "workers" ∷ text ∷ []) ≡ Ok workers
 ok_workers text None is = rw is refl
 ok_workers text (Some k) (is, within) = rw (not_dash text k is, within_is 1 MAX_WORKERS text k is within.from within.to) refl
 
@@ -190,14 +190,14 @@ ok_chain_text messages text chain (inr (filled, are)) listed =
     let long : (length text == 0) ≡ false = ne_eqb (length text) 0 (λ none. filled (no_bytes text none)) in
     rw (long, ok_walk messages (parts 32 text) chain are listed.each, le-leb (length chain) messages listed.few) refl
 
-chain_ok : (messages : ℕ) (row : Record) (chain : List ℕ) → chain_line messages row ≡ Ok chain
+pub chain_ok : (messages : ℕ) (row : Record) (chain : List ℕ) → chain_line messages row ≡ Ok chain
     → (text : Field) × (row ≡ codes "chain" ∷ text ∷ []) × AreNumbers text chain × IsListed messages chain
 chain_ok messages row chain h =
     let value = bind_ok (value_of (codes "chain") (two_of row)) (chain_of messages) chain h in
     let are = chain_text_ok messages value.0 chain value.2 in
     (value.0, value_ok (codes "chain") row value.0 value.1, are.0, are.1)
 
-ok_chain : (messages : ℕ) (text : Field) (chain : List ℕ) → AreNumbers text chain → IsListed messages chain
+pub ok_chain : (messages : ℕ) (text : Field) (chain : List ℕ) → AreNumbers text chain → IsListed messages chain
     → chain_line messages (codes "chain" ∷ text ∷ []) ≡ Ok chain
 ok_chain messages text chain are listed = ap (λ r. r >>= chain_of messages) (ok_value (codes "chain") text) ∙ ok_chain_text messages text chain are listed
 
@@ -221,7 +221,7 @@ bound_ok (a ∷ b ∷ c ∷ []) sides h = by (is_bound a b c) refl (number_withi
         let whole : ◌≡◌ {A = ℕ × ℕ} (l, r) sides = cc in
         (b, c, ap (λ n. n ∷ b ∷ c ∷ []) name, subst (λ (s : ℕ × ℕ). IsTick b s.0) whole (limit_ok b l p), subst (λ (s : ℕ × ℕ). IsTick c s.1) whole (limit_ok c r q))
 
-ok_bound : (left_text right_text : Field) (left right : ℕ) → IsTick left_text left → IsTick right_text right
+pub ok_bound : (left_text right_text : Field) (left right : ℕ) → IsTick left_text left → IsTick right_text right
     → bound_line (codes "bound" ∷ left_text ∷ right_text ∷ []) ≡ Ok (left, right)
 ok_bound left_text right_text left right l r =
     rw (

@@ -9,5 +9,6 @@ pub mod Records
 pub mod Refusals
 pub mod Refused
 pub mod SpelledSummaries
+pub mod SpelledLines
 pub mod Exact
 pub mod Laws

@@ -10,6 +10,7 @@ ghost use Rattle.waff_plan_text.specs.Exact.{PlanIsExact};
 ghost use Rattle.waff_plan_text.specs.Given.{Given, SummaryLines};
 ghost use Rattle.waff_plan_text.specs.Laws.{WrittenIsRead};
 ghost use Rattle.waff_plan_text.specs.Refused.{FirstFaultDecides};
+ghost use Rattle.waff_plan_text.specs.SpelledLines.{LinesAreExact};
 ghost use Rattle.waff_plan_text.specs.SpelledSummaries.{SummaryIsExact};
 
 /// A plan is read from the text that is written of it.
@@ -36,4 +37,10 @@ pub fn plan_is_exact()
 pub fn summary_is_exact()
     ensures exact { (version : Version) (messages : ℕ) (at : ℕ) (records : List Record) (summary : SummaryLines)
         → SummaryIsExact version messages at records summary }
+{}
+
+/// A record is accepted as a line of a summary where it is that line, is refused for a number where that is above
+/// the limit, and is refused as no line where it is none.
+pub fn lines_are_exact()
+    ensures exact { (messages : ℕ) (fields : Record) → LinesAreExact messages fields }
 {}
