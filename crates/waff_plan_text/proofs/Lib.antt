@@ -12,3 +12,4 @@ pub mod FaultLaws
 mod SpelledLaws
 pub mod SpelledLineLaws
 pub mod ExactLaws
+pub mod HeaderLaws

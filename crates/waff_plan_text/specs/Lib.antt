@@ -10,5 +10,6 @@ pub mod Refusals
 pub mod Refused
 pub mod SpelledSummaries
 pub mod SpelledLines
+pub mod Headers
 pub mod Exact
 pub mod Laws

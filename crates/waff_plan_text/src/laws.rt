@@ -8,6 +8,7 @@ ghost use Rattle.waff_parse.specs.Rows.{Record};
 ghost use Rattle.waff_plan.specs.Work.{Work};
 ghost use Rattle.waff_plan_text.specs.Exact.{PlanIsExact};
 ghost use Rattle.waff_plan_text.specs.Given.{Given, SummaryLines};
+ghost use Rattle.waff_plan_text.specs.Headers.{HeaderIsExact};
 ghost use Rattle.waff_plan_text.specs.Laws.{WrittenIsRead};
 ghost use Rattle.waff_plan_text.specs.Refused.{FirstFaultDecides};
 ghost use Rattle.waff_plan_text.specs.SpelledLines.{LinesAreExact};
@@ -43,4 +44,10 @@ pub fn summary_is_exact()
 /// the limit, and is refused as no line where it is none.
 pub fn lines_are_exact()
     ensures exact { (messages : ℕ) (fields : Record) → LinesAreExact messages fields }
+{}
+
+/// The first record is accepted where it is the header, and is refused where it is no text, where it is
+/// another record, and where there is none.
+pub fn header_is_exact()
+    ensures exact { (records : List Record) → HeaderIsExact records }
 {}
