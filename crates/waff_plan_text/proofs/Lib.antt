@@ -4,3 +4,12 @@ mod WalkLaws
 mod SlotLaws
 mod PlanLaws
 pub mod WrittenPlans
+mod RowLaws
+mod SummaryLaws
+mod PlaceLaws
+mod KeptLaws
+pub mod FaultLaws
+mod SpelledLaws
+pub mod SpelledLineLaws
+pub mod ExactLaws
+pub mod HeaderLaws

@@ -68,7 +68,7 @@ simple_row n s f name worker n_small named s_small f_small w_small =
     (All-cons IsSimple name (decimal s ∷ decimal f ∷ worker_field worker ∷ []) (simple_name name named)
     (three (decimal s) (decimal f) (worker_field worker) (simple_decimal s s_small) (simple_decimal f f_small) (simple_worker worker w_small)))
 
-simple_header : All IsSimple plan_header
+pub simple_header : All IsSimple plan_header
 simple_header =
     All-cons IsSimple (codes "message") (codes "affinity" ∷ codes "start" ∷ codes "finish" ∷ codes "worker" ∷ []) (simple_literal (codes "message") refl)
     (All-cons IsSimple (codes "affinity") (codes "start" ∷ codes "finish" ∷ codes "worker" ∷ []) (simple_literal (codes "affinity") refl)

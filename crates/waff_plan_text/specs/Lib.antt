@@ -7,4 +7,9 @@ pub mod Summaries
 pub mod PlanTexts
 pub mod Records
 pub mod Refusals
+pub mod Refused
+pub mod SpelledSummaries
+pub mod SpelledLines
+pub mod Headers
+pub mod Exact
 pub mod Laws

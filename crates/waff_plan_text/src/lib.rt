@@ -13,7 +13,7 @@
 //! - `given`: the plan that a text gives.
 //! - `reading`: the reader, over all records.
 //!
-//! `laws`: that what is written is read.
+//! `laws`: which texts are read, what the others are refused for, and that what is written is read.
 #![tactic(auto)]
 
 mod closing;
