@@ -213,8 +213,8 @@ fn needs(h: &Hierarchy, assigned: &[usize]) -> Vec<Vec<u32>> {
             above = above.max(latest[at]);
             at /= 2;
         }
-        // A message above is later than all that are open below it, or they are later than it.
-        if above > 0 && !found.contains(&(above - 1)) {
+        // Those that are open below came after the last one at or above, which need not be waited for beside them.
+        if found.is_empty() && above > 0 {
             found.push(above - 1);
         }
         open.insert(from, n as u32);
