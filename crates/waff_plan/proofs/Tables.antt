@@ -95,12 +95,12 @@ module _ (n : ℕ) (stands finish : ℕ → ℕ) (places blocks : List (Option L
       (λ i h. let after : p ≤ stands i = h.1.0 in let before : stands i < p + 1 = h.1.1 in (h.0, omega arith))
       (standing.places_each p)
 
-  pub at_block : (from to : ℕ) → from ≡ 64 * (from / 64) → to ≡ from + 64 → IsLatestAt n stands finish from to (get_or blocks (from / 64) None)
-  at_block from to starts ends =
-      found_same (λ i. IsUpTo n i × (stands i / 64 ≡ from / 64)) (λ i. IsUpTo n i × ((from ≤ stands i) × (stands i < to))) finish (get_or blocks (from / 64) None)
-      (λ i h. let same : stands i / 64 ≡ from / 64 = h.1 in (h.0, (omega arith, omega arith)))
-      (λ i h. let after : from ≤ stands i = h.1.0 in let before : stands i < to = h.1.1 in (h.0, omega arith))
-      (standing.blocks_each (from / 64))
+  pub at_block : (b : ℕ) → IsLatestAt n stands finish (b * 64) ((b + 1) * 64) (get_or blocks b None)
+  at_block b =
+      found_same (λ i. IsUpTo n i × (stands i / 64 ≡ b)) (λ i. IsUpTo n i × ((b * 64 ≤ stands i) × (stands i < (b + 1) * 64))) finish (get_or blocks b None)
+      (λ i h. let same : stands i / 64 ≡ b = h.1 in (h.0, (omega arith, omega arith)))
+      (λ i h. let after : b * 64 ≤ stands i = h.1.0 in let before : stands i < (b + 1) * 64 = h.1.1 in (h.0, omega arith))
+      (standing.blocks_each b)
 
 -- noting a message at one run of places after another
 pub noted_none : (from : ℕ) (message : Latest) (places blocks : List (Option Latest)) → IsNoted from from message places blocks places blocks
@@ -141,10 +141,9 @@ module _ (places blocks : List (Option Latest)) (message : Latest) where
       }
 
   -- a block
-  pub noted_block : (from to : ℕ) → from ≡ 64 * (from / 64) → to ≡ from + 64 → from / 64 < length blocks
-      → IsNoted from to message places blocks places (set blocks (from / 64) (later_of (get_or blocks (from / 64) None) (Some message)))
-  noted_block from to starts ends within =
-      let b = from / 64 in
+  pub noted_block : (b : ℕ) → b < length blocks
+      → IsNoted (b * 64) ((b + 1) * 64) message places blocks places (set blocks b (later_of (get_or blocks b None) (Some message)))
+  noted_block b within =
       let entry = later_of (get_or blocks b None) (Some message) in
       let other : (q : ℕ) → q / 64 ≢ b → noted_at places (set blocks b entry) q ≡ noted_at places blocks q
       = λ q other. ap (λ x. later_of (get_or places q None) x) (get_or-set_other blocks b (q / 64) entry None other) in

@@ -46,20 +46,31 @@ impl Spread {
         ensures blocks { length self.new.blocks.items ≡ length self.old.blocks.items }
         ensures noted { IsNoted from to message self.old.places.items self.old.blocks.items self.new.places.items self.new.blocks.items }
     {
-        let mut at = from;
-        while at < to {
-            let block = at / BLOCK;
-            let end = to.min((block + 1) * BLOCK);
-            if end - at == BLOCK {
-                self.blocks[block] = later(self.blocks[block], Some(message));
-            } else {
-                self.note_part(at, end, message);
-            }
-            at = end;
+        let (first, last) = (from.div_ceil(BLOCK), to / BLOCK);
+        if last <= first {
+            self.note_part(from, to, message);
+            return;
+        }
+        self.note_part(from, first * BLOCK, message);
+        self.note_blocks(first, last, message);
+        self.note_part(last * BLOCK, to, message);
+    }
+
+    /// Notes a message at all places of the blocks from `from` up to `to`.
+    fn note_blocks(&mut self, from: usize, to: usize, message: Latest)
+        requires forward { from ≤ to }
+        requires within { to ≤ length self.old.blocks.items }
+        ensures places { length self.new.places.items ≡ length self.old.places.items }
+        ensures blocks { length self.new.blocks.items ≡ length self.old.blocks.items }
+        ensures noted { IsNoted (from * 64) (to * 64) message self.old.places.items
+            self.old.blocks.items self.new.places.items self.new.blocks.items }
+    {
+        for block in from..to {
+            self.blocks[block] = later(self.blocks[block], Some(message));
         }
     }
 
-    /// Notes a message at places of one block.
+    /// Notes a message at the places from `from` up to `to`, one by one.
     fn note_part(&mut self, from: usize, to: usize, message: Latest)
         requires forward { from ≤ to }
         requires within { to ≤ length self.old.places.items }

@@ -51,23 +51,32 @@ impl Standing {
         ensures { (n : ℕ) (stands finish : ℕ → ℕ) → AreStanding n stands finish self.now.places.items self.now.blocks.items
             → IsLatestAt n stands finish from to result }
     {
+        let (first, last) = (from.div_ceil(BLOCK), to / BLOCK);
+        if last <= first {
+            return self.latest_part(from, to);
+        }
+        let before = self.latest_part(from, first * BLOCK);
+        let whole = self.latest_of_blocks(first, last);
+        let behind = self.latest_part(last * BLOCK, to);
+        later(later(before, whole), behind)
+    }
+
+    /// The latest message in the blocks from `from` up to `to`.
+    fn latest_of_blocks(&self, from: usize, to: usize) -> Option<Latest>
+        requires forward { from ≤ to }
+        requires within { to ≤ length self.now.blocks.items }
+        ensures { (n : ℕ) (stands finish : ℕ → ℕ)
+            → AreStanding n stands finish self.now.places.items self.now.blocks.items
+            → IsLatestAt n stands finish (from * 64) (to * 64) result }
+    {
         let mut latest = None;
-        let mut at = from;
-        while at < to {
-            let block = at / BLOCK;
-            let end = to.min((block + 1) * BLOCK);
-            let part = if end - at == BLOCK {
-                self.blocks[block]
-            } else {
-                self.latest_part(at, end)
-            };
-            latest = later(latest, part);
-            at = end;
+        for block in from..to {
+            latest = later(latest, self.blocks[block]);
         }
         latest
     }
 
-    /// The latest message at places of one block.
+    /// The latest message at the places from `from` up to `to`, looked at one by one.
     fn latest_part(&self, from: usize, to: usize) -> Option<Latest>
         requires forward { from ≤ to }
         requires within { to ≤ length self.now.places.items }
