@@ -150,9 +150,10 @@ impl<'a> Case<'a> {
         let mut walk = Walk::new(alloc, self.bytes);
         let _header = walk.next()?;
         if walk.find(first)? {
-            walk.push_place(text, "plan")?;
+            walk.push_place(text, "plan")
+        } else {
+            Ok(())
         }
-        Ok(())
     }
 
     /// Appends what there is to tell of a message.

@@ -32,17 +32,30 @@ fn refusal_words(
     fault: PlanTextError,
 ) -> Result<String, AllocError> {
     let mut text = String::new(alloc);
+    push_refusal(alloc, &mut text, version, messages, bytes, fault)?;
+    Ok(text)
+}
+
+/// Appends the record that has the fault, what was found and what is wanted.
+fn push_refusal(
+    alloc: Global,
+    text: &mut String,
+    version: Version,
+    messages: u32,
+    bytes: &[u8],
+    fault: PlanTextError,
+) -> Result<(), AllocError> {
     let summary = summary_of(alloc, bytes)?;
     let at = record_of(fault, summary);
     let mut walk = Walk::new(alloc, bytes);
-    walk.push_record(&mut text, "plan", at)?;
-    let before = at.saturating_sub(summary);
+    walk.push_record(text, "plan", at)?;
     match fault {
-        PlanTextError::Twice { .. } => push_twice(alloc, &mut text, bytes, walk.field(0))?,
-        PlanTextError::Summary { .. } => push_no_line(&mut text, version, messages, before)?,
-        _ => push_fault(&mut text, messages, &walk, fault)?,
+        PlanTextError::Twice { .. } => push_twice(alloc, text, bytes, walk.field(0)),
+        PlanTextError::Summary { .. } => {
+            push_no_line(text, version, messages, at.saturating_sub(summary))
+        }
+        _ => push_fault(text, messages, &walk, fault),
     }
-    Ok(text)
 }
 
 /// Appends what was found and what is wanted of the record at which the walk stands.
@@ -84,11 +97,8 @@ fn record_of(fault: PlanTextError, summary: u64) -> u64 {
 fn summary_of(alloc: Global, bytes: &[u8]) -> Result<u64, AllocError> {
     let mut walk = Walk::new(alloc, bytes);
     let _header = walk.next()?;
-    if walk.find("workers")? {
-        Ok(walk.at())
-    } else {
-        Ok(walk.at().saturating_add(1))
-    }
+    let behind = if walk.find("workers")? { 0 } else { 1 };
+    Ok(walk.at().saturating_add(behind))
 }
 
 /// Appends what the record has that no row has.

@@ -11,16 +11,28 @@ pub fn sizes_words(
     trace: Option<&[u8]>,
 ) -> Result<String, AllocError> {
     let layout = layout_of(alloc, hierarchy)?;
-    let affinities = layout.tree().len();
-    let cells = cells_of(&layout);
+    sizes_text(alloc, &layout, trace)
+}
+
+fn sizes_text(alloc: Global, layout: &Layout, trace: Option<&[u8]>) -> Result<String, AllocError> {
     let mut text = String::new(alloc);
-    write!(&mut text, "affinities: {affinities}, cells: {cells}")?;
-    if let Some(trace) = trace {
-        let messages = trace_of(alloc, &layout, trace)?.len();
-        write!(&mut text, ", messages: {messages}")?;
-    }
-    text.push_str("\n")?;
+    push_sizes(alloc, &mut text, layout, trace)?;
     Ok(text)
+}
+
+fn push_sizes(
+    alloc: Global,
+    text: &mut String,
+    layout: &Layout,
+    trace: Option<&[u8]>,
+) -> Result<(), AllocError> {
+    let (affinities, cells) = (layout.tree().len(), cells_of(layout));
+    write!(text, "affinities: {affinities}, cells: {cells}")?;
+    if let Some(trace) = trace {
+        let messages = trace_of(alloc, layout, trace)?.len();
+        write!(text, ", messages: {messages}")?;
+    }
+    text.push_str("\n")
 }
 
 fn cells_of(layout: &Layout) -> u64 {

@@ -18,14 +18,33 @@ pub fn trace_words(
     fault: TraceError,
 ) -> Result<String, AllocError> {
     let layout = layout_of(alloc, hierarchy)?;
+    refusal_text(alloc, &layout, trace, fault)
+}
+
+fn refusal_text(
+    alloc: Global,
+    layout: &Layout,
+    trace: &[u8],
+    fault: TraceError,
+) -> Result<String, AllocError> {
     let mut text = String::new(alloc);
+    push_refusal(alloc, &mut text, layout, trace, fault)?;
+    Ok(text)
+}
+
+/// Appends the record that has the fault, what was found and what is wanted.
+fn push_refusal(
+    alloc: Global,
+    text: &mut String,
+    layout: &Layout,
+    trace: &[u8],
+    fault: TraceError,
+) -> Result<(), AllocError> {
     let mut walk = Walk::new(alloc, trace);
     let _header = walk.next()?;
     let fields = walk.len();
-    let at = u64::from(record_of(fault));
-    walk.push_record(&mut text, "trace", at)?;
-    push_fault(&mut text, &layout, &walk, fields, fault)?;
-    Ok(text)
+    walk.push_record(text, "trace", u64::from(record_of(fault)))?;
+    push_fault(text, layout, &walk, fields, fault)
 }
 
 /// The number of the record that a fault tells.

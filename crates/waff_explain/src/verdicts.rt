@@ -1,10 +1,14 @@
 //! A verdict, with the messages that it names.
 
+ghost use Rattle.std.specs.Prelude.{◌≡◌, ◌<◌, All, length};
+ghost use Rattle.waff_model.specs.Messages.{sizes_of};
+
 use crate::case::Case;
 use crate::files::{layout_of, plan_of, trace_of};
 use std::alloc::{AllocError, Global};
-use waff_assign::assign;
+use waff_assign::{Assigned, assign};
 use waff_check::Verdict;
+use waff_model::{Layout, Trace, Tree};
 
 /// What the verdict tells of the plan: where a fault is, the messages that it names, what was found and what is wanted, or
 /// else how good the plan is.
@@ -16,18 +20,61 @@ pub fn verdict_words(
     verdict: Verdict,
 ) -> Result<String, AllocError> {
     let layout = layout_of(alloc, hierarchy)?;
-    let arrivals = trace_of(alloc, &layout, trace)?;
-    let assigned = assign(alloc, &layout, &arrivals)?;
-    let given = plan_of(alloc, &arrivals, plan)?;
+    words_under(alloc, &layout, trace, plan, verdict)
+}
+
+/// The words under a hierarchy.
+fn words_under(
+    alloc: Global,
+    layout: &Layout,
+    trace: &[u8],
+    plan: &[u8],
+    verdict: Verdict,
+) -> Result<String, AllocError> {
+    let trace = trace_of(alloc, layout, trace)?;
+    words_of_trace(alloc, layout, &trace, plan, verdict)
+}
+
+/// The words of a plan of this trace.
+fn words_of_trace(
+    alloc: Global,
+    layout: &Layout,
+    trace: &Trace,
+    plan: &[u8],
+    verdict: Verdict,
+) -> Result<String, AllocError>
+    requires fits { trace.now.sizes ≡ sizes_of layout.now.spaces }
+{
+    let assigned = assign(alloc, layout, trace)?;
+    words_of_plan(alloc, layout.tree(), &assigned, trace, plan, verdict)
+}
+
+/// The words of a plan of this trace, whose messages have these affinities.
+fn words_of_plan(
+    alloc: Global,
+    tree: &Tree,
+    assigned: &Assigned,
+    trace: &Trace,
+    plan: &[u8],
+    verdict: Verdict,
+) -> Result<String, AllocError>
+    requires lengths { length trace.now.messages ≡ length assigned.now }
+    requires known { All (λ a. a < length tree.now) assigned.now }
+{
+    let given = plan_of(alloc, trace, plan)?;
     let case = Case {
-        tree: layout.tree(),
-        assigned: &assigned,
-        trace: &arrivals,
+        tree,
+        assigned,
+        trace,
         given: &given,
         bytes: plan,
     };
+    finding_text(alloc, &case, verdict)
+}
+
+fn finding_text(alloc: Global, case: &Case<'_>, verdict: Verdict) -> Result<String, AllocError> {
     let mut text = String::new(alloc);
-    push_finding(alloc, &mut text, &case, verdict)?;
+    push_finding(alloc, &mut text, case, verdict)?;
     Ok(text)
 }
 
