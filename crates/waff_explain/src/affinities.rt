@@ -1,6 +1,6 @@
 //! A tree of affinities that is refused.
 
-use crate::document::{push_row, rows, text_at};
+use crate::document::{place_of, push_row, rows, text_at};
 use crate::shown::Shown;
 use std::alloc::AllocError;
 use toml::Value;
@@ -31,23 +31,20 @@ fn has_error(affinities: &[Value], number: usize, row: &Value, error: TreeError)
     let name = text_at(row, "name");
     match error {
         TreeError::Name => !is_name(name),
-        TreeError::Twice => place_of(affinities, number, name).is_some(),
+        TreeError::Twice => place_of(affinities, number, "name", name).is_some(),
         TreeError::SecondRoot => number > 0 && row.get("parent").is_none(),
         TreeError::ParentUnknown => match row.get("parent") {
-            Some(parent) => place_of(affinities, number, parent.as_str().unwrap_or("")).is_none(),
+            Some(parent) => place_of(
+                affinities,
+                number,
+                "name",
+                parent.as_str().unwrap_or(""),
+            ).is_none(),
             None => false,
         },
         TreeError::TooMany => number >= MAX_AFFINITIES,
         TreeError::NoRoot | TreeError::Memory => false,
     }
-}
-
-/// The first of these many affinities that has the name.
-fn place_of(affinities: &[Value], many: usize, name: &str) -> Option<usize> {
-    affinities
-        .iter()
-        .take(many)
-        .position(|row| text_at(row, "name") == name)
 }
 
 fn push_error(
@@ -65,7 +62,7 @@ fn push_error(
             "found: the name `{name}`\nwanted: a name, 1 to {MAX_NAME} of A-Z a-z 0-9 . _ -"
         ),
         TreeError::Twice => {
-            let other = place_of(affinities, number, text_at(row, "name")).unwrap_or(0);
+            let other = place_of(affinities, number, "name", text_at(row, "name")).unwrap_or(0);
             writeln!(
                 text,
                 "found: the name `{name}`, which affinity {other} has\nwanted: a name that no affinity before it has"
@@ -95,7 +92,7 @@ fn push_unknown(
 ) -> Result<(), AllocError> {
     let shown = Shown(parent.as_bytes());
     write!(text, "found: the parent `{shown}`, which ")?;
-    match place_of(affinities, affinities.len(), parent) {
+    match place_of(affinities, affinities.len(), "name", parent) {
         Some(place) if place == number => text.push_str("is the affinity itself\n")?,
         Some(place) => writeln!(text, "is affinity {place}, behind it")?,
         None => text.push_str("no affinity has as its name\n")?,

@@ -24,6 +24,14 @@ pub(crate) fn text_at<'a>(value: &'a Value, key: &str) -> &'a str {
     }
 }
 
+/// The first of these many tables that has the text at the key.
+pub(crate) fn place_of(tables: &[Value], many: usize, key: &str, name: &str) -> Option<usize> {
+    tables
+        .iter()
+        .take(many)
+        .position(|row| text_at(row, key) == name)
+}
+
 /// Appends where a table stands: of which kind it is, its number from 0, and its name.
 pub(crate) fn push_row(
     text: &mut String,
@@ -89,6 +97,16 @@ impl Wanted {
             },
         }
     }
+
+    /// The line that tells what is wanted.
+    fn words(self) -> &'static str {
+        match self {
+            Wanted::Text => "wanted: a text\n",
+            Wanted::TextOrNone => "wanted: a text, or no such key\n",
+            Wanted::Integer => "wanted: an integer\n",
+            Wanted::Texts => "wanted: an array of texts\n",
+        }
+    }
 }
 
 /// Appends which table has no value of its type at the key, and what stands there.
@@ -98,32 +116,30 @@ pub(crate) fn push_no_key(text: &mut String, document: &Value, key: Key) -> Resu
         Key::Spaces => push_no_tables(text, document, "space"),
         Key::Maps => push_no_tables(text, document, "map"),
         Key::Name => {
-            if !push_first(text, document, "affinity", "name", Wanted::Text)? {
-                let _found = push_first(text, document, "space", "name", Wanted::Text)?;
+            if push_first(text, document, "affinity", "name", Wanted::Text)? {
+                text.push_str(Wanted::Text.words())
+            } else {
+                push_misfit(text, document, "space", "name", Wanted::Text)
             }
-            text.push_str("wanted: a text\n")
         }
-        Key::Parent => {
-            let _found = push_first(text, document, "affinity", "parent", Wanted::TextOrNone)?;
-            text.push_str("wanted: a text, or no such key\n")
-        }
-        Key::Size => {
-            let _found = push_first(text, document, "space", "size", Wanted::Integer)?;
-            text.push_str("wanted: an integer\n")
-        }
-        Key::Space => {
-            let _found = push_first(text, document, "map", "space", Wanted::Text)?;
-            text.push_str("wanted: a text\n")
-        }
-        Key::Unit => {
-            let _found = push_first(text, document, "map", "unit", Wanted::Integer)?;
-            text.push_str("wanted: an integer\n")
-        }
-        Key::To => {
-            let _found = push_first(text, document, "map", "to", Wanted::Texts)?;
-            text.push_str("wanted: an array of texts\n")
-        }
+        Key::Parent => push_misfit(text, document, "affinity", "parent", Wanted::TextOrNone),
+        Key::Size => push_misfit(text, document, "space", "size", Wanted::Integer),
+        Key::Space => push_misfit(text, document, "map", "space", Wanted::Text),
+        Key::Unit => push_misfit(text, document, "map", "unit", Wanted::Integer),
+        Key::To => push_misfit(text, document, "map", "to", Wanted::Texts),
     }
+}
+
+/// Appends the first table of this kind whose value at the key is not of its type, what it is, and what is wanted.
+fn push_misfit(
+    text: &mut String,
+    document: &Value,
+    kind: &str,
+    key: &str,
+    wanted: Wanted,
+) -> Result<(), AllocError> {
+    let _found = push_first(text, document, kind, key, wanted)?;
+    text.push_str(wanted.words())
 }
 
 /// Appends that there is no array of tables of this kind.

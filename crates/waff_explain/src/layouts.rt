@@ -1,6 +1,6 @@
 //! Spaces and maps that are refused.
 
-use crate::document::{push_row, rows, text_at};
+use crate::document::{place_of, push_row, rows, text_at};
 use crate::shown::Shown;
 use std::alloc::AllocError;
 use toml::Value;
@@ -68,14 +68,6 @@ fn push_no_space_of(text: &mut String, spaces: &[Value], maps: &[Value]) -> Resu
         }
     }
     Ok(())
-}
-
-/// The first of these many tables that has the text at the key.
-fn place_of(tables: &[Value], many: usize, key: &str, name: &str) -> Option<usize> {
-    tables
-        .iter()
-        .take(many)
-        .position(|row| text_at(row, key) == name)
 }
 
 /// Appends which table has a number outside of 1 to the most.
