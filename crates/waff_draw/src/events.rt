@@ -11,14 +11,13 @@ ghost use Rattle.waff_draw.specs.Lanes.{is_among, lanes_of, row_of};
 ghost use Rattle.waff_draw.specs.Scene.{Scene, lanes_in, scene_of, worker_count};
 
 use crate::bars::{Chart, row_of_worker};
-use crate::lanes::{Lane, lanes, rows};
-use crate::marks::marks;
+use crate::chart::chart;
+use crate::lanes::{Lane, lanes};
 use crate::pieces::push_worker_name;
 use serde_json::Value;
 use std::alloc::{AllocError, Global};
 use waff_assign::Assigned;
 use waff_model::{AffinityId, Trace, Tree};
-use waff_plan::Plan;
 use waff_plan_text::GivenPlan;
 
 /// A message as it runs in a thread of a process.
@@ -46,25 +45,65 @@ pub fn events_text(
     requires rows { length given.now.rows ≡ length trace.now.messages }
     ensures { IfOk result (λ text. string_bytes text ≡ events_text (scene_of tree.now assigned.now trace.now.messages given.now)) }
 {
-    let starts = given.starts(alloc)?;
-    let plan = Plan::of_starts(alloc, trace, starts.as_slice())?;
     let lanes = lanes(alloc, tree, assigned)?;
-    let chart = Chart {
-        rows: rows(alloc, tree.len() as usize, lanes.as_slice())?,
-        links: marks(alloc, trace.len() as usize + 1, given.chain())?,
-        plan,
-    };
-    let first = lanes.len() as u64;
+    let chart = chart(alloc, tree, assigned, trace, given, lanes.as_slice())?;
+    told_text(
+        alloc,
+        tree,
+        assigned,
+        trace,
+        given,
+        lanes.as_slice(),
+        &chart,
+    )
+}
+
+/// The events of a plan by its lanes and its chart.
+fn told_text(
+    alloc: Global,
+    tree: &Tree,
+    assigned: &Assigned,
+    trace: &Trace,
+    given: &GivenPlan,
+    lanes: &[Lane],
+    chart: &Chart,
+) -> Result<String, AllocError>
+    requires chart { IsChart (scene_of tree.now assigned.now trace.now.messages given.now) chart.now }
+    requires lanes { lanes.now ≡ lanes_of tree.now assigned.now }
+    requires lanes_known { All (λ lane. lane.affinity < length tree.now) lanes.now }
+    requires few { length lanes.now ≤ 65536 }
+    ensures { IfOk result (λ text. string_bytes text ≡ events_text (scene_of tree.now assigned.now trace.now.messages given.now)) }
+{
     let mut text = String::new(alloc);
-    push_document_start(&mut text)?;
-    push_affinity_threads(alloc, &mut text, tree, &lanes)?;
-    push_worker_threads(alloc, &mut text, first, given.workers())?;
-    push_affinity_events(alloc, &mut text, tree, assigned, trace, given, &chart)?;
-    push_worker_events(
-        alloc, &mut text, tree, assigned, trace, given, &chart, first,
-    )?;
-    push_document_end(&mut text)?;
+    push_document(alloc, &mut text, tree, assigned, trace, given, lanes, chart)?;
     Ok(text)
+}
+
+/// Appends the document.
+fn push_document(
+    alloc: Global,
+    text: &mut String,
+    tree: &Tree,
+    assigned: &Assigned,
+    trace: &Trace,
+    given: &GivenPlan,
+    lanes: &[Lane],
+    chart: &Chart,
+) -> Result<(), AllocError>
+    requires chart { IsChart (scene_of tree.now assigned.now trace.now.messages given.now) chart.now }
+    requires lanes { lanes.now ≡ lanes_of tree.now assigned.now }
+    requires lanes_known { All (λ lane. lane.affinity < length tree.now) lanes.now }
+    requires few { length lanes.now ≤ 65536 }
+    ensures { OnOk result (string_bytes text.new ≡ string_bytes text.old
+        ++ events_text (scene_of tree.now assigned.now trace.now.messages given.now)) }
+{
+    let first = lanes.len() as u64;
+    push_document_start(text)?;
+    push_affinity_threads(alloc, text, tree, lanes)?;
+    push_worker_threads(alloc, text, first, given.summary().workers)?;
+    push_affinity_events(alloc, text, tree, assigned, trace, given, chart)?;
+    push_worker_events(alloc, text, tree, assigned, trace, given, chart, first)?;
+    push_document_end(text)
 }
 
 /// Appends the start of the document, with the process of the affinities.

@@ -9,6 +9,7 @@
 
 mod axis;
 mod bars;
+mod chart;
 mod events;
 mod lanes;
 mod laws;

@@ -4,6 +4,7 @@ ghost use Rattle.std.specs.Prelude.{◌≡◌, ◌+◌, ◌*◌, ◌^◌, ◌<�
 ghost use Rattle.std.specs.List.{flat_map, range_with_len};
 ghost use Rattle.waff_model.specs.declared.message.Message.{Message};
 ghost use Rattle.waff_plan.specs.Timetable.{timings_of};
+ghost use Rattle.waff_draw.specs.Charts.{IsChart};
 ghost use Rattle.waff_draw.specs.Lanes.{lanes_of};
 ghost use Rattle.waff_draw.specs.Scene.{scene_of, worker_count};
 ghost use Rattle.waff_draw.specs.Axis.{step_of};
@@ -12,8 +13,8 @@ ghost use Rattle.waff_draw.specs.Svg.{affinity_lane, affinity_lane_text, each_st
 
 use crate::axis::step;
 use crate::bars::{Chart, push_affinity_bars, push_worker_bars};
-use crate::lanes::{Lane, lanes, rows};
-use crate::marks::marks;
+use crate::chart::chart;
+use crate::lanes::{Lane, lanes};
 use crate::pieces::{
     push_document_end, push_grid_line, push_heading_end, push_heading_start, push_lane_end,
     push_lane_start, push_legend, push_plan_start, push_style, push_tick_label, push_top_start,
@@ -40,28 +41,62 @@ pub fn svg_text(
     requires rows { length given.now.rows ≡ length trace.now.messages }
     ensures { IfOk result (λ text. string_bytes text ≡ svg_text (scene_of tree.now assigned.now trace.now.messages given.now)) }
 {
-    let starts = given.starts(alloc)?;
-    let plan = Plan::of_starts(alloc, trace, starts.as_slice())?;
     let lanes = lanes(alloc, tree, assigned)?;
-    let chart = Chart {
-        rows: rows(alloc, tree.len() as usize, lanes.as_slice())?,
-        links: marks(alloc, trace.len() as usize + 1, given.chain())?,
-        plan,
-    };
-    let mut text = String::new(alloc);
-    push_ground(&mut text, tree, &lanes, given, &chart.plan)?;
-    push_affinity_bars(&mut text, tree, assigned, trace, given, &chart)?;
-    push_worker_bars(
-        &mut text,
+    let chart = chart(alloc, tree, assigned, trace, given, lanes.as_slice())?;
+    drawn_text(
+        alloc,
         tree,
         assigned,
         trace,
         given,
+        lanes.as_slice(),
         &chart,
-        lanes.len() as u64,
-    )?;
-    push_document_end(&mut text)?;
+    )
+}
+
+/// The picture of a plan by its lanes and its chart.
+fn drawn_text(
+    alloc: Global,
+    tree: &Tree,
+    assigned: &Assigned,
+    trace: &Trace,
+    given: &GivenPlan,
+    lanes: &[Lane],
+    chart: &Chart,
+) -> Result<String, AllocError>
+    requires chart { IsChart (scene_of tree.now assigned.now trace.now.messages given.now) chart.now }
+    requires lanes { lanes.now ≡ lanes_of tree.now assigned.now }
+    requires lanes_known { All (λ lane. lane.affinity < length tree.now) lanes.now }
+    requires few { length lanes.now ≤ 65536 }
+    ensures { IfOk result (λ text. string_bytes text ≡ svg_text (scene_of tree.now assigned.now trace.now.messages given.now)) }
+{
+    let mut text = String::new(alloc);
+    push_picture(&mut text, tree, assigned, trace, given, lanes, chart)?;
     Ok(text)
+}
+
+/// Appends the picture.
+fn push_picture(
+    text: &mut String,
+    tree: &Tree,
+    assigned: &Assigned,
+    trace: &Trace,
+    given: &GivenPlan,
+    lanes: &[Lane],
+    chart: &Chart,
+) -> Result<(), AllocError>
+    requires chart { IsChart (scene_of tree.now assigned.now trace.now.messages given.now) chart.now }
+    requires lanes { lanes.now ≡ lanes_of tree.now assigned.now }
+    requires lanes_known { All (λ lane. lane.affinity < length tree.now) lanes.now }
+    requires few { length lanes.now ≤ 65536 }
+    ensures { OnOk result (string_bytes text.new ≡ string_bytes text.old
+        ++ svg_text (scene_of tree.now assigned.now trace.now.messages given.now)) }
+{
+    let first = lanes.len() as u64;
+    push_ground(text, tree, lanes, given, &chart.plan)?;
+    push_affinity_bars(text, tree, assigned, trace, given, chart)?;
+    push_worker_bars(text, tree, assigned, trace, given, chart, first)?;
+    push_document_end(text)
 }
 
 /// Appends all that stands before the bars.
