@@ -49,7 +49,9 @@ impl Board {
     {
         let Board { table, setup, heap } = self;
         let chair = chair_of(seat);
-        state_left(table, chair, &setup.job, heap)
+        let state = state_left(table, chair, &setup.job, heap);
+        drop(setup);
+        state
     }
 }
 
@@ -104,13 +106,17 @@ fn parcels_left(
     ensures refused { IfErr result (Refuses chair.me.0) }
 {
     let Ok(parcels) = Vec::with_capacity(heap, table.slot_count()) else {
+        drop(table);
         return Err(CloseError::Memory);
     };
     let closed = table.close_with(chair);
     let unfinished = first_unfinished(&closed, job.len());
     let parcels = unload(closed, parcels);
     match unfinished {
-        Some(message) => Err(CloseError::Unfinished { message }),
+        Some(message) => {
+            drop(parcels);
+            Err(CloseError::Unfinished { message })
+        }
         None => Ok(parcels),
     }
 }

@@ -98,8 +98,13 @@ fn make(alloc: Global, setup: Setup) -> Result<(Board, Vec<Seat>), AllocError>
     ensures fresh { IfOk result (λ made. AreFresh 1 made.1.items) }
 {
     let (board, chair) = open(alloc, setup)?;
-    let seats = board.seat_all(chair)?;
-    Ok((board, seats))
+    match board.seat_all(chair) {
+        Ok(seats) => Ok((board, seats)),
+        Err(e) => {
+            drop(board);
+            Err(e)
+        }
+    }
 }
 
 /// The board that is told this, and the chair of its first seat.
@@ -113,13 +118,20 @@ fn open(
     ensures table { IfOk result (λ made. made.1.table_id ≡ made.0.table.shared.table_id) }
     ensures me { IfOk result (λ made. made.1.me ≡ (first setup, [])) }
 {
-    let (table, chair) = table_of(alloc, &setup)?;
-    let board = Board {
-        table,
-        setup,
-        heap: alloc,
-    };
-    Ok((board, chair))
+    match table_of(alloc, &setup) {
+        Ok((table, chair)) => {
+            let board = Board {
+                table,
+                setup,
+                heap: alloc,
+            };
+            Ok((board, chair))
+        }
+        Err(e) => {
+            drop(setup);
+            Err(e)
+        }
+    }
 }
 
 /// The table of a board that is told this, and the chair of its first seat.
