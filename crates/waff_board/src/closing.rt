@@ -2,20 +2,26 @@
 
 ghost use Rattle.std.specs.Prelude.{◌≡◌, ◌≢◌, ◌+◌, ◌<◌, ◌≤◌, ℕ, [], length, slice_index, vec_capacity, IfOk, IfErr, IfSome, IfNone};
 ghost use Rattle.std.specs.Slots.{slots_items, slots_len, IsFull};
+ghost use Rattle.waff_model.specs.Layout.{IsCell};
 ghost use Rattle.waff_model.specs.Messages.{sizes_of};
 ghost use Rattle.waff_model.specs.declared.cell.Cell.{Cell};
+ghost use Rattle.waff_cells.specs.Gathered.{LieIn, cells_of_parcels};
 ghost use Rattle.waff_cells.specs.Grid.{cells_in, HasSizes};
+ghost use Rattle.waff_cells.specs.Held.{rows_of};
 ghost use Rattle.waff_cells.specs.Serial.{serial};
 ghost use Rattle.waff_board.specs.Calls.{IsOf};
 ghost use Rattle.waff_board.specs.Endings.{Refuses};
 
 use crate::board::Board;
 use crate::hand::Hand;
+use crate::law::Law;
 use crate::tokens::EndSeat;
-use atomic_table::Closed;
+use crate::view::{Setup, View};
+use atomic_table::{Closed, Seat, Table};
 use std::alloc::Global;
 use thiserror::Error;
 use waff_cells::State;
+use waff_core::Job;
 
 /// The status word of a message that is done.
 const DONE: u64 = 2;
@@ -42,21 +48,76 @@ impl Board {
         ensures refused { IfErr result (Refuses seat.hand.chair.me.0) }
     {
         let Board { table, setup, heap } = self;
-        let EndSeat { hand } = seat;
-        let Hand { chair, .. } = hand;
-        let Ok(parcels) = Vec::with_capacity(heap, table.slot_count()) else {
-            return Err(CloseError::Memory);
-        };
-        let closed = table.close_with(chair);
-        let unfinished = first_unfinished(&closed, setup.job.len());
-        let parcels = unload(closed, parcels);
-        if let Some(message) = unfinished {
-            return Err(CloseError::Unfinished { message });
+        let chair = chair_of(seat);
+        let state = state_left(table, chair, &setup.job, heap);
+        drop(setup);
+        state
+    }
+}
+
+/// The chair of the seat.
+fn chair_of(seat: EndSeat) -> Seat<Vec<u64>, View>
+    ensures { result ≡ seat.hand.chair }
+{
+    let EndSeat { hand } = seat;
+    let Hand { chair, .. } = hand;
+    chair
+}
+
+/// The state that all messages of the job leave on the table.
+fn state_left(
+    table: Table<Vec<u64>, View, Setup, Law, Global>,
+    chair: Seat<Vec<u64>, View>,
+    job: &Job,
+    heap: Global,
+) -> Result<State, CloseError>
+    requires told { table.shared.key.job ≡ job.now }
+    requires words { table.shared.table_id.words ≡ length job.now.ops + 1 }
+    requires table { chair.table_id ≡ table.shared.table_id }
+    requires of { chair.me.0.job ≡ job.now }
+    ensures sizes { IfOk result (λ state. HasSizes state (sizes_of job.now.layout.spaces)) }
+    ensures cells { IfOk result (λ state. (cell : Cell)
+        → cells_in state cell ≡ serial job.now.ops (length job.now.ops) cell) }
+    ensures refused { IfErr result (Refuses chair.me.0) }
+{
+    let parcels = parcels_left(table, chair, job, heap)?;
+    let _ = job.len();
+    match State::of_parcels(heap, job.layout(), &parcels) {
+        Ok(state) => Ok(state),
+        Err(_) => Err(CloseError::Memory),
+    }
+}
+
+/// The parcels that all messages of the job leave on the table. The table's memory is freed.
+fn parcels_left(
+    table: Table<Vec<u64>, View, Setup, Law, Global>,
+    chair: Seat<Vec<u64>, View>,
+    job: &Job,
+    heap: Global,
+) -> Result<Vec<Vec<u64>>, CloseError>
+    requires told { table.shared.key.job ≡ job.now }
+    requires words { table.shared.table_id.words ≡ length job.now.ops + 1 }
+    requires table { chair.table_id ≡ table.shared.table_id }
+    requires of { chair.me.0.job ≡ job.now }
+    ensures lie { IfOk result (λ parcels. LieIn job.now.layout.spaces (rows_of parcels.items)) }
+    ensures cells { IfOk result (λ parcels. (cell : Cell) → IsCell job.now.layout.spaces cell
+        → cells_of_parcels job.now.layout.spaces (rows_of parcels.items) cell
+        ≡ serial job.now.ops (length job.now.ops) cell) }
+    ensures refused { IfErr result (Refuses chair.me.0) }
+{
+    let Ok(parcels) = Vec::with_capacity(heap, table.slot_count()) else {
+        drop(table);
+        return Err(CloseError::Memory);
+    };
+    let closed = table.close_with(chair);
+    let unfinished = first_unfinished(&closed, job.len());
+    let parcels = unload(closed, parcels);
+    match unfinished {
+        Some(message) => {
+            drop(parcels);
+            Err(CloseError::Unfinished { message })
         }
-        match State::of_parcels(heap, setup.job.layout(), &parcels) {
-            Ok(state) => Ok(state),
-            Err(_) => Err(CloseError::Memory),
-        }
+        None => Ok(parcels),
     }
 }
 

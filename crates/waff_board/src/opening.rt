@@ -1,13 +1,15 @@
 //! Making a board and its seats.
 
-ghost use Rattle.std.specs.Prelude.{◌≡◌, ◌≤◌, [], length, map, All, IfOk};
+ghost use Rattle.std.specs.Prelude.{◌≡◌, ◌+◌, ◌<◌, ◌≤◌, ◌^◌, [], length, map, replicate, All, IfOk};
 ghost use Rattle.waff_core.specs.declared.limits.TheConstants.{MAX_SEATS};
 ghost use Rattle.waff_board.specs.Calls.{IsOf};
 ghost use Rattle.waff_board.specs.Openings.{IsFresh, AreFresh, zero_parcels_of};
+ghost use Rattle.waff_board.specs.Rule.{IsSetup};
 ghost use Rattle.waff_board.specs.Seats.{first};
 
 use crate::board::Board;
 use crate::hand::Hand;
+use crate::law::Law;
 use crate::plays::MakeSeat;
 use crate::tokens::Seat;
 use crate::view::{Setup, View};
@@ -96,8 +98,13 @@ fn make(alloc: Global, setup: Setup) -> Result<(Board, Vec<Seat>), AllocError>
     ensures fresh { IfOk result (λ made. AreFresh 1 made.1.items) }
 {
     let (board, chair) = open(alloc, setup)?;
-    let seats = board.seat_all(chair)?;
-    Ok((board, seats))
+    match board.seat_all(chair) {
+        Ok(seats) => Ok((board, seats)),
+        Err(e) => {
+            drop(board);
+            Err(e)
+        }
+    }
 }
 
 /// The board that is told this, and the chair of its first seat.
@@ -111,17 +118,76 @@ fn open(
     ensures table { IfOk result (λ made. made.1.table_id ≡ made.0.table.shared.table_id) }
     ensures me { IfOk result (λ made. made.1.me ≡ (first setup, [])) }
 {
+    match table_of(alloc, &setup) {
+        Ok((table, chair)) => {
+            let board = Board {
+                table,
+                setup,
+                heap: alloc,
+            };
+            Ok((board, chair))
+        }
+        Err(e) => {
+            drop(setup);
+            Err(e)
+        }
+    }
+}
+
+/// The table of a board that is told this, and the chair of its first seat.
+fn table_of(
+    alloc: Global,
+    setup: &Setup,
+) -> Result<
+    (
+        Table<Vec<u64>, View, Setup, Law, Global>,
+        atomic_table::Seat<Vec<u64>, View>,
+    ),
+    AllocError,
+>
+    requires some { 1 ≤ setup.now.seats }
+    requires few { setup.now.seats ≤ MAX_SEATS }
+    ensures told { IfOk result (λ made. made.0.shared.key ≡ setup.now) }
+    ensures words { IfOk result (λ made. made.0.shared.table_id.words
+        ≡ length setup.now.job.ops + 1) }
+    ensures slots { IfOk result (λ made. made.0.shared.table_id.slots
+        ≡ length setup.now.job.layout.tree) }
+    ensures short { IfOk result (λ made. length setup.now.job.ops < 2 ^ 32) }
+    ensures table { IfOk result (λ made. made.1.table_id ≡ made.0.shared.table_id) }
+    ensures me { IfOk result (λ made. made.1.me ≡ (first setup.now, [])) }
+{
     let words = vec![in alloc; 0; setup.job.len() as usize + 1]?;
+    table_with(alloc, &words, setup)
+}
+
+/// The table of a board that is told this, with these words.
+fn table_with(
+    alloc: Global,
+    words: &[u64],
+    setup: &Setup,
+) -> Result<
+    (
+        Table<Vec<u64>, View, Setup, Law, Global>,
+        atomic_table::Seat<Vec<u64>, View>,
+    ),
+    AllocError,
+>
+    requires some { 1 ≤ setup.now.seats }
+    requires setup { IsSetup setup.now }
+    requires words { words.now ≡ replicate (length setup.now.job.ops + 1) 0 }
+    ensures told { IfOk result (λ made. made.0.shared.key ≡ setup.now) }
+    ensures words { IfOk result (λ made. made.0.shared.table_id.words
+        ≡ length setup.now.job.ops + 1) }
+    ensures slots { IfOk result (λ made. made.0.shared.table_id.slots
+        ≡ length setup.now.job.layout.tree) }
+    ensures table { IfOk result (λ made. made.1.table_id ≡ made.0.shared.table_id) }
+    ensures me { IfOk result (λ made. made.1.me ≡ (first setup.now, [])) }
+{
     let parcels = zero_parcels(alloc, setup.job.layout())?;
-    let Ok((table, chair)) = Table::new(alloc, &words, parcels, &setup) else {
-        return Err(AllocError);
-    };
-    let board = Board {
-        table,
-        setup,
-        heap: alloc,
-    };
-    Ok((board, chair))
+    match Table::new(alloc, words, parcels, setup) {
+        Ok(made) => Ok(made),
+        Err(_) => Err(AllocError),
+    }
 }
 
 /// The parcel of each affinity, with 0 in every cell.

@@ -2,14 +2,15 @@
 
 ghost use Rattle.std.specs.Prelude.{◌≡◌, ◌↔◌, ◌<◌, ◌≤◌, length, All, IsTrue, IfOk, IfErr, slice_get};
 ghost use Rattle.waff_model.specs.Cells.{cells_of};
-ghost use Rattle.waff_model.specs.Layout.{IsCell};
-ghost use Rattle.waff_model.specs.Messages.{sizes_of};
+ghost use Rattle.waff_model.specs.Layout.{IsCell, IsLayout};
+ghost use Rattle.waff_model.specs.Messages.{IsTrace, sizes_of};
 ghost use Rattle.waff_model.specs.declared.limits.TheConstants.{MAX_MESSAGES};
 ghost use Rattle.waff_assign.specs.Lowest.{IsAssignment};
 ghost use Rattle.waff_assign.specs.Order.{IsOrdered};
 ghost use Rattle.waff_order.specs.Needs.{AreNeeds, needs_of};
-ghost use Rattle.waff_cells.specs.Serial.{ops_of};
+ghost use Rattle.waff_cells.specs.Serial.{operations, ops_of};
 ghost use Rattle.waff_core.specs.Job.{IsJob, IsJobOf, IsOrder, owners_of};
+ghost use Rattle.waff_core.specs.Owners.{AreOwners};
 
 use crate::lists::Lists;
 use crate::operations::list_operations;
@@ -79,14 +80,21 @@ impl Job {
         ensures job { IfOk result IsJob }
         ensures refused { IfErr result (λ e. e ≡ JobError.Order → ¬ IsOrder needs order.now) }
     {
-        match is_order(alloc, &needs, order) {
-            Ok(true) => {}
-            Ok(false) => return Err(JobError::Order),
-            Err(_) => return Err(JobError::Memory),
-        }
-        match make(alloc, layout, trace, assigned, needs, order) {
-            Ok(job) => Ok(job),
-            Err(_) => Err(JobError::Memory),
+        let lists = lists_of(alloc, &layout, &trace, &needs, order);
+        drop(trace);
+        match lists {
+            Ok((ops, owners, order)) => Ok(Job {
+                layout,
+                ops,
+                assigned,
+                needs,
+                owners,
+                order,
+            }),
+            Err(e) => {
+                drop((layout, assigned, needs));
+                Err(e)
+            }
         }
     }
 
@@ -155,32 +163,51 @@ impl Job {
     }
 }
 
-/// The job with this order.
-fn make(
+/// The operations and the owners of the messages, and the order.
+fn lists_of(
     alloc: Global,
-    layout: Layout,
-    trace: Trace,
-    assigned: Assigned,
-    needs: Needs,
+    layout: &Layout,
+    trace: &Trace,
+    needs: &Needs,
     order: &[u32],
-) -> Result<Job, AllocError>
-    requires fits { trace.sizes ≡ sizes_of layout.spaces }
-    requires assignment { IsAssignment layout trace.messages assigned }
-    requires known { All (λ a. a < length layout.tree) assigned }
-    requires needs { AreNeeds layout.tree assigned needs }
-    requires order { IsOrder needs order.now }
-    ensures kept { IfOk result (λ job. IsJobOf layout trace.messages assigned needs order.now job) }
-    ensures job { IfOk result IsJob }
+) -> Result<(Lists<Op>, Lists<u16>, Vec<u32>), JobError>
+    requires fits { trace.now.sizes ≡ sizes_of layout.now.spaces }
+    ensures layout { IfOk result (λ lists. IsLayout layout.now) }
+    ensures trace { IfOk result (λ lists. IsTrace trace.now) }
+    ensures ops { IfOk result (λ lists. lists.0 ≡ operations trace.now.messages) }
+    ensures owners { IfOk result (λ lists. AreOwners layout.now.spaces lists.0 lists.1) }
+    ensures order { IfOk result (λ lists. lists.2.items ≡ order.now) }
+    ensures is_order { IfOk result (λ lists. IsOrder needs.now order.now) }
+    ensures refused { IfErr result (λ e. e ≡ JobError.Order → ¬ IsOrder needs.now order.now) }
 {
-    let ops = list_operations(alloc, &trace)?;
-    let owners = list_owners(alloc, &layout, &ops, trace.len())?;
+    match is_order(alloc, needs, order) {
+        Ok(true) => {}
+        Ok(false) => return Err(JobError::Order),
+        Err(_) => return Err(JobError::Memory),
+    }
+    match copy_lists(alloc, layout, trace, order) {
+        Ok(lists) => Ok(lists),
+        Err(_) => Err(JobError::Memory),
+    }
+}
+
+/// The operations and the owners of the messages, and the order.
+fn copy_lists(
+    alloc: Global,
+    layout: &Layout,
+    trace: &Trace,
+    order: &[u32],
+) -> Result<(Lists<Op>, Lists<u16>, Vec<u32>), AllocError>
+    requires fits { trace.now.sizes ≡ sizes_of layout.now.spaces }
+    ensures layout { IfOk result (λ lists. IsLayout layout.now) }
+    ensures trace { IfOk result (λ lists. IsTrace trace.now) }
+    ensures ops { IfOk result (λ lists. lists.0 ≡ operations trace.now.messages) }
+    ensures owners { IfOk result (λ lists. AreOwners layout.now.spaces lists.0 lists.1) }
+    ensures order { IfOk result (λ lists. lists.2.items ≡ order.now) }
+{
+    let _ = layout.space_count();
+    let ops = list_operations(alloc, trace)?;
+    let owners = list_owners(alloc, layout, &ops, trace.len())?;
     let order = Vec::from_slice(alloc, order)?;
-    Ok(Job {
-        layout,
-        ops,
-        assigned,
-        needs,
-        owners,
-        order,
-    })
+    Ok((ops, owners, order))
 }
