@@ -112,15 +112,16 @@ impl fmt::Display for PlanText {
     ghost output = { λ p. Some (plan_text_fault p.0) };
 
     fn fmt<W: fmt::Write>(&self, f: &mut fmt::Formatter<W>) -> fmt::Result {
-        match self.0 {
-            PlanTextError::Csv { at } => write!(f, "Csv {at}"),
-            PlanTextError::Header { at } => write!(f, "Header {at}"),
-            PlanTextError::Row { at } => write!(f, "Row {at}"),
-            PlanTextError::Missing { message } => write!(f, "Missing {message}"),
-            PlanTextError::Twice { at } => write!(f, "Twice {at}"),
-            PlanTextError::Summary { at } => write!(f, "Summary {at}"),
-            PlanTextError::TooLarge { at } => write!(f, "TooLarge {at}"),
-            PlanTextError::Memory => write!(f, "Memory"),
-        }
+        let (name, number) = match self.0 {
+            PlanTextError::Csv { at } => ("Csv", at),
+            PlanTextError::Header { at } => ("Header", at),
+            PlanTextError::Row { at } => ("Row", at),
+            PlanTextError::Missing { message } => ("Missing", u64::from(message)),
+            PlanTextError::Twice { at } => ("Twice", at),
+            PlanTextError::Summary { at } => ("Summary", at),
+            PlanTextError::TooLarge { at } => ("TooLarge", at),
+            PlanTextError::Memory => return f.write_str("Memory"),
+        };
+        write!(f, "{name} {number}")
     }
 }
