@@ -1,10 +1,11 @@
 //! The check of a plan text.
-ghost use Rattle.std.specs.Prelude.{◌≡◌, ◌≢◌, IfOk, IfErr, IsErrOf, string_bytes};
+ghost use Rattle.std.specs.Prelude.{◌≡◌, ◌≢◌, ◌<◌, ℕ, All, List, IfOk, IfErr, IsErrOf, length, string_bytes};
 ghost use Rattle.std.specs.Io.KnownBytes.{Appends, Keeps};
+ghost use Rattle.waff_tool.specs.Commands.{Accepts};
 ghost use Rattle.waff_tool.specs.CheckText.{IsCheckText, RefusesCheck, status_after, verdict_text};
 ghost use Rattle.waff_io.specs.Writing.{AppendsPart};
 
-use crate::commands::accept;
+use crate::commands::{Accepted, accept};
 use crate::fault::ToolError;
 use crate::output::write_text;
 use crate::verdict_line::VerdictFields;
@@ -49,6 +50,26 @@ pub(crate) fn made_verdict<R: Threads + Sync>(
     ensures nothing { IfErr result (λ e. e ≢ ToolError.Write) }
 {
     let accepted = accept(alloc, hierarchy, trace)?;
+    verdict_on(rt, alloc, &accepted, plan)
+}
+
+/// The verdict on the plan of the text for what was read.
+fn verdict_on<R: Threads + Sync>(
+    rt: &R,
+    alloc: Global,
+    accepted: &Accepted,
+    plan: &[u8],
+) -> Result<Verdict, ToolError>
+    requires lengths { length accepted.now.assigned ≡ length accepted.now.trace.messages }
+    requires known { All (λ affinity. affinity < length accepted.now.layout.tree) accepted.now.assigned }
+    ensures made { IfOk result (λ verdict. (hierarchy trace : List ℕ)
+        → Accepts hierarchy trace accepted.now.layout accepted.now.trace accepted.now.assigned
+        → IsCheckText hierarchy trace plan.now verdict) }
+    ensures refused { IfErr result (λ e. (hierarchy trace : List ℕ)
+        → Accepts hierarchy trace accepted.now.layout accepted.now.trace accepted.now.assigned
+        → RefusesCheck hierarchy trace plan.now e) }
+    ensures nothing { IfErr result (λ e. e ≢ ToolError.Write) }
+{
     let trace = &accepted.trace;
     let given = read_plan(alloc, trace.version(), trace.len(), plan)?;
     let tree = accepted.layout.tree();

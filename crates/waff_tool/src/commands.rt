@@ -97,7 +97,7 @@ fn made_assign_text(alloc: Global, hierarchy: &[u8], trace: &[u8]) -> Result<Str
 {
     let accepted = accept(alloc, hierarchy, trace)?;
     let tree = accepted.layout.tree();
-    Ok(assigned_text(alloc, tree, &accepted.trace, &accepted.assigned)?)
+    assigned_text(alloc, tree, &accepted.trace, &accepted.assigned).map_err(ToolError::from)
 }
 
 fn made_plan_text(
@@ -113,9 +113,26 @@ fn made_plan_text(
     ensures nothing { IfErr result (λ e. e ≢ ToolError.Write) }
 {
     let accepted = accept(alloc, hierarchy, trace)?;
+    planned_text(alloc, &accepted, workers).map_err(ToolError::from)
+}
+
+/// The text of the plan of what was read.
+fn planned_text(
+    alloc: Global,
+    accepted: &Accepted,
+    workers: Option<u32>,
+) -> Result<String, AllocError>
+    requires lengths { length accepted.now.assigned ≡ length accepted.now.trace.messages }
+    requires known { All (λ affinity. affinity < length accepted.now.layout.tree) accepted.now.assigned }
+    requires some { IfSome workers (λ k. 1 ≤ k) }
+    requires few { IfSome workers (λ k. k ≤ MAX_WORKERS) }
+    ensures { IfOk result (λ text. (hierarchy trace : List ℕ)
+        → Accepts hierarchy trace accepted.now.layout accepted.now.trace accepted.now.assigned
+        → IsPlanTextFor hierarchy trace workers (string_bytes text)) }
+{
     match workers {
-        None => Ok(made_unlimited_text(alloc, &accepted)?),
-        Some(k) => Ok(made_worker_text(alloc, &accepted, k)?),
+        None => made_unlimited_text(alloc, accepted),
+        Some(k) => made_worker_text(alloc, accepted, k),
     }
 }
 

@@ -4,7 +4,7 @@ ghost use Rattle.std.specs.Io.KnownBytes.{Appends, Keeps};
 ghost use Rattle.waff_model.specs.Layout.{SameSpaces};
 ghost use Rattle.waff_model.specs.Messages.{sizes_of};
 ghost use Rattle.waff_read.specs.Hierarchies.{hierarchy_of};
-ghost use Rattle.waff_tool.specs.Comparison.{AreModels, IsCompared, IsCompareText, RefusesComparison, RefusesHierarchy, RefusesModels};
+ghost use Rattle.waff_tool.specs.Comparison.{AreHierarchies, AreModels, IsCompared, IsCompareText, RefusesComparison, RefusesHierarchy};
 ghost use Rattle.waff_io.specs.Writing.{AppendsPart};
 
 use crate::fault::ToolError;
@@ -57,39 +57,9 @@ fn made_compare_text(
     ensures refused { IfErr result (RefusesComparison first.now second.now trace.now) }
     ensures nothing { IfErr result (λ e. e ≢ ToolError.Write) }
 {
-    let models = read_models(alloc, first, second)?;
-    let trace = read_trace(alloc, &models.classical, trace)?;
-    Ok(compared_text(alloc, &models, &trace, workers)?)
-}
-
-/// A classical and a hierarchical hierarchy.
-#[derive(Drop)]
-struct Models {
-    classical: Layout,
-    hierarchical: Layout,
-}
-
-/// Reads two hierarchies, which have to be of the same spaces and of different models.
-fn read_models(alloc: Global, first: &[u8], second: &[u8]) -> Result<Models, ToolError>
-    ensures models { IfOk result (λ models. AreModels first.now second.now models.classical models.hierarchical) }
-    ensures refused { IfErr result (RefusesModels first.now second.now) }
-{
     let first = read_numbered(alloc, 1, first)?;
     let second = read_numbered(alloc, 2, second)?;
-    if !first.same_spaces(&second) {
-        return Err(ToolError::SpacesDiffer);
-    }
-    match (first.kind(), second.kind()) {
-        (Kind::Classical, Kind::Hierarchical) => Ok(Models {
-            classical: first,
-            hierarchical: second,
-        }),
-        (Kind::Hierarchical, Kind::Classical) => Ok(Models {
-            classical: second,
-            hierarchical: first,
-        }),
-        _ => Err(ToolError::ModelsSame),
-    }
+    either_text(alloc, &first, &second, trace, workers)
 }
 
 /// Reads the hierarchy of this number.
@@ -103,21 +73,71 @@ fn read_numbered(alloc: Global, file: u8, hierarchy: &[u8]) -> Result<Layout, To
     }
 }
 
+/// The text that compares two hierarchies, given in either order, which have to be of the same spaces and of different models.
+fn either_text(
+    alloc: Global,
+    first: &Layout,
+    second: &Layout,
+    trace: &[u8],
+    k: u32,
+) -> Result<String, ToolError>
+    requires some { 1 ≤ k }
+    requires few { k ≤ MAX_WORKERS }
+    ensures made { IfOk result (λ text. (first_file second_file : List ℕ)
+        → AreHierarchies first_file second_file first.now second.now
+        → IsCompareText first_file second_file trace.now k (string_bytes text)) }
+    ensures refused { IfErr result (λ e. (first_file second_file : List ℕ)
+        → AreHierarchies first_file second_file first.now second.now
+        → RefusesComparison first_file second_file trace.now e) }
+    ensures nothing { IfErr result (λ e. e ≢ ToolError.Write) }
+{
+    if !first.same_spaces(second) {
+        return Err(ToolError::SpacesDiffer);
+    }
+    match (first.kind(), second.kind()) {
+        (Kind::Classical, Kind::Hierarchical) => models_text(alloc, first, second, trace, k),
+        (Kind::Hierarchical, Kind::Classical) => models_text(alloc, second, first, trace, k),
+        _ => Err(ToolError::ModelsSame),
+    }
+}
+
+/// The text that compares a classical and a hierarchical hierarchy of the same spaces on the trace of these bytes.
+fn models_text(
+    alloc: Global,
+    classical: &Layout,
+    hierarchical: &Layout,
+    trace: &[u8],
+    k: u32,
+) -> Result<String, ToolError>
+    requires same_spaces { SameSpaces classical.now.spaces hierarchical.now.spaces }
+    requires some { 1 ≤ k }
+    requires few { k ≤ MAX_WORKERS }
+    ensures made { IfOk result (λ text. (first_file second_file : List ℕ)
+        → AreModels first_file second_file classical.now hierarchical.now
+        → IsCompareText first_file second_file trace.now k (string_bytes text)) }
+    ensures refused { IfErr result (λ e. (first_file second_file : List ℕ)
+        → AreModels first_file second_file classical.now hierarchical.now
+        → RefusesComparison first_file second_file trace.now e) }
+    ensures nothing { IfErr result (λ e. e ≢ ToolError.Write) }
+{
+    let trace = read_trace(alloc, classical, trace)?;
+    compared_text(alloc, classical, hierarchical, &trace, k).map_err(ToolError::from)
+}
+
 /// The text that compares the models on the trace for k workers.
 fn compared_text(
     alloc: Global,
-    models: &Models,
+    classical: &Layout,
+    hierarchical: &Layout,
     trace: &Trace,
     k: u32,
 ) -> Result<String, AllocError>
-    requires fits { trace.now.sizes ≡ sizes_of models.now.classical.spaces }
-    requires same_spaces { SameSpaces models.now.classical.spaces models.now.hierarchical.spaces }
+    requires fits { trace.now.sizes ≡ sizes_of classical.now.spaces }
+    requires same_spaces { SameSpaces classical.now.spaces hierarchical.now.spaces }
     requires some { 1 ≤ k }
     requires few { k ≤ MAX_WORKERS }
-    ensures { IfOk result (λ text. IsCompared models.now.classical models.now.hierarchical trace.now k (string_bytes text)) }
+    ensures { IfOk result (λ text. IsCompared classical.now hierarchical.now trace.now k (string_bytes text)) }
 {
-    let classical = &models.classical;
-    let hierarchical = &models.hierarchical;
     let coarse = assign(alloc, classical, trace)?;
     let fine = assign(alloc, hierarchical, trace)?;
     let of_classical = measure(alloc, classical, &coarse, trace, k)?;

@@ -1,12 +1,13 @@
 //! The picture of a plan.
 ghost use Rattle.std.specs.Prelude.{◌≡◌, ◌≢◌, ◌<◌, ℕ, All, List, IfOk, IfErr, IsErrOf, OnOk, length, string_bytes};
 ghost use Rattle.std.specs.Io.KnownBytes.{Appends, Keeps};
+ghost use Rattle.waff_tool.specs.Commands.{Accepts};
 ghost use Rattle.waff_tool.specs.CheckText.{RefusesCheck};
 ghost use Rattle.waff_draw.specs.Scene.{scene_of};
 ghost use Rattle.waff_tool.specs.DrawText.{DrawTextIsOne, IsDrawText, picture_of};
 ghost use Rattle.waff_io.specs.Writing.{AppendsPart};
 
-use crate::commands::accept;
+use crate::commands::{Accepted, accept};
 use crate::fault::ToolError;
 use crate::output::write_text;
 use std::alloc::{AllocError, Global};
@@ -57,6 +58,26 @@ fn made_picture(
     ensures nothing { IfErr result (λ e. e ≢ ToolError.Write) }
 {
     let accepted = accept(alloc, hierarchy, trace)?;
+    picture_on(alloc, &accepted, plan, picture)
+}
+
+/// The picture of the plan of the text for what was read.
+fn picture_on(
+    alloc: Global,
+    accepted: &Accepted,
+    plan: &[u8],
+    picture: Picture,
+) -> Result<String, ToolError>
+    requires lengths { length accepted.now.assigned ≡ length accepted.now.trace.messages }
+    requires known { All (λ affinity. affinity < length accepted.now.layout.tree) accepted.now.assigned }
+    ensures made { IfOk result (λ text. (hierarchy trace : List ℕ)
+        → Accepts hierarchy trace accepted.now.layout accepted.now.trace accepted.now.assigned
+        → IsDrawText hierarchy trace plan.now picture (string_bytes text)) }
+    ensures refused { IfErr result (λ e. (hierarchy trace : List ℕ)
+        → Accepts hierarchy trace accepted.now.layout accepted.now.trace accepted.now.assigned
+        → RefusesCheck hierarchy trace plan.now e) }
+    ensures nothing { IfErr result (λ e. e ≢ ToolError.Write) }
+{
     let trace = &accepted.trace;
     let given = read_plan(alloc, trace.version(), trace.len(), plan)?;
     let tree = accepted.layout.tree();

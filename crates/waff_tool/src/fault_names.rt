@@ -85,21 +85,22 @@ impl fmt::Display for Trace {
     ghost output = { λ t. Some (trace_fault t.0) };
 
     fn fmt<W: fmt::Write>(&self, f: &mut fmt::Formatter<W>) -> fmt::Result {
-        match self.0 {
-            TraceError::Csv { at } => write!(f, "Csv {at}"),
-            TraceError::Header { at } => write!(f, "Header {at}"),
-            TraceError::Fields { at } => write!(f, "Fields {at}"),
-            TraceError::Name { at } => write!(f, "Name {at}"),
-            TraceError::Cost { at } => write!(f, "Cost {at}"),
-            TraceError::NoOps { at } => write!(f, "NoOps {at}"),
-            TraceError::Op { at } => write!(f, "Op {at}"),
-            TraceError::SpaceUnknown { at } => write!(f, "SpaceUnknown {at}"),
-            TraceError::IndexTooLarge { at } => write!(f, "IndexTooLarge {at}"),
-            TraceError::TooManyOps { at } => write!(f, "TooManyOps {at}"),
-            TraceError::TooManyMessages { at } => write!(f, "TooManyMessages {at}"),
-            TraceError::Memory => write!(f, "Memory"),
-            TraceError::Release { at } => write!(f, "Release {at}"),
-        }
+        let (name, at) = match self.0 {
+            TraceError::Csv { at } => ("Csv", at),
+            TraceError::Header { at } => ("Header", at),
+            TraceError::Fields { at } => ("Fields", at),
+            TraceError::Name { at } => ("Name", at),
+            TraceError::Cost { at } => ("Cost", at),
+            TraceError::NoOps { at } => ("NoOps", at),
+            TraceError::Op { at } => ("Op", at),
+            TraceError::SpaceUnknown { at } => ("SpaceUnknown", at),
+            TraceError::IndexTooLarge { at } => ("IndexTooLarge", at),
+            TraceError::TooManyOps { at } => ("TooManyOps", at),
+            TraceError::TooManyMessages { at } => ("TooManyMessages", at),
+            TraceError::Memory => return f.write_str("Memory"),
+            TraceError::Release { at } => ("Release", at),
+        };
+        write!(f, "{name} {at}")
     }
 }
 
@@ -111,15 +112,16 @@ impl fmt::Display for PlanText {
     ghost output = { λ p. Some (plan_text_fault p.0) };
 
     fn fmt<W: fmt::Write>(&self, f: &mut fmt::Formatter<W>) -> fmt::Result {
-        match self.0 {
-            PlanTextError::Csv { at } => write!(f, "Csv {at}"),
-            PlanTextError::Header { at } => write!(f, "Header {at}"),
-            PlanTextError::Row { at } => write!(f, "Row {at}"),
-            PlanTextError::Missing { message } => write!(f, "Missing {message}"),
-            PlanTextError::Twice { at } => write!(f, "Twice {at}"),
-            PlanTextError::Summary { at } => write!(f, "Summary {at}"),
-            PlanTextError::TooLarge { at } => write!(f, "TooLarge {at}"),
-            PlanTextError::Memory => write!(f, "Memory"),
-        }
+        let (name, number) = match self.0 {
+            PlanTextError::Csv { at } => ("Csv", at),
+            PlanTextError::Header { at } => ("Header", at),
+            PlanTextError::Row { at } => ("Row", at),
+            PlanTextError::Missing { message } => ("Missing", u64::from(message)),
+            PlanTextError::Twice { at } => ("Twice", at),
+            PlanTextError::Summary { at } => ("Summary", at),
+            PlanTextError::TooLarge { at } => ("TooLarge", at),
+            PlanTextError::Memory => return f.write_str("Memory"),
+        };
+        write!(f, "{name} {number}")
     }
 }

@@ -1,8 +1,11 @@
 //! What is told of a trace under one hierarchy, and the text that tells it of two.
-ghost use Rattle.std.specs.Prelude.{◌≡◌, ◌<◌, ◌≤◌, ◌++◌, All, IfOk, OnOk, length, string_bytes};
+ghost use Rattle.std.specs.Prelude.{◌≡◌, ◌<◌, ◌≤◌, ◌++◌, ℕ, All, IfOk, List, None, OnOk, Some, length, string_bytes};
+ghost use Rattle.waff_assign.specs.Order.{IsOrdered};
 ghost use Rattle.waff_plan.specs.Timetable.{timings_of};
-ghost use Rattle.waff_plan.specs.Timing.{work_of};
+ghost use Rattle.waff_plan.specs.Timing.{start_of, work_of};
+ghost use Rattle.waff_plan.specs.Totals.{totals_of};
 ghost use Rattle.waff_plan_text.specs.Lines.{line_text, text_of};
+ghost use Rattle.waff_tool.specs.Certificates.{IsBounded, IsCertified};
 ghost use Rattle.waff_tool.specs.Comparison.{IsMeasured, compare_lines, kind_field, measured_line, measures_header};
 
 use std::alloc::{AllocError, Global};
@@ -38,19 +41,57 @@ pub fn measure(
     requires few { k ≤ MAX_WORKERS }
     ensures { IfOk result (IsMeasured layout.now assigned.now (work_of (timings_of trace.now.messages)) k) }
 {
+    let unlimited = unlimited_totals(alloc, layout, assigned, trace)?;
+    let listed = list_totals(alloc, layout, assigned, trace, k)?;
+    Ok(Measured {
+        kind: layout.kind(),
+        unlimited,
+        listed,
+    })
+}
+
+/// What is told of the unlimited plan.
+fn unlimited_totals(
+    alloc: Global,
+    layout: &Layout,
+    assigned: &Assigned,
+    trace: &Trace,
+) -> Result<Totals, AllocError>
+    requires lengths { length assigned.now ≡ length trace.now.messages }
+    requires known { All (λ a. a < length layout.now.tree) assigned.now }
+    ensures { IfOk result (λ totals. (starts : List ℕ) × (chain : List ℕ)
+        × IsCertified (IsOrdered layout.now.tree assigned.now) (work_of (timings_of trace.now.messages)) (start_of starts) chain
+        × (totals ≡ totals_of None (work_of (timings_of trace.now.messages)) (start_of starts) chain)) }
+{
     let tree = layout.tree();
     let plan = plan(alloc, tree, assigned, trace)?;
     let chain = chain(alloc, tree, assigned, &plan)?;
+    Ok(plan.totals(None, chain.messages()))
+}
+
+/// What is told of the list plan for k workers.
+fn list_totals(
+    alloc: Global,
+    layout: &Layout,
+    assigned: &Assigned,
+    trace: &Trace,
+    k: u32,
+) -> Result<Totals, AllocError>
+    requires lengths { length assigned.now ≡ length trace.now.messages }
+    requires known { All (λ a. a < length layout.now.tree) assigned.now }
+    requires some { 1 ≤ k }
+    requires few { k ≤ MAX_WORKERS }
+    ensures { IfOk result (λ totals. (starts : List ℕ) × (chain : List ℕ)
+        × IsBounded (IsOrdered layout.now.tree assigned.now) (work_of (timings_of trace.now.messages)) k (start_of starts) chain
+        × (totals ≡ totals_of (Some k) (work_of (timings_of trace.now.messages)) (start_of starts) chain)) }
+{
+    let tree = layout.tree();
     let needs = needs(alloc, tree, assigned)?;
     let made = list_plan(alloc, &needs, trace, k)?;
-    let list_chain = list_chain(alloc, tree, assigned, &made)?;
+    let chain = list_chain(alloc, tree, assigned, &made)?;
     let listed = made.plan();
     needs_make_the_same_plans();
-    Ok(Measured {
-        kind: layout.kind(),
-        unlimited: plan.totals(None, chain.messages()),
-        listed: listed.totals(Some(k), list_chain.messages()),
-    })
+    Ok(listed.totals(Some(k), chain.messages()))
 }
 
 /// The lines of a comparison for k workers.

@@ -5,7 +5,9 @@ ghost use Rattle.std.specs.Io.KnownBytes.{Appends, Keeps};
 ghost use Rattle.waff_model.specs.Messages.{IsTrace, sizes_of};
 ghost use Rattle.waff_assign.specs.Lowest.{IsAssignment};
 ghost use Rattle.waff_cells.specs.Serial.{operations};
+ghost use Rattle.waff_core.specs.Job.{IsOrder};
 ghost use Rattle.waff_io.specs.Writing.{AppendsPart};
+ghost use Rattle.waff_order.specs.Needs.{AreNeeds};
 ghost use Rattle.waff_plan_text.specs.Lines.{text_of};
 ghost use Rattle.waff_tool.specs.Commands.{Refuses};
 ghost use Rattle.waff_tool.specs.ReplayText.{IsReplayText, state_after, state_lines};
@@ -21,7 +23,8 @@ use std::thread::Threads;
 use waff_core::limits::MAX_SEATS;
 use waff_core::{Job, JobError};
 use waff_list::laws::needs_make_the_same_plans;
-use waff_list::list_plan;
+use waff_list::{WorkerPlan, list_plan};
+use waff_order::Needs;
 use waff_order::predecessors::needs;
 use waff_replay::{Open, replay};
 
@@ -99,17 +102,35 @@ fn job_in_list_order(alloc: Global, accepted: Accepted, k: u32) -> Result<Job, A
     ensures layout { IfOk result (λ job. job.layout ≡ accepted.layout) }
     ensures ops { IfOk result (λ job. job.ops ≡ operations accepted.trace.messages) }
 {
+    let (needs, plan) = needs_and_plan(alloc, &accepted, k)?;
     let Accepted {
         layout,
         trace,
         assigned,
     } = accepted;
-    let needs = needs(alloc, layout.tree(), &assigned)?;
-    let plan = list_plan(alloc, &needs, &trace, k)?;
-    needs_make_the_same_plans();
     match Job::new(alloc, layout, trace, assigned, needs, plan.order()) {
         Ok(job) => Ok(job),
         Err(JobError::Memory) => Err(AllocError),
         Err(JobError::Order) => unreachable!(),
     }
+}
+
+/// The needs of the messages of what was accepted, and their list plan for k workers.
+fn needs_and_plan(
+    alloc: Global,
+    accepted: &Accepted,
+    k: u32,
+) -> Result<(Needs, WorkerPlan), AllocError>
+    requires trace { IsTrace accepted.now.trace }
+    requires assignment { IsAssignment accepted.now.layout accepted.now.trace.messages accepted.now.assigned }
+    requires known { All (λ affinity. affinity < length accepted.now.layout.tree) accepted.now.assigned }
+    requires some { 1 ≤ k }
+    requires few { k ≤ MAX_SEATS }
+    ensures needs { IfOk result (λ made. AreNeeds accepted.now.layout.tree accepted.now.assigned made.0) }
+    ensures order { IfOk result (λ made. IsOrder made.0 made.1.order) }
+{
+    let needs = needs(alloc, accepted.layout.tree(), &accepted.assigned)?;
+    let plan = list_plan(alloc, &needs, &accepted.trace, k)?;
+    needs_make_the_same_plans();
+    Ok((needs, plan))
 }

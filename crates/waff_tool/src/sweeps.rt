@@ -38,7 +38,7 @@ fn made_sweep_text(alloc: Global, hierarchy: &[u8], trace: &[u8]) -> Result<Stri
     ensures nothing { IfErr result (λ e. e ≢ ToolError.Write) }
 {
     let accepted = accept(alloc, hierarchy, trace)?;
-    Ok(swept_text(alloc, &accepted)?)
+    swept_text(alloc, &accepted).map_err(ToolError::from)
 }
 
 /// The text of a sweep of what was read.

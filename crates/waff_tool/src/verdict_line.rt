@@ -14,18 +14,19 @@ impl fmt::Display for VerdictFields {
     ghost output = { λ v. Some (join_with_byte 44 (verdict_fields v.0)) };
 
     fn fmt<W: fmt::Write>(&self, f: &mut fmt::Formatter<W>) -> fmt::Result {
-        match self.0 {
-            Verdict::Overlap { first, second } => write!(f, "overlap,{first},{second}"),
-            Verdict::TooManyAt { tick } => write!(f, "toomany,{tick}"),
-            Verdict::Worker { message } => write!(f, "worker,{message}"),
-            Verdict::Affinity { message } => write!(f, "affinity,{message}"),
-            Verdict::Finish { message } => write!(f, "finish,{message}"),
-            Verdict::Totals => write!(f, "totals"),
-            Verdict::NotAChain { place } => write!(f, "notachain,{place}"),
-            Verdict::Obeys => write!(f, "obeys"),
-            Verdict::Shortest => write!(f, "shortest"),
-            Verdict::WithinBound => write!(f, "withinbound"),
-            Verdict::Early { message } => write!(f, "early,{message}"),
-        }
+        let (name, number) = match self.0 {
+            Verdict::Overlap { first, second } => return write!(f, "overlap,{first},{second}"),
+            Verdict::TooManyAt { tick } => ("toomany", tick),
+            Verdict::Worker { message } => ("worker", u64::from(message)),
+            Verdict::Affinity { message } => ("affinity", u64::from(message)),
+            Verdict::Finish { message } => ("finish", u64::from(message)),
+            Verdict::Totals => return f.write_str("totals"),
+            Verdict::NotAChain { place } => ("notachain", place),
+            Verdict::Obeys => return f.write_str("obeys"),
+            Verdict::Shortest => return f.write_str("shortest"),
+            Verdict::WithinBound => return f.write_str("withinbound"),
+            Verdict::Early { message } => ("early", u64::from(message)),
+        };
+        write!(f, "{name},{number}")
     }
 }

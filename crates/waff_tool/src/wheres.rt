@@ -47,10 +47,21 @@ fn made_where_text(
     ensures nothing { IfErr result (λ e. e ≢ ToolError.Write) }
 {
     let accepted = accept(alloc, hierarchy, trace)?;
+    spent_text(alloc, &accepted, by_name).map_err(ToolError::from)
+}
+
+/// The text of where the time of what was read goes.
+fn spent_text(alloc: Global, accepted: &Accepted, by_name: bool) -> Result<String, AllocError>
+    requires lengths { length accepted.now.assigned ≡ length accepted.now.trace.messages }
+    requires known { All (λ affinity. affinity < length accepted.now.layout.tree) accepted.now.assigned }
+    ensures { IfOk result (λ text. (hierarchy trace : List ℕ)
+        → Accepts hierarchy trace accepted.now.layout accepted.now.trace accepted.now.assigned
+        → IsWhereText hierarchy trace by_name (string_bytes text)) }
+{
     if by_name {
-        Ok(made_names_text(alloc, &accepted)?)
+        made_names_text(alloc, accepted)
     } else {
-        Ok(made_affinities_text(alloc, &accepted)?)
+        made_affinities_text(alloc, accepted)
     }
 }
 

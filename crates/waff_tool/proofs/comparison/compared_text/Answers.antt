@@ -11,8 +11,8 @@ use Rattle.waff_tool.proofs.comparison.compared_text.Goals as goal
 
 pub returns : goal.returns
 returns c =
-    let classical = c.args.models.now.classical in
-    let hierarchical = c.args.models.now.hierarchical in
+    let classical = c.args.classical.now in
+    let hierarchical = c.args.hierarchical.now in
     let trace = c.args.trace.now in
     let coarse = c.in_ok-coarse.coarse in
     let fine = c.in_ok-fine.fine in

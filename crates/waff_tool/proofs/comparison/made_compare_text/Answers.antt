@@ -1,15 +1,17 @@
-use Rattle.std.proofs.lemmas.Result.{err_from_is_err_and}
-use Rattle.waff_tool.proofs.ComparisonLemmas.{trace_is_read, trace_is_refused}
+use Rattle.std.proofs.Common.{ℕ, List, string_bytes}
+use Rattle.std.proofs.lemmas.Result.{IfOk-weaker}
+use Rattle.waff_tool.specs.Comparison.{AreHierarchies, IsCompareText}
 use Rattle.waff_tool.proofs.comparison.made_compare_text.Goals as goal
 
-pub returns-in_err-trace-clause-refused : goal.returns-in_err-trace-clause-refused
-returns-in_err-trace-clause-refused c =
-    let p = err_from_is_err_and c.from_residual-in_err-trace.result c.from_residual-in_err-trace.ensures.1 in
-    rw (p.1, p.2)
-    (trace_is_refused c.args.first.now c.args.second.now c.args.trace.now c.in_ok-models.models.classical
-    c.in_ok-models.models.hierarchical c.in_err-trace.field-0.0 c.in_ok-models.ensures.models c.in_err-trace.ensures.exact)
-
-pub returns-in_err-trace-clause-nothing : goal.returns-in_err-trace-clause-nothing
-returns-in_err-trace-clause-nothing c =
-    let p = err_from_is_err_and c.from_residual-in_err-trace.result c.from_residual-in_err-trace.ensures.1 in
-    rw (p.1, p.2) (trace_is_read c.in_err-trace.field-0.0)
+pub returns-clause-made : goal.returns-clause-made
+returns-clause-made c =
+    let first = c.args.first.now in
+    let second = c.args.second.now in
+    let trace = c.args.trace.now in
+    let k = c.args.workers in
+    IfOk-weaker c.either_text.result
+    (λ text. (first_file second_file : List ℕ) → AreHierarchies first_file second_file c.in_ok-first.first c.in_ok-second.second
+    → IsCompareText first_file second_file trace k (string_bytes text))
+    (λ text. IsCompareText first second trace k (string_bytes text))
+    (λ text made. made first second (c.in_ok-first.ensures.layout, c.in_ok-second.ensures.layout))
+    c.either_text.ensures.made

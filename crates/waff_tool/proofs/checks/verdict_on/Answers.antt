@@ -1,8 +1,8 @@
-use Rattle.waff_tool.proofs.checks.made_verdict.Goals as goal
+use Rattle.waff_tool.proofs.checks.verdict_on.Goals as goal
 
 pub returns-clause-made : goal.returns-clause-made
-returns-clause-made g c =
-    let accepted = c.in_ok-accepted.accepted in
+returns-clause-made g c hierarchy trace accepts =
+    let accepted = c.args.accepted.now in
     let tree = c.tree-tree.ensures in
     let given = rw (c.version.ensures, c.len.ensures.count) at c.in_ok-given.ensures.exact in
     let promised = c.in_ok-check.ensures in
@@ -11,7 +11,7 @@ returns-clause-made g c =
       trace = accepted.trace;
       assigned = accepted.assigned;
       given = c.in_ok-given.given;
-      accepts = c.in_ok-accepted.ensures.accepted;
+      accepts = accepts;
       is_plan = given;
       verdict = rw tree at promised.verdict;
       obeys = rw tree at promised.obeys;

@@ -1,8 +1,8 @@
-use Rattle.waff_tool.proofs.draws.made_picture.Goals as goal
+use Rattle.waff_tool.proofs.draws.picture_on.Goals as goal
 
 pub returns-clause-made : goal.returns-clause-made
-returns-clause-made c =
-    let accepted = c.in_ok-accepted.accepted in
+returns-clause-made c hierarchy trace accepts =
+    let accepted = c.args.accepted.now in
     let tree = c.tree-tree.ensures in
     let given = rw (c.version.ensures, c.len.ensures.count) at c.in_ok-given.ensures.exact in
     record {
@@ -10,7 +10,7 @@ returns-clause-made c =
       trace = accepted.trace;
       assigned = accepted.assigned;
       given = c.in_ok-given.given;
-      accepts = c.in_ok-accepted.ensures.accepted;
+      accepts = accepts;
       is_plan = given;
       drawn = rw tree at c.in_ok-pictured.ensures;
     }
