@@ -163,7 +163,7 @@ impl Job {
     }
 }
 
-/// The operations and the owners of the messages, and the order.
+/// The lists of a job: the operations and the owners of the messages, and the order, if it is one.
 fn lists_of(
     alloc: Global,
     layout: &Layout,
