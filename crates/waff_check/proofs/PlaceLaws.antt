@@ -40,13 +40,7 @@ first_true-range P a (suc n) (true ∷ bs) h lt =
     (omega arith, subst P same (h.0.0 refl), λ i below p. omega arith)
 first_true-range P a (suc n) (false ∷ bs) h lt = later P a n (first_true bs) (omega arith) (λ p. cc (h.0.1 p)) (first_true-range P (a + 1) n bs h.1 (omega arith))
 
--- the first of n places from 0 on
-pub first-place : (P : ℕ → Type 0) (n : ℕ) (xs : List ℕ) (bs : List Bool) (o : Option ℕ) → AllZip (λ x b. (b ≡ true → P x) × (P x → b ≡ true)) xs bs
-    → xs ≡ range_with_len 0 n → n < 2 ^ 64 - 1 → o ≡ first_true bs → IsFirstPlace P n o
-first-place P n xs bs o zip is lt first = rw first (from-zero (first_true bs) (first_true-range P 0 n bs (rw is at zip) lt))
-  where
-    from-zero : (r : Option ℕ) → At P 0 n r → IsFirstPlace P n r
-    from-zero None h = λ i below p. let same : i ≡ 0 + i = omega arith in h i below (subst P same p)
-    from-zero (Some k) h =
-        let same : 0 + k ≡ k = omega arith in
-        (h.0, subst P same h.1, λ i below p. let at : i ≡ 0 + i = omega arith in h.2 i below (subst P at p))
+-- the first of n places from a on
+pub first-place : (P : ℕ → Type 0) (a n : ℕ) (xs : List ℕ) (bs : List Bool) (o : Option ℕ) → AllZip (λ x b. (b ≡ true → P x) × (P x → b ≡ true)) xs bs
+    → xs ≡ range_with_len a n → n < 2 ^ 64 - 1 → o ≡ first_true bs → IsFirstPlace (λ i. P (a + i)) n o
+first-place P a n xs bs o zip is lt first = rw first (first_true-range P a n bs (rw is at zip) lt)

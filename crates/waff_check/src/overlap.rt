@@ -1,7 +1,8 @@
 //! Ordered pairs of which the second message starts too early.
 
-ghost use Rattle.std.specs.Prelude.{◌≡◌, ◌+◌, ◌<◌, ◌≤◌, ◌↔◌, ℕ, All, IfOk, IfSome, IsTrue, MatchOption, length};
+ghost use Rattle.std.specs.Prelude.{◌≡◌, ◌+◌, ◌-◌, ◌<◌, ◌≤◌, ◌↔◌, ℕ, All, IfOk, IfSome, IsTrue, MatchOption, length};
 ghost use Rattle.waff_assign.specs.Order.{IsOrdered};
+ghost use Rattle.waff_plan.specs.Obeys.{IsAmong, KeepsOrder};
 ghost use Rattle.waff_plan.specs.Timing.{start_of, work_of};
 ghost use Rattle.waff_check.specs.Searches.{HasOverlap, IsFirstPlace, IsSearchable};
 ghost use Rattle.waff_check.specs.Faults.{IsFirstOverlap, IsLeastOf, NoneOf, Overlaps};
@@ -46,44 +47,81 @@ fn second_of(tree: &Tree, assigned: &Assigned, plan: &Plan, i: u32) -> Option<u3
     None
 }
 
-// The first place, from 0, of a message that overlaps with another one. A thread looks at one message after another.
+// So many of the first messages overlap with none: all, or those before the first that does. The number is halved in on.
+fn kept_ones(
+    alloc: Global,
+    tree: &Tree,
+    assigned: &Assigned,
+    plan: &Plan,
+) -> Result<u32, AllocError>
+    requires lengths { length plan.now.timings ≡ length assigned.now }
+    requires known { All (λ a. a < length tree.now) assigned.now }
+    ensures many { IfOk result (λ kept. kept ≤ length assigned.now) }
+    ensures kept { IfOk result (λ kept. KeepsOrder (IsAmong kept (IsOrdered tree.now assigned.now)) (work_of plan.now.timings) (start_of plan.now.starts)) }
+{
+    let messages = assigned.len();
+    if keeps_order(alloc, tree, assigned, plan, messages)? {
+        return Ok(messages);
+    }
+    let mut kept = 0;
+    let mut broken = messages;
+    while kept + 1 < broken {
+        let half = kept + (broken - kept) / 2;
+        if keeps_order(alloc, tree, assigned, plan, half)? {
+            kept = half;
+        } else {
+            broken = half;
+        }
+    }
+    Ok(kept)
+}
+
+// The first place, from the one that is `from`, of a message that overlaps with another one. A thread looks at one message after
+// another.
 fn first_place<R: Threads + Sync>(
     rt: &R,
     tree: &Tree,
     assigned: &Assigned,
     plan: &Plan,
+    from: u32,
 ) -> Option<usize>
     requires lengths { length plan.now.timings ≡ length assigned.now }
     requires known { All (λ a. a < length tree.now) assigned.now }
-    ensures { IsFirstPlace (HasOverlap tree.now assigned.now plan.now.timings plan.now.starts) (length assigned.now) result }
+    requires many { from ≤ length assigned.now }
+    ensures { IsFirstPlace (λ i. HasOverlap tree.now assigned.now plan.now.timings plan.now.starts (from + i)) (length assigned.now - from) result }
 {
-    (0..assigned.len() as usize).into_par_iter().position_first(
-        rt,
-        |i: usize| -> bool
-            requires { IsSearchable tree.now assigned.now plan.now.timings i }
-            ensures { IsTrue result ↔ HasOverlap tree.entry.now assigned.entry.now plan.entry.now.timings plan.entry.now.starts i }
-        { second_of(tree, assigned, plan, i as u32 + 1).is_some() },
-    )
+    (from as usize..assigned.len() as usize)
+        .into_par_iter()
+        .position_first(
+            rt,
+            |i: usize| -> bool
+                requires { IsSearchable tree.now assigned.now plan.now.timings i }
+                ensures { IsTrue result ↔ HasOverlap tree.entry.now assigned.entry.now plan.entry.now.timings plan.entry.now.starts i }
+            { second_of(tree, assigned, plan, i as u32 + 1).is_some() },
+        )
 }
 
-// The first pair that overlaps, by a walk over the pairs.
+// The first pair that overlaps, by a walk over the pairs of which the first message is none of the `kept` first.
 fn first_pair<R: Threads + Sync>(
     rt: &R,
     tree: &Tree,
     assigned: &Assigned,
     plan: &Plan,
+    kept: u32,
 ) -> Option<(u32, u32)>
     requires lengths { length plan.now.timings ≡ length assigned.now }
     requires known { All (λ a. a < length tree.now) assigned.now }
+    requires many { kept ≤ length assigned.now }
+    requires kept { KeepsOrder (IsAmong kept (IsOrdered tree.now assigned.now)) (work_of plan.now.timings) (start_of plan.now.starts) }
     ensures { MatchOption result
         ((i j : ℕ) → Overlaps (IsOrdered tree.now assigned.now) (work_of plan.now.timings) (start_of plan.now.starts) i j → ⊥)
         (λ pair. IsFirstOverlap (IsOrdered tree.now assigned.now) (work_of plan.now.timings) (start_of plan.now.starts) pair.0 pair.1) }
 {
     let _messages = assigned.len();
-    match first_place(rt, tree, assigned, plan) {
+    match first_place(rt, tree, assigned, plan, kept) {
         None => None,
         Some(place) => {
-            let first = place as u32 + 1;
+            let first = kept + place as u32 + 1;
             match second_of(tree, assigned, plan, first) {
                 Some(second) => Some((first, second)),
                 None => unreachable!("the place is that of an overlap"),
@@ -93,7 +131,7 @@ fn first_pair<R: Threads + Sync>(
 }
 
 /// The first pair that overlaps: the least first message, and the least second message with it. The pairs are walked over only
-/// where there is one.
+/// from the first message on that overlaps with a later one.
 pub(crate) fn first_overlap<R: Threads + Sync>(
     rt: &R,
     alloc: Global,
@@ -107,8 +145,6 @@ pub(crate) fn first_overlap<R: Threads + Sync>(
         ((i j : ℕ) → Overlaps (IsOrdered tree.now assigned.now) (work_of plan.now.timings) (start_of plan.now.starts) i j → ⊥)
         (λ pair. IsFirstOverlap (IsOrdered tree.now assigned.now) (work_of plan.now.timings) (start_of plan.now.starts) pair.0 pair.1)) }
 {
-    if keeps_order(alloc, tree, assigned, plan)? {
-        return Ok(None);
-    }
-    Ok(first_pair(rt, tree, assigned, plan))
+    let kept = kept_ones(alloc, tree, assigned, plan)?;
+    Ok(first_pair(rt, tree, assigned, plan, kept))
 }

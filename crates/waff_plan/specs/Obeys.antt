@@ -9,6 +9,11 @@ pub record IsForward (before : ℕ → ℕ → Type 0) (work : Work) : Type 0 wh
   pub earlier : (i j : ℕ) → before i j → i < j
   pub to : (i j : ℕ) → before i j → j ≤ work.count
 
+-- a pair of the order the first message of which is one of the first n
+pub record IsAmong (n : ℕ) (before : ℕ → ℕ → Type 0) (i j : ℕ) : Type 0 where
+  pub ordered : before i j
+  pub within : i ≤ n
+
 -- no message starts before the finish of one that is before it
 abbrev pub KeepsOrder : (ℕ → ℕ → Type 0) → Work → (ℕ → ℕ) → Type 0
 KeepsOrder before work start = (i j : ℕ) → before i j → finish_of work start i ≤ start j

@@ -1,8 +1,8 @@
-//! Whether a plan keeps the order of the messages.
+//! Whether a plan keeps the order of the messages, or that of the first ones with all later ones.
 
 ghost use Rattle.std.specs.Prelude.{◌≡◌, ◌<◌, ◌≤◌, ◌↔◌, length, All, IfOk, IfSome, IsTrue};
 ghost use Rattle.waff_assign.specs.Order.{IsOrdered};
-ghost use Rattle.waff_plan.specs.Obeys.{KeepsOrder};
+ghost use Rattle.waff_plan.specs.Obeys.{IsAmong, KeepsOrder};
 ghost use Rattle.waff_plan.specs.Timing.{work_of, start_of};
 
 use crate::Plan;
@@ -12,17 +12,18 @@ use std::alloc::{AllocError, Global};
 use waff_assign::Assigned;
 use waff_model::Tree;
 
-/// Whether each message starts only when every earlier message that excludes it has finished. Each
-/// message is looked at once, by the place of its affinity.
+/// Whether each message starts only when every earlier one of the first `count` that excludes it
+/// has finished. Each message is looked at once, by the place of its affinity.
 pub fn keeps_order(
     alloc: Global,
     tree: &Tree,
     assigned: &Assigned,
     plan: &Plan,
+    count: u32,
 ) -> Result<bool, AllocError>
     requires lengths { length plan.now.timings ≡ length assigned.now }
     requires known { All (λ a. a < length tree.now) assigned.now }
-    ensures { IfOk result (λ kept. IsTrue kept ↔ KeepsOrder (IsOrdered tree.now assigned.now)
+    ensures { IfOk result (λ kept. IsTrue kept ↔ KeepsOrder (IsAmong count (IsOrdered tree.now assigned.now))
         (work_of plan.now.timings) (start_of plan.now.starts)) }
 {
     let places = tree.places();
@@ -32,8 +33,10 @@ pub fn keeps_order(
         if !is_finished_by(table.latest(place), plan.start(m)) {
             return Ok(false);
         }
-        let finish = plan.finish(m);
-        table.note(place, Latest { finish, number: m });
+        if m <= count {
+            let finish = plan.finish(m);
+            table.note(place, Latest { finish, number: m });
+        }
     }
     Ok(true)
 }

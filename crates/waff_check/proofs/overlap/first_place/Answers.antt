@@ -12,7 +12,7 @@ position_first-requires-clause-items g c κs =
     let ends = c.into_par_iter.ensures in
     let r = c.requires in
     let few = c.len.ensures.few in
-    let inside = nat_range-All (IsSearchable c.args.tree.now c.args.assigned.now c.args.plan.now.timings) 0 c.len.result
+    let inside = nat_range-All (IsSearchable c.args.tree.now c.args.assigned.now c.args.plan.now.timings) c.args.from c.len.result
     (λ i low high. record { lengths = r.lengths; known = r.known; few = few; below = omega (arith, c.len.ensures.count) }) in
     rw (ends.0, ends.1) (λ crossing. inside)
 
@@ -20,7 +20,7 @@ pub returns : goal.returns
 returns g c =
     let ends = c.into_par_iter.ensures in
     let done = c.position_first.ensures in
-    let n = length c.args.assigned.now in
-    let count : c.len.result - 0 ≡ n = omega (arith, c.len.ensures.count) in
-    let list = done.2 ∙ (λ i. nat_range (ends.0 i) (ends.1 i)) ∙ ap (range_with_len 0) count in
-    first-place (HasOverlap c.args.tree.now c.args.assigned.now c.args.plan.now.timings c.args.plan.now.starts) n done.0 done.1 c.position_first.result done.3 list (omega (arith, c.len.ensures.few)) done.4
+    let n = length c.args.assigned.now - c.args.from in
+    let count : c.len.result - c.args.from ≡ n = omega (arith, c.len.ensures.count) in
+    let list = done.2 ∙ (λ i. nat_range (ends.0 i) (ends.1 i)) ∙ ap (range_with_len c.args.from) count in
+    first-place (HasOverlap c.args.tree.now c.args.assigned.now c.args.plan.now.timings c.args.plan.now.starts) c.args.from n done.0 done.1 c.position_first.result done.3 list (omega (arith, c.len.ensures.few)) done.4

@@ -1,19 +1,43 @@
--- Each message starts after the latest one that excludes it.
+-- Each message starts after the latest of the noted ones that exclude it.
 use Rattle.std.proofs.Common.{◌≡◌, ◌+◌, ◌-◌, ◌<◌, ◌≤◌, length, IfSome, arith, sym, ◌∙◌, ap, subst}
 use Rattle.waff_model.specs.Places.{place_at}
 use Rattle.waff_plan.specs.Work.{finish_of}
 use Rattle.waff_plan.specs.Timing.{work_of, start_of}
 use Rattle.waff_plan.specs.Table.{message_place, HasPlaces, IsTable}
-use Rattle.waff_plan.proofs.OrderKept.{starts_after, keeps_more}
-use Rattle.waff_plan.proofs.Planned.{found_at}
+use Rattle.waff_plan.proofs.OrderKept.{after_latest, found_among, keeps_more, noted_before, starts_after}
 use Rattle.waff_plan.proofs.ordered.keeps_order.Goals as goal
+use Rattle.waff_plan.proofs.ordered.keeps_order.Goals.{then-m-count, else-m-count}
 
 pub loop-m-init : goal.loop-m-init
 loop-m-init c = record {
-  kept = λ i j o early. let from : 1 ≤ i = o.from in let earlier : i < j = o.earlier in absurd (omega arith);
-  table = c.in_ok-table.ensures.table c.places-places.result.now c.args.assigned.now _;
+  kept = λ i j o early. let from : 1 ≤ i = o.ordered.from in let earlier : i < j = o.ordered.earlier in absurd (omega arith);
+  table =
+      let none : 0 ≡ noted_before c.args.count 1 = omega arith in
+      subst (λ x. IsTable c.places-places.result.now c.args.assigned.now (finish_of (work_of c.args.plan.now.timings) (start_of c.args.plan.now.starts)) x c.in_ok-table.table)
+      none (c.in_ok-table.ensures.table c.places-places.result.now c.args.assigned.now _);
   places = subst (λ x. HasPlaces x c.in_ok-table.table) c.len.ensures.count c.in_ok-table.ensures.places;
 }
+
+pub returns-then-not-is_finished_by : goal.returns-then-not-is_finished_by
+returns-then-not-is_finished_by c =
+    let tree = c.args.tree.now in
+    let assigned = c.args.assigned.now in
+    let work = work_of c.args.plan.now.timings in
+    let start = start_of c.args.plan.now.starts in
+    let places = c.places-places.result.now in
+    let count = c.args.count in
+    let m = c.loop-m.m in
+    let kept = c.loop-m.invariant in
+    let from : 1 ≤ m = c.loop-m.auto.m in
+    let to : m ≤ length assigned = omega (arith, c.len-m-end.ensures.count, c.loop-m-test.true) in
+    let found = found_among tree places assigned (finish_of work start) (noted_before count m) m c.of.result.0 c.loop-m.table c.latest.result
+    c.places-places.ensures c.requires.known (omega arith) to c.of.ensures kept.table c.latest.ensures in (
+      λ t. absurd (cc t),
+      λ order. (
+          let late : IfSome c.latest.result (λ l. l.finish ≤ start m) = after_latest tree assigned work start count m c.latest.result to found order in
+          absurd (cc (c.is_finished_by.ensures.1 (rw c.start.ensures.start late), c.if-not-is_finished_by.true))
+          ),
+    )
 
 pub loop-m-preserved : goal.loop-m-preserved
 loop-m-preserved c =
@@ -22,20 +46,38 @@ loop-m-preserved c =
     let work = work_of c.args.plan.now.timings in
     let start = start_of c.args.plan.now.starts in
     let places = c.places-places.result.now in
+    let count = c.args.count in
     let m = c.loop-m.m in
     let kept = c.loop-m.invariant in
     let from : 1 ≤ m = c.loop-m.auto.m in
     let to : m ≤ length assigned = omega (arith, c.len-m-end.ensures.count, c.loop-m-test.true) in
-    let found = found_at tree places assigned (finish_of work start) m c.of.result.0 c.loop-m.table c.latest.result c.places-places.ensures c.requires.known from to
-    c.of.ensures kept.table c.latest.ensures in
+    let found = found_among tree places assigned (finish_of work start) (noted_before count m) m c.of.result.0 c.loop-m.table c.latest.result
+    c.places-places.ensures c.requires.known (omega arith) to c.of.ensures kept.table c.latest.ensures in
     let late : IfSome c.latest.result (λ l. l.finish ≤ start m) = rw (sym c.start.ensures.start) (c.is_finished_by.ensures.0 c.if-not-is_finished_by.false) in
+    let more = keeps_more tree assigned work start count m kept.kept (starts_after tree assigned work start count m c.latest.result found late) in
     let this : m - 1 + 1 ≡ m = omega arith in
-    let noted : IsTable places assigned (finish_of work start) (m - 1 + 1) c.note.new.self
-    = c.note.ensures.table places assigned (finish_of work start) (m - 1) kept.table (sym this)
-    (ap (λ x. message_place places assigned x) this ∙ ap (λ x. place_at places x) (sym c.of.ensures))
-    (ap (finish_of work start) this ∙ sym c.finish-finish.ensures.finish) in
-    record {
-      kept = keeps_more tree assigned work start m kept.kept (starts_after tree assigned work start m c.latest.result found late);
-      table = subst (λ x. IsTable places assigned (finish_of work start) x c.note.new.self) (omega arith) noted;
-      places = subst (λ x. HasPlaces x c.note.new.self) kept.places.own.count c.note.ensures.places;
-    }
+    elim c.if-m-count.branch [
+      | then-m-count w ↦ (
+          let within : m ≤ count = omega (arith, w.if-m-count.true) in
+          let before : noted_before count m ≡ m - 1 = omega arith in
+          let after : m - 1 + 1 ≡ noted_before count (m + 1) = omega arith in
+          let noted : IsTable places assigned (finish_of work start) (m - 1 + 1) w.note.new.self
+          = w.note.ensures.table places assigned (finish_of work start) (m - 1) (subst (λ x. IsTable places assigned (finish_of work start) x c.loop-m.table) before kept.table) (sym this)
+          (ap (λ x. message_place places assigned x) this ∙ ap (λ x. place_at places x) (sym c.of.ensures))
+          (ap (finish_of work start) this ∙ sym w.finish-finish.ensures.finish) in
+          rw w.table-is (record {
+            kept = more;
+            table = subst (λ x. IsTable places assigned (finish_of work start) x w.note.new.self) after noted;
+            places = subst (λ x. HasPlaces x w.note.new.self) kept.places.own.count w.note.ensures.places;
+          })
+          )
+      | else-m-count w ↦ (
+          let past : count < m = omega (arith, w.if-m-count.false) in
+          let same : noted_before count m ≡ noted_before count (m + 1) = omega arith in
+          rw w.table-is (record {
+            kept = more;
+            table = subst (λ x. IsTable places assigned (finish_of work start) x c.loop-m.table) same kept.table;
+            places = kept.places;
+          })
+          )
+    ]
