@@ -5,9 +5,11 @@ use Rattle.waff_model.specs.declared.limits.TheConstants.{MAX_WORKERS}
 use Rattle.waff.specs.declared.words.Request.{Request}
 use Rattle.waff.specs.declared.words.Request.TheVariants as request
 
--- where a plan, a comparison or a replay for a number of workers is asked for, that number is within the limits
+-- where a plan, a comparison or a replay for a number of workers is asked for, that number is
+-- within the limits
 abbrev pub IsWithinLimits : Request → Type 0
-IsWithinLimits (request.Plan files workers) = IfSome workers (λ k. 1 ≤ k) × IfSome workers (λ k. k ≤ MAX_WORKERS)
+IsWithinLimits (request.Plan files workers) =
+    IfSome workers (λ k. 1 ≤ k) × IfSome workers (λ k. k ≤ MAX_WORKERS)
 IsWithinLimits request.PlanOfInput = Unit {0}
 IsWithinLimits (request.Assign files) = Unit {0}
 IsWithinLimits (request.Check files plan) = Unit {0}

@@ -16,7 +16,8 @@ pub enum Failure {
     Words(clap::Error),
     /// A word is not text, or one is missing that was not refused.
     NoWords,
-    /// The file of this place among the file words could not be read or is too long; 0 is standard input.
+    /// The file of this place among the file words could not be read or is too long; 0 is standard
+    /// input.
     Read(u32),
     Tool(ToolError),
     Memory,

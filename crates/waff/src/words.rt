@@ -30,7 +30,8 @@ pub enum Request<'a> {
     Where(FileNames<'a>, bool),
     /// The plan in the file of this name, drawn as this picture.
     Draw(FileNames<'a>, &'a str, Picture),
-    /// The first fault, or the verdict, of a hierarchy, of a trace where there is one, and of a plan where there is one.
+    /// The first fault, or the verdict, of a hierarchy, of a trace where there is one, and of a
+    /// plan where there is one.
     Explain(&'a str, Option<&'a str>, Option<&'a str>),
 }
 

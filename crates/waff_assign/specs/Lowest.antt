@@ -14,7 +14,8 @@ IsInFootprint ops cell = Contains (cells_of ops) cell
 
 -- a covers a set of cells when it is at or above the owner of each of them
 abbrev pub Covers : Hierarchy → (Cell → Type 0) → ℕ → Type 0
-Covers layout Has a = (cell : Cell) → Has cell → AtOrAbove layout.tree a (owner_of layout.spaces cell)
+Covers layout Has a =
+    (cell : Cell) → Has cell → AtOrAbove layout.tree a (owner_of layout.spaces cell)
 
 -- the lowest that covers: every affinity that covers is at or above it
 pub record IsLowest (layout : Hierarchy) (Has : Cell → Type 0) (a : ℕ) : Type 0 where
@@ -28,6 +29,7 @@ AreLowest layout messages assigned =
     → IsLowest layout (IsInFootprint message.ops) (affinity_of assigned n)
 
 -- the assignment of a trace: an affinity for each message, the lowest that covers its footprint
-pub record IsAssignment (layout : Hierarchy) (messages : List Message) (assigned : List ℕ) : Type 0 where
+pub record IsAssignment (layout : Hierarchy)
+    (messages : List Message) (assigned : List ℕ) : Type 0 where
   pub count : length assigned ≡ length messages
   pub lowest : AreLowest layout messages assigned

@@ -13,5 +13,6 @@ LowestIsOne layout cells =
 -- two assignments of a trace are equal
 abbrev pub AssignmentIsOne : Hierarchy → List Message → Type 0
 AssignmentIsOne layout messages =
-    (assigned other : List ℕ) → IsAssignment layout messages assigned → IsAssignment layout messages other
+    (assigned other : List ℕ) → IsAssignment layout messages assigned
+    → IsAssignment layout messages other
     → assigned ≡ other

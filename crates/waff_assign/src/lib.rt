@@ -1,8 +1,10 @@
 //! The affinity of each message of a trace: the lowest that covers its footprint.
 //!
-//! A footprint is the owners of the cells that a message names. Messages whose affinities are at or above one another exclude
-//! each other, and the earlier runs first: that order of pairs is what all crates above plan, check and replay by.
-//! - `footprints`: the footprint of a message; `covering`: the lowest affinity at or above all of it.
+//! A footprint is the owners of the cells that a message names. Messages whose affinities are at or
+//! above one another exclude each other, and the earlier runs first: that order of pairs is what
+//! all crates above plan, check and replay by.
+//! - `footprints`: the footprint of a message; `covering`: the lowest affinity at or above all of
+//! it.
 //! - `assignment`: the affinities of all messages, `assigned`.
 //! - `order`: whether two messages are an ordered pair.
 //! - `unique`: that one footprint has one lowest affinity, and one trace one assignment.

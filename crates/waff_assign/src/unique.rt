@@ -1,5 +1,5 @@
-//! That the definitions leave no choice. Each law is a function that does nothing and whose contract
-//! is the law.
+//! That the definitions leave no choice. Each law is a function that does nothing and whose
+//! contract is the law.
 
 ghost use Rattle.std.specs.Prelude.{List};
 ghost use Rattle.waff_model.specs.Layout.{Hierarchy};

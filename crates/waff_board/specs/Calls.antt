@@ -1,5 +1,6 @@
 -- What the calls of a board tell.
-use Rattle.std.specs.Prelude.{◌≡◌, ℕ, ◌<◌, ◌≤◌, List, [], ◌∷◌, Some, None, MatchBool, find, length, not, slice_get}
+use Rattle.std.specs.Prelude.{◌≡◌, ℕ, ◌<◌, ◌≤◌, List, [], ◌∷◌, Some, None, MatchBool, find, length}
+use Rattle.std.specs.Prelude.{not, slice_get}
 use Rattle.waff_order.specs.Needs.{needs_of}
 use Rattle.waff_board.specs.Plays.{drawn_view, looked_view}
 use Rattle.waff_board.specs.Seats.{has_seen}
@@ -19,7 +20,8 @@ IsOf board hand =
 -- a draw: `draws` has one more number, which is the place of the message in the order, or past the
 -- end of the order
 abbrev pub DrawTells : Board → View → Draw → Type 0
-DrawTells board v (Got drawn) = (p : ℕ) × (p < length v.job.ops) × (slice_get v.job.order p ≡ Some drawn.message)
+DrawTells board v (Got drawn) =
+    (p : ℕ) × (p < length v.job.ops) × (slice_get v.job.order p ≡ Some drawn.message)
     × (drawn.hand.chair.me.0 ≡ drawn_view v p) × IsOf board drawn.hand
 DrawTells board v (Over seat) = (p : ℕ) × (length v.job.ops ≤ p)
     × (seat.hand.chair.me.0 ≡ drawn_view v p) × IsOf board seat.hand

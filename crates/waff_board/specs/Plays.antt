@@ -14,7 +14,8 @@ use Rattle.waff_board.specs.declared.view.View.{View}
 
 -- the view after a draw of number p
 abbrev pub drawn_view : View → ℕ → View
-drawn_view v p = record v { phase = phase_drawn (slice_get v.job.order p); draws = v.draws ++ p ∷ [] }
+drawn_view v p =
+    record v { phase = phase_drawn (slice_get v.job.order p); draws = v.draws ++ p ∷ [] }
 
 -- the view after a look at message n, which found this status word
 abbrev pub looked_view : View → ℕ → ℕ → View
@@ -29,7 +30,8 @@ abbrev pub finished_view : View → ℕ → View
 finished_view v m = record v { phase = Free; ran = v.ran ++ m ∷ [] }
 
 -- the slots of these affinities, in order, each with its parcel of the cells
-abbrev pub Parcels : {S : Type 0} → (S → List ℕ) → List Space → Cells → List ℕ → List (ℕ × S) → Type 0
+abbrev pub Parcels : {S : Type 0} → (S → List ℕ)
+    → List Space → Cells → List ℕ → List (ℕ × S) → Type 0
 Parcels items spaces cells owners held =
     AllZip (λ a slot. (slot.0 ≡ a) × IsParcel spaces a cells (items slot.1)) owners held
 
@@ -46,7 +48,8 @@ Looks step me found after = after ≡ (looked_view me.0 step.word found, me.1)
 abbrev pub Begins : {S : Type 0} → (S → List ℕ) → Step S → Me S View → ℕ → Me S View → Type 0
 Begins items step me stored after =
     (after.0 ≡ begun_view me.0 step.word)
-    × Parcels items me.0.job.layout.spaces (serial me.0.job.ops (step.word - 1)) (owners_of me.0.job.owners step.word) after.1
+    × Parcels items me.0.job.layout.spaces (serial me.0.job.ops (step.word - 1))
+    (owners_of me.0.job.owners step.word) after.1
 
 -- a finish: a store of 2 in the message's status word, with which the slots come home
 abbrev pub Finishes : {S : Type 0} → Step S → Me S View → ℕ → Me S View → Type 0

@@ -1,5 +1,6 @@
 -- What the views of a board's seats show of a state of the core machine.
-use Rattle.std.specs.Prelude.{◌≡◌, ◌≢◌, ℕ, ◌+◌, ◌<◌, ◌≤◌, ◌==◌, ◌&&◌, ◌||◌, Bool, true, List, [], Some, All, AllPairs, Contains, length}
+use Rattle.std.specs.Prelude.{◌≡◌, ◌≢◌, ℕ, ◌+◌, ◌<◌, ◌≤◌, ◌==◌, ◌&&◌, ◌||◌, Bool, true, List, []}
+use Rattle.std.specs.Prelude.{Some, All, AllPairs, Contains, length}
 use Rattle.std.specs.List.{list_any}
 use mathlib.Core.Option.{some}
 use lib.ListN.{get_elem?}
@@ -39,7 +40,8 @@ pub record Shown (job : JobValue) (core : Core) (v : View) : Type 0 where
 pub record Seats (setup : Setup) (core : Core) (views : List View) : Type 0 where
   pub each : (id : ℕ) (v : View) → get_elem? views id ≡ some v → Shown setup.job core v
   pub actors : (id : ℕ) (v : View) → get_elem? views id ≡ some v → v.actor ≡ id + 1
-  pub draws : (id other : ℕ) (v w : View) → get_elem? views id ≡ some v → get_elem? views other ≡ some w
+  pub draws : (id other : ℕ) (v w : View) → get_elem? views id ≡ some v
+      → get_elem? views other ≡ some w
       → (p : ℕ) → Contains v.draws p → Contains w.draws p → id ≡ other
   pub made : (v : View) → get_elem? views 0 ≡ some v → v.made ≡ length views
   pub few : length views ≤ setup.seats

@@ -9,8 +9,8 @@ use atomic_table::Table;
 use std::alloc::Global;
 use waff_core::Job;
 
-/// A job that threads replay together. Word 0 counts the draws, each message has a status word, and each affinity a slot for
-/// its parcel.
+/// A job that threads replay together. Word 0 counts the draws, each message has a status word, and
+/// each affinity a slot for its parcel.
 #[derive(Drop)]
 pub struct Board {
     pub(crate) table: Table<Vec<u64>, View, Setup, Law, Global>,

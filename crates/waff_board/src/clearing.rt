@@ -1,6 +1,7 @@
 //! Looking at the needs of a message.
 
-ghost use Rattle.std.specs.Prelude.{◌≡◌, ◌≤◌, ◌<◌, ℕ, All, Option, IfSome, find, false, length, not, slice_index_or};
+ghost use Rattle.std.specs.Prelude.{◌≡◌, ◌≤◌, ◌<◌, ℕ, All, Option, IfSome, find, false, length};
+ghost use Rattle.std.specs.Prelude.{not, slice_index_or};
 ghost use Rattle.waff_order.specs.Needs.{needs_of};
 ghost use Rattle.waff_board.specs.Calls.{IsOf, Looked, LooksOver, ClearTells};
 

@@ -44,7 +44,8 @@ impl Board {
     /// The message that this number draws.
     fn message_at(&self, number: u64) -> Option<u32>
         ensures drawn { slice_get self.now.setup.job.order number ≡ result }
-        ensures some { IfSome result (λ m. (1 ≤ m) × (m ≤ length self.now.setup.job.ops) × (number < length self.now.setup.job.ops)) }
+        ensures some { IfSome result (λ m. (1 ≤ m)
+            × (m ≤ length self.now.setup.job.ops) × (number < length self.now.setup.job.ops)) }
         ensures none { IfNone result (length self.now.setup.job.ops ≤ number) }
     {
         let job = &self.setup.job;

@@ -6,7 +6,8 @@ ghost use Rattle.waff_board.specs.Seats.{first};
 use crate::view::{Setup, View};
 use atomic_table::TableRule;
 
-/// Between any two atomic steps words, slots and views show a state that some list of events reaches.
+/// Between any two atomic steps words, slots and views show a state that some list of events
+/// reaches.
 pub struct Law;
 
 impl TableRule<Vec<u64>, View, Setup> for Law {

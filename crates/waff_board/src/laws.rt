@@ -1,7 +1,8 @@
 //! What holds between any two atomic steps of a board, whichever threads make them. Each law is a
 //! function that does nothing and whose contract is the law.
 
-ghost use Rattle.waff_board.specs.Laws.{ActorsDiffer, NumbersDiffer, HandedOutOnce, RunByOne, SeenIsDone, DrawsAreFew};
+ghost use Rattle.waff_board.specs.Laws.{ActorsDiffer, NumbersDiffer, HandedOutOnce, RunByOne};
+ghost use Rattle.waff_board.specs.Laws.{SeenIsDone, DrawsAreFew};
 ghost use Rattle.waff_board.specs.declared.view.Setup.{Setup};
 
 /// No two seats are one actor.

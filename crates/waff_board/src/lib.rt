@@ -1,15 +1,20 @@
 //! The running board: a job that threads replay together, each through a seat of its own.
 //!
-//! Each event of the core machine is one atomic step on the board's table, in any schedule of threads; every other step leaves
-//! the machine's state as it is. A seat goes from token to token, each of which one call takes and the next one gives:
-//! `Seat`, draw, `Drawn`, clear, `Cleared`, begin, `Grant`, run, `Finished`, finish, `Seat`; at the end `EndSeat`, until it has
-//! seen all messages done, and close. From draw to the end nothing takes memory or waits.
-//! - `law`: the rule between any two steps; `plays`: the kinds of steps; `view`, `hand`: what a seat knows and holds.
-//! - `board`, `opening`: the board, and making it with its seats; `tokens`: what the calls take and give.
-//! - `drawing`, `clearing`, `running`, `ending`, `closing`: the calls, in their order; `reading`: what a token tells.
+//! Each event of the core machine is one atomic step on the board's table, in any schedule of
+//! threads; every other step leaves the machine's state as it is. A seat goes from token to token,
+//! each of which one call takes and the next one gives: `Seat`, draw, `Drawn`, clear, `Cleared`,
+//! begin, `Grant`, run, `Finished`, finish, `Seat`; at the end `EndSeat`, until it has seen all
+//! messages done, and close. From draw to the end nothing takes memory or waits.
+//! - `law`: the rule between any two steps; `plays`: the kinds of steps; `view`, `hand`: what a
+//! seat knows and holds.
+//! - `board`, `opening`: the board, and making it with its seats; `tokens`: what the calls take and
+//! give.
+//! - `drawing`, `clearing`, `running`, `ending`, `closing`: the calls, in their order; `reading`:
+//! what a token tells.
 //! - `laws`: what holds between any two steps, whichever threads make them.
 //!
-//! At most 16 seats. The words that contracts cite stand in `specs/`: `Views`, `Shows` and `Rule` first.
+//! At most 16 seats. The words that contracts cite stand in `specs/`: `Views`, `Shows` and `Rule`
+//! first.
 #![tactic(auto)]
 
 mod board;

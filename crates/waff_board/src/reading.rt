@@ -39,7 +39,8 @@ impl<'a> Grant<'a> {
     pub fn get(&self, cell: Cell) -> Option<u64>
         ensures held { IsSome result ↔ IsOwned self.now.hand.chair.me.0.job.layout.spaces
             (owners_of self.now.hand.chair.me.0.job.owners self.now.message) cell }
-        ensures number { IfSome result (λ number. number ≡ serial self.now.hand.chair.me.0.job.ops (self.now.message - 1) cell) }
+        ensures number { IfSome result (λ number.
+            number ≡ serial self.now.hand.chair.me.0.job.ops (self.now.message - 1) cell) }
     {
         parcels::get(
             self.hand.places.as_slice(),
@@ -62,7 +63,8 @@ impl<'a> Finished<'a> {
     pub fn get(&self, cell: Cell) -> Option<u64>
         ensures held { IsSome result ↔ IsOwned self.now.hand.chair.me.0.job.layout.spaces
             (owners_of self.now.hand.chair.me.0.job.owners self.now.message) cell }
-        ensures number { IfSome result (λ number. number ≡ serial self.now.hand.chair.me.0.job.ops self.now.message cell) }
+        ensures number { IfSome result (λ number.
+            number ≡ serial self.now.hand.chair.me.0.job.ops self.now.message cell) }
     {
         let owners = self.job.owners(self.message);
         parcels::get(self.hand.places.as_slice(), self.job.layout(), owners, cell)

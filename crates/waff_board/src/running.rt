@@ -62,7 +62,8 @@ impl Board {
         ensures table { chair.new.table_id ≡ chair.old.table_id }
         ensures view { chair.new.me.0 ≡ chair.old.me.0 }
         ensures held { map (λ slot. slot.0) chair.new.me.1 ≡ owners.now }
-        ensures values { map (λ row. row.items) places.new.items ≡ map (λ slot. slot.1.items) chair.old.me.1 }
+        ensures values { map (λ row. row.items) places.new.items
+            ≡ map (λ slot. slot.1.items) chair.old.me.1 }
         ensures room { vec_capacity places.new ≡ vec_capacity places.old }
     {
         for a in owners {
@@ -78,7 +79,8 @@ impl Board {
     /// Finishes the message: the parcels come home.
     pub fn finish(&self, finished: Finished<'_>) -> Seat
         requires { IsOf self.now finished.hand }
-        ensures view { result.hand.chair.me.0 ≡ finished_view finished.entry.hand.chair.me.0 finished.entry.message }
+        ensures view { result.hand.chair.me.0
+            ≡ finished_view finished.entry.hand.chair.me.0 finished.entry.message }
         ensures of { IsOf self.now result.hand }
     {
         let Finished {
@@ -117,7 +119,8 @@ impl Board {
         ensures table { chair.new.table_id ≡ chair.old.table_id }
         ensures view { chair.new.me.0 ≡ chair.old.me.0 }
         ensures held { map (λ slot. slot.0) chair.new.me.1 ≡ owners.now }
-        ensures values { map (λ slot. slot.1.items) chair.new.me.1 ≡ map (λ row. row.items) places.old.items }
+        ensures values { map (λ slot. slot.1.items) chair.new.me.1
+            ≡ map (λ row. row.items) places.old.items }
         ensures room { vec_capacity places.new ≡ vec_capacity places.old }
     {
         for k in 0..owners.len() {

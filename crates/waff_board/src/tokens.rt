@@ -39,7 +39,8 @@ pub struct Cleared {
     ghost to: { message ≤ length hand.chair.me.0.job.ops },
     ghost drawn: { hand.chair.me.0.phase ≡ Drawn message },
     ghost empty: { hand.chair.me.1 ≡ [] },
-    ghost clear: { (i : ℕ) → IsNeed hand.chair.me.0.job.needs i message → HasSeen hand.chair.me.0 i },
+    ghost clear: { (i : ℕ) → IsNeed hand.chair.me.0.job.needs i message
+        → HasSeen hand.chair.me.0 i },
 }
 
 /// A seat that runs a message, with the parcels of its footprint's owners.
@@ -52,8 +53,11 @@ pub struct Grant<'a> {
     ghost to: { message ≤ length hand.chair.me.0.job.ops },
     ghost of: { job.now ≡ hand.chair.me.0.job },
     ghost running: { hand.chair.me.0.phase ≡ Running message },
-    ghost taken: { map (λ slot. slot.0) hand.chair.me.1 ≡ owners_of hand.chair.me.0.job.owners message },
-    ghost before: { AreParcels hand.chair.me.0.job.layout.spaces (owners_of hand.chair.me.0.job.owners message) (serial hand.chair.me.0.job.ops (message - 1)) (map (λ row. row.items) hand.places.items) },
+    ghost taken: { map (λ slot. slot.0) hand.chair.me.1
+        ≡ owners_of hand.chair.me.0.job.owners message },
+    ghost before: { AreParcels hand.chair.me.0.job.layout.spaces
+        (owners_of hand.chair.me.0.job.owners message)
+        (serial hand.chair.me.0.job.ops (message - 1)) (map (λ row. row.items) hand.places.items) },
 }
 
 /// A seat that has run a message, with the parcels as the message left them.
@@ -66,8 +70,11 @@ pub struct Finished<'a> {
     ghost to: { message ≤ length hand.chair.me.0.job.ops },
     ghost of: { job.now ≡ hand.chair.me.0.job },
     ghost running: { hand.chair.me.0.phase ≡ Running message },
-    ghost taken: { map (λ slot. slot.0) hand.chair.me.1 ≡ owners_of hand.chair.me.0.job.owners message },
-    ghost after: { AreParcels hand.chair.me.0.job.layout.spaces (owners_of hand.chair.me.0.job.owners message) (serial hand.chair.me.0.job.ops message) (map (λ row. row.items) hand.places.items) },
+    ghost taken: { map (λ slot. slot.0) hand.chair.me.1
+        ≡ owners_of hand.chair.me.0.job.owners message },
+    ghost after: { AreParcels hand.chair.me.0.job.layout.spaces
+        (owners_of hand.chair.me.0.job.owners message)
+        (serial hand.chair.me.0.job.ops message) (map (λ row. row.items) hand.places.items) },
 }
 
 /// A seat that has drawn past the end of the order.

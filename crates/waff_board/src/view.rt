@@ -3,7 +3,8 @@
 use std::collections::LinkedList;
 use waff_core::{Job, Phase};
 
-/// What a seat knows, which its own steps alone change. No value of it is made: it stands in the proofs.
+/// What a seat knows, which its own steps alone change. No value of it is made: it stands in the
+/// proofs.
 pub struct View {
     /// The actor that the seat is, from 1.
     pub actor: u32,

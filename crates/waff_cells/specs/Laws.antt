@@ -31,7 +31,8 @@ abbrev pub ThoseAboveExclude : List Node → Type 0
 ThoseAboveExclude tree =
     (a one other : ℕ) → AtOrAbove tree one a → AtOrAbove tree other a → Excludes tree one other
 
--- operations whose footprint an affinity covers that is not at or above a leave a's parcel as it was
+-- operations whose footprint an affinity covers that is not at or above a leave a's parcel as it
+-- was
 abbrev pub OthersLeaveParcel : Hierarchy → List Op → Type 0
 OthersLeaveParcel layout ops =
     (m a : ℕ) → Covers layout (IsInFootprint ops) m → ¬ AtOrAbove layout.tree m a

@@ -21,7 +21,8 @@ abbrev pub effect : Op → Cells → Cells
 effect (Set cell value) cells = with_number cells cell value
 effect (Add cell value) cells = with_number cells cell ((cells cell + value) % 2 ^ 64)
 effect (Copy cell source) cells = with_number cells cell (cells source)
-effect (Swap cell other) cells = with_number (with_number cells cell (cells other)) other (cells cell)
+effect (Swap cell other) cells =
+    with_number (with_number cells cell (cells other)) other (cells cell)
 effect (Read cell) cells = cells
 
 -- the meaning of a message: what its operations do, in the order written

@@ -1,5 +1,6 @@
 -- Parcels: the numbers of the cells that an affinity owns, each cell's at its place.
-use Rattle.std.specs.Prelude.{◌≡◌, ℕ, ◌==◌, List, [], Some, Contains, length, map, position, unwrap_or, slice_get, slice_index_or}
+use Rattle.std.specs.Prelude.{◌≡◌, ℕ, ◌==◌, List, [], Some, Contains, length, map, position}
+use Rattle.std.specs.Prelude.{unwrap_or, slice_get, slice_index_or}
 use Rattle.waff_model.specs.declared.cell.Cell.{Cell}
 use Rattle.waff_model.specs.Layout.{Space, IsCell, owner_of}
 use Rattle.waff_model.specs.Parcel.{parcel_size, place_of}

@@ -4,7 +4,8 @@ ghost use Rattle.std.specs.Prelude.{◌≡◌, length, map, All};
 ghost use Rattle.waff_model.specs.Cells.{cells_of, cells_of_op};
 ghost use Rattle.waff_cells.specs.Meaning.{with_number, effect, meaning};
 ghost use Rattle.waff_cells.specs.Grid.{HasSizes};
-ghost use Rattle.waff_cells.specs.Held.{rows_of, number_at, IsWithin, AreWithin, AreApart, HoldAfter};
+ghost use Rattle.waff_cells.specs.Held.{rows_of, number_at, IsWithin, AreWithin, AreApart};
+ghost use Rattle.waff_cells.specs.Held.{HoldAfter};
 
 use waff_model::{Cell, Op};
 
@@ -28,7 +29,8 @@ pub trait Addresses {
 /// leave it.
 pub fn apply<A: Addresses>(rows: &mut [Vec<u64>], ops: &[Op], addresses: &A)
     requires has { All (A.has addresses.now) (cells_of ops.now) }
-    requires within { AreWithin (map length (rows_of rows.old)) (A.at addresses.now) (cells_of ops.now) }
+    requires within { AreWithin (map length (rows_of rows.old))
+        (A.at addresses.now) (cells_of ops.now) }
     requires apart { AreApart (A.has addresses.now) (A.at addresses.now) }
     ensures sizes { HasSizes (rows_of rows.new) (map length (rows_of rows.old)) }
     ensures holds { HoldAfter (A.has addresses.now) (A.at addresses.now)
@@ -42,7 +44,8 @@ pub fn apply<A: Addresses>(rows: &mut [Vec<u64>], ops: &[Op], addresses: &A)
 /// Runs the operation on the rows.
 fn apply_op<A: Addresses>(rows: &mut [Vec<u64>], op: Op, addresses: &A)
     requires has { All (A.has addresses.now) (cells_of_op op) }
-    requires within { AreWithin (map length (rows_of rows.old)) (A.at addresses.now) (cells_of_op op) }
+    requires within { AreWithin (map length (rows_of rows.old))
+        (A.at addresses.now) (cells_of_op op) }
     requires apart { AreApart (A.has addresses.now) (A.at addresses.now) }
     ensures sizes { HasSizes (rows_of rows.new) (map length (rows_of rows.old)) }
     ensures holds { HoldAfter (A.has addresses.now) (A.at addresses.now)

@@ -6,7 +6,8 @@ ghost use Rattle.waff_model.specs.Tree.{Node};
 ghost use Rattle.waff_model.specs.Layout.{Hierarchy, Space};
 ghost use Rattle.waff_model.specs.declared.op.Op.{Op};
 ghost use Rattle.waff_cells.specs.Meaning.{Cells};
-ghost use Rattle.waff_cells.specs.Laws.{OtherCellsStay, NamedCellsDecide, ThoseAboveExclude, OthersLeaveParcel, StateIsOne, ParcelIsOne};
+ghost use Rattle.waff_cells.specs.Laws.{OtherCellsStay, NamedCellsDecide, ThoseAboveExclude};
+ghost use Rattle.waff_cells.specs.Laws.{OthersLeaveParcel, StateIsOne, ParcelIsOne};
 
 /// A cell that operations do not name stays as it was.
 pub fn other_cells_stay()

@@ -1,11 +1,13 @@
 //! What operations do to cells: the meaning of a message, and the state of all cells.
 //!
-//! Values are of 64 bits and an addition wraps round. A state maps cells to values; a parcel is the row of the cells that one
-//! affinity owns, in the order of cells.
+//! Values are of 64 bits and an addition wraps round. A state maps cells to values; a parcel is the
+//! row of the cells that one affinity owns, in the order of cells.
 //! - `state`: the state of all cells, which messages run on one after another.
-//! - `held`: operations on rows that hold the cells of some addresses; `parcels`: on the parcels of some affinities.
+//! - `held`: operations on rows that hold the cells of some addresses; `parcels`: on the parcels of
+//! some affinities.
 //! - `gather`: the state whose cells lie in parcels.
-//! - `laws`: that what a message leaves in the cells that it names depends on these cells alone, and leaves all others.
+//! - `laws`: that what a message leaves in the cells that it names depends on these cells alone,
+//! and leaves all others.
 #![tactic(auto)]
 
 mod gather;

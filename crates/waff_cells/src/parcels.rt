@@ -70,7 +70,8 @@ impl<'a> Addresses for InParcels<'a> {
     }
 }
 
-/// The slot of the affinity. That of one affinity alone asks nothing of `owner`, so that no owner is looked up for it.
+/// The slot of the affinity. That of one affinity alone asks nothing of `owner`, so that no owner
+/// is looked up for it.
 fn slot(owners: &[u16], owner: u16) -> usize
     ensures { result ≡ slot_of owners.now owner }
 {

@@ -1,5 +1,6 @@
 -- The first of the ticks so far at which more than k messages run.
-use Rattle.std.specs.Prelude.{ℕ, Bool, true, ◌&&◌, nat_lt, if◌then◌else◌, List, map, Option, Some, None, IsPermutation}
+use Rattle.std.specs.Prelude.{ℕ, Bool, true, ◌&&◌, nat_lt, if◌then◌else◌, List, map, Option, Some}
+use Rattle.std.specs.Prelude.{None, IsPermutation}
 use Rattle.waff_plan.specs.Work.{Work, finish_of, numbers}
 use Rattle.waff_plan.specs.Workers.{running}
 
@@ -15,4 +16,5 @@ is_earlier tick (Some other) = nat_lt tick other
 
 -- the first tick so far, with one more tick
 abbrev pub with_tick : Work → (ℕ → ℕ) → ℕ → Option ℕ → ℕ → Option ℕ
-with_tick work start k first tick = if is_earlier tick first && nat_lt k (running work start tick) then Some tick else first
+with_tick work start k first tick =
+    if is_earlier tick first && nat_lt k (running work start tick) then Some tick else first

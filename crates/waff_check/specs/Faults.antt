@@ -1,6 +1,7 @@
--- What may be wrong with a plan that is given: one definition a fault. `before i j` says that message j starts only when
--- message i has finished.
-use Rattle.std.specs.Prelude.{◌≡◌, ◌≢◌, ◌⊎◌, ℕ, ◌-◌, ◌<◌, ◌≤◌, true, List, length, slice_index, Option, Some, None}
+-- What may be wrong with a plan that is given: one definition a fault. `before i j` says that
+-- message j starts only when message i has finished.
+use Rattle.std.specs.Prelude.{◌≡◌, ◌≢◌, ◌⊎◌, ℕ, ◌-◌, ◌<◌, ◌≤◌, true, List, length, slice_index}
+use Rattle.std.specs.Prelude.{Option, Some, None}
 use Rattle.waff_plan.specs.Work.{Work, IsNumber, finish_of}
 use Rattle.waff_plan.specs.Workers.{running, runs_at}
 use Rattle.waff_plan.specs.Totals.{totals_of}
@@ -21,7 +22,8 @@ pub record Overlaps (before : ℕ → ℕ → Type 0) (work : Work) (start : ℕ
   pub early : start j < finish_of work start i
 
 -- the least first message of such a pair, and the least second message with it
-pub record IsFirstOverlap (before : ℕ → ℕ → Type 0) (work : Work) (start : ℕ → ℕ) (first second : ℕ) : Type 0 where
+pub record IsFirstOverlap (before : ℕ → ℕ
+    → Type 0) (work : Work) (start : ℕ → ℕ) (first second : ℕ) : Type 0 where
   pub least_second : IsLeastOf (Overlaps before work start first) second
   pub least_first : (i j : ℕ) → Overlaps before work start i j → first ≤ i
 
@@ -32,7 +34,8 @@ IsCrowded work start (Some k) t = k < running work start t
 
 -- two messages run at a common tick
 abbrev pub RunTogether : Work → (ℕ → ℕ) → ℕ → ℕ → Type 0
-RunTogether work start i j = (t : ℕ) × (runs_at work start t i ≡ true) × (runs_at work start t j ≡ true)
+RunTogether work start i j =
+    (t : ℕ) × (runs_at work start t i ≡ true) × (runs_at work start t j ≡ true)
 
 -- message i, of a lower number than n, has the worker w and runs at a tick at which n runs
 pub record IsTaken (work : Work) (start : ℕ → ℕ) (worker : ℕ → Option ℕ) (w n i : ℕ) : Type 0 where
@@ -45,7 +48,8 @@ pub record IsTaken (work : Work) (start : ℕ → ℕ) (worker : ℕ → Option 
 abbrev pub IsWrong : Work → (ℕ → ℕ) → (ℕ → Option ℕ) → ℕ → ℕ → ℕ → Type 0
 IsWrong work start worker k n w = (w < 1) ⊎ ((k < w) ⊎ ((i : ℕ) × IsTaken work start worker w n i))
 
--- what a row says of the worker of message n is wrong: with workers, that it has none, or a wrong one; without, that it has one
+-- what a row says of the worker of message n is wrong: with workers, that it has none, or a wrong
+-- one; without, that it has one
 abbrev pub IsMisplaced : Work → (ℕ → ℕ) → (ℕ → Option ℕ) → Option ℕ → ℕ → Option ℕ → Type 0
 IsMisplaced work start worker None n None = ⊥
 IsMisplaced work start worker None n (Some w) = Unit {0}
@@ -53,7 +57,8 @@ IsMisplaced work start worker (Some k) n None = Unit {0}
 IsMisplaced work start worker (Some k) n (Some w) = IsWrong work start worker k n w
 
 -- a message whose row tells a wrong worker
-pub record HasWrongWorker (work : Work) (start : ℕ → ℕ) (worker : ℕ → Option ℕ) (workers : Option ℕ) (n : ℕ) : Type 0 where
+pub record HasWrongWorker (work : Work) (start : ℕ
+    → ℕ) (worker : ℕ → Option ℕ) (workers : Option ℕ) (n : ℕ) : Type 0 where
   pub number : IsNumber work n
   pub wrong : IsMisplaced work start worker workers n (worker n)
 
@@ -72,8 +77,8 @@ pub record StartsEarly (work : Work) (start : ℕ → ℕ) (n : ℕ) : Type 0 wh
   pub number : IsNumber work n
   pub early : start n < work.release n
 
--- the totals of a summary are those of the trace, the starts and the chain; where all releases are 0, as in a trace of the
--- first version, the release is 0
+-- the totals of a summary are those of the trace, the starts and the chain; where all releases are
+-- 0, as in a trace of the first version, the release is 0
 abbrev pub HasTotals : Work → (ℕ → ℕ) → SummaryLines → Type 0
 HasTotals work start summary = summary.totals ≡ totals_of summary.workers work start summary.chain
 
@@ -81,7 +86,8 @@ HasTotals work start summary = summary.totals ≡ totals_of summary.workers work
 abbrev pub link_at : List ℕ → ℕ → ℕ
 link_at chain place = slice_index chain (place - 1)
 
--- at this place of a chain, from 2 on, stands a message that is no ordered pair with the one before it
+-- at this place of a chain, from 2 on, stands a message that is no ordered pair with the one before
+-- it
 pub record IsBroken (before : ℕ → ℕ → Type 0) (chain : List ℕ) (place : ℕ) : Type 0 where
   pub from : 2 ≤ place
   pub to : place ≤ length chain
@@ -89,4 +95,5 @@ pub record IsBroken (before : ℕ → ℕ → Type 0) (chain : List ℕ) (place 
 
 -- each message of a chain and the next one are an ordered pair
 abbrev pub AreLinked : (ℕ → ℕ → Type 0) → List ℕ → Type 0
-AreLinked before chain = (place : ℕ) → 2 ≤ place → place ≤ length chain → before (link_at chain (place - 1)) (link_at chain place)
+AreLinked before chain = (place : ℕ) → 2 ≤ place
+    → place ≤ length chain → before (link_at chain (place - 1)) (link_at chain place)

@@ -23,31 +23,42 @@ abbrev pub work_for : List Message → Work
 work_for messages = work_of (timings_of messages)
 
 -- the claim of a plan that tells these starts, workers and chain as they are
-abbrev pub claim_told : List Node → List ℕ → List Message → Version → Option ℕ → (ℕ → ℕ) → (ℕ → Option ℕ) → List ℕ → Claim
+abbrev pub claim_told : List Node → List ℕ
+    → List Message → Version → Option ℕ → (ℕ → ℕ) → (ℕ → Option ℕ) → List ℕ → Claim
 claim_told tree assigned messages version workers start worker chain =
-    claim_of tree assigned messages (plan_told version tree assigned (work_for messages) workers start worker chain)
+    claim_of tree assigned messages
+    (plan_told version tree assigned (work_for messages) workers start worker chain)
 
 -- each message has one of k workers, and no two messages of one worker run at a common tick
 pub record AreManned (work : Work) (start : ℕ → ℕ) (worker : ℕ → Option ℕ) (k : ℕ) : Type 0 where
   pub each : (m : ℕ) → IsNumber work m → IsOneOf k (worker m)
-  pub apart : (i j w : ℕ) → IsNumber work i → IsNumber work j → i < j → worker i ≡ Some w → worker j ≡ Some w → RunTogether work start i j → ⊥
+  pub apart : (i j w : ℕ) → IsNumber work i → IsNumber work j
+      → i < j → worker i ≡ Some w → worker j ≡ Some w → RunTogether work start i j → ⊥
 
--- an obeying plan without workers, with a chain whose release and cost are its length, is found shortest
-abbrev pub OwnPlanIsShortest : List Node → List ℕ → List Message → Version → (ℕ → ℕ) → List ℕ → Type 0
+-- an obeying plan without workers, with a chain whose release and cost are its length, is found
+-- shortest
+abbrev pub OwnPlanIsShortest : List Node
+    → List ℕ → List Message → Version → (ℕ → ℕ) → List ℕ → Type 0
 OwnPlanIsShortest tree assigned messages version start chain =
     length assigned ≡ length messages
     → Obeys (IsOrdered tree assigned) (work_for messages) start
     → IsChain (IsOrdered tree assigned) (work_for messages) chain
-    → chain_release (work_for messages) chain + chain_cost (work_for messages) chain ≡ length_of (work_for messages) start
-    → IsVerdict (claim_told tree assigned messages version None start no_worker chain) verdict.Shortest
+    → chain_release (work_for messages) chain + chain_cost (work_for messages) chain
+    ≡ length_of (work_for messages) start
+    → IsVerdict (claim_told tree assigned messages version None start no_worker chain)
+    verdict.Shortest
 
--- a worker plan for k with its workers, within the bound by a chain, is found shortest or within the bound
-abbrev pub OwnPlanIsWithinBound : List Node → List ℕ → List Message → Version → ℕ → (ℕ → ℕ) → (ℕ → Option ℕ) → List ℕ → Type 0
+-- a worker plan for k with its workers, within the bound by a chain, is found shortest or within
+-- the bound
+abbrev pub OwnPlanIsWithinBound : List Node
+    → List ℕ → List Message → Version → ℕ → (ℕ → ℕ) → (ℕ → Option ℕ) → List ℕ → Type 0
 OwnPlanIsWithinBound tree assigned messages version k start worker chain =
     length assigned ≡ length messages
     → IsWorkerPlan (IsOrdered tree assigned) (work_for messages) k start
     → AreManned (work_for messages) start worker k
     → IsChain (IsOrdered tree assigned) (work_for messages) chain
     → IsWithinBound (work_for messages) k start chain
-    → IsVerdict (claim_told tree assigned messages version (Some k) start worker chain) verdict.Shortest
-    ⊎ IsVerdict (claim_told tree assigned messages version (Some k) start worker chain) verdict.WithinBound
+    → IsVerdict (claim_told tree assigned messages version
+    (Some k) start worker chain) verdict.Shortest
+    ⊎ IsVerdict (claim_told tree assigned messages version
+    (Some k) start worker chain) verdict.WithinBound

@@ -6,7 +6,8 @@ use Rattle.waff_plan.specs.Obeys.{Obeys}
 use Rattle.waff_plan.specs.Work.{IsNumber, length_of}
 use Rattle.waff_plan.specs.Workers.{IsWorkerPlan}
 use Rattle.waff_check.specs.Faults.{RunTogether}
-use Rattle.waff_check.specs.Verdicts.{Claim, before_of, chain_in, start_in, work_in, worker_in, workers_in}
+use Rattle.waff_check.specs.Verdicts.{Claim, before_of, chain_in, start_in, work_in, worker_in}
+use Rattle.waff_check.specs.Verdicts.{workers_in}
 use Rattle.waff_check.specs.declared.verdict.Verdict.{Verdict}
 use Rattle.waff_check.specs.declared.verdict.Verdict.TheVariants as verdict
 
@@ -30,13 +31,17 @@ PromisesObeys claim v = Accepts v → Obeys (before_of claim) (work_in claim) (s
 
 -- with k workers the starts are a worker plan for k
 abbrev pub PromisesWorkerPlan : Claim → Verdict → Type 0
-PromisesWorkerPlan claim v = Accepts v → (k : ℕ) → workers_in claim ≡ Some k → IsWorkerPlan (before_of claim) (work_in claim) k (start_in claim)
+PromisesWorkerPlan claim v = Accepts v → (k : ℕ)
+    → workers_in claim ≡ Some k → IsWorkerPlan (before_of claim) (work_in claim) k (start_in claim)
 
--- with k workers each message has one of them, and no two messages of one worker run at a common tick
+-- with k workers each message has one of them, and no two messages of one worker run at a common
+-- tick
 abbrev pub PromisesOneAtATime : Claim → Verdict → Type 0
 PromisesOneAtATime claim v =
-    Accepts v → (k : ℕ) → workers_in claim ≡ Some k → (i j w : ℕ) → IsNumber (work_in claim) i → IsNumber (work_in claim) j → i ≢ j
-    → worker_in claim.plan i ≡ Some w → worker_in claim.plan j ≡ Some w → RunTogether (work_in claim) (start_in claim) i j → ⊥
+    Accepts v → (k : ℕ) → workers_in claim ≡ Some k
+    → (i j w : ℕ) → IsNumber (work_in claim) i → IsNumber (work_in claim) j → i ≢ j
+    → worker_in claim.plan i ≡ Some w → worker_in claim.plan j ≡ Some w
+    → RunTogether (work_in claim) (start_in claim) i j → ⊥
 
 -- the chain of the text is a chain
 abbrev pub PromisesChain : Claim → Verdict → Type 0
@@ -48,8 +53,8 @@ PromisesShortest claim v =
     v ≡ verdict.Shortest → (other : ℕ → ℕ) → Obeys (before_of claim) (work_in claim) other
     → length_of (work_in claim) (start_in claim) ≤ length_of (work_in claim) other
 
--- within a bound for k workers, by this chain: so within twice the length of every worker plan for k, and within 2k - 1 parts of
--- k where all releases are 0
+-- within a bound for k workers, by this chain: so within twice the length of every worker plan for
+-- k, and within 2k - 1 parts of k where all releases are 0
 pub record IsWithin (claim : Claim) (k : ℕ) : Type 0 where
   pub workers : workers_in claim ≡ Some k
   pub bound : IsWithinBound (work_in claim) k (start_in claim) (chain_in claim)
@@ -57,7 +62,8 @@ pub record IsWithin (claim : Claim) (k : ℕ) : Type 0 where
       → k * length_of (work_in claim) (start_in claim) ≤ 2 * k * length_of (work_in claim) other
   pub ratio : ((m : ℕ) → IsNumber (work_in claim) m → (work_in claim).release m ≡ 0)
       → (other : ℕ → ℕ) → IsWorkerPlan (before_of claim) (work_in claim) k other
-      → k * length_of (work_in claim) (start_in claim) ≤ (2 * k - 1) * length_of (work_in claim) other
+      → k * length_of (work_in claim) (start_in claim)
+      ≤ (2 * k - 1) * length_of (work_in claim) other
 
 abbrev pub PromisesBound : Claim → Verdict → Type 0
 PromisesBound claim v = v ≡ verdict.WithinBound → (k : ℕ) × IsWithin claim k

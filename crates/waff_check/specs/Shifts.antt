@@ -1,5 +1,7 @@
--- The shifts of workers: each is a message that runs, with the worker that its row tells and its start.
-use Rattle.std.specs.Prelude.{◌≡◌, ◌≢◌, ℕ, ◌+◌, ◌<◌, ◌≤◌, List, length, slice_index_or, All, Contains, Option, Some, None}
+-- The shifts of workers: each is a message that runs, with the worker that its row tells and its
+-- start.
+use Rattle.std.specs.Prelude.{◌≡◌, ◌≢◌, ℕ, ◌+◌, ◌<◌, ◌≤◌, List, length, slice_index_or, All}
+use Rattle.std.specs.Prelude.{Contains, Option, Some, None}
 use Rattle.waff_plan.specs.Work.{Work, IsNumber, finish_of}
 
 -- the worker is one of k
@@ -16,7 +18,8 @@ abbrev pub Shift : Type 0
 Shift = ℕ × ℕ × ℕ
 
 -- the message has this worker and this start, and runs at a tick
-pub record IsShift (work : Work) (start : ℕ → ℕ) (worker : ℕ → Option ℕ) (shift : Shift) : Type 0 where
+pub record IsShift (work : Work) (start : ℕ
+    → ℕ) (worker : ℕ → Option ℕ) (shift : Shift) : Type 0 where
   pub number : IsNumber work shift.2
   pub same_worker : worker shift.2 ≡ Some shift.0
   pub same_start : start shift.2 ≡ shift.1
@@ -24,7 +27,8 @@ pub record IsShift (work : Work) (start : ℕ → ℕ) (worker : ℕ → Option 
 
 -- the shift of message n: none where it has no worker, or runs at no tick
 abbrev pub IsShiftOf : Work → (ℕ → ℕ) → (ℕ → Option ℕ) → ℕ → Option Shift → Type 0
-IsShiftOf work start worker n None = (w : ℕ) → worker n ≡ Some w → start n < finish_of work start n → ⊥
+IsShiftOf work start worker n None =
+    (w : ℕ) → worker n ≡ Some w → start n < finish_of work start n → ⊥
 IsShiftOf work start worker n (Some shift) = IsShift work start worker shift × (shift.2 ≡ n)
 
 -- the shift at a place, from 0
@@ -32,12 +36,17 @@ abbrev pub shift_at : List Shift → ℕ → Shift
 shift_at shifts i = slice_index_or shifts i (0, 0, 0)
 
 -- all shifts, each once, by worker and then by start
-pub record AreShifts (work : Work) (start : ℕ → ℕ) (worker : ℕ → Option ℕ) (shifts : List Shift) : Type 0 where
-  pub each : (n w : ℕ) → IsNumber work n → worker n ≡ Some w → start n < finish_of work start n → Contains shifts (w, start n, n)
+pub record AreShifts (work : Work) (start : ℕ
+    → ℕ) (worker : ℕ → Option ℕ) (shifts : List Shift) : Type 0 where
+  pub each : (n w : ℕ) → IsNumber work n → worker n ≡ Some w
+      → start n < finish_of work start n → Contains shifts (w, start n, n)
   pub only : All (IsShift work start worker) shifts
   pub once : (i j : ℕ) → i < j → j < length shifts → (shift_at shifts i).2 ≢ (shift_at shifts j).2
-  pub by_worker : (i j : ℕ) → i ≤ j → j < length shifts → (shift_at shifts i).0 ≤ (shift_at shifts j).0
-  pub by_start : (i j : ℕ) → i ≤ j → j < length shifts → (shift_at shifts i).0 ≡ (shift_at shifts j).0 → (shift_at shifts i).1 ≤ (shift_at shifts j).1
+  pub by_worker : (i j : ℕ) → i ≤ j → j < length shifts
+      → (shift_at shifts i).0 ≤ (shift_at shifts j).0
+  pub by_start : (i j : ℕ) → i ≤ j → j < length shifts
+      → (shift_at shifts i).0 ≡ (shift_at shifts j).0
+      → (shift_at shifts i).1 ≤ (shift_at shifts j).1
 
 -- where both are of one worker, the one has ended when the next begins
 abbrev pub Follows : Work → (ℕ → ℕ) → Shift → Shift → Type 0
@@ -45,4 +54,5 @@ Follows work start one next = one.0 ≡ next.0 → finish_of work start one.2 �
 
 -- each shift follows the one before it
 abbrev pub AreApart : Work → (ℕ → ℕ) → List Shift → Type 0
-AreApart work start shifts = (i : ℕ) → i + 1 < length shifts → Follows work start (shift_at shifts i) (shift_at shifts (i + 1))
+AreApart work start shifts = (i : ℕ) → i + 1 < length shifts
+    → Follows work start (shift_at shifts i) (shift_at shifts (i + 1))

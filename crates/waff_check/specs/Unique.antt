@@ -5,4 +5,5 @@ use Rattle.waff_check.specs.declared.verdict.Verdict.{Verdict}
 
 -- two verdicts on one plan are equal
 abbrev pub VerdictIsOne : Claim → Type 0
-VerdictIsOne claim = (one other : Verdict) → IsVerdict claim one → IsVerdict claim other → one ≡ other
+VerdictIsOne claim =
+    (one other : Verdict) → IsVerdict claim one → IsVerdict claim other → one ≡ other

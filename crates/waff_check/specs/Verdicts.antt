@@ -9,7 +9,9 @@ use Rattle.waff_plan.specs.Timetable.{timings_of}
 use Rattle.waff_plan.specs.Timing.{start_of, work_of}
 use Rattle.waff_plan.specs.Work.{Work, length_of}
 use Rattle.waff_plan_text.specs.Given.{Given, SummaryLines, row_at}
-use Rattle.waff_check.specs.Faults.{AreLinked, HasTotals, HasWrongFinish, HasWrongName, HasWrongWorker, IsBroken, IsCrowded, IsFirstOverlap, IsLeastOf, NoneOf, Overlaps, StartsEarly}
+use Rattle.waff_check.specs.Faults.{AreLinked, HasTotals, HasWrongFinish, HasWrongName}
+use Rattle.waff_check.specs.Faults.{HasWrongWorker, IsBroken, IsCrowded, IsFirstOverlap, IsLeastOf}
+use Rattle.waff_check.specs.Faults.{NoneOf, Overlaps, StartsEarly}
 use Rattle.waff_check.specs.declared.verdict.Verdict.{Verdict}
 use Rattle.waff_check.specs.declared.verdict.Verdict.TheVariants as verdict
 
@@ -21,7 +23,8 @@ pub record Claim : Type 0 where
   pub plan : Given
 
 abbrev pub claim_of : List Node → List ℕ → List Message → Given → Claim
-claim_of tree assigned messages plan = record { tree = tree; assigned = assigned; messages = messages; plan = plan }
+claim_of tree assigned messages plan =
+    record { tree = tree; assigned = assigned; messages = messages; plan = plan }
 
 -- the ordered pairs, the work and the starts
 abbrev pub before_of : Claim → ℕ → ℕ → Type 0
@@ -65,10 +68,12 @@ abbrev pub TickIsCrowded : Claim → ℕ → Type 0
 TickIsCrowded claim = IsCrowded (work_in claim) (start_in claim) (workers_in claim)
 
 abbrev pub WorkerIsWrong : Claim → ℕ → Type 0
-WorkerIsWrong claim = HasWrongWorker (work_in claim) (start_in claim) (worker_in claim.plan) (workers_in claim)
+WorkerIsWrong claim =
+    HasWrongWorker (work_in claim) (start_in claim) (worker_in claim.plan) (workers_in claim)
 
 abbrev pub NameIsWrong : Claim → ℕ → Type 0
-NameIsWrong claim = HasWrongName (work_in claim) (told_name claim.plan) (name_in claim.tree claim.assigned)
+NameIsWrong claim =
+    HasWrongName (work_in claim) (told_name claim.plan) (name_in claim.tree claim.assigned)
 
 abbrev pub FinishIsWrong : Claim → ℕ → Type 0
 FinishIsWrong claim = HasWrongFinish (work_in claim) (start_in claim) (told_finish claim.plan)
@@ -116,7 +121,8 @@ pub record IsFaultless (claim : Claim) : Type 0 where
 
 -- the release and the cost of the chain are the length
 abbrev pub ReachesLength : Work → (ℕ → ℕ) → SummaryLines → Type 0
-ReachesLength work start summary = chain_release work summary.chain + chain_cost work summary.chain ≡ length_of work start
+ReachesLength work start summary =
+    chain_release work summary.chain + chain_cost work summary.chain ≡ length_of work start
 
 -- with workers, the length is within the bound for as many, by this chain
 abbrev pub IsBoundedFor : Work → (ℕ → ℕ) → List ℕ → Option ℕ → Type 0
@@ -129,8 +135,10 @@ KeepsBound work start summary = IsBoundedFor work start summary.chain summary.wo
 -- how good a plan without a fault is
 abbrev pub IsPraise : Work → (ℕ → ℕ) → SummaryLines → Verdict → Type 0
 IsPraise work start summary verdict.Shortest = ReachesLength work start summary
-IsPraise work start summary verdict.WithinBound = (ReachesLength work start summary → ⊥) × KeepsBound work start summary
-IsPraise work start summary verdict.Obeys = (ReachesLength work start summary → ⊥) × (KeepsBound work start summary → ⊥)
+IsPraise work start summary verdict.WithinBound =
+    (ReachesLength work start summary → ⊥) × KeepsBound work start summary
+IsPraise work start summary verdict.Obeys =
+    (ReachesLength work start summary → ⊥) × (KeepsBound work start summary → ⊥)
 IsPraise work start summary (verdict.Overlap first second) = ⊥
 IsPraise work start summary (verdict.TooManyAt tick) = ⊥
 IsPraise work start summary (verdict.Worker message) = ⊥
@@ -145,7 +153,8 @@ IsPraised claim = IsPraise (work_in claim) (start_in claim) claim.plan.summary
 
 -- the verdict: each fault comes only where no earlier one is there
 abbrev pub IsVerdict : Claim → Verdict → Type 0
-IsVerdict claim (verdict.Overlap first second) = IsFirstOverlap (before_of claim) (work_in claim) (start_in claim) first second
+IsVerdict claim (verdict.Overlap first second) =
+    IsFirstOverlap (before_of claim) (work_in claim) (start_in claim) first second
 IsVerdict claim (verdict.TooManyAt tick) = IsOrderly claim × IsLeastOf (TickIsCrowded claim) tick
 IsVerdict claim (verdict.Worker message) = IsRoomy claim × IsLeastOf (WorkerIsWrong claim) message
 IsVerdict claim (verdict.Affinity message) = IsManned claim × IsLeastOf (NameIsWrong claim) message

@@ -4,7 +4,9 @@ ghost use Rattle.std.specs.Prelude.{◌≡◌, ◌<◌, length, All, IfOk};
 ghost use Rattle.waff_plan.specs.Timetable.{timings_of};
 ghost use Rattle.waff_plan.specs.Timing.{start_of, work_of};
 ghost use Rattle.waff_check.specs.Verdicts.{IsPraise, IsVerdict, claim_of, starts_of};
-ghost use Rattle.waff_check.specs.Promises.{PromisesBound, PromisesChain, PromisesObeys, PromisesOneAtATime, PromisesShortest, PromisesWorkerPlan};
+ghost use Rattle.waff_check.specs.Promises.{PromisesBound, PromisesChain, PromisesObeys};
+ghost use Rattle.waff_check.specs.Promises.{PromisesOneAtATime, PromisesShortest};
+ghost use Rattle.waff_check.specs.Promises.{PromisesWorkerPlan};
 
 use crate::crowd::crowded;
 use crate::links::broken_link;
@@ -31,8 +33,9 @@ fn told_plan(alloc: Global, trace: &Trace, given: &GivenPlan) -> Result<Plan, Al
     Plan::of_starts(alloc, trace, starts.as_slice())
 }
 
-/// The verdict on a plan that is given for the messages of a trace, whose affinities are assigned: the first fault of the first kind
-/// that there is, or else how good the plan is. Pairs of messages are walked over only to name an overlap that is there, in threads.
+/// The verdict on a plan that is given for the messages of a trace, whose affinities are assigned:
+/// the first fault of the first kind that there is, or else how good the plan is. Pairs of messages
+/// are walked over only to name an overlap that is there, in threads.
 pub fn check<R: Threads + Sync>(
     rt: &R,
     alloc: Global,
@@ -45,13 +48,20 @@ pub fn check<R: Threads + Sync>(
     requires rows { length given.now.rows ≡ length trace.now.messages }
     requires version { given.now.version ≡ trace.now.version }
     requires known { All (λ a. a < length tree.now) assigned.now }
-    ensures verdict { IfOk result (IsVerdict (claim_of tree.now assigned.now trace.now.messages given.now)) }
-    ensures obeys { IfOk result (PromisesObeys (claim_of tree.now assigned.now trace.now.messages given.now)) }
-    ensures worker_plan { IfOk result (PromisesWorkerPlan (claim_of tree.now assigned.now trace.now.messages given.now)) }
-    ensures one_at_a_time { IfOk result (PromisesOneAtATime (claim_of tree.now assigned.now trace.now.messages given.now)) }
-    ensures chain { IfOk result (PromisesChain (claim_of tree.now assigned.now trace.now.messages given.now)) }
-    ensures shortest { IfOk result (PromisesShortest (claim_of tree.now assigned.now trace.now.messages given.now)) }
-    ensures bound { IfOk result (PromisesBound (claim_of tree.now assigned.now trace.now.messages given.now)) }
+    ensures verdict { IfOk result
+        (IsVerdict (claim_of tree.now assigned.now trace.now.messages given.now)) }
+    ensures obeys { IfOk result
+        (PromisesObeys (claim_of tree.now assigned.now trace.now.messages given.now)) }
+    ensures worker_plan { IfOk result
+        (PromisesWorkerPlan (claim_of tree.now assigned.now trace.now.messages given.now)) }
+    ensures one_at_a_time { IfOk result
+        (PromisesOneAtATime (claim_of tree.now assigned.now trace.now.messages given.now)) }
+    ensures chain { IfOk result
+        (PromisesChain (claim_of tree.now assigned.now trace.now.messages given.now)) }
+    ensures shortest { IfOk result
+        (PromisesShortest (claim_of tree.now assigned.now trace.now.messages given.now)) }
+    ensures bound { IfOk result
+        (PromisesBound (claim_of tree.now assigned.now trace.now.messages given.now)) }
 {
     let _rows = given.len();
     chains_are_within_length();
@@ -73,7 +83,8 @@ fn find<R: Threads + Sync>(
     requires lengths { length trace.now.messages ≡ length assigned.now }
     requires rows { length given.now.rows ≡ length trace.now.messages }
     requires known { All (λ a. a < length tree.now) assigned.now }
-    ensures { IfOk result (IsVerdict (claim_of tree.now assigned.now trace.now.messages given.now)) }
+    ensures { IfOk result
+        (IsVerdict (claim_of tree.now assigned.now trace.now.messages given.now)) }
 {
     let plan = told_plan(alloc, trace, given)?;
     let workers = given.workers();
@@ -107,7 +118,8 @@ fn find<R: Threads + Sync>(
 // How good a plan without a fault is.
 fn praise(plan: &Plan, given: &GivenPlan) -> Verdict
     requires rows { length given.now.rows ≡ length plan.now.timings }
-    ensures { IsPraise (work_of plan.now.timings) (start_of plan.now.starts) given.now.summary result }
+    ensures { IsPraise (work_of plan.now.timings)
+        (start_of plan.now.starts) given.now.summary result }
 {
     let summary = given.summary();
     let totals = plan.totals(summary.workers, &summary.chain);

@@ -26,7 +26,8 @@ fn is_earlier(tick: u64, other: Option<u64>) -> bool
 fn with_tick(ticks: &Ticks, k: u32, first: Option<u64>, tick: u64) -> Option<u64>
     requires starts { IsNonDecreasing ticks.now.starts.items }
     requires finishes { IsNonDecreasing ticks.now.finishes.items }
-    ensures { (work : Work) (start : ℕ → ℕ) → AreTicks work start ticks.now.starts.items ticks.now.finishes.items
+    ensures { (work : Work) (start : ℕ → ℕ)
+        → AreTicks work start ticks.now.starts.items ticks.now.finishes.items
         → result ≡ crowds.with_tick work start k first tick }
 {
     if is_earlier(tick, first) && ticks.is_crowded(k, tick) {
@@ -38,7 +39,8 @@ fn with_tick(ticks: &Ticks, k: u32, first: Option<u64>, tick: u64) -> Option<u64
 
 // The first tick at which more than `k` messages run: it is the start of a message.
 fn crowded_for(alloc: Global, plan: &Plan, k: u32) -> Result<Option<u64>, AllocError>
-    ensures { IfOk result (λ found. MatchOption found (NoneOf (IsCrowded (work_of plan.now.timings) (start_of plan.now.starts) (Some k)))
+    ensures { IfOk result (λ found. MatchOption found
+        (NoneOf (IsCrowded (work_of plan.now.timings) (start_of plan.now.starts) (Some k)))
         (IsLeastOf (IsCrowded (work_of plan.now.timings) (start_of plan.now.starts) (Some k)))) }
 {
     let ticks = Ticks::new(alloc, plan)?;
@@ -55,7 +57,8 @@ pub(crate) fn crowded(
     plan: &Plan,
     workers: Option<u32>,
 ) -> Result<Option<u64>, AllocError>
-    ensures { IfOk result (λ found. MatchOption found (NoneOf (IsCrowded (work_of plan.now.timings) (start_of plan.now.starts) workers))
+    ensures { IfOk result (λ found. MatchOption found
+        (NoneOf (IsCrowded (work_of plan.now.timings) (start_of plan.now.starts) workers))
         (IsLeastOf (IsCrowded (work_of plan.now.timings) (start_of plan.now.starts) workers))) }
 {
     match workers {

@@ -1,7 +1,8 @@
 //! The verdicts on plans that are given.
 //!
 //! - `verdict`: what a check finds.
-//! - `overlap`, `crowd`, `worker`, `told`, `totals`, `links`: one kind of fault each; `shifts`: whether any worker is wrong;
+//! - `overlap`, `crowd`, `worker`, `told`, `totals`, `links`: one kind of fault each; `shifts`:
+//! whether any worker is wrong;
 //!   `ticks`: whether a tick is crowded.
 //! - `checking`: the check, over all kinds.
 //! - `own`, `unique`: laws of verdicts.

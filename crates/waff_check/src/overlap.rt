@@ -1,6 +1,7 @@
 //! Ordered pairs of which the second message starts too early.
 
-ghost use Rattle.std.specs.Prelude.{◌≡◌, ◌+◌, ◌-◌, ◌<◌, ◌≤◌, ◌↔◌, ℕ, All, IfOk, IfSome, IsTrue, MatchOption, length};
+ghost use Rattle.std.specs.Prelude.{◌≡◌, ◌+◌, ◌-◌, ◌<◌, ◌≤◌, ◌↔◌, ℕ, All, IfOk, IfSome, IsTrue};
+ghost use Rattle.std.specs.Prelude.{MatchOption, length};
 ghost use Rattle.waff_assign.specs.Order.{IsOrdered};
 ghost use Rattle.waff_plan.specs.Obeys.{IsAmong, KeepsOrder};
 ghost use Rattle.waff_plan.specs.Timing.{start_of, work_of};
@@ -23,7 +24,8 @@ fn overlaps(tree: &Tree, assigned: &Assigned, plan: &Plan, i: u32, j: u32) -> bo
     requires first { i ≤ length assigned.now }
     requires to { 1 ≤ j }
     requires second { j ≤ length assigned.now }
-    ensures { IsTrue result ↔ Overlaps (IsOrdered tree.now assigned.now) (work_of plan.now.timings) (start_of plan.now.starts) i j }
+    ensures { IsTrue result ↔ Overlaps (IsOrdered tree.now assigned.now)
+        (work_of plan.now.timings) (start_of plan.now.starts) i j }
 {
     plan.start(j) < plan.finish(i) && is_ordered(tree, assigned, i, j)
 }
@@ -35,8 +37,10 @@ fn second_of(tree: &Tree, assigned: &Assigned, plan: &Plan, i: u32) -> Option<u3
     requires from { 1 ≤ i }
     requires to { i ≤ length assigned.now }
     ensures { MatchOption result
-        (NoneOf (Overlaps (IsOrdered tree.now assigned.now) (work_of plan.now.timings) (start_of plan.now.starts) i))
-        (IsLeastOf (Overlaps (IsOrdered tree.now assigned.now) (work_of plan.now.timings) (start_of plan.now.starts) i)) }
+        (NoneOf (Overlaps (IsOrdered tree.now assigned.now)
+        (work_of plan.now.timings) (start_of plan.now.starts) i))
+        (IsLeastOf (Overlaps (IsOrdered tree.now assigned.now)
+        (work_of plan.now.timings) (start_of plan.now.starts) i)) }
 {
     let messages = assigned.len();
     for j in i + 1..messages + 1 {
@@ -47,7 +51,8 @@ fn second_of(tree: &Tree, assigned: &Assigned, plan: &Plan, i: u32) -> Option<u3
     None
 }
 
-// So many of the first messages overlap with none: all, or those before the first that does. The number is halved in on.
+// So many of the first messages overlap with none: all, or those before the first that does. The
+// number is halved in on.
 fn kept_ones(
     alloc: Global,
     tree: &Tree,
@@ -57,7 +62,8 @@ fn kept_ones(
     requires lengths { length plan.now.timings ≡ length assigned.now }
     requires known { All (λ a. a < length tree.now) assigned.now }
     ensures many { IfOk result (λ kept. kept ≤ length assigned.now) }
-    ensures kept { IfOk result (λ kept. KeepsOrder (IsAmong kept (IsOrdered tree.now assigned.now)) (work_of plan.now.timings) (start_of plan.now.starts)) }
+    ensures kept { IfOk result (λ kept. KeepsOrder (IsAmong kept (IsOrdered tree.now assigned.now))
+        (work_of plan.now.timings) (start_of plan.now.starts)) }
 {
     let messages = assigned.len();
     if keeps_order(alloc, tree, assigned, plan, messages)? {
@@ -76,8 +82,8 @@ fn kept_ones(
     Ok(kept)
 }
 
-// The first place, from the one that is `from`, of a message that overlaps with another one. A thread looks at one message after
-// another.
+// The first place, from the one that is `from`, of a message that overlaps with another one. A
+// thread looks at one message after another.
 fn first_place<R: Threads + Sync>(
     rt: &R,
     tree: &Tree,
@@ -88,7 +94,8 @@ fn first_place<R: Threads + Sync>(
     requires lengths { length plan.now.timings ≡ length assigned.now }
     requires known { All (λ a. a < length tree.now) assigned.now }
     requires many { from ≤ length assigned.now }
-    ensures { IsFirstPlace (λ i. HasOverlap tree.now assigned.now plan.now.timings plan.now.starts (from + i)) (length assigned.now - from) result }
+    ensures { IsFirstPlace (λ i. HasOverlap tree.now assigned.now plan.now.timings plan.now.starts
+        (from + i)) (length assigned.now - from) result }
 {
     (from as usize..assigned.len() as usize)
         .into_par_iter()
@@ -96,12 +103,14 @@ fn first_place<R: Threads + Sync>(
             rt,
             |i: usize| -> bool
                 requires { IsSearchable tree.now assigned.now plan.now.timings i }
-                ensures { IsTrue result ↔ HasOverlap tree.entry.now assigned.entry.now plan.entry.now.timings plan.entry.now.starts i }
+                ensures { IsTrue result ↔ HasOverlap tree.entry.now
+                    assigned.entry.now plan.entry.now.timings plan.entry.now.starts i }
             { second_of(tree, assigned, plan, i as u32 + 1).is_some() },
         )
 }
 
-// The first pair that overlaps, by a walk over the pairs of which the first message is none of the `kept` first.
+// The first pair that overlaps, by a walk over the pairs of which the first message is none of the
+// `kept` first.
 fn first_pair<R: Threads + Sync>(
     rt: &R,
     tree: &Tree,
@@ -112,10 +121,13 @@ fn first_pair<R: Threads + Sync>(
     requires lengths { length plan.now.timings ≡ length assigned.now }
     requires known { All (λ a. a < length tree.now) assigned.now }
     requires many { kept ≤ length assigned.now }
-    requires kept { KeepsOrder (IsAmong kept (IsOrdered tree.now assigned.now)) (work_of plan.now.timings) (start_of plan.now.starts) }
+    requires kept { KeepsOrder (IsAmong kept (IsOrdered tree.now assigned.now))
+        (work_of plan.now.timings) (start_of plan.now.starts) }
     ensures { MatchOption result
-        ((i j : ℕ) → Overlaps (IsOrdered tree.now assigned.now) (work_of plan.now.timings) (start_of plan.now.starts) i j → ⊥)
-        (λ pair. IsFirstOverlap (IsOrdered tree.now assigned.now) (work_of plan.now.timings) (start_of plan.now.starts) pair.0 pair.1) }
+        ((i j : ℕ) → Overlaps (IsOrdered tree.now assigned.now)
+        (work_of plan.now.timings) (start_of plan.now.starts) i j → ⊥)
+        (λ pair. IsFirstOverlap (IsOrdered tree.now assigned.now)
+        (work_of plan.now.timings) (start_of plan.now.starts) pair.0 pair.1) }
 {
     let _messages = assigned.len();
     match first_place(rt, tree, assigned, plan, kept) {
@@ -130,8 +142,8 @@ fn first_pair<R: Threads + Sync>(
     }
 }
 
-/// The first pair that overlaps: the least first message, and the least second message with it. The pairs are walked over only
-/// from the first message on that overlaps with a later one.
+/// The first pair that overlaps: the least first message, and the least second message with it. The
+/// pairs are walked over only from the first message on that overlaps with a later one.
 pub(crate) fn first_overlap<R: Threads + Sync>(
     rt: &R,
     alloc: Global,
@@ -142,8 +154,10 @@ pub(crate) fn first_overlap<R: Threads + Sync>(
     requires lengths { length plan.now.timings ≡ length assigned.now }
     requires known { All (λ a. a < length tree.now) assigned.now }
     ensures { IfOk result (λ found. MatchOption found
-        ((i j : ℕ) → Overlaps (IsOrdered tree.now assigned.now) (work_of plan.now.timings) (start_of plan.now.starts) i j → ⊥)
-        (λ pair. IsFirstOverlap (IsOrdered tree.now assigned.now) (work_of plan.now.timings) (start_of plan.now.starts) pair.0 pair.1)) }
+        ((i j : ℕ) → Overlaps (IsOrdered tree.now assigned.now)
+        (work_of plan.now.timings) (start_of plan.now.starts) i j → ⊥)
+        (λ pair. IsFirstOverlap (IsOrdered tree.now assigned.now)
+        (work_of plan.now.timings) (start_of plan.now.starts) pair.0 pair.1)) }
 {
     let kept = kept_ones(alloc, tree, assigned, plan)?;
     Ok(first_pair(rt, tree, assigned, plan, kept))

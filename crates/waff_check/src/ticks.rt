@@ -20,7 +20,8 @@ pub(crate) struct Ticks {
 impl Ticks {
     /// The ticks of a plan.
     pub fn new(alloc: Global, plan: &Plan) -> Result<Self, AllocError>
-        ensures ticks { IfOk result (λ ticks. AreTicks (work_of plan.now.timings) (start_of plan.now.starts) ticks.starts.items ticks.finishes.items) }
+        ensures ticks { IfOk result (λ ticks. AreTicks (work_of plan.now.timings)
+            (start_of plan.now.starts) ticks.starts.items ticks.finishes.items) }
         ensures starts { IfOk result (λ ticks. IsNonDecreasing ticks.starts.items) }
         ensures finishes { IfOk result (λ ticks. IsNonDecreasing ticks.finishes.items) }
     {
@@ -35,11 +36,13 @@ impl Ticks {
         Ok(Ticks { starts, finishes })
     }
 
-    /// Whether more than `k` messages run at a tick: more than `k` of those that have started by then have not finished.
+    /// Whether more than `k` messages run at a tick: more than `k` of those that have started by
+    /// then have not finished.
     pub fn is_crowded(&self, k: u32, tick: u64) -> bool
         requires starts { IsNonDecreasing self.now.starts.items }
         requires finishes { IsNonDecreasing self.now.finishes.items }
-        ensures { (work : Work) (start : ℕ → ℕ) → AreTicks work start self.now.starts.items self.now.finishes.items
+        ensures { (work : Work) (start : ℕ → ℕ)
+            → AreTicks work start self.now.starts.items self.now.finishes.items
             → result ≡ nat_lt k (workers.running work start tick) }
     {
         let finished = passed_by(self.finishes.as_slice(), tick);

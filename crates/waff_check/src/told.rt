@@ -2,7 +2,8 @@
 
 ghost use Rattle.std.specs.Prelude.{◌≡◌, ◌<◌, ◌≤◌, All, MatchOption, length};
 ghost use Rattle.waff_plan.specs.Timing.{start_of, work_of};
-ghost use Rattle.waff_check.specs.Faults.{HasWrongFinish, HasWrongName, IsLeastOf, NoneOf, StartsEarly};
+ghost use Rattle.waff_check.specs.Faults.{HasWrongFinish, HasWrongName, IsLeastOf, NoneOf};
+ghost use Rattle.waff_check.specs.Faults.{StartsEarly};
 ghost use Rattle.waff_check.specs.Verdicts.{name_in, told_finish, told_name};
 
 use waff_assign::Assigned;
@@ -20,8 +21,10 @@ pub(crate) fn wrong_name(
     requires lengths { length plan.now.timings ≡ length assigned.now }
     requires rows { length given.now.rows ≡ length plan.now.timings }
     requires known { All (λ a. a < length tree.now) assigned.now }
-    ensures { MatchOption result (NoneOf (HasWrongName (work_of plan.now.timings) (told_name given.now) (name_in tree.now assigned.now)))
-        (IsLeastOf (HasWrongName (work_of plan.now.timings) (told_name given.now) (name_in tree.now assigned.now))) }
+    ensures { MatchOption result (NoneOf (HasWrongName
+        (work_of plan.now.timings) (told_name given.now) (name_in tree.now assigned.now)))
+        (IsLeastOf (HasWrongName (work_of plan.now.timings)
+        (told_name given.now) (name_in tree.now assigned.now))) }
 {
     for n in 1..plan.len() + 1 {
         if given.row(n).affinity.as_str() != tree.name(assigned.of(n)) {
@@ -34,8 +37,10 @@ pub(crate) fn wrong_name(
 /// The first message whose row does not tell the finish that its start and its cost make.
 pub(crate) fn wrong_finish(plan: &Plan, given: &GivenPlan) -> Option<u32>
     requires rows { length given.now.rows ≡ length plan.now.timings }
-    ensures { MatchOption result (NoneOf (HasWrongFinish (work_of plan.now.timings) (start_of plan.now.starts) (told_finish given.now)))
-        (IsLeastOf (HasWrongFinish (work_of plan.now.timings) (start_of plan.now.starts) (told_finish given.now))) }
+    ensures { MatchOption result (NoneOf (HasWrongFinish
+        (work_of plan.now.timings) (start_of plan.now.starts) (told_finish given.now)))
+        (IsLeastOf (HasWrongFinish (work_of plan.now.timings)
+        (start_of plan.now.starts) (told_finish given.now))) }
 {
     for n in 1..plan.len() + 1 {
         if given.finish(n) != plan.finish(n) {
@@ -47,7 +52,8 @@ pub(crate) fn wrong_finish(plan: &Plan, given: &GivenPlan) -> Option<u32>
 
 /// The first message that starts before its release.
 pub(crate) fn early_start(plan: &Plan) -> Option<u32>
-    ensures { MatchOption result (NoneOf (StartsEarly (work_of plan.now.timings) (start_of plan.now.starts)))
+    ensures { MatchOption result
+        (NoneOf (StartsEarly (work_of plan.now.timings) (start_of plan.now.starts)))
         (IsLeastOf (StartsEarly (work_of plan.now.timings) (start_of plan.now.starts))) }
 {
     for n in 1..plan.len() + 1 {

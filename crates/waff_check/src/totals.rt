@@ -10,7 +10,8 @@ use waff_plan_text::GivenPlan;
 /// Whether the totals that a summary tells are those of the plan and of the summary's chain.
 pub(crate) fn has_totals(plan: &Plan, given: &GivenPlan) -> bool
     requires rows { length given.now.rows ≡ length plan.now.timings }
-    ensures { IsTrue result ↔ HasTotals (work_of plan.now.timings) (start_of plan.now.starts) given.now.summary }
+    ensures { IsTrue result
+        ↔ HasTotals (work_of plan.now.timings) (start_of plan.now.starts) given.now.summary }
 {
     let summary = given.summary();
     summary.totals == plan.totals(summary.workers, &summary.chain)

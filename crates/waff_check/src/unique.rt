@@ -1,5 +1,5 @@
-//! That the definitions leave no choice. The law is a function that does nothing and whose contract is
-//! the law.
+//! That the definitions leave no choice. The law is a function that does nothing and whose contract
+//! is the law.
 
 ghost use Rattle.waff_check.specs.Unique.{VerdictIsOne};
 ghost use Rattle.waff_check.specs.Verdicts.{Claim};

@@ -1,7 +1,7 @@
 //! Verdicts.
 
-/// What a check finds of a plan that is given: the first fault of the first kind that there is, or else how good the plan is.
-/// Messages are numbered from 1, places of the chain too.
+/// What a check finds of a plan that is given: the first fault of the first kind that there is, or
+/// else how good the plan is. Messages are numbered from 1, places of the chain too.
 #[derive(Clone, Copy, Debug, PartialEq, Eq)]
 pub enum Verdict {
     /// An ordered pair of messages the second of which starts before the first has finished.

@@ -2,7 +2,8 @@
 
 ghost use Rattle.std.specs.Prelude.{◌≡◌, ◌<◌, ◌≤◌, ◌↔◌, ℕ, IfOk, IsTrue, MatchOption, Some, length};
 ghost use Rattle.waff_plan.specs.Timing.{start_of, work_of};
-ghost use Rattle.waff_check.specs.Faults.{HasWrongWorker, IsLeastOf, IsMisplaced, IsTaken, NoneOf, RunTogether};
+ghost use Rattle.waff_check.specs.Faults.{HasWrongWorker, IsLeastOf, IsMisplaced, IsTaken, NoneOf};
+ghost use Rattle.waff_check.specs.Faults.{RunTogether};
 ghost use Rattle.waff_check.specs.Shifts.{first_of};
 ghost use Rattle.waff_check.specs.Verdicts.{worker_in};
 
@@ -17,7 +18,8 @@ fn run_together(plan: &Plan, i: u32, j: u32) -> bool
     requires first { i ≤ length plan.now.timings }
     requires to { 1 ≤ j }
     requires second { j ≤ length plan.now.timings }
-    ensures { IsTrue result ↔ RunTogether (work_of plan.now.timings) (start_of plan.now.starts) i j }
+    ensures { IsTrue result
+        ↔ RunTogether (work_of plan.now.timings) (start_of plan.now.starts) i j }
 {
     plan.start(i).max(plan.start(j)) < plan.finish(i).min(plan.finish(j))
 }
@@ -28,16 +30,19 @@ fn is_taken_by(plan: &Plan, given: &GivenPlan, worker: u64, n: u32, i: u32) -> b
     requires from { 1 ≤ i }
     requires earlier { i < n }
     requires to { n ≤ length plan.now.timings }
-    ensures { IsTrue result ↔ IsTaken (work_of plan.now.timings) (start_of plan.now.starts) (worker_in given.now) worker n i }
+    ensures { IsTrue result ↔ IsTaken (work_of plan.now.timings)
+        (start_of plan.now.starts) (worker_in given.now) worker n i }
 {
     given.row(i).worker == Some(worker) && run_together(plan, i, n)
 }
 
-// Whether a message of lower number than `n` has this worker and runs at a tick at which message `n` runs.
+// Whether a message of lower number than `n` has this worker and runs at a tick at which message
+// `n` runs.
 fn is_taken(plan: &Plan, given: &GivenPlan, worker: u64, n: u32) -> bool
     requires lengths { length given.now.rows ≡ length plan.now.timings }
     requires to { n ≤ length plan.now.timings }
-    ensures { IsTrue result ↔ ((i : ℕ) × IsTaken (work_of plan.now.timings) (start_of plan.now.starts) (worker_in given.now) worker n i) }
+    ensures { IsTrue result ↔ ((i : ℕ) × IsTaken
+        (work_of plan.now.timings) (start_of plan.now.starts) (worker_in given.now) worker n i) }
 {
     for i in 1..n {
         if is_taken_by(plan, given, worker, n, i) {
@@ -52,7 +57,8 @@ fn is_misplaced(plan: &Plan, given: &GivenPlan, workers: Option<u32>, n: u32) ->
     requires lengths { length given.now.rows ≡ length plan.now.timings }
     requires from { 1 ≤ n }
     requires to { n ≤ length plan.now.timings }
-    ensures { IsTrue result ↔ IsMisplaced (work_of plan.now.timings) (start_of plan.now.starts) (worker_in given.now) workers n (worker_in given.now n) }
+    ensures { IsTrue result ↔ IsMisplaced (work_of plan.now.timings)
+        (start_of plan.now.starts) (worker_in given.now) workers n (worker_in given.now n) }
 {
     let worker = given.row(n).worker;
     match workers {
@@ -64,14 +70,17 @@ fn is_misplaced(plan: &Plan, given: &GivenPlan, workers: Option<u32>, n: u32) ->
     }
 }
 
-// The first message whose row tells a wrong worker, where those of the first messages are right. Each message is looked at with
-// all before it.
+// The first message whose row tells a wrong worker, where those of the first messages are right.
+// Each message is looked at with all before it.
 fn first_misplaced(plan: &Plan, given: &GivenPlan, workers: Option<u32>, right: u32) -> Option<u32>
     requires lengths { length given.now.rows ≡ length plan.now.timings }
     requires many { right ≤ length plan.now.timings }
-    requires right { NoneOf (HasWrongWorker (first_of (work_of plan.now.timings) right) (start_of plan.now.starts) (worker_in given.now) workers) }
-    ensures { MatchOption result (NoneOf (HasWrongWorker (work_of plan.now.timings) (start_of plan.now.starts) (worker_in given.now) workers))
-        (IsLeastOf (HasWrongWorker (work_of plan.now.timings) (start_of plan.now.starts) (worker_in given.now) workers)) }
+    requires right { NoneOf (HasWrongWorker (first_of (work_of plan.now.timings) right)
+        (start_of plan.now.starts) (worker_in given.now) workers) }
+    ensures { MatchOption result (NoneOf (HasWrongWorker
+        (work_of plan.now.timings) (start_of plan.now.starts) (worker_in given.now) workers))
+        (IsLeastOf (HasWrongWorker (work_of plan.now.timings)
+        (start_of plan.now.starts) (worker_in given.now) workers)) }
 {
     let messages = plan.len();
     for n in right + 1..messages + 1 {
@@ -82,12 +91,13 @@ fn first_misplaced(plan: &Plan, given: &GivenPlan, workers: Option<u32>, right: 
     None
 }
 
-// So many of the first messages tell right ones of `k` workers: all, or those before the first that does not. The number is halved
-// in on.
+// So many of the first messages tell right ones of `k` workers: all, or those before the first that
+// does not. The number is halved in on.
 fn right_ones(alloc: Global, plan: &Plan, given: &GivenPlan, k: u32) -> Result<u32, AllocError>
     requires lengths { length given.now.rows ≡ length plan.now.timings }
     ensures many { IfOk result (λ right. right ≤ length plan.now.timings) }
-    ensures right { IfOk result (λ right. NoneOf (HasWrongWorker (first_of (work_of plan.now.timings) right) (start_of plan.now.starts)
+    ensures right { IfOk result (λ right. NoneOf
+        (HasWrongWorker (first_of (work_of plan.now.timings) right) (start_of plan.now.starts)
         (worker_in given.now) (Some k))) }
 {
     let messages = plan.len();
@@ -116,8 +126,10 @@ pub(crate) fn wrong_worker(
 ) -> Result<Option<u32>, AllocError>
     requires lengths { length given.now.rows ≡ length plan.now.timings }
     ensures { IfOk result (λ found. MatchOption found
-        (NoneOf (HasWrongWorker (work_of plan.now.timings) (start_of plan.now.starts) (worker_in given.now) workers))
-        (IsLeastOf (HasWrongWorker (work_of plan.now.timings) (start_of plan.now.starts) (worker_in given.now) workers))) }
+        (NoneOf (HasWrongWorker (work_of plan.now.timings)
+        (start_of plan.now.starts) (worker_in given.now) workers))
+        (IsLeastOf (HasWrongWorker (work_of plan.now.timings)
+        (start_of plan.now.starts) (worker_in given.now) workers))) }
 {
     match workers {
         None => Ok(first_misplaced(plan, given, None, 0)),

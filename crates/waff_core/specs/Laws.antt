@@ -1,5 +1,6 @@
 -- What holds of the core machine.
-use Rattle.std.specs.Prelude.{◌≡◌, ◌↔◌, ◌≢◌, ◌⊎◌, ℕ, zero, suc, ◌+◌, ◌-◌, ◌≤◌, true, List, [], ◌∷◌, length, Some, take, All}
+use Rattle.std.specs.Prelude.{◌≡◌, ◌↔◌, ◌≢◌, ◌⊎◌, ℕ, zero, suc, ◌+◌, ◌-◌, ◌≤◌, true, List, [], ◌∷◌}
+use Rattle.std.specs.Prelude.{length, Some, take, All}
 use Rattle.waff_model.specs.Tree.{Excludes}
 use Rattle.waff_model.specs.Layout.{IsCell, owner_of}
 use Rattle.waff_model.specs.declared.cell.Cell.{Cell}

@@ -1,7 +1,8 @@
 -- The core machine of a replay: actors draw messages of a job, begin them and end them. It is this
 -- project's own. While a message runs, the parcels of its footprint's owners are with it; the cells
 -- of the machine's state have the values that they had before.
-use Rattle.std.specs.Prelude.{◌≡◌, ℕ, zero, suc, ◌+◌, ◌-◌, ◌==◌, ◌||◌, Bool, true, false, List, [], ◌∷◌, Option, Some, None, replicate, slice_get, slice_set}
+use Rattle.std.specs.Prelude.{◌≡◌, ℕ, zero, suc, ◌+◌, ◌-◌, ◌==◌, ◌||◌, Bool, true, false, List, []}
+use Rattle.std.specs.Prelude.{◌∷◌, Option, Some, None, replicate, slice_get, slice_set}
 use Rattle.waff_assign.specs.Order.{IsOrdered}
 use Rattle.waff_cells.specs.Meaning.{Cells, meaning}
 use Rattle.waff_cells.specs.Serial.{ops_of, zeros}

@@ -1,5 +1,6 @@
 -- Orders of messages, read one message after another.
-use Rattle.std.specs.Prelude.{◌≡◌, ℕ, ◌-◌, ◌≤◌, Bool, true, false, List, length, All, slice_index_or}
+use Rattle.std.specs.Prelude.{◌≡◌, ℕ, ◌-◌, ◌≤◌, Bool, true, false, List, length, All}
+use Rattle.std.specs.Prelude.{slice_index_or}
 use Rattle.waff_order.specs.Needs.{needs_of}
 
 -- message n is marked, from 1

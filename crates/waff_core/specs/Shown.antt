@@ -1,5 +1,6 @@
 -- States of the machine as data: marks in place of sets, rows in place of maps.
-use Rattle.std.specs.Prelude.{◌≡◌, ◌↔◌, ℕ, ◌+◌, true, false, Bool, List, length, Some, All, slice_index_or}
+use Rattle.std.specs.Prelude.{◌≡◌, ◌↔◌, ℕ, ◌+◌, true, false, Bool, List, length, Some, All}
+use Rattle.std.specs.Prelude.{slice_index_or}
 use Rattle.waff_model.specs.Messages.{sizes_of}
 use Rattle.waff_order.specs.Needs.{needs_of}
 use Rattle.waff_cells.specs.Grid.{HasSizes, cells_in}

@@ -1,6 +1,7 @@
 //! Jobs.
 
-ghost use Rattle.std.specs.Prelude.{◌≡◌, ◌↔◌, ◌<◌, ◌≤◌, length, All, IsTrue, IfOk, IfErr, slice_get};
+ghost use Rattle.std.specs.Prelude.{◌≡◌, ◌↔◌, ◌<◌, ◌≤◌, length, All, IsTrue, IfOk, IfErr};
+ghost use Rattle.std.specs.Prelude.{slice_get};
 ghost use Rattle.waff_model.specs.Cells.{cells_of};
 ghost use Rattle.waff_model.specs.Layout.{IsCell, IsLayout};
 ghost use Rattle.waff_model.specs.Messages.{IsTrace, sizes_of};

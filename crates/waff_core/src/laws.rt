@@ -2,7 +2,11 @@
 //! whose contract is the law.
 
 ghost use Rattle.waff_core.specs.Job.{JobValue, IsJob};
-ghost use Rattle.waff_core.specs.Laws.{RunsOnce, FailsOnce, RunsOrFails, NeverBoth, StaysAccepted, OneActorEnds, DrawsAreFew, EachHasOneStatus, ShowsWhatItHas, NeedsAreEnough, RunningDoNotExclude, AwayWithOne, BeginsAtHome, LastIsOne, AlwaysSerial, EachCellIsSerial, AllDoneIsSerial, BeginsSettled};
+ghost use Rattle.waff_core.specs.Laws.{RunsOnce, FailsOnce, RunsOrFails, NeverBoth, StaysAccepted};
+ghost use Rattle.waff_core.specs.Laws.{OneActorEnds, DrawsAreFew, EachHasOneStatus, ShowsWhatItHas};
+ghost use Rattle.waff_core.specs.Laws.{NeedsAreEnough, RunningDoNotExclude, AwayWithOne};
+ghost use Rattle.waff_core.specs.Laws.{BeginsAtHome, LastIsOne, AlwaysSerial, EachCellIsSerial};
+ghost use Rattle.waff_core.specs.Laws.{AllDoneIsSerial, BeginsSettled};
 
 /// The machine is deterministic: a list of events leads from a state to no more than one.
 pub fn runs_once()

@@ -10,13 +10,15 @@ round_numbers =
     ∷ 1000000 ∷ 2000000 ∷ 5000000 ∷ 10000000 ∷ 20000000 ∷ 50000000
     ∷ 100000000 ∷ 200000000 ∷ 500000000 ∷ 1000000000 ∷ 2000000000 ∷ 5000000000
     ∷ 10000000000 ∷ 20000000000 ∷ 50000000000 ∷ 100000000000 ∷ 200000000000 ∷ 500000000000
-    ∷ 1000000000000 ∷ 2000000000000 ∷ 5000000000000 ∷ 10000000000000 ∷ 20000000000000 ∷ 50000000000000
+    ∷ 1000000000000 ∷ 2000000000000 ∷ 5000000000000
+    ∷ 10000000000000 ∷ 20000000000000 ∷ 50000000000000
     ∷ 100000000000000 ∷ 200000000000000 ∷ 500000000000000 ∷ 1000000000000000 ∷ []
 
 -- the first of the steps of which ten reach the length, and the length itself where none does
 abbrev pub first_step : ℕ → List ℕ → ℕ
 first_step length [] = max length 1
-first_step length (step ∷ steps) = if nat_le length (10 * step) then step else first_step length steps
+first_step length (step ∷ steps) =
+    if nat_le length (10 * step) then step else first_step length steps
 
 -- the least round number of which ten steps reach the length
 abbrev pub step_of : ℕ → ℕ

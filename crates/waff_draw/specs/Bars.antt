@@ -1,12 +1,14 @@
 -- The bars of a picture.
-use Rattle.std.specs.Prelude.{ℕ, ◌+◌, ◌-◌, ◌*◌, ◌&&◌, Bool, List, [], ◌++◌, Option, Some, None, if◌then◌else◌, length, nat_le, codes}
+use Rattle.std.specs.Prelude.{ℕ, ◌+◌, ◌-◌, ◌*◌, ◌&&◌, Bool, List, [], ◌++◌, Option, Some, None}
+use Rattle.std.specs.Prelude.{if◌then◌else◌, length, nat_le, codes}
 use Rattle.std.specs.List.{flat_map}
 use Rattle.waff_assign.specs.Order.{affinity_of}
 use Rattle.waff_plan.specs.Work.{numbers}
 use Rattle.waff_plan_text.specs.Given.{row_at}
 use Rattle.waff_draw.specs.Lanes.{is_among, row_of}
 use Rattle.waff_draw.specs.Pieces.{bar_end, bar_middle, bar_start}
-use Rattle.waff_draw.specs.Scene.{Scene, affinity_in, lanes_in, name_in, start_in, work_in, workers_in}
+use Rattle.waff_draw.specs.Scene.{Scene, affinity_in, lanes_in, name_in, start_in, work_in}
+use Rattle.waff_draw.specs.Scene.{workers_in}
 use Rattle.waff_draw.specs.Xml.{xml_text}
 use Rattle.waff_draw.specs.declared.bars.Bar.{Bar}
 
@@ -41,7 +43,8 @@ affinity_bar scene n = bar_in scene (row_of (lanes_in scene) (affinity_of scene.
 -- the row of a worker of k, whose lanes stand below this many others
 abbrev pub worker_row : ℕ → ℕ → Option ℕ → Option ℕ
 worker_row first k None = None
-worker_row first k (Some worker) = if nat_le 1 worker && nat_le worker k then Some (first + worker - 1) else None
+worker_row first k (Some worker) =
+    if nat_le 1 worker && nat_le worker k then Some (first + worker - 1) else None
 
 -- the bar of message n in the lane of its worker, if it has one of the k
 abbrev pub bar_where : Scene → ℕ → Option ℕ → List ℕ
@@ -50,7 +53,8 @@ bar_where scene n (Some row) = bar_in scene row n
 
 abbrev pub worker_bar : Scene → ℕ → List ℕ
 worker_bar scene n =
-    bar_where scene n (worker_row (length (lanes_in scene)) (workers_in scene) (row_at scene.plan.rows n).worker)
+    bar_where scene n
+    (worker_row (length (lanes_in scene)) (workers_in scene) (row_at scene.plan.rows n).worker)
 
 -- the bars of all messages in the lanes of their affinities, then in those of their workers
 abbrev pub affinity_bars : Scene → List ℕ

@@ -13,6 +13,8 @@ pub record IsChart (scene : Scene) (chart : Chart) : Type 0 where
   pub timings : chart.plan.timings ≡ timings_of scene.messages
   pub starts : chart.plan.starts ≡ map (λ row. row.start) scene.plan.rows
   pub row_count : length chart.rows.items ≡ length scene.tree
-  pub rows : (a : ℕ) → a < length scene.tree → slice_index chart.rows.items a ≡ row_of (lanes_in scene) a
+  pub rows : (a : ℕ) → a < length scene.tree
+      → slice_index chart.rows.items a ≡ row_of (lanes_in scene) a
   pub link_count : length scene.messages < length chart.links.items
-  pub links : (n : ℕ) → n < length chart.links.items → slice_index_or chart.links.items n false ≡ is_among scene.plan.summary.chain n
+  pub links : (n : ℕ) → n < length chart.links.items
+      → slice_index_or chart.links.items n false ≡ is_among scene.plan.summary.chain n

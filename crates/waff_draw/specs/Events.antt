@@ -1,5 +1,7 @@
--- The picture in the Trace Event Format, a document of JSON: a lane is a thread, a bar a complete event.
-use Rattle.std.specs.Prelude.{ℕ, ◌+◌, Bool, List, [], ◌∷◌, ◌++◌, Option, Some, None, if◌then◌else◌, codes, decimal, length, slice_index_or}
+-- The picture in the Trace Event Format, a document of JSON: a lane is a thread, a bar a complete
+-- event.
+use Rattle.std.specs.Prelude.{ℕ, ◌+◌, Bool, List, [], ◌∷◌, ◌++◌, Option, Some, None, if◌then◌else◌}
+use Rattle.std.specs.Prelude.{codes, decimal, length, slice_index_or}
 use Rattle.std.specs.List.{flat_map, range_with_len}
 use Rattle.serde_json.specs.Data.{string}
 use Rattle.serde_json.specs.Written.{compact_text}
@@ -10,7 +12,8 @@ use Rattle.waff_plan_text.specs.Given.{row_at}
 use Rattle.waff_draw.specs.Bars.{worker_row}
 use Rattle.waff_draw.specs.Lanes.{is_among, lane_of, row_of}
 use Rattle.waff_draw.specs.Pieces.{joined, worker_name}
-use Rattle.waff_draw.specs.Scene.{Scene, affinity_in, lanes_in, name_in, start_in, work_in, workers_in}
+use Rattle.waff_draw.specs.Scene.{Scene, affinity_in, lanes_in, name_in, start_in, work_in}
+use Rattle.waff_draw.specs.Scene.{workers_in}
 use Rattle.waff_draw.specs.declared.events.Event.{Event}
 use Rattle.waff_draw.specs.declared.lanes.Lane.{Lane}
 
@@ -45,7 +48,8 @@ thread_place process thread =
     ∷ decimal thread
     ∷ codes "}}" ∷ [])
 
--- a complete event: what runs from when for how long, in which thread, and what is told of the message
+-- a complete event: what runs from when for how long, in which thread, and what is told of the
+-- message
 unfoldable pub event_start : List ℕ → List ℕ → ℕ → ℕ → List ℕ
 event_start name category start cost =
     joined (
@@ -89,7 +93,8 @@ abbrev pub quoted : List ℕ → List ℕ
 quoted text = compact_text (string text)
 
 abbrev pub thread_text : ℕ → ℕ → List ℕ → List ℕ
-thread_text process thread name = thread_name process thread (quoted name) ++ thread_place process thread
+thread_text process thread name =
+    thread_name process thread (quoted name) ++ thread_place process thread
 
 -- the category of a message
 abbrev pub category : Bool → List ℕ
@@ -104,7 +109,8 @@ event_text event name affinity =
 
 -- the thread of the lane in a row, which is one more than the row: 1 is the uppermost
 abbrev pub affinity_thread : List Node → List Lane → ℕ → List ℕ
-affinity_thread tree lanes row = thread_text 1 (row + 1) (name_of tree (slice_index_or lanes row (lane_of 0 0)).affinity)
+affinity_thread tree lanes row =
+    thread_text 1 (row + 1) (name_of tree (slice_index_or lanes row (lane_of 0 0)).affinity)
 
 -- the thread of a worker, below this many others
 abbrev pub worker_thread : ℕ → ℕ → List ℕ
@@ -128,7 +134,8 @@ event_at scene process row n = record {
 
 -- its text
 abbrev pub event_in : Scene → ℕ → ℕ → ℕ → List ℕ
-event_in scene process row n = event_text (event_at scene process row n) (name_in scene n) (affinity_in scene n)
+event_in scene process row n =
+    event_text (event_at scene process row n) (name_in scene n) (affinity_in scene n)
 
 -- the event of message n in the lane of its affinity
 abbrev pub affinity_event : Scene → ℕ → List ℕ
@@ -141,7 +148,8 @@ event_where scene n (Some row) = event_in scene 2 row n
 
 abbrev pub worker_event : Scene → ℕ → List ℕ
 worker_event scene n =
-    event_where scene n (worker_row (length (lanes_in scene)) (workers_in scene) (row_at scene.plan.rows n).worker)
+    event_where scene n
+    (worker_row (length (lanes_in scene)) (workers_in scene) (row_at scene.plan.rows n).worker)
 
 -- the events of all messages in the lanes of their affinities, then in those of their workers
 abbrev pub affinity_events : Scene → List ℕ
@@ -154,9 +162,11 @@ worker_events scene = flat_map (worker_event scene) (numbers (work_in scene))
 abbrev pub threads_text : Scene → List ℕ
 threads_text scene =
     document_start
-    ++ flat_map (affinity_thread scene.tree (lanes_in scene)) (range_with_len 0 (length (lanes_in scene)))
+    ++ flat_map (affinity_thread scene.tree (lanes_in scene))
+    (range_with_len 0 (length (lanes_in scene)))
     ++ worker_threads (length (lanes_in scene)) scene.plan.summary.workers
 
 -- the document
 abbrev pub events_text : Scene → List ℕ
-events_text scene = threads_text scene ++ affinity_events scene ++ worker_events scene ++ document_end
+events_text scene =
+    threads_text scene ++ affinity_events scene ++ worker_events scene ++ document_end

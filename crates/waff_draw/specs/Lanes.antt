@@ -1,5 +1,6 @@
 -- The lanes of a picture: the affinities that have a message, in preorder.
-use Rattle.std.specs.Prelude.{ℕ, zero, suc, ◌+◌, ◌==◌, Bool, false, List, [], ◌∷◌, Option, Some, None, if◌then◌else◌, length, map, slice_index_or}
+use Rattle.std.specs.Prelude.{ℕ, zero, suc, ◌+◌, ◌==◌, Bool, false, List, [], ◌∷◌, Option, Some}
+use Rattle.std.specs.Prelude.{None, if◌then◌else◌, length, map, slice_index_or}
 use Rattle.std.specs.List.{filter, flat_map, list_any, range_with_len}
 use Rattle.waff_model.specs.Tree.{Node, parent_of}
 use Rattle.waff_draw.specs.declared.lanes.Lane.{Lane}
@@ -20,11 +21,13 @@ families_of tree = map (children_of tree) (range_with_len 0 (length tree))
 abbrev pub lane_of : ℕ → ℕ → Lane
 lane_of affinity depth = record { affinity = affinity; depth = depth }
 
--- a walk in preorder that goes down so many levels: an affinity, then the walks from its children, in order
+-- a walk in preorder that goes down so many levels: an affinity, then the walks from its children,
+-- in order
 abbrev pub walk_from : List (List ℕ) → ℕ → ℕ → ℕ → List Lane
 walk_from families zero depth a = []
 walk_from families (suc levels) depth a =
-    lane_of a depth ∷ flat_map (walk_from families levels (depth + 1)) (slice_index_or families a [])
+    lane_of a depth
+    ∷ flat_map (walk_from families levels (depth + 1)) (slice_index_or families a [])
 
 -- all affinities, in preorder
 abbrev pub preorder : List Node → List Lane

@@ -17,7 +17,8 @@ legend_text = codes "<text x='8' y='48'>A bar is a message from its start to its
 
 -- the top of the document, of this height
 unfoldable pub top_start : ℕ → List ℕ
-top_start height = codes "<svg xmlns='http://www.w3.org/2000/svg' width='1340' height='" ++ decimal height ++ codes "'>\n"
+top_start height = codes "<svg xmlns='http://www.w3.org/2000/svg' width='1340' height='"
+    ++ decimal height ++ codes "'>\n"
 
 -- what is told of the plan, as far as its workers
 unfoldable pub heading_start : ℕ → ℕ → List ℕ

@@ -1,5 +1,6 @@
 -- What a picture shows: a plan that is given for the messages of a trace with their affinities.
-use Rattle.std.specs.Prelude.{ℕ, ◌+◌, ◌-◌, max, List, [], Option, Some, None, length, map, slice_index_or}
+use Rattle.std.specs.Prelude.{ℕ, ◌+◌, ◌-◌, max, List, [], Option, Some, None, length, map}
+use Rattle.std.specs.Prelude.{slice_index_or}
 use Rattle.waff_model.specs.Tree.{Node, name_of}
 use Rattle.waff_model.specs.declared.message.Message.{Message}
 use Rattle.waff_assign.specs.Order.{affinity_of}
@@ -17,7 +18,8 @@ pub record Scene : Type 0 where
   pub plan : Given
 
 abbrev pub scene_of : List Node → List ℕ → List Message → Given → Scene
-scene_of tree assigned messages plan = record { tree = tree; assigned = assigned; messages = messages; plan = plan }
+scene_of tree assigned messages plan =
+    record { tree = tree; assigned = assigned; messages = messages; plan = plan }
 
 -- the work, the starts and the length of the plan
 abbrev pub work_in : Scene → Work

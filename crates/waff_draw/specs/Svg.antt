@@ -1,5 +1,6 @@
 -- The picture as a document in SVG.
-use Rattle.std.specs.Prelude.{ℕ, ◌+◌, ◌-◌, ◌*◌, ◌/◌, min, List, [], ◌++◌, Option, if◌then◌else◌, length, nat_le, slice_index_or}
+use Rattle.std.specs.Prelude.{ℕ, ◌+◌, ◌-◌, ◌*◌, ◌/◌, min, List, [], ◌++◌, Option, if◌then◌else◌}
+use Rattle.std.specs.Prelude.{length, nat_le, slice_index_or}
 use Rattle.std.specs.List.{flat_map, range_with_len}
 use Rattle.waff_model.specs.Tree.{Node, name_of}
 use Rattle.waff_plan.specs.Work.{total_of}
@@ -7,7 +8,9 @@ use Rattle.waff_plan_text.specs.Spelling.{worker_field}
 use Rattle.waff_draw.specs.Axis.{step_of}
 use Rattle.waff_draw.specs.Bars.{affinity_bars, worker_bars}
 use Rattle.waff_draw.specs.Lanes.{lane_of}
-use Rattle.waff_draw.specs.Pieces.{document_end, grid_line, heading_end, heading_start, lane_end, lane_start, legend_text, plan_start, style_text, tick_label, top_start, worker_name}
+use Rattle.waff_draw.specs.Pieces.{document_end, grid_line, heading_end, heading_start, lane_end}
+use Rattle.waff_draw.specs.Pieces.{lane_start, legend_text, plan_start, style_text, tick_label}
+use Rattle.waff_draw.specs.Pieces.{top_start, worker_name}
 use Rattle.waff_draw.specs.Scene.{Scene, lanes_in, length_in, rows_in, span_in, work_in, workers_in}
 use Rattle.waff_draw.specs.Xml.{xml_text}
 use Rattle.waff_draw.specs.declared.lanes.Lane.{Lane}
@@ -18,11 +21,13 @@ top_text rows = top_start (rows * 20 + 112) ++ style_text ++ legend_text
 
 -- what is told of the plan
 abbrev pub heading_text : ℕ → ℕ → Option ℕ → List ℕ
-heading_text length total workers = heading_start length total ++ worker_field workers ++ heading_end
+heading_text length total workers =
+    heading_start length total ++ worker_field workers ++ heading_end
 
 -- a lane with its name, set in by depth, twelve steps at most
 abbrev pub lane_text : ℕ → ℕ → List ℕ → List ℕ
-lane_text row depth name = lane_start (row * 20 + 80) (min depth 12 * 8 + 8) (row * 20 + 94) ++ name ++ lane_end
+lane_text row depth name =
+    lane_start (row * 20 + 80) (min depth 12 * 8 + 8) (row * 20 + 94) ++ name ++ lane_end
 
 -- the lane of an affinity
 abbrev pub affinity_lane_text : List Node → ℕ → Lane → List ℕ
@@ -59,7 +64,8 @@ abbrev pub ground_text : Scene → List ℕ
 ground_text scene =
     top_text (rows_in scene)
     ++ heading_text (length_in scene) (total_of (work_in scene)) scene.plan.summary.workers
-    ++ flat_map (affinity_lane scene.tree (lanes_in scene)) (range_with_len 0 (length (lanes_in scene)))
+    ++ flat_map (affinity_lane scene.tree (lanes_in scene))
+    (range_with_len 0 (length (lanes_in scene)))
     ++ flat_map (worker_lane (length (lanes_in scene))) (range_with_len 1 (workers_in scene))
     ++ each_step (length_in scene) (tick_text (rows_in scene) (span_in scene))
     ++ plan_text (rows_in scene) (span_in scene)

@@ -1,9 +1,11 @@
 //! The bars of a picture.
 
-ghost use Rattle.std.specs.Prelude.{◌≡◌, ◌+◌, ◌*◌, ◌^◌, ◌<◌, ◌≤◌, ◌++◌, ℕ, All, IfSome, OnOk, false, length, slice_index, slice_index_or, string_bytes};
+ghost use Rattle.std.specs.Prelude.{◌≡◌, ◌+◌, ◌*◌, ◌^◌, ◌<◌, ◌≤◌, ◌++◌, ℕ, All, IfSome, OnOk};
+ghost use Rattle.std.specs.Prelude.{false, length, slice_index, slice_index_or, string_bytes};
 ghost use Rattle.waff_plan.specs.Timetable.{timings_of};
 ghost use Rattle.waff_plan.specs.Bound.{IsWorkers};
-ghost use Rattle.waff_draw.specs.Bars.{affinity_bar, affinity_bars, bar_at, bar_text, link_mark, worker_bar, worker_bars, worker_row};
+ghost use Rattle.waff_draw.specs.Bars.{affinity_bar, affinity_bars, bar_at, bar_text, link_mark};
+ghost use Rattle.waff_draw.specs.Bars.{worker_bar, worker_bars, worker_row};
 ghost use Rattle.waff_draw.specs.Charts.{IsChart};
 ghost use Rattle.waff_draw.specs.Scene.{Scene, lanes_in, scene_of, worker_count};
 
@@ -42,7 +44,8 @@ pub(crate) fn push_affinity_bars(
     given: &GivenPlan,
     chart: &Chart,
 ) -> Result<(), AllocError>
-    requires chart { IsChart (scene_of tree.now assigned.now trace.now.messages given.now) chart.now }
+    requires chart { IsChart
+        (scene_of tree.now assigned.now trace.now.messages given.now) chart.now }
     ensures { OnOk result (string_bytes text.new ≡ string_bytes text.old
         ++ affinity_bars (scene_of tree.now assigned.now trace.now.messages given.now)) }
 {
@@ -60,7 +63,8 @@ pub(crate) fn push_affinity_bars(
     Ok(())
 }
 
-/// Appends the bars of all messages that have a worker in the lanes of their workers, which stand below this many others.
+/// Appends the bars of all messages that have a worker in the lanes of their workers, which stand
+/// below this many others.
 pub(crate) fn push_worker_bars(
     text: &mut String,
     tree: &Tree,
@@ -70,9 +74,11 @@ pub(crate) fn push_worker_bars(
     chart: &Chart,
     first: u64,
 ) -> Result<(), AllocError>
-    requires chart { IsChart (scene_of tree.now assigned.now trace.now.messages given.now) chart.now }
+    requires chart { IsChart
+        (scene_of tree.now assigned.now trace.now.messages given.now) chart.now }
     requires few { first ≤ 65536 }
-    requires first { first ≡ length (lanes_in (scene_of tree.now assigned.now trace.now.messages given.now)) }
+    requires first { first
+        ≡ length (lanes_in (scene_of tree.now assigned.now trace.now.messages given.now)) }
     ensures { OnOk result (string_bytes text.new ≡ string_bytes text.old
         ++ worker_bars (scene_of tree.now assigned.now trace.now.messages given.now)) }
 {
@@ -124,7 +130,8 @@ impl Chart {
 fn push_bar(text: &mut String, bar: &Bar, name: &str, affinity: &str) -> Result<(), AllocError>
     requires start { bar.now.start < 2 ^ 62 }
     requires cost { bar.now.cost < 2 ^ 32 }
-    ensures { OnOk result (string_bytes text.new ≡ string_bytes text.old ++ bar_text bar.now name.now affinity.now) }
+    ensures { OnOk result (string_bytes text.new ≡ string_bytes text.old
+        ++ bar_text bar.now name.now affinity.now) }
 {
     let top = u128::from(bar.row) * 10 + 1;
     let mark = link_mark(bar.is_link);

@@ -1,12 +1,18 @@
 //! The picture in the Trace Event Format, which Perfetto and the tracing page of Chromium open.
 
-ghost use Rattle.std.specs.Prelude.{◌≡◌, ◌+◌, ◌*◌, ◌^◌, ◌<◌, ◌≤◌, ◌++◌, ℕ, List, All, IfOk, IfSome, OnOk, false, length, map, slice_index, slice_index_or, string_bytes};
+ghost use Rattle.std.specs.Prelude.{◌≡◌, ◌+◌, ◌*◌, ◌^◌, ◌<◌, ◌≤◌, ◌++◌, ℕ, List, All, IfOk, IfSome};
+ghost use Rattle.std.specs.Prelude.{OnOk, false, length, map, slice_index, slice_index_or};
+ghost use Rattle.std.specs.Prelude.{string_bytes};
 ghost use Rattle.std.specs.List.{flat_map, range_with_len};
 ghost use Rattle.waff_plan.specs.Bound.{IsWorkers};
 ghost use Rattle.waff_plan.specs.Timetable.{timings_of};
 ghost use Rattle.waff_draw.specs.Bars.{worker_row};
 ghost use Rattle.waff_draw.specs.Charts.{IsChart};
-ghost use Rattle.waff_draw.specs.Events.{affinity_events, affinity_thread, category, document_end, document_start, event_args, event_at, event_start, event_text, event_thread, events_text, quoted, thread_name, thread_place, thread_text, worker_events, worker_thread, worker_threads, workers_start};
+ghost use Rattle.waff_draw.specs.Events.{affinity_events, affinity_thread, category, document_end};
+ghost use Rattle.waff_draw.specs.Events.{document_start, event_args, event_at, event_start};
+ghost use Rattle.waff_draw.specs.Events.{event_text, event_thread, events_text, quoted};
+ghost use Rattle.waff_draw.specs.Events.{thread_name, thread_place, thread_text, worker_events};
+ghost use Rattle.waff_draw.specs.Events.{worker_thread, worker_threads, workers_start};
 ghost use Rattle.waff_draw.specs.Lanes.{is_among, lanes_of, row_of};
 ghost use Rattle.waff_draw.specs.Scene.{Scene, lanes_in, scene_of, worker_count};
 
@@ -43,7 +49,8 @@ pub fn events_text(
     requires lengths { length assigned.now ≡ length trace.now.messages }
     requires known { All (λ a. a < length tree.now) assigned.now }
     requires rows { length given.now.rows ≡ length trace.now.messages }
-    ensures { IfOk result (λ text. string_bytes text ≡ events_text (scene_of tree.now assigned.now trace.now.messages given.now)) }
+    ensures { IfOk result (λ text. string_bytes text
+        ≡ events_text (scene_of tree.now assigned.now trace.now.messages given.now)) }
 {
     let lanes = lanes(alloc, tree, assigned)?;
     let chart = chart(alloc, tree, assigned, trace, given, lanes.as_slice())?;
@@ -68,11 +75,13 @@ fn told_text(
     lanes: &[Lane],
     chart: &Chart,
 ) -> Result<String, AllocError>
-    requires chart { IsChart (scene_of tree.now assigned.now trace.now.messages given.now) chart.now }
+    requires chart { IsChart
+        (scene_of tree.now assigned.now trace.now.messages given.now) chart.now }
     requires lanes { lanes.now ≡ lanes_of tree.now assigned.now }
     requires lanes_known { All (λ lane. lane.affinity < length tree.now) lanes.now }
     requires few { length lanes.now ≤ 65536 }
-    ensures { IfOk result (λ text. string_bytes text ≡ events_text (scene_of tree.now assigned.now trace.now.messages given.now)) }
+    ensures { IfOk result (λ text. string_bytes text
+        ≡ events_text (scene_of tree.now assigned.now trace.now.messages given.now)) }
 {
     let mut text = String::new(alloc);
     push_document(alloc, &mut text, tree, assigned, trace, given, lanes, chart)?;
@@ -90,7 +99,8 @@ fn push_document(
     lanes: &[Lane],
     chart: &Chart,
 ) -> Result<(), AllocError>
-    requires chart { IsChart (scene_of tree.now assigned.now trace.now.messages given.now) chart.now }
+    requires chart { IsChart
+        (scene_of tree.now assigned.now trace.now.messages given.now) chart.now }
     requires lanes { lanes.now ≡ lanes_of tree.now assigned.now }
     requires lanes_known { All (λ lane. lane.affinity < length tree.now) lanes.now }
     requires few { length lanes.now ≤ 65536 }
@@ -136,7 +146,8 @@ fn push_affinity_threads(
     Ok(())
 }
 
-/// Appends the process of the workers with the threads of their lanes, below this many others, for a plan that has workers.
+/// Appends the process of the workers with the threads of their lanes, below this many others, for
+/// a plan that has workers.
 fn push_worker_threads(
     alloc: Global,
     text: &mut String,
@@ -144,7 +155,8 @@ fn push_worker_threads(
     workers: Option<u32>,
 ) -> Result<(), AllocError>
     requires { IfSome workers IsWorkers }
-    ensures { OnOk result (string_bytes text.new ≡ string_bytes text.old ++ worker_threads first workers) }
+    ensures { OnOk result (string_bytes text.new ≡ string_bytes text.old
+        ++ worker_threads first workers) }
 {
     match workers {
         Some(k) => {
@@ -189,7 +201,8 @@ fn push_worker_thread(
     first: u64,
     worker: u32,
 ) -> Result<(), AllocError>
-    ensures { OnOk result (string_bytes text.new ≡ string_bytes text.old ++ worker_thread first worker) }
+    ensures { OnOk result (string_bytes text.new ≡ string_bytes text.old
+        ++ worker_thread first worker) }
 {
     let mut name = String::new(alloc);
     push_worker_name(&mut name, worker)?;
@@ -210,7 +223,8 @@ fn push_thread(
     thread: u128,
     name: &str,
 ) -> Result<(), AllocError>
-    ensures { OnOk result (string_bytes text.new ≡ string_bytes text.old ++ thread_text process thread name.now) }
+    ensures { OnOk result (string_bytes text.new ≡ string_bytes text.old
+        ++ thread_text process thread name.now) }
 {
     let name = json(alloc, name)?;
     push_thread_name(text, process, thread, name.as_str())?;
@@ -224,7 +238,8 @@ fn push_thread_name(
     thread: u128,
     name: &str,
 ) -> Result<(), AllocError>
-    ensures { OnOk result (string_bytes text.new ≡ string_bytes text.old ++ thread_name process thread name.now) }
+    ensures { OnOk result (string_bytes text.new ≡ string_bytes text.old
+        ++ thread_name process thread name.now) }
 {
     write!(
         text,
@@ -234,7 +249,8 @@ fn push_thread_name(
 
 /// Appends the place of a thread.
 fn push_thread_place(text: &mut String, process: u32, thread: u128) -> Result<(), AllocError>
-    ensures { OnOk result (string_bytes text.new ≡ string_bytes text.old ++ thread_place process thread) }
+    ensures { OnOk result (string_bytes text.new ≡ string_bytes text.old
+        ++ thread_place process thread) }
 {
     write!(
         text,
@@ -252,7 +268,8 @@ fn push_affinity_events(
     given: &GivenPlan,
     chart: &Chart,
 ) -> Result<(), AllocError>
-    requires chart { IsChart (scene_of tree.now assigned.now trace.now.messages given.now) chart.now }
+    requires chart { IsChart
+        (scene_of tree.now assigned.now trace.now.messages given.now) chart.now }
     ensures { OnOk result (string_bytes text.new ≡ string_bytes text.old
         ++ affinity_events (scene_of tree.now assigned.now trace.now.messages given.now)) }
 {
@@ -266,7 +283,8 @@ fn push_affinity_events(
     Ok(())
 }
 
-/// Appends the events of all messages that have a worker in the lanes of their workers, which stand below this many others.
+/// Appends the events of all messages that have a worker in the lanes of their workers, which stand
+/// below this many others.
 fn push_worker_events(
     alloc: Global,
     text: &mut String,
@@ -277,9 +295,11 @@ fn push_worker_events(
     chart: &Chart,
     first: u64,
 ) -> Result<(), AllocError>
-    requires chart { IsChart (scene_of tree.now assigned.now trace.now.messages given.now) chart.now }
+    requires chart { IsChart
+        (scene_of tree.now assigned.now trace.now.messages given.now) chart.now }
     requires few { first ≤ 65536 }
-    requires first { first ≡ length (lanes_in (scene_of tree.now assigned.now trace.now.messages given.now)) }
+    requires first { first
+        ≡ length (lanes_in (scene_of tree.now assigned.now trace.now.messages given.now)) }
     ensures { OnOk result (string_bytes text.new ≡ string_bytes text.old
         ++ worker_events (scene_of tree.now assigned.now trace.now.messages given.now)) }
 {
@@ -320,7 +340,8 @@ fn push_event(
     name: &str,
     affinity: &str,
 ) -> Result<(), AllocError>
-    ensures { OnOk result (string_bytes text.new ≡ string_bytes text.old ++ event_text event.now name.now affinity.now) }
+    ensures { OnOk result (string_bytes text.new ≡ string_bytes text.old
+        ++ event_text event.now name.now affinity.now) }
 {
     let name = json(alloc, name)?;
     let affinity = json(alloc, affinity)?;
@@ -344,7 +365,8 @@ fn push_event_start(
     start: u64,
     cost: u64,
 ) -> Result<(), AllocError>
-    ensures { OnOk result (string_bytes text.new ≡ string_bytes text.old ++ event_start name.now category.now start cost) }
+    ensures { OnOk result (string_bytes text.new ≡ string_bytes text.old
+        ++ event_start name.now category.now start cost) }
 {
     write!(
         text,
@@ -354,7 +376,8 @@ fn push_event_start(
 
 /// Appends where it runs.
 fn push_event_thread(text: &mut String, process: u32, thread: u128) -> Result<(), AllocError>
-    ensures { OnOk result (string_bytes text.new ≡ string_bytes text.old ++ event_thread process thread) }
+    ensures { OnOk result (string_bytes text.new ≡ string_bytes text.old
+        ++ event_thread process thread) }
 {
     write!(text, "\"pid\":{process},\"tid\":{thread},")
 }
@@ -367,7 +390,8 @@ fn push_event_args(
     affinity: &str,
     release: u64,
 ) -> Result<(), AllocError>
-    ensures { OnOk result (string_bytes text.new ≡ string_bytes text.old ++ event_args message name.now affinity.now release) }
+    ensures { OnOk result (string_bytes text.new ≡ string_bytes text.old
+        ++ event_args message name.now affinity.now release) }
 {
     write!(
         text,

@@ -1,6 +1,8 @@
 //! The lanes of a picture: the affinities that have a message, in preorder.
 
-ghost use Rattle.std.specs.Prelude.{◌≡◌, ◌+◌, ◌^◌, ◌<◌, ◌≤◌, ◌∷◌, ◌++◌, ℕ, All, IfOk, OnOk, [], false, length, map, replicate, set, slice_index, slice_index_or};
+ghost use Rattle.std.specs.Prelude.{◌≡◌, ◌+◌, ◌^◌, ◌<◌, ◌≤◌, ◌∷◌, ◌++◌, ℕ, All, IfOk, OnOk, []};
+ghost use Rattle.std.specs.Prelude.{false, length, map, replicate, set, slice_index};
+ghost use Rattle.std.specs.Prelude.{slice_index_or};
 ghost use Rattle.std.specs.List.{filter};
 ghost use Rattle.waff_draw.specs.Lanes.{families_of, lanes_of, preorder, row_of, walk_from};
 
@@ -24,7 +26,8 @@ pub(crate) fn lanes(
 ) -> Result<Vec<Lane>, AllocError>
     requires { All (λ a. a < length tree.now) assigned.now }
     ensures lanes { IfOk result (λ lanes. lanes.items ≡ lanes_of tree.now assigned.now) }
-    ensures known { IfOk result (λ lanes. All (λ lane. lane.affinity < length tree.now) lanes.items) }
+    ensures known { IfOk result (λ lanes.
+        All (λ lane. lane.affinity < length tree.now) lanes.items) }
     ensures few { IfOk result (λ lanes. length lanes.items ≤ 65536) }
 {
     let affinities = affinities_of(alloc, assigned)?;
@@ -48,9 +51,11 @@ fn affinities_of(alloc: Global, assigned: &Assigned) -> Result<Vec<u32>, AllocEr
 
 /// The children of each affinity, in order.
 fn families(alloc: Global, tree: &Tree) -> Result<Vec<Vec<u32>>, AllocError>
-    ensures families { IfOk result (λ families. map (λ children. children.items) families.items ≡ families_of tree.now) }
+    ensures families { IfOk result (λ families.
+        map (λ children. children.items) families.items ≡ families_of tree.now) }
     ensures count { IfOk result (λ families. length families.items ≡ length tree.now) }
-    ensures known { IfOk result (λ families. All (λ children. All (λ a. a < length tree.now) children.items) families.items) }
+    ensures known { IfOk result (λ families.
+        All (λ children. All (λ a. a < length tree.now) children.items) families.items) }
 {
     let mut families = empty_families(alloc, tree.len() as usize)?;
     for child in 0..tree.len() {
@@ -66,7 +71,8 @@ fn push_child(families: &mut Vec<Vec<u32>>, parent: usize, child: u32) -> Result
     requires { parent < length families.old.items }
     ensures { OnOk result (map (λ children. children.items) families.new.items
         ≡ set (map (λ children. children.items) families.old.items) parent
-        (slice_index_or (map (λ children. children.items) families.old.items) parent [] ++ child ∷ [])) }
+        (slice_index_or (map (λ children. children.items) families.old.items) parent []
+        ++ child ∷ [])) }
 {
     families[parent].push(child)?;
     Ok(())
@@ -74,7 +80,8 @@ fn push_child(families: &mut Vec<Vec<u32>>, parent: usize, child: u32) -> Result
 
 /// So many lists of no child.
 fn empty_families(alloc: Global, count: usize) -> Result<Vec<Vec<u32>>, AllocError>
-    ensures { IfOk result (λ families. map (λ children. children.items) families.items ≡ replicate count []) }
+    ensures { IfOk result (λ families.
+        map (λ children. children.items) families.items ≡ replicate count []) }
 {
     let mut families = Vec::with_capacity(alloc, count)?;
     for _ in 0..count {
@@ -92,10 +99,12 @@ fn walk(
     lanes: &mut Vec<Lane>,
 ) -> Result<(), AllocError>
     requires affinity { affinity < length families.now }
-    requires known { All (λ children. All (λ a. a < length families.now) children.items) families.now }
+    requires known { All (λ children.
+        All (λ a. a < length families.now) children.items) families.now }
     requires small { depth + levels ≤ 65536 }
     requires before { All (λ lane. lane.affinity < length families.now) lanes.old.items }
-    ensures known { OnOk result (All (λ lane. lane.affinity < length families.now) lanes.new.items) }
+    ensures known { OnOk result (All (λ lane.
+        lane.affinity < length families.now) lanes.new.items) }
     ensures walked { OnOk result (lanes.new.items ≡ lanes.old.items
         ++ walk_from (map (λ children. children.items) families.now) levels depth affinity) }
 {
@@ -112,7 +121,8 @@ fn walk(
 /// Those of the lanes whose affinities are used.
 fn used_lanes(alloc: Global, lanes: &[Lane], used: &[bool]) -> Result<Vec<Lane>, AllocError>
     requires known { All (λ lane. lane.affinity < length used.now) lanes.now }
-    ensures lanes { IfOk result (λ found. found.items ≡ filter (λ lane. slice_index_or used.now lane.affinity false) lanes.now) }
+    ensures lanes { IfOk result (λ found.
+        found.items ≡ filter (λ lane. slice_index_or used.now lane.affinity false) lanes.now) }
 {
     let mut found = Vec::with_capacity(alloc, lanes.len())?;
     for lane in lanes {
@@ -128,7 +138,8 @@ pub(crate) fn rows(alloc: Global, count: usize, lanes: &[Lane]) -> Result<Vec<u6
     requires known { All (λ lane. lane.affinity < count) lanes.now }
     requires few { length lanes.now < 2 ^ 32 }
     ensures count { IfOk result (λ rows. length rows.items ≡ count) }
-    ensures each { IfOk result (λ rows. (a : ℕ) → a < count → slice_index rows.items a ≡ row_of lanes.now a) }
+    ensures each { IfOk result (λ rows. (a : ℕ)
+        → a < count → slice_index rows.items a ≡ row_of lanes.now a) }
 {
     let mut rows = vec![in alloc; 0; count]?;
     for row in (0..lanes.len()).rev() {

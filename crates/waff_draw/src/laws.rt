@@ -1,4 +1,5 @@
-//! What holds of the lanes of every picture. Each law is a function that does nothing and whose contract is the law.
+//! What holds of the lanes of every picture. Each law is a function that does nothing and whose
+//! contract is the law.
 
 ghost use Rattle.std.specs.Prelude.{ℕ, List};
 ghost use Rattle.waff_model.specs.Tree.{IsTree, Node};

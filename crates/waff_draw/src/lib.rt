@@ -1,6 +1,8 @@
-//! A picture of a plan, whoever made it: a lane for each affinity and each worker, a bar for each message.
+//! A picture of a plan, whoever made it: a lane for each affinity and each worker, a bar for each
+//! message.
 //!
-//! - `lanes`: the affinities that have a message, in preorder; `marks`: which numbers a list has; `laws`: each has one lane,
+//! - `lanes`: the affinities that have a message, in preorder; `marks`: which numbers a list has;
+//! `laws`: each has one lane,
 //!   where its bars are.
 //! - `axis`: round numbers of ticks; `xml`: names in a document of markup.
 //! - `svg`: the text of the picture; `bars`: its bars; `pieces`: what both are made of.

@@ -9,7 +9,8 @@ use std::alloc::{AllocError, Global};
 pub(crate) fn marks(alloc: Global, count: usize, numbers: &[u32]) -> Result<Vec<bool>, AllocError>
     requires { All (λ n. n < count) numbers.now }
     ensures count { IfOk result (λ marks. length marks.items ≡ count) }
-    ensures each { IfOk result (λ marks. (n : ℕ) → n < count → slice_index_or marks.items n false ≡ is_among numbers.now n) }
+    ensures each { IfOk result (λ marks. (n : ℕ)
+        → n < count → slice_index_or marks.items n false ≡ is_among numbers.now n) }
 {
     let mut marks = vec![in alloc; false; count]?;
     for number in numbers {

@@ -28,7 +28,8 @@ pub(crate) fn push_legend(text: &mut String) -> Result<(), AllocError>
 
 /// Appends the top of the document, of this height.
 pub(crate) fn push_top_start(text: &mut String, height: u64) -> Result<(), AllocError>
-    ensures { OnOk result (string_bytes text.new ≡ string_bytes text.old ++ pieces.top_start height) }
+    ensures { OnOk result (string_bytes text.new ≡ string_bytes text.old
+        ++ pieces.top_start height) }
 {
     writeln!(
         text,
@@ -45,7 +46,8 @@ pub(crate) fn push_heading_start(
 ) -> Result<(), AllocError>
     requires first { speedup.0 ≡ total }
     requires second { speedup.1 ≡ length }
-    ensures { OnOk result (string_bytes text.new ≡ string_bytes text.old ++ pieces.heading_start length total) }
+    ensures { OnOk result (string_bytes text.new ≡ string_bytes text.old
+        ++ pieces.heading_start length total) }
 {
     write!(
         text,
@@ -66,7 +68,8 @@ pub(crate) fn push_lane_start(
     left: u64,
     base: u64,
 ) -> Result<(), AllocError>
-    ensures { OnOk result (string_bytes text.new ≡ string_bytes text.old ++ pieces.lane_start top left base) }
+    ensures { OnOk result (string_bytes text.new ≡ string_bytes text.old
+        ++ pieces.lane_start top left base) }
 {
     write!(
         text,
@@ -81,7 +84,8 @@ pub(crate) fn push_lane_end(text: &mut String) -> Result<(), AllocError>
 }
 
 pub(crate) fn push_worker_name(text: &mut String, worker: u32) -> Result<(), AllocError>
-    ensures { OnOk result (string_bytes text.new ≡ string_bytes text.old ++ pieces.worker_name worker) }
+    ensures { OnOk result (string_bytes text.new ≡ string_bytes text.old
+        ++ pieces.worker_name worker) }
 {
     write!(text, "worker {worker}")
 }
@@ -93,7 +97,8 @@ pub(crate) fn push_tick_label(
     bottom: u64,
     tick: u128,
 ) -> Result<(), AllocError>
-    ensures { OnOk result (string_bytes text.new ≡ string_bytes text.old ++ pieces.tick_label place bottom tick) }
+    ensures { OnOk result (string_bytes text.new ≡ string_bytes text.old
+        ++ pieces.tick_label place bottom tick) }
 {
     writeln!(
         text,
@@ -108,7 +113,8 @@ pub(crate) fn push_plan_start(
     span: u64,
     units: u64,
 ) -> Result<(), AllocError>
-    ensures { OnOk result (string_bytes text.new ≡ string_bytes text.old ++ pieces.plan_start height span units) }
+    ensures { OnOk result (string_bytes text.new ≡ string_bytes text.old
+        ++ pieces.plan_start height span units) }
 {
     writeln!(
         text,
@@ -118,7 +124,8 @@ pub(crate) fn push_plan_start(
 
 /// Appends a line through all lanes.
 pub(crate) fn push_grid_line(text: &mut String, tick: u128, units: u64) -> Result<(), AllocError>
-    ensures { OnOk result (string_bytes text.new ≡ string_bytes text.old ++ pieces.grid_line tick units) }
+    ensures { OnOk result (string_bytes text.new ≡ string_bytes text.old
+        ++ pieces.grid_line tick units) }
 {
     writeln!(text, "<path d='M{tick} 0v{units}'/>")
 }
@@ -132,7 +139,8 @@ pub(crate) fn push_bar_start(
     cost: u64,
     message: u32,
 ) -> Result<(), AllocError>
-    ensures { OnOk result (string_bytes text.new ≡ string_bytes text.old ++ pieces.bar_start mark.now start top cost message) }
+    ensures { OnOk result (string_bytes text.new ≡ string_bytes text.old
+        ++ pieces.bar_start mark.now start top cost message) }
 {
     write!(
         text,
@@ -147,7 +155,8 @@ pub(crate) fn push_bar_middle(text: &mut String) -> Result<(), AllocError>
 }
 
 pub(crate) fn push_bar_end(text: &mut String, start: u64, finish: u64) -> Result<(), AllocError>
-    ensures { OnOk result (string_bytes text.new ≡ string_bytes text.old ++ pieces.bar_end start finish) }
+    ensures { OnOk result (string_bytes text.new ≡ string_bytes text.old
+        ++ pieces.bar_end start finish) }
 {
     writeln!(text, ": {start} to {finish}</title></rect>")
 }

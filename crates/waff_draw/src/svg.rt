@@ -1,6 +1,7 @@
 //! The picture as a document in SVG.
 
-ghost use Rattle.std.specs.Prelude.{◌≡◌, ◌+◌, ◌*◌, ◌^◌, ◌<◌, ◌≤◌, ◌++◌, ℕ, List, All, IfOk, OnOk, length, map, string_bytes};
+ghost use Rattle.std.specs.Prelude.{◌≡◌, ◌+◌, ◌*◌, ◌^◌, ◌<◌, ◌≤◌, ◌++◌, ℕ, List, All, IfOk, OnOk};
+ghost use Rattle.std.specs.Prelude.{length, map, string_bytes};
 ghost use Rattle.std.specs.List.{flat_map, range_with_len};
 ghost use Rattle.waff_model.specs.declared.message.Message.{Message};
 ghost use Rattle.waff_plan.specs.Timetable.{timings_of};
@@ -9,7 +10,9 @@ ghost use Rattle.waff_draw.specs.Lanes.{lanes_of};
 ghost use Rattle.waff_draw.specs.Scene.{scene_of, worker_count};
 ghost use Rattle.waff_draw.specs.Axis.{step_of};
 ghost use Rattle.waff_plan_text.specs.Spelling.{worker_field};
-ghost use Rattle.waff_draw.specs.Svg.{affinity_lane, affinity_lane_text, each_step, grid_text, ground_text, heading_text, plan_text, svg_text, tick_text, top_text, upto, worker_lane};
+ghost use Rattle.waff_draw.specs.Svg.{affinity_lane, affinity_lane_text, each_step, grid_text};
+ghost use Rattle.waff_draw.specs.Svg.{ground_text, heading_text, plan_text, svg_text, tick_text};
+ghost use Rattle.waff_draw.specs.Svg.{top_text, upto, worker_lane};
 
 use crate::axis::step;
 use crate::bars::{Chart, push_affinity_bars, push_worker_bars};
@@ -39,7 +42,8 @@ pub fn svg_text(
     requires lengths { length assigned.now ≡ length trace.now.messages }
     requires known { All (λ a. a < length tree.now) assigned.now }
     requires rows { length given.now.rows ≡ length trace.now.messages }
-    ensures { IfOk result (λ text. string_bytes text ≡ svg_text (scene_of tree.now assigned.now trace.now.messages given.now)) }
+    ensures { IfOk result (λ text. string_bytes text
+        ≡ svg_text (scene_of tree.now assigned.now trace.now.messages given.now)) }
 {
     let lanes = lanes(alloc, tree, assigned)?;
     let chart = chart(alloc, tree, assigned, trace, given, lanes.as_slice())?;
@@ -64,11 +68,13 @@ fn drawn_text(
     lanes: &[Lane],
     chart: &Chart,
 ) -> Result<String, AllocError>
-    requires chart { IsChart (scene_of tree.now assigned.now trace.now.messages given.now) chart.now }
+    requires chart { IsChart
+        (scene_of tree.now assigned.now trace.now.messages given.now) chart.now }
     requires lanes { lanes.now ≡ lanes_of tree.now assigned.now }
     requires lanes_known { All (λ lane. lane.affinity < length tree.now) lanes.now }
     requires few { length lanes.now ≤ 65536 }
-    ensures { IfOk result (λ text. string_bytes text ≡ svg_text (scene_of tree.now assigned.now trace.now.messages given.now)) }
+    ensures { IfOk result (λ text. string_bytes text
+        ≡ svg_text (scene_of tree.now assigned.now trace.now.messages given.now)) }
 {
     let mut text = String::new(alloc);
     push_picture(&mut text, tree, assigned, trace, given, lanes, chart)?;
@@ -85,7 +91,8 @@ fn push_picture(
     lanes: &[Lane],
     chart: &Chart,
 ) -> Result<(), AllocError>
-    requires chart { IsChart (scene_of tree.now assigned.now trace.now.messages given.now) chart.now }
+    requires chart { IsChart
+        (scene_of tree.now assigned.now trace.now.messages given.now) chart.now }
     requires lanes { lanes.now ≡ lanes_of tree.now assigned.now }
     requires lanes_known { All (λ lane. lane.affinity < length tree.now) lanes.now }
     requires few { length lanes.now ≤ 65536 }
@@ -109,9 +116,12 @@ fn push_ground(
 ) -> Result<(), AllocError>
     requires known { All (λ lane. lane.affinity < length tree.now) lanes.now }
     requires few { length lanes.now ≤ 65536 }
-    ensures { OnOk result ((assigned : List ℕ) (messages : List Message) → lanes.now ≡ lanes_of tree.now assigned
-        → plan.now.timings ≡ timings_of messages → plan.now.starts ≡ map (λ row. row.start) given.now.rows
-        → string_bytes text.new ≡ string_bytes text.old ++ ground_text (scene_of tree.now assigned messages given.now)) }
+    ensures { OnOk result ((assigned : List ℕ) (messages : List Message)
+        → lanes.now ≡ lanes_of tree.now assigned
+        → plan.now.timings ≡ timings_of messages
+        → plan.now.starts ≡ map (λ row. row.start) given.now.rows
+        → string_bytes text.new ≡ string_bytes text.old
+        ++ ground_text (scene_of tree.now assigned messages given.now)) }
 {
     let workers = worker_count(given);
     let first = lanes.len() as u64;
@@ -157,7 +167,8 @@ fn push_heading(
     total: u64,
     workers: Option<u32>,
 ) -> Result<(), AllocError>
-    ensures { OnOk result (string_bytes text.new ≡ string_bytes text.old ++ heading_text length total workers) }
+    ensures { OnOk result (string_bytes text.new ≡ string_bytes text.old
+        ++ heading_text length total workers) }
 {
     let speedup = Ratio(total, u128::from(length));
     push_heading_start(text, length, total, speedup)?;
@@ -197,7 +208,8 @@ fn push_affinity_lane(
 ) -> Result<(), AllocError>
     requires known { lane.now.affinity < length tree.now }
     requires few { row ≤ 65536 }
-    ensures { OnOk result (string_bytes text.new ≡ string_bytes text.old ++ affinity_lane_text tree.now row lane.now) }
+    ensures { OnOk result (string_bytes text.new ≡ string_bytes text.old
+        ++ affinity_lane_text tree.now row lane.now) }
 {
     let _affinities = tree.len();
     push_lane_start(
@@ -228,7 +240,8 @@ fn push_worker_lane(text: &mut String, first: u64, worker: u32) -> Result<(), Al
     requires first { first ≤ 65536 }
     requires from { 1 ≤ worker }
     requires to { worker ≤ 65536 }
-    ensures { OnOk result (string_bytes text.new ≡ string_bytes text.old ++ worker_lane first worker) }
+    ensures { OnOk result (string_bytes text.new ≡ string_bytes text.old
+        ++ worker_lane first worker) }
 {
     let row = first + u64::from(worker) - 1;
     push_lane_start(text, row * 20 + 80, 8, row * 20 + 94)?;
@@ -247,7 +260,8 @@ fn push_ticks(
     requires span { 1 ≤ span }
     requires rows { rows < 2 ^ 32 }
     requires step { step ≡ step_of length }
-    ensures { OnOk result (string_bytes text.new ≡ string_bytes text.old ++ each_step length (tick_text rows span)) }
+    ensures { OnOk result (string_bytes text.new ≡ string_bytes text.old
+        ++ each_step length (tick_text rows span)) }
 {
     for i in 0..11_u32 {
         push_tick(text, length, u128::from(i) * u128::from(step), rows, span)?;
@@ -265,7 +279,8 @@ fn push_tick(
 ) -> Result<(), AllocError>
     requires span { 1 ≤ span }
     requires rows { rows < 2 ^ 32 }
-    ensures { OnOk result (string_bytes text.new ≡ string_bytes text.old ++ upto length (tick_text rows span) tick) }
+    ensures { OnOk result (string_bytes text.new ≡ string_bytes text.old
+        ++ upto length (tick_text rows span) tick) }
 {
     if tick <= u128::from(length) {
         push_tick_label(
@@ -290,7 +305,8 @@ fn push_plan(text: &mut String, rows: u64, span: u64) -> Result<(), AllocError>
 fn push_grid(text: &mut String, length: u64, step: u64, rows: u64) -> Result<(), AllocError>
     requires rows { rows < 2 ^ 32 }
     requires step { step ≡ step_of length }
-    ensures { OnOk result (string_bytes text.new ≡ string_bytes text.old ++ each_step length (grid_text rows)) }
+    ensures { OnOk result (string_bytes text.new ≡ string_bytes text.old
+        ++ each_step length (grid_text rows)) }
 {
     for i in 0..11_u32 {
         push_grid_at(text, length, u128::from(i) * u128::from(step), rows)?;
@@ -301,7 +317,8 @@ fn push_grid(text: &mut String, length: u64, step: u64, rows: u64) -> Result<(),
 /// Appends a line through all lanes, unless it is past the length.
 fn push_grid_at(text: &mut String, length: u64, tick: u128, rows: u64) -> Result<(), AllocError>
     requires rows { rows < 2 ^ 32 }
-    ensures { OnOk result (string_bytes text.new ≡ string_bytes text.old ++ upto length (grid_text rows) tick) }
+    ensures { OnOk result (string_bytes text.new ≡ string_bytes text.old
+        ++ upto length (grid_text rows) tick) }
 {
     if tick <= u128::from(length) {
         push_grid_line(text, tick, rows * 10)?;

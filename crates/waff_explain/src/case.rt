@@ -9,7 +9,8 @@ use waff_model::{AffinityId, Message, Trace, Tree};
 use waff_plan::{Plan, Totals};
 use waff_plan_text::{GivenPlan, Row};
 
-/// A plan that was given, and the bytes that give it. What is asked of a message that there is not is 0, or empty.
+/// A plan that was given, and the bytes that give it. What is asked of a message that there is not
+/// is 0, or empty.
 #[derive(Clone, Copy)]
 pub(crate) struct Case<'a> {
     pub(crate) tree: &'a Tree,

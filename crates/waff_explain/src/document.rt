@@ -130,7 +130,8 @@ pub(crate) fn push_no_key(text: &mut String, document: &Value, key: Key) -> Resu
     }
 }
 
-/// Appends the first table of this kind whose value at the key is not of its type, what it is, and what is wanted.
+/// Appends the first table of this kind whose value at the key is not of its type, what it is, and
+/// what is wanted.
 fn push_misfit(
     text: &mut String,
     document: &Value,
@@ -158,7 +159,8 @@ fn push_no_tables(text: &mut String, document: &Value, kind: &str) -> Result<(),
     writeln!(text, "wanted: an array of tables, [[{kind}]]")
 }
 
-/// Appends the first table of this kind whose value at the key is not of its type, and what it is; tells whether there is one.
+/// Appends the first table of this kind whose value at the key is not of its type, and what it is;
+/// tells whether there is one.
 fn push_first(
     text: &mut String,
     document: &Value,

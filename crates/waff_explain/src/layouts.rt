@@ -28,7 +28,8 @@ pub(crate) fn push_no_layout(
     }
 }
 
-/// Appends which space has no name, or which map no space, or that there are too few or too many spaces.
+/// Appends which space has no name, or which map no space, or that there are too few or too many
+/// spaces.
 fn push_no_space(text: &mut String, spaces: &[Value], maps: &[Value]) -> Result<(), AllocError> {
     let found = spaces.len();
     if found == 0 || found > MAX_SPACES {

@@ -10,7 +10,8 @@ use waff_model::{Version, is_name};
 use waff_parse::{number, number_within};
 use waff_plan_text::PlanTextError;
 
-/// Where the fault is for which the text of a plan of the trace is refused, what was found and what is wanted.
+/// Where the fault is for which the text of a plan of the trace is refused, what was found and what
+/// is wanted.
 pub fn plan_text_words(
     alloc: Global,
     hierarchy: &[u8],
@@ -80,7 +81,8 @@ fn push_fault(
     }
 }
 
-/// The number of the record that a fault tells; of a message without a row, that of the record at which the summary begins.
+/// The number of the record that a fault tells; of a message without a row, that of the record at
+/// which the summary begins.
 fn record_of(fault: PlanTextError, summary: u64) -> u64 {
     match fault {
         PlanTextError::Csv { at }

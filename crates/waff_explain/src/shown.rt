@@ -5,7 +5,8 @@ use std::fmt;
 /// The most bytes that are shown.
 const MOST: usize = 1000;
 
-/// Bytes as they stand where they are printable ASCII, and else by their numbers; the first ones of many.
+/// Bytes as they stand where they are printable ASCII, and else by their numbers; the first ones of
+/// many.
 #[derive(Clone, Copy)]
 pub(crate) struct Shown<'a>(pub &'a [u8]);
 

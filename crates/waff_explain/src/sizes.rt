@@ -4,7 +4,8 @@ use crate::files::{layout_of, trace_of};
 use std::alloc::{AllocError, Global};
 use waff_model::Layout;
 
-/// The line that tells how many affinities and cells a hierarchy has, and how many messages a trace, where there is one.
+/// The line that tells how many affinities and cells a hierarchy has, and how many messages a
+/// trace, where there is one.
 pub fn sizes_words(
     alloc: Global,
     hierarchy: &[u8],

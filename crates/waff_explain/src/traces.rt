@@ -10,7 +10,8 @@ use waff_model::Layout;
 use waff_model::limits::{MAX_COST, MAX_MESSAGES, MAX_OPS, MAX_RELEASE};
 use waff_read::TraceError;
 
-/// Where the fault is for which the trace is refused under the hierarchy, what was found and what is wanted.
+/// Where the fault is for which the trace is refused under the hierarchy, what was found and what
+/// is wanted.
 pub fn trace_words(
     alloc: Global,
     hierarchy: &[u8],
@@ -66,7 +67,8 @@ fn record_of(fault: TraceError) -> u32 {
     }
 }
 
-/// Appends what was found and what is wanted of the record at which the walk stands; the header has this many fields.
+/// Appends what was found and what is wanted of the record at which the walk stands; the header has
+/// this many fields.
 fn push_fault(
     text: &mut String,
     layout: &Layout,

@@ -10,8 +10,8 @@ use waff_assign::{Assigned, assign};
 use waff_check::Verdict;
 use waff_model::{Layout, Trace, Tree};
 
-/// What the verdict tells of the plan: where a fault is, the messages that it names, what was found and what is wanted, or
-/// else how good the plan is.
+/// What the verdict tells of the plan: where a fault is, the messages that it names, what was found
+/// and what is wanted, or else how good the plan is.
 pub fn verdict_words(
     alloc: Global,
     hierarchy: &[u8],

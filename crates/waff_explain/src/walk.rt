@@ -83,7 +83,8 @@ impl<'a> Walk<'a> {
         }
     }
 
-    /// Goes on to the record of this number and appends where in the file it stands, or that the file ends before it.
+    /// Goes on to the record of this number and appends where in the file it stands, or that the
+    /// file ends before it.
     pub(crate) fn push_record(
         &mut self,
         text: &mut String,

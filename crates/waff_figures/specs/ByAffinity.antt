@@ -1,5 +1,6 @@
 -- Where the time goes, by affinity (own).
-use Rattle.std.specs.Prelude.{◌≡◌, ℕ, ◌==◌, ◌<◌, ◌↔◌, Bool, IsTrue, List, [], ◌∷◌, Option, Some, None, length, map, slice_index, slice_index_or, codes, decimal}
+use Rattle.std.specs.Prelude.{◌≡◌, ℕ, ◌==◌, ◌<◌, ◌↔◌, Bool, IsTrue, List, [], ◌∷◌, Option, Some}
+use Rattle.std.specs.Prelude.{None, length, map, slice_index, slice_index_or, codes, decimal}
 use Rattle.std.specs.List.{range_with_len}
 use Rattle.waff_model.specs.Tree.{Node, AtOrAbove, name_of, parent_of}
 use Rattle.waff_assign.specs.Order.{affinity_of}
@@ -12,9 +13,11 @@ abbrev pub runs_in : List ℕ → ℕ → ℕ → Bool
 runs_in assigned a m = affinity_of assigned m == a
 
 -- the sum of the costs of the messages that run in the affinity a or below it
-pub record IsCostBelow (tree : List Node) (assigned : List ℕ) (work : Work) (a cost : ℕ) : Type 0 where
+pub record IsCostBelow (tree : List Node)
+    (assigned : List ℕ) (work : Work) (a cost : ℕ) : Type 0 where
   pub is_below : ℕ → Bool
-  pub tells : (m : ℕ) → IsNumber work m → IsTrue (is_below m) ↔ AtOrAbove tree a (affinity_of assigned m)
+  pub tells : (m : ℕ) → IsNumber work m
+      → IsTrue (is_below m) ↔ AtOrAbove tree a (affinity_of assigned m)
   pub sum : cost ≡ cost_among work is_below (numbers work)
 
 -- the same of each affinity of the tree, as a list by affinity
@@ -24,18 +27,20 @@ AreCostsBelow tree assigned work below =
 
 abbrev pub affinities_header : List (List ℕ)
 affinities_header =
-    codes "affinity" ∷ codes "parent" ∷ codes "messages" ∷ codes "cost" ∷ codes "below" ∷ codes "chain" ∷ []
+    codes "affinity" ∷ codes "parent" ∷ codes "messages"
+    ∷ codes "cost" ∷ codes "below" ∷ codes "chain" ∷ []
 
 -- the name of an affinity's parent, `-` for the root
 abbrev pub parent_field : List Node → Option ℕ → List ℕ
 parent_field tree None = codes "-"
 parent_field tree (Some parent) = name_of tree parent
 
--- a line: the names, how many messages run in the affinity, the sums of their costs, of those at or below it, and of those
--- on the chain
+-- a line: the names, how many messages run in the affinity, the sums of their costs, of those at or
+-- below it, and of those on the chain
 abbrev pub tally_row : List ℕ → List ℕ → ℕ → Tally → List (List ℕ)
 tally_row name parent below tally =
-    name ∷ parent ∷ decimal tally.messages ∷ decimal tally.cost ∷ decimal below ∷ decimal tally.chain ∷ []
+    name ∷ parent ∷ decimal tally.messages ∷ decimal tally.cost
+    ∷ decimal below ∷ decimal tally.chain ∷ []
 
 -- the line of the affinity a
 abbrev pub affinity_row : List Node → List ℕ → Work → List ℕ → List ℕ → ℕ → List (List ℕ)
@@ -46,9 +51,11 @@ affinity_row tree assigned work chain below a =
 -- the lines of all affinities, in order
 abbrev pub affinities_lines : List Node → List ℕ → Work → List ℕ → List ℕ → List (List (List ℕ))
 affinities_lines tree assigned work chain below =
-    affinities_header ∷ map (affinity_row tree assigned work chain below) (range_with_len 0 (length tree))
+    affinities_header
+    ∷ map (affinity_row tree assigned work chain below) (range_with_len 0 (length tree))
 
 -- the line of the affinity a, by a tally and a cost below for each affinity
 abbrev pub tallied_row : List Node → List Tally → List ℕ → ℕ → List (List ℕ)
 tallied_row tree tallies below a =
-    tally_row (name_of tree a) (parent_field tree (parent_of tree a)) (slice_index below a) (slice_index_or tallies a no_tally)
+    tally_row (name_of tree a) (parent_field tree (parent_of tree a))
+    (slice_index below a) (slice_index_or tallies a no_tally)

@@ -1,5 +1,6 @@
 -- Where the time goes, by the names of messages (own).
-use Rattle.std.specs.Prelude.{ℕ, ◌-◌, Bool, List, [], ◌∷◌, ◌++◌, if◌then◌else◌, fold, map, slice_index_or, codes, decimal}
+use Rattle.std.specs.Prelude.{ℕ, ◌-◌, Bool, List, [], ◌∷◌, ◌++◌, if◌then◌else◌, fold, map}
+use Rattle.std.specs.Prelude.{slice_index_or, codes, decimal}
 use Rattle.std.specs.List.{list_any}
 use Rattle.std.specs.Str.{bytes_eq}
 use Rattle.waff_model.specs.declared.message.Message.{Message}
@@ -40,4 +41,5 @@ names_lines names work chain = names_header ∷ map (name_row names work chain) 
 
 -- the line of the name at a place of a list, by a tally for each
 abbrev pub tallied_name_row : List (List ℕ) → List Tally → ℕ → List (List ℕ)
-tallied_name_row names tallies place = named_row (slice_index_or names place []) (slice_index_or tallies place no_tally)
+tallied_name_row names tallies place =
+    named_row (slice_index_or names place []) (slice_index_or tallies place no_tally)

@@ -12,7 +12,8 @@ waits_of work start = sum_by (λ m. start m - work.release m) (numbers work)
 abbrev pub latency_of : Work → (ℕ → ℕ) → ℕ
 latency_of work start = greatest (map (λ m. finish_of work start m - work.release m) (numbers work))
 
--- a number of ticks that no plan for so many workers is shorter than, and without workers no plan at all
+-- a number of ticks that no plan for so many workers is shorter than, and without workers no plan
+-- at all
 abbrev pub least_of : Option ℕ → ℕ → ℕ → ℕ
 least_of None total shortest = shortest
 least_of (Some k) total shortest = least_for k total shortest

@@ -10,9 +10,11 @@ use Rattle.waff_figures.specs.Tally.{tally_of}
 -- the costs of the affinities add up to the total
 abbrev pub CostsAddUp : List Node → List ℕ → Work → List ℕ → Type 0
 CostsAddUp tree assigned work chain =
-    sum_by (λ a. (tally_of work chain (runs_in assigned a)).cost) (range_with_len 0 (length tree)) ≡ total_of work
+    sum_by (λ a. (tally_of work chain (runs_in assigned a)).cost) (range_with_len 0 (length tree))
+    ≡ total_of work
 
 -- their costs on a chain add up to its cost
 abbrev pub ChainAddsUp : List Node → List ℕ → Work → List ℕ → Type 0
 ChainAddsUp tree assigned work chain =
-    sum_by (λ a. (tally_of work chain (runs_in assigned a)).chain) (range_with_len 0 (length tree)) ≡ chain_cost work chain
+    sum_by (λ a. (tally_of work chain (runs_in assigned a)).chain) (range_with_len 0 (length tree))
+    ≡ chain_cost work chain

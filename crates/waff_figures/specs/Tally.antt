@@ -1,5 +1,6 @@
 -- What is told of some of the messages (own).
-use Rattle.std.specs.Prelude.{ℕ, ◌-◌, ◌==◌, Bool, List, if◌then◌else◌, count_by, slice_index, sum_by}
+use Rattle.std.specs.Prelude.{ℕ, ◌-◌, ◌==◌, Bool, List, if◌then◌else◌, count_by, slice_index}
+use Rattle.std.specs.Prelude.{sum_by}
 use Rattle.waff_plan.specs.Work.{Work, numbers}
 use Rattle.waff_figures.specs.declared.tally.Tally.{Tally}
 
@@ -7,7 +8,8 @@ use Rattle.waff_figures.specs.declared.tally.Tally.{Tally}
 abbrev pub cost_among : Work → (ℕ → Bool) → List ℕ → ℕ
 cost_among work is_meant messages = sum_by (λ m. if is_meant m then work.cost m else 0) messages
 
--- of those of the messages that are meant: how many there are, the sum of their costs, and that of those on a chain
+-- of those of the messages that are meant: how many there are, the sum of their costs, and that of
+-- those on a chain
 abbrev pub tally_over : Work → (ℕ → Bool) → List ℕ → List ℕ → Tally
 tally_over work is_meant messages chain = record {
   messages = count_by is_meant messages;

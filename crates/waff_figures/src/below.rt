@@ -7,7 +7,8 @@ use crate::Tally;
 use std::alloc::{AllocError, Global};
 use waff_model::{AffinityId, Tree};
 
-/// For each affinity the sum of its cost and those of all below it, by the tallies of the affinities.
+/// For each affinity the sum of its cost and those of all below it, by the tallies of the
+/// affinities.
 pub(crate) fn costs_below(
     alloc: Global,
     tree: &Tree,
@@ -17,7 +18,8 @@ pub(crate) fn costs_below(
     requires small { sum_by (λ tally. tally.cost) tallies.now < 2 ^ 64 }
     ensures count { IfOk result (λ below. length below.items ≡ length tree.now) }
     ensures below { IfOk result (λ below. (a : ℕ) → a < length tree.now
-        → IsSumBelow tree.now (map (λ tally. tally.cost) tallies.now) a (slice_index below.items a)) }
+        → IsSumBelow tree.now (map (λ tally. tally.cost) tallies.now) a
+        (slice_index below.items a)) }
 {
     let mut sums = costs(alloc, tallies)?;
     sum_up(tree, &mut sums);
@@ -30,12 +32,14 @@ fn costs(alloc: Global, tallies: &[Tally]) -> Result<Vec<u64>, AllocError>
     tallies.iter().map(|tally| tally.cost).collect(alloc)
 }
 
-/// Adds to each affinity, from the last to the first, what is below it: children come after their parents.
+/// Adds to each affinity, from the last to the first, what is below it: children come after their
+/// parents.
 fn sum_up(tree: &Tree, sums: &mut [u64])
     requires lengths { length sums.old ≡ length tree.now }
     requires small { sum_by (λ n. n) sums.old < 2 ^ 64 }
     ensures count { length sums.new ≡ length tree.now }
-    ensures below { (a : ℕ) → a < length tree.now → IsSumBelow tree.now sums.old a (slice_index sums.new a) }
+    ensures below { (a : ℕ) → a < length tree.now
+        → IsSumBelow tree.now sums.old a (slice_index sums.new a) }
 {
     let _affinities = tree.len();
     for a in (0..sums.len()).rev() {

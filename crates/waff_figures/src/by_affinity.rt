@@ -1,12 +1,14 @@
 //! Where the time goes, by affinity.
 
-ghost use Rattle.std.specs.Prelude.{◌≡◌, ◌<◌, ◌++◌, ℕ, List, All, IfOk, OnOk, length, map, slice_index, slice_index_or, string_bytes};
+ghost use Rattle.std.specs.Prelude.{◌≡◌, ◌<◌, ◌++◌, ℕ, List, All, IfOk, OnOk, length, map};
+ghost use Rattle.std.specs.Prelude.{slice_index, slice_index_or, string_bytes};
 ghost use Rattle.std.specs.List.{range_with_len};
 ghost use Rattle.waff_model.specs.Tree.{name_of, parent_of};
 ghost use Rattle.waff_plan.specs.Chain.{IsListed};
 ghost use Rattle.waff_plan.specs.Timing.{work_of};
 ghost use Rattle.waff_plan_text.specs.Lines.{line_text, text_of};
-ghost use Rattle.waff_figures.specs.ByAffinity.{AreCostsBelow, affinities_lines, parent_field, tally_row, tallied_row};
+ghost use Rattle.waff_figures.specs.ByAffinity.{AreCostsBelow, affinities_lines, parent_field};
+ghost use Rattle.waff_figures.specs.ByAffinity.{tally_row, tallied_row};
 ghost use Rattle.waff_figures.specs.Tally.{no_tally};
 
 use crate::Tally;
@@ -28,8 +30,10 @@ pub fn affinities_text(
     requires lengths { length assigned.now ≡ length plan.now.timings }
     requires known { All (λ a. a < length tree.now) assigned.now }
     requires chain { IsListed (length plan.now.timings) chain.now }
-    ensures { IfOk result (λ text. (below : List ℕ) × AreCostsBelow tree.now assigned.now (work_of plan.now.timings) below
-        × (string_bytes text ≡ text_of (affinities_lines tree.now assigned.now (work_of plan.now.timings) chain.now below))) }
+    ensures { IfOk result (λ text. (below : List ℕ)
+        × AreCostsBelow tree.now assigned.now (work_of plan.now.timings) below
+        × (string_bytes text ≡ text_of
+        (affinities_lines tree.now assigned.now (work_of plan.now.timings) chain.now below))) }
 {
     let _total = plan.total();
     let affinities = affinities_of(alloc, assigned)?;
@@ -68,7 +72,8 @@ fn push_rows(
     requires tallies { length tallies.now ≡ length tree.now }
     requires below { length below.now ≡ length tree.now }
     ensures { OnOk result (string_bytes text.new ≡ string_bytes text.old
-        ++ text_of (map (tallied_row tree.now tallies.now below.now) (range_with_len 0 (length tree.now)))) }
+        ++ text_of (map (tallied_row tree.now tallies.now below.now)
+        (range_with_len 0 (length tree.now)))) }
 {
     for a in 0..tree.len() {
         let affinity = AffinityId(a as u16);

@@ -6,7 +6,8 @@ ghost use Rattle.waff_plan.specs.Chain.{IsListed};
 ghost use Rattle.waff_plan.specs.Timetable.{timings_of};
 ghost use Rattle.waff_plan.specs.Timing.{work_of};
 ghost use Rattle.waff_plan_text.specs.Lines.{line_text, text_of};
-ghost use Rattle.waff_figures.specs.ByName.{message_names, named_row, names_lines, tallied_name_row};
+ghost use Rattle.waff_figures.specs.ByName.{message_names, named_row, names_lines};
+ghost use Rattle.waff_figures.specs.ByName.{tallied_name_row};
 
 use crate::Tally;
 use crate::names::names_of;
@@ -26,7 +27,8 @@ pub fn names_text(
     requires timings { plan.now.timings ≡ timings_of trace.now.messages }
     requires chain { IsListed (length plan.now.timings) chain.now }
     ensures { IfOk result (λ text. string_bytes text
-        ≡ text_of (names_lines (message_names trace.now.messages) (work_of plan.now.timings) chain.now)) }
+        ≡ text_of (names_lines (message_names trace.now.messages)
+        (work_of plan.now.timings) chain.now)) }
 {
     let found = names_of(alloc, trace)?;
     let tallies = tallies(
@@ -58,7 +60,8 @@ fn push_rows(text: &mut String, names: &IndexSet<&str>, tallies: &[Tally]) -> Re
 
 /// Appends the line of one name.
 fn push_row(text: &mut String, name: &str, tally: &Tally) -> Result<(), AllocError>
-    ensures { OnOk result (string_bytes text.new ≡ string_bytes text.old ++ line_text (named_row name.now tally.now)) }
+    ensures { OnOk result (string_bytes text.new ≡ string_bytes text.old
+        ++ line_text (named_row name.now tally.now)) }
 {
     let Tally {
         messages,

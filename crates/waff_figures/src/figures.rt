@@ -18,8 +18,8 @@ pub struct Figures {
     pub length: u64,
     /// No plan for as many workers is shorter.
     pub least: u64,
-    /// The sum over all messages of the time from the release to the start. It may pass 64 bits, as 65,536 starts may be up
-    /// to 10^15.
+    /// The sum over all messages of the time from the release to the start. It may pass 64 bits, as
+    /// 65,536 starts may be up to 10^15.
     pub waits: u128,
     /// The longest time from a release to its finish, 0 for no message.
     pub latency: u64,
@@ -28,7 +28,8 @@ pub struct Figures {
 /// The figures of a plan for this number of workers or without, where the least plan is this long.
 pub(crate) fn told_of(plan: &Plan, workers: Option<u32>, shortest: u64) -> Figures
     requires { IfSome workers IsWorkers }
-    ensures { result ≡ figures_of workers (work_of plan.now.timings) shortest (start_of plan.now.starts) }
+    ensures { result
+        ≡ figures_of workers (work_of plan.now.timings) shortest (start_of plan.now.starts) }
 {
     let total = plan.total();
     Figures {

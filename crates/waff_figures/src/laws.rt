@@ -7,12 +7,14 @@ ghost use Rattle.waff_figures.specs.Laws.{ChainAddsUp, CostsAddUp};
 
 /// The costs of the affinities add up to the total.
 pub fn costs_add_up()
-    ensures { (tree : List Node) (assigned : List ℕ) (work : Work) (chain : List ℕ) → 0 < length tree
+    ensures { (tree : List Node) (assigned : List ℕ) (work : Work) (chain : List ℕ)
+        → 0 < length tree
         → All (λ a. a < length tree) assigned → CostsAddUp tree assigned work chain }
 {}
 
 /// Their costs on a chain add up to its cost.
 pub fn chain_adds_up()
-    ensures { (tree : List Node) (assigned : List ℕ) (work : Work) (chain : List ℕ) → 0 < length tree
+    ensures { (tree : List Node) (assigned : List ℕ) (work : Work) (chain : List ℕ)
+        → 0 < length tree
         → All (λ a. a < length tree) assigned → ChainAddsUp tree assigned work chain }
 {}

@@ -1,8 +1,11 @@
-//! Figures of a trace under a hierarchy: how long it takes by the number of workers, and where the time goes.
+//! Figures of a trace under a hierarchy: how long it takes by the number of workers, and where the
+//! time goes.
 //!
 //! - `ratio`: ratios as they are printed.
-//! - `figures`: what is told of one plan; `sweep`: of the plans for 1 to 64 workers, and their text.
-//! - `tally`: what is told of some of the messages; `below`: costs summed up the tree; `names`: the distinct names.
+//! - `figures`: what is told of one plan; `sweep`: of the plans for 1 to 64 workers, and their
+//! text.
+//! - `tally`: what is told of some of the messages; `below`: costs summed up the tree; `names`: the
+//! distinct names.
 //! - `by_affinity`, `by_name`: the texts of these.
 #![tactic(auto)]
 

@@ -8,7 +8,8 @@ use indexmap::IndexSet;
 use std::alloc::{AllocError, Global};
 use waff_model::Trace;
 
-/// The distinct names in the order in which they first appear, and for each message the place of its name, from 0.
+/// The distinct names in the order in which they first appear, and for each message the place of
+/// its name, from 0.
 #[derive(Drop)]
 pub(crate) struct Names<'a> {
     pub names: IndexSet<&'a str>,
@@ -17,10 +18,13 @@ pub(crate) struct Names<'a> {
 
 /// The names of the messages of a trace.
 pub(crate) fn names_of(alloc: Global, trace: &Trace) -> Result<Names<'_>, AllocError>
-    ensures names { IfOk result (λ found. map (λ name. name.now) found.names.keys ≡ distinct_names (message_names trace.now.messages)) }
+    ensures names { IfOk result (λ found. map (λ name. name.now) found.names.keys
+        ≡ distinct_names (message_names trace.now.messages)) }
     ensures places { IfOk result (λ found. length found.places.items ≡ length trace.now.messages) }
-    ensures known { IfOk result (λ found. All (λ place. place < length found.names.keys) found.places.items) }
-    ensures each { IfOk result (λ found. (g m : ℕ) → g < length found.names.keys → 1 ≤ m → m ≤ length trace.now.messages
+    ensures known { IfOk result (λ found.
+        All (λ place. place < length found.names.keys) found.places.items) }
+    ensures each { IfOk result (λ found. (g m : ℕ)
+        → g < length found.names.keys → 1 ≤ m → m ≤ length trace.now.messages
         → is_in found.places.items g m ≡ is_named (message_names trace.now.messages)
         (slice_index_or (map (λ name. name.now) found.names.keys) g []) m) }
 {

@@ -1,6 +1,7 @@
 //! The sweep over numbers of workers.
 
-ghost use Rattle.std.specs.Prelude.{◌≡◌, ◌<◌, ◌++◌, ℕ, List, All, IfOk, OnOk, Some, None, length, map, string_bytes};
+ghost use Rattle.std.specs.Prelude.{◌≡◌, ◌<◌, ◌++◌, ℕ, List, All, IfOk, OnOk, Some, None, length};
+ghost use Rattle.std.specs.Prelude.{map, string_bytes};
 ghost use Rattle.waff_model.specs.Tree.{Node};
 ghost use Rattle.waff_assign.specs.Order.{IsOrdered};
 ghost use Rattle.waff_plan.specs.Bound.{IsWorkers};
@@ -42,8 +43,10 @@ pub fn list_figures(
     requires lengths { length assigned.now ≡ length trace.now.messages }
     requires known { All (λ a. a < length tree.now) assigned.now }
     requires timings { unlimited.now.timings ≡ timings_of trace.now.messages }
-    requires least { IsLeast (IsOrdered tree.now assigned.now) (work_of unlimited.now.timings) (start_of unlimited.now.starts) }
-    ensures { IfOk result (λ listed. AreListed (IsOrdered tree.now assigned.now) (work_of unlimited.now.timings)
+    requires least { IsLeast (IsOrdered tree.now assigned.now)
+        (work_of unlimited.now.timings) (start_of unlimited.now.starts) }
+    ensures { IfOk result (λ listed.
+        AreListed (IsOrdered tree.now assigned.now) (work_of unlimited.now.timings)
         (length_of (work_of unlimited.now.timings) (start_of unlimited.now.starts)) listed.items) }
 {
     let needs = needs(alloc, tree, assigned)?;
@@ -61,9 +64,12 @@ fn list_figures_for(
     requires lengths { length needs.now ≡ length trace.now.messages }
     requires timings { unlimited.now.timings ≡ timings_of trace.now.messages }
     requires workers { All IsWorkers workers.now }
-    ensures workers { IfOk result (λ listed. map (λ figures. figures.workers) listed.items ≡ map Some workers.now) }
-    ensures each { IfOk result (λ listed. (tree : List Node) (assigned : List ℕ) → AreNeeds tree assigned needs.now
-        → IsLeast (IsOrdered tree assigned) (work_of unlimited.now.timings) (start_of unlimited.now.starts)
+    ensures workers { IfOk result (λ listed.
+        map (λ figures. figures.workers) listed.items ≡ map Some workers.now) }
+    ensures each { IfOk result (λ listed. (tree : List Node) (assigned : List ℕ)
+        → AreNeeds tree assigned needs.now
+        → IsLeast (IsOrdered tree assigned) (work_of unlimited.now.timings)
+        (start_of unlimited.now.starts)
         → All (IsListed (IsOrdered tree assigned) (work_of unlimited.now.timings)
         (length_of (work_of unlimited.now.timings) (start_of unlimited.now.starts))) listed.items) }
 {
@@ -87,8 +93,10 @@ fn figures_for(
     requires timings { unlimited.now.timings ≡ timings_of trace.now.messages }
     requires workers { IsWorkers k }
     ensures workers { IfOk result (λ figures. figures.workers ≡ Some k) }
-    ensures listed { IfOk result (λ figures. (tree : List Node) (assigned : List ℕ) → AreNeeds tree assigned needs.now
-        → IsLeast (IsOrdered tree assigned) (work_of unlimited.now.timings) (start_of unlimited.now.starts)
+    ensures listed { IfOk result (λ figures. (tree : List Node) (assigned : List ℕ)
+        → AreNeeds tree assigned needs.now
+        → IsLeast (IsOrdered tree assigned) (work_of unlimited.now.timings)
+        (start_of unlimited.now.starts)
         → IsListed (IsOrdered tree assigned) (work_of unlimited.now.timings)
         (length_of (work_of unlimited.now.timings) (start_of unlimited.now.starts)) figures) }
 {
@@ -106,7 +114,8 @@ pub fn figures_text(
 ) -> Result<String, AllocError>
     ensures { IfOk result (λ text. string_bytes text ≡ text_of (sweep_lines listed.now
         (figures_of None (work_of unlimited.now.timings)
-        (length_of (work_of unlimited.now.timings) (start_of unlimited.now.starts)) (start_of unlimited.now.starts)))) }
+        (length_of (work_of unlimited.now.timings) (start_of unlimited.now.starts))
+        (start_of unlimited.now.starts)))) }
 {
     let mut text = String::new(alloc);
     text.push_str("workers,length,speedup,busy,least,over,waits,latency\n")?;
@@ -117,7 +126,8 @@ pub fn figures_text(
 
 /// Appends the lines of these plans.
 fn push_rows(text: &mut String, rows: &[Figures]) -> Result<(), AllocError>
-    ensures { OnOk result (string_bytes text.new ≡ string_bytes text.old ++ text_of (map sweep_row rows.now)) }
+    ensures { OnOk result (string_bytes text.new ≡ string_bytes text.old
+        ++ text_of (map sweep_row rows.now)) }
 {
     for figures in rows {
         push_row(text, figures)?;
@@ -127,7 +137,8 @@ fn push_rows(text: &mut String, rows: &[Figures]) -> Result<(), AllocError>
 
 /// Appends the line of one plan.
 fn push_row(text: &mut String, figures: &Figures) -> Result<(), AllocError>
-    ensures { OnOk result (string_bytes text.new ≡ string_bytes text.old ++ line_text (sweep_row figures.now)) }
+    ensures { OnOk result (string_bytes text.new ≡ string_bytes text.old
+        ++ line_text (sweep_row figures.now)) }
 {
     let Figures {
         workers,

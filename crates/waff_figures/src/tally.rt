@@ -1,6 +1,7 @@
 //! What is told of some of the messages.
 
-ghost use Rattle.std.specs.Prelude.{◌≡◌, ◌==◌, ◌-◌, ◌*◌, ◌^◌, ◌<◌, ◌≤◌, ℕ, [], All, IfOk, length, slice_index, slice_index_or};
+ghost use Rattle.std.specs.Prelude.{◌≡◌, ◌==◌, ◌-◌, ◌*◌, ◌^◌, ◌<◌, ◌≤◌, ℕ, [], All, IfOk, length};
+ghost use Rattle.std.specs.Prelude.{slice_index, slice_index_or};
 ghost use Rattle.waff_plan.specs.Chain.{IsListed};
 ghost use Rattle.waff_plan.specs.Timing.{work_of};
 ghost use Rattle.waff_plan.specs.Work.{numbers};
@@ -9,7 +10,8 @@ ghost use Rattle.waff_figures.specs.Tally.{is_in, no_tally, tally_of, tally_over
 use std::alloc::{AllocError, Global};
 use waff_plan::Plan;
 
-/// What is told of some of the messages: how many there are, the sum of their costs, and that of those on a chain, in ticks.
+/// What is told of some of the messages: how many there are, the sum of their costs, and that of
+/// those on a chain, in ticks.
 #[derive(Clone, Copy, Debug, PartialEq, Eq)]
 pub struct Tally {
     pub messages: u32,
@@ -17,7 +19,8 @@ pub struct Tally {
     pub chain: u64,
 }
 
-/// The tally of each group of messages, where message n is in the group `groups[n - 1]`. Groups are numbered from 0.
+/// The tally of each group of messages, where message n is in the group `groups[n - 1]`. Groups are
+/// numbered from 0.
 pub(crate) fn tallies(
     alloc: Global,
     groups: &[u32],
@@ -30,7 +33,8 @@ pub(crate) fn tallies(
     requires chain { IsListed (length plan.now.timings) chain.now }
     ensures count { IfOk result (λ tallies. length tallies.items ≡ count) }
     ensures each { IfOk result (λ tallies. (g : ℕ) → g < count
-        → slice_index_or tallies.items g no_tally ≡ tally_of (work_of plan.now.timings) chain.now (is_in groups.now g)) }
+        → slice_index_or tallies.items g no_tally
+        ≡ tally_of (work_of plan.now.timings) chain.now (is_in groups.now g)) }
 {
     let nothing = Tally {
         messages: 0,
@@ -50,7 +54,8 @@ fn count_messages(tallies: &mut Vec<Tally>, groups: &[u32], plan: &Plan)
     requires nothing { All (λ tally. tally ≡ no_tally) tallies.old.items }
     ensures count { length tallies.new.items ≡ length tallies.old.items }
     ensures each { (g : ℕ) → g < length tallies.old.items
-        → slice_index_or tallies.new.items g no_tally ≡ tally_of (work_of plan.now.timings) [] (is_in groups.now g) }
+        → slice_index_or tallies.new.items g no_tally
+        ≡ tally_of (work_of plan.now.timings) [] (is_in groups.now g) }
 {
     for n in 1..plan.len() + 1 {
         let place = groups[n as usize - 1] as usize;
@@ -73,10 +78,12 @@ fn count_chain(tallies: &mut Vec<Tally>, groups: &[u32], plan: &Plan, chain: &[u
     requires known { All (λ g. g < length tallies.old.items) groups.now }
     requires chain { IsListed (length plan.now.timings) chain.now }
     requires each { (g : ℕ) → g < length tallies.old.items
-        → slice_index_or tallies.old.items g no_tally ≡ tally_of (work_of plan.now.timings) [] (is_in groups.now g) }
+        → slice_index_or tallies.old.items g no_tally
+        ≡ tally_of (work_of plan.now.timings) [] (is_in groups.now g) }
     ensures count { length tallies.new.items ≡ length tallies.old.items }
     ensures each { (g : ℕ) → g < length tallies.old.items
-        → slice_index_or tallies.new.items g no_tally ≡ tally_of (work_of plan.now.timings) chain.now (is_in groups.now g) }
+        → slice_index_or tallies.new.items g no_tally
+        ≡ tally_of (work_of plan.now.timings) chain.now (is_in groups.now g) }
 {
     let _messages = plan.len();
     for message in chain {

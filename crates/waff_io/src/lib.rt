@@ -1,6 +1,7 @@
 //! Input read whole, one input parted into two, and bytes written out.
 //!
-//! The readers of files and the commands work on bytes in memory; here is how the bytes come and go.
+//! The readers of files and the commands work on bytes in memory; here is how the bytes come and
+//! go.
 //! - `reading`: all bytes of a reader, up to a limit.
 //! - `split`: what stands before and after the line `---` of one input.
 //! - `writing`: all bytes to a writer, one loop over `write`.

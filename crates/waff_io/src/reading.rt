@@ -1,5 +1,6 @@
 //! A whole input in memory.
-ghost use Rattle.std.specs.Prelude.{◌≡◌, ◌⊎◌, Err, ◌+◌, ◌<◌, ◌≤◌, List, ℕ, IfOk, OnOk, OnErr, IfSome, IsErrOf, length, take, drop, vec_len};
+ghost use Rattle.std.specs.Prelude.{◌≡◌, ◌⊎◌, Err, ◌+◌, ◌<◌, ◌≤◌, List, ℕ, IfOk, OnOk, OnErr};
+ghost use Rattle.std.specs.Prelude.{IfSome, IsErrOf, length, take, drop, vec_len};
 ghost use Rattle.std.specs.Io.KnownBytes.{Keeps, Consumes, IsAtEnd};
 ghost use Rattle.waff_io.specs.declared.reading.ReadFault.TheVariants.{Memory};
 
@@ -34,7 +35,8 @@ const CHUNK: usize = 64 * 1024;
 /// All bytes up to the end, at most `limit`. A reader that gives no byte is at its end. On a fault
 /// what was read is dropped.
 pub fn read_whole<R: Read>(alloc: Global, reader: &mut R, limit: u64) -> Result<Vec<u8>, ReadFault>
-    ensures whole { IfOk result (λ bytes. IfSome (R.remaining reader.old) (λ all. bytes.items ≡ all)) }
+    ensures whole { IfOk result (λ bytes.
+        IfSome (R.remaining reader.old) (λ all. bytes.items ≡ all)) }
     ensures within { IfOk result (λ bytes. vec_len bytes ≤ limit) }
     ensures end { OnOk result (IsAtEnd (R.remaining reader.new)) }
 
@@ -42,7 +44,8 @@ pub fn read_whole<R: Read>(alloc: Global, reader: &mut R, limit: u64) -> Result<
         → IfSome (R.remaining reader.old) (λ all. limit < length all) }
     // Before an error at most `limit` bytes came.
     ensures failed { IsErrOf result ReadFault.Failed
-        → (got : List ℕ) × (length got ≤ limit) × Consumes (R.remaining reader.old) (R.remaining reader.new) got }
+        → (got : List ℕ) × (length got ≤ limit)
+        × Consumes (R.remaining reader.old) (R.remaining reader.new) got }
 {
     let mut bytes = Vec::new(alloc);
     let mut filled = 0;
@@ -71,7 +74,8 @@ fn read_more<R: Read>(
     ensures read { IfOk result (λ count. Consumes (R.remaining reader.old) (R.remaining reader.new)
         (take count (drop filled bytes.new.items))) }
     ensures end { IfOk result (λ count. count ≡ 0 → IsAtEnd (R.remaining reader.new)) }
-    ensures failed { IsErrOf result ReadFault.Failed → Keeps (R.remaining reader.old) (R.remaining reader.new) }
+    ensures failed { IsErrOf result ReadFault.Failed
+        → Keeps (R.remaining reader.old) (R.remaining reader.new) }
     ensures faults { OnErr result (result ≡ Err ReadFault.Failed ⊎ result ≡ Err ReadFault.Memory) }
 {
     make_room(bytes, filled, limit)?;
@@ -80,8 +84,8 @@ fn read_more<R: Read>(
         .map_err(|_| ReadFault::Failed)
 }
 
-/// Room behind the first `filled` bytes: where there is little, twice as many bytes, but no more than
-/// show that the limit is passed.
+/// Room behind the first `filled` bytes: where there is little, twice as many bytes, but no more
+/// than show that the limit is passed.
 fn make_room(bytes: &mut Vec<u8>, filled: usize, limit: u64) -> Result<(), AllocError>
     requires filled { filled ≤ vec_len bytes.old }
     requires within { filled ≤ limit }

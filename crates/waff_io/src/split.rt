@@ -3,9 +3,9 @@ ghost use Rattle.std.specs.Prelude.{◌≡◌, ◌==◌, ◌<◌, ◌++◌, leng
 ghost use Rattle.std.specs.List.{position};
 ghost use Rattle.waff_io.specs.Split.{lines_of, is_mark, before_mark, after_mark};
 
-/// What stands before and after the first line that is exactly `---`. The line itself and its end, a
-/// line feed or a carriage return and a line feed, belong to neither; the last line may lack its end.
-/// Without such a line, the whole and no bytes.
+/// What stands before and after the first line that is exactly `---`. The line itself and its end,
+/// a line feed or a carriage return and a line feed, belong to neither; the last line may lack its
+/// end. Without such a line, the whole and no bytes.
 pub fn split_input(input: &[u8]) -> (&[u8], &[u8])
     ensures before { result.0.now ≡ before_mark input.now }
     ensures after { result.1.now ≡ after_mark input.now }

@@ -1,4 +1,5 @@
--- A plan for k workers: the plan with the worker of each message, and the messages in the order of their starts.
+-- A plan for k workers: the plan with the worker of each message, and the messages in the order of
+-- their starts.
 use Rattle.std.specs.Prelude.{◌≡◌, ℕ, ◌-◌, ◌≤◌, List, length, All, slice_index}
 use Rattle.waff_plan.specs.Timetable.{Timetable}
 use Rattle.waff_plan.specs.Timing.{work_of}

@@ -13,7 +13,8 @@ pub record HoldsWorker (work : Work) (start : ℕ → ℕ) (i m : ℕ) : Type 0 
   pub sooner : ComesBefore start i m
   pub runs : IsTrue (runs_at work start (start m) i)
 
--- the worker of m is the least number from 1 that is the worker of no message that comes before m and runs when m starts
+-- the worker of m is the least number from 1 that is the worker of no message that comes before m
+-- and runs when m starts
 pub record IsSeated (work : Work) (start worker : ℕ → ℕ) (m : ℕ) : Type 0 where
   pub from : 1 ≤ worker m
   pub free : (i : ℕ) → HoldsWorker work start i m → worker i ≢ worker m

@@ -16,7 +16,8 @@ ListPlanIsOne before work =
     (k : ℕ) (start other : ℕ → ℕ) → IsListPlan before work k start → IsListPlan before work k other
     → AreSame work start other
 
--- two sets of pairs have the same list plans, where each pair of the one is a path through the other
+-- two sets of pairs have the same list plans, where each pair of the one is a path through the
+-- other
 abbrev pub ListPlansAreShared : (ℕ → ℕ → Type 0) → (ℕ → ℕ → Type 0) → Work → Type 0
 ListPlansAreShared near before work =
     ((i j : ℕ) → before i j → Path near i j) → ((i j : ℕ) → near i j → Path before i j)
@@ -30,7 +31,8 @@ AreSeated work start worker = (m : ℕ) → IsNumber work m → IsSeated work st
 abbrev pub SeatsAreOne : Work → Type 0
 SeatsAreOne work =
     (start other worker other_worker : ℕ → ℕ) → AreSame work start other
-    → AreSeated work start worker → AreSeated work other other_worker → AreSame work worker other_worker
+    → AreSeated work start worker → AreSeated work other other_worker
+    → AreSame work worker other_worker
 
 -- where two plans start each message at the same tick, their orders are equal
 abbrev pub OrderIsOne : Work → Type 0

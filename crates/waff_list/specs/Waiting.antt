@@ -1,6 +1,7 @@
--- What the planner keeps of the messages that are not placed yet: those that may be ready, those that each message is a need of,
--- and those that are still to be released.
-use Rattle.std.specs.Prelude.{◌≡◌, ℕ, ◌+◌, ◌-◌, ◌<◌, ◌≤◌, ◌⊎◌, List, length, All, AllPairs, Contains, slice_index, slice_index_or}
+-- What the planner keeps of the messages that are not placed yet: those that may be ready, those
+-- that each message is a need of, and those that are still to be released.
+use Rattle.std.specs.Prelude.{◌≡◌, ℕ, ◌+◌, ◌-◌, ◌<◌, ◌≤◌, ◌⊎◌, List, length, All, AllPairs}
+use Rattle.std.specs.Prelude.{Contains, slice_index, slice_index_or}
 use Rattle.waff_plan.specs.Work.{Work, IsNumber}
 use Rattle.waff_order.specs.Needs.{needs_of, IsNeed}
 use Rattle.waff_list.specs.Progress.{IsWaiting}
@@ -21,7 +22,8 @@ pub record Leaves (old : List ℕ) (m : ℕ) (new : List ℕ) : Type 0 where
   pub fewer : length new + 1 ≡ length old
 
 -- each message that waits at now is a candidate, and all candidates are messages
-pub record AreCandidates (before : ℕ → ℕ → Type 0) (work : Work) (start : ℕ → ℕ) (now : ℕ) (candidates : List ℕ) : Type 0 where
+pub record AreCandidates (before : ℕ → ℕ
+    → Type 0) (work : Work) (start : ℕ → ℕ) (now : ℕ) (candidates : List ℕ) : Type 0 where
   pub numbers : (m : ℕ) → Contains candidates m → IsNumber work m
   pub each : (m : ℕ) → IsWaiting before work start now m → Contains candidates m
 
@@ -45,7 +47,8 @@ pub record AreReleases (work : Work) (releases : List (ℕ × ℕ)) : Type 0 whe
 
 -- this many messages have been released by now, and no more
 pub record ArePassed (releases : List (ℕ × ℕ)) (passed now : ℕ) : Type 0 where
-  pub before : (i : ℕ) (d : ℕ × ℕ) → i < passed → i < length releases → (slice_index_or releases i d).0 ≤ now
+  pub before : (i : ℕ) (d : ℕ × ℕ) → i < passed
+      → i < length releases → (slice_index_or releases i d).0 ≤ now
   pub after : (d : ℕ × ℕ) → passed < length releases → now < (slice_index_or releases passed d).0
   pub within : passed ≤ length releases
 
@@ -57,4 +60,5 @@ pub record IsNextRelease (work : Work) (now next : ℕ) : Type 0 where
 
 -- the message that each worker ran last, where it has not finished by now
 pub record AreLast (work : Work) (start worker : ℕ → ℕ) (now : ℕ) (last : List ℕ) : Type 0 where
-  pub held : (m : ℕ) → IsNumber work m → start m ≤ now → now < start m + work.cost m → slice_index last (worker m - 1) ≡ m
+  pub held : (m : ℕ) → IsNumber work m → start m ≤ now
+      → now < start m + work.cost m → slice_index last (worker m - 1) ≡ m

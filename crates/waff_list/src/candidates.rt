@@ -43,7 +43,8 @@ impl Candidates {
 
     /// Takes out the message that arrived first.
     pub fn pop(&mut self) -> Option<u32>
-        ensures { MatchOption result ((self.old ≡ []) × (self.new ≡ [])) (λ m. Leaves self.old m self.new) }
+        ensures { MatchOption result ((self.old ≡ [])
+            × (self.new ≡ [])) (λ m. Leaves self.old m self.new) }
     {
         match self.heap.pop() {
             Some(Reverse(m)) => Some(m),

@@ -1,6 +1,7 @@
 //! The messages that need each message.
 
-ghost use Rattle.std.specs.Prelude.{◌≡◌, ℕ, ◌+◌, ◌-◌, ◌<◌, ◌≤◌, [], ◌∷◌, ◌++◌, length, replicate, All, Contains, IfOk, OnOk, slice_set};
+ghost use Rattle.std.specs.Prelude.{◌≡◌, ℕ, ◌+◌, ◌-◌, ◌<◌, ◌≤◌, [], ◌∷◌, ◌++◌, length, replicate};
+ghost use Rattle.std.specs.Prelude.{All, Contains, IfOk, OnOk, slice_set};
 ghost use Rattle.waff_order.specs.Needs.{needs_of};
 ghost use Rattle.waff_list.specs.Waiting.{AreDependents, Grows};
 
@@ -46,7 +47,8 @@ impl Dependents {
     fn add(&mut self, i: u32, m: u32) -> Result<(), AllocError>
         requires from { 1 ≤ i }
         requires to { i ≤ length self.old }
-        ensures { OnOk result (self.new ≡ slice_set self.old (i - 1) (needs_of self.old i ++ m ∷ [])) }
+        ensures { OnOk result (self.new
+            ≡ slice_set self.old (i - 1) (needs_of self.old i ++ m ∷ [])) }
     {
         let list = &mut self.lists[i as usize - 1];
         list.push(m)?;
@@ -57,7 +59,8 @@ impl Dependents {
     fn add_all(&mut self, needed: &[u32], m: u32) -> Result<(), AllocError>
         requires { All (λ i. (1 ≤ i) × (i ≤ length self.old)) needed.now }
         ensures grows { OnOk result (Grows self.old m self.new) }
-        ensures added { OnOk result ((i : ℕ) → Contains needed.now i → Contains (needs_of self.new i) m) }
+        ensures added { OnOk result ((i : ℕ) → Contains needed.now i
+            → Contains (needs_of self.new i) m) }
     {
         for at in 0..needed.len() {
             self.add(needed[at], m)?;
@@ -67,7 +70,8 @@ impl Dependents {
 
     /// The messages that need each message.
     pub fn of_needs(alloc: Global, needs: &Needs) -> Result<Self, AllocError>
-        ensures { IfOk result (λ dependents. AreDependents needs.now dependents (length needs.now)) }
+        ensures { IfOk result (λ dependents.
+            AreDependents needs.now dependents (length needs.now)) }
     {
         let mut dependents = Dependents::none(alloc, needs.len())?;
         for m in 1..needs.len() + 1 {

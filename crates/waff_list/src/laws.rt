@@ -1,5 +1,6 @@
-//! What holds of the plans that follow the list rule, whoever made them. Each law is a function that does nothing and whose
-//! contract is the law, for the ordered pairs of a tree of affinities and the affinities assigned to the messages.
+//! What holds of the plans that follow the list rule, whoever made them. Each law is a function
+//! that does nothing and whose contract is the law, for the ordered pairs of a tree of affinities
+//! and the affinities assigned to the messages.
 
 ghost use Rattle.std.specs.Prelude.{◌≡◌, ℕ, List, length};
 ghost use Rattle.waff_model.specs.Tree.{Node};
@@ -9,15 +10,18 @@ ghost use Rattle.waff_order.specs.Needs.{IsNeed, AreNeeds};
 ghost use Rattle.waff_list.specs.ListRule.{IsListPlan};
 ghost use Rattle.waff_list.specs.Bound.{ListPlansAreWithinBound};
 
-/// The list bound: k times the length of a list plan is at most the total, k times the release of its printed chain, and
-/// k - 1 times the cost of that chain.
+/// The list bound: k times the length of a list plan is at most the total, k times the release of
+/// its printed chain, and k - 1 times the cost of that chain.
 pub fn list_plans_are_within_bound()
     ensures { (tree : List Node) (assigned : List ℕ) (work : Work) → length assigned ≡ work.count
         → ListPlansAreWithinBound (IsOrdered tree assigned) work }
 {}
 
-/// A list plan over the paths through the needs of messages is a list plan over their ordered pairs.
+/// A list plan over the paths through the needs of messages is a list plan over their ordered
+/// pairs.
 pub fn needs_make_the_same_plans()
-    ensures { (tree : List Node) (assigned : List ℕ) (needs : List (List ℕ)) (work : Work) (k : ℕ) (start : ℕ → ℕ)
-        → AreNeeds tree assigned needs → IsListPlan (Path (IsNeed needs)) work k start → IsListPlan (IsOrdered tree assigned) work k start }
+    ensures { (tree : List Node) (assigned : List ℕ)
+        (needs : List (List ℕ)) (work : Work) (k : ℕ) (start : ℕ → ℕ)
+        → AreNeeds tree assigned needs → IsListPlan (Path (IsNeed needs)) work k start
+        → IsListPlan (IsOrdered tree assigned) work k start }
 {}

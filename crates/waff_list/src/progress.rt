@@ -1,6 +1,7 @@
 //! A plan while it is made, tick after tick.
 
-ghost use Rattle.std.specs.Prelude.{◌≡◌, ◌+◌, ◌-◌, ◌^◌, ◌<◌, ◌≤◌, [], ◌∷◌, ◌++◌, length, replicate, All, IfOk, OnOk, MatchOption, slice_set};
+ghost use Rattle.std.specs.Prelude.{◌≡◌, ◌+◌, ◌-◌, ◌^◌, ◌<◌, ◌≤◌, [], ◌∷◌, ◌++◌, length, replicate};
+ghost use Rattle.std.specs.Prelude.{All, IfOk, OnOk, MatchOption, slice_set};
 ghost use Rattle.waff_list.specs.Progress.{IsLeastFree};
 
 use std::alloc::{AllocError, Global};
@@ -26,7 +27,8 @@ pub(crate) struct Progress {
 impl Progress {
     /// Nothing is placed yet.
     pub fn new(alloc: Global, messages: u32, workers: u32) -> Result<Self, AllocError>
-        ensures starts { IfOk result (λ progress. progress.starts.items ≡ replicate messages NEVER) }
+        ensures starts { IfOk result (λ progress.
+            progress.starts.items ≡ replicate messages NEVER) }
         ensures seats { IfOk result (λ progress. progress.seats.items ≡ replicate messages 0) }
         ensures free_at { IfOk result (λ progress. progress.free_at.items ≡ replicate workers 0) }
         ensures last { IfOk result (λ progress. progress.last.items ≡ replicate workers 0) }
@@ -57,10 +59,14 @@ impl Progress {
         requires freed { worker ≤ length self.old.free_at.items }
         requires lasts { worker ≤ length self.old.last.items }
         requires tick { now + cost < 2 ^ 64 }
-        ensures starts { OnOk result (self.new.starts.items ≡ slice_set self.old.starts.items (message - 1) now) }
-        ensures seats { OnOk result (self.new.seats.items ≡ slice_set self.old.seats.items (message - 1) worker) }
-        ensures free_at { OnOk result (self.new.free_at.items ≡ slice_set self.old.free_at.items (worker - 1) (now + cost)) }
-        ensures last { OnOk result (self.new.last.items ≡ slice_set self.old.last.items (worker - 1) message) }
+        ensures starts { OnOk result (self.new.starts.items
+            ≡ slice_set self.old.starts.items (message - 1) now) }
+        ensures seats { OnOk result (self.new.seats.items
+            ≡ slice_set self.old.seats.items (message - 1) worker) }
+        ensures free_at { OnOk result (self.new.free_at.items
+            ≡ slice_set self.old.free_at.items (worker - 1) (now + cost)) }
+        ensures last { OnOk result (self.new.last.items
+            ≡ slice_set self.old.last.items (worker - 1) message) }
         ensures order { OnOk result (self.new.order.items ≡ self.old.order.items ++ message ∷ []) }
     {
         self.order.push(message)?;
@@ -75,7 +81,8 @@ impl Progress {
 /// The least worker that is free.
 pub(crate) fn least_free(free_at: &[u64], now: u64) -> Option<u32>
     requires { length free_at.now < 2 ^ 32 }
-    ensures { MatchOption result (All (λ free. now < free) free_at.now) (IsLeastFree free_at.now now) }
+    ensures { MatchOption result (All (λ free. now < free) free_at.now)
+        (IsLeastFree free_at.now now) }
 {
     for worker in 0..free_at.len() {
         if free_at[worker] <= now {

@@ -33,7 +33,8 @@ pub(crate) fn release_of(trace: &Trace, m: u32) -> u64
 /// The least tick after `now` at which a worker is free or a message is released.
 pub(crate) fn next_tick(releases: &Releases, free_at: &[u64], now: u64) -> Option<u64>
     requires { now < NEVER }
-    ensures { (work : Work) → IsSmall work → AreReleases work releases.now.sorted.items → ArePassed releases.now.sorted.items releases.now.passed now
+    ensures { (work : Work) → IsSmall work → AreReleases work releases.now.sorted.items
+        → ArePassed releases.now.sorted.items releases.now.passed now
         → MatchOption result (IsLastTick work free_at.now now) (IsNextTick work free_at.now now) }
 {
     let next = next_free(free_at, now).min(releases.next());

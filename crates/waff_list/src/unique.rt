@@ -1,5 +1,5 @@
-//! That the definitions leave no choice. Each law is a function that does nothing and whose contract
-//! is the law.
+//! That the definitions leave no choice. Each law is a function that does nothing and whose
+//! contract is the law.
 
 ghost use Rattle.std.specs.Prelude.{◌≡◌, ℕ, ◌↔◌, List, length};
 ghost use Rattle.waff_model.specs.Tree.{Node};
@@ -7,28 +7,32 @@ ghost use Rattle.waff_assign.specs.Order.{IsOrdered, Path};
 ghost use Rattle.waff_plan.specs.Work.{Work};
 ghost use Rattle.waff_order.specs.Needs.{IsNeed, AreNeeds};
 ghost use Rattle.waff_list.specs.ListRule.{IsListPlan};
-ghost use Rattle.waff_list.specs.Unique.{EachRuns, ListPlanIsOne, ListPlansAreShared, SeatsAreOne, OrderIsOne};
+ghost use Rattle.waff_list.specs.Unique.{EachRuns, ListPlanIsOne, ListPlansAreShared, SeatsAreOne};
+ghost use Rattle.waff_list.specs.Unique.{OrderIsOne};
 
 /// The list plan for a number of workers is one: over the ordered pairs, and over the paths through
 /// needs, whichever needs they are.
 pub fn list_plan_is_one()
-    ensures pairs { (tree : List Node) (assigned : List ℕ) (work : Work) → length assigned ≡ work.count
+    ensures pairs { (tree : List Node) (assigned : List ℕ) (work : Work)
+        → length assigned ≡ work.count
         → EachRuns work → ListPlanIsOne (IsOrdered tree assigned) work }
     ensures needs { (tree : List Node) (assigned : List ℕ) (needs : List (List ℕ)) (work : Work)
         → length assigned ≡ work.count → EachRuns work → AreNeeds tree assigned needs
         → ListPlanIsOne (Path (IsNeed needs)) work }
 {}
 
-/// Pairs with the same paths have the same list plans: any two sets of pairs, each given as lists of
-/// needs; those of two hierarchies; and the needs and the ordered pairs of one.
+/// Pairs with the same paths have the same list plans: any two sets of pairs, each given as lists
+/// of needs; those of two hierarchies; and the needs and the ordered pairs of one.
 pub fn same_paths_have_the_same_plans()
     ensures sets { (needs others : List (List ℕ)) (work : Work)
         → ListPlansAreShared (IsNeed needs) (IsNeed others) work }
-    ensures hierarchies { (tree other_tree : List Node) (assigned other_assigned : List ℕ) (work : Work)
+    ensures hierarchies { (tree other_tree : List Node)
+        (assigned other_assigned : List ℕ) (work : Work)
         → ListPlansAreShared (IsOrdered tree assigned) (IsOrdered other_tree other_assigned) work }
     ensures needs { (tree : List Node) (assigned : List ℕ) (needs : List (List ℕ)) (work : Work)
         (k : ℕ) (start : ℕ → ℕ) → AreNeeds tree assigned needs
-        → IsListPlan (Path (IsNeed needs)) work k start ↔ IsListPlan (IsOrdered tree assigned) work k start }
+        → IsListPlan (Path (IsNeed needs)) work k start
+        ↔ IsListPlan (IsOrdered tree assigned) work k start }
 {}
 
 /// The workers of the messages of a plan are one.

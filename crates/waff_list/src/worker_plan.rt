@@ -8,7 +8,8 @@ ghost use Rattle.waff_list.specs.Seating.{worker_of};
 use std::marker::Model;
 use waff_plan::Plan;
 
-/// A plan for k workers: the start and the worker of each message. Messages and workers are numbered from 1.
+/// A plan for k workers: the start and the worker of each message. Messages and workers are
+/// numbered from 1.
 #[derive(Drop)]
 pub struct WorkerPlan {
     plan: Plan,
@@ -22,9 +23,19 @@ impl Model for WorkerPlan {
 
     ghost Value = { Seating };
 
-    ghost view = { λ p. record { table = p.plan; workers = p.workers; seats = p.seats.items; order = p.order.items } };
+    ghost view = { λ p. record {
+      table = p.plan;
+      workers = p.workers;
+      seats = p.seats.items;
+      order = p.order.items;
+    } };
 
-    ghost invariant = { λ p. IsSeating (record { table = p.plan; workers = p.workers; seats = p.seats.items; order = p.order.items }) };
+    ghost invariant = { λ p. IsSeating (record {
+      table = p.plan;
+      workers = p.workers;
+      seats = p.seats.items;
+      order = p.order.items;
+    }) };
 }
 
 impl WorkerPlan {
@@ -32,8 +43,18 @@ impl WorkerPlan {
 
     /// The plan with these workers, and with the messages in this order.
     pub(crate) fn new(plan: Plan, workers: u32, seats: Vec<u32>, order: Vec<u32>) -> Self
-        requires { IsSeating (record { table = plan; workers = workers; seats = seats.items; order = order.items }) }
-        ensures { result ≡ record { table = plan; workers = workers; seats = seats.items; order = order.items } }
+        requires { IsSeating (record {
+          table = plan;
+          workers = workers;
+          seats = seats.items;
+          order = order.items;
+        }) }
+        ensures { result ≡ record {
+          table = plan;
+          workers = workers;
+          seats = seats.items;
+          order = order.items;
+        } }
     {
         WorkerPlan {
             plan,

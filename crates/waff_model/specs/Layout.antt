@@ -1,13 +1,17 @@
 -- Layouts: spaces of cells over a tree of affinities, and the owner of each cell.
-use Rattle.std.specs.Prelude.{◌≡◌, ◌≢◌, ℕ, ◌/◌, ◌%◌, ◌<◌, ◌≤◌, IsTrue, List, length, map, Option, option_map, unwrap_or, slice_get, slice_index, position, sum_by, All, AllPairs}
+use Rattle.std.specs.Prelude.{◌≡◌, ◌≢◌, ℕ, ◌/◌, ◌%◌, ◌<◌, ◌≤◌, IsTrue, List, length, map, Option}
+use Rattle.std.specs.Prelude.{option_map, unwrap_or, slice_get, slice_index, position, sum_by, All}
+use Rattle.std.specs.Prelude.{AllPairs}
 use Rattle.std.specs.Str.{bytes_eq}
 use Rattle.waff_model.specs.Names.{is_name}
 use Rattle.waff_model.specs.Tree.{Node, IsTree}
-use Rattle.waff_model.specs.declared.limits.TheConstants.{MAX_SPACES, MAX_SIZE, MAX_CELLS, MAX_UNIT, MAX_OWNERS}
+use Rattle.waff_model.specs.declared.limits.TheConstants.{MAX_SPACES, MAX_SIZE, MAX_CELLS, MAX_UNIT}
+use Rattle.waff_model.specs.declared.limits.TheConstants.{MAX_OWNERS}
 use Rattle.waff_model.specs.declared.cell.Cell.{Cell}
 use Rattle.waff_model.specs.declared.kind.Kind.{Kind}
 
--- a space of cells with its map: runs of `unit` cells go to the affinities of `to` in turn, over and over
+-- a space of cells with its map: runs of `unit` cells go to the affinities of `to` in turn, over
+-- and over
 pub record Space : Type 0 where
   pub name : List ℕ
   pub size : ℕ
@@ -51,7 +55,8 @@ owner_at space index = slice_index space.to ((index / space.unit) % length space
 
 -- the affinity that owns the cell
 abbrev pub owner_of : List Space → Cell → ℕ
-owner_of spaces cell = unwrap_or (option_map (λ space. owner_at space cell.index) (slice_get spaces cell.space)) 0
+owner_of spaces cell =
+    unwrap_or (option_map (λ space. owner_at space cell.index) (slice_get spaces cell.space)) 0
 
 -- a space whose numbers are within the limits, and whose owners are affinities of the tree
 pub record IsSpace (tree : List Node) (space : Space) : Type 0 where

@@ -1,5 +1,6 @@
 -- The layout that rows of spaces and maps stand for.
-use Rattle.std.specs.Prelude.{ℕ, List, [], Option, Some, None, option_map, unwrap_or, map, find, Result, Ok, Err}
+use Rattle.std.specs.Prelude.{ℕ, List, [], Option, Some, None, option_map, unwrap_or, map, find}
+use Rattle.std.specs.Prelude.{Result, Ok, Err}
 use Rattle.std.specs.Str.{bytes_eq}
 use Rattle.waff_model.specs.Tree.{Node, number_of}
 use Rattle.waff_model.specs.Layout.{Space, Hierarchy}
@@ -23,16 +24,19 @@ abbrev pub space_of : List Node → List MapSpec → SpaceSpec → Space
 space_of tree maps space = record {
   name = space.name;
   size = size_of space;
-  unit = unwrap_or (option_map (λ m. unwrap_or (within m.unit MAX_UNIT) 0) (map_of maps space.name)) 0;
+  unit =
+      unwrap_or (option_map (λ m. unwrap_or (within m.unit MAX_UNIT) 0) (map_of maps space.name)) 0;
   to = unwrap_or (option_map (λ m. owners_of tree m.to) (map_of maps space.name)) [];
 }
 
 -- the layout of these rows over the tree, where none of them is refused
 abbrev pub hierarchy_of : Kind → List Node → List SpaceSpec → List MapSpec → Hierarchy
-hierarchy_of kind tree spaces maps = record { kind = kind; tree = tree; spaces = map (space_of tree maps) spaces }
+hierarchy_of kind tree spaces maps =
+    record { kind = kind; tree = tree; spaces = map (space_of tree maps) spaces }
 
 -- the layout of these rows over the tree, or why they give none
-abbrev pub layout_of : Kind → List Node → List SpaceSpec → List MapSpec → Result Hierarchy LayoutError
+abbrev pub layout_of : Kind → List Node → List SpaceSpec
+    → List MapSpec → Result Hierarchy LayoutError
 layout_of kind tree spaces maps = answer (layout_refusal tree spaces maps)
   where
     answer : Option LayoutError → Result Hierarchy LayoutError

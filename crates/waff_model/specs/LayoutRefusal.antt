@@ -1,11 +1,14 @@
 -- Why rows of spaces and maps are no layout: the checks, in their order.
-use Rattle.std.specs.Prelude.{ℕ, ℤ, pos, negsuc, Bool, List, [], ◌∷◌, length, Option, Some, None, is_none, unwrap_or, count_by, sum_by, not, ◌==◌, nat_le, nat_lt, ◌&&◌, ◌||◌, if◌then◌else◌}
+use Rattle.std.specs.Prelude.{ℕ, ℤ, pos, negsuc, Bool, List, [], ◌∷◌, length, Option, Some, None}
+use Rattle.std.specs.Prelude.{is_none, unwrap_or, count_by, sum_by, not, ◌==◌, nat_le, nat_lt, ◌&&◌}
+use Rattle.std.specs.Prelude.{◌||◌, if◌then◌else◌}
 use Rattle.std.specs.List.{list_any}
 use Rattle.std.specs.Str.{bytes_eq}
 use Rattle.waff_model.specs.Names.{is_name}
 use Rattle.waff_model.specs.Refusals.{first_refusal}
 use Rattle.waff_model.specs.Tree.{Node, number_of}
-use Rattle.waff_model.specs.declared.limits.TheConstants.{MAX_SPACES, MAX_SIZE, MAX_CELLS, MAX_UNIT, MAX_OWNERS}
+use Rattle.waff_model.specs.declared.limits.TheConstants.{MAX_SPACES, MAX_SIZE, MAX_CELLS, MAX_UNIT}
+use Rattle.waff_model.specs.declared.limits.TheConstants.{MAX_OWNERS}
 use Rattle.waff_model.specs.declared.layout_rows.SpaceSpec.{SpaceSpec}
 use Rattle.waff_model.specs.declared.layout_rows.MapSpec.{MapSpec}
 use Rattle.waff_model.specs.declared.layout_rows.LayoutError.{LayoutError}
@@ -31,7 +34,8 @@ maps_named maps name = count_by (λ m. bytes_eq m.space name) maps
 abbrev pub has_bad_space : List SpaceSpec → List MapSpec → Bool
 has_bad_space spaces maps =
     (length spaces == 0 || nat_lt MAX_SPACES (length spaces))
-    || (list_any (λ s. not (is_name s.name)) spaces || list_any (λ m. spaces_named spaces m.space == 0) maps)
+    || (list_any (λ s. not (is_name s.name)) spaces
+    || list_any (λ m. spaces_named spaces m.space == 0) maps)
 
 -- a size outside its limit
 abbrev pub has_bad_size : List SpaceSpec → Bool
@@ -56,7 +60,8 @@ has_bad_unit maps = list_any (λ m. is_none (within m.unit MAX_UNIT)) maps
 -- owners of a map: none, too many, or one that is no affinity
 abbrev pub are_bad_owners : List Node → List (List ℕ) → Bool
 are_bad_owners tree to =
-    (length to == 0 || nat_lt MAX_OWNERS (length to)) || list_any (λ name. is_none (number_of tree name)) to
+    (length to == 0 || nat_lt MAX_OWNERS (length to))
+    || list_any (λ name. is_none (number_of tree name)) to
 
 -- a map whose owners are bad
 abbrev pub has_bad_owners : List Node → List MapSpec → Bool

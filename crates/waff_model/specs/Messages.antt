@@ -3,12 +3,14 @@ use Rattle.std.specs.Prelude.{◌≡◌, ℕ, ◌≤◌, true, List, length, map
 use Rattle.waff_model.specs.Layout.{Space}
 use Rattle.waff_model.specs.Names.{is_name}
 use Rattle.waff_model.specs.Cells.{cells_of, LiesIn}
-use Rattle.waff_model.specs.declared.limits.TheConstants.{MAX_COST, MAX_RELEASE, MAX_OPS, MAX_MESSAGES}
+use Rattle.waff_model.specs.declared.limits.TheConstants.{MAX_COST, MAX_RELEASE, MAX_OPS}
+use Rattle.waff_model.specs.declared.limits.TheConstants.{MAX_MESSAGES}
 use Rattle.waff_model.specs.declared.message.Message.{Message}
 use Rattle.waff_model.specs.declared.message.Version.{Version}
 use Rattle.waff_model.specs.declared.message.Version.TheVariants.{V1}
 
--- a trace: its version, the sizes of the spaces in which its cells lie, and its messages in the order of arrival
+-- a trace: its version, the sizes of the spaces in which its cells lie, and its messages in the
+-- order of arrival
 pub record Arrivals : Type 0 where
   pub version : Version
   pub sizes : List ℕ

@@ -10,4 +10,5 @@ is_name_byte byte = is_ascii_alphanumeric byte || (byte == 46 || byte == 95 || b
 
 -- a name is 1 to 32 such bytes
 abbrev pub is_name : List ℕ → Bool
-is_name text = (nat_le 1 (length text) && nat_le (length text) MAX_NAME) && list_all is_name_byte text
+is_name text =
+    (nat_le 1 (length text) && nat_le (length text) MAX_NAME) && list_all is_name_byte text

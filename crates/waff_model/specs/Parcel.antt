@@ -30,4 +30,5 @@ parcel_size spaces a = count_of a (owners_in spaces)
 
 -- the place of a cell in its owner's parcel: how many of the cells before it have its owner
 abbrev pub place_of : List Space → Cell → ℕ
-place_of spaces cell = count_of (owner_of spaces cell) (take (cells_before spaces cell) (owners_in spaces))
+place_of spaces cell =
+    count_of (owner_of spaces cell) (take (cells_before spaces cell) (owners_in spaces))

@@ -7,7 +7,8 @@ use Rattle.waff_model.specs.Parcel.{parcel_size, place_of}
 -- the place of a cell is below the size of its owner's parcel
 abbrev pub PlacesAreWithin : List Space → Type 0
 PlacesAreWithin spaces =
-    (cell : Cell) → IsCell spaces cell → place_of spaces cell < parcel_size spaces (owner_of spaces cell)
+    (cell : Cell) → IsCell spaces cell
+    → place_of spaces cell < parcel_size spaces (owner_of spaces cell)
 
 -- two cells of one owner that have the same place are the same cell
 abbrev pub PlacesAreApart : List Space → Type 0

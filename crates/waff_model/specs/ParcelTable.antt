@@ -13,7 +13,8 @@ pub record IsMapped (space : Space) : Type 0 where
 
 -- the owners of so many cells, of which runs of `unit` go to these affinities in turn
 abbrev pub owners_by : ℕ → ℕ → List ℕ → List ℕ
-owners_by size unit to = map (λ index. slice_index to ((index / unit) % length to)) (range_with_len 0 size)
+owners_by size unit to =
+    map (λ index. slice_index to ((index / unit) % length to)) (range_with_len 0 size)
 
 -- for each space, how many cells are in the spaces before it
 abbrev pub starts_of : List Space → List ℕ

@@ -1,5 +1,7 @@
 -- Trees of affinities: parents, what is at or above what, and what excludes what.
-use Rattle.std.specs.Prelude.{◌≡◌, ℕ, zero, suc, ◌<◌, ◌≤◌, ◌⊎◌, List, [], length, Option, Some, None, IsSome, option_map, unwrap_or, option_and_then, slice_get, position}
+use Rattle.std.specs.Prelude.{◌≡◌, ℕ, zero, suc, ◌<◌, ◌≤◌, ◌⊎◌, List, [], length, Option, Some}
+use Rattle.std.specs.Prelude.{None, IsSome, option_map, unwrap_or, option_and_then, slice_get}
+use Rattle.std.specs.Prelude.{position}
 use Rattle.std.specs.Str.{bytes_eq}
 use Rattle.waff_model.specs.declared.limits.TheConstants.{MAX_AFFINITIES}
 

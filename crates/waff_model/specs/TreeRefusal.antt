@@ -1,12 +1,14 @@
 -- Why an affinity is not added to a tree: the checks, in their order.
-use Rattle.std.specs.Prelude.{ℕ, Bool, false, List, length, Option, Some, None, option_map, is_some, is_none, not, nat_le, ◌&&◌, [], ◌∷◌}
+use Rattle.std.specs.Prelude.{ℕ, Bool, false, List, length, Option, Some, None, option_map, is_some}
+use Rattle.std.specs.Prelude.{is_none, not, nat_le, ◌&&◌, [], ◌∷◌}
 use Rattle.waff_model.specs.Names.{is_name}
 use Rattle.waff_model.specs.Refusals.{first_refusal}
 use Rattle.waff_model.specs.Tree.{Node, number_of}
 use Rattle.waff_model.specs.declared.limits.TheConstants.{MAX_AFFINITIES}
 use Rattle.waff_model.specs.declared.tree.AffinityId.{AffinityId}
 use Rattle.waff_model.specs.declared.tree.TreeError.{TreeError}
-use Rattle.waff_model.specs.declared.tree.TreeError.TheVariants.{Name, Twice, SecondRoot, ParentUnknown, TooMany}
+use Rattle.waff_model.specs.declared.tree.TreeError.TheVariants.{Name, Twice, SecondRoot}
+use Rattle.waff_model.specs.declared.tree.TreeError.TheVariants.{ParentUnknown, TooMany}
 
 -- the node that a builder is asked to add
 abbrev pub node_of : List ℕ → Option AffinityId → Node

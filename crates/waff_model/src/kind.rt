@@ -1,7 +1,7 @@
 //! Kinds of hierarchies.
 
-/// The model of affinities that a hierarchy is for. Here it is a label: the reader sees to it that a classical
-/// tree has at most two levels.
+/// The model of affinities that a hierarchy is for. Here it is a label: the reader sees to it that
+/// a classical tree has at most two levels.
 #[derive(Clone, Copy, Debug, PartialEq, Eq)]
 pub enum Kind {
     Classical,

@@ -2,9 +2,11 @@
 
 ghost use Rattle.std.specs.List.{list_all, zip};
 ghost use Rattle.std.specs.Str.{bytes_eq};
-ghost use Rattle.std.specs.Prelude.{◌≡◌, ◌↔◌, ◌<◌, ◌==◌, ◌&&◌, [], length, map, find, option_map, unwrap_or, None, Some, IsTrue, IfOk, IfErr, IfSome, OnOk};
+ghost use Rattle.std.specs.Prelude.{◌≡◌, ◌↔◌, ◌<◌, ◌==◌, ◌&&◌, [], length, map, find, option_map};
+ghost use Rattle.std.specs.Prelude.{unwrap_or, None, Some, IsTrue, IfOk, IfErr, IfSome, OnOk};
 ghost use Rattle.waff_model.specs.Tree.{number_of};
-ghost use Rattle.waff_model.specs.Layout.{IsLayout, IsCell, SameSpaces, name_at, size_at, space_named, owner_of};
+ghost use Rattle.waff_model.specs.Layout.{IsLayout, IsCell, SameSpaces, name_at, size_at};
+ghost use Rattle.waff_model.specs.Layout.{space_named, owner_of};
 ghost use Rattle.waff_model.specs.LayoutOf.{owners_of, map_of, space_of, hierarchy_of};
 ghost use Rattle.waff_model.specs.Parcel.{parcel_size, place_of};
 ghost use Rattle.waff_model.specs.LayoutRefusal.{layout_refusal};
@@ -37,12 +39,14 @@ impl Model for Layout {
 
     ghost view = { λ l. record { kind = l.kind; tree = l.tree; spaces = l.spaces.items } };
 
-    ghost invariant = { λ l. IsLayout (record { kind = l.kind; tree = l.tree; spaces = l.spaces.items })
+    ghost invariant = { λ l.
+        IsLayout (record { kind = l.kind; tree = l.tree; spaces = l.spaces.items })
         × AreParcels l.tree l.spaces.items l.parcels };
 }
 
 impl Layout {
-    /// The layout of these spaces and maps over the tree. Spaces are numbered from 0 in the order given.
+    /// The layout of these spaces and maps over the tree. Spaces are numbered from 0 in the order
+    /// given.
     pub fn new(
         alloc: Global,
         kind: Kind,
@@ -54,7 +58,8 @@ impl Layout {
         ensures accepted { OnOk result (layout_refusal tree spaces.now maps.now ≡ None) }
 
         // Memory is answered only where nothing else is to be refused.
-        ensures refused { IfErr result (λ e. e ≡ unwrap_or (layout_refusal tree spaces.now maps.now) LayoutError.Memory) }
+        ensures refused { IfErr result (λ e.
+            e ≡ unwrap_or (layout_refusal tree spaces.now maps.now) LayoutError.Memory) }
     {
         if let Some(refusal) = refusal(&tree, spaces, maps) {
             return Err(refusal);
@@ -197,7 +202,8 @@ fn are_same(spaces: &[Space], others: &[Space]) -> bool
 }
 
 fn each_is_same(spaces: &[Space], others: &[Space]) -> bool
-    ensures { result ≡ list_all (λ pair. bytes_eq pair.0.name pair.1.name && pair.0.size == pair.1.size) (zip spaces.now others.now) }
+    ensures { result ≡ list_all (λ pair. bytes_eq pair.0.name pair.1.name
+        && pair.0.size == pair.1.size) (zip spaces.now others.now) }
 {
     spaces.iter().zip(others).all(|(space, other)| space.name() == other.name()
         && space.size() == other.size())

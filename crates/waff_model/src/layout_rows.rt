@@ -19,8 +19,8 @@ pub struct SpaceSpec {
     pub size: i64,
 }
 
-/// A map to be: the name of its space, how many cells in a row go to one affinity, and the names of the
-/// affinities that take turns.
+/// A map to be: the name of its space, how many cells in a row go to one affinity, and the names of
+/// the affinities that take turns.
 #[derive(Debug, Drop)]
 pub struct MapSpec {
     pub space: Text,

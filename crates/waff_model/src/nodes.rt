@@ -68,7 +68,8 @@ impl Nodes {
     /// Appends a node of a name that no node has.
     pub(crate) fn push(&mut self, name: &str, parent: Option<u16>) -> Result<(), AllocError>
         requires { number_of self.old name.now ≡ None }
-        ensures added { OnOk result (self.new ≡ self.old ++ record { name = name.now; parent = parent } ∷ []) }
+        ensures added { OnOk result (self.new ≡ self.old
+            ++ record { name = name.now; parent = parent } ∷ []) }
         ensures unchanged { OnErr result (self.new ≡ self.old) }
     {
         let key = String::from_str(self.allocator(), name)?;

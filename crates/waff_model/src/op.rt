@@ -1,6 +1,7 @@
 //! Operations on cells.
 
-ghost use Rattle.std.specs.Prelude.{◌≡◌, ◌<◌, ◌↔◌, [], ◌∷◌, ◌++◌, length, Some, IsTrue, OnOk, OnErr, slice_get};
+ghost use Rattle.std.specs.Prelude.{◌≡◌, ◌<◌, ◌↔◌, [], ◌∷◌, ◌++◌, length, Some, IsTrue, OnOk};
+ghost use Rattle.std.specs.Prelude.{OnErr, slice_get};
 ghost use Rattle.std.specs.Slice.Iter.{iter_rest};
 
 use crate::cell::Cell;

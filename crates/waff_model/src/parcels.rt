@@ -1,8 +1,10 @@
 //! The table of parcels: where each cell stands among the cells of its owner.
 
-ghost use Rattle.std.specs.Prelude.{◌≡◌, ◌<◌, ◌≤◌, ◌^◌, ◌++◌, length, replicate, sum_by, All, IfOk, OnOk};
+ghost use Rattle.std.specs.Prelude.{◌≡◌, ◌<◌, ◌≤◌, ◌^◌, ◌++◌, length, replicate, sum_by, All, IfOk};
+ghost use Rattle.std.specs.Prelude.{OnOk};
 ghost use Rattle.waff_model.specs.Parcel.{owners_in};
-ghost use Rattle.waff_model.specs.ParcelTable.{IsMapped, owners_by, starts_of, places_of, sizes_of, AreParcels};
+ghost use Rattle.waff_model.specs.ParcelTable.{IsMapped, owners_by, starts_of, places_of, sizes_of};
+ghost use Rattle.waff_model.specs.ParcelTable.{AreParcels};
 
 use crate::space::Space;
 use crate::tree::Tree;

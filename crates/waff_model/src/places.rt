@@ -24,7 +24,8 @@ impl Place {
     }
 }
 
-/// The part of its parent's places that an affinity and those below it take: so many, so far after the parent's own.
+/// The part of its parent's places that an affinity and those below it take: so many, so far after
+/// the parent's own.
 #[derive(Clone, Copy)]
 struct Share {
     offset: u16,

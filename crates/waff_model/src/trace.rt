@@ -1,6 +1,7 @@
 //! Traces.
 
-ghost use Rattle.std.specs.Prelude.{◌≡◌, ◌+◌, ◌-◌, ◌<◌, ◌≤◌, ◌↔◌, [], ◌∷◌, ◌++◌, length, Some, IsTrue, IfOk, OnOk, OnErr, slice_get};
+ghost use Rattle.std.specs.Prelude.{◌≡◌, ◌+◌, ◌-◌, ◌<◌, ◌≤◌, ◌↔◌, [], ◌∷◌, ◌++◌, length, Some};
+ghost use Rattle.std.specs.Prelude.{IsTrue, IfOk, OnOk, OnErr, slice_get};
 ghost use Rattle.std.specs.Prelude.{◌==◌};
 ghost use Rattle.std.specs.List.{list_all, zip};
 ghost use Rattle.waff_model.specs.Messages.{sizes_of};
@@ -25,9 +26,17 @@ impl Model for Trace {
 
     ghost Value = { Arrivals };
 
-    ghost view = { λ t. record { version = t.version; sizes = t.sizes.items; messages = t.messages.items } };
+    ghost view = { λ t. record {
+      version = t.version;
+      sizes = t.sizes.items;
+      messages = t.messages.items;
+    } };
 
-    ghost invariant = { λ t. IsTrace (record { version = t.version; sizes = t.sizes.items; messages = t.messages.items }) };
+    ghost invariant = { λ t. IsTrace (record {
+      version = t.version;
+      sizes = t.sizes.items;
+      messages = t.messages.items;
+    }) };
 }
 
 impl Trace {
@@ -36,7 +45,8 @@ impl Trace {
 
     /// A trace of the first version for cells of the layout, with no message.
     pub fn new(alloc: Global, layout: &Layout) -> Result<Self, AllocError>
-        ensures { IfOk result (λ t. t ≡ record { version = V1; sizes = sizes_of layout.now.spaces; messages = [] }) }
+        ensures { IfOk result (λ t.
+            t ≡ record { version = V1; sizes = sizes_of layout.now.spaces; messages = [] }) }
     {
         Trace::with_version(alloc, layout, Version::V1)
     }
@@ -47,7 +57,8 @@ impl Trace {
         layout: &Layout,
         version: Version,
     ) -> Result<Self, AllocError>
-        ensures { IfOk result (λ t. t ≡ record { version = version; sizes = sizes_of layout.now.spaces; messages = [] }) }
+        ensures { IfOk result (λ t.
+            t ≡ record { version = version; sizes = sizes_of layout.now.spaces; messages = [] }) }
     {
         Ok(Trace {
             version,
@@ -73,7 +84,8 @@ impl Trace {
     pub fn push(&mut self, message: Message) -> Result<(), AllocError>
         requires message { IsMessage self.old.version self.old.sizes message }
         requires room { length self.old.messages < MAX_MESSAGES }
-        ensures pushed { OnOk result (self.new ≡ record self.old { messages = self.old.messages ++ message ∷ [] }) }
+        ensures pushed { OnOk result (self.new
+            ≡ record self.old { messages = self.old.messages ++ message ∷ [] }) }
         ensures unchanged { OnErr result (self.new ≡ self.old) }
     {
         self.messages.push(message)?;

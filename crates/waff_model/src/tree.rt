@@ -1,6 +1,8 @@
 //! Trees of affinities.
 
-ghost use Rattle.std.specs.Prelude.{◌≡◌, ◌+◌, ◌==◌, if◌then◌else◌, ◌<◌, ◌↔◌, [], ◌∷◌, ◌++◌, length, option_map, unwrap_or, None, IsTrue, IfOk, IfErr, IfSome, OnOk, OnErr};
+ghost use Rattle.std.specs.Prelude.{◌≡◌, ◌+◌, ◌==◌, if◌then◌else◌, ◌<◌, ◌↔◌, [], ◌∷◌, ◌++◌, length};
+ghost use Rattle.std.specs.Prelude.{option_map, unwrap_or, None, IsTrue, IfOk, IfErr, IfSome, OnOk};
+ghost use Rattle.std.specs.Prelude.{OnErr};
 ghost use Rattle.waff_model.specs.Tree.{parent_of, number_of, name_of, AtOrAbove, Excludes, IsTree};
 ghost use Rattle.waff_model.specs.Places.{AreNested};
 ghost use Rattle.waff_model.specs.TreeRefusal.{node_of, refusal_of};
@@ -13,7 +15,8 @@ use std::alloc::{AllocError, Global};
 use std::marker::Model;
 use thiserror::Error;
 
-/// An affinity, by its number: affinities are numbered from 0 in the order in which they were added.
+/// An affinity, by its number: affinities are numbered from 0 in the order in which they were
+/// added.
 #[derive(Clone, Copy, Debug, PartialEq, Eq)]
 pub struct AffinityId(pub u16);
 
@@ -69,7 +72,8 @@ impl TreeBuilder {
         ensures accepted { OnOk result (refusal_of self.old (node_of name.now parent) ≡ None) }
 
         // Memory is answered only where nothing else is to be refused.
-        ensures refused { IfErr result (λ e. e ≡ unwrap_or (refusal_of self.old (node_of name.now parent)) TreeError.Memory) }
+        ensures refused { IfErr result (λ e.
+            e ≡ unwrap_or (refusal_of self.old (node_of name.now parent)) TreeError.Memory) }
         ensures unchanged { OnErr result (self.new ≡ self.old) }
     {
         let parent = parent.map(|p| p.0);
@@ -87,7 +91,8 @@ impl TreeBuilder {
     pub fn build(self) -> Result<Tree, TreeError>
         ensures kept { IfOk result (λ tree. tree ≡ self) }
         ensures accepted { OnOk result (0 < length self) }
-        ensures refused { IfErr result (λ e. e ≡ (if length self == 0 then TreeError.NoRoot else TreeError.Memory)) }
+        ensures refused { IfErr result (λ e.
+            e ≡ (if length self == 0 then TreeError.NoRoot else TreeError.Memory)) }
     {
         if self.nodes.len() == 0 {
             return Err(TreeError::NoRoot);
@@ -188,15 +193,16 @@ impl Tree {
         self.places[above.0 as usize].spans(&self.places[below.0 as usize])
     }
 
-    /// The place of each affinity in preorder, by its number: the affinities at or below one stand at the places from its
-    /// `first` up to its `end`.
+    /// The place of each affinity in preorder, by its number: the affinities at or below one stand
+    /// at the places from its `first` up to its `end`.
     pub fn places(&self) -> &[Place]
         ensures { AreNested self.now result.now }
     {
         self.places.as_slice()
     }
 
-    /// Whether one of the two is at or above the other, so that their messages never run at the same time.
+    /// Whether one of the two is at or above the other, so that their messages never run at the
+    /// same time.
     pub fn excludes(&self, one: AffinityId, other: AffinityId) -> bool
         requires one { one.0 < length self.now }
         requires other { other.0 < length self.now }

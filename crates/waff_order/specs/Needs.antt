@@ -1,5 +1,7 @@
--- The needs of a trace's messages: for each message a list of earlier messages that it must wait for.
-use Rattle.std.specs.Prelude.{◌≡◌, ℕ, ◌-◌, ◌<◌, ◌≤◌, List, [], length, All, Contains, slice_index_or}
+-- The needs of a trace's messages: for each message a list of earlier messages that it must wait
+-- for.
+use Rattle.std.specs.Prelude.{◌≡◌, ℕ, ◌-◌, ◌<◌, ◌≤◌, List, [], length, All, Contains}
+use Rattle.std.specs.Prelude.{slice_index_or}
 use Rattle.std.specs.List.Sorted.{IsStrictlyIncreasing}
 use Rattle.waff_model.specs.Tree.{Node, Leads}
 use Rattle.waff_model.specs.declared.limits.TheConstants.{MAX_MESSAGES}
@@ -21,8 +23,8 @@ pub record AreLists (needs : List (List ℕ)) : Type 0 where
   pub rising : All IsStrictlyIncreasing needs
   pub few : length needs ≤ MAX_MESSAGES
 
--- the needs of messages with these affinities: each need is an ordered pair, and each ordered pair is a path through needs, so
--- that the paths through needs are exactly the path pairs
+-- the needs of messages with these affinities: each need is an ordered pair, and each ordered pair
+-- is a path through needs, so that the paths through needs are exactly the path pairs
 pub record AreNeeds (tree : List Node) (assigned : List ℕ) (needs : List (List ℕ)) : Type 0 where
   pub count : length needs ≡ length assigned
   pub ordered : (i j : ℕ) → IsNeed needs i j → IsOrdered tree assigned i j

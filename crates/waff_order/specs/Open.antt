@@ -1,5 +1,6 @@
--- The open messages: those that no later message at or above them has taken as a need. A message takes as needs the open
--- messages at or below it, or, where there is none, the latest message above it.
+-- The open messages: those that no later message at or above them has taken as a need. A message
+-- takes as needs the open messages at or below it, or, where there is none, the latest message
+-- above it.
 use Rattle.std.specs.Prelude.{ℕ, zero, suc, ◌+◌, ◌<◌, ◌≤◌, ◌⊎◌, List, [], ◌∷◌, All, Contains}
 use Rattle.std.specs.List.Sorted.{IsStrictlyIncreasing}
 use Rattle.waff_model.specs.Tree.{Node, AtOrAbove}

@@ -1,6 +1,8 @@
--- Tables by the places of affinities in preorder. The affinities at or below one stand at a run of places; the places are cut into
--- blocks of 64, so that a long run is passed block by block.
-use Rattle.std.specs.Prelude.{◌≡◌, ℕ, zero, suc, ◌+◌, ◌*◌, ◌/◌, ◌<◌, ◌≤◌, ◌⊎◌, Bool, true, false, List, [], ◌∷◌, length, max, All, Contains, slice_index, slice_index_or}
+-- Tables by the places of affinities in preorder. The affinities at or below one stand at a run of
+-- places; the places are cut into blocks of 64, so that a long run is passed block by block.
+use Rattle.std.specs.Prelude.{◌≡◌, ℕ, zero, suc, ◌+◌, ◌*◌, ◌/◌, ◌<◌, ◌≤◌, ◌⊎◌, Bool, true, false}
+use Rattle.std.specs.Prelude.{List, [], ◌∷◌, length, max, All, Contains, slice_index}
+use Rattle.std.specs.Prelude.{slice_index_or}
 use Rattle.std.specs.List.Sorted.{IsStrictlyIncreasing}
 
 -- how many messages stand in a table, where 0 is none
@@ -33,14 +35,17 @@ pub record IsCleared (from to : ℕ) (old new : List ℕ) : Type 0 where
 pub record Takes (from to : ℕ) (old new list_old list_new : List ℕ) : Type 0 where
   pub clears : IsCleared from to old new
   pub grows : (i : ℕ) → Contains list_old i → Contains list_new i
-  pub takes : (p : ℕ) → from ≤ p → p < to → 0 < slice_index old p → Contains list_new (slice_index old p)
+  pub takes : (p : ℕ) → from ≤ p → p < to → 0 < slice_index old p
+      → Contains list_new (slice_index old p)
   pub only : (i : ℕ) → Contains list_new i → Contains list_old i ⊎ IsAt from to old i
   pub sum : length list_new + held new ≡ length list_old + held old
 
--- these are the messages at the places from `from` up to `to`, in rising order, and they have gone from the table
+-- these are the messages at the places from `from` up to `to`, in rising order, and they have gone
+-- from the table
 pub record AreGathered (from to : ℕ) (old new gathered : List ℕ) : Type 0 where
   pub clears : IsCleared from to old new
-  pub takes : (p : ℕ) → from ≤ p → p < to → 0 < slice_index old p → Contains gathered (slice_index old p)
+  pub takes : (p : ℕ) → from ≤ p → p < to → 0 < slice_index old p
+      → Contains gathered (slice_index old p)
   pub only : (i : ℕ) → Contains gathered i → IsAt from to old i
   pub rising : IsStrictlyIncreasing gathered
   pub sum : length gathered + held new ≤ held old

@@ -18,7 +18,8 @@ pub(crate) struct Latest {
 impl Latest {
     /// Nothing is noted at these many places.
     pub fn none(alloc: Global, count: usize) -> Result<Self, AllocError>
-        ensures notes { IfOk result (λ latest. AreNotes count 0 latest.places.items latest.blocks.items) }
+        ensures notes { IfOk result (λ latest.
+            AreNotes count 0 latest.places.items latest.blocks.items) }
     {
         Ok(Latest {
             places: vec![in alloc; 0; count]?,
@@ -35,13 +36,17 @@ impl Latest {
         self.places[place].max(self.blocks[place / BLOCK])
     }
 
-    /// Notes message `m`, which comes after all that were noted, at the places from `from` up to `to`.
+    /// Notes message `m`, which comes after all that were noted, at the places from `from` up to
+    /// `to`.
     pub fn note(&mut self, from: usize, to: usize, m: u32)
         requires forward { from ≤ to }
         requires within { to ≤ length self.old.places.items }
-        requires notes { AreNotes (length self.old.places.items) m self.old.places.items self.old.blocks.items }
-        ensures notes { AreNotes (length self.old.places.items) m self.new.places.items self.new.blocks.items }
-        ensures noted { IsNoted from to m self.old.places.items self.old.blocks.items self.new.places.items self.new.blocks.items }
+        requires notes { AreNotes
+            (length self.old.places.items) m self.old.places.items self.old.blocks.items }
+        ensures notes { AreNotes
+            (length self.old.places.items) m self.new.places.items self.new.blocks.items }
+        ensures noted { IsNoted from to m self.old.places.items
+            self.old.blocks.items self.new.places.items self.new.blocks.items }
     {
         let mut at = from;
         while at < to {
@@ -60,9 +65,12 @@ impl Latest {
     fn note_part(&mut self, from: usize, to: usize, m: u32)
         requires forward { from ≤ to }
         requires within { to ≤ length self.old.places.items }
-        requires notes { AreNotes (length self.old.places.items) m self.old.places.items self.old.blocks.items }
-        ensures notes { AreNotes (length self.old.places.items) m self.new.places.items self.new.blocks.items }
-        ensures noted { IsNoted from to m self.old.places.items self.old.blocks.items self.new.places.items self.new.blocks.items }
+        requires notes { AreNotes
+            (length self.old.places.items) m self.old.places.items self.old.blocks.items }
+        ensures notes { AreNotes
+            (length self.old.places.items) m self.new.places.items self.new.blocks.items }
+        ensures noted { IsNoted from to m self.old.places.items
+            self.old.blocks.items self.new.places.items self.new.blocks.items }
     {
         for place in from..to {
             self.places[place] = m;

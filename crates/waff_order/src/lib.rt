@@ -1,10 +1,13 @@
 //! The needs of a trace's messages, and whether one hierarchy refines another on a trace.
 //!
-//! The needs of a message are earlier messages that exclude it, chosen so that the paths through them lead to all earlier
-//! messages that exclude it: whoever waits for the needs waits for all, and there are few of them.
-//! - `predecessors`: the needs, found with `opened` and `latest`, tables by the places of affinities in preorder; `lists`: their
+//! The needs of a message are earlier messages that exclude it, chosen so that the paths through
+//! them lead to all earlier messages that exclude it: whoever waits for the needs waits for all,
+//! and there are few of them.
+//! - `predecessors`: the needs, found with `opened` and `latest`, tables by the places of
+//! affinities in preorder; `lists`: their
 //!   lists.
-//! - `refinement`: whether all pairs that one hierarchy orders are ordered by another one, with `lowests`.
+//! - `refinement`: whether all pairs that one hierarchy orders are ordered by another one, with
+//! `lowests`.
 #![tactic(auto)]
 
 mod latest;

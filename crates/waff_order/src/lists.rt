@@ -23,7 +23,8 @@ impl Model for Needs {
 
     ghost view = { λ n. parts n.all.items 0 n.ends.items };
 
-    ghost invariant = { λ n. AreCuts n.all.items 0 n.ends.items × AreLists (parts n.all.items 0 n.ends.items) };
+    ghost invariant = { λ n. AreCuts n.all.items 0 n.ends.items
+        × AreLists (parts n.all.items 0 n.ends.items) };
 }
 
 impl Needs {

@@ -3,7 +3,8 @@
 //! Affinities that exclude each other pairwise stand on one way up to the root, so the lowest of
 //! them tells of all: what excludes it excludes each.
 
-ghost use Rattle.std.specs.Prelude.{◌≡◌, ◌+◌, ◌<◌, ◌↔◌, ℕ, List, length, All, IfSome, IsTrue, MatchOption, None, slice_index_or};
+ghost use Rattle.std.specs.Prelude.{◌≡◌, ◌+◌, ◌<◌, ◌↔◌, ℕ, List, length, All, IfSome, IsTrue};
+ghost use Rattle.std.specs.Prelude.{MatchOption, None, slice_index_or};
 ghost use Rattle.waff_assign.specs.Order.{Refines};
 ghost use Rattle.waff_model.specs.Tree.{IsTree, Node};
 ghost use Rattle.waff_order.specs.Lowests.{above_of, Agree, AreLowests, IsApart, IsLower};
@@ -23,8 +24,10 @@ pub(crate) fn note_messages(
     requires known { All (λ a. a < length lowests.old) assigned.now }
     requires coarse_known { All (λ a. a < length coarse_tree.now) coarse_assigned.now }
     requires lengths { length assigned.now ≡ length coarse_assigned.now }
-    ensures lowests { IsTrue result → AreLowests assigned.now coarse_tree.now coarse_assigned.now (length assigned.now + 1) lowests.new }
-    ensures refined { (tree : List Node) → Refines tree assigned.now coarse_tree.now coarse_assigned.now → IsTrue result }
+    ensures lowests { IsTrue result → AreLowests assigned.now coarse_tree.now coarse_assigned.now
+        (length assigned.now + 1) lowests.new }
+    ensures refined { (tree : List Node)
+        → Refines tree assigned.now coarse_tree.now coarse_assigned.now → IsTrue result }
 {
     for n in 1..assigned.len() + 1 {
         let place = assigned.of(n).0 as usize;
@@ -40,7 +43,8 @@ pub(crate) fn note_messages(
 /// coarse tree. Carries what is noted down to all below: each affinity stands after its parent.
 pub(crate) fn agree(lowests: &mut [Option<AffinityId>], tree: &Tree, coarse_tree: &Tree) -> bool
     requires count { length lowests.old ≡ length tree.now }
-    requires within { (a : ℕ) → IfSome (slice_index_or lowests.old a None) (λ low. low.0 < length coarse_tree.now) }
+    requires within { (a : ℕ)
+        → IfSome (slice_index_or lowests.old a None) (λ low. low.0 < length coarse_tree.now) }
     ensures { IsTrue result ↔ Agree tree.now coarse_tree.now lowests.old }
 {
     for a in 0..tree.len() as u16 {
@@ -76,7 +80,8 @@ fn noted_above(
 fn lower(tree: &Tree, noted: Option<AffinityId>, affinity: AffinityId) -> Option<AffinityId>
     requires noted { IfSome noted (λ a. a.0 < length tree.now) }
     requires affinity { affinity.0 < length tree.now }
-    ensures { MatchOption result (IsApart tree.now noted affinity) (IsLower tree.now noted affinity) }
+    ensures { MatchOption result (IsApart tree.now noted affinity)
+        (IsLower tree.now noted affinity) }
 {
     match noted {
         Some(low) if tree.at_or_above(affinity, low) => Some(low),

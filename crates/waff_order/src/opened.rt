@@ -19,7 +19,8 @@ impl Opened {
     /// No message is open at these many places.
     pub fn none(alloc: Global, count: usize) -> Result<Self, AllocError>
         ensures messages { IfOk result (λ opened. opened.messages.items ≡ replicate count 0) }
-        ensures filled { IfOk result (λ opened. AreFilled opened.messages.items opened.filled.items) }
+        ensures filled { IfOk result (λ opened.
+            AreFilled opened.messages.items opened.filled.items) }
     {
         Ok(Opened {
             messages: vec![in alloc; 0; count]?,
@@ -38,13 +39,15 @@ impl Opened {
         self.filled[place / BLOCK] = true;
     }
 
-    /// Appends the messages that are open at the places from `from` up to `to`, which are then closed.
+    /// Appends the messages that are open at the places from `from` up to `to`, which are then
+    /// closed.
     pub fn take(&mut self, from: usize, to: usize, list: &mut Vec<u32>) -> Result<(), AllocError>
         requires forward { from ≤ to }
         requires within { to ≤ length self.old.messages.items }
         requires filled { AreFilled self.old.messages.items self.old.filled.items }
         ensures filled { OnOk result (AreFilled self.new.messages.items self.new.filled.items) }
-        ensures takes { OnOk result (Takes from to self.old.messages.items self.new.messages.items list.old.items list.new.items) }
+        ensures takes { OnOk result (Takes from to
+            self.old.messages.items self.new.messages.items list.old.items list.new.items) }
     {
         let mut at = from;
         while at < to {
@@ -64,7 +67,8 @@ impl Opened {
         requires forward { from ≤ to }
         requires within { to ≤ length self.old.messages.items }
         ensures filled { OnOk result (self.new.filled.items ≡ self.old.filled.items) }
-        ensures takes { OnOk result (Takes from to self.old.messages.items self.new.messages.items list.old.items list.new.items) }
+        ensures takes { OnOk result (Takes from to
+            self.old.messages.items self.new.messages.items list.old.items list.new.items) }
     {
         for place in from..to {
             let m = self.messages[place];

@@ -1,6 +1,7 @@
 //! The needs of each message, found from the messages that are open.
 
-ghost use Rattle.std.specs.Prelude.{◌≡◌, ◌+◌, ◌*◌, ◌<◌, ◌≤◌, List, ℕ, [], length, All, IfOk, OnOk, sum_by};
+ghost use Rattle.std.specs.Prelude.{◌≡◌, ◌+◌, ◌*◌, ◌<◌, ◌≤◌, List, ℕ, [], length, All, IfOk, OnOk};
+ghost use Rattle.std.specs.Prelude.{sum_by};
 ghost use Rattle.waff_order.specs.Needs.{AreNeeds, IsWithinDepth};
 ghost use Rattle.waff_order.specs.Open.{chosen};
 ghost use Rattle.waff_order.specs.Runs.{noted_at, AreFilled, AreGathered};
@@ -12,12 +13,13 @@ use std::alloc::{AllocError, Global};
 use waff_assign::Assigned;
 use waff_model::{Place, Tree};
 
-/// The needs of each message: earlier messages that exclude it, so many that every other such message is led to it by a path
-/// through needs.
+/// The needs of each message: earlier messages that exclude it, so many that every other such
+/// message is led to it by a path through needs.
 pub fn needs(alloc: Global, tree: &Tree, assigned: &Assigned) -> Result<Needs, AllocError>
     requires { All (λ a. a < length tree.now) assigned.now }
     ensures needs { IfOk result (AreNeeds tree.now assigned.now) }
-    ensures few { IfOk result (λ needs. (depth : ℕ) → IsWithinDepth tree.now depth → sum_by length needs ≤ length assigned.now * (depth + 1)) }
+    ensures few { IfOk result (λ needs. (depth : ℕ)
+        → IsWithinDepth tree.now depth → sum_by length needs ≤ length assigned.now * (depth + 1)) }
     ensures twice { IfOk result (λ needs. sum_by length needs ≤ 2 * length assigned.now) }
 {
     let count = tree.len() as usize;
@@ -54,8 +56,10 @@ fn take_needs(
     requires empty { needs.old.items ≡ [] }
     ensures filled { OnOk result (AreFilled opened.new.messages.items opened.new.filled.items) }
     ensures needs { OnOk result ((gathered : List ℕ)
-        × AreGathered place.first place.end opened.old.messages.items opened.new.messages.items gathered
-        × (needs.new.items ≡ chosen gathered (noted_at latest.now.places.items latest.now.blocks.items place.first))) }
+        × AreGathered place.first place.end opened.old.messages.items
+        opened.new.messages.items gathered
+        × (needs.new.items ≡ chosen gathered
+        (noted_at latest.now.places.items latest.now.blocks.items place.first))) }
 {
     opened.take(place.first as usize, place.end as usize, needs)?;
     needs.sort_unstable();

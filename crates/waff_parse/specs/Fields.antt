@@ -48,8 +48,10 @@ two_texts fields = (fields.0.now, fields.1.now)
 abbrev pub three_texts : Bor Field × Bor Field × Bor Field → Field × Field × Field
 three_texts fields = (fields.0.now, fields.1.now, fields.2.now)
 
-abbrev pub four_texts : Bor Field × Bor Field × Bor Field × Bor Field → Field × Field × Field × Field
+abbrev pub four_texts : Bor Field × Bor Field × Bor Field × Bor Field
+    → Field × Field × Field × Field
 four_texts fields = (fields.0.now, fields.1.now, fields.2.now, fields.3.now)
 
-abbrev pub five_texts : Bor Field × Bor Field × Bor Field × Bor Field × Bor Field → Field × Field × Field × Field × Field
+abbrev pub five_texts : Bor Field × Bor Field × Bor Field × Bor Field × Bor Field
+    → Field × Field × Field × Field × Field
 five_texts fields = (fields.0.now, fields.1.now, fields.2.now, fields.3.now, fields.4.now)

@@ -23,7 +23,8 @@ one (Ok x) = Ok (x ∷ [])
 one (Err e) = Err e
 
 -- two lists read side by side: both in turn, or the fault of least rank
-abbrev pub both : {F A : Type 0} → (F → ℕ) → Result (List A) F → Result (List A) F → Result (List A) F
+abbrev pub both : {F A : Type 0} → (F → ℕ)
+    → Result (List A) F → Result (List A) F → Result (List A) F
 both rank (Ok xs) (Ok ys) = Ok (xs ++ ys)
 both rank (Ok xs) (Err e) = Err e
 both rank (Err e) (Ok ys) = Err e

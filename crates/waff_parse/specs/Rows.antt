@@ -1,9 +1,11 @@
 -- The records of bytes, as `csv` reads them.
-use Rattle.std.specs.Prelude.{◌≡◌, ◌+◌, ℕ, List, [], ◌∷◌, length, Bool, true, false, Option, Some, None, Result, Ok, Err}
+use Rattle.std.specs.Prelude.{◌≡◌, ◌+◌, ℕ, List, [], ◌∷◌, length, Bool, true, false, Option, Some}
+use Rattle.std.specs.Prelude.{None, Result, Ok, Err}
 use Rattle.std.specs.Borrow.{Bor}
 use Rattle.std.specs.List.{list_all}
 use Rattle.std.specs.Str.{is_utf8}
-use Rattle.csv.specs.Reading.{Ready, default_config, strip_bom, records, records_from, source_of, reader_config, reader_state, reader_trim, is_flexible, has_failed}
+use Rattle.csv.specs.Reading.{Ready, default_config, strip_bom, records, records_from, source_of}
+use Rattle.csv.specs.Reading.{reader_config, reader_state, reader_trim, is_flexible, has_failed}
 use Rattle.csv.specs.declared.error.ErrorKind.{ErrorKind}
 use Rattle.csv.specs.declared.error.ErrorKind.TheVariants as kind
 use Rattle.csv.specs.declared.parser.State.{State}
@@ -62,10 +64,11 @@ is_not_text (kind.Deserialize pos err) = false
 
 -- the records begin with one that is no text
 abbrev pub BeginsWithNoText : List Record → Type 0
-BeginsWithNoText left = (bad : Record) × (more : List Record) × (left ≡ bad ∷ more) × (is_text bad ≡ false)
+BeginsWithNoText left =
+    (bad : Record) × (more : List Record) × (left ≡ bad ∷ more) × (is_text bad ≡ false)
 
--- what a read gives is the first of the records, which is text, and leaves the others; no record where there is none;
--- a fault where the first is no text
+-- what a read gives is the first of the records, which is text, and leaves the others; no record
+-- where there is none; a fault where the first is no text
 abbrev pub GivesNext : Result Bool (Stop NotText) → List Record → Record → List Record → Type 0
 GivesNext (Ok true) left row others = (left ≡ row ∷ others) × (is_text row ≡ true)
 GivesNext (Ok false) left row others = left ≡ []

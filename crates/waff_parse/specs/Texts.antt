@@ -1,5 +1,6 @@
 -- Parts of texts, and numbers.
-use Rattle.std.specs.Prelude.{ℕ, ◌^◌, List, [], length, slice_index, Bool, not, ◌==◌, ◌&&◌, nat_lt, if◌then◌else◌, Option, Some, None, option_and_then}
+use Rattle.std.specs.Prelude.{ℕ, ◌^◌, List, [], length, slice_index, Bool, not, ◌==◌, ◌&&◌, nat_lt}
+use Rattle.std.specs.Prelude.{if◌then◌else◌, Option, Some, None, option_and_then}
 use Rattle.std.specs.Char.{is_ascii_digit}
 use Rattle.std.specs.List.{slice_split, list_all}
 use Rattle.std.specs.Str.Parse.{digits_value}
@@ -19,7 +20,8 @@ has_leading_zero text = nat_lt 1 (length text) && (slice_index text 0 == 48)
 
 -- a number: one digit or more, without a leading zero unless it is 0 itself
 abbrev pub is_number : List ℕ → Bool
-is_number text = not (length text == 0) && (not (has_leading_zero text) && list_all is_ascii_digit text)
+is_number text =
+    not (length text == 0) && (not (has_leading_zero text) && list_all is_ascii_digit text)
 
 -- the number that a text writes, of any length
 abbrev pub number_of : List ℕ → Option ℕ

@@ -3,7 +3,8 @@ use Rattle.std.specs.Prelude.{ℕ, List, [], ◌∷◌, ◌++◌, Result, Ok, Er
 use Rattle.waff_parse.specs.Refusals.{◌>>=◌, both, one}
 
 -- each item read in turn, by what came before it: the first fault counts
-unfoldable pub walk : {F A B S : Type 0} → (S → A → Result B F) → (S → A → S) → S → List A → Result (List B) F
+unfoldable pub walk : {F A B S : Type 0}
+    → (S → A → Result B F) → (S → A → S) → S → List A → Result (List B) F
 walk f next s [] = Ok []
 walk f next s (a ∷ more) = do
   b ← f s a

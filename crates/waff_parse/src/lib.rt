@@ -6,9 +6,10 @@
 //! - `rows`: records of CSV, one after the other, as text.
 //! - `fields`: records of a known number of fields.
 //!
-//! The words that contracts cite stand in `specs/`: `Stopping` (what an answer says of a reading), `Refusals`
-//! (readings one after the other and side by side), `Walks` (readings of lists), `Texts`, `Rows` and `Fields`. Laws of these
-//! for proofs above stand in `proofs/`: `Laws`, `TextLaws` and `RowLaws`.
+//! The words that contracts cite stand in `specs/`: `Stopping` (what an answer says of a reading),
+//! `Refusals` (readings one after the other and side by side), `Walks` (readings of lists),
+//! `Texts`, `Rows` and `Fields`. Laws of these for proofs above stand in `proofs/`: `Laws`,
+//! `TextLaws` and `RowLaws`.
 #![tactic(auto)]
 
 mod fields;

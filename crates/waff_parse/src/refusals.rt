@@ -41,7 +41,8 @@ pub fn keep_least<T: Drop, F: Ranked + Drop>(
     so_far: Result<Vec<T>, F>,
     one: Result<T, F>,
 ) -> Result<Result<Vec<T>, F>, AllocError>
-    ensures { IfOk result (λ r. refusals.items_of r ≡ refusals.both F.rank (refusals.items_of so_far) (refusals.one one)) }
+    ensures { IfOk result (λ r. refusals.items_of r
+        ≡ refusals.both F.rank (refusals.items_of so_far) (refusals.one one)) }
 {
     match (so_far, one) {
         (Ok(mut items), Ok(x)) => {

@@ -12,7 +12,8 @@ use std::alloc::Global;
 #[derive(Clone, Copy, Debug, PartialEq, Eq)]
 pub struct NotText;
 
-/// A reader of all records of these bytes, none of them a header row of its own, of any number of fields.
+/// A reader of all records of these bytes, none of them a header row of its own, of any number of
+/// fields.
 pub fn text_rows(alloc: Global, bytes: &[u8]) -> Reader<&[u8]>
     ensures reads { rows.Reads result }
     ensures left { rows.records_left result ≡ rows.records_of bytes.now }
@@ -41,7 +42,8 @@ fn is_not_text(kind: &ErrorKind) -> bool
 /// Reads the next record, if there is one. After an error the reader is of no further use.
 pub fn next_text(rdr: &mut Reader<&[u8]>, row: &mut StringRecord) -> Result<bool, Stop<NotText>>
     requires { rows.Reads rdr.old }
-    ensures next { rows.GivesNext result (rows.records_left rdr.old) (fields_of row.new) (rows.records_left rdr.new) }
+    ensures next { rows.GivesNext result (rows.records_left rdr.old)
+        (fields_of row.new) (rows.records_left rdr.new) }
     ensures reads { OnOk result (rows.Reads rdr.new) }
 {
     match rdr.read_record(row) {

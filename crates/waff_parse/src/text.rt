@@ -1,6 +1,7 @@
 //! Parts of a text, and numbers.
 
-ghost use Rattle.std.specs.Prelude.{ℕ, ◌≡◌, ◌==◌, position, ◌<◌, ◌≤◌, ◌∷◌, ◌+◌, ◌*◌, if◌then◌else◌, option_map, IfSome, Some, None};
+ghost use Rattle.std.specs.Prelude.{ℕ, ◌≡◌, ◌==◌, position, ◌<◌, ◌≤◌, ◌∷◌, ◌+◌, ◌*◌, if◌then◌else◌};
+ghost use Rattle.std.specs.Prelude.{option_map, IfSome, Some, None};
 ghost use Rattle.std.specs.Char.{is_ascii_digit};
 ghost use Rattle.std.specs.List.{list_all};
 ghost use Rattle.std.specs.Str.Parse.{digits_value};
@@ -13,10 +14,12 @@ fn place_of(bytes: &[u8], wanted: u8) -> Option<usize>
     bytes.iter().position(|byte| *byte == wanted)
 }
 
-/// The part of a text before the first `at`, an ASCII character, and the text after it, if it is there.
+/// The part of a text before the first `at`, an ASCII character, and the text after it, if it is
+/// there.
 pub fn cut(text: &str, at: char) -> (&str, Option<&str>)
     requires { at < 128 }
-    ensures { texts.parts at text.now ≡ result.0.now ∷ texts.parts_after at (option_map (λ s. s.now) result.1) }
+    ensures { texts.parts at text.now ≡ result.0.now
+        ∷ texts.parts_after at (option_map (λ s. s.now) result.1) }
 {
     match place_of(text.as_bytes(), at as u8) {
         Some(place) => (&text[..place], Some(&text[place + 1..])),
@@ -41,7 +44,8 @@ fn with_digit(value: Option<u64>, digit: u8) -> Option<u64>
 
 // The number that bytes write if each is a digit.
 fn digits_number(bytes: &[u8]) -> Option<Option<u64>>
-    ensures { result ≡ (if list_all is_ascii_digit bytes.now then Some (texts.small (digits_value 10 bytes.now)) else None) }
+    ensures { result ≡ (if list_all is_ascii_digit bytes.now then Some
+        (texts.small (digits_value 10 bytes.now)) else None) }
 {
     let mut value = Some(0);
     for byte in bytes {
@@ -53,7 +57,8 @@ fn digits_number(bytes: &[u8]) -> Option<Option<u64>>
     Some(value)
 }
 
-/// The number that a text writes: none where it is no number, and `Some(None)` where it is one of 2^64 or more.
+/// The number that a text writes: none where it is no number, and `Some(None)` where it is one of
+/// 2^64 or more.
 pub fn number(text: &str) -> Option<Option<u64>>
     ensures { result ≡ option_map texts.small (texts.number_of text.now) }
 {

@@ -1,4 +1,5 @@
--- The bound of Graham (1969) on the length of a plan for k workers, here with releases (own), and what follows from it.
+-- The bound of Graham (1969) on the length of a plan for k workers, here with releases (own), and
+-- what follows from it.
 use Rattle.std.specs.Prelude.{◌≡◌, ℕ, ◌+◌, ◌-◌, ◌*◌, ◌≤◌, List}
 use Rattle.waff_model.specs.declared.limits.TheConstants.{MAX_WORKERS}
 use Rattle.waff_plan.specs.Work.{Work, IsNumber, length_of, total_of}
@@ -16,7 +17,8 @@ left_side work k start = k * length_of work start
 
 -- the total, k times the release of a chain, and k - 1 times the cost of that chain
 abbrev pub right_side : Work → ℕ → List ℕ → ℕ
-right_side work k chain = total_of work + k * chain_release work chain + (k - 1) * chain_cost work chain
+right_side work k chain =
+    total_of work + k * chain_release work chain + (k - 1) * chain_cost work chain
 
 -- k workers need at most this long for the chain's release, the chain, and the rest of the work
 abbrev pub IsWithinBound : Work → ℕ → (ℕ → ℕ) → List ℕ → Type 0
@@ -25,12 +27,15 @@ IsWithinBound work k start chain = left_side work k start ≤ right_side work k 
 -- what is within the bound of some chain is at most twice as long as any worker plan
 abbrev pub BoundIsWithinTwice : (ℕ → ℕ → Type 0) → Work → Type 0
 BoundIsWithinTwice before work =
-    (k : ℕ) (start other : ℕ → ℕ) (chain : List ℕ) → IsChain before work chain → IsWithinBound work k start chain
+    (k : ℕ) (start other : ℕ → ℕ) (chain : List ℕ)
+    → IsChain before work chain → IsWithinBound work k start chain
     → IsWorkerPlan before work k other → k * length_of work start ≤ 2 * k * length_of work other
 
 -- and at most 2 - 1/k times as long where no message has a release
 abbrev pub BoundIsWithinRatio : (ℕ → ℕ → Type 0) → Work → Type 0
 BoundIsWithinRatio before work =
-    (k : ℕ) (start other : ℕ → ℕ) (chain : List ℕ) → 1 ≤ k → ((m : ℕ) → IsNumber work m → work.release m ≡ 0)
+    (k : ℕ) (start other : ℕ → ℕ) (chain : List ℕ)
+    → 1 ≤ k → ((m : ℕ) → IsNumber work m → work.release m ≡ 0)
     → IsChain before work chain → IsWithinBound work k start chain
-    → IsWorkerPlan before work k other → k * length_of work start ≤ (2 * k - 1) * length_of work other
+    → IsWorkerPlan before work k other
+    → k * length_of work start ≤ (2 * k - 1) * length_of work other

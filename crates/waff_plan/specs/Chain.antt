@@ -5,7 +5,8 @@ use Rattle.waff_plan.specs.Work.{Work, IsNumber, finish_of}
 -- m is before the first message of the list, that one before the second, and so on
 abbrev pub LinksOn : (ℕ → ℕ → Type 0) → Work → ℕ → List ℕ → Type 0
 LinksOn before work m [] = IsNumber work m
-LinksOn before work m (next ∷ rest) = IsNumber work m × before m next × LinksOn before work next rest
+LinksOn before work m (next ∷ rest) =
+    IsNumber work m × before m next × LinksOn before work next rest
 
 -- a chain: a list of messages in which each neighbouring pair is an ordered pair
 abbrev pub IsChain : (ℕ → ℕ → Type 0) → Work → List ℕ → Type 0
@@ -52,4 +53,5 @@ LeadsToEnd before work start m (next ∷ rest) =
 abbrev pub IsPrinted : (ℕ → ℕ → Type 0) → Work → (ℕ → ℕ) → List ℕ → Type 0
 IsPrinted before work start [] = work.count ≡ 0
 IsPrinted before work start (m ∷ rest) =
-    ((i : ℕ) → before i m → finish_of work start i ≤ work.release m) × LeadsToEnd before work start m rest
+    ((i : ℕ) → before i m → finish_of work start i ≤ work.release m)
+    × LeadsToEnd before work start m rest

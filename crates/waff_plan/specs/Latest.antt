@@ -1,5 +1,6 @@
 -- The latest of some messages, with its finish.
-use Rattle.std.specs.Prelude.{◌≡◌, ℕ, Bool, ◌&&◌, ◌||◌, ◌==◌, nat_lt, Option, Some, None, if◌then◌else◌}
+use Rattle.std.specs.Prelude.{◌≡◌, ℕ, Bool, ◌&&◌, ◌||◌, ◌==◌, nat_lt, Option, Some, None}
+use Rattle.std.specs.Prelude.{if◌then◌else◌}
 use Rattle.waff_plan.specs.Chain.{IsLatest}
 use Rattle.waff_plan.specs.declared.latest.Latest.{Latest}
 

@@ -32,7 +32,8 @@ PrintedIsAsLong before work =
 -- k workers do at most k ticks of work in each tick
 abbrev pub TotalIsWithinWorkers : (ℕ → ℕ → Type 0) → Work → Type 0
 TotalIsWithinWorkers before work =
-    (k : ℕ) (start : ℕ → ℕ) → IsWorkerPlan before work k start → total_of work ≤ k * length_of work start
+    (k : ℕ) (start : ℕ → ℕ) → IsWorkerPlan before work k start
+    → total_of work ≤ k * length_of work start
 
 -- the least plan under one order is no longer than the least plan under another
 abbrev pub LeastIsNoLonger : (ℕ → ℕ → Type 0) → (ℕ → ℕ → Type 0) → Work → Type 0
@@ -48,8 +49,10 @@ share_of total k = total / k + min 1 (total % k)
 abbrev pub least_for : ℕ → ℕ → ℕ → ℕ
 least_for k total length = max length (share_of total k)
 
--- no worker plan for k is shorter than the greater of the length of the least plan and the total over k, rounded up
+-- no worker plan for k is shorter than the greater of the length of the least plan and the total
+-- over k, rounded up
 abbrev pub NoneIsShorter : (ℕ → ℕ → Type 0) → Work → Type 0
 NoneIsShorter before work =
-    (k : ℕ) (start other : ℕ → ℕ) → 1 ≤ k → IsLeast before work start → IsWorkerPlan before work k other
+    (k : ℕ) (start other : ℕ → ℕ) → 1 ≤ k → IsLeast before work start
+    → IsWorkerPlan before work k other
     → least_for k (total_of work) (length_of work start) ≤ length_of work other

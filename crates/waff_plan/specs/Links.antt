@@ -1,5 +1,6 @@
 -- The links of a plan: for each message the one that its start waited for.
-use Rattle.std.specs.Prelude.{ℕ, ◌-◌, ◌<◌, ◌≤◌, List, Option, Some, None, MatchOption, nat_lt, slice_index_or, if◌then◌else◌}
+use Rattle.std.specs.Prelude.{ℕ, ◌-◌, ◌<◌, ◌≤◌, List, Option, Some, None, MatchOption, nat_lt}
+use Rattle.std.specs.Prelude.{slice_index_or, if◌then◌else◌}
 use Rattle.waff_plan.specs.Work.{Work, finish_of}
 use Rattle.waff_plan.specs.Chain.{IsLatest}
 use Rattle.waff_plan.specs.declared.latest.Latest.{Latest}
@@ -9,7 +10,8 @@ abbrev pub IsLink : (ℕ → ℕ → Type 0) → Work → (ℕ → ℕ) → ℕ 
 IsLink before work start m link =
     MatchOption link
     ((i : ℕ) → before i m → finish_of work start i ≤ work.release m)
-    (λ i. IsLatest (λ j. before j m) (finish_of work start) i × (work.release m < finish_of work start i))
+    (λ i. IsLatest (λ j. before j m) (finish_of work start) i
+    × (work.release m < finish_of work start i))
 
 -- the links of the first n messages
 abbrev pub AreLinks : (ℕ → ℕ → Type 0) → Work → (ℕ → ℕ) → ℕ → List (Option ℕ) → Type 0

@@ -27,4 +27,5 @@ pub record Obeys (before : ℕ → ℕ → Type 0) (work : Work) (start : ℕ �
 -- the least obeying plan: in each other one every message starts at the same tick or later
 pub record IsLeast (before : ℕ → ℕ → Type 0) (work : Work) (start : ℕ → ℕ) : Type 0 where
   pub obeys : Obeys before work start
-  pub least : (other : ℕ → ℕ) → Obeys before work other → (m : ℕ) → IsNumber work m → start m ≤ other m
+  pub least : (other : ℕ → ℕ) → Obeys before work other
+      → (m : ℕ) → IsNumber work m → start m ≤ other m

@@ -17,4 +17,5 @@ pub record IsTimetable (table : Timetable) : Type 0 where
 
 -- the timings of the messages of a trace
 abbrev pub timings_of : List Message → List Timing
-timings_of messages = map (λ message. record { cost = message.cost; release = message.release }) messages
+timings_of messages =
+    map (λ message. record { cost = message.cost; release = message.release }) messages

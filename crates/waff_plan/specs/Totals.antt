@@ -5,12 +5,14 @@ use Rattle.waff_plan.specs.Chain.{chain_cost, chain_release}
 use Rattle.waff_plan.specs.Work.{Work, length_of, total_of}
 use Rattle.waff_plan.specs.declared.totals.Totals.{Totals}
 
--- the two numbers that a summary compares. The left one is that of the bound for k workers, and without workers the length
+-- the two numbers that a summary compares. The left one is that of the bound for k workers, and
+-- without workers the length
 abbrev pub left_of : Option ℕ → Work → (ℕ → ℕ) → ℕ
 left_of None work start = length_of work start
 left_of (Some k) work start = left_side work k start
 
--- the right one is that of the bound for k workers, and without workers the release plus the cost of the chain
+-- the right one is that of the bound for k workers, and without workers the release plus the cost
+-- of the chain
 abbrev pub right_of : Option ℕ → Work → List ℕ → ℕ
 right_of None work chain = chain_release work chain + chain_cost work chain
 right_of (Some k) work chain = right_side work k chain

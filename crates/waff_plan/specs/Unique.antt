@@ -11,10 +11,12 @@ AreSame work one other = (m : ℕ) → IsNumber work m → one m ≡ other m
 -- two least plans start each message at the same tick
 abbrev pub LeastIsOne : (ℕ → ℕ → Type 0) → Work → Type 0
 LeastIsOne before work =
-    (start other : ℕ → ℕ) → IsLeast before work start → IsLeast before work other → AreSame work start other
+    (start other : ℕ → ℕ) → IsLeast before work start
+    → IsLeast before work other → AreSame work start other
 
 -- where two plans start each message at the same tick, their printed chains are equal
 abbrev pub PrintedIsOne : (ℕ → ℕ → Type 0) → Work → Type 0
 PrintedIsOne before work =
     (start other : ℕ → ℕ) (chain other_chain : List ℕ) → AreSame work start other
-    → IsPrinted before work start chain → IsPrinted before work other other_chain → chain ≡ other_chain
+    → IsPrinted before work start chain → IsPrinted before work other other_chain
+    → chain ≡ other_chain

@@ -12,6 +12,7 @@ abbrev pub running : Work → (ℕ → ℕ) → ℕ → ℕ
 running work start t = count_by (runs_at work start t) (numbers work)
 
 -- a worker plan for k: an obeying plan in which at each tick at most k messages run
-pub record IsWorkerPlan (before : ℕ → ℕ → Type 0) (work : Work) (k : ℕ) (start : ℕ → ℕ) : Type 0 where
+pub record IsWorkerPlan (before : ℕ → ℕ → Type 0) (work : Work) (k : ℕ) (start : ℕ
+    → ℕ) : Type 0 where
   pub obeys : Obeys before work start
   pub within : (t : ℕ) → running work start t ≤ k

@@ -6,7 +6,9 @@ ghost use Rattle.std.specs.Prelude.{◌≡◌, ℕ, List, length};
 ghost use Rattle.waff_model.specs.Tree.{Node};
 ghost use Rattle.waff_assign.specs.Order.{IsOrdered, Refines};
 ghost use Rattle.waff_plan.specs.Work.{Work};
-ghost use Rattle.waff_plan.specs.Laws.{ChainsAreWithinLength, LeastIsShortest, PrintedIsChain, PrintedIsAsLong, TotalIsWithinWorkers, NoneIsShorter, LeastIsNoLonger};
+ghost use Rattle.waff_plan.specs.Laws.{ChainsAreWithinLength, LeastIsShortest, PrintedIsChain};
+ghost use Rattle.waff_plan.specs.Laws.{PrintedIsAsLong, TotalIsWithinWorkers, NoneIsShorter};
+ghost use Rattle.waff_plan.specs.Laws.{LeastIsNoLonger};
 ghost use Rattle.waff_plan.specs.Bound.{BoundIsWithinTwice, BoundIsWithinRatio};
 
 /// The certificate: no obeying plan is shorter than the release plus the cost of any chain.
@@ -45,14 +47,17 @@ pub fn none_is_shorter()
         → NoneIsShorter (IsOrdered tree assigned) work }
 {}
 
-/// What is within the bound of a chain is at most twice as long as any worker plan for as many workers.
+/// What is within the bound of a chain is at most twice as long as any worker plan for as many
+/// workers.
 pub fn bound_is_within_twice()
-    ensures { (tree : List Node) (assigned : List ℕ) (work : Work) → BoundIsWithinTwice (IsOrdered tree assigned) work }
+    ensures { (tree : List Node) (assigned : List ℕ) (work : Work)
+        → BoundIsWithinTwice (IsOrdered tree assigned) work }
 {}
 
 /// Where no message has a release, it is at most 2 - 1/k times as long.
 pub fn bound_is_within_ratio()
-    ensures { (tree : List Node) (assigned : List ℕ) (work : Work) → BoundIsWithinRatio (IsOrdered tree assigned) work }
+    ensures { (tree : List Node) (assigned : List ℕ) (work : Work)
+        → BoundIsWithinRatio (IsOrdered tree assigned) work }
 {}
 
 /// Where one hierarchy refines another on a trace, its least plan is no longer than that of the

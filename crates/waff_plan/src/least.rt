@@ -44,7 +44,8 @@ pub(crate) fn least_starts(
 
 /// The start of a message with this timing, after the latest message that it waits for.
 fn start_after(latest: Option<Latest>, timing: Timing) -> u64
-    ensures start { MatchOption latest (result ≡ timing.release) (λ l. result ≡ max timing.release l.finish) }
+    ensures start { MatchOption latest (result ≡ timing.release) (λ l.
+        result ≡ max timing.release l.finish) }
     ensures release { timing.release < 2 ^ 32 }
     ensures cost { timing.cost < 2 ^ 32 }
 {

@@ -1,12 +1,15 @@
 //! The unlimited plan of a trace, its printed chain, and the laws of plans.
 //!
-//! A plan gives each message a start, in ticks; it obeys where a message starts when all earlier messages that exclude it have
-//! finished, and not before its release. The unlimited plan is the least that obeys, message by message. Its chain shows that no
-//! shorter plan obeys: messages that wait for one another, whose first release and costs add up to the length.
+//! A plan gives each message a start, in ticks; it obeys where a message starts when all earlier
+//! messages that exclude it have finished, and not before its release. The unlimited plan is the
+//! least that obeys, message by message. Its chain shows that no shorter plan obeys: messages that
+//! wait for one another, whose first release and costs add up to the length.
 //! - `timing`, `timetable`: costs and releases; plans.
 //! - `unlimited`, over `least` and `latest`: the unlimited plan.
-//! - `table`, over `spread` and `standing`: the latest message that excludes another, by places in preorder.
-//! - `printed`, over `links` and `linked`: the printed chain; `totals`: what the summary of a plan tells.
+//! - `table`, over `spread` and `standing`: the latest message that excludes another, by places in
+//! preorder.
+//! - `printed`, over `links` and `linked`: the printed chain; `totals`: what the summary of a plan
+//! tells.
 //! - `ordered`: whether a plan keeps the order of the messages.
 //! - `laws`: what holds of all plans; `unique`: that the definitions leave no choice.
 #![tactic(auto)]

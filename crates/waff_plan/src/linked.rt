@@ -17,7 +17,11 @@ impl Model for Chain {
 
     ghost Value = { CostedChain };
 
-    ghost view = { λ c. record { messages = c.messages.items; cost = c.cost; release = c.release } };
+    ghost view = { λ c. record {
+      messages = c.messages.items;
+      cost = c.cost;
+      release = c.release;
+    } };
 }
 
 impl Chain {

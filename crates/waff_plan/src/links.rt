@@ -28,7 +28,8 @@ pub(crate) fn links(
     ensures count { IfOk result (λ links. length links.items ≡ length plan.now.timings) }
     ensures few { OnOk result (length plan.now.timings ≤ MAX_MESSAGES) }
     ensures links { IfOk result (λ links. AreLinks (IsOrdered tree.now assigned.now)
-        (work_of plan.now.timings) (start_of plan.now.starts) (length plan.now.timings) links.items) }
+        (work_of plan.now.timings) (start_of plan.now.starts)
+        (length plan.now.timings) links.items) }
 {
     let places = tree.places();
     let mut table = Table::new(alloc, tree.len() as usize)?;
@@ -56,7 +57,8 @@ fn waited_for(latest: Option<Latest>, release: u64) -> Option<u32>
 /// The latest message of the plan.
 pub(crate) fn last(plan: &Plan) -> Option<u32>
     ensures { MatchOption result (length plan.now.timings ≡ 0)
-        (IsLatest (IsNumber (work_of plan.now.timings)) (finish_of (work_of plan.now.timings) (start_of plan.now.starts))) }
+        (IsLatest (IsNumber (work_of plan.now.timings))
+        (finish_of (work_of plan.now.timings) (start_of plan.now.starts))) }
 {
     let mut last = None;
     for m in 1..plan.len() + 1 {

@@ -23,7 +23,8 @@ pub fn keeps_order(
 ) -> Result<bool, AllocError>
     requires lengths { length plan.now.timings ≡ length assigned.now }
     requires known { All (λ a. a < length tree.now) assigned.now }
-    ensures { IfOk result (λ kept. IsTrue kept ↔ KeepsOrder (IsAmong count (IsOrdered tree.now assigned.now))
+    ensures { IfOk result (λ kept. IsTrue kept
+        ↔ KeepsOrder (IsAmong count (IsOrdered tree.now assigned.now))
         (work_of plan.now.timings) (start_of plan.now.starts)) }
 {
     let places = tree.places();

@@ -28,16 +28,19 @@ pub fn chain(
     requires known { All (λ a. a < length tree.now) assigned.now }
     ensures printed { IfOk result (λ chain. IsPrinted (IsOrdered tree.now assigned.now)
         (work_of plan.now.timings) (start_of plan.now.starts) chain.messages) }
-    ensures chain { IfOk result (λ chain. IsChain (IsOrdered tree.now assigned.now) (work_of plan.now.timings)
+    ensures chain { IfOk result (λ chain.
+        IsChain (IsOrdered tree.now assigned.now) (work_of plan.now.timings)
         chain.messages) }
     ensures listed { IfOk result (λ chain. IsListed (length plan.now.timings) chain.messages) }
-    ensures cost { IfOk result (λ chain. chain.cost ≡ chain_cost (work_of plan.now.timings) chain.messages) }
+    ensures cost { IfOk result (λ chain.
+        chain.cost ≡ chain_cost (work_of plan.now.timings) chain.messages) }
     ensures release { IfOk result (λ chain.
         chain.release ≡ chain_release (work_of plan.now.timings) chain.messages) }
 
     // The certificate of the unlimited plan.
     ensures as_long { IfOk result (λ chain.
-        IsLeast (IsOrdered tree.now assigned.now) (work_of plan.now.timings) (start_of plan.now.starts)
+        IsLeast (IsOrdered tree.now assigned.now)
+        (work_of plan.now.timings) (start_of plan.now.starts)
         → chain.release + chain.cost
         ≡ length_of (work_of plan.now.timings) (start_of plan.now.starts)) }
 {

@@ -20,7 +20,8 @@ impl Spread {
     /// Nothing is noted at these many places.
     pub fn none(alloc: Global, count: usize) -> Result<Self, AllocError>
         ensures cut { IfOk result (λ spread. AreCut count spread.places.items spread.blocks.items) }
-        ensures none { IfOk result (λ spread. (p : ℕ) → noted_at spread.places.items spread.blocks.items p ≡ None) }
+        ensures none { IfOk result (λ spread. (p : ℕ)
+            → noted_at spread.places.items spread.blocks.items p ≡ None) }
     {
         Ok(Spread {
             places: vec![in alloc; None; count]?,
@@ -44,7 +45,8 @@ impl Spread {
         requires room { length self.old.places.items ≤ 64 * length self.old.blocks.items }
         ensures places { length self.new.places.items ≡ length self.old.places.items }
         ensures blocks { length self.new.blocks.items ≡ length self.old.blocks.items }
-        ensures noted { IsNoted from to message self.old.places.items self.old.blocks.items self.new.places.items self.new.blocks.items }
+        ensures noted { IsNoted from to message self.old.places.items
+            self.old.blocks.items self.new.places.items self.new.blocks.items }
     {
         let (first, last) = (from.div_ceil(BLOCK), to / BLOCK);
         if last <= first {
@@ -76,7 +78,8 @@ impl Spread {
         requires within { to ≤ length self.old.places.items }
         ensures places { length self.new.places.items ≡ length self.old.places.items }
         ensures blocks { length self.new.blocks.items ≡ length self.old.blocks.items }
-        ensures noted { IsNoted from to message self.old.places.items self.old.blocks.items self.new.places.items self.new.blocks.items }
+        ensures noted { IsNoted from to message self.old.places.items
+            self.old.blocks.items self.new.places.items self.new.blocks.items }
     {
         for place in from..to {
             self.places[place] = later(self.places[place], Some(message));

@@ -18,7 +18,8 @@ pub(crate) struct Standing {
 impl Standing {
     /// No message stands at these many places.
     pub fn none(alloc: Global, count: usize) -> Result<Self, AllocError>
-        ensures cut { IfOk result (λ standing. AreCut count standing.places.items standing.blocks.items) }
+        ensures cut { IfOk result (λ standing.
+            AreCut count standing.places.items standing.blocks.items) }
         ensures standing { IfOk result (λ standing. (stands finish : ℕ → ℕ)
             → AreStanding 0 stands finish standing.places.items standing.blocks.items) }
     {
@@ -34,7 +35,8 @@ impl Standing {
         requires room { length self.old.places.items ≤ 64 * length self.old.blocks.items }
         ensures places { length self.new.places.items ≡ length self.old.places.items }
         ensures blocks { length self.new.blocks.items ≡ length self.old.blocks.items }
-        ensures standing { (n : ℕ) (stands finish : ℕ → ℕ) → AreStanding n stands finish self.old.places.items self.old.blocks.items
+        ensures standing { (n : ℕ) (stands finish : ℕ → ℕ)
+            → AreStanding n stands finish self.old.places.items self.old.blocks.items
             → message.number ≡ n + 1 → stands (n + 1) ≡ place → finish (n + 1) ≡ message.finish
             → AreStanding (n + 1) stands finish self.new.places.items self.new.blocks.items }
     {
@@ -48,7 +50,8 @@ impl Standing {
         requires forward { from ≤ to }
         requires within { to ≤ length self.now.places.items }
         requires room { length self.now.places.items ≤ 64 * length self.now.blocks.items }
-        ensures { (n : ℕ) (stands finish : ℕ → ℕ) → AreStanding n stands finish self.now.places.items self.now.blocks.items
+        ensures { (n : ℕ) (stands finish : ℕ → ℕ)
+            → AreStanding n stands finish self.now.places.items self.now.blocks.items
             → IsLatestAt n stands finish from to result }
     {
         let (first, last) = (from.div_ceil(BLOCK), to / BLOCK);
@@ -80,7 +83,8 @@ impl Standing {
     fn latest_part(&self, from: usize, to: usize) -> Option<Latest>
         requires forward { from ≤ to }
         requires within { to ≤ length self.now.places.items }
-        ensures { (n : ℕ) (stands finish : ℕ → ℕ) → AreStanding n stands finish self.now.places.items self.now.blocks.items
+        ensures { (n : ℕ) (stands finish : ℕ → ℕ)
+            → AreStanding n stands finish self.now.places.items self.now.blocks.items
             → IsLatestAt n stands finish from to result }
     {
         let mut latest = None;

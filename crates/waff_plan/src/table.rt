@@ -10,8 +10,8 @@ use crate::standing::Standing;
 use std::alloc::{AllocError, Global};
 use waff_model::Place;
 
-/// The messages so far. One whose affinity is at or above another's is noted at the place of that one, and one whose affinity is
-/// at or below it stands at one of its places.
+/// The messages so far. One whose affinity is at or above another's is noted at the place of that
+/// one, and one whose affinity is at or below it stands at one of its places.
 #[derive(Drop)]
 pub(crate) struct Table {
     own: Standing,
@@ -22,7 +22,8 @@ impl Table {
     /// The table of no message, for these many places.
     pub fn new(alloc: Global, count: usize) -> Result<Self, AllocError>
         ensures places { IfOk result (λ table. HasPlaces count table) }
-        ensures table { IfOk result (λ table. (places : List Place) (assigned : List ℕ) (finish : ℕ → ℕ)
+        ensures table { IfOk result (λ table.
+            (places : List Place) (assigned : List ℕ) (finish : ℕ → ℕ)
             → IsTable places assigned finish 0 table) }
     {
         Ok(Table {
@@ -36,7 +37,8 @@ impl Table {
         requires forward { place.first < place.end }
         requires within { place.end ≤ length self.now.own.places.items }
         requires places { HasPlaces (length self.now.own.places.items) self.now }
-        ensures { (places : List Place) (assigned : List ℕ) (finish : ℕ → ℕ) (n : ℕ) → IsTable places assigned finish n self.now
+        ensures { (places : List Place) (assigned : List ℕ) (finish : ℕ → ℕ) (n : ℕ)
+            → IsTable places assigned finish n self.now
             → IsLatestMeeting places assigned finish n place result }
     {
         let (first, end) = (place.first as usize, place.end as usize);
@@ -49,8 +51,10 @@ impl Table {
         requires within { place.end ≤ length self.old.own.places.items }
         requires places { HasPlaces (length self.old.own.places.items) self.old }
         ensures places { HasPlaces (length self.old.own.places.items) self.new }
-        ensures table { (places : List Place) (assigned : List ℕ) (finish : ℕ → ℕ) (n : ℕ) → IsTable places assigned finish n self.old
-            → message.number ≡ n + 1 → message_place places assigned (n + 1) ≡ place → finish (n + 1) ≡ message.finish
+        ensures table { (places : List Place) (assigned : List ℕ) (finish : ℕ → ℕ) (n : ℕ)
+            → IsTable places assigned finish n self.old
+            → message.number ≡ n + 1 → message_place places assigned (n + 1) ≡ place
+            → finish (n + 1) ≡ message.finish
             → IsTable places assigned finish (n + 1) self.new }
     {
         let (first, end) = (place.first as usize, place.end as usize);

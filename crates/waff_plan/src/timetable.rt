@@ -25,7 +25,8 @@ impl Model for Plan {
 
     ghost view = { λ p. record { timings = p.timings.items; starts = p.starts.items } };
 
-    ghost invariant = { λ p. IsTimetable (record { timings = p.timings.items; starts = p.starts.items }) };
+    ghost invariant = { λ p.
+        IsTimetable (record { timings = p.timings.items; starts = p.starts.items }) };
 }
 
 impl Plan {
@@ -74,7 +75,8 @@ impl Plan {
     pub fn finish(&self, n: u32) -> u64
         requires from { 1 ≤ n }
         requires to { n ≤ length self.now.timings }
-        ensures finish { result ≡ finish_of (work_of self.now.timings) (start_of self.now.starts) n }
+        ensures finish { result
+            ≡ finish_of (work_of self.now.timings) (start_of self.now.starts) n }
         ensures small { result < MAX_TICK + 2 ^ 32 }
     {
         self.start(n) + self.cost(n)

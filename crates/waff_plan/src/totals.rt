@@ -28,7 +28,8 @@ impl Plan {
     pub fn totals(&self, workers: Option<u32>, chain: &[u32]) -> Totals
         requires workers { IfSome workers IsWorkers }
         requires listed { IsListed (length self.now.timings) chain.now }
-        ensures totals { result ≡ totals_of workers (work_of self.now.timings) (start_of self.now.starts) chain.now }
+        ensures totals { result
+            ≡ totals_of workers (work_of self.now.timings) (start_of self.now.starts) chain.now }
         ensures small { result.release + result.cost < 2 ^ 49 }
     {
         let total = self.total();

@@ -1,6 +1,6 @@
-//! That the definitions leave no choice. Each law is a function that does nothing and whose contract
-//! is the law, for the ordered pairs of a tree of affinities and the affinities assigned to the
-//! messages.
+//! That the definitions leave no choice. Each law is a function that does nothing and whose
+//! contract is the law, for the ordered pairs of a tree of affinities and the affinities assigned
+//! to the messages.
 
 ghost use Rattle.std.specs.Prelude.{◌≡◌, ℕ, List, length};
 ghost use Rattle.waff_model.specs.Tree.{Node};
@@ -16,6 +16,7 @@ pub fn least_is_one()
 
 /// A plan has one printed chain.
 pub fn printed_is_one()
-    ensures equal { (tree : List Node) (assigned : List ℕ) (work : Work) → length assigned ≡ work.count
+    ensures equal { (tree : List Node) (assigned : List ℕ) (work : Work)
+        → length assigned ≡ work.count
         → PrintedIsOne (IsOrdered tree assigned) work }
 {}

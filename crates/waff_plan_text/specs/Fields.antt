@@ -1,5 +1,6 @@
 -- Fields of a plan text.
-use Rattle.std.specs.Prelude.{ℕ, Bool, ◌||◌, if◌then◌else◌, Option, Some, None, ok_or, is_some, Result, Ok, codes}
+use Rattle.std.specs.Prelude.{ℕ, Bool, ◌||◌, if◌then◌else◌, Option, Some, None, ok_or, is_some}
+use Rattle.std.specs.Prelude.{Result, Ok, codes}
 use Rattle.std.specs.Str.{bytes_eq}
 use Rattle.waff_parse.specs.Fields.{Field}
 use Rattle.waff_parse.specs.Refusals.{◌>>=◌}

@@ -1,5 +1,6 @@
 -- A plan that a text gives.
-use Rattle.std.specs.Prelude.{ℕ, ◌-◌, ◌^◌, ◌<◌, List, [], length, slice_index_or, All, Option, None, IfSome}
+use Rattle.std.specs.Prelude.{ℕ, ◌-◌, ◌^◌, ◌<◌, List, [], length, slice_index_or, All, Option, None}
+use Rattle.std.specs.Prelude.{IfSome}
 use Rattle.waff_model.specs.declared.message.Version.{Version}
 use Rattle.waff_plan.specs.Bound.{IsWorkers}
 use Rattle.waff_plan.specs.Chain.{IsListed}

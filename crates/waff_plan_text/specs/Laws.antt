@@ -28,11 +28,13 @@ row_told tree assigned work start worker n = record {
 }
 
 -- the plan that its lines tell
-abbrev pub plan_told : Version → List Node → List ℕ → Work → Option ℕ → (ℕ → ℕ) → (ℕ → Option ℕ) → List ℕ → Given
+abbrev pub plan_told : Version → List Node
+    → List ℕ → Work → Option ℕ → (ℕ → ℕ) → (ℕ → Option ℕ) → List ℕ → Given
 plan_told version tree assigned work workers start worker chain = record {
   version = version;
   rows = map (row_told tree assigned work start worker) (numbers work);
-  summary = record { workers = workers; chain = chain; totals = totals_of workers work start chain };
+  summary =
+      record { workers = workers; chain = chain; totals = totals_of workers work start chain };
 }
 
 -- a row that a text can tell: its name is one, and its numbers are within the limit
@@ -52,7 +54,8 @@ pub record AreTotals (version : Version) (totals : Totals) : Type 0 where
   pub no_release : version ≡ V1 → totals.release ≡ 0
 
 -- a plan that a text can tell
-pub record IsTellable (version : Version) (tree : List Node) (assigned : List ℕ) (work : Work) (workers : Option ℕ) (start : ℕ → ℕ)
+pub record IsTellable (version : Version)
+    (tree : List Node) (assigned : List ℕ) (work : Work) (workers : Option ℕ) (start : ℕ → ℕ)
     (worker : ℕ → Option ℕ) (chain : List ℕ) : Type 0 where
   pub few : work.count ≤ MAX_MESSAGES
   pub rows : (n : ℕ) → IsNumber work n → IsRow (row_told tree assigned work start worker n)
@@ -61,8 +64,10 @@ pub record IsTellable (version : Version) (tree : List Node) (assigned : List �
   pub totals : AreTotals version (totals_of workers work start chain)
 
 -- from the lines of a plan that a text can tell that plan is read
-abbrev pub WrittenIsRead : Version → List Node → List ℕ → Work → Option ℕ → (ℕ → ℕ) → (ℕ → Option ℕ) → List ℕ → Type 0
+abbrev pub WrittenIsRead : Version → List Node
+    → List ℕ → Work → Option ℕ → (ℕ → ℕ) → (ℕ → Option ℕ) → List ℕ → Type 0
 WrittenIsRead version tree assigned work workers start worker chain =
     IsTellable version tree assigned work workers start worker chain
-    → plan_of version work.count (text_of (plan_lines version tree assigned work workers start worker chain))
+    → plan_of version work.count
+    (text_of (plan_lines version tree assigned work workers start worker chain))
     ≡ Ok (plan_told version tree assigned work workers start worker chain)

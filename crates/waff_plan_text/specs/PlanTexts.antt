@@ -1,5 +1,7 @@
 -- Texts of plans.
-use Rattle.std.specs.Prelude.{ℕ, ◌+◌, Bool, false, ◌&&◌, if◌then◌else◌, List, [], ◌∷◌, replicate, Option, Some, None, ok_or, Result, Ok, Err, slice_set, ◌-◌, ◌≡◌, codes, drop}
+use Rattle.std.specs.Prelude.{ℕ, ◌+◌, Bool, false, ◌&&◌, if◌then◌else◌, List, [], ◌∷◌, replicate}
+use Rattle.std.specs.Prelude.{Option, Some, None, ok_or, Result, Ok, Err, slice_set, ◌-◌, ◌≡◌}
+use Rattle.std.specs.Prelude.{codes, drop}
 use Rattle.std.specs.Str.{bytes_eq}
 use Rattle.waff_model.specs.declared.message.Version.{Version}
 use Rattle.waff_parse.specs.Fields.{Field, five_of}
@@ -20,13 +22,15 @@ abbrev pub is_header : Option (Field × Field × Field × Field × Field) → Bo
 is_header None = false
 is_header (Some f) =
     bytes_eq f.0 (codes "message")
-    && (bytes_eq f.1 (codes "affinity") && (bytes_eq f.2 (codes "start") && (bytes_eq f.3 (codes "finish") && bytes_eq f.4 (codes "worker"))))
+    && (bytes_eq f.1 (codes "affinity") && (bytes_eq f.2 (codes "start")
+    && (bytes_eq f.3 (codes "finish") && bytes_eq f.4 (codes "worker"))))
 
 -- the first of the records is the header
 abbrev pub header_of : List Record → Result (Unit {0}) PlanTextError
 header_of [] = Err (error.Header 1)
 header_of (header ∷ rows) =
-    if is_text header then (if is_header (five_of header) then Ok tt else Err (error.Header 1)) else Err (error.Csv 1)
+    if is_text header then
+    (if is_header (five_of header) then Ok tt else Err (error.Header 1)) else Err (error.Csv 1)
 
 -- a row, which the message after this many has to have had
 abbrev pub row_in : ℕ → Option Row → Result Row PlanTextError
@@ -50,22 +54,26 @@ plan_of_summary version messages at slots records = do
   summary ← summary_of version messages at records
   Ok (record { version = version; rows = rows; summary = summary })
 
--- the plan of no record more, of which this would be the number: a row is missing, or else the summary
+-- the plan of no record more, of which this would be the number: a row is missing, or else the
+-- summary
 unfoldable pub plan_of_end : ℕ → Slots → Result Given PlanTextError
 plan_of_end at slots = rows_in slots >>= (λ _. Err (error.Summary at))
 
--- the plan of records after the rows so far, the first of which has this number: rows, and then the summary
+-- the plan of records after the rows so far, the first of which has this number: rows, and then the
+-- summary
 unfoldable pub plan_after : Version → ℕ → ℕ → Slots → List Record → Result Given PlanTextError
 plan_after version messages at slots [] = plan_of_end at slots
 plan_after version messages at slots (first ∷ more) =
     if is_text first then (
     if begins_summary first then plan_of_summary version messages at slots (first ∷ more)
-    else (told (at_record at) (row_of slots first) >>= (λ given. plan_after version messages (at + 1) (put slots given) more)))
+    else (told (at_record at) (row_of slots first) >>= (λ given.
+    plan_after version messages (at + 1) (put slots given) more)))
     else Err (error.Csv at)
 
 -- the plan of records after the header
 abbrev pub plan_of_rows : Version → ℕ → List Record → Result Given PlanTextError
-plan_of_rows version messages records = plan_after version messages 2 (replicate messages None) records
+plan_of_rows version messages records =
+    plan_after version messages 2 (replicate messages None) records
 
 -- the plan of records: the header, a row for each message, and the summary
 unfoldable pub plan_of_records : Version → ℕ → List Record → Result Given PlanTextError

@@ -8,11 +8,13 @@ use Rattle.waff_plan_text.specs.declared.refusal.PlanTextError.TheVariants as er
 
 -- the records begin with one that is no text, and the error tells so
 abbrev pub TellsNoText : ℕ → PlanTextError → List Record → Type 0
-TellsNoText at e left = (bad : Record) × (more : List Record) × (left ≡ bad ∷ more) × (is_text bad ≡ false) × (e ≡ error.Csv at)
+TellsNoText at e left = (bad : Record) × (more : List Record)
+    × (left ≡ bad ∷ more) × (is_text bad ≡ false) × (e ≡ error.Csv at)
 
--- what a read gives is the first of the records, which is text, and leaves the others; no record where there is none;
--- an error where the first is no text
-abbrev pub GivesRecord : ℕ → Result Bool (Stop PlanTextError) → List Record → Record → List Record → Type 0
+-- what a read gives is the first of the records, which is text, and leaves the others; no record
+-- where there is none; an error where the first is no text
+abbrev pub GivesRecord : ℕ → Result Bool (Stop PlanTextError)
+    → List Record → Record → List Record → Type 0
 GivesRecord at (Ok true) left row others = (left ≡ row ∷ others) × (is_text row ≡ true)
 GivesRecord at (Ok false) left row others = left ≡ []
 GivesRecord at (Err stop.Memory) left row others = Unit {0}
@@ -23,7 +25,8 @@ abbrev pub TellsNoLine : ℕ → PlanTextError → List Record → Type 0
 TellsNoLine at e left = (left ≡ []) × (e ≡ error.Summary at)
 
 -- the same where a record has to be there
-abbrev pub GivesLine : ℕ → Result (Unit {0}) (Stop PlanTextError) → List Record → Record → List Record → Type 0
+abbrev pub GivesLine : ℕ → Result (Unit {0}) (Stop PlanTextError)
+    → List Record → Record → List Record → Type 0
 GivesLine at (Ok done) left row others = (left ≡ row ∷ others) × (is_text row ≡ true)
 GivesLine at (Err stop.Memory) left row others = Unit {0}
 GivesLine at (Err (stop.Fault e)) left row others = TellsNoText at e left ⊎ TellsNoLine at e left

@@ -1,5 +1,8 @@
--- What the text of a plan is refused for, in the words of the format. Records here are those after the header.
-use Rattle.std.specs.Prelude.{◌≡◌, ◌↔◌, ◌⊎◌, ℕ, ◌+◌, ◌<◌, ◌≤◌, true, false, if◌then◌else◌, List, [], ◌∷◌, ◌++◌, drop, length, take, Contains, Option, Some, None, IfSome, IsSome, Result, Ok, Err, slice_get, codes}
+-- What the text of a plan is refused for, in the words of the format. Records here are those after
+-- the header.
+use Rattle.std.specs.Prelude.{◌≡◌, ◌↔◌, ◌⊎◌, ℕ, ◌+◌, ◌<◌, ◌≤◌, true, false, if◌then◌else◌, List, []}
+use Rattle.std.specs.Prelude.{◌∷◌, ◌++◌, drop, length, take, Contains, Option, Some, None, IfSome}
+use Rattle.std.specs.Prelude.{IsSome, Result, Ok, Err, slice_get, codes}
 use Rattle.waff_model.specs.Names.{is_name}
 use Rattle.waff_model.specs.declared.limits.TheConstants.{MAX_TICK}
 use Rattle.waff_model.specs.declared.message.Version.{Version}
@@ -9,7 +12,8 @@ use Rattle.waff_parse.specs.Rows.{Record, is_text, records_of}
 use Rattle.waff_parse.specs.Texts.{number_of}
 use Rattle.waff_plan_text.specs.PlanTexts.{header_of, plan_of}
 use Rattle.waff_plan_text.specs.Rows.{IsWithinLimit}
-use Rattle.waff_plan_text.specs.Summaries.{begins_summary, bound_line, chain_line, tick_line, workers_line}
+use Rattle.waff_plan_text.specs.Summaries.{begins_summary, bound_line, chain_line, tick_line}
+use Rattle.waff_plan_text.specs.Summaries.{workers_line}
 use Rattle.waff_plan_text.specs.declared.refusal.PlanTextError.{PlanTextError}
 use Rattle.waff_plan_text.specs.declared.refusal.PlanTextError.TheVariants as error
 use Rattle.waff_plan_text.specs.declared.refusal.Refusal.{Refusal}
@@ -22,7 +26,8 @@ IsWorkerField text None = text ≡ codes "-"
 IsWorkerField text (Some worker) = number_of text ≡ Some worker
 
 -- five fields are a row of message n of as many messages, which says this, in numbers of any length
-pub record SpellsRow (messages : ℕ) (number_text name start_text finish_text worker_text : Field) (n : ℕ) (row : Row) : Type 0 where
+pub record SpellsRow (messages : ℕ) (number_text name start_text finish_text worker_text : Field)
+    (n : ℕ) (row : Row) : Type 0 where
   pub number : number_of number_text ≡ Some n
   pub from : 1 ≤ n
   pub to : n ≤ messages
@@ -47,7 +52,8 @@ pub record HasSmallNumbers (row : Row) : Type 0 where
 
 -- one of the records is a row of message n
 abbrev pub HasRow : ℕ → List Record → ℕ → Type 0
-HasRow messages records n = (fields : Record) × (row : Row) × Contains records fields × IsRowOf messages fields n row
+HasRow messages records n =
+    (fields : Record) × (row : Row) × Contains records fields × IsRowOf messages fields n row
 
 -- the least message without a row
 pub record IsMissing (messages : ℕ) (records : List Record) (message : ℕ) : Type 0 where
@@ -84,9 +90,11 @@ bound row = refusal_of (bound_line row)
 
 -- the lines of a summary in their order
 abbrev pub lines_of : Version → ℕ → List Line
-lines_of V1 messages = workers ∷ tick (codes "total") ∷ tick (codes "length") ∷ chain messages ∷ tick (codes "cost") ∷ bound ∷ []
+lines_of V1 messages = workers ∷ tick (codes "total")
+    ∷ tick (codes "length") ∷ chain messages ∷ tick (codes "cost") ∷ bound ∷ []
 lines_of V2 messages =
-    workers ∷ tick (codes "total") ∷ tick (codes "length") ∷ chain messages ∷ tick (codes "release") ∷ tick (codes "cost") ∷ bound ∷ []
+    workers ∷ tick (codes "total") ∷ tick (codes "length")
+    ∷ chain messages ∷ tick (codes "release") ∷ tick (codes "cost") ∷ bound ∷ []
 
 -- the line that comes next after these records, if the summary has one more
 abbrev pub next_of : Version → ℕ → List Record → Option Line
@@ -99,7 +107,8 @@ IsAmongRows before fields = summary_in (before ++ fields ∷ []) ≡ []
 abbrev pub IsInSummary : List Record → Record → Type 0
 IsInSummary before fields = 1 ≤ length (summary_in (before ++ fields ∷ []))
 
--- a record is refused for this by the line that it has to be; where no line is left it is one too many
+-- a record is refused for this by the line that it has to be; where no line is left it is one too
+-- many
 abbrev pub IsNotLine : Option Line → Record → Type 0
 IsNotLine None fields = Unit {0}
 IsNotLine (Some line) fields = line fields ≡ Some refusal.Summary
@@ -110,7 +119,8 @@ IsTooLargeLine (Some line) fields = line fields ≡ Some refusal.TooLarge
 
 -- a record is a row of a message, with a number above the limit
 abbrev pub IsTooLargeRow : ℕ → Record → Type 0
-IsTooLargeRow messages fields = (n : ℕ) × (row : Row) × IsRowOf messages fields n row × (HasSmallNumbers row → ⊥)
+IsTooLargeRow messages fields =
+    (n : ℕ) × (row : Row) × IsRowOf messages fields n row × (HasSmallNumbers row → ⊥)
 
 -- the number of the record behind these; the header has number 1
 abbrev pub number_behind : List Record → ℕ
@@ -118,31 +128,37 @@ number_behind before = length before + 2
 
 -- the check of this error holds of a record behind these
 abbrev pub HoldsOf : Version → ℕ → List Record → Record → PlanTextError → Type 0
-HoldsOf version messages before fields (error.Csv at) = (at ≡ number_behind before) × (is_text fields ≡ false)
+HoldsOf version messages before fields (error.Csv at) =
+    (at ≡ number_behind before) × (is_text fields ≡ false)
 HoldsOf version messages before fields (error.Header at) = ⊥
 HoldsOf version messages before fields (error.Row at) =
-    (at ≡ number_behind before) × IsAmongRows before fields × ((n : ℕ) (row : Row) → IsRowOf messages fields n row → ⊥)
+    (at ≡ number_behind before) × IsAmongRows before fields
+    × ((n : ℕ) (row : Row) → IsRowOf messages fields n row → ⊥)
 HoldsOf version messages before fields (error.Missing message) =
     (summary_in before ≡ []) × (begins_summary fields ≡ true) × IsMissing messages before message
 HoldsOf version messages before fields (error.Twice at) =
     (at ≡ number_behind before) × IsAmongRows before fields
     × ((n : ℕ) × (row : Row) × IsRowOf messages fields n row × HasRow messages before n)
 HoldsOf version messages before fields (error.Summary at) =
-    (at ≡ number_behind before) × IsInSummary before fields × IsNotLine (next_of version messages before) fields
+    (at ≡ number_behind before) × IsInSummary before fields
+    × IsNotLine (next_of version messages before) fields
 HoldsOf version messages before fields (error.TooLarge at) =
     (at ≡ number_behind before)
     × ((IsAmongRows before fields × IsTooLargeRow messages fields)
     ⊎ (IsInSummary before fields × IsTooLargeLine (next_of version messages before) fields))
 HoldsOf version messages before fields error.Memory = ⊥
 
--- and of the end behind these records, which counts as one more record: a row is missing, or a line of the summary
+-- and of the end behind these records, which counts as one more record: a row is missing, or a line
+-- of the summary
 abbrev pub HoldsAtEnd : Version → ℕ → List Record → PlanTextError → Type 0
 HoldsAtEnd version messages before (error.Csv at) = ⊥
 HoldsAtEnd version messages before (error.Header at) = ⊥
 HoldsAtEnd version messages before (error.Row at) = ⊥
-HoldsAtEnd version messages before (error.Missing message) = (summary_in before ≡ []) × IsMissing messages before message
+HoldsAtEnd version messages before (error.Missing message) =
+    (summary_in before ≡ []) × IsMissing messages before message
 HoldsAtEnd version messages before (error.Twice at) = ⊥
-HoldsAtEnd version messages before (error.Summary at) = (at ≡ number_behind before) × IsSome (next_of version messages before)
+HoldsAtEnd version messages before (error.Summary at) =
+    (at ≡ number_behind before) × IsSome (next_of version messages before)
 HoldsAtEnd version messages before (error.TooLarge at) = ⊥
 HoldsAtEnd version messages before error.Memory = ⊥
 
@@ -162,19 +178,27 @@ number (error.Summary at) = 6
 number (error.TooLarge at) = 7
 number error.Memory = 8
 
--- at this place the check of this error holds, no check of a lower number does, and at no place before it does any
-pub record IsFirstFault (version : Version) (messages : ℕ) (records : List Record) (place : ℕ) (e : PlanTextError) : Type 0 where
+-- at this place the check of this error holds, no check of a lower number does, and at no place
+-- before it does any
+pub record IsFirstFault (version : Version)
+    (messages : ℕ) (records : List Record) (place : ℕ) (e : PlanTextError) : Type 0 where
   pub there : place ≤ length records
   pub holds : Holds version messages (take place records) (slice_get records place) e
-  pub least : (other : PlanTextError) → Holds version messages (take place records) (slice_get records place) other → number e ≤ number other
-  pub before : (k : ℕ) (other : PlanTextError) → k < place → Holds version messages (take k records) (slice_get records k) other → ⊥
+  pub least : (other : PlanTextError)
+      → Holds version messages (take place records) (slice_get records place) other
+      → number e ≤ number other
+  pub before : (k : ℕ) (other : PlanTextError)
+      → k < place → Holds version messages (take k records) (slice_get records k) other → ⊥
 
--- the header is refused with this error, or it is one and the first record behind it with a fault is refused for its least
+-- the header is refused with this error, or it is one and the first record behind it with a fault
+-- is refused for its least
 abbrev pub IsRefused : Version → ℕ → List Record → PlanTextError → Type 0
 IsRefused version messages records e =
     (header_of records ≡ Err e)
-    ⊎ ((header_of records ≡ Ok tt) × ((place : ℕ) × IsFirstFault version messages (drop 1 records) place e))
+    ⊎ ((header_of records ≡ Ok tt)
+    × ((place : ℕ) × IsFirstFault version messages (drop 1 records) place e))
 
 -- the first record with a fault decides, and of its faults the one of least number
 abbrev pub FirstFaultDecides : Version → ℕ → List ℕ → Type 0
-FirstFaultDecides version messages bytes = (e : PlanTextError) → (plan_of version messages bytes ≡ Err e) ↔ IsRefused version messages (records_of bytes) e
+FirstFaultDecides version messages bytes = (e : PlanTextError)
+    → (plan_of version messages bytes ≡ Err e) ↔ IsRefused version messages (records_of bytes) e

@@ -1,5 +1,6 @@
 -- Rows of a plan text: what each says of a message.
-use Rattle.std.specs.Prelude.{ℕ, ◌-◌, ◌≤◌, Bool, ◌&&◌, if◌then◌else◌, List, length, Option, Some, None, ok_or, is_some, Result, Ok, Err, slice_index_or}
+use Rattle.std.specs.Prelude.{ℕ, ◌-◌, ◌≤◌, Bool, ◌&&◌, if◌then◌else◌, List, length, Option, Some}
+use Rattle.std.specs.Prelude.{None, ok_or, is_some, Result, Ok, Err, slice_index_or}
 use Rattle.waff_model.specs.Names.{is_name}
 use Rattle.waff_parse.specs.Fields.{Field, five_of}
 use Rattle.waff_parse.specs.Refusals.{◌>>=◌}
@@ -27,7 +28,8 @@ pub record IsWithinLimit (row : Row) : Type 0 where
 
 -- fields behind the number of a message are those of a row: a name, two numbers, and a worker
 abbrev pub is_row : Field → Field → Field → Field → Bool
-is_row affinity start finish worker = is_name affinity && (is_some (number_of start) && (is_some (number_of finish) && is_worker worker))
+is_row affinity start finish worker = is_name affinity
+    && (is_some (number_of start) && (is_some (number_of finish) && is_worker worker))
 
 -- what the fields of a row say: each number is within the limit
 unfoldable pub row_of_fields : Field → Field → Field → Field → Result Row Refusal
@@ -50,7 +52,8 @@ abbrev pub fresh : Option Row → Result (Unit {0}) Refusal
 fresh slot = if is_some slot then Err refusal.Twice else Ok tt
 
 -- the row of five fields, after the rows so far
-unfoldable pub numbered_row_of : Slots → Field → Field → Field → Field → Field → Result NumberedRow Refusal
+unfoldable pub numbered_row_of : Slots → Field
+    → Field → Field → Field → Field → Result NumberedRow Refusal
 numbered_row_of slots message_text affinity start finish worker = do
   message ← message_of slots message_text
   _ ← shaped (is_row affinity start finish worker)
@@ -58,7 +61,8 @@ numbered_row_of slots message_text affinity start finish worker = do
   row ← row_of_fields affinity start finish worker
   Ok (record { message = message; row = row })
 
-abbrev pub numbered_row_of_five : Slots → Option (Field × Field × Field × Field × Field) → Result NumberedRow Refusal
+abbrev pub numbered_row_of_five : Slots → Option (Field × Field × Field × Field × Field)
+    → Result NumberedRow Refusal
 numbered_row_of_five slots None = Err refusal.Row
 numbered_row_of_five slots (Some f) = numbered_row_of slots f.0 f.1 f.2 f.3 f.4
 

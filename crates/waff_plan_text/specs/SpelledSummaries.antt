@@ -1,5 +1,7 @@
--- The summary of a plan text, in the words of the format: which records are its lines, with which values.
-use Rattle.std.specs.Prelude.{◌≡◌, ◌≢◌, ◌↔◌, ◌⊎◌, ℕ, ◌≤◌, true, List, [], ◌∷◌, ◌++◌, map, Contains, Option, Some, None, Ok, codes}
+-- The summary of a plan text, in the words of the format: which records are its lines, with which
+-- values.
+use Rattle.std.specs.Prelude.{◌≡◌, ◌≢◌, ◌↔◌, ◌⊎◌, ℕ, ◌≤◌, true, List, [], ◌∷◌, ◌++◌, map, Contains}
+use Rattle.std.specs.Prelude.{Option, Some, None, Ok, codes}
 use Rattle.waff_model.specs.declared.limits.TheConstants.{MAX_TICK}
 use Rattle.waff_model.specs.declared.message.Version.{Version}
 use Rattle.waff_model.specs.declared.message.Version.TheVariants.{V1, V2}
@@ -23,7 +25,8 @@ IsWorkersField text (Some k) = (number_of text ≡ Some k) × IsWorkers k
 
 -- a field writes numbers joined by one space; nothing for none
 abbrev pub AreNumbers : Field → List ℕ → Type 0
-AreNumbers text numbers = ((text ≡ []) × (numbers ≡ [])) ⊎ ((text ≢ []) × (map number_of (parts 32 text) ≡ map Some numbers))
+AreNumbers text numbers = ((text ≡ []) × (numbers ≡ []))
+    ⊎ ((text ≢ []) × (map number_of (parts 32 text) ≡ map Some numbers))
 
 -- the line of the release, which the first version does not have
 abbrev pub release_line : Version → Field → List Record
@@ -35,7 +38,8 @@ IsRelease V1 text release = release ≡ 0
 IsRelease V2 text release = IsTick text release
 
 -- records are the lines of a summary in their order, which write these values
-pub record SpellsSummary (version : Version) (messages : ℕ) (records : List Record) (summary : SummaryLines) : Type 0 where
+pub record SpellsSummary (version : Version)
+    (messages : ℕ) (records : List Record) (summary : SummaryLines) : Type 0 where
   pub workers_text : Field
   pub total_text : Field
   pub length_text : Field
@@ -45,7 +49,8 @@ pub record SpellsSummary (version : Version) (messages : ℕ) (records : List Re
   pub left_text : Field
   pub right_text : Field
   pub lines : records
-      ≡ (codes "workers" ∷ workers_text ∷ []) ∷ (codes "total" ∷ total_text ∷ []) ∷ (codes "length" ∷ length_text ∷ [])
+      ≡ (codes "workers" ∷ workers_text ∷ []) ∷ (codes "total" ∷ total_text ∷ [])
+      ∷ (codes "length" ∷ length_text ∷ [])
       ∷ (codes "chain" ∷ chain_text ∷ []) ∷ release_line version release_text
       ++ (codes "cost" ∷ cost_text ∷ []) ∷ (codes "bound" ∷ left_text ∷ right_text ∷ []) ∷ []
   pub workers : IsWorkersField workers_text summary.workers
@@ -62,7 +67,9 @@ pub record SpellsSummary (version : Version) (messages : ℕ) (records : List Re
 abbrev pub AreTexts : List Record → Type 0
 AreTexts records = (fields : Record) → Contains records fields → is_text fields ≡ true
 
--- records of text are read as a summary exactly where they are its lines in their order, with these values
+-- records of text are read as a summary exactly where they are its lines in their order, with these
+-- values
 abbrev pub SummaryIsExact : Version → ℕ → ℕ → List Record → SummaryLines → Type 0
 SummaryIsExact version messages at records summary =
-    AreTexts records → (summary_of version messages at records ≡ Ok summary) ↔ SpellsSummary version messages records summary
+    AreTexts records → (summary_of version messages at records ≡ Ok summary)
+    ↔ SpellsSummary version messages records summary

@@ -1,5 +1,7 @@
--- The text of a plan as it is written: a header, a line for each message in the order of their numbers, and a summary (own).
-use Rattle.std.specs.Prelude.{ℕ, ◌-◌, List, [], ◌∷◌, ◌++◌, Option, Some, None, map, slice_index, codes, decimal}
+-- The text of a plan as it is written: a header, a line for each message in the order of their
+-- numbers, and a summary (own).
+use Rattle.std.specs.Prelude.{ℕ, ◌-◌, List, [], ◌∷◌, ◌++◌, Option, Some, None, map, slice_index}
+use Rattle.std.specs.Prelude.{codes, decimal}
 use Rattle.std.specs.List.{join_by}
 use Rattle.waff_model.specs.declared.message.Version.{Version}
 use Rattle.waff_model.specs.declared.message.Version.TheVariants.{V1, V2}
@@ -11,7 +13,8 @@ use Rattle.waff_plan.specs.declared.totals.Totals.{Totals}
 
 -- the header
 abbrev pub plan_header : List (List ℕ)
-plan_header = codes "message" ∷ codes "affinity" ∷ codes "start" ∷ codes "finish" ∷ codes "worker" ∷ []
+plan_header =
+    codes "message" ∷ codes "affinity" ∷ codes "start" ∷ codes "finish" ∷ codes "worker" ∷ []
 
 -- a worker's number, or `-` where the plan has no workers
 abbrev pub worker_field : Option ℕ → List ℕ
@@ -37,7 +40,8 @@ abbrev pub release_lines : Version → ℕ → List (List (List ℕ))
 release_lines V1 release = []
 release_lines V2 release = (codes "release" ∷ decimal release ∷ []) ∷ []
 
--- the workers, the total cost, the length, the printed chain, its release and cost, and the two sides of the bound
+-- the workers, the total cost, the length, the printed chain, its release and cost, and the two
+-- sides of the bound
 abbrev pub summary_lines : Version → List ℕ → List ℕ → Totals → List (List (List ℕ))
 summary_lines version workers chain totals =
     (codes "workers" ∷ workers ∷ [])
@@ -49,8 +53,10 @@ summary_lines version workers chain totals =
     ∷ (codes "bound" ∷ decimal totals.left ∷ decimal totals.right ∷ [])
     ∷ []
 
--- the lines of a plan for this number of workers, or without workers, and of a chain of its messages
-abbrev pub plan_lines : Version → List Node → List ℕ → Work → Option ℕ → (ℕ → ℕ) → (ℕ → Option ℕ) → List ℕ → List (List (List ℕ))
+-- the lines of a plan for this number of workers, or without workers, and of a chain of its
+-- messages
+abbrev pub plan_lines : Version → List Node
+    → List ℕ → Work → Option ℕ → (ℕ → ℕ) → (ℕ → Option ℕ) → List ℕ → List (List (List ℕ))
 plan_lines version tree assigned work workers start worker chain =
     plan_header ∷ map (message_row tree assigned work start worker) (numbers work)
     ++ summary_lines version (worker_field workers) chain (totals_of workers work start chain)
@@ -64,10 +70,13 @@ abbrev pub seat_of : List ℕ → ℕ → Option ℕ
 seat_of seats n = Some (slice_index seats (n - 1))
 
 -- the lines of a plan without workers
-abbrev pub unlimited_lines : Version → List Node → List ℕ → Work → (ℕ → ℕ) → List ℕ → List (List (List ℕ))
-unlimited_lines version tree assigned work start chain = plan_lines version tree assigned work None start no_worker chain
+abbrev pub unlimited_lines : Version → List Node
+    → List ℕ → Work → (ℕ → ℕ) → List ℕ → List (List (List ℕ))
+unlimited_lines version tree assigned work start chain =
+    plan_lines version tree assigned work None start no_worker chain
 
 -- the lines of a plan for k workers, with the worker of each message
-abbrev pub worker_lines : Version → List Node → List ℕ → Work → ℕ → (ℕ → ℕ) → List ℕ → List ℕ → List (List (List ℕ))
+abbrev pub worker_lines : Version → List Node
+    → List ℕ → Work → ℕ → (ℕ → ℕ) → List ℕ → List ℕ → List (List (List ℕ))
 worker_lines version tree assigned work k start seats chain =
     plan_lines version tree assigned work (Some k) start (seat_of seats) chain

@@ -1,5 +1,7 @@
 -- The lines of a summary.
-use Rattle.std.specs.Prelude.{ℕ, ◌+◌, ◌==◌, Bool, false, ◌&&◌, nat_le, if◌then◌else◌, List, [], ◌∷◌, drop, length, Option, Some, None, ok_or, option_map, is_some, Result, Ok, Err, codes}
+use Rattle.std.specs.Prelude.{ℕ, ◌+◌, ◌==◌, Bool, false, ◌&&◌, nat_le, if◌then◌else◌, List, [], ◌∷◌}
+use Rattle.std.specs.Prelude.{drop, length, Option, Some, None, ok_or, option_map, is_some, Result}
+use Rattle.std.specs.Prelude.{Ok, Err, codes}
 use Rattle.std.specs.Borrow.{Bor}
 use Rattle.std.specs.Str.{bytes_eq}
 use Rattle.waff_model.specs.declared.message.Version.{Version}
@@ -36,7 +38,8 @@ begins_summary (first ∷ more) = bytes_eq first (codes "workers")
 
 -- the number of workers: a dash, or a number within the limit
 abbrev pub workers_of : Field → Result (Option ℕ) Refusal
-workers_of text = if is_dash text then Ok None else ok_or (option_map Some (number_within 1 MAX_WORKERS text)) refusal.Summary
+workers_of text = if is_dash text then Ok None else ok_or
+    (option_map Some (number_within 1 MAX_WORKERS text)) refusal.Summary
 
 abbrev pub workers_line : Record → Result (Option ℕ) Refusal
 workers_line row = value_of (codes "workers") (two_of row) >>= workers_of
@@ -72,7 +75,8 @@ chain_line messages row = value_of (codes "chain") (two_of row) >>= chain_of mes
 
 -- the name of the bound, and two numbers
 abbrev pub is_bound : Field → Field → Field → Bool
-is_bound name left right = bytes_eq name (codes "bound") && (is_some (number_of left) && is_some (number_of right))
+is_bound name left right =
+    bytes_eq name (codes "bound") && (is_some (number_of left) && is_some (number_of right))
 
 -- two numbers within the limit
 abbrev pub sides_of : Field → Field → Result (ℕ × ℕ) Refusal
@@ -90,9 +94,11 @@ abbrev pub bound_line : Record → Result (ℕ × ℕ) Refusal
 bound_line row = bound_of (three_of row)
 
 -- the next line, which is the first of the records: it is there, and is text
-abbrev pub next_line : {A : Type 0} → (Record → Result A Refusal) → ℕ → List Record → Result A PlanTextError
+abbrev pub next_line : {A : Type 0} → (Record → Result A Refusal)
+    → ℕ → List Record → Result A PlanTextError
 next_line read at [] = Err (error.Summary at)
-next_line read at (row ∷ more) = told (at_record at) (if is_text row then read row else Err refusal.Csv)
+next_line read at (row ∷ more) =
+    told (at_record at) (if is_text row then read row else Err refusal.Csv)
 
 -- no record follows the last line
 abbrev pub ends : ℕ → List Record → Result (Unit {0}) PlanTextError
@@ -110,7 +116,8 @@ ending_of release at rows = do
 -- the lines behind the chain; the first version has none for the release
 unfoldable pub closing_of : Version → ℕ → List Record → Result Closing PlanTextError
 closing_of V1 at rows = ending_of 0 at rows
-closing_of V2 at rows = next_line (tick_line (codes "release")) at rows >>= (λ release. ending_of release (at + 1) (drop 1 rows))
+closing_of V2 at rows = next_line (tick_line (codes "release")) at rows >>= (λ release.
+    ending_of release (at + 1) (drop 1 rows))
 
 -- the summary of these lines
 abbrev pub with_closing : Option ℕ → ℕ → ℕ → List ℕ → Closing → SummaryLines

@@ -17,7 +17,14 @@ pub struct Closing {
 impl Closing {
     /// The totals of a summary with these numbers behind its chain.
     pub(crate) fn totals(self, total: u64, length: u64) -> Totals
-        ensures { result ≡ record { total = total; length = length; release = self.release; cost = self.cost; left = self.left; right = self.right } }
+        ensures { result ≡ record {
+          total = total;
+          length = length;
+          release = self.release;
+          cost = self.cost;
+          left = self.left;
+          right = self.right;
+        } }
     {
         Totals {
             total,

@@ -9,8 +9,8 @@ use std::alloc::{AllocError, Global};
 use std::marker::Model;
 use waff_model::Version;
 
-/// A plan as a text gives it, which need not be a plan of anything: a row for each message, and a summary. Messages are
-/// numbered from 1; all times are ticks.
+/// A plan as a text gives it, which need not be a plan of anything: a row for each message, and a
+/// summary. Messages are numbered from 1; all times are ticks.
 #[derive(Drop)]
 pub struct GivenPlan {
     version: Version,
@@ -25,7 +25,8 @@ impl Model for GivenPlan {
 
     ghost view = { λ p. record { version = p.version; rows = p.rows.items; summary = p.summary } };
 
-    ghost invariant = { λ p. IsGiven (record { version = p.version; rows = p.rows.items; summary = p.summary }) };
+    ghost invariant = { λ p.
+        IsGiven (record { version = p.version; rows = p.rows.items; summary = p.summary }) };
 }
 
 impl GivenPlan {

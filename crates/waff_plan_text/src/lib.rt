@@ -1,14 +1,16 @@
 //! The format of plan texts, both ways.
 //!
-//! A plan text is CSV: a header, a row for each message, and a summary. What is written is one spelling; what is read is any
-//! text of the format, its rows in any order, which need not be a plan of anything.
+//! A plan text is CSV: a header, a row for each message, and a summary. What is written is one
+//! spelling; what is read is any text of the format, its rows in any order, which need not be a
+//! plan of anything.
 //!
 //! Writing:
 //! - `writing`: the text of a plan, with workers and without.
 //!
 //! Reading:
 //! - `refusal`: why a text is refused.
-//! - `records`: its records, one after the other; `field`, `row`, `lines`: by kind; `slots`: the rows so far.
+//! - `records`: its records, one after the other; `field`, `row`, `lines`: by kind; `slots`: the
+//! rows so far.
 //! - `summary`, `closing`: the lines of the summary.
 //! - `given`: the plan that a text gives.
 //! - `reading`: the reader, over all records.

@@ -49,7 +49,8 @@ fn read_header(rdr: &mut Reader<&[u8]>, row: &mut StringRecord) -> Result<(), St
     }
 }
 
-// The plan of the rows so far, and of the summary that begins with this row, the record of this number.
+// The plan of the rows so far, and of the summary that begins with this row, the record of this
+// number.
 #[tactic(auto, unfolding(crate::specs::PlanTexts::plan_of_summary))]
 fn read_end(
     alloc: Global,
@@ -62,7 +63,8 @@ fn read_end(
     requires reads { Reads rdr.old }
     requires text { is_text (fields_of row.old) ≡ true }
     requires room { at + 8 < 2 ^ 64 }
-    ensures value { Gives (λ plan. plan) result (texts.plan_of_summary version (length slots) at slots (fields_of row.old ∷ records_left rdr.old)) }
+    ensures value { Gives (λ plan. plan) result (texts.plan_of_summary version
+        (length slots) at slots (fields_of row.old ∷ records_left rdr.old)) }
     ensures version { IfOk result (λ plan. plan.version ≡ version) }
     ensures messages { IfOk result (λ plan. length plan.rows ≡ length slots) }
 {
@@ -82,7 +84,8 @@ fn read_rows(
 ) -> Result<GivenPlan, Stop<PlanTextError>>
     requires reads { Reads rdr.old }
     requires room { length (records_left rdr.old) + 16 < 2 ^ 64 }
-    ensures value { Gives (λ plan. plan) result (texts.plan_of_rows version messages (records_left rdr.old)) }
+    ensures value { Gives (λ plan.
+        plan) result (texts.plan_of_rows version messages (records_left rdr.old)) }
     ensures version { IfOk result (λ plan. plan.version ≡ version) }
     ensures messages { IfOk result (λ plan. length plan.rows ≡ messages) }
 {
@@ -121,9 +124,10 @@ fn plan_of(
     read_rows(alloc, version, messages, &mut rdr, &mut row)
 }
 
-/// The plan that the bytes spell, in the text of a plan of this version and for as many messages: CSV with a header, then a
-/// row for each message in any order, and then the summary. Records are numbered from 1, the header's. The first record with
-/// a fault decides; the end of the text counts as a record.
+/// The plan that the bytes spell, in the text of a plan of this version and for as many messages:
+/// CSV with a header, then a row for each message in any order, and then the summary. Records are
+/// numbered from 1, the header's. The first record with a fault decides; the end of the text counts
+/// as a record.
 pub fn read_plan(
     alloc: Global,
     version: Version,

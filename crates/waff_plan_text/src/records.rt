@@ -16,7 +16,8 @@ pub(crate) fn next_record(
     row: &mut StringRecord,
 ) -> Result<bool, Stop<PlanTextError>>
     requires { Reads rdr.old }
-    ensures next { GivesRecord at result (records_left rdr.old) (fields_of row.new) (records_left rdr.new) }
+    ensures next { GivesRecord at result (records_left rdr.old)
+        (fields_of row.new) (records_left rdr.new) }
     ensures reads { OnOk result (Reads rdr.new) }
 {
     match next_text(rdr, row) {
@@ -33,7 +34,8 @@ pub(crate) fn next_line(
     row: &mut StringRecord,
 ) -> Result<(), Stop<PlanTextError>>
     requires { Reads rdr.old }
-    ensures next { GivesLine at result (records_left rdr.old) (fields_of row.new) (records_left rdr.new) }
+    ensures next { GivesLine at result (records_left rdr.old)
+        (fields_of row.new) (records_left rdr.new) }
     ensures reads { OnOk result (Reads rdr.new) }
 {
     match next_record(at, rdr, row) {

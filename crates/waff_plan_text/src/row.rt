@@ -48,7 +48,8 @@ fn read_fields(
     finish: &str,
     worker: &str,
 ) -> Result<Row, Stop<Refusal>>
-    ensures value { Gives (λ row. row) result (rows.row_of_fields affinity.now start.now finish.now worker.now) }
+    ensures value { Gives (λ row.
+        row) result (rows.row_of_fields affinity.now start.now finish.now worker.now) }
     ensures within { IfOk result rows.IsWithinLimit }
 {
     let start = match read_number(start) {
@@ -80,7 +81,8 @@ pub(crate) fn read_row(
 ) -> Result<NumberedRow, Stop<Refusal>>
     ensures value { Gives (λ row. row) result (rows.row_of slots.now (fields_of line.now)) }
     ensures within { IfOk result (λ given. rows.IsWithinLimit given.row) }
-    ensures message { IfOk result (λ given. (1 ≤ given.message) × (given.message ≤ length slots.now)) }
+    ensures message { IfOk result (λ given. (1 ≤ given.message)
+        × (given.message ≤ length slots.now)) }
 {
     let Some((message, affinity, start, finish, worker)) = five_fields(line) else {
         return Err(Stop::Fault(Refusal::Row));

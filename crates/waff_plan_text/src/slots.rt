@@ -1,6 +1,7 @@
 //! The rows so far of a plan text, by message.
 
-ghost use Rattle.std.specs.Prelude.{◌≡◌, ◌-◌, ◌≤◌, None, Some, All, IfOk, IfSome, is_some, length, replicate, slice_set};
+ghost use Rattle.std.specs.Prelude.{◌≡◌, ◌-◌, ◌≤◌, None, Some, All, IfOk, IfSome, is_some, length};
+ghost use Rattle.std.specs.Prelude.{replicate, slice_set};
 ghost use Rattle.waff_parse.specs.Stopping.{Gives};
 ghost use Rattle.waff_plan_text.specs.Rows.{IsWithinLimit, slot_of};
 ghost use Rattle.waff_plan_text.specs.PlanTexts.{rows_in};
@@ -26,7 +27,8 @@ impl Model for Slots {
 
     ghost view = { λ s. s.places.items };
 
-    ghost invariant = { λ s. (length s.places.items < 2 ^ 32) × All (λ slot. IfSome slot IsWithinLimit) s.places.items };
+    ghost invariant = { λ s. (length s.places.items < 2 ^ 32)
+        × All (λ slot. IfSome slot IsWithinLimit) s.places.items };
 }
 
 impl Slots {

@@ -1,6 +1,7 @@
 //! The summary of a plan text.
 
-ghost use Rattle.std.specs.Prelude.{◌≡◌, true, ◌+◌, ◌∷◌, ◌^◌, ◌<◌, drop, length, IfOk, IfSome, OnOk};
+ghost use Rattle.std.specs.Prelude.{◌≡◌, true, ◌+◌, ◌∷◌, ◌^◌, ◌<◌, drop, length, IfOk, IfSome};
+ghost use Rattle.std.specs.Prelude.{OnOk};
 ghost use Rattle.csv.specs.Records.{fields_of};
 ghost use Rattle.waff_parse.specs.Fields.{three_of};
 ghost use Rattle.waff_parse.specs.Rows.{Reads, records_left, is_text};
@@ -46,7 +47,8 @@ fn read_tick(
     row: &mut StringRecord,
 ) -> Result<u64, Stop<PlanTextError>>
     requires { Reads rdr.old }
-    ensures value { Gives (λ n. n) result (summaries.next_line (summaries.tick_line name.now) at (records_left rdr.old)) }
+    ensures value { Gives (λ n.
+        n) result (summaries.next_line (summaries.tick_line name.now) at (records_left rdr.old)) }
     ensures left { OnOk result (records_left rdr.new ≡ drop 1 (records_left rdr.old)) }
     ensures reads { OnOk result (Reads rdr.new) }
 {
@@ -66,7 +68,8 @@ fn read_chain(
     row: &mut StringRecord,
 ) -> Result<Vec<u32>, Stop<PlanTextError>>
     requires { Reads rdr.old }
-    ensures value { Gives (λ chain. chain.items) result (summaries.next_line (summaries.chain_line messages) at (records_left rdr.old)) }
+    ensures value { Gives (λ chain. chain.items) result
+        (summaries.next_line (summaries.chain_line messages) at (records_left rdr.old)) }
     ensures within { IfOk result (λ chain. IsListed messages chain.items) }
     ensures left { OnOk result (records_left rdr.new ≡ drop 1 (records_left rdr.old)) }
     ensures reads { OnOk result (Reads rdr.new) }
@@ -86,7 +89,8 @@ fn read_bound(
     row: &mut StringRecord,
 ) -> Result<(u64, u64), Stop<PlanTextError>>
     requires { Reads rdr.old }
-    ensures value { Gives (λ n. n) result (summaries.next_line summaries.bound_line at (records_left rdr.old)) }
+    ensures value { Gives (λ n.
+        n) result (summaries.next_line summaries.bound_line at (records_left rdr.old)) }
     ensures left { OnOk result (records_left rdr.new ≡ drop 1 (records_left rdr.old)) }
     ensures reads { OnOk result (Reads rdr.new) }
 {
@@ -170,7 +174,8 @@ pub(crate) fn read_summary(
     requires reads { Reads rdr.old }
     requires text { is_text (fields_of row.old) ≡ true }
     requires room { at + 8 < 2 ^ 64 }
-    ensures value { Gives (λ s. s) result (summaries.summary_of version messages at (fields_of row.old ∷ records_left rdr.old)) }
+    ensures value { Gives (λ s. s) result
+        (summaries.summary_of version messages at (fields_of row.old ∷ records_left rdr.old)) }
     ensures workers { IfOk result (λ s. IfSome s.workers IsWorkers) }
     ensures chain { IfOk result (λ s. IsListed messages s.chain) }
 {

@@ -1,12 +1,15 @@
 //! The writer of plan texts.
 
-ghost use Rattle.std.specs.Prelude.{◌≡◌, ◌<◌, [], ◌∷◌, ◌++◌, All, IfOk, OnOk, Some, codes, length, map, string_bytes};
+ghost use Rattle.std.specs.Prelude.{◌≡◌, ◌<◌, [], ◌∷◌, ◌++◌, All, IfOk, OnOk, Some, codes, length};
+ghost use Rattle.std.specs.Prelude.{map, string_bytes};
 ghost use Rattle.waff_plan.specs.Bound.{IsWorkers};
 ghost use Rattle.waff_plan.specs.Chain.{IsListed};
 ghost use Rattle.waff_plan.specs.Work.{numbers};
 ghost use Rattle.waff_plan.specs.Timing.{start_of, work_of};
 ghost use Rattle.waff_plan_text.specs.Lines.{line_text, text_of};
-ghost use Rattle.waff_plan_text.specs.Spelling.{message_row, no_worker, numbers_field, plan_row, release_lines, seat_of, summary_lines, unlimited_lines, worker_field, worker_lines};
+ghost use Rattle.waff_plan_text.specs.Spelling.{message_row, no_worker, numbers_field, plan_row};
+ghost use Rattle.waff_plan_text.specs.Spelling.{release_lines, seat_of, summary_lines};
+ghost use Rattle.waff_plan_text.specs.Spelling.{unlimited_lines, worker_field, worker_lines};
 
 use std::alloc::{AllocError, Global};
 use std::fmt;
@@ -27,7 +30,8 @@ pub fn unlimited_text(
     requires known { All (λ a. a < length tree.now) assigned.now }
     requires chain { IsListed (length plan.now.timings) chain.now }
     ensures { IfOk result (λ text. string_bytes text
-        ≡ text_of (unlimited_lines version tree.now assigned.now (work_of plan.now.timings) (start_of plan.now.starts)
+        ≡ text_of (unlimited_lines version tree.now assigned.now
+        (work_of plan.now.timings) (start_of plan.now.starts)
         chain.now)) }
 {
     let mut text = String::new(alloc);
@@ -54,7 +58,8 @@ pub fn worker_text(
     requires seats { length seats.now ≡ length plan.now.timings }
     requires chain { IsListed (length plan.now.timings) chain.now }
     ensures { IfOk result (λ text. string_bytes text
-        ≡ text_of (worker_lines version tree.now assigned.now (work_of plan.now.timings) workers (start_of plan.now.starts)
+        ≡ text_of (worker_lines version tree.now assigned.now
+        (work_of plan.now.timings) workers (start_of plan.now.starts)
         seats.now chain.now)) }
 {
     let workers = Some(workers);
@@ -83,7 +88,8 @@ fn push_unlimited_rows(
     requires lengths { length assigned.now ≡ length plan.now.timings }
     requires known { All (λ a. a < length tree.now) assigned.now }
     ensures { OnOk result (string_bytes text.new ≡ string_bytes text.old
-        ++ text_of (map (message_row tree.now assigned.now (work_of plan.now.timings) (start_of plan.now.starts) no_worker)
+        ++ text_of (map (message_row tree.now assigned.now
+        (work_of plan.now.timings) (start_of plan.now.starts) no_worker)
         (numbers (work_of plan.now.timings)))) }
 {
     for n in 1..plan.len() + 1 {
@@ -105,7 +111,8 @@ fn push_worker_rows(
     requires known { All (λ a. a < length tree.now) assigned.now }
     requires seats { length seats.now ≡ length plan.now.timings }
     ensures { OnOk result (string_bytes text.new ≡ string_bytes text.old
-        ++ text_of (map (message_row tree.now assigned.now (work_of plan.now.timings) (start_of plan.now.starts) (seat_of seats.now))
+        ++ text_of (map (message_row tree.now assigned.now
+        (work_of plan.now.timings) (start_of plan.now.starts) (seat_of seats.now))
         (numbers (work_of plan.now.timings)))) }
 {
     for n in 1..plan.len() + 1 {
@@ -156,7 +163,8 @@ fn push_summary(
     totals: &Totals,
 ) -> Result<(), AllocError>
     ensures { OnOk result (string_bytes text.new
-        ≡ string_bytes text.old ++ text_of (summary_lines version (worker_field workers) chain.now totals.now)) }
+        ≡ string_bytes text.old
+        ++ text_of (summary_lines version (worker_field workers) chain.now totals.now)) }
 {
     let workers = WorkerField(workers);
     let total = totals.total;
@@ -182,7 +190,8 @@ fn push_chain(text: &mut String, chain: &[u32]) -> Result<(), AllocError>
 
 /// Appends the numbers, joined by spaces.
 fn push_numbers(text: &mut String, numbers: &[u32]) -> Result<(), AllocError>
-    ensures { OnOk result (string_bytes text.new ≡ string_bytes text.old ++ numbers_field numbers.now) }
+    ensures { OnOk result (string_bytes text.new ≡ string_bytes text.old
+        ++ numbers_field numbers.now) }
 {
     let Some((first, others)) = numbers.split_first() else {
         return Ok(());
@@ -196,7 +205,8 @@ fn push_numbers(text: &mut String, numbers: &[u32]) -> Result<(), AllocError>
 
 /// Appends the line of the release, where the version has one.
 fn push_release(text: &mut String, version: Version, release: u64) -> Result<(), AllocError>
-    ensures { OnOk result (string_bytes text.new ≡ string_bytes text.old ++ text_of (release_lines version release)) }
+    ensures { OnOk result (string_bytes text.new ≡ string_bytes text.old
+        ++ text_of (release_lines version release)) }
 {
     match version {
         Version::V1 => Ok(()),

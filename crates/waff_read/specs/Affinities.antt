@@ -1,5 +1,6 @@
 -- The tree that the affinities of a hierarchy file make.
-use Rattle.std.specs.Prelude.{ℕ, List, [], ◌∷◌, ◌++◌, option_map, unwrap_or, map, position, Result, Ok, Err, codes}
+use Rattle.std.specs.Prelude.{ℕ, List, [], ◌∷◌, ◌++◌, option_map, unwrap_or, map, position, Result}
+use Rattle.std.specs.Prelude.{Ok, Err, codes}
 use Rattle.std.specs.Str.{bytes_eq}
 use Rattle.toml.specs.Data.{Data}
 use Rattle.waff_parse.specs.Refusals.{◌>>=◌}
@@ -15,8 +16,8 @@ use Rattle.waff_read.specs.Documents.{text_at}
 abbrev pub name_at : Data → List ℕ
 name_at row = unwrap_or (text_at (codes "name") row) []
 
--- the number of the affinity of this name, where these are the names so far: the number that is one past the last that
--- an affinity can have, where there is none
+-- the number of the affinity of this name, where these are the names so far: the number that is one
+-- past the last that an affinity can have, where there is none
 abbrev pub place_of : List (List ℕ) → List ℕ → ℕ
 place_of names name = unwrap_or (position (bytes_eq name) names) MAX_AFFINITIES
 

@@ -1,5 +1,6 @@
 -- The layout that a hierarchy file is read as.
-use Rattle.std.specs.Prelude.{ℕ, nat_lt, List, Option, Some, None, option_map, option_and_then, unwrap_or, map, position, Result, codes, if◌then◌else◌}
+use Rattle.std.specs.Prelude.{ℕ, nat_lt, List, Option, Some, None, option_map, option_and_then}
+use Rattle.std.specs.Prelude.{unwrap_or, map, position, Result, codes, if◌then◌else◌}
 use Rattle.std.specs.Option.{ok_or}
 use Rattle.std.specs.Str.{bytes_eq}
 use Rattle.toml.specs.Data.{Data}
@@ -41,7 +42,8 @@ kind_refusal Hierarchical tree = None
 -- the layout of the document's spaces and maps over the tree
 abbrev pub layout_at : Kind → List Node → Data → Result Hierarchy LayoutError
 layout_at kind tree document =
-    layout_of kind tree (map space_of (rows_at (codes "space") document)) (map map_of (rows_at (codes "map") document))
+    layout_of kind tree (map space_of (rows_at (codes "space") document))
+    (map map_of (rows_at (codes "map") document))
 
 -- the layout that the bytes are read as, or the first check that fails
 unfoldable pub hierarchy_of : List ℕ → Result Hierarchy HierError

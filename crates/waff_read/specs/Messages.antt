@@ -1,5 +1,6 @@
 -- Messages as records of a trace.
-use Rattle.std.specs.Prelude.{ℕ, ◌+◌, List, Option, Some, None, ok_or, Result, Ok, Err, codes, nat_lt, Bool, false, ◌&&◌, if◌then◌else◌}
+use Rattle.std.specs.Prelude.{ℕ, ◌+◌, List, Option, Some, None, ok_or, Result, Ok, Err, codes}
+use Rattle.std.specs.Prelude.{nat_lt, Bool, false, ◌&&◌, if◌then◌else◌}
 use Rattle.std.specs.Str.{bytes_eq}
 use Rattle.waff_model.specs.Layout.{Space}
 use Rattle.waff_model.specs.Names.{is_name}
@@ -18,13 +19,15 @@ use Rattle.waff_read.specs.declared.trace_fault.TraceFault.TheVariants as fault
 -- the header of a trace of the first version, by its fields if they are three
 abbrev pub is_first_header : Option (Field × Field × Field) → Bool
 is_first_header None = false
-is_first_header (Some f) = bytes_eq f.0 (codes "message") && (bytes_eq f.1 (codes "cost") && bytes_eq f.2 (codes "ops"))
+is_first_header (Some f) =
+    bytes_eq f.0 (codes "message") && (bytes_eq f.1 (codes "cost") && bytes_eq f.2 (codes "ops"))
 
 -- the header of a trace of the second version, by its fields if they are four
 abbrev pub is_second_header : Option (Field × Field × Field × Field) → Bool
 is_second_header None = false
 is_second_header (Some f) =
-    bytes_eq f.0 (codes "message") && (bytes_eq f.1 (codes "cost") && (bytes_eq f.2 (codes "release") && bytes_eq f.3 (codes "ops")))
+    bytes_eq f.0 (codes "message") && (bytes_eq f.1 (codes "cost")
+    && (bytes_eq f.2 (codes "release") && bytes_eq f.3 (codes "ops")))
 
 -- the version that a header tells
 abbrev pub version_of : Record → Result Version TraceFault
@@ -51,7 +54,8 @@ release_of None = Ok 0
 release_of (Some text) = ok_or (number_within 0 MAX_RELEASE text) fault.Release
 
 -- the message that fields spell in the record of this number
-unfoldable pub message_of_fields : List Space → ℕ → Field → Field → Option Field → Field → Result Message TraceFault
+unfoldable pub message_of_fields : List Space
+    → ℕ → Field → Field → Option Field → Field → Result Message TraceFault
 message_of_fields spaces at name_text cost_text release_text ops_text = do
   name ← name_of name_text
   cost ← cost_of cost_text
@@ -61,15 +65,18 @@ message_of_fields spaces at name_text cost_text release_text ops_text = do
   Ok (record { name = name; cost = cost; release = release; ops = ops })
 
 -- the message of three fields, and of four
-abbrev pub message_of_three : List Space → ℕ → Option (Field × Field × Field) → Result Message TraceFault
+abbrev pub message_of_three : List Space
+    → ℕ → Option (Field × Field × Field) → Result Message TraceFault
 message_of_three spaces at None = Err fault.Fields
 message_of_three spaces at (Some f) = message_of_fields spaces at f.0 f.1 None f.2
 
-abbrev pub message_of_four : List Space → ℕ → Option (Field × Field × Field × Field) → Result Message TraceFault
+abbrev pub message_of_four : List Space → ℕ
+    → Option (Field × Field × Field × Field) → Result Message TraceFault
 message_of_four spaces at None = Err fault.Fields
 message_of_four spaces at (Some f) = message_of_fields spaces at f.0 f.1 (Some f.2) f.3
 
--- the message of the record of this number: it has three fields in the first version, four in the second
+-- the message of the record of this number: it has three fields in the first version, four in the
+-- second
 abbrev pub message_of : Version → List Space → ℕ → Record → Result Message TraceFault
 message_of V1 spaces at row = message_of_three spaces at (three_of row)
 message_of V2 spaces at row = message_of_four spaces at (four_of row)

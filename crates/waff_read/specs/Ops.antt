@@ -1,5 +1,6 @@
 -- Operations as a trace spells them.
-use Rattle.std.specs.Prelude.{ℕ, List, [], ◌∷◌, Result, Ok, Err, codes, length, take, ◌+◌, ◌==◌, nat_lt, if◌then◌else◌, ok_or, option_and_then}
+use Rattle.std.specs.Prelude.{ℕ, List, [], ◌∷◌, Result, Ok, Err, codes, length, take, ◌+◌, ◌==◌}
+use Rattle.std.specs.Prelude.{nat_lt, if◌then◌else◌, ok_or, option_and_then}
 use Rattle.std.specs.Str.{bytes_eq}
 use Rattle.waff_model.specs.Layout.{Space, size_at, space_named}
 use Rattle.waff_model.specs.Names.{is_name}
@@ -16,7 +17,8 @@ use Rattle.waff_read.specs.TraceFaults.{number}
 
 -- the cell with this index in a space
 abbrev pub cell_in : List Space → ℕ → ℕ → Result Cell TraceFault
-cell_in spaces space index = if nat_lt index (size_at spaces space) then Ok (record { space = space; index = index }) else Err fault.IndexTooLarge
+cell_in spaces space index = if nat_lt index (size_at spaces space) then Ok
+    (record { space = space; index = index }) else Err fault.IndexTooLarge
 
 -- the cell of a name and an index
 abbrev pub cell_of_name : List Space → List ℕ → List ℕ → Result Cell TraceFault
@@ -57,7 +59,8 @@ with_cell make spaces cell other = do
 -- the operation of a verb and one word
 unfoldable pub op_of_one : List Space → List ℕ → List ℕ → Result Op TraceFault
 op_of_one spaces verb cell =
-    if bytes_eq verb (codes "read") then (cell_of spaces cell >>= (λ c. Ok (op.Read c))) else Err fault.Op
+    if bytes_eq verb (codes "read") then
+    (cell_of spaces cell >>= (λ c. Ok (op.Read c))) else Err fault.Op
 
 -- the operation of a verb and two words
 unfoldable pub op_of_two : List Space → List ℕ → List ℕ → List ℕ → Result Op TraceFault

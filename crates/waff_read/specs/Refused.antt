@@ -1,5 +1,7 @@
--- What a hierarchy is refused for, and the tree of one that is accepted, in the words of the format.
-use Rattle.std.specs.Prelude.{◌≡◌, ◌↔◌, ◌⊎◌, ℕ, ◌<◌, ◌≤◌, List, [], length, take, false, Option, Some, None, Ok, Err, IsSome, IsTrue, slice_get, codes}
+-- What a hierarchy is refused for, and the tree of one that is accepted, in the words of the
+-- format.
+use Rattle.std.specs.Prelude.{◌≡◌, ◌↔◌, ◌⊎◌, ℕ, ◌<◌, ◌≤◌, List, [], length, take, false, Option}
+use Rattle.std.specs.Prelude.{Some, None, Ok, Err, IsSome, IsTrue, slice_get, codes}
 use Rattle.toml.specs.Data.{Data}
 use Rattle.waff_model.specs.Names.{is_name}
 use Rattle.waff_model.specs.Tree.{Node, number_of}
@@ -14,7 +16,8 @@ use Rattle.waff_read.specs.Shapes.{shape_refusal}
 use Rattle.waff_read.specs.declared.hier_error.HierError.{HierError}
 use Rattle.waff_read.specs.declared.hier_error.HierError.TheVariants as error
 
--- a row's parent, by its name: none where the row names none, else the affinity of that name among those before
+-- a row's parent, by its name: none where the row names none, else the affinity of that name among
+-- those before
 abbrev pub IsParent : List Node → Option (List ℕ) → Option ℕ → Type 0
 IsParent before None parent = parent ≡ None
 IsParent before (Some name) parent = (p : ℕ) × (number_of before name ≡ Some p) × (parent ≡ Some p)
@@ -31,18 +34,21 @@ pub record IsAffinity (before : List Node) (row : Data) (node : Node) : Type 0 w
 -- each of these affinities is that of the row at its place
 pub record AreAffinities (rows : List Data) (tree : List Node) : Type 0 where
   pub count : length tree ≡ length rows
-  pub each : (k : ℕ) (row : Data) (node : Node) → slice_get rows k ≡ Some row → slice_get tree k ≡ Some node → IsAffinity (take k tree) row node
+  pub each : (k : ℕ) (row : Data) (node : Node) → slice_get rows k ≡ Some row
+      → slice_get tree k ≡ Some node → IsAffinity (take k tree) row node
 
 -- rows are read as a tree exactly where there is one, and the affinities of the tree are theirs
 abbrev pub TreeIsExact : List Data → Type 0
-TreeIsExact rows = (tree : List Node) → (tree_of rows ≡ Ok tree) ↔ ((1 ≤ length rows) × AreAffinities rows tree)
+TreeIsExact rows =
+    (tree : List Node) → (tree_of rows ≡ Ok tree) ↔ ((1 ≤ length rows) × AreAffinities rows tree)
 
 -- the check of this error holds of a row behind the rows of these affinities
 abbrev pub Holds : List Node → Data → TreeError → Type 0
 Holds before row refusal.Name = is_name (name_at row) ≡ false
 Holds before row refusal.Twice = IsSome (number_of before (name_at row))
 Holds before row refusal.SecondRoot = (text_at (codes "parent") row ≡ None) × (1 ≤ length before)
-Holds before row refusal.ParentUnknown = (name : List ℕ) × (text_at (codes "parent") row ≡ Some name) × (number_of before name ≡ None)
+Holds before row refusal.ParentUnknown =
+    (name : List ℕ) × (text_at (codes "parent") row ≡ Some name) × (number_of before name ≡ None)
 Holds before row refusal.TooMany = MAX_AFFINITIES ≤ length before
 Holds before row refusal.NoRoot = ⊥
 Holds before row refusal.Memory = ⊥
@@ -57,8 +63,10 @@ number refusal.ParentUnknown = 5
 number refusal.TooMany = 6
 number refusal.Memory = 7
 
--- the row at this place is refused for the check of least number that holds of it, and each row before it is an affinity
-pub record IsFirstRefused (rows : List Data) (tree : List Node) (row : Data) (e : TreeError) : Type 0 where
+-- the row at this place is refused for the check of least number that holds of it, and each row
+-- before it is an affinity
+pub record IsFirstRefused (rows : List Data)
+    (tree : List Node) (row : Data) (e : TreeError) : Type 0 where
   pub there : slice_get rows (length tree) ≡ Some row
   pub before : AreAffinities (take (length tree) rows) tree
   pub holds : Holds tree row e
@@ -68,7 +76,8 @@ pub record IsFirstRefused (rows : List Data) (tree : List Node) (row : Data) (e 
 abbrev pub FirstAffinityDecides : List Data → Type 0
 FirstAffinityDecides rows =
     (e : TreeError) → tree_of rows ≡ Err e
-    → ((rows ≡ []) × (e ≡ refusal.NoRoot)) ⊎ ((tree : List Node) × (row : Data) × IsFirstRefused rows tree row e)
+    → ((rows ≡ []) × (e ≡ refusal.NoRoot))
+    ⊎ ((tree : List Node) × (row : Data) × IsFirstRefused rows tree row e)
 
 -- a document that names a kind and has each key that it has to have
 pub record IsShaped (bytes : List ℕ) (document : Data) (kind : Kind) : Type 0 where
@@ -77,23 +86,28 @@ pub record IsShaped (bytes : List ℕ) (document : Data) (kind : Kind) : Type 0 
   pub is_shaped : shape_refusal document ≡ None
 
 -- and whose affinities are this tree
-pub record HasTree (bytes : List ℕ) (document : Data) (kind : Kind) (tree : List Node) : Type 0 where
+pub record HasTree (bytes : List ℕ) (document : Data)
+    (kind : Kind) (tree : List Node) : Type 0 where
   pub shaped : IsShaped bytes document kind
   pub is_tree : tree_of (rows_at (codes "affinity") document) ≡ Ok tree
 
 -- the check of this error holds of the bytes, and none before it
 abbrev pub IsRefused : List ℕ → HierError → Type 0
 IsRefused bytes error.Toml = document_of bytes ≡ None
-IsRefused bytes error.Model = (document : Data) × (document_of bytes ≡ Some document) × (kind_of document ≡ None)
+IsRefused bytes error.Model =
+    (document : Data) × (document_of bytes ≡ Some document) × (kind_of document ≡ None)
 IsRefused bytes (error.Shape key) =
-    (document : Data) × (kind : Kind) × (document_of bytes ≡ Some document) × (kind_of document ≡ Some kind) × (shape_refusal document ≡ Some key)
+    (document : Data) × (kind : Kind) × (document_of bytes ≡ Some document)
+    × (kind_of document ≡ Some kind) × (shape_refusal document ≡ Some key)
 IsRefused bytes (error.Tree e) =
-    (document : Data) × (kind : Kind) × IsShaped bytes document kind × (tree_of (rows_at (codes "affinity") document) ≡ Err e)
+    (document : Data) × (kind : Kind) × IsShaped bytes document kind
+    × (tree_of (rows_at (codes "affinity") document) ≡ Err e)
 IsRefused bytes (error.NotClassical affinity) =
     (document : Data) × (kind : Kind) × (tree : List Node) × HasTree bytes document kind tree
     × (kind_refusal kind tree ≡ Some (error.NotClassical affinity))
 IsRefused bytes (error.Layout e) =
-    (document : Data) × (kind : Kind) × (tree : List Node) × HasTree bytes document kind tree × (kind_refusal kind tree ≡ None)
+    (document : Data) × (kind : Kind) × (tree : List Node)
+    × HasTree bytes document kind tree × (kind_refusal kind tree ≡ None)
     × (layout_at kind tree document ≡ Err e)
 IsRefused bytes error.Memory = ⊥
 

@@ -1,5 +1,6 @@
 -- Which key of a hierarchy file is missing or of another type than it should be.
-use Rattle.std.specs.Prelude.{ℕ, Bool, true, List, [], ◌∷◌, Option, option_map, unwrap_or, is_some, is_none, ◌&&◌, ◌||◌, codes}
+use Rattle.std.specs.Prelude.{ℕ, Bool, true, List, [], ◌∷◌, Option, option_map, unwrap_or, is_some}
+use Rattle.std.specs.Prelude.{is_none, ◌&&◌, ◌||◌, codes}
 use Rattle.std.specs.List.{list_any}
 use Rattle.toml.specs.Data.{Data, get, as_str, as_table}
 use Rattle.waff_model.specs.Refusals.{first_refusal}
@@ -9,11 +10,13 @@ use Rattle.waff_read.specs.declared.hier_error.Key.TheVariants as key
 
 -- there is no array of tables at the key
 abbrev pub lacks_tables : List ℕ → Data → Bool
-lacks_tables key value = unwrap_or (option_map (list_any (λ row. is_none (as_table row))) (items_at key value)) true
+lacks_tables key value =
+    unwrap_or (option_map (list_any (λ row. is_none (as_table row))) (items_at key value)) true
 
 -- there is no array of texts at the key
 abbrev pub lacks_texts : List ℕ → Data → Bool
-lacks_texts key value = unwrap_or (option_map (list_any (λ text. is_none (as_str text))) (items_at key value)) true
+lacks_texts key value =
+    unwrap_or (option_map (list_any (λ text. is_none (as_str text))) (items_at key value)) true
 
 -- there is no text at the key
 abbrev pub lacks_text : List ℕ → Data → Bool
@@ -38,7 +41,10 @@ shape_checks document =
           || list_any (lacks_text (codes "name")) (rows_at (codes "space") document),
       key.Name,
     )
-    ∷ (list_any (has_other_than_text (codes "parent")) (rows_at (codes "affinity") document), key.Parent)
+    ∷ (
+      list_any (has_other_than_text (codes "parent")) (rows_at (codes "affinity") document),
+      key.Parent,
+    )
     ∷ (list_any (lacks_integer (codes "size")) (rows_at (codes "space") document), key.Size)
     ∷ (list_any (lacks_text (codes "space")) (rows_at (codes "map") document), key.Space)
     ∷ (list_any (lacks_integer (codes "unit")) (rows_at (codes "map") document), key.Unit)

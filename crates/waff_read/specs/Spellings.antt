@@ -15,14 +15,17 @@ use Rattle.waff_parse.specs.Rows.{Record}
 
 -- a cell: the name of its space, `:` and its index
 abbrev pub cell_spelled : List Space → Cell → List ℕ
-cell_spelled spaces cell = join_with_byte 58 (unwrap_or (name_at spaces cell.space) [] ∷ decimal cell.index ∷ [])
+cell_spelled spaces cell =
+    join_with_byte 58 (unwrap_or (name_at spaces cell.space) [] ∷ decimal cell.index ∷ [])
 
 -- the words of an operation
 abbrev pub words_of : List Space → Op → List (List ℕ)
 words_of spaces (op.Set cell value) = codes "set" ∷ cell_spelled spaces cell ∷ decimal value ∷ []
 words_of spaces (op.Add cell value) = codes "add" ∷ cell_spelled spaces cell ∷ decimal value ∷ []
-words_of spaces (op.Copy cell source) = codes "copy" ∷ cell_spelled spaces cell ∷ cell_spelled spaces source ∷ []
-words_of spaces (op.Swap cell other) = codes "swap" ∷ cell_spelled spaces cell ∷ cell_spelled spaces other ∷ []
+words_of spaces (op.Copy cell source) =
+    codes "copy" ∷ cell_spelled spaces cell ∷ cell_spelled spaces source ∷ []
+words_of spaces (op.Swap cell other) =
+    codes "swap" ∷ cell_spelled spaces cell ∷ cell_spelled spaces other ∷ []
 words_of spaces (op.Read cell) = codes "read" ∷ cell_spelled spaces cell ∷ []
 
 -- an operation: its words joined by one space
@@ -33,10 +36,13 @@ op_spelled spaces o = join_with_byte 32 (words_of spaces o)
 abbrev pub ops_spelled : List Space → List Op → List ℕ
 ops_spelled spaces list = join_with_byte 59 (map (op_spelled spaces) list)
 
--- the record of a message: its name, its cost, in the second version its release, and its operations
+-- the record of a message: its name, its cost, in the second version its release, and its
+-- operations
 abbrev pub record_of : Version → List Space → Message → Record
-record_of V1 spaces message = message.name ∷ decimal message.cost ∷ ops_spelled spaces message.ops ∷ []
-record_of V2 spaces message = message.name ∷ decimal message.cost ∷ decimal message.release ∷ ops_spelled spaces message.ops ∷ []
+record_of V1 spaces message =
+    message.name ∷ decimal message.cost ∷ ops_spelled spaces message.ops ∷ []
+record_of V2 spaces message = message.name
+    ∷ decimal message.cost ∷ decimal message.release ∷ ops_spelled spaces message.ops ∷ []
 
 -- the header of a trace
 abbrev pub header_row : Version → Record
@@ -45,7 +51,8 @@ header_row V2 = codes "message" ∷ codes "cost" ∷ codes "release" ∷ codes "
 
 -- the text of a trace, as `csv` writes it: its header, and then the record of each message
 abbrev pub text_of : List Space → Arrivals → List ℕ
-text_of spaces trace = flat_map (row_text default_writer) (header_row trace.version ∷ map (record_of trace.version spaces) trace.messages)
+text_of spaces trace = flat_map (row_text default_writer) (header_row trace.version
+    ∷ map (record_of trace.version spaces) trace.messages)
 
 -- the number of an operation, if it has one, is below 2^64
 abbrev pub HasSmallNumber : Op → Type 0

@@ -1,5 +1,6 @@
 -- Traces as texts.
-use Rattle.std.specs.Prelude.{◌≡◌, ℕ, ◌+◌, List, [], ◌∷◌, drop, Option, Some, None, Result, Ok, Err, if◌then◌else◌}
+use Rattle.std.specs.Prelude.{◌≡◌, ℕ, ◌+◌, List, [], ◌∷◌, drop, Option, Some, None, Result, Ok, Err}
+use Rattle.std.specs.Prelude.{if◌then◌else◌}
 use Rattle.waff_model.specs.Layout.{Space}
 use Rattle.waff_model.specs.Messages.{Arrivals, sizes_of}
 use Rattle.waff_model.specs.declared.message.Message.{Message}
@@ -18,11 +19,13 @@ use Rattle.waff_read.specs.declared.trace_fault.TraceError.TheVariants as error
 -- the version that the first of the records tells
 abbrev pub header_of : List Record → Result Version TraceError
 header_of [] = Err (error.Header 1)
-header_of (header ∷ rows) = told (at_record 1) (if is_text header then version_of header else Err fault.Csv)
+header_of (header ∷ rows) =
+    told (at_record 1) (if is_text header then version_of header else Err fault.Csv)
 
 -- the message of the record of this number
 unfoldable pub message_at : Version → List Space → ℕ → Record → Result Message TraceError
-message_at version spaces at row = told (at_record at) (if is_text row then message_of version spaces at row else Err fault.Csv)
+message_at version spaces at row =
+    told (at_record at) (if is_text row then message_of version spaces at row else Err fault.Csv)
 
 -- the number of the next record
 abbrev pub next_number : ℕ → Record → ℕ
@@ -58,12 +61,14 @@ abbrev pub GivesTrace : Result Arrivals TraceError → Result Arrivals TraceErro
 GivesTrace (Ok trace) read = read ≡ Ok trace
 GivesTrace (Err e) read = Tells e read
 
--- what the next read gives: the message of the first of the records, the others being left; none where there is no
--- record; or the error of the first
-abbrev pub GivesMessage : Version → List Space → ℕ → Result (Option Message) (Stop TraceError) → List Record → List Record → Type 0
+-- what the next read gives: the message of the first of the records, the others being left; none
+-- where there is no record; or the error of the first
+abbrev pub GivesMessage : Version → List Space
+    → ℕ → Result (Option Message) (Stop TraceError) → List Record → List Record → Type 0
 GivesMessage version spaces at (Ok None) left others = left ≡ []
 GivesMessage version spaces at (Ok (Some message)) left others =
     (row : Record) × (left ≡ row ∷ others) × (message_at version spaces at row ≡ Ok message)
 GivesMessage version spaces at (Err stop.Memory) left others = Unit {0}
 GivesMessage version spaces at (Err (stop.Fault e)) left others =
-    (row : Record) × (more : List Record) × (left ≡ row ∷ more) × (message_at version spaces at row ≡ Err e)
+    (row : Record) × (more : List Record) × (left ≡ row ∷ more)
+    × (message_at version spaces at row ≡ Err e)

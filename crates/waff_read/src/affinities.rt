@@ -39,7 +39,8 @@ pub(crate) fn read_tree(alloc: Global, rows: &[Value]) -> Result<Tree, Stop<Tree
 fn add_row(names: &mut Names, tree: &mut TreeBuilder, row: &Value) -> Result<(), Stop<TreeError>>
     requires names { names.old ≡ map (λ node. node.name) tree.old }
     requires few { length names.old ≤ MAX_AFFINITIES }
-    ensures checked { Gives (λ done. done) result (passed (refusal_of tree.old (node_in tree.old (view row.now)))) }
+    ensures checked { Gives (λ done.
+        done) result (passed (refusal_of tree.old (node_in tree.old (view row.now)))) }
     ensures added { OnOk result (tree.new ≡ tree.old ++ node_in tree.old (view row.now) ∷ []) }
     ensures names { OnOk result (names.new ≡ map (λ node. node.name) tree.new) }
     ensures few { OnOk result (length names.new ≤ MAX_AFFINITIES) }
@@ -65,7 +66,8 @@ fn name_of(row: &Value) -> &str
     }
 }
 
-/// The parent of the affinity of a row: where no affinity has the name, a number that no affinity has.
+/// The parent of the affinity of a row: where no affinity has the name, a number that no affinity
+/// has.
 fn parent_of(names: &Names, row: &Value) -> Option<AffinityId>
     requires { length names.now ≤ MAX_AFFINITIES }
     ensures { option_map (λ p. p.0) result ≡ option_map (place_of names.now) (text_at (codes "parent") (view row.now)) }

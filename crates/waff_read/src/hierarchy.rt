@@ -9,7 +9,8 @@ ghost use Rattle.waff_read.specs.Affinities.{tree_of};
 ghost use Rattle.waff_read.specs.Documents.{document_of, rows_at};
 ghost use Rattle.waff_read.specs.Shapes.{shape_refusal};
 ghost use Rattle.waff_read.specs.HierRefusals.{Reads, shape_error, tree_error, layout_error};
-ghost use Rattle.waff_read.specs.Hierarchies.{kind_of, kind_named, kind_refusal, third_level_of, layout_at, hierarchy_of};
+ghost use Rattle.waff_read.specs.Hierarchies.{kind_of, kind_named, kind_refusal, third_level_of};
+ghost use Rattle.waff_read.specs.Hierarchies.{layout_at, hierarchy_of};
 
 use crate::affinities::read_tree;
 use crate::document::{rows, text};
@@ -131,7 +132,8 @@ fn is_below_child(tree: &Tree, affinity: AffinityId) -> bool
 
 /// The layout of the document's spaces and maps over the tree.
 fn read_layout(alloc: Global, kind: Kind, tree: Tree, document: &Value) -> Result<Layout, HierError>
-    ensures { Reads (λ layout. layout) result (told layout_error (layout_at kind tree (view document.now))) }
+    ensures { Reads (λ layout.
+        layout) result (told layout_error (layout_at kind tree (view document.now))) }
 {
     let spaces = read_spaces(alloc, rows(document, "space"))?;
     let maps = read_maps(alloc, rows(document, "map"))?;

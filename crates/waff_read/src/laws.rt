@@ -1,5 +1,5 @@
-//! What is known of all files that the readers accept or refuse. Each law is a function that does nothing and whose contract
-//! is the law.
+//! What is known of all files that the readers accept or refuse. Each law is a function that does
+//! nothing and whose contract is the law.
 
 ghost use Rattle.std.specs.Prelude.{ℕ, List};
 ghost use Rattle.toml.specs.Data.{Data};
@@ -9,37 +9,46 @@ ghost use Rattle.waff_model.specs.declared.message.Message.{Message};
 ghost use Rattle.waff_model.specs.declared.message.Version.{Version};
 ghost use Rattle.waff_parse.specs.Fields.{Field};
 ghost use Rattle.waff_parse.specs.Rows.{Record};
-ghost use Rattle.waff_read.specs.Laws.{FirstVersionIsExact, SecondVersionIsExact, SpelledIsRead, SpelledTraceIsRead, LeastCheckDecides, TraceIsExact, FirstFaultDecides, HierarchyIsExact, ClassicalHasTwoLevels};
+ghost use Rattle.waff_read.specs.Laws.{FirstVersionIsExact, SecondVersionIsExact, SpelledIsRead};
+ghost use Rattle.waff_read.specs.Laws.{SpelledTraceIsRead, LeastCheckDecides, TraceIsExact};
+ghost use Rattle.waff_read.specs.Laws.{FirstFaultDecides, HierarchyIsExact, ClassicalHasTwoLevels};
 ghost use Rattle.waff_read.specs.Refused.{TreeIsExact, FirstAffinityDecides, FirstCheckDecides};
 
-/// A message of three fields is accepted exactly where no check holds, and has the values that they write.
+/// A message of three fields is accepted exactly where no check holds, and has the values that they
+/// write.
 pub fn first_version_is_exact()
     ensures { (spaces : List Space) (at : ℕ) (row : Record) → FirstVersionIsExact spaces at row }
 {}
 
-/// A message of four fields is accepted exactly where no check holds, and has the values that they write.
+/// A message of four fields is accepted exactly where no check holds, and has the values that they
+/// write.
 pub fn second_version_is_exact()
     ensures { (spaces : List Space) (at : ℕ) (row : Record) → SecondVersionIsExact spaces at row }
 {}
 
 /// Of the checks that hold of a record, the one of least number is told.
 pub fn least_check_decides()
-    ensures { (spaces : List Space) (at : ℕ) (name cost ops : Field) → LeastCheckDecides spaces at name cost ops }
+    ensures { (spaces : List Space) (at : ℕ) (name cost ops : Field)
+        → LeastCheckDecides spaces at name cost ops }
 {}
 
 /// A message is read from the record that spells it.
 pub fn spelled_is_read()
-    ensures { (layout : Hierarchy) (version : Version) (at : ℕ) (message : Message) → SpelledIsRead layout version at message }
+    ensures { (layout : Hierarchy) (version : Version) (at : ℕ) (message : Message)
+        → SpelledIsRead layout version at message }
 {}
 
-/// A trace is read from the text that spells it: what is written as a trace is read as the same trace.
+/// A trace is read from the text that spells it: what is written as a trace is read as the same
+/// trace.
 pub fn spelled_trace_is_read()
     ensures { (layout : Hierarchy) (trace : Arrivals) → SpelledTraceIsRead layout trace }
 {}
 
-/// A trace is accepted exactly where its header and each record after it is, and has their messages in order.
+/// A trace is accepted exactly where its header and each record after it is, and has their messages
+/// in order.
 pub fn trace_is_exact()
-    ensures { (spaces : List Space) (bytes : List ℕ) (trace : Arrivals) → TraceIsExact spaces bytes trace }
+    ensures { (spaces : List Space) (bytes : List ℕ) (trace : Arrivals)
+        → TraceIsExact spaces bytes trace }
 {}
 
 /// The first faulty record decides.
@@ -63,7 +72,8 @@ pub fn tree_is_exact()
     ensures { (rows : List Data) → TreeIsExact rows }
 {}
 
-/// The first row that is no affinity decides, and of the checks that hold of it the one of least number.
+/// The first row that is no affinity decides, and of the checks that hold of it the one of least
+/// number.
 pub fn first_affinity_decides()
     ensures { (rows : List Data) → FirstAffinityDecides rows }
 {}

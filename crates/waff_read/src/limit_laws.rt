@@ -1,5 +1,5 @@
-//! That what is read is within the limits. Each law is a function that does nothing and whose contract
-//! is the law.
+//! That what is read is within the limits. Each law is a function that does nothing and whose
+//! contract is the law.
 
 ghost use Rattle.std.specs.Prelude.{ℕ, List};
 ghost use Rattle.waff_model.specs.Layout.{Space, Hierarchy};

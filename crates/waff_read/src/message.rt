@@ -84,7 +84,8 @@ fn message_of_fields(
     release: Option<&str>,
     ops: &str,
 ) -> Result<Message, Stop<TraceFault>>
-    ensures { Gives (λ m. m) result (messages.message_of_fields spaces.now at name.now cost.now (option_map (λ s. s.now) release.entry) ops.now) }
+    ensures { Gives (λ m. m) result (messages.message_of_fields spaces.now at name.now cost.now
+        (option_map (λ s. s.now) release.entry) ops.now) }
 {
     if !is_name(name) {
         return Err(Stop::Fault(TraceFault::Name));
@@ -117,7 +118,8 @@ pub(crate) fn read_message(
     at: u32,
     row: &StringRecord,
 ) -> Result<Message, Stop<TraceFault>>
-    ensures { Gives (λ m. m) result (messages.message_of version spaces.now at (fields_of row.now)) }
+    ensures { Gives (λ m.
+        m) result (messages.message_of version spaces.now at (fields_of row.now)) }
 {
     match version {
         Version::V1 => match three_fields(row) {

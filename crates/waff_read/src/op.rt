@@ -109,7 +109,8 @@ fn read_two(
     Err(TraceFault::Op)
 }
 
-// The operation of a verb and the words after it. A second word with a space is neither a cell nor a number.
+// The operation of a verb and the words after it. A second word with a space is neither a cell nor
+// a number.
 #[tactic(auto, unfolding(crate::specs::Ops::op_of_verb))]
 fn read_words(spaces: &SpaceTable<'_>, verb: &str, words: &str) -> Result<Op, TraceFault>
     ensures { result ≡ ops.op_of_verb spaces.now verb.now words.now }

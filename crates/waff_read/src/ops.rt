@@ -27,7 +27,8 @@ fn keep(list: &mut Ops, op: Op) -> Result<(), AllocError>
     Ok(())
 }
 
-// The operations so far with one more, or the least fault. No more than one above the limit is kept.
+// The operations so far with one more, or the least fault. No more than one above the limit is
+// kept.
 fn with_op(
     so_far: Result<Ops, TraceFault>,
     op: Result<Op, TraceFault>,

@@ -42,7 +42,8 @@ fn next_message(
     row: &mut StringRecord,
 ) -> Result<Option<Message>, Stop<TraceError>>
     requires { Reads rdr.old }
-    ensures message { traces.GivesMessage version spaces.now at result (records_left rdr.old) (records_left rdr.new) }
+    ensures message { traces.GivesMessage version spaces.now at result
+        (records_left rdr.old) (records_left rdr.new) }
     ensures reads { OnOk result (Reads rdr.new) }
 {
     match next_text(rdr, row) {
@@ -66,7 +67,8 @@ fn read_messages(
     row: &mut StringRecord,
 ) -> Result<Trace, Stop<TraceError>>
     requires { Reads rdr.old }
-    ensures { Gives (λ trace. trace) result (traces.trace_of_rows version spaces.now (records_left rdr.old)) }
+    ensures { Gives (λ trace.
+        trace) result (traces.trace_of_rows version spaces.now (records_left rdr.old)) }
 {
     let mut trace = Trace::with_version(alloc, spaces.layout(), version)?;
     let mut at = 2;
@@ -89,8 +91,9 @@ fn trace_of(alloc: Global, layout: &Layout, bytes: &[u8]) -> Result<Trace, Stop<
     read_messages(alloc, &spaces, version, &mut rdr, &mut row)
 }
 
-/// The trace that the bytes spell, for cells of the layout: CSV with a header, and then a record for each message.
-/// Records are numbered from 1, the header's. The first record with a fault decides.
+/// The trace that the bytes spell, for cells of the layout: CSV with a header, and then a record
+/// for each message. Records are numbered from 1, the header's. The first record with a fault
+/// decides.
 pub fn read_trace(alloc: Global, layout: &Layout, bytes: &[u8]) -> Result<Trace, TraceError>
     ensures exact { traces.GivesTrace result (traces.trace_of layout.now.spaces bytes.now) }
     ensures fits { IfOk result (λ trace. trace.sizes ≡ sizes_of layout.now.spaces) }

@@ -16,7 +16,8 @@ pub fn serial(alloc: Global, layout: &Layout, trace: &Trace) -> Result<State, Al
     requires fits { trace.now.sizes ≡ sizes_of layout.now.spaces }
     ensures sizes { IfOk result (λ state. HasSizes state (sizes_of layout.now.spaces)) }
     ensures cells { IfOk result (λ state. (cell : Cell)
-        → cells_in state cell ≡ serial (operations trace.now.messages) (length trace.now.messages) cell) }
+        → cells_in state cell
+        ≡ serial (operations trace.now.messages) (length trace.now.messages) cell) }
 {
     let mut state = State::zero(alloc, layout)?;
     for n in 1..trace.len() + 1 {

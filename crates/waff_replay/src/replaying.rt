@@ -20,8 +20,9 @@ use waff_board::{Board, CloseError, EndSeat, Seat};
 use waff_cells::State;
 use waff_core::Job;
 
-/// The state that the job's messages leave when this many workers run them, each in a thread of its own. The calling
-/// thread is one of the workers. Where a thread can't be started there are fewer workers.
+/// The state that the job's messages leave when this many workers run them, each in a thread of its
+/// own. The calling thread is one of the workers. Where a thread can't be started there are fewer
+/// workers.
 pub fn replay<R: Threads + Wait + Sync, G: Gate>(
     rt: &R,
     alloc: Global,
@@ -68,7 +69,8 @@ fn team<R: Threads + Wait + Sync, G: Gate>(
         requires { IsSync R.row × IsSync G.row × IsOf board.now other.hand }
     { work(rt, board, other, gate) };
     let ours = move || -> EndSeat
-        requires { IsSync R.row × IsSync G.row × IsOf board.now mine.hand × All (λ seat. IsOf board.now seat.hand) others.items }
+        requires { IsSync R.row × IsSync G.row × IsOf board.now mine.hand
+            × All (λ seat. IsOf board.now seat.hand) others.items }
         ensures { IsOf board.entry.now result.hand }
     { team(rt, board, mine, others, gate) };
     let (_, end) = thread::join(rt, theirs, ours);

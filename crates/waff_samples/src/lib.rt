@@ -1,7 +1,8 @@
 //! The sample files, and what is printed for them: hierarchies H1 and C1, traces X1 and X2.
 #![tactic(auto)]
 
-/// The hierarchical sample: Serial; VolA and VolB below it; A0 and A1 below VolA; B0 and B1 below VolB.
+/// The hierarchical sample: Serial; VolA and VolB below it; A0 and A1 below VolA; B0 and B1 below
+/// VolB.
 pub const H1: &str = "model = \"hierarchical\"\n\
 [[space]]\n\
 name = \"f\"\n\

@@ -1,5 +1,6 @@
 -- The text of an assignment: a header, and a line for each message in the order of their numbers.
-use Rattle.std.specs.Prelude.{ℕ, ◌-◌, List, [], ◌∷◌, length, map, option_map, unwrap_or, slice_get, codes, decimal}
+use Rattle.std.specs.Prelude.{ℕ, ◌-◌, List, [], ◌∷◌, length, map, option_map, unwrap_or, slice_get}
+use Rattle.std.specs.Prelude.{codes, decimal}
 use Rattle.std.specs.List.{range_with_len}
 use Rattle.waff_model.specs.Tree.{Node, name_of}
 use Rattle.waff_model.specs.declared.message.Message.{Message}
@@ -11,11 +12,13 @@ assign_header = codes "message" ∷ codes "name" ∷ codes "affinity" ∷ []
 
 -- the name of message n
 abbrev pub message_name : List Message → ℕ → List ℕ
-message_name messages n = unwrap_or (option_map (λ message. message.name) (slice_get messages (n - 1))) []
+message_name messages n =
+    unwrap_or (option_map (λ message. message.name) (slice_get messages (n - 1))) []
 
 -- the line of message n: its number, its name, and the name of its affinity
 abbrev pub assign_row : List Node → List Message → List ℕ → ℕ → List (List ℕ)
-assign_row tree messages assigned n = decimal n ∷ message_name messages n ∷ name_of tree (affinity_of assigned n) ∷ []
+assign_row tree messages assigned n =
+    decimal n ∷ message_name messages n ∷ name_of tree (affinity_of assigned n) ∷ []
 
 -- the lines of an assignment
 abbrev pub assign_lines : List Node → List Message → List ℕ → List (List (List ℕ))

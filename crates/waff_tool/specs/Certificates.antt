@@ -8,25 +8,31 @@ use Rattle.waff_plan.specs.Bound.{IsWithinBound}
 use Rattle.waff_plan.specs.Laws.{ChainsAreWithinLength}
 use Rattle.waff_list.specs.ListRule.{IsListPlan}
 
--- the least plan, with its printed chain: no obeying plan is shorter, as the chain shows, whose release plus cost is the length;
--- that of every chain is at most the length of every obeying plan
-pub record IsCertified (before : ℕ → ℕ → Type 0) (work : Work) (start : ℕ → ℕ) (chain : List ℕ) : Type 0 where
+-- the least plan, with its printed chain: no obeying plan is shorter, as the chain shows, whose
+-- release plus cost is the length; that of every chain is at most the length of every obeying plan
+pub record IsCertified (before : ℕ → ℕ → Type 0) (work : Work) (start : ℕ
+    → ℕ) (chain : List ℕ) : Type 0 where
   pub least : IsLeast before work start
   pub printed : IsPrinted before work start chain
-  pub shortest : (other : ℕ → ℕ) → Obeys before work other → length_of work start ≤ length_of work other
+  pub shortest : (other : ℕ → ℕ) → Obeys before work other
+      → length_of work start ≤ length_of work other
   pub is_chain : IsChain before work chain
   pub as_long : chain_release work chain + chain_cost work chain ≡ length_of work start
   pub certificate : ChainsAreWithinLength before work
 
--- the list plan for k workers, with its printed chain: at most k messages run at each tick, and the plan is within the list bound
--- of the chain, so at most twice as long as any worker plan for k, or 2 - 1/k times where no message has a release
-pub record IsBounded (before : ℕ → ℕ → Type 0) (work : Work) (k : ℕ) (start : ℕ → ℕ) (chain : List ℕ) : Type 0 where
+-- the list plan for k workers, with its printed chain: at most k messages run at each tick, and the
+-- plan is within the list bound of the chain, so at most twice as long as any worker plan for k, or
+-- 2 - 1/k times where no message has a release
+pub record IsBounded (before : ℕ → ℕ → Type 0) (work : Work) (k : ℕ) (start : ℕ
+    → ℕ) (chain : List ℕ) : Type 0 where
   pub list : IsListPlan before work k start
   pub obeys : Obeys before work start
   pub at_once : (t : ℕ) → running work start t ≤ k
   pub printed : IsPrinted before work start chain
   pub is_chain : IsChain before work chain
   pub bound : IsWithinBound work k start chain
-  pub twice : (other : ℕ → ℕ) → IsWorkerPlan before work k other → k * length_of work start ≤ 2 * k * length_of work other
+  pub twice : (other : ℕ → ℕ) → IsWorkerPlan before work k other
+      → k * length_of work start ≤ 2 * k * length_of work other
   pub ratio : ((m : ℕ) → IsNumber work m → work.release m ≡ 0)
-      → (other : ℕ → ℕ) → IsWorkerPlan before work k other → k * length_of work start ≤ (2 * k - 1) * length_of work other
+      → (other : ℕ → ℕ) → IsWorkerPlan before work k other
+      → k * length_of work start ≤ (2 * k - 1) * length_of work other

@@ -6,7 +6,8 @@ use Rattle.waff_read.specs.Hierarchies.{hierarchy_of}
 use Rattle.waff_read.specs.Traces.{trace_of}
 use Rattle.waff_plan_text.specs.Given.{Given}
 use Rattle.waff_plan_text.specs.PlanTexts.{plan_of}
-use Rattle.waff_check.specs.Promises.{PromisesBound, PromisesChain, PromisesObeys, PromisesOneAtATime, PromisesShortest, PromisesWorkerPlan}
+use Rattle.waff_check.specs.Promises.{PromisesBound, PromisesChain, PromisesObeys}
+use Rattle.waff_check.specs.Promises.{PromisesOneAtATime, PromisesShortest, PromisesWorkerPlan}
 use Rattle.waff_check.specs.Verdicts.{IsVerdict, claim_of}
 use Rattle.waff_plan_text.specs.declared.refusal.PlanTextError.{PlanTextError}
 use Rattle.waff_check.specs.declared.verdict.Verdict.{Verdict}
@@ -18,7 +19,8 @@ use Rattle.waff_tool.specs.declared.fault.ToolError.TheVariants as tool
 
 -- the line of a verdict: its name, and the messages, the tick or the place that it tells
 abbrev pub verdict_fields : Verdict → List (List ℕ)
-verdict_fields (verdict.Overlap first second) = codes "overlap" ∷ decimal first ∷ decimal second ∷ []
+verdict_fields (verdict.Overlap first second) =
+    codes "overlap" ∷ decimal first ∷ decimal second ∷ []
 verdict_fields (verdict.TooManyAt tick) = codes "toomany" ∷ decimal tick ∷ []
 verdict_fields (verdict.Worker message) = codes "worker" ∷ decimal message ∷ []
 verdict_fields (verdict.Affinity message) = codes "affinity" ∷ decimal message ∷ []
@@ -48,8 +50,8 @@ status_after verdict.Totals = 1
 status_after (verdict.NotAChain place) = 1
 status_after (verdict.Early message) = 1
 
--- bytes that are a hierarchy, a trace over it and the text of a plan for its messages; the verdict on that plan, and what the
--- verdict promises
+-- bytes that are a hierarchy, a trace over it and the text of a plan for its messages; the verdict
+-- on that plan, and what the verdict promises
 pub record IsCheckText (hierarchy_file trace_file plan_file : List ℕ) (v : Verdict) : Type 0 where
   pub layout : Hierarchy
   pub trace : Arrivals
@@ -66,14 +68,17 @@ pub record IsCheckText (hierarchy_file trace_file plan_file : List ℕ) (v : Ver
   pub bound : PromisesBound (claim_of layout.tree assigned trace.messages given) v
 
 -- the hierarchy and the trace are accepted, and the text of the plan is refused
-pub record RefusesPlan (hierarchy_file trace_file plan_file : List ℕ) (fault : PlanTextError) : Type 0 where
+pub record RefusesPlan (hierarchy_file trace_file plan_file : List ℕ)
+    (fault : PlanTextError) : Type 0 where
   pub layout : Hierarchy
   pub trace : Arrivals
   pub is_layout : hierarchy_of hierarchy_file ≡ Ok layout
   pub is_trace : trace_of layout.spaces trace_file ≡ Ok trace
   pub refused : plan_of trace.version (length trace.messages) plan_file ≡ Err fault
 
--- an error tells the first file that is refused, and why; want of memory and a writer's fault tell nothing of the files
+-- an error tells the first file that is refused, and why; want of memory and a writer's fault tell
+-- nothing of the files
 abbrev pub RefusesCheck : List ℕ → List ℕ → List ℕ → ToolError → Type 0
-RefusesCheck hierarchy_file trace_file plan_file (tool.PlanText fault) = RefusesPlan hierarchy_file trace_file plan_file fault
+RefusesCheck hierarchy_file trace_file plan_file (tool.PlanText fault) =
+    RefusesPlan hierarchy_file trace_file plan_file fault
 RefusesCheck hierarchy_file trace_file plan_file error = Refuses hierarchy_file trace_file error

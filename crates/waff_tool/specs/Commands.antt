@@ -22,9 +22,10 @@ use Rattle.waff_tool.specs.declared.fault.ToolError.TheVariants as tool
 abbrev pub work_in : Arrivals → Work
 work_in trace = work_of (timings_of trace.messages)
 
--- bytes that are a hierarchy and a trace over it, and the assignment of the trace: for each message the lowest affinity that
--- covers its footprint
-pub record Accepts (hierarchy_file trace_file : List ℕ) (layout : Hierarchy) (trace : Arrivals) (assigned : List ℕ) : Type 0 where
+-- bytes that are a hierarchy and a trace over it, and the assignment of the trace: for each message
+-- the lowest affinity that covers its footprint
+pub record Accepts (hierarchy_file trace_file : List ℕ)
+    (layout : Hierarchy) (trace : Arrivals) (assigned : List ℕ) : Type 0 where
   pub is_layout : hierarchy_of hierarchy_file ≡ Ok layout
   pub is_trace : trace_of layout.spaces trace_file ≡ Ok trace
   pub assignment : IsAssignment layout trace.messages assigned
@@ -37,7 +38,8 @@ pub record IsAssignText (hierarchy_file trace_file text : List ℕ) : Type 0 whe
   pub accepts : Accepts hierarchy_file trace_file layout trace assigned
   pub lines : text ≡ text_of (assign_lines layout.tree trace.messages assigned)
 
--- the text of the least plan of a hierarchy and a trace, with the chain that shows that no obeying plan is shorter
+-- the text of the least plan of a hierarchy and a trace, with the chain that shows that no obeying
+-- plan is shorter
 pub record IsPlanText (hierarchy_file trace_file text : List ℕ) : Type 0 where
   pub layout : Hierarchy
   pub trace : Arrivals
@@ -45,11 +47,15 @@ pub record IsPlanText (hierarchy_file trace_file text : List ℕ) : Type 0 where
   pub starts : List ℕ
   pub chain : List ℕ
   pub accepts : Accepts hierarchy_file trace_file layout trace assigned
-  pub certified : IsCertified (IsOrdered layout.tree assigned) (work_in trace) (start_of starts) chain
-  pub lines : text ≡ text_of (unlimited_lines trace.version layout.tree assigned (work_in trace) (start_of starts) chain)
+  pub certified : IsCertified (IsOrdered layout.tree assigned)
+      (work_in trace) (start_of starts) chain
+  pub lines : text ≡ text_of
+      (unlimited_lines trace.version layout.tree assigned (work_in trace) (start_of starts) chain)
 
--- the text of the list plan of a hierarchy and a trace for k workers, with the chain that bounds its length
-pub record IsWorkerPlanText (hierarchy_file trace_file : List ℕ) (k : ℕ) (text : List ℕ) : Type 0 where
+-- the text of the list plan of a hierarchy and a trace for k workers, with the chain that bounds
+-- its length
+pub record IsWorkerPlanText (hierarchy_file trace_file : List ℕ)
+    (k : ℕ) (text : List ℕ) : Type 0 where
   pub layout : Hierarchy
   pub trace : Arrivals
   pub assigned : List ℕ
@@ -58,20 +64,26 @@ pub record IsWorkerPlanText (hierarchy_file trace_file : List ℕ) (k : ℕ) (te
   pub chain : List ℕ
   pub accepts : Accepts hierarchy_file trace_file layout trace assigned
   pub bounded : IsBounded (IsOrdered layout.tree assigned) (work_in trace) k (start_of starts) chain
-  pub seated : (m : ℕ) → IsNumber (work_in trace) m → IsSeated (work_in trace) (start_of starts) (worker_of workers) m
+  pub seated : (m : ℕ) → IsNumber (work_in trace) m
+      → IsSeated (work_in trace) (start_of starts) (worker_of workers) m
   pub lines : text ≡ text_of
-      (worker_lines trace.version layout.tree assigned (work_in trace) k (start_of starts) workers chain)
+      (worker_lines trace.version layout.tree assigned
+      (work_in trace) k (start_of starts) workers chain)
 
 -- the text of the plan for this number of workers, or of the least plan where there is no number
 abbrev pub IsPlanTextFor : List ℕ → List ℕ → Option ℕ → List ℕ → Type 0
 IsPlanTextFor hierarchy_file trace_file None text = IsPlanText hierarchy_file trace_file text
-IsPlanTextFor hierarchy_file trace_file (Some k) text = IsWorkerPlanText hierarchy_file trace_file k text
+IsPlanTextFor hierarchy_file trace_file (Some k) text =
+    IsWorkerPlanText hierarchy_file trace_file k text
 
--- an error tells the first file that is refused, and why; want of memory and a writer's fault tell nothing of the files
+-- an error tells the first file that is refused, and why; want of memory and a writer's fault tell
+-- nothing of the files
 abbrev pub Refuses : List ℕ → List ℕ → ToolError → Type 0
-Refuses hierarchy_file trace_file (tool.Hier file fault) = (file ≡ 1) × (hierarchy_of hierarchy_file ≡ Err fault)
+Refuses hierarchy_file trace_file (tool.Hier file fault) =
+    (file ≡ 1) × (hierarchy_of hierarchy_file ≡ Err fault)
 Refuses hierarchy_file trace_file (tool.Trace fault) =
-    (layout : Hierarchy) × (hierarchy_of hierarchy_file ≡ Ok layout) × (trace_of layout.spaces trace_file ≡ Err fault)
+    (layout : Hierarchy) × (hierarchy_of hierarchy_file ≡ Ok layout)
+    × (trace_of layout.spaces trace_file ≡ Err fault)
 Refuses hierarchy_file trace_file (tool.PlanText fault) = ⊥
 Refuses hierarchy_file trace_file tool.SpacesDiffer = ⊥
 Refuses hierarchy_file trace_file tool.ModelsSame = ⊥

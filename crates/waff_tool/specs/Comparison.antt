@@ -1,5 +1,6 @@
 -- What is printed where a classical and a hierarchical hierarchy are compared on one trace.
-use Rattle.std.specs.Prelude.{◌≡◌, ℕ, ◌≤◌, ◌⊎◌, ◌↔◌, Bool, true, false, IsTrue, List, [], ◌∷◌, ◌++◌, Some, None, Ok, Err, codes, decimal}
+use Rattle.std.specs.Prelude.{◌≡◌, ℕ, ◌≤◌, ◌⊎◌, ◌↔◌, Bool, true, false, IsTrue, List, [], ◌∷◌, ◌++◌}
+use Rattle.std.specs.Prelude.{Some, None, Ok, Err, codes, decimal}
 use Rattle.waff_model.specs.Layout.{Hierarchy, SameSpaces}
 use Rattle.waff_model.specs.Messages.{Arrivals}
 use Rattle.waff_model.specs.declared.kind.Kind.{Kind}
@@ -21,9 +22,10 @@ use Rattle.waff_tool.specs.declared.fault.ToolError.{ToolError}
 use Rattle.waff_tool.specs.declared.fault.ToolError.TheVariants as tool
 use Rattle.waff_tool.specs.declared.measures.Measured.{Measured}
 
--- what is told of a trace under one hierarchy: of its least plan, and of its list plan for k workers, each with its printed
--- chain
-pub record IsMeasured (layout : Hierarchy) (assigned : List ℕ) (work : Work) (k : ℕ) (measured : Measured) : Type 0 where
+-- what is told of a trace under one hierarchy: of its least plan, and of its list plan for k
+-- workers, each with its printed chain
+pub record IsMeasured (layout : Hierarchy)
+    (assigned : List ℕ) (work : Work) (k : ℕ) (measured : Measured) : Type 0 where
   pub starts : List ℕ
   pub chain : List ℕ
   pub list_starts : List ℕ
@@ -41,13 +43,15 @@ kind_field kind.Hierarchical = codes "hierarchical"
 -- what the lines of the hierarchies tell
 abbrev pub measures_header : Version → List (List ℕ)
 measures_header V1 =
-    codes "model" ∷ codes "length" ∷ codes "chain" ∷ codes "list" ∷ codes "listchain" ∷ codes "left" ∷ codes "right" ∷ []
+    codes "model" ∷ codes "length" ∷ codes "chain"
+    ∷ codes "list" ∷ codes "listchain" ∷ codes "left" ∷ codes "right" ∷ []
 measures_header V2 =
-    codes "model" ∷ codes "length" ∷ codes "release" ∷ codes "chain" ∷ codes "list" ∷ codes "listrelease" ∷ codes "listchain"
+    codes "model" ∷ codes "length" ∷ codes "release"
+    ∷ codes "chain" ∷ codes "list" ∷ codes "listrelease" ∷ codes "listchain"
     ∷ codes "left" ∷ codes "right" ∷ []
 
--- what is told of a plan: its length, and the release and the cost of its printed chain; a trace of the first version has no
--- releases
+-- what is told of a plan: its length, and the release and the cost of its printed chain; a trace of
+-- the first version has no releases
 abbrev pub plan_fields : Version → Totals → List (List ℕ)
 plan_fields V1 plan = decimal plan.length ∷ decimal plan.cost ∷ []
 plan_fields V2 plan = decimal plan.length ∷ decimal plan.release ∷ decimal plan.cost ∷ []
@@ -75,9 +79,11 @@ compare_lines version k total classical hierarchical refined =
     ∷ (codes "refines" ∷ answer_field refined ∷ [])
     ∷ []
 
--- the text of the comparison of a classical and a hierarchical hierarchy on a trace: it tells whether the hierarchical one
--- refines the classical one, and where it does its least plan is no longer
-pub record IsCompared (classical hierarchical : Hierarchy) (trace : Arrivals) (k : ℕ) (text : List ℕ) : Type 0 where
+-- the text of the comparison of a classical and a hierarchical hierarchy on a trace: it tells
+-- whether the hierarchical one refines the classical one, and where it does its least plan is no
+-- longer
+pub record IsCompared (classical hierarchical : Hierarchy)
+    (trace : Arrivals) (k : ℕ) (text : List ℕ) : Type 0 where
   pub coarse : List ℕ
   pub fine : List ℕ
   pub of_classical : Measured
@@ -89,18 +95,22 @@ pub record IsCompared (classical hierarchical : Hierarchy) (trace : Arrivals) (k
   pub hierarchical_measured : IsMeasured hierarchical fine (work_in trace) k of_hierarchical
   pub told : IsTrue refined ↔ Refines hierarchical.tree fine classical.tree coarse
   pub no_longer : IsTrue refined → of_hierarchical.unlimited.length ≤ of_classical.unlimited.length
-  pub lines : text ≡ text_of (compare_lines trace.version k (total_of (work_in trace)) of_classical of_hierarchical refined)
+  pub lines : text ≡ text_of (compare_lines trace.version k
+      (total_of (work_in trace)) of_classical of_hierarchical refined)
 
 -- two files that are a classical and a hierarchical hierarchy, in either order, of the same spaces
-pub record AreModels (first_file second_file : List ℕ) (classical hierarchical : Hierarchy) : Type 0 where
-  pub files : ((hierarchy_of first_file ≡ Ok classical) × (hierarchy_of second_file ≡ Ok hierarchical))
+pub record AreModels (first_file second_file : List ℕ)
+    (classical hierarchical : Hierarchy) : Type 0 where
+  pub files : ((hierarchy_of first_file ≡ Ok classical)
+      × (hierarchy_of second_file ≡ Ok hierarchical))
       ⊎ ((hierarchy_of first_file ≡ Ok hierarchical) × (hierarchy_of second_file ≡ Ok classical))
   pub is_classical : classical.kind ≡ kind.Classical
   pub is_hierarchical : hierarchical.kind ≡ kind.Hierarchical
   pub same_spaces : SameSpaces classical.spaces hierarchical.spaces
 
 -- the text of the comparison of two hierarchies on a trace
-pub record IsCompareText (first_file second_file trace_file : List ℕ) (k : ℕ) (text : List ℕ) : Type 0 where
+pub record IsCompareText (first_file second_file trace_file : List ℕ)
+    (k : ℕ) (text : List ℕ) : Type 0 where
   pub classical : Hierarchy
   pub hierarchical : Hierarchy
   pub trace : Arrivals
@@ -110,16 +120,18 @@ pub record IsCompareText (first_file second_file trace_file : List ℕ) (k : ℕ
 
 -- an error tells why the hierarchy of this number is refused, or that memory was
 abbrev pub RefusesHierarchy : ℕ → List ℕ → ToolError → Type 0
-RefusesHierarchy number hierarchy_file (tool.Hier file fault) = (file ≡ number) × (hierarchy_of hierarchy_file ≡ Err fault)
+RefusesHierarchy number hierarchy_file (tool.Hier file fault) =
+    (file ≡ number) × (hierarchy_of hierarchy_file ≡ Err fault)
 RefusesHierarchy number hierarchy_file tool.Memory = Unit {0}
 RefusesHierarchy number hierarchy_file error = ⊥
 
 -- two files that are hierarchies
 abbrev pub AreHierarchies : List ℕ → List ℕ → Hierarchy → Hierarchy → Type 0
-AreHierarchies first_file second_file first second = (hierarchy_of first_file ≡ Ok first) × (hierarchy_of second_file ≡ Ok second)
+AreHierarchies first_file second_file first second =
+    (hierarchy_of first_file ≡ Ok first) × (hierarchy_of second_file ≡ Ok second)
 
--- an error tells the first of the faults of two hierarchies, in this order: the first one is refused, the second one is, their
--- spaces differ, their models are the same
+-- an error tells the first of the faults of two hierarchies, in this order: the first one is
+-- refused, the second one is, their spaces differ, their models are the same
 abbrev pub RefusesModels : List ℕ → List ℕ → ToolError → Type 0
 RefusesModels first_file second_file tool.SpacesDiffer =
     (first : Hierarchy) × (second : Hierarchy) × AreHierarchies first_file second_file first second
@@ -129,13 +141,16 @@ RefusesModels first_file second_file tool.ModelsSame =
     × SameSpaces first.spaces second.spaces × (first.kind ≡ second.kind)
 RefusesModels first_file second_file error =
     RefusesHierarchy 1 first_file error
-    ⊎ ((first : Hierarchy) × (hierarchy_of first_file ≡ Ok first) × RefusesHierarchy 2 second_file error)
+    ⊎ ((first : Hierarchy) × (hierarchy_of first_file ≡ Ok first)
+    × RefusesHierarchy 2 second_file error)
 
--- an error tells the first of the faults: of the hierarchies, and then of the trace; want of memory and a writer's fault tell
--- nothing of the files
+-- an error tells the first of the faults: of the hierarchies, and then of the trace; want of memory
+-- and a writer's fault tell nothing of the files
 abbrev pub RefusesComparison : List ℕ → List ℕ → List ℕ → ToolError → Type 0
 RefusesComparison first_file second_file trace_file (tool.Trace fault) =
-    (classical : Hierarchy) × (hierarchical : Hierarchy) × AreModels first_file second_file classical hierarchical
+    (classical : Hierarchy) × (hierarchical : Hierarchy)
+    × AreModels first_file second_file classical hierarchical
     × (trace_of classical.spaces trace_file ≡ Err fault)
 RefusesComparison first_file second_file trace_file tool.Write = Unit {0}
-RefusesComparison first_file second_file trace_file error = RefusesModels first_file second_file error
+RefusesComparison first_file second_file trace_file error =
+    RefusesModels first_file second_file error

@@ -16,8 +16,10 @@ abbrev pub picture_of : Picture → Scene → List ℕ
 picture_of picture.Svg scene = svg_text scene
 picture_of picture.TraceEvents scene = events_text scene
 
--- bytes that are a hierarchy, a trace over it and the text of a plan for its messages, and the picture of that plan
-pub record IsDrawText (hierarchy_file trace_file plan_file : List ℕ) (picture : Picture) (text : List ℕ) : Type 0 where
+-- bytes that are a hierarchy, a trace over it and the text of a plan for its messages, and the
+-- picture of that plan
+pub record IsDrawText (hierarchy_file trace_file plan_file : List ℕ)
+    (picture : Picture) (text : List ℕ) : Type 0 where
   pub layout : Hierarchy
   pub trace : Arrivals
   pub assigned : List ℕ

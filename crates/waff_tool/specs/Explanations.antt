@@ -1,4 +1,5 @@
--- What an explanation of one to three files tells: the fault or the verdict that the other commands tell of the same files.
+-- What an explanation of one to three files tells: the fault or the verdict that the other commands
+-- tell of the same files.
 use Rattle.std.specs.Prelude.{◌≡◌, ℕ, List, [], ◌∷◌, ◌++◌, Option, Some, None, Ok, codes}
 use Rattle.waff_model.specs.Layout.{Hierarchy}
 use Rattle.waff_model.specs.Messages.{Arrivals}
@@ -25,18 +26,23 @@ RefusesWork tool.Memory = Unit {0}
 RefusesWork tool.Write = Unit {0}
 RefusesWork error = ⊥
 
--- what is explained of a hierarchy alone: the fault for which it is refused, nothing where it is accepted
+-- what is explained of a hierarchy alone: the fault for which it is refused, nothing where it is
+-- accepted
 abbrev pub OfHierarchy : List ℕ → Explained → Type 0
-OfHierarchy hierarchy_file explained.Well = (layout : Hierarchy) × (hierarchy_of hierarchy_file ≡ Ok layout)
-OfHierarchy hierarchy_file (explained.Fault error) = TellsOfFiles error × RefusesHierarchy 1 hierarchy_file error
+OfHierarchy hierarchy_file explained.Well =
+    (layout : Hierarchy) × (hierarchy_of hierarchy_file ≡ Ok layout)
+OfHierarchy hierarchy_file (explained.Fault error) =
+    TellsOfFiles error × RefusesHierarchy 1 hierarchy_file error
 OfHierarchy hierarchy_file (explained.Verdict v) = ⊥
 
--- what is explained of a hierarchy and a trace: the fault for which the first that is refused is refused
+-- what is explained of a hierarchy and a trace: the fault for which the first that is refused is
+-- refused
 abbrev pub OfTrace : List ℕ → List ℕ → Explained → Type 0
 OfTrace hierarchy_file trace_file explained.Well =
     (layout : Hierarchy) × (trace : Arrivals) × (hierarchy_of hierarchy_file ≡ Ok layout)
     × (trace_of layout.spaces trace_file ≡ Ok trace)
-OfTrace hierarchy_file trace_file (explained.Fault error) = TellsOfFiles error × Refuses hierarchy_file trace_file error
+OfTrace hierarchy_file trace_file (explained.Fault error) =
+    TellsOfFiles error × Refuses hierarchy_file trace_file error
 OfTrace hierarchy_file trace_file (explained.Verdict v) = ⊥
 
 -- what is explained of a plan: what a check of it tells
@@ -44,13 +50,15 @@ abbrev pub OfPlan : List ℕ → List ℕ → List ℕ → Explained → Type 0
 OfPlan hierarchy_file trace_file plan_file explained.Well = ⊥
 OfPlan hierarchy_file trace_file plan_file (explained.Fault error) =
     TellsOfFiles error × RefusesCheck hierarchy_file trace_file plan_file error
-OfPlan hierarchy_file trace_file plan_file (explained.Verdict v) = IsCheckText hierarchy_file trace_file plan_file v
+OfPlan hierarchy_file trace_file plan_file (explained.Verdict v) =
+    IsCheckText hierarchy_file trace_file plan_file v
 
 -- what is explained of one to three files; a plan without a trace is not looked at
 abbrev pub IsExplained : List ℕ → Option (List ℕ) → Option (List ℕ) → Explained → Type 0
 IsExplained hierarchy_file None plan_file e = OfHierarchy hierarchy_file e
 IsExplained hierarchy_file (Some trace_file) None e = OfTrace hierarchy_file trace_file e
-IsExplained hierarchy_file (Some trace_file) (Some plan_file) e = OfPlan hierarchy_file trace_file plan_file e
+IsExplained hierarchy_file (Some trace_file) (Some plan_file) e =
+    OfPlan hierarchy_file trace_file plan_file e
 
 -- the line that an explanation begins with: that of the fault or the verdict
 abbrev pub first_line : Explained → List ℕ
@@ -63,7 +71,8 @@ abbrev pub BeginsWith : List ℕ → List ℕ → Type 0
 BeginsWith line text = (words : List ℕ) × (text ≡ line ++ words)
 
 -- the text of an explanation
-pub record IsExplanation (hierarchy_file : List ℕ) (trace_file plan_file : Option (List ℕ)) (e : Explained) (text : List ℕ) : Type 0 where
+pub record IsExplanation (hierarchy_file : List ℕ)
+    (trace_file plan_file : Option (List ℕ)) (e : Explained) (text : List ℕ) : Type 0 where
   pub is_explained : IsExplained hierarchy_file trace_file plan_file e
   pub begins : BeginsWith (first_line e) text
 

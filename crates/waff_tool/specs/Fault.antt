@@ -1,4 +1,5 @@
--- What the program says of an error: the names of its variants from the outside in, and then its numbers and keys.
+-- What the program says of an error: the names of its variants from the outside in, and then its
+-- numbers and keys.
 use Rattle.std.specs.Prelude.{ℕ, List, ◌∷◌, ◌++◌, codes, decimal}
 use Rattle.waff_model.specs.declared.layout_rows.LayoutError.{LayoutError}
 use Rattle.waff_model.specs.declared.layout_rows.LayoutError.TheVariants as layout
@@ -56,8 +57,10 @@ hierarchy_fault file hier.Toml = codes "Toml" ++ and_number file
 hierarchy_fault file hier.Model = codes "Model" ++ and_number file
 hierarchy_fault file (hier.Shape key) = codes "Shape" ++ and_number file ++ 32 ∷ key_name key
 hierarchy_fault file (hier.Tree error) = codes "Tree." ++ tree_error_name error ++ and_number file
-hierarchy_fault file (hier.NotClassical affinity) = codes "NotClassical" ++ and_number file ++ and_number affinity.0
-hierarchy_fault file (hier.Layout error) = codes "Layout." ++ layout_error_name error ++ and_number file
+hierarchy_fault file (hier.NotClassical affinity) =
+    codes "NotClassical" ++ and_number file ++ and_number affinity.0
+hierarchy_fault file (hier.Layout error) =
+    codes "Layout." ++ layout_error_name error ++ and_number file
 hierarchy_fault file hier.Memory = codes "Memory" ++ and_number file
 
 -- what is said of the trace
@@ -97,7 +100,8 @@ fault_line tool.ModelsSame = codes "waff: ModelsSame"
 fault_line tool.Write = codes "waff: Write"
 fault_line tool.Memory = codes "waff: Memory"
 
--- the exit status: 3 where the files are refused, 4 where a text could not be written or memory was refused
+-- the exit status: 3 where the files are refused, 4 where a text could not be written or memory was
+-- refused
 abbrev pub status_of : ToolError → ℕ
 status_of (tool.Hier file fault) = 3
 status_of (tool.Trace fault) = 3

@@ -1,4 +1,5 @@
--- What the sweep over numbers of workers prints for the bytes of its files, and what tells where the time goes.
+-- What the sweep over numbers of workers prints for the bytes of its files, and what tells where
+-- the time goes.
 use Rattle.std.specs.Prelude.{◌≡◌, ℕ, Bool, true, false, List, None}
 use Rattle.waff_model.specs.Layout.{Hierarchy}
 use Rattle.waff_model.specs.Messages.{Arrivals}
@@ -16,8 +17,8 @@ use Rattle.waff_figures.specs.declared.figures.Figures.{Figures}
 use Rattle.waff_tool.specs.Certificates.{IsCertified}
 use Rattle.waff_tool.specs.Commands.{Accepts, work_in}
 
--- the text of a sweep: the figures of the list plan for each number of workers, none of which is beaten by more than `least`
--- allows, and those of the least plan
+-- the text of a sweep: the figures of the list plan for each number of workers, none of which is
+-- beaten by more than `least` allows, and those of the least plan
 pub record IsSweepText (hierarchy_file trace_file text : List ℕ) : Type 0 where
   pub layout : Hierarchy
   pub trace : Arrivals
@@ -26,12 +27,14 @@ pub record IsSweepText (hierarchy_file trace_file text : List ℕ) : Type 0 wher
   pub listed : List Figures
   pub accepts : Accepts hierarchy_file trace_file layout trace assigned
   pub least : IsLeast (IsOrdered layout.tree assigned) (work_in trace) (start_of starts)
-  pub are_listed : AreListed (IsOrdered layout.tree assigned) (work_in trace) (length_of (work_in trace) (start_of starts)) listed
+  pub are_listed : AreListed (IsOrdered layout.tree assigned)
+      (work_in trace) (length_of (work_in trace) (start_of starts)) listed
   pub lines : text ≡ text_of (sweep_lines listed
-      (figures_of None (work_in trace) (length_of (work_in trace) (start_of starts)) (start_of starts)))
+      (figures_of None (work_in trace) (length_of (work_in trace) (start_of starts))
+      (start_of starts)))
 
--- the text of where the time goes by affinity, with the printed chain of the least plan; its columns add up to the total and
--- to the cost of the chain
+-- the text of where the time goes by affinity, with the printed chain of the least plan; its
+-- columns add up to the total and to the cost of the chain
 pub record IsAffinitiesText (hierarchy_file trace_file text : List ℕ) : Type 0 where
   pub layout : Hierarchy
   pub trace : Arrivals
@@ -40,7 +43,8 @@ pub record IsAffinitiesText (hierarchy_file trace_file text : List ℕ) : Type 0
   pub chain : List ℕ
   pub below : List ℕ
   pub accepts : Accepts hierarchy_file trace_file layout trace assigned
-  pub certified : IsCertified (IsOrdered layout.tree assigned) (work_in trace) (start_of starts) chain
+  pub certified : IsCertified (IsOrdered layout.tree assigned)
+      (work_in trace) (start_of starts) chain
   pub are_below : AreCostsBelow layout.tree assigned (work_in trace) below
   pub costs_add_up : CostsAddUp layout.tree assigned (work_in trace) chain
   pub chain_adds_up : ChainAddsUp layout.tree assigned (work_in trace) chain
@@ -54,7 +58,8 @@ pub record IsNamesText (hierarchy_file trace_file text : List ℕ) : Type 0 wher
   pub starts : List ℕ
   pub chain : List ℕ
   pub accepts : Accepts hierarchy_file trace_file layout trace assigned
-  pub certified : IsCertified (IsOrdered layout.tree assigned) (work_in trace) (start_of starts) chain
+  pub certified : IsCertified (IsOrdered layout.tree assigned)
+      (work_in trace) (start_of starts) chain
   pub lines : text ≡ text_of (names_lines (message_names trace.messages) (work_in trace) chain)
 
 -- the text of where the time goes, by affinity or by name
@@ -65,7 +70,8 @@ IsWhereText hierarchy_file trace_file true text = IsNamesText hierarchy_file tra
 -- two texts of a sweep of a hierarchy and a trace are equal
 abbrev pub SweepTextIsOne : List ℕ → List ℕ → Type 0
 SweepTextIsOne hierarchy_file trace_file =
-    (text other : List ℕ) → IsSweepText hierarchy_file trace_file text → IsSweepText hierarchy_file trace_file other
+    (text other : List ℕ) → IsSweepText hierarchy_file trace_file text
+    → IsSweepText hierarchy_file trace_file other
     → text ≡ other
 
 -- two texts of where the time of a hierarchy and a trace goes are equal

@@ -8,7 +8,8 @@ use Rattle.waff_tool.specs.Commands.{IsPlanText, IsWorkerPlanText}
 -- the text of a plan without workers is read, and found shortest
 abbrev pub OwnPlanPasses : List ℕ → List ℕ → List ℕ → Type 0
 OwnPlanPasses hierarchy_file trace_file text =
-    IsPlanText hierarchy_file trace_file text → IsCheckText hierarchy_file trace_file text verdict.Shortest
+    IsPlanText hierarchy_file trace_file text
+    → IsCheckText hierarchy_file trace_file text verdict.Shortest
 
 -- the text of a plan for k workers is read, and found shortest or within the bound
 abbrev pub OwnWorkerPlanPasses : List ℕ → List ℕ → ℕ → List ℕ → Type 0

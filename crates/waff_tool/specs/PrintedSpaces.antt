@@ -5,8 +5,10 @@ use Rattle.waff_tool.specs.declared.state_text.PrintedSpace.{PrintedSpace}
 
 -- the first of these spaces are printed so: under their names, with their sizes
 pub record ArePrinted (spaces : List Space) (printed : List PrintedSpace) : Type 0 where
-  pub name : (s : ℕ) (d : PrintedSpace) → s < length printed → name_at spaces s ≡ Some (slice_index_or printed s d).name
-  pub size : (s : ℕ) (d : PrintedSpace) → s < length printed → size_at spaces s ≡ (slice_index_or printed s d).size
+  pub name : (s : ℕ) (d : PrintedSpace) → s < length printed
+      → name_at spaces s ≡ Some (slice_index_or printed s d).name
+  pub size : (s : ℕ) (d : PrintedSpace) → s < length printed
+      → size_at spaces s ≡ (slice_index_or printed s d).size
 
 -- all of them are
 pub record AreAllPrinted (spaces : List Space) (printed : List PrintedSpace) : Type 0 where

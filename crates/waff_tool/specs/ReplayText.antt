@@ -1,5 +1,6 @@
 -- What a replay prints: a header, and a line for each cell whose number is not 0.
-use Rattle.std.specs.Prelude.{◌≡◌, ℕ, ◌==◌, Bool, not, List, [], ◌∷◌, Ok, length, map, codes, decimal}
+use Rattle.std.specs.Prelude.{◌≡◌, ℕ, ◌==◌, Bool, not, List, [], ◌∷◌, Ok, length, map, codes}
+use Rattle.std.specs.Prelude.{decimal}
 use Rattle.std.specs.List.{filter, flat_map, range_with_len}
 use Rattle.waff_model.specs.Layout.{Hierarchy, Space, size_at}
 use Rattle.waff_model.specs.Messages.{Arrivals}
@@ -47,7 +48,8 @@ state_lines spaces cells = state_header ∷ cell_lines spaces cells (cells_in_or
 abbrev pub state_after : Arrivals → Cells
 state_after trace = serial (operations trace.messages) (length trace.messages)
 
--- the text of the state that a trace leaves under a hierarchy: that of arrival order, after all messages
+-- the text of the state that a trace leaves under a hierarchy: that of arrival order, after all
+-- messages
 pub record IsReplayText (hierarchy_file trace_file text : List ℕ) : Type 0 where
   pub layout : Hierarchy
   pub trace : Arrivals

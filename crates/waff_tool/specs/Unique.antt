@@ -1,4 +1,5 @@
--- One text for each input: of the same bytes every command has one text, and a check has one verdict.
+-- One text for each input: of the same bytes every command has one text, and a check has one
+-- verdict.
 use Rattle.std.specs.Prelude.{◌≡◌, ℕ, List, Option}
 use Rattle.waff_check.specs.declared.verdict.Verdict.{Verdict}
 use Rattle.waff_tool.specs.CheckText.{IsCheckText}
@@ -9,7 +10,8 @@ use Rattle.waff_tool.specs.ReplayText.{IsReplayText}
 -- two texts of the affinities of a hierarchy and a trace are equal
 abbrev pub AssignTextIsOne : List ℕ → List ℕ → Type 0
 AssignTextIsOne hierarchy_file trace_file =
-    (text other : List ℕ) → IsAssignText hierarchy_file trace_file text → IsAssignText hierarchy_file trace_file other
+    (text other : List ℕ) → IsAssignText hierarchy_file trace_file text
+    → IsAssignText hierarchy_file trace_file other
     → text ≡ other
 
 -- two texts of the plan of a hierarchy and a trace are equal, for a number of workers or without
@@ -33,5 +35,6 @@ CompareTextIsOne first_file second_file trace_file k =
 -- two texts of the state that a trace leaves under a hierarchy are equal
 abbrev pub ReplayTextIsOne : List ℕ → List ℕ → Type 0
 ReplayTextIsOne hierarchy_file trace_file =
-    (text other : List ℕ) → IsReplayText hierarchy_file trace_file text → IsReplayText hierarchy_file trace_file other
+    (text other : List ℕ) → IsReplayText hierarchy_file trace_file text
+    → IsReplayText hierarchy_file trace_file other
     → text ≡ other

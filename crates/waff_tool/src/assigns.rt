@@ -1,5 +1,6 @@
 //! The text of an assignment.
-ghost use Rattle.std.specs.Prelude.{◌≡◌, ◌<◌, [], ◌∷◌, ◌++◌, All, IfOk, OnOk, decimal, length, map, string_bytes};
+ghost use Rattle.std.specs.Prelude.{◌≡◌, ◌<◌, [], ◌∷◌, ◌++◌, All, IfOk, OnOk, decimal, length, map};
+ghost use Rattle.std.specs.Prelude.{string_bytes};
 ghost use Rattle.std.specs.List.{range_with_len};
 ghost use Rattle.waff_plan_text.specs.Lines.{line_text, text_of};
 ghost use Rattle.waff_tool.specs.AssignText.{assign_row, assign_lines};

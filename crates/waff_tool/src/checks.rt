@@ -1,5 +1,6 @@
 //! The check of a plan text.
-ghost use Rattle.std.specs.Prelude.{◌≡◌, ◌≢◌, ◌<◌, ℕ, All, List, IfOk, IfErr, IsErrOf, length, string_bytes};
+ghost use Rattle.std.specs.Prelude.{◌≡◌, ◌≢◌, ◌<◌, ℕ, All, List, IfOk, IfErr, IsErrOf, length};
+ghost use Rattle.std.specs.Prelude.{string_bytes};
 ghost use Rattle.std.specs.Io.KnownBytes.{Appends, Keeps};
 ghost use Rattle.waff_tool.specs.Commands.{Accepts};
 ghost use Rattle.waff_tool.specs.CheckText.{IsCheckText, RefusesCheck, status_after, verdict_text};
@@ -14,8 +15,9 @@ use std::io::Write;
 use std::thread::Threads;
 use waff_check::{Verdict, check, read_plan};
 
-/// Writes the verdict on the plan that the text gives for the trace under the hierarchy, and answers it. The pairs of messages
-/// are tested in threads. Nothing is written before the whole line is made.
+/// Writes the verdict on the plan that the text gives for the trace under the hierarchy, and
+/// answers it. The pairs of messages are tested in threads. Nothing is written before the whole
+/// line is made.
 pub fn check_text<R: Threads + Sync, W: Write>(
     rt: &R,
     alloc: Global,
@@ -26,10 +28,12 @@ pub fn check_text<R: Threads + Sync, W: Write>(
 ) -> Result<Verdict, ToolError>
     ensures written { IfOk result (λ verdict. IsCheckText hierarchy.now trace.now plan.now verdict
         × Appends (W.contents writer.old) (W.contents writer.new) (verdict_text verdict)) }
-    ensures prefix { IsErrOf result ToolError.Write → (verdict : Verdict) × IsCheckText hierarchy.now trace.now plan.now verdict
+    ensures prefix { IsErrOf result ToolError.Write
+        → (verdict : Verdict) × IsCheckText hierarchy.now trace.now plan.now verdict
         × AppendsPart (W.contents writer.old) (W.contents writer.new) (verdict_text verdict) }
     ensures refused { IfErr result (RefusesCheck hierarchy.now trace.now plan.now) }
-    ensures nothing { IfErr result (λ e. e ≢ ToolError.Write → Keeps (W.contents writer.old) (W.contents writer.new)) }
+    ensures nothing { IfErr result (λ e. e ≢ ToolError.Write
+        → Keeps (W.contents writer.old) (W.contents writer.new)) }
 {
     let verdict = made_verdict(rt, alloc, hierarchy, trace, plan)?;
     let line = made_line(alloc, verdict)?;
@@ -61,7 +65,8 @@ fn verdict_on<R: Threads + Sync>(
     plan: &[u8],
 ) -> Result<Verdict, ToolError>
     requires lengths { length accepted.now.assigned ≡ length accepted.now.trace.messages }
-    requires known { All (λ affinity. affinity < length accepted.now.layout.tree) accepted.now.assigned }
+    requires known { All (λ affinity.
+        affinity < length accepted.now.layout.tree) accepted.now.assigned }
     ensures made { IfOk result (λ verdict. (hierarchy trace : List ℕ)
         → Accepts hierarchy trace accepted.now.layout accepted.now.trace accepted.now.assigned
         → IsCheckText hierarchy trace plan.now verdict) }

@@ -1,8 +1,10 @@
 //! The commands: from the bytes of files to a text written.
-ghost use Rattle.std.specs.Prelude.{◌≡◌, ◌≢◌, ◌<◌, ◌≤◌, ℕ, All, List, IfOk, IfErr, IsErrOf, IfSome, OnOk, length, string_bytes};
+ghost use Rattle.std.specs.Prelude.{◌≡◌, ◌≢◌, ◌<◌, ◌≤◌, ℕ, All, List, IfOk, IfErr, IsErrOf, IfSome};
+ghost use Rattle.std.specs.Prelude.{OnOk, length, string_bytes};
 ghost use Rattle.std.specs.Io.KnownBytes.{Appends, Keeps};
 ghost use Rattle.waff_model.specs.Messages.{sizes_of};
-ghost use Rattle.waff_tool.specs.Commands.{Accepts, IsAssignText, IsPlanText, IsPlanTextFor, IsWorkerPlanText, Refuses};
+ghost use Rattle.waff_tool.specs.Commands.{Accepts, IsAssignText, IsPlanText, IsPlanTextFor};
+ghost use Rattle.waff_tool.specs.Commands.{IsWorkerPlanText, Refuses};
 ghost use Rattle.waff_io.specs.Writing.{AppendsPart};
 
 use crate::assigns::assigned_text;
@@ -21,7 +23,8 @@ use waff_plan::unlimited::plan;
 use waff_plan_text::{unlimited_text, worker_text};
 use waff_read::{read_hierarchy, read_trace};
 
-/// Writes the affinity of each message of the trace under the hierarchy. Nothing is written before the whole text is made.
+/// Writes the affinity of each message of the trace under the hierarchy. Nothing is written before
+/// the whole text is made.
 pub fn assign_text<W: Write>(
     alloc: Global,
     hierarchy: &[u8],
@@ -30,17 +33,19 @@ pub fn assign_text<W: Write>(
 ) -> Result<(), ToolError>
     ensures written { OnOk result ((text : List ℕ) × IsAssignText hierarchy.now trace.now text
         × Appends (W.contents writer.old) (W.contents writer.new) text) }
-    ensures prefix { IsErrOf result ToolError.Write → (text : List ℕ) × IsAssignText hierarchy.now trace.now text
+    ensures prefix { IsErrOf result ToolError.Write
+        → (text : List ℕ) × IsAssignText hierarchy.now trace.now text
         × AppendsPart (W.contents writer.old) (W.contents writer.new) text }
     ensures refused { IfErr result (Refuses hierarchy.now trace.now) }
-    ensures nothing { IfErr result (λ e. e ≢ ToolError.Write → Keeps (W.contents writer.old) (W.contents writer.new)) }
+    ensures nothing { IfErr result (λ e. e ≢ ToolError.Write
+        → Keeps (W.contents writer.old) (W.contents writer.new)) }
 {
     let text = made_assign_text(alloc, hierarchy, trace)?;
     write_text(writer, text.as_bytes())
 }
 
-/// Writes the plan of the trace under the hierarchy for this number of workers, or with no limit on them where there is no
-/// number. Nothing is written before the whole text is made.
+/// Writes the plan of the trace under the hierarchy for this number of workers, or with no limit on
+/// them where there is no number. Nothing is written before the whole text is made.
 pub fn plan_text<W: Write>(
     alloc: Global,
     hierarchy: &[u8],
@@ -50,12 +55,15 @@ pub fn plan_text<W: Write>(
 ) -> Result<(), ToolError>
     requires some { IfSome workers (λ k. 1 ≤ k) }
     requires few { IfSome workers (λ k. k ≤ MAX_WORKERS) }
-    ensures written { OnOk result ((text : List ℕ) × IsPlanTextFor hierarchy.now trace.now workers text
+    ensures written { OnOk result ((text : List ℕ)
+        × IsPlanTextFor hierarchy.now trace.now workers text
         × Appends (W.contents writer.old) (W.contents writer.new) text) }
-    ensures prefix { IsErrOf result ToolError.Write → (text : List ℕ) × IsPlanTextFor hierarchy.now trace.now workers text
+    ensures prefix { IsErrOf result ToolError.Write
+        → (text : List ℕ) × IsPlanTextFor hierarchy.now trace.now workers text
         × AppendsPart (W.contents writer.old) (W.contents writer.new) text }
     ensures refused { IfErr result (Refuses hierarchy.now trace.now) }
-    ensures nothing { IfErr result (λ e. e ≢ ToolError.Write → Keeps (W.contents writer.old) (W.contents writer.new)) }
+    ensures nothing { IfErr result (λ e. e ≢ ToolError.Write
+        → Keeps (W.contents writer.old) (W.contents writer.new)) }
 {
     let text = made_plan_text(alloc, hierarchy, trace, workers)?;
     write_text(writer, text.as_bytes())
@@ -71,8 +79,10 @@ pub(crate) struct Accepted {
 
 /// Reads the files, the hierarchy first.
 pub(crate) fn accept(alloc: Global, hierarchy: &[u8], trace: &[u8]) -> Result<Accepted, ToolError>
-    ensures accepted { IfOk result (λ a. Accepts hierarchy.now trace.now a.layout a.trace a.assigned) }
-    ensures known { IfOk result (λ a. All (λ affinity. affinity < length a.layout.tree) a.assigned) }
+    ensures accepted { IfOk result (λ a.
+        Accepts hierarchy.now trace.now a.layout a.trace a.assigned) }
+    ensures known { IfOk result (λ a.
+        All (λ affinity. affinity < length a.layout.tree) a.assigned) }
     ensures fits { IfOk result (λ a. a.trace.sizes ≡ sizes_of a.layout.spaces) }
     ensures refused { IfErr result (Refuses hierarchy.now trace.now) }
     ensures nothing { IfErr result (λ e. e ≢ ToolError.Write) }
@@ -108,7 +118,8 @@ fn made_plan_text(
 ) -> Result<String, ToolError>
     requires some { IfSome workers (λ k. 1 ≤ k) }
     requires few { IfSome workers (λ k. k ≤ MAX_WORKERS) }
-    ensures made { IfOk result (λ text. IsPlanTextFor hierarchy.now trace.now workers (string_bytes text)) }
+    ensures made { IfOk result (λ text.
+        IsPlanTextFor hierarchy.now trace.now workers (string_bytes text)) }
     ensures refused { IfErr result (Refuses hierarchy.now trace.now) }
     ensures nothing { IfErr result (λ e. e ≢ ToolError.Write) }
 {
@@ -123,7 +134,8 @@ fn planned_text(
     workers: Option<u32>,
 ) -> Result<String, AllocError>
     requires lengths { length accepted.now.assigned ≡ length accepted.now.trace.messages }
-    requires known { All (λ affinity. affinity < length accepted.now.layout.tree) accepted.now.assigned }
+    requires known { All (λ affinity.
+        affinity < length accepted.now.layout.tree) accepted.now.assigned }
     requires some { IfSome workers (λ k. 1 ≤ k) }
     requires few { IfSome workers (λ k. k ≤ MAX_WORKERS) }
     ensures { IfOk result (λ text. (hierarchy trace : List ℕ)
@@ -139,7 +151,8 @@ fn planned_text(
 /// The text of the unlimited plan.
 fn made_unlimited_text(alloc: Global, accepted: &Accepted) -> Result<String, AllocError>
     requires lengths { length accepted.now.assigned ≡ length accepted.now.trace.messages }
-    requires known { All (λ affinity. affinity < length accepted.now.layout.tree) accepted.now.assigned }
+    requires known { All (λ affinity.
+        affinity < length accepted.now.layout.tree) accepted.now.assigned }
     ensures { IfOk result (λ text. (hierarchy trace : List ℕ)
         → Accepts hierarchy trace accepted.now.layout accepted.now.trace accepted.now.assigned
         → IsPlanText hierarchy trace (string_bytes text)) }
@@ -161,7 +174,8 @@ fn made_unlimited_text(alloc: Global, accepted: &Accepted) -> Result<String, All
 /// The text of the list plan for k workers.
 fn made_worker_text(alloc: Global, accepted: &Accepted, k: u32) -> Result<String, AllocError>
     requires lengths { length accepted.now.assigned ≡ length accepted.now.trace.messages }
-    requires known { All (λ affinity. affinity < length accepted.now.layout.tree) accepted.now.assigned }
+    requires known { All (λ affinity.
+        affinity < length accepted.now.layout.tree) accepted.now.assigned }
     requires some { 1 ≤ k }
     requires few { k ≤ MAX_WORKERS }
     ensures { IfOk result (λ text. (hierarchy trace : List ℕ)

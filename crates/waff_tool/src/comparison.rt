@@ -1,10 +1,12 @@
 //! The command that compares two hierarchies on one trace.
-ghost use Rattle.std.specs.Prelude.{◌≡◌, ◌≢◌, ◌≤◌, Ok, ℕ, List, IfOk, IfErr, IsErrOf, OnOk, string_bytes};
+ghost use Rattle.std.specs.Prelude.{◌≡◌, ◌≢◌, ◌≤◌, Ok, ℕ, List, IfOk, IfErr, IsErrOf, OnOk};
+ghost use Rattle.std.specs.Prelude.{string_bytes};
 ghost use Rattle.std.specs.Io.KnownBytes.{Appends, Keeps};
 ghost use Rattle.waff_model.specs.Layout.{SameSpaces};
 ghost use Rattle.waff_model.specs.Messages.{sizes_of};
 ghost use Rattle.waff_read.specs.Hierarchies.{hierarchy_of};
-ghost use Rattle.waff_tool.specs.Comparison.{AreHierarchies, AreModels, IsCompared, IsCompareText, RefusesComparison, RefusesHierarchy};
+ghost use Rattle.waff_tool.specs.Comparison.{AreHierarchies, AreModels, IsCompared, IsCompareText};
+ghost use Rattle.waff_tool.specs.Comparison.{RefusesComparison, RefusesHierarchy};
 ghost use Rattle.waff_io.specs.Writing.{AppendsPart};
 
 use crate::fault::ToolError;
@@ -19,9 +21,9 @@ use waff_order::refines;
 use waff_plan::laws::refined_is_no_longer;
 use waff_read::{read_hierarchy, read_trace};
 
-/// Writes what the trace comes to under the classical and the hierarchical one of two hierarchies, given in either order, for
-/// this number of workers, and whether the hierarchical one refines the classical one on the trace. Nothing is written before
-/// the whole text is made.
+/// Writes what the trace comes to under the classical and the hierarchical one of two hierarchies,
+/// given in either order, for this number of workers, and whether the hierarchical one refines the
+/// classical one on the trace. Nothing is written before the whole text is made.
 pub fn compare_text<W: Write>(
     alloc: Global,
     first: &[u8],
@@ -32,13 +34,15 @@ pub fn compare_text<W: Write>(
 ) -> Result<(), ToolError>
     requires some { 1 ≤ workers }
     requires few { workers ≤ MAX_WORKERS }
-    ensures written { OnOk result ((text : List ℕ) × IsCompareText first.now second.now trace.now workers text
+    ensures written { OnOk result ((text : List ℕ)
+        × IsCompareText first.now second.now trace.now workers text
         × Appends (W.contents writer.old) (W.contents writer.new) text) }
     ensures prefix { IsErrOf result ToolError.Write → (text : List ℕ)
         × IsCompareText first.now second.now trace.now workers text
         × AppendsPart (W.contents writer.old) (W.contents writer.new) text }
     ensures refused { IfErr result (RefusesComparison first.now second.now trace.now) }
-    ensures nothing { IfErr result (λ e. e ≢ ToolError.Write → Keeps (W.contents writer.old) (W.contents writer.new)) }
+    ensures nothing { IfErr result (λ e. e ≢ ToolError.Write
+        → Keeps (W.contents writer.old) (W.contents writer.new)) }
 {
     let text = made_compare_text(alloc, first, second, trace, workers)?;
     write_text(writer, text.as_bytes())
@@ -53,7 +57,8 @@ fn made_compare_text(
 ) -> Result<String, ToolError>
     requires some { 1 ≤ workers }
     requires few { workers ≤ MAX_WORKERS }
-    ensures made { IfOk result (λ text. IsCompareText first.now second.now trace.now workers (string_bytes text)) }
+    ensures made { IfOk result (λ text.
+        IsCompareText first.now second.now trace.now workers (string_bytes text)) }
     ensures refused { IfErr result (RefusesComparison first.now second.now trace.now) }
     ensures nothing { IfErr result (λ e. e ≢ ToolError.Write) }
 {
@@ -73,7 +78,8 @@ fn read_numbered(alloc: Global, file: u8, hierarchy: &[u8]) -> Result<Layout, To
     }
 }
 
-/// The text that compares two hierarchies, given in either order, which have to be of the same spaces and of different models.
+/// The text that compares two hierarchies, given in either order, which have to be of the same
+/// spaces and of different models.
 fn either_text(
     alloc: Global,
     first: &Layout,
@@ -101,7 +107,8 @@ fn either_text(
     }
 }
 
-/// The text that compares a classical and a hierarchical hierarchy of the same spaces on the trace of these bytes.
+/// The text that compares a classical and a hierarchical hierarchy of the same spaces on the trace
+/// of these bytes.
 fn models_text(
     alloc: Global,
     classical: &Layout,
@@ -136,7 +143,8 @@ fn compared_text(
     requires same_spaces { SameSpaces classical.now.spaces hierarchical.now.spaces }
     requires some { 1 ≤ k }
     requires few { k ≤ MAX_WORKERS }
-    ensures { IfOk result (λ text. IsCompared classical.now hierarchical.now trace.now k (string_bytes text)) }
+    ensures { IfOk result (λ text.
+        IsCompared classical.now hierarchical.now trace.now k (string_bytes text)) }
 {
     let coarse = assign(alloc, classical, trace)?;
     let fine = assign(alloc, hierarchical, trace)?;

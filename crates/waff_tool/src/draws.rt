@@ -1,5 +1,6 @@
 //! The picture of a plan.
-ghost use Rattle.std.specs.Prelude.{◌≡◌, ◌≢◌, ◌<◌, ℕ, All, List, IfOk, IfErr, IsErrOf, OnOk, length, string_bytes};
+ghost use Rattle.std.specs.Prelude.{◌≡◌, ◌≢◌, ◌<◌, ℕ, All, List, IfOk, IfErr, IsErrOf, OnOk};
+ghost use Rattle.std.specs.Prelude.{length, string_bytes};
 ghost use Rattle.std.specs.Io.KnownBytes.{Appends, Keeps};
 ghost use Rattle.waff_tool.specs.Commands.{Accepts};
 ghost use Rattle.waff_tool.specs.CheckText.{RefusesCheck};
@@ -24,8 +25,8 @@ pub enum Picture {
     TraceEvents,
 }
 
-/// Writes the picture of the plan that the text gives for the trace under the hierarchy, whether or not the plan obeys. Nothing
-/// is written before the whole picture is made.
+/// Writes the picture of the plan that the text gives for the trace under the hierarchy, whether or
+/// not the plan obeys. Nothing is written before the whole picture is made.
 pub fn draw_text<W: Write>(
     alloc: Global,
     hierarchy: &[u8],
@@ -34,13 +35,15 @@ pub fn draw_text<W: Write>(
     picture: Picture,
     writer: &mut W,
 ) -> Result<(), ToolError>
-    ensures written { OnOk result ((text : List ℕ) × IsDrawText hierarchy.now trace.now plan.now picture text
+    ensures written { OnOk result ((text : List ℕ)
+        × IsDrawText hierarchy.now trace.now plan.now picture text
         × Appends (W.contents writer.old) (W.contents writer.new) text) }
     ensures prefix { IsErrOf result ToolError.Write → (text : List ℕ)
         × IsDrawText hierarchy.now trace.now plan.now picture text
         × AppendsPart (W.contents writer.old) (W.contents writer.new) text }
     ensures refused { IfErr result (RefusesCheck hierarchy.now trace.now plan.now) }
-    ensures nothing { IfErr result (λ e. e ≢ ToolError.Write → Keeps (W.contents writer.old) (W.contents writer.new)) }
+    ensures nothing { IfErr result (λ e. e ≢ ToolError.Write
+        → Keeps (W.contents writer.old) (W.contents writer.new)) }
 {
     let text = made_picture(alloc, hierarchy, trace, plan, picture)?;
     write_text(writer, text.as_bytes())
@@ -53,7 +56,8 @@ fn made_picture(
     plan: &[u8],
     picture: Picture,
 ) -> Result<String, ToolError>
-    ensures made { IfOk result (λ text. IsDrawText hierarchy.now trace.now plan.now picture (string_bytes text)) }
+    ensures made { IfOk result (λ text.
+        IsDrawText hierarchy.now trace.now plan.now picture (string_bytes text)) }
     ensures refused { IfErr result (RefusesCheck hierarchy.now trace.now plan.now) }
     ensures nothing { IfErr result (λ e. e ≢ ToolError.Write) }
 {
@@ -69,7 +73,8 @@ fn picture_on(
     picture: Picture,
 ) -> Result<String, ToolError>
     requires lengths { length accepted.now.assigned ≡ length accepted.now.trace.messages }
-    requires known { All (λ affinity. affinity < length accepted.now.layout.tree) accepted.now.assigned }
+    requires known { All (λ affinity.
+        affinity < length accepted.now.layout.tree) accepted.now.assigned }
     ensures made { IfOk result (λ text. (hierarchy trace : List ℕ)
         → Accepts hierarchy trace accepted.now.layout accepted.now.trace accepted.now.assigned
         → IsDrawText hierarchy trace plan.now picture (string_bytes text)) }

@@ -1,7 +1,10 @@
 //! The explanation of the first fault, or of the verdict.
-ghost use Rattle.std.specs.Prelude.{◌≡◌, ◌≢◌, ℕ, List, IfOk, IfErr, IsErrOf, OnOk, option_copied, string_bytes};
+ghost use Rattle.std.specs.Prelude.{◌≡◌, ◌≢◌, ℕ, List, IfOk, IfErr, IsErrOf, OnOk, option_copied};
+ghost use Rattle.std.specs.Prelude.{string_bytes};
 ghost use Rattle.std.specs.Io.KnownBytes.{Appends, Keeps};
-ghost use Rattle.waff_tool.specs.Explanations.{BeginsWith, IsExplained, IsExplanation, OfHierarchy, OfPlan, OfTrace, RefusesWork, TellsOfFiles, first_line, status_explained};
+ghost use Rattle.waff_tool.specs.Explanations.{BeginsWith, IsExplained, IsExplanation, OfHierarchy};
+ghost use Rattle.waff_tool.specs.Explanations.{OfPlan, OfTrace, RefusesWork, TellsOfFiles};
+ghost use Rattle.waff_tool.specs.Explanations.{first_line, status_explained};
 ghost use Rattle.waff_io.specs.Writing.{AppendsPart};
 
 use crate::checks::{made_line, made_verdict, verdict_status};
@@ -20,7 +23,8 @@ use waff_read::read_hierarchy;
 pub enum Explained {
     /// The files are accepted, and there is no plan.
     Well,
-    /// The first file that is refused is refused for this fault, which is neither want of memory nor a failed write.
+    /// The first file that is refused is refused for this fault, which is neither want of memory
+    /// nor a failed write.
     Fault(ToolError),
     /// The verdict on the plan.
     Verdict(Verdict),
@@ -37,9 +41,10 @@ pub fn explained_status(explained: &Explained) -> u8
     }
 }
 
-/// Writes in plain words where the first fault of the files is, what was found and what is wanted, or what the verdict on the
-/// plan tells; answers which fault or verdict that is. The text begins with the line that the other commands print. A plan
-/// without a trace is not looked at. Nothing is written before the whole text is made.
+/// Writes in plain words where the first fault of the files is, what was found and what is wanted,
+/// or what the verdict on the plan tells; answers which fault or verdict that is. The text begins
+/// with the line that the other commands print. A plan without a trace is not looked at. Nothing is
+/// written before the whole text is made.
 pub fn explain_text<R: Threads + Sync, W: Write>(
     rt: &R,
     alloc: Global,
@@ -49,13 +54,16 @@ pub fn explain_text<R: Threads + Sync, W: Write>(
     writer: &mut W,
 ) -> Result<Explained, ToolError>
     ensures written { IfOk result (λ explained. (text : List ℕ)
-        × IsExplanation hierarchy.now (option_copied trace.entry) (option_copied plan.entry) explained text
+        × IsExplanation hierarchy.now (option_copied trace.entry)
+        (option_copied plan.entry) explained text
         × Appends (W.contents writer.old) (W.contents writer.new) text) }
     ensures prefix { IsErrOf result ToolError.Write → (explained : Explained) × (text : List ℕ)
-        × IsExplanation hierarchy.now (option_copied trace.entry) (option_copied plan.entry) explained text
+        × IsExplanation hierarchy.now (option_copied trace.entry)
+        (option_copied plan.entry) explained text
         × AppendsPart (W.contents writer.old) (W.contents writer.new) text }
     ensures refused { IfErr result RefusesWork }
-    ensures nothing { IfErr result (λ e. e ≢ ToolError.Write → Keeps (W.contents writer.old) (W.contents writer.new)) }
+    ensures nothing { IfErr result (λ e. e ≢ ToolError.Write
+        → Keeps (W.contents writer.old) (W.contents writer.new)) }
 {
     let explained = find(rt, alloc, hierarchy, trace, plan)?;
     let text = explanation(alloc, explained, hierarchy, trace, plan)?;
@@ -71,7 +79,8 @@ fn find<R: Threads + Sync>(
     trace: Option<&[u8]>,
     plan: Option<&[u8]>,
 ) -> Result<Explained, AllocError>
-    ensures { IfOk result (IsExplained hierarchy.now (option_copied trace.entry) (option_copied plan.entry)) }
+    ensures { IfOk result
+        (IsExplained hierarchy.now (option_copied trace.entry) (option_copied plan.entry)) }
 {
     match trace {
         None => find_in_hierarchy(alloc, hierarchy),

@@ -14,8 +14,8 @@ use waff_read::{HierError, TraceError};
 /// Why a command gave no text, or not all of it.
 #[derive(Clone, Copy, Debug, PartialEq, Eq, Error)]
 pub enum ToolError {
-    /// A hierarchy is refused; hierarchies are numbered from 1 in the order in which they are given. The fault is never
-    /// want of memory.
+    /// A hierarchy is refused; hierarchies are numbered from 1 in the order in which they are
+    /// given. The fault is never want of memory.
     #[error("hierarchy {file}: {fault}")]
     Hier { file: u8, fault: HierError },
     /// The trace is refused. The fault is never want of memory.

@@ -1,6 +1,7 @@
 //! The names of faults, as fault lines have them.
 ghost use Rattle.std.specs.Prelude.{◌≡◌, Some};
-ghost use Rattle.waff_tool.specs.Fault.{hierarchy_fault, key_name, layout_error_name, plan_text_fault, trace_fault, tree_error_name};
+ghost use Rattle.waff_tool.specs.Fault.{hierarchy_fault, key_name, layout_error_name};
+ghost use Rattle.waff_tool.specs.Fault.{plan_text_fault, trace_fault, tree_error_name};
 
 use std::fmt;
 use waff_model::{LayoutError, TreeError};

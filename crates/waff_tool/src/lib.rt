@@ -1,10 +1,13 @@
-//! The commands, from the bytes of files to the bytes of a text: each has one record in `specs/` that says what its text is.
+//! The commands, from the bytes of files to the bytes of a text: each has one record in `specs/`
+//! that says what its text is.
 //!
-//! The whole text is made before the first byte is written, so a refusal leaves nothing written, and a writer that fails has
-//! taken a prefix of it.
-//! - `commands` (assign, plan), `checks` (check), `comparison` (compare), `replays` (replay), `sweeps`, `wheres`, `draws` and
+//! The whole text is made before the first byte is written, so a refusal leaves nothing written,
+//! and a writer that fails has taken a prefix of it.
+//! - `commands` (assign, plan), `checks` (check), `comparison` (compare), `replays` (replay),
+//! `sweeps`, `wheres`, `draws` and
 //!   `explains`: the calls.
-//! - `assigns`, `measures`, `state_text`, `verdict_line`: the texts; `output`: how they are written.
+//! - `assigns`, `measures`, `state_text`, `verdict_line`: the texts; `output`: how they are
+//! written.
 //! - `fault`, `fault_names`: why a command gave no text, its line and its exit status.
 //! - `unique`: one text for each input; `own`: plans that are printed pass the check.
 #![tactic(auto)]

@@ -1,12 +1,14 @@
 //! What is told of a trace under one hierarchy, and the text that tells it of two.
-ghost use Rattle.std.specs.Prelude.{◌≡◌, ◌<◌, ◌≤◌, ◌++◌, ℕ, All, IfOk, List, None, OnOk, Some, length, string_bytes};
+ghost use Rattle.std.specs.Prelude.{◌≡◌, ◌<◌, ◌≤◌, ◌++◌, ℕ, All, IfOk, List, None, OnOk, Some};
+ghost use Rattle.std.specs.Prelude.{length, string_bytes};
 ghost use Rattle.waff_assign.specs.Order.{IsOrdered};
 ghost use Rattle.waff_plan.specs.Timetable.{timings_of};
 ghost use Rattle.waff_plan.specs.Timing.{start_of, work_of};
 ghost use Rattle.waff_plan.specs.Totals.{totals_of};
 ghost use Rattle.waff_plan_text.specs.Lines.{line_text, text_of};
 ghost use Rattle.waff_tool.specs.Certificates.{IsBounded, IsCertified};
-ghost use Rattle.waff_tool.specs.Comparison.{IsMeasured, compare_lines, kind_field, measured_line, measures_header};
+ghost use Rattle.waff_tool.specs.Comparison.{IsMeasured, compare_lines, kind_field, measured_line};
+ghost use Rattle.waff_tool.specs.Comparison.{measures_header};
 
 use std::alloc::{AllocError, Global};
 use waff_assign::Assigned;
@@ -39,7 +41,8 @@ pub fn measure(
     requires known { All (λ a. a < length layout.now.tree) assigned.now }
     requires some { 1 ≤ k }
     requires few { k ≤ MAX_WORKERS }
-    ensures { IfOk result (IsMeasured layout.now assigned.now (work_of (timings_of trace.now.messages)) k) }
+    ensures { IfOk result
+        (IsMeasured layout.now assigned.now (work_of (timings_of trace.now.messages)) k) }
 {
     let unlimited = unlimited_totals(alloc, layout, assigned, trace)?;
     let listed = list_totals(alloc, layout, assigned, trace, k)?;
@@ -60,8 +63,10 @@ fn unlimited_totals(
     requires lengths { length assigned.now ≡ length trace.now.messages }
     requires known { All (λ a. a < length layout.now.tree) assigned.now }
     ensures { IfOk result (λ totals. (starts : List ℕ) × (chain : List ℕ)
-        × IsCertified (IsOrdered layout.now.tree assigned.now) (work_of (timings_of trace.now.messages)) (start_of starts) chain
-        × (totals ≡ totals_of None (work_of (timings_of trace.now.messages)) (start_of starts) chain)) }
+        × IsCertified (IsOrdered layout.now.tree assigned.now)
+        (work_of (timings_of trace.now.messages)) (start_of starts) chain
+        × (totals
+        ≡ totals_of None (work_of (timings_of trace.now.messages)) (start_of starts) chain)) }
 {
     let tree = layout.tree();
     let plan = plan(alloc, tree, assigned, trace)?;
@@ -82,8 +87,10 @@ fn list_totals(
     requires some { 1 ≤ k }
     requires few { k ≤ MAX_WORKERS }
     ensures { IfOk result (λ totals. (starts : List ℕ) × (chain : List ℕ)
-        × IsBounded (IsOrdered layout.now.tree assigned.now) (work_of (timings_of trace.now.messages)) k (start_of starts) chain
-        × (totals ≡ totals_of (Some k) (work_of (timings_of trace.now.messages)) (start_of starts) chain)) }
+        × IsBounded (IsOrdered layout.now.tree assigned.now)
+        (work_of (timings_of trace.now.messages)) k (start_of starts) chain
+        × (totals ≡ totals_of (Some k) (work_of (timings_of trace.now.messages))
+        (start_of starts) chain)) }
 {
     let tree = layout.tree();
     let needs = needs(alloc, tree, assigned)?;
@@ -104,7 +111,8 @@ pub fn comparison_text(
     refined: bool,
 ) -> Result<String, AllocError>
     ensures { IfOk result (λ text. string_bytes text
-        ≡ text_of (compare_lines version k classical.now.unlimited.total classical.now hierarchical.now refined)) }
+        ≡ text_of (compare_lines version k classical.now.unlimited.total
+        classical.now hierarchical.now refined)) }
 {
     let total = classical.unlimited.total;
     let answer = if refined { "yes" } else { "no" };
@@ -119,7 +127,8 @@ pub fn comparison_text(
 
 /// Appends the line that names what the lines of hierarchies tell.
 fn push_header(text: &mut String, version: Version) -> Result<(), AllocError>
-    ensures { OnOk result (string_bytes text.new ≡ string_bytes text.old ++ line_text (measures_header version)) }
+    ensures { OnOk result (string_bytes text.new ≡ string_bytes text.old
+        ++ line_text (measures_header version)) }
 {
     text.push_str(match version {
         Version::V1 => "model,length,chain,list,listchain,left,right\n",
@@ -129,7 +138,8 @@ fn push_header(text: &mut String, version: Version) -> Result<(), AllocError>
 
 /// Appends the line of one hierarchy.
 fn push_measured(text: &mut String, version: Version, measured: &Measured) -> Result<(), AllocError>
-    ensures { OnOk result (string_bytes text.new ≡ string_bytes text.old ++ line_text (measured_line version measured.now)) }
+    ensures { OnOk result (string_bytes text.new ≡ string_bytes text.old
+        ++ line_text (measured_line version measured.now)) }
 {
     let kind = kind_name(measured.kind);
     let plan = measured.unlimited;

@@ -9,8 +9,10 @@ use waff_io::write_whole;
 
 /// Writes the text.
 pub(crate) fn write_text<W: Write>(writer: &mut W, text: &[u8]) -> Result<(), ToolError>
-    ensures written { OnOk result (Appends (W.contents writer.old) (W.contents writer.new) text.now) }
-    ensures part { OnErr result (AppendsPart (W.contents writer.old) (W.contents writer.new) text.now) }
+    ensures written { OnOk result
+        (Appends (W.contents writer.old) (W.contents writer.new) text.now) }
+    ensures part { OnErr result
+        (AppendsPart (W.contents writer.old) (W.contents writer.new) text.now) }
     ensures fault { OnErr result (result ≡ Err ToolError.Write) }
 {
     match write_whole(writer, text) {

@@ -1,11 +1,13 @@
-//! The plans that are printed pass the check. Each law is a function that does nothing and whose contract is the law.
+//! The plans that are printed pass the check. Each law is a function that does nothing and whose
+//! contract is the law.
 
 ghost use Rattle.std.specs.Prelude.{ℕ, List};
 ghost use Rattle.waff_tool.specs.OwnPlans.{OwnPlanPasses, OwnWorkerPlanPasses};
 
 /// The text of a plan without workers is read, and its verdict is Shortest.
 pub fn own_plan_passes()
-    ensures passes { (hierarchy_file trace_file text : List ℕ) → OwnPlanPasses hierarchy_file trace_file text }
+    ensures passes { (hierarchy_file trace_file text : List ℕ)
+        → OwnPlanPasses hierarchy_file trace_file text }
 {}
 
 /// The text of a plan for k workers is read, and its verdict is Shortest or `WithinBound`.

@@ -1,6 +1,7 @@
 //! The replay of a trace.
 
-ghost use Rattle.std.specs.Prelude.{◌≡◌, ◌≢◌, ◌<◌, ◌≤◌, ℕ, All, List, IfErr, IfOk, IsErrOf, OnOk, length, string_bytes};
+ghost use Rattle.std.specs.Prelude.{◌≡◌, ◌≢◌, ◌<◌, ◌≤◌, ℕ, All, List, IfErr, IfOk, IsErrOf, OnOk};
+ghost use Rattle.std.specs.Prelude.{length, string_bytes};
 ghost use Rattle.std.specs.Io.KnownBytes.{Appends, Keeps};
 ghost use Rattle.waff_model.specs.Messages.{IsTrace, sizes_of};
 ghost use Rattle.waff_assign.specs.Lowest.{IsAssignment};
@@ -28,9 +29,9 @@ use waff_order::Needs;
 use waff_order::predecessors::needs;
 use waff_replay::{Open, replay};
 
-/// Writes the state that the messages of the trace leave under the hierarchy. They are replayed by this many workers, each in
-/// a thread of its own, in the order of the list plan for as many; releases are not waited for. Nothing is written before the
-/// whole text is made.
+/// Writes the state that the messages of the trace leave under the hierarchy. They are replayed by
+/// this many workers, each in a thread of its own, in the order of the list plan for as many;
+/// releases are not waited for. Nothing is written before the whole text is made.
 pub fn replay_text<R: Threads + Wait + Sync, W: Write>(
     rt: &R,
     alloc: Global,
@@ -43,10 +44,12 @@ pub fn replay_text<R: Threads + Wait + Sync, W: Write>(
     requires few { workers ≤ MAX_SEATS }
     ensures written { OnOk result ((text : List ℕ) × IsReplayText hierarchy.now trace.now text
         × Appends (W.contents writer.old) (W.contents writer.new) text) }
-    ensures prefix { IsErrOf result ToolError.Write → (text : List ℕ) × IsReplayText hierarchy.now trace.now text
+    ensures prefix { IsErrOf result ToolError.Write
+        → (text : List ℕ) × IsReplayText hierarchy.now trace.now text
         × AppendsPart (W.contents writer.old) (W.contents writer.new) text }
     ensures refused { IfErr result (Refuses hierarchy.now trace.now) }
-    ensures nothing { IfErr result (λ e. e ≢ ToolError.Write → Keeps (W.contents writer.old) (W.contents writer.new)) }
+    ensures nothing { IfErr result (λ e. e ≢ ToolError.Write
+        → Keeps (W.contents writer.old) (W.contents writer.new)) }
 {
     let text = made_replay_text(rt, alloc, hierarchy, trace, workers)?;
     write_text(writer, text.as_bytes())
@@ -122,11 +125,14 @@ fn needs_and_plan(
     k: u32,
 ) -> Result<(Needs, WorkerPlan), AllocError>
     requires trace { IsTrace accepted.now.trace }
-    requires assignment { IsAssignment accepted.now.layout accepted.now.trace.messages accepted.now.assigned }
-    requires known { All (λ affinity. affinity < length accepted.now.layout.tree) accepted.now.assigned }
+    requires assignment { IsAssignment accepted.now.layout
+        accepted.now.trace.messages accepted.now.assigned }
+    requires known { All (λ affinity.
+        affinity < length accepted.now.layout.tree) accepted.now.assigned }
     requires some { 1 ≤ k }
     requires few { k ≤ MAX_SEATS }
-    ensures needs { IfOk result (λ made. AreNeeds accepted.now.layout.tree accepted.now.assigned made.0) }
+    ensures needs { IfOk result (λ made.
+        AreNeeds accepted.now.layout.tree accepted.now.assigned made.0) }
     ensures order { IfOk result (λ made. IsOrder made.0 made.1.order) }
 {
     let needs = needs(alloc, accepted.layout.tree(), &accepted.assigned)?;

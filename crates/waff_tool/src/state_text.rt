@@ -1,6 +1,8 @@
 //! The text of a state.
 
-ghost use Rattle.std.specs.Prelude.{◌≡◌, ℕ, ◌<◌, ◌≤◌, List, Some, [], ◌∷◌, ◌++◌, IfOk, OnOk, decimal, length, map, slice_index, slice_index_or, string_bytes};
+ghost use Rattle.std.specs.Prelude.{◌≡◌, ℕ, ◌<◌, ◌≤◌, List, Some, [], ◌∷◌, ◌++◌, IfOk, OnOk};
+ghost use Rattle.std.specs.Prelude.{decimal, length, map, slice_index, slice_index_or};
+ghost use Rattle.std.specs.Prelude.{string_bytes};
 ghost use Rattle.std.specs.List.{join_with_byte};
 ghost use Rattle.waff_model.specs.Layout.{Space, name_at, size_at};
 ghost use Rattle.waff_cells.specs.Grid.{cells_in};

@@ -1,11 +1,13 @@
 //! One text for each input. Each law is a function that does nothing and whose contract is the law.
 
 ghost use Rattle.std.specs.Prelude.{ℕ, List, Option};
-ghost use Rattle.waff_tool.specs.Unique.{AssignTextIsOne, PlanTextIsOne, CheckTextIsOne, CompareTextIsOne, ReplayTextIsOne};
+ghost use Rattle.waff_tool.specs.Unique.{AssignTextIsOne, PlanTextIsOne, CheckTextIsOne};
+ghost use Rattle.waff_tool.specs.Unique.{CompareTextIsOne, ReplayTextIsOne};
 
 /// The text of the affinities of a hierarchy and a trace is one.
 pub fn assign_text_is_one()
-    ensures equal { (hierarchy_file trace_file : List ℕ) → AssignTextIsOne hierarchy_file trace_file }
+    ensures equal { (hierarchy_file trace_file : List ℕ)
+        → AssignTextIsOne hierarchy_file trace_file }
 {}
 
 /// The text of the plan of a hierarchy and a trace is one, for each number of workers and without.
@@ -28,5 +30,6 @@ pub fn compare_text_is_one()
 
 /// The text of the state that a trace leaves under a hierarchy is one, whoever replays the trace.
 pub fn replay_text_is_one()
-    ensures equal { (hierarchy_file trace_file : List ℕ) → ReplayTextIsOne hierarchy_file trace_file }
+    ensures equal { (hierarchy_file trace_file : List ℕ)
+        → ReplayTextIsOne hierarchy_file trace_file }
 {}

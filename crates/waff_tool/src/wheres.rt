@@ -1,8 +1,10 @@
 //! Where the time goes.
-ghost use Rattle.std.specs.Prelude.{◌≡◌, ◌≢◌, ◌<◌, ℕ, Bool, All, List, IfOk, IfErr, IsErrOf, OnOk, length, string_bytes};
+ghost use Rattle.std.specs.Prelude.{◌≡◌, ◌≢◌, ◌<◌, ℕ, Bool, All, List, IfOk, IfErr, IsErrOf, OnOk};
+ghost use Rattle.std.specs.Prelude.{length, string_bytes};
 ghost use Rattle.std.specs.Io.KnownBytes.{Appends, Keeps};
 ghost use Rattle.waff_tool.specs.Commands.{Accepts, Refuses};
-ghost use Rattle.waff_tool.specs.Figures.{IsAffinitiesText, IsNamesText, IsWhereText, WhereTextIsOne};
+ghost use Rattle.waff_tool.specs.Figures.{IsAffinitiesText, IsNamesText, IsWhereText};
+ghost use Rattle.waff_tool.specs.Figures.{WhereTextIsOne};
 ghost use Rattle.waff_io.specs.Writing.{AppendsPart};
 
 use crate::commands::{Accepted, accept};
@@ -15,9 +17,9 @@ use waff_figures::{affinities_text, names_text};
 use waff_plan::printed::chain;
 use waff_plan::unlimited::plan;
 
-/// Writes where the time of the trace goes under the hierarchy: for each affinity, or for each name of messages, how many
-/// messages there are and what they cost, and how much of that is on the chain of the unlimited plan. Nothing is written before
-/// the whole text is made.
+/// Writes where the time of the trace goes under the hierarchy: for each affinity, or for each name
+/// of messages, how many messages there are and what they cost, and how much of that is on the
+/// chain of the unlimited plan. Nothing is written before the whole text is made.
 pub fn where_text<W: Write>(
     alloc: Global,
     hierarchy: &[u8],
@@ -25,12 +27,15 @@ pub fn where_text<W: Write>(
     by_name: bool,
     writer: &mut W,
 ) -> Result<(), ToolError>
-    ensures written { OnOk result ((text : List ℕ) × IsWhereText hierarchy.now trace.now by_name text
+    ensures written { OnOk result ((text : List ℕ)
+        × IsWhereText hierarchy.now trace.now by_name text
         × Appends (W.contents writer.old) (W.contents writer.new) text) }
-    ensures prefix { IsErrOf result ToolError.Write → (text : List ℕ) × IsWhereText hierarchy.now trace.now by_name text
+    ensures prefix { IsErrOf result ToolError.Write
+        → (text : List ℕ) × IsWhereText hierarchy.now trace.now by_name text
         × AppendsPart (W.contents writer.old) (W.contents writer.new) text }
     ensures refused { IfErr result (Refuses hierarchy.now trace.now) }
-    ensures nothing { IfErr result (λ e. e ≢ ToolError.Write → Keeps (W.contents writer.old) (W.contents writer.new)) }
+    ensures nothing { IfErr result (λ e. e ≢ ToolError.Write
+        → Keeps (W.contents writer.old) (W.contents writer.new)) }
 {
     let text = made_where_text(alloc, hierarchy, trace, by_name)?;
     write_text(writer, text.as_bytes())
@@ -42,7 +47,8 @@ fn made_where_text(
     trace: &[u8],
     by_name: bool,
 ) -> Result<String, ToolError>
-    ensures made { IfOk result (λ text. IsWhereText hierarchy.now trace.now by_name (string_bytes text)) }
+    ensures made { IfOk result (λ text.
+        IsWhereText hierarchy.now trace.now by_name (string_bytes text)) }
     ensures refused { IfErr result (Refuses hierarchy.now trace.now) }
     ensures nothing { IfErr result (λ e. e ≢ ToolError.Write) }
 {
@@ -53,7 +59,8 @@ fn made_where_text(
 /// The text of where the time of what was read goes.
 fn spent_text(alloc: Global, accepted: &Accepted, by_name: bool) -> Result<String, AllocError>
     requires lengths { length accepted.now.assigned ≡ length accepted.now.trace.messages }
-    requires known { All (λ affinity. affinity < length accepted.now.layout.tree) accepted.now.assigned }
+    requires known { All (λ affinity.
+        affinity < length accepted.now.layout.tree) accepted.now.assigned }
     ensures { IfOk result (λ text. (hierarchy trace : List ℕ)
         → Accepts hierarchy trace accepted.now.layout accepted.now.trace accepted.now.assigned
         → IsWhereText hierarchy trace by_name (string_bytes text)) }
@@ -68,7 +75,8 @@ fn spent_text(alloc: Global, accepted: &Accepted, by_name: bool) -> Result<Strin
 /// The text by affinity.
 fn made_affinities_text(alloc: Global, accepted: &Accepted) -> Result<String, AllocError>
     requires lengths { length accepted.now.assigned ≡ length accepted.now.trace.messages }
-    requires known { All (λ affinity. affinity < length accepted.now.layout.tree) accepted.now.assigned }
+    requires known { All (λ affinity.
+        affinity < length accepted.now.layout.tree) accepted.now.assigned }
     ensures { IfOk result (λ text. (hierarchy trace : List ℕ)
         → Accepts hierarchy trace accepted.now.layout accepted.now.trace accepted.now.assigned
         → IsAffinitiesText hierarchy trace (string_bytes text)) }
@@ -85,7 +93,8 @@ fn made_affinities_text(alloc: Global, accepted: &Accepted) -> Result<String, Al
 /// The text by the names of messages.
 fn made_names_text(alloc: Global, accepted: &Accepted) -> Result<String, AllocError>
     requires lengths { length accepted.now.assigned ≡ length accepted.now.trace.messages }
-    requires known { All (λ affinity. affinity < length accepted.now.layout.tree) accepted.now.assigned }
+    requires known { All (λ affinity.
+        affinity < length accepted.now.layout.tree) accepted.now.assigned }
     ensures { IfOk result (λ text. (hierarchy trace : List ℕ)
         → Accepts hierarchy trace accepted.now.layout accepted.now.trace accepted.now.assigned
         → IsNamesText hierarchy trace (string_bytes text)) }

@@ -1,4 +1,5 @@
-//! The files of a command, refused in order: the hierarchy before the trace, and the trace before the plan.
+//! The files of a command, refused in order: the hierarchy before the trace, and the trace before
+//! the plan.
 
 use std::alloc::Global;
 use std::process::Abort;

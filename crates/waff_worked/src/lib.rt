@@ -1,4 +1,5 @@
-//! Worked cases of the texts and commands: known answers from outside, for the sample hierarchies and traces.
+//! Worked cases of the texts and commands: known answers from outside, for the sample hierarchies
+//! and traces.
 #![tactic(auto)]
 
 #[cfg(test)]

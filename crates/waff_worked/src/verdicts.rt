@@ -25,7 +25,8 @@ fn is_found<R: Threads + Sync + Abort>(
     Ok(())
 }
 
-/// A trace with a plan, a part of the plan and what stands in its place, the exit status with the verdict, and the line.
+/// A trace with a plan, a part of the plan and what stands in its place, the exit status with the
+/// verdict, and the line.
 const CASES: &[(&str, &str, [&str; 2], (&str, &str))] = &[
     (X1, PLAN_H1_X1, ["", ""], ("0 Shortest", "shortest\n")),
     (

@@ -13,7 +13,8 @@ use waff_model::{
     Trace, Tree, TreeBuilder, TreeError, Version, is_name,
 };
 
-/// The name of a space, how many cells in a row go to one affinity, and the affinities that take turns.
+/// The name of a space, how many cells in a row go to one affinity, and the affinities that take
+/// turns.
 pub type Map<'a> = (&'a str, i64, &'a [&'a str]);
 
 /// The tree of these affinities, each with the number of its parent.
@@ -163,7 +164,8 @@ pub fn trace(
     Ok(trace)
 }
 
-/// Appends a message of one operation, with its cost and its release, which has to be one for this layout.
+/// Appends a message of one operation, with its cost and its release, which has to be one for this
+/// layout.
 fn push(
     rt: &impl Abort,
     alloc: Global,

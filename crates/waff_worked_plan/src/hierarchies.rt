@@ -32,7 +32,8 @@ fn are_no_documents(rt: HostRuntime) -> Result<(), Fail> {
     Ok(())
 }
 
-/// What follows a model, refused by its first fault: in the order of the keys, the tree, and then the layout.
+/// What follows a model, refused by its first fault: in the order of the keys, the tree, and then
+/// the layout.
 const PARTS: &[(&str, &str)] = &[
     (
         "affinity = [1]\nspace = []\nmap = 2",

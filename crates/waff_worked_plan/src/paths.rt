@@ -5,7 +5,8 @@ use std::fmt::Write;
 use std::test::Fail;
 use waff_read::read_hierarchy;
 
-/// A path of so many affinities, n0 and on, each below the one before it, the first and the last of which own a cell each.
+/// A path of so many affinities, n0 and on, each below the one before it, the first and the last of
+/// which own a cell each.
 pub fn path(alloc: Global, count: u32) -> Result<String, Fail> {
     let mut text = String::from_str(
         alloc,

@@ -19,7 +19,8 @@ pub const SAMPLE: &str = "affinities A0 B0 VolA B1 Serial A0 starts 0 0 4 0 6 7 
 pub const RELEASED: &str = "affinities A0 B0 VolA B1 Serial starts 0 2 10 0 12 length 13 total 15 \
     chain 3 5 cost 3 release 10";
 
-/// What is told of the unlimited plan of a trace under a hierarchy, both of which have to be accepted.
+/// What is told of the unlimited plan of a trace under a hierarchy, both of which have to be
+/// accepted.
 pub fn unlimited(
     rt: &impl Abort,
     alloc: Global,

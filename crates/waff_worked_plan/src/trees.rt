@@ -45,7 +45,8 @@ fn keep_names_and_parents(rt: HostRuntime) -> Result<(), Fail> {
     Ok(())
 }
 
-/// Affinities, with whether the first is at or above the second, and whether they exclude each other.
+/// Affinities, with whether the first is at or above the second, and whether they exclude each
+/// other.
 const RELATIONS: &[(u16, u16, (bool, bool))] = &[
     (0, 3, (true, true)),
     (1, 3, (false, false)),

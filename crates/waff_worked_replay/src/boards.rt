@@ -34,7 +34,8 @@ pub fn seated(
     requires few { seats ≤ 16 }
     ensures count { IfOk result (λ made. length made.1.items ≡ seats) }
     ensures of { IfOk result (λ made. All (λ seat. IsOf made.0 seat.hand) made.1.items) }
-    ensures sizes { IfOk result (λ made. sizes_of made.0.setup.job.layout.spaces ≡ sizes_of layout.now.spaces) }
+    ensures sizes { IfOk result (λ made.
+        sizes_of made.0.setup.job.layout.spaces ≡ sizes_of layout.now.spaces) }
 {
     assert!(rt; layout.same_spaces(job.layout()));
     Ok(Board::new(alloc, job, seats)?)
