@@ -51,8 +51,8 @@ fn second_of(tree: &Tree, assigned: &Assigned, plan: &Plan, i: u32) -> Option<u3
     None
 }
 
-// So many of the first messages overlap with none: all, or those before the first that does. The
-// number is halved in on.
+// So many of the first messages overlap with none: all, or those before the first that does, as the
+// number is halved in on. No clause says that there are no more: that decides the time alone.
 fn kept_ones(
     alloc: Global,
     tree: &Tree,
