@@ -77,6 +77,9 @@ fn space_of(op: Op) -> u32
     }
 }
 
+// About how many bytes an operation takes, with the `;` behind it.
+const OP_BYTES: usize = 12;
+
 // The operations of a text that has no fault and not too many of them, in one walk over its bytes.
 fn read_faultless(
     alloc: Global,
@@ -87,7 +90,8 @@ fn read_faultless(
         ops.pieces_of spaces.now text.now ≡ Ok list)) }
     ensures few { IfOk result (λ found. IfSome found (λ list. length list ≤ MAX_OPS)) }
 {
-    let mut list = Ops::new(alloc);
+    let room = MAX_OPS.min(1 + text.len() / OP_BYTES);
+    let mut list = Ops::with_capacity(alloc, room)?;
     let mut guess = 0;
     let mut left = text;
     for count in 0..MAX_OPS {
