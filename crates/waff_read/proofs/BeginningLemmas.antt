@@ -1,6 +1,6 @@
 -- What a text begins with, by its parts.
-use Rattle.std.proofs.Common.{◌≡◌, ℕ, ◌+◌, ◌-◌, ◌<◌, ◌≤◌, List, [], ◌∷◌, ◌++◌, ◌∙◌, length, take, drop, Bool, true, false, Option, Some, None, Result, Ok, refl, sym, ap, append_assoc, arith}
-use Rattle.std.specs.Prelude.{All, codes, not, unwrap_or, ◌==◌, ◌&&◌, ◌||◌, nat_le, nat_lt}
+use Rattle.std.proofs.Common.{◌≡◌, ℕ, ◌<◌, ◌≤◌, List, [], ◌∷◌, ◌++◌, ◌∙◌, length, take, drop, Bool, true, false, Some, Ok, refl, sym, ap, append_assoc, arith}
+use Rattle.std.specs.Prelude.{All, codes, not, unwrap_or, ◌==◌, ◌&&◌, nat_le}
 use Rattle.std.specs.Char.{is_ascii_digit}
 use Rattle.std.specs.List.{list_all}
 use Rattle.std.specs.Str.{bytes_eq}
@@ -10,7 +10,7 @@ use Rattle.std.proofs.lemmas.List.Elements.{All-cons, All-nil}
 use Rattle.std.proofs.lemmas.List.Folds.{list_all-append}
 use Rattle.std.proofs.lemmas.List.Splits.{slice_split_at, slice_split_none}
 use Rattle.std.proofs.lemmas.Slice.Eq.{bytes_eq-Decides}
-use Rattle.waff_model.specs.Layout.{Hierarchy, IsLayout, Space, name_at, size_at, space_named}
+use Rattle.waff_model.specs.Layout.{Hierarchy, IsLayout, Space, name_at, size_at}
 use Rattle.waff_model.specs.Names.{is_name, is_name_byte}
 use Rattle.waff_model.specs.declared.cell.Cell.{Cell}
 use Rattle.waff_model.specs.declared.limits.TheConstants.{MAX_NAME, MAX_OPS}
@@ -21,9 +21,8 @@ use Rattle.waff_parse.specs.Texts.{BeginsWithNumber, number_of, parts}
 use Rattle.waff_parse.specs.Walks.{gather}
 use Rattle.waff_parse.proofs.Laws.{both-assoc}
 use Rattle.waff_read.specs.Beginnings.{BeginsWithCell, BeginsWithCellAndNumber, BeginsWithOp, BeginsWithSpace, BeginsWithTwoCells, is_cell_byte}
-use Rattle.waff_read.specs.Ops.{cell_of, op_of, op_of_one, op_of_two, op_of_words, ops_of, pieces_of, value_of}
+use Rattle.waff_read.specs.Ops.{cell_of, op_of, op_of_one, op_of_two, ops_of, pieces_of, value_of}
 use Rattle.waff_read.specs.TraceFaults.{number}
-use Rattle.waff_read.specs.declared.trace_fault.TraceFault.{TraceFault}
 use Rattle.waff_read.proofs.PartLemmas.{all_other, all_wider, no_digits}
 use Rattle.waff_read.proofs.SpellingLaws.{All-two, parts-join, space_found, space_has_name}
 

@@ -1,5 +1,5 @@
 -- The digits before the place are the number.
-use Rattle.std.proofs.Common.{◌≡◌, ◌<◌, ◌∙◌, sym, arith}
+use Rattle.std.proofs.Common.{◌<◌, ◌∙◌, sym, arith}
 use Rattle.waff_parse.proofs.TextLaws.{begins-until}
 use Rattle.waff_parse.proofs.text.number_until.Goals as goal
 

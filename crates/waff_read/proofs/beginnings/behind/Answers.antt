@@ -1,5 +1,5 @@
 -- The bytes that are stripped are the first ones.
-use Rattle.std.proofs.Common.{◌≡◌, ℕ, Bor, List, ◌++◌, ◌+◌, length, take, drop, Bool, true, false, Option, Some, None}
+use Rattle.std.proofs.Common.{◌≡◌, ℕ, Bor, List, ◌++◌, ◌+◌, length, take, drop, true, false, Option, Some, None}
 use Rattle.std.specs.Prelude.{IfSome, MatchOption}
 use Rattle.std.specs.Str.{bytes_eq}
 use Rattle.waff_read.proofs.BeginningLemmas.{behind_bytes}

@@ -1,9 +1,6 @@
 -- Each turn takes one operation off what is left.
-use Rattle.std.proofs.Common.{◌≡◌, Ok, [], ◌∷◌, ◌∙◌, ap, arith, length, sym}
+use Rattle.std.proofs.Common.{◌≡◌, [], ◌∷◌, ◌∙◌, ap, arith, length, sym}
 use Rattle.std.proofs.lemmas.List.{length-append}
-use Rattle.waff_parse.specs.Refusals.{both}
-use Rattle.waff_read.specs.Ops.{pieces_of}
-use Rattle.waff_read.specs.TraceFaults.{number}
 use Rattle.waff_read.proofs.BeginningLemmas.{no_bytes, pieces-last, pieces-more}
 use Rattle.waff_read.proofs.ops.read_faultless.Goals as goal
 
