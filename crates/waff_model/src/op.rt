@@ -1,7 +1,7 @@
 //! Operations on cells.
 
 ghost use Rattle.std.specs.Prelude.{◌≡◌, ◌<◌, ◌↔◌, [], ◌∷◌, ◌++◌, length, Some, IsTrue, OnOk};
-ghost use Rattle.std.specs.Prelude.{OnErr, slice_get};
+ghost use Rattle.std.specs.Prelude.{OnErr, IfOk, slice_get};
 ghost use Rattle.std.specs.Slice.Iter.{iter_rest};
 
 use crate::cell::Cell;
@@ -46,6 +46,15 @@ impl Ops {
         Ops {
             list: Vec::new(alloc),
         }
+    }
+
+    /// No operation, with room for so many.
+    pub fn with_capacity(alloc: Global, room: usize) -> Result<Self, AllocError>
+        ensures { IfOk result (λ ops. ops ≡ []) }
+    {
+        Ok(Ops {
+            list: Vec::with_capacity(alloc, room)?,
+        })
     }
 
     pub fn push(&mut self, op: Op) -> Result<(), AllocError>

@@ -1,5 +1,5 @@
 -- Laws of the parts of a text, and of numbers.
-use Rattle.std.proofs.Common.{◌≡◌, ℕ, ◌+◌, ◌-◌, ◌<◌, ◌≤◌, List, [], ◌∷◌, ◌∙◌, length, take, drop, get_or, Bool, true, false, cond, Some, None, position, refl, sym, ap, arith}
+use Rattle.std.proofs.Common.{◌≡◌, ℕ, ◌+◌, ◌-◌, ◌<◌, ◌≤◌, List, [], ◌∷◌, ◌++◌, ◌∙◌, length, take, drop, get_or, Bool, true, false, cond, Some, None, position, refl, sym, ap, arith}
 use Rattle.std.specs.Prelude.{◌==◌}
 use Rattle.std.specs.Char.{digit_value, is_ascii_digit}
 use Rattle.std.specs.Int.{IsInRange}
@@ -10,7 +10,11 @@ use Rattle.std.proofs.lemmas.List.Splits.{slice_split_none, slice_split_first}
 use Rattle.std.proofs.lemmas.List.Quantifiers.{position-Some}
 use Rattle.std.proofs.lemmas.List.Sums.{fails_before_first, position_or_len_is}
 use Rattle.std.proofs.lemmas.Str.{digit_value_digit}
-use Rattle.waff_parse.specs.Texts.{parts}
+use Rattle.std.specs.List.{list_all}
+use Rattle.std.specs.Prelude.{◌^◌}
+use Rattle.std.specs.Str.Parse.{digits_value}
+use Rattle.std.proofs.lemmas.List.{length-drop, length-take, take-append-drop, take_all}
+use Rattle.waff_parse.specs.Texts.{BeginsWithNumber, has_leading_zero, parts}
 
 -- the first place of a byte
 pub record IsPlaceOf (c : ℕ) (text : List ℕ) (i : ℕ) : Type 0 where
@@ -61,3 +65,17 @@ pub parts-three : (c : ℕ) (text first rest second more : List ℕ) → parts c
 parts-three c text first rest second more e f =
     let p = parts-cons c more in
     (p.0, p.1, e ∙ ap (λ (ps : List (List ℕ)). first ∷ ps) (f ∙ ap (λ (ps : List (List ℕ)). second ∷ ps) p.2))
+
+-- the digits before a place are a number, unless they begin with a zero in vain
+pub begins-until : (text : List ℕ) (end value : ℕ) → 0 < end → end ≤ length text → has_leading_zero (take end text) ≡ false → list_all is_ascii_digit (take end text) ≡ true
+    → value ≡ digits_value 10 (take end text) → value < 2 ^ 64 → BeginsWithNumber text value (take (length text - end) (drop end text))
+begins-until text end value some within zero digits is small =
+    let long : length (take end text) ≡ end = omega (arith, length-take end text) in
+    let filled : (length (take end text) == 0) ≡ false = rw long (grind (arith, nat_tests)) in
+    let rest : take (length text - end) (drop end text) ≡ drop end text = take_all (length text - end) (drop end text) (omega (arith, length-drop end text)) in
+    record {
+      digits = take end text;
+      whole = sym (ap (λ l. take end text ++ l) rest ∙ take-append-drop end text);
+      number = rw (filled, zero, digits, ← is) refl;
+      small = small;
+    }

@@ -1,5 +1,5 @@
 -- Parts of texts, and numbers.
-use Rattle.std.specs.Prelude.{ℕ, ◌^◌, List, [], length, slice_index, Bool, not, ◌==◌, ◌&&◌, nat_lt}
+use Rattle.std.specs.Prelude.{◌≡◌, ◌<◌, ◌++◌, ℕ, ◌^◌, List, [], length, slice_index, Bool, not, ◌==◌, ◌&&◌, nat_lt}
 use Rattle.std.specs.Prelude.{if◌then◌else◌, Option, Some, None, option_and_then}
 use Rattle.std.specs.Char.{is_ascii_digit}
 use Rattle.std.specs.List.{slice_split, list_all}
@@ -38,3 +38,10 @@ within low high n = if nat_lt n low then None else if nat_lt high n then None el
 -- the number from low to high that a text writes, if it does
 abbrev pub number_within : ℕ → ℕ → List ℕ → Option ℕ
 number_within low high text = option_and_then (within low high) (number_of text)
+
+-- a text begins with a number below 2^64, which the rest of the text follows
+pub record BeginsWithNumber (text : List ℕ) (n : ℕ) (rest : List ℕ) : Type 0 where
+  pub digits : List ℕ
+  pub whole : text ≡ digits ++ rest
+  pub number : number_of digits ≡ Some n
+  pub small : n < 2 ^ 64

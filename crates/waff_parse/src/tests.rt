@@ -1,6 +1,6 @@
 use crate::{
-    NotText, Ranked, Stop, cut, keep_least, least, next_text, number, number_within, pair,
-    text_rows,
+    NotText, Ranked, Stop, cut, first_number, keep_least, least, next_text, number, number_within,
+    pair, text_rows,
 };
 use csv::StringRecord;
 use std::test::Fail;
@@ -60,6 +60,23 @@ fn a_number_has_digits_and_no_leading_zero(rt: HostRuntime) {
     assert_eq!(rt; number_within("0", 1, 9), None);
     assert_eq!(rt; number_within("10", 1, 9), None);
     assert_eq!(rt; number_within("18446744073709551617", 1, 9), None);
+}
+
+#[test]
+fn a_number_ends_behind_its_digits(rt: HostRuntime) {
+    match first_number(b"12;x") {
+        Some((n, rest)) => {
+            assert_eq!(rt; n, 12);
+            assert_eq!(rt; rest.len(), 2);
+        }
+        None => assert!(rt; false),
+    }
+    assert!(rt; first_number(b"0").is_some());
+    assert!(rt; first_number(b"18446744073709551615 ").is_some());
+    assert!(rt; first_number(b"18446744073709551616").is_none());
+    assert!(rt; first_number(b"01").is_none());
+    assert!(rt; first_number(b"x1").is_none());
+    assert!(rt; first_number(b"").is_none());
 }
 
 #[test]

@@ -1,7 +1,7 @@
 //! Parts of a text, and numbers.
 
 ghost use Rattle.std.specs.Prelude.{ℕ, ◌≡◌, ◌==◌, position, ◌<◌, ◌≤◌, ◌∷◌, ◌+◌, ◌*◌, if◌then◌else◌};
-ghost use Rattle.std.specs.Prelude.{option_map, IfSome, Some, None};
+ghost use Rattle.std.specs.Prelude.{option_map, IfSome, Some, None, true, length, take};
 ghost use Rattle.std.specs.Char.{is_ascii_digit};
 ghost use Rattle.std.specs.List.{list_all};
 ghost use Rattle.std.specs.Str.Parse.{digits_value};
@@ -70,6 +70,38 @@ pub fn number(text: &str) -> Option<Option<u64>>
         return None;
     }
     digits_number(digits)
+}
+
+// The number of the digits before a place, and the text from there on.
+fn number_until(text: &[u8], end: usize, value: u64) -> Option<(u64, &[u8])>
+    requires within { end ≤ length text.now }
+    requires digits { list_all is_ascii_digit (take end text.now) ≡ true }
+    requires value { value ≡ digits_value 10 (take end text.now) }
+    ensures { IfSome result (λ r. texts.BeginsWithNumber text.now r.0 r.1.now) }
+{
+    if end == 0 {
+        return None;
+    }
+    if has_leading_zero(&text[..end]) {
+        return None;
+    }
+    Some((value, &text[end..]))
+}
+
+/// The number that a text begins with, up to the last digit in a row, and the rest of the text: none
+/// where no digit is there, and where a number has a leading zero or is 2^64 or more.
+pub fn first_number(text: &[u8]) -> Option<(u64, &[u8])>
+    ensures { IfSome result (λ r. texts.BeginsWithNumber text.now r.0 r.1.now) }
+{
+    let mut value: u64 = 0;
+    for place in 0..text.len() {
+        let byte = text[place];
+        if !byte.is_ascii_digit() {
+            return number_until(text, place, value);
+        }
+        value = value.checked_mul(10)?.checked_add(u64::from(byte - b'0'))?;
+    }
+    number_until(text, text.len(), value)
 }
 
 /// The number from `low` to `high` that a text writes, if it writes one.

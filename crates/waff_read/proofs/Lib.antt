@@ -12,6 +12,7 @@ mod ExactLaws
 pub mod FaultLaws
 mod HierarchyLaws
 mod SpellingLaws
+mod BeginningLemmas
 mod TraceSpellings
 mod RefusalLaws
 mod AffinityLaws

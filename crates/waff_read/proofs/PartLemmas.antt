@@ -23,14 +23,14 @@ use Rattle.waff_read.specs.declared.trace_fault.TraceFault.{TraceFault}
 use Rattle.waff_read.specs.declared.trace_fault.TraceFault.TheVariants as fault
 
 -- what passes a test passes a wider one
-all_wider : (p q : ℕ → Bool) → ((b : ℕ) → p b ≡ true → q b ≡ true) → (text : List ℕ) → list_all p text ≡ true → list_all q text ≡ true
+pub all_wider : (p q : ℕ → Bool) → ((b : ℕ) → p b ≡ true → q b ≡ true) → (text : List ℕ) → list_all p text ≡ true → list_all q text ≡ true
 all_wider p q wider [] h = refl
 all_wider p q wider (b ∷ bs) h =
     let both = and_parts (p b) (list_all p bs) h in
     rw (wider b both.0, all_wider p q wider bs both.1) refl
 
 -- bytes that pass a test that c fails are not c
-all_other : (c : ℕ) (p : ℕ → Bool) → p c ≡ false → (text : List ℕ) → list_all p text ≡ true → All (λ b. (b == c) ≡ false) text
+pub all_other : (c : ℕ) (p : ℕ → Bool) → p c ≡ false → (text : List ℕ) → list_all p text ≡ true → All (λ b. (b == c) ≡ false) text
 all_other c p fails [] h = All-nil (λ b. (b == c) ≡ false)
 all_other c p fails (b ∷ bs) h =
     let both = and_parts (p b) (list_all p bs) h in
@@ -52,7 +52,7 @@ two_parts : (c : ℕ) (text a b : List ℕ) → parts c text ≡ a ∷ b ∷ [] 
 two_parts c text a b e = ap (λ (ps : List (List ℕ)). join_with_byte c ps) (sym e) ∙ join_with_byte-slice_split c text
 
 -- a text that is not all digits is no number
-no_digits : (text : List ℕ) → list_all is_ascii_digit text ≡ false → number_of text ≡ None
+pub no_digits : (text : List ℕ) → list_all is_ascii_digit text ≡ false → number_of text ≡ None
 no_digits text h =
     let inner = and_right (not (has_leading_zero text)) (list_all is_ascii_digit text) h in
     rw (and_right (not (length text == 0)) (not (has_leading_zero text) && list_all is_ascii_digit text) inner) refl

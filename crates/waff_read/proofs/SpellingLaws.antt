@@ -50,7 +50,7 @@ abbrev Free : ℕ → List ℕ → Type 0
 Free c text = All (IsOther c) text
 
 -- parts that are joined by a byte that is in none of them are the parts between that byte
-parts-join : (c : ℕ) (p : List ℕ) (ps : List (List ℕ)) → Free c p → All (Free c) ps → parts c (join_with_byte c (p ∷ ps)) ≡ p ∷ ps
+pub parts-join : (c : ℕ) (p : List ℕ) (ps : List (List ℕ)) → Free c p → All (Free c) ps → parts c (join_with_byte c (p ∷ ps)) ≡ p ∷ ps
 parts-join c p [] here rest = slice_split_none (λ b. b == c) p here
 parts-join c p (q ∷ qs) here rest =
     slice_split_at (λ b. b == c) p c (join_with_byte c (q ∷ qs)) here (eq-eqb c c refl)
@@ -119,7 +119,7 @@ module _ (layout : Hierarchy) (is : IsLayout layout) where
         absurd (omega arith)
   ]
 
-  space_is : (s : ℕ) → s < length layout.spaces → slice_get layout.spaces s ≡ Some (get_or layout.spaces s no_space)
+  pub space_is : (s : ℕ) → s < length layout.spaces → slice_get layout.spaces s ≡ Some (get_or layout.spaces s no_space)
   space_is s inside = slice_get-get_or layout.spaces s no_space inside
 
   name_is : (s : ℕ) → s < length layout.spaces → name_in layout.spaces s ≡ (get_or layout.spaces s no_space).name
@@ -128,7 +128,7 @@ module _ (layout : Hierarchy) (is : IsLayout layout) where
   space_at : (s : ℕ) → s < length layout.spaces → IsSpace layout.tree (get_or layout.spaces s no_space)
   space_at s inside = All-get_or (IsSpace layout.tree) layout.spaces s no_space inside is.each
 
-  space_has_name : (s : ℕ) → s < length layout.spaces → is_name (name_in layout.spaces s) ≡ true
+  pub space_has_name : (s : ℕ) → s < length layout.spaces → is_name (name_in layout.spaces s) ≡ true
   space_has_name s inside = rw (name_is s inside) (space_at s inside).named
 
   small_index : (s index : ℕ) → index < size_at layout.spaces s → index < 2 ^ 64
@@ -138,7 +138,7 @@ module _ (layout : Hierarchy) (is : IsLayout layout) where
       omega (arith, (space_at s inside).size)
 
   -- a space is found by its name
-  space_found : (s : ℕ) → s < length layout.spaces → space_named layout.spaces (name_in layout.spaces s) ≡ Some s
+  pub space_found : (s : ℕ) → s < length layout.spaces → space_named layout.spaces (name_in layout.spaces s) ≡ Some s
   space_found s inside =
       let first : position_or_len (λ space. bytes_eq (name_in layout.spaces s) space.name) layout.spaces ≡ s =
       position_or_len_is (λ space. bytes_eq (name_in layout.spaces s) space.name) layout.spaces s no_space (omega arith)

@@ -5,7 +5,7 @@
 //! types), `affinities` (the tree) and `spaces` (the rows of a layout); `hier_error` has what it
 //! refuses.
 //! - `trace`: the reader of traces, over `message` (one record), `ops` (the operations of a
-//! message), `op` (one operation)
+//! message), `op` (one operation), `beginnings` (what a text without a fault begins with)
 //!   and `space_table` (the spaces by name); `trace_fault` has what it refuses.
 //! - `laws`: what holds of all files that are accepted or refused; `limit_laws`: that what is read
 //! is within the limits.
@@ -17,6 +17,7 @@
 #![tactic(auto)]
 
 mod affinities;
+mod beginnings;
 mod document;
 mod hier_error;
 mod hierarchy;

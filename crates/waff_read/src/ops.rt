@@ -1,12 +1,14 @@
 //! The operations of a message.
 
-ghost use Rattle.std.specs.Prelude.{◌≡◌, ◌≤◌, ◌+◌, [], ◌∷◌, ◌++◌, IfOk, OnOk, length, take};
+ghost use Rattle.std.specs.Prelude.{◌≡◌, ◌≤◌, ◌+◌, [], ◌∷◌, ◌++◌, IfOk, IfSome, Ok, OnOk};
+ghost use Rattle.std.specs.Prelude.{length, take};
 ghost use Rattle.waff_model.specs.declared.limits.TheConstants.{MAX_OPS};
 ghost use Rattle.waff_parse.specs.Refusals.{both, one};
 ghost use Rattle.waff_parse.specs.Stopping.{Gives};
 ghost use Rattle.waff_read.specs.Ops as ops;
 ghost use Rattle.waff_read.specs.TraceFaults.{number};
 
+use crate::beginnings::{behind, first_op};
 use crate::op::read_op;
 use crate::space_table::SpaceTable;
 use crate::trace_fault::TraceFault;
@@ -47,7 +49,7 @@ fn with_op(
     }
 }
 
-// The operations of the pieces of a text, as far as one above the limit.
+// The operations of the pieces of a text, as far as one above the limit, or the fault that counts.
 fn read_pieces(
     alloc: Global,
     spaces: &SpaceTable<'_>,
@@ -62,6 +64,53 @@ fn read_pieces(
     Ok(list)
 }
 
+// The space of the first cell of an operation.
+fn space_of(op: Op) -> u32
+    ensures { result ≡ ops.space_of op }
+{
+    match op {
+        Op::Set { cell, .. } => cell.space,
+        Op::Add { cell, .. } => cell.space,
+        Op::Copy { cell, .. } => cell.space,
+        Op::Swap { cell, .. } => cell.space,
+        Op::Read { cell } => cell.space,
+    }
+}
+
+// About how many bytes an operation takes, with the `;` behind it.
+const OP_BYTES: usize = 12;
+
+// The operations of a text that has no fault and not too many of them, in one walk over its bytes.
+fn read_faultless(
+    alloc: Global,
+    spaces: &SpaceTable<'_>,
+    text: &[u8],
+) -> Result<Option<Ops>, AllocError>
+    ensures read { IfOk result (λ found. IfSome found (λ list.
+        ops.pieces_of spaces.now text.now ≡ Ok list)) }
+    ensures few { IfOk result (λ found. IfSome found (λ list. length list ≤ MAX_OPS)) }
+{
+    let room = MAX_OPS.min(1 + text.len() / OP_BYTES);
+    let mut list = Ops::with_capacity(alloc, room)?;
+    let mut guess = 0;
+    let mut left = text;
+    for count in 0..MAX_OPS {
+        let Some((op, rest)) = first_op(spaces, guess, left) else {
+            return Ok(None);
+        };
+        list.push(op)?;
+        if rest.is_empty() {
+            return Ok(Some(list));
+        }
+        let Some(more) = behind(rest, b";") else {
+            return Ok(None);
+        };
+        guess = space_of(op);
+        left = more;
+    }
+    Ok(None)
+}
+
 /// The operations of a message.
 #[tactic(auto, unfolding(crate::specs::Ops::ops_of))]
 pub(crate) fn read_ops(
@@ -73,6 +122,9 @@ pub(crate) fn read_ops(
 {
     if text.is_empty() {
         return Err(Stop::Fault(TraceFault::NoOps));
+    }
+    if let Some(found) = read_faultless(alloc, spaces, text.as_bytes())? {
+        return Ok(found);
     }
     match read_pieces(alloc, spaces, text)? {
         Ok(list) => {

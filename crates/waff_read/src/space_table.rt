@@ -1,12 +1,14 @@
 //! The spaces of a layout, found by name in one step.
 
-ghost use Rattle.std.specs.Prelude.{◌≡◌, ◌<◌, length, IfOk, IfSome};
+ghost use Rattle.std.specs.Prelude.{◌≡◌, ◌<◌, ◌∷◌, ◌++◌, length, IfOk, IfSome};
 ghost use Rattle.waff_model.specs.Layout.{IsLayout, names_of, size_at, space_named};
 
+use crate::beginnings::behind;
 use crate::names::Names;
 use std::alloc::{AllocError, Global};
 use std::marker::Model;
-use waff_model::Layout;
+use std::str;
+use waff_model::{Layout, is_name};
 
 /// A layout, with a table of the names of its spaces.
 #[derive(Drop)]
@@ -27,6 +29,8 @@ impl<'a> Model for SpaceTable<'a> {
 }
 
 impl<'a> SpaceTable<'a> {
+    ghost use Rattle.waff_read.specs.Beginnings.{BeginsWithSpace};
+
     pub(crate) fn new(alloc: Global, layout: &'a Layout) -> Result<Self, AllocError>
         ensures { IfOk result (λ table. table ≡ layout.now.spaces) }
     {
@@ -51,6 +55,34 @@ impl<'a> SpaceTable<'a> {
         }
     }
 
+    // The space whose name a text begins with, before a `:`, found by name, and the text after it.
+    fn found_space<'t>(&self, text: &'t [u8]) -> Option<(u32, &'t [u8])>
+        ensures begins { IfSome result (λ r. BeginsWithSpace self.now text.now r.0 r.1.now) }
+        ensures within { IfSome result (λ r. r.0 < length self.now) }
+    {
+        let end = text.iter().position(|byte| *byte == b':')?;
+        let name = str::from_utf8(&text[..end]).ok()?;
+        if !is_name(name) {
+            return None;
+        }
+        let space = self.find(name)?;
+        Some((space, &text[end + 1..]))
+    }
+
+    /// The space whose name a text begins with, before a `:`, and the text after it. The space that
+    /// is guessed is looked for first.
+    pub(crate) fn first_space<'t>(&self, guess: u32, text: &'t [u8]) -> Option<(u32, &'t [u8])>
+        ensures begins { IfSome result (λ r. BeginsWithSpace self.now text.now r.0 r.1.now) }
+        ensures within { IfSome result (λ r. r.0 < length self.now) }
+    {
+        if guess < self.layout.space_count() {
+            if let Some(rest) = behind_name(text, self.layout.space_name(guess)) {
+                return Some((guess, rest));
+            }
+        }
+        self.found_space(text)
+    }
+
     /// The size of the space with this number, in cells.
     pub(crate) fn size(&self, s: u32) -> u32
         requires { s < length self.now }
@@ -59,6 +91,13 @@ impl<'a> SpaceTable<'a> {
         let layout = self.layout;
         layout.space_size(s)
     }
+}
+
+// The text behind a name and a `:`, where it begins with these.
+fn behind_name<'t>(text: &'t [u8], name: &str) -> Option<&'t [u8]>
+    ensures { IfSome result (λ rest. text.now ≡ name.now ++ 58 ∷ rest.now) }
+{
+    behind(behind(text, name.as_bytes())?, b":")
 }
 
 /// The names of the spaces, in their order.

@@ -1,0 +1,84 @@
+//! What a text begins with: a cell, an operation. What is read so has no fault.
+
+ghost use Rattle.std.specs.Prelude.{◌≡◌, ◌++◌, IfSome};
+ghost use Rattle.waff_read.specs.Beginnings as beginnings;
+
+use crate::space_table::SpaceTable;
+use waff_model::{Cell, Op};
+use waff_parse::first_number;
+
+/// The text behind its first bytes, where it begins with these.
+pub(crate) fn behind<'t>(text: &'t [u8], first: &[u8]) -> Option<&'t [u8]>
+    ensures { IfSome result (λ rest. text.now ≡ first.now ++ rest.now) }
+{
+    text.strip_prefix(first)
+}
+
+// The cell that a text begins with; the space that is guessed is looked for first.
+fn first_cell<'t>(spaces: &SpaceTable<'_>, guess: u32, text: &'t [u8]) -> Option<(Cell, &'t [u8])>
+    ensures { IfSome result (λ r. beginnings.BeginsWithCell spaces.now text.now r.0 r.1.now) }
+{
+    let (space, index) = spaces.first_space(guess, text)?;
+    let (index, rest) = first_number(index)?;
+    if index >= u64::from(spaces.size(space)) {
+        return None;
+    }
+    let index = index as u32;
+    Some((Cell { space, index }, rest))
+}
+
+// The cell and the number, with a space between them, that a text begins with.
+fn cell_and_number<'t>(
+    spaces: &SpaceTable<'_>,
+    guess: u32,
+    text: &'t [u8],
+) -> Option<(Cell, u64, &'t [u8])>
+    ensures { IfSome result (λ r.
+        beginnings.BeginsWithCellAndNumber spaces.now text.now r.0 r.1 r.2.now) }
+{
+    let (cell, rest) = first_cell(spaces, guess, text)?;
+    let (value, rest) = first_number(behind(rest, b" ")?)?;
+    Some((cell, value, rest))
+}
+
+// The two cells, with a space between them, that a text begins with.
+fn two_cells<'t>(
+    spaces: &SpaceTable<'_>,
+    guess: u32,
+    text: &'t [u8],
+) -> Option<(Cell, Cell, &'t [u8])>
+    ensures { IfSome result (λ r.
+        beginnings.BeginsWithTwoCells spaces.now text.now r.0 r.1 r.2.now) }
+{
+    let (cell, rest) = first_cell(spaces, guess, text)?;
+    let (other, rest) = first_cell(spaces, cell.space, behind(rest, b" ")?)?;
+    Some((cell, other, rest))
+}
+
+/// The operation that a text begins with; the space that is guessed is looked for first.
+pub(crate) fn first_op<'t>(
+    spaces: &SpaceTable<'_>,
+    guess: u32,
+    text: &'t [u8],
+) -> Option<(Op, &'t [u8])>
+    ensures { IfSome result (λ r. beginnings.BeginsWithOp spaces.now text.now r.0 r.1.now) }
+{
+    if let Some(words) = behind(text, b"set ") {
+        let (cell, value, rest) = cell_and_number(spaces, guess, words)?;
+        return Some((Op::Set { cell, value }, rest));
+    }
+    if let Some(words) = behind(text, b"add ") {
+        let (cell, value, rest) = cell_and_number(spaces, guess, words)?;
+        return Some((Op::Add { cell, value }, rest));
+    }
+    if let Some(words) = behind(text, b"copy ") {
+        let (cell, source, rest) = two_cells(spaces, guess, words)?;
+        return Some((Op::Copy { cell, source }, rest));
+    }
+    if let Some(words) = behind(text, b"swap ") {
+        let (cell, other, rest) = two_cells(spaces, guess, words)?;
+        return Some((Op::Swap { cell, other }, rest));
+    }
+    let (cell, rest) = first_cell(spaces, guess, behind(text, b"read ")?)?;
+    Some((Op::Read { cell }, rest))
+}
