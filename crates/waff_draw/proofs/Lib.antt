@@ -1,6 +1,6 @@
 pub mod TextLemmas
 pub mod LaneLemmas
 pub mod WalkLemmas
-pub mod BarLemmas
+pub mod KindLemmas
 pub mod OnceLemmas
 pub mod RowLemmas

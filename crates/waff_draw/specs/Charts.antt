@@ -1,20 +1,28 @@
--- A plan that is made ready for drawing.
-use Rattle.std.specs.Prelude.{◌≡◌, ℕ, ◌<◌, All, false, length, map, slice_index, slice_index_or}
-use Rattle.waff_plan.specs.Timetable.{timings_of}
+-- A scene that is made ready for drawing.
+use Rattle.std.specs.Prelude.{◌≡◌, ℕ, ◌<◌, ◌≤◌, All, Bool, false, List, length, map, slice_index}
+use Rattle.std.specs.Prelude.{slice_index_or}
+use Rattle.waff_plan.specs.Timetable.{Timetable, timings_of}
 use Rattle.waff_draw.specs.Lanes.{is_among, row_of}
-use Rattle.waff_draw.specs.Scene.{Scene, lanes_in}
-use Rattle.waff_draw.specs.declared.bars.Chart.{Chart}
+use Rattle.waff_draw.specs.Scene.{Scene, lanes_in, length_in, work_in}
+use Rattle.waff_draw.specs.declared.lanes.Lane.{Lane}
 
--- the plan of the scene, the row of each affinity, and which numbers are on the chain
-pub record IsChart (scene : Scene) (chart : Chart) : Type 0 where
-  pub lengths : length scene.assigned ≡ length scene.messages
-  pub rows_lengths : length scene.plan.rows ≡ length scene.messages
+-- each message has its affinity and its row; the lanes, the plan and its length are those of the
+-- scene, with the row of each affinity and which numbers are on the chain
+pub record IsChart (scene : Scene) (lanes : List Lane) (plan : Timetable) (ticks : ℕ)
+    (rows : List ℕ) (links : List Bool) : Type 0 where
+  pub messages : length scene.messages ≡ (work_in scene).count
+  pub assigned : length scene.assigned ≡ (work_in scene).count
+  pub given : length scene.plan.rows ≡ (work_in scene).count
   pub known : All (λ a. a < length scene.tree) scene.assigned
-  pub timings : chart.plan.timings ≡ timings_of scene.messages
-  pub starts : chart.plan.starts ≡ map (λ row. row.start) scene.plan.rows
-  pub row_count : length chart.rows.items ≡ length scene.tree
-  pub rows : (a : ℕ) → a < length scene.tree
-      → slice_index chart.rows.items a ≡ row_of (lanes_in scene) a
-  pub link_count : length scene.messages < length chart.links.items
-  pub links : (n : ℕ) → n < length chart.links.items
-      → slice_index_or chart.links.items n false ≡ is_among scene.plan.summary.chain n
+  pub shown : lanes ≡ lanes_in scene
+  pub shown_known : All (λ lane. lane.affinity < length scene.tree) lanes
+  pub few : length lanes ≤ 65536
+  pub timings : plan.timings ≡ timings_of scene.messages
+  pub starts : plan.starts ≡ map (λ row. row.start) scene.plan.rows
+  pub long : ticks ≡ length_in scene
+  pub row_count : length rows ≡ length scene.tree
+  pub each_row : (a : ℕ) → a < length scene.tree
+      → slice_index rows a ≡ row_of (lanes_in scene) a
+  pub link_count : (work_in scene).count < length links
+  pub each_link : (n : ℕ) → n < length links
+      → slice_index_or links n false ≡ is_among scene.plan.summary.chain n

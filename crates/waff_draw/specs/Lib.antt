@@ -7,4 +7,5 @@ pub mod Bars
 pub mod Charts
 pub mod Svg
 pub mod Events
+pub mod Kinds
 pub mod Laws

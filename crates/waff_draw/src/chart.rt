@@ -1,41 +1,266 @@
-//! A plan that is made ready for drawing.
+//! What a picture shows, made ready for drawing.
 
-ghost use Rattle.std.specs.Prelude.{◌≡◌, ◌<◌, ◌≤◌, All, IfOk, length, map};
+ghost use Rattle.std.specs.Prelude.{◌≡◌, ◌*◌, ◌^◌, ◌<◌, ◌≤◌, All, IfOk, IfSome, length, map};
+ghost use Rattle.std.specs.Prelude.{slice_index_or};
+ghost use Rattle.waff_model.specs.Tree.{name_of};
+ghost use Rattle.waff_assign.specs.Order.{affinity_of};
+ghost use Rattle.waff_plan.specs.Bound.{IsWorkers};
 ghost use Rattle.waff_plan.specs.Timetable.{timings_of};
-ghost use Rattle.waff_draw.specs.Charts.{IsChart};
-ghost use Rattle.waff_draw.specs.Lanes.{lanes_of};
-ghost use Rattle.waff_draw.specs.Scene.{scene_of};
+ghost use Rattle.waff_plan.specs.Work.{IsNumber, total_of};
+ghost use Rattle.waff_plan_text.specs.Given.{row_at};
+ghost use Rattle.waff_draw.specs.Axis.{step_of};
+ghost use Rattle.waff_draw.specs.Bars.{worker_row};
+ghost use Rattle.waff_draw.specs.Kinds.{row_in};
+ghost use Rattle.waff_draw.specs.Lanes.{is_among, lane_of, row_of};
+ghost use Rattle.waff_draw.specs.Scene.{affinity_in, lanes_in, length_in, name_in, rows_in};
+ghost use Rattle.waff_draw.specs.Scene.{scene_of, start_in, work_in, workers_in};
 
-use crate::bars::Chart;
-use crate::lanes::{Lane, rows};
+use crate::axis::step;
+use crate::lanes::{Lane, LaneKind, lanes, rows};
 use crate::marks::marks;
 use std::alloc::{AllocError, Global};
+use std::marker::Model;
 use waff_assign::Assigned;
-use waff_model::{Trace, Tree};
+use waff_model::limits::{MAX_MESSAGES, MAX_TICK, MAX_WORKERS};
+use waff_model::{AffinityId, Trace, Tree};
 use waff_plan::Plan;
 use waff_plan_text::GivenPlan;
 
-/// The chart of a plan that is given, by the lanes of its affinities.
-pub(crate) fn chart(
-    alloc: Global,
-    tree: &Tree,
-    assigned: &Assigned,
-    trace: &Trace,
-    given: &GivenPlan,
-    lanes: &[Lane],
-) -> Result<Chart, AllocError>
-    requires lengths { length assigned.now ≡ length trace.now.messages }
-    requires known { All (λ a. a < length tree.now) assigned.now }
-    requires rows { length given.now.rows ≡ length trace.now.messages }
-    requires lanes { lanes.now ≡ lanes_of tree.now assigned.now }
-    requires lanes_known { All (λ lane. lane.affinity < length tree.now) lanes.now }
-    requires few { length lanes.now ≤ 65536 }
-    ensures { IfOk result (IsChart (scene_of tree.now assigned.now trace.now.messages given.now)) }
-{
-    let plan = plan_of(alloc, trace, given)?;
-    let rows = rows(alloc, tree.len() as usize, lanes)?;
-    let links = marks(alloc, trace.len() as usize + 1, given.chain())?;
-    Ok(Chart { plan, rows, links })
+/// A scene made ready for drawing: a plan that is given for the messages of a trace with their
+/// affinities, the lanes of these and the row of each, the plan of its starts and its length in
+/// ticks, and whether each message is on the chain, by its number.
+#[derive(Drop)]
+pub(crate) struct Chart<'a> {
+    tree: &'a Tree,
+    assigned: &'a Assigned,
+    trace: &'a Trace,
+    given: &'a GivenPlan,
+    lanes: Vec<Lane>,
+    plan: Plan,
+    ticks: u64,
+    rows: Vec<u64>,
+    links: Vec<bool>,
+}
+
+impl<'a> Model for Chart<'a> {
+    ghost use Rattle.waff_draw.specs.Scene.{Scene, scene_of};
+    ghost use Rattle.waff_draw.specs.Charts.{IsChart};
+
+    ghost Value = { Scene };
+
+    ghost view = { λ c. scene_of c.tree.now c.assigned.now c.trace.now.messages c.given.now };
+
+    ghost invariant = { λ c.
+        IsChart (scene_of c.tree.now c.assigned.now c.trace.now.messages c.given.now)
+        c.lanes.items c.plan c.ticks c.rows.items c.links.items };
+}
+
+impl<'a> Chart<'a> {
+    /// The chart of a plan that is given.
+    pub(crate) fn new(
+        alloc: Global,
+        tree: &'a Tree,
+        assigned: &'a Assigned,
+        trace: &'a Trace,
+        given: &'a GivenPlan,
+    ) -> Result<Self, AllocError>
+        requires lengths { length assigned.now ≡ length trace.now.messages }
+        requires known { All (λ a. a < length tree.now) assigned.now }
+        requires rows { length given.now.rows ≡ length trace.now.messages }
+        ensures { IfOk result (λ chart.
+            chart ≡ scene_of tree.now assigned.now trace.now.messages given.now) }
+    {
+        let lanes = lanes(alloc, tree, assigned)?;
+        let plan = plan_of(alloc, trace, given)?;
+        let ticks = plan.length();
+        let rows = rows(alloc, tree.len() as usize, lanes.as_slice())?;
+        let links = marks(alloc, trace.len() as usize + 1, given.chain())?;
+        Ok(Chart {
+            tree,
+            assigned,
+            trace,
+            given,
+            lanes,
+            plan,
+            ticks,
+            rows,
+            links,
+        })
+    }
+
+    /// How many messages there are.
+    pub(crate) fn len(&self) -> u32
+        ensures count { result ≡ (work_in self.now).count }
+        ensures few { result ≤ MAX_MESSAGES }
+    {
+        self.plan.len()
+    }
+
+    /// The name of message `n`.
+    pub(crate) fn name(&self, n: u32) -> &str
+        requires { IsNumber (work_in self.now) n }
+        ensures { result.now ≡ name_in self.now n }
+    {
+        let trace = self.trace;
+        trace.message(n).name.as_str()
+    }
+
+    /// The name of its affinity.
+    pub(crate) fn affinity_name(&self, n: u32) -> &str
+        requires { IsNumber (work_in self.now) n }
+        ensures { result.now ≡ affinity_in self.now n }
+    {
+        let tree = self.tree;
+        let assigned = self.assigned;
+        tree.name(assigned.of(n))
+    }
+
+    /// The tick at which it starts.
+    pub(crate) fn start(&self, n: u32) -> u64
+        requires { IsNumber (work_in self.now) n }
+        ensures start { result ≡ start_in self.now n }
+        ensures printable { result ≤ MAX_TICK }
+    {
+        self.plan.start(n)
+    }
+
+    /// Its running time.
+    pub(crate) fn cost(&self, n: u32) -> u64
+        requires { IsNumber (work_in self.now) n }
+        ensures cost { result ≡ (work_in self.now).cost n }
+        ensures small { result < 2 ^ 32 }
+    {
+        self.plan.cost(n)
+    }
+
+    /// The tick before which it may not start.
+    pub(crate) fn release(&self, n: u32) -> u64
+        requires { IsNumber (work_in self.now) n }
+        ensures { result ≡ (work_in self.now).release n }
+    {
+        self.plan.release(n)
+    }
+
+    /// Whether it is on the chain of the plan.
+    pub(crate) fn is_link(&self, n: u32) -> bool
+        requires { IsNumber (work_in self.now) n }
+        ensures { result ≡ is_among self.now.plan.summary.chain n }
+    {
+        self.links[n as usize]
+    }
+
+    /// Its row among the lanes of this kind, if it has one there.
+    pub(crate) fn row(&self, kind: LaneKind, n: u32) -> Option<u64>
+        requires { IsNumber (work_in self.now) n }
+        ensures { result ≡ row_in self.now kind n }
+    {
+        match kind {
+            LaneKind::Affinity => Some(self.affinity_row(n)),
+            LaneKind::Worker => self.worker_row(n),
+        }
+    }
+
+    /// The row of its affinity.
+    fn affinity_row(&self, n: u32) -> u64
+        requires { IsNumber (work_in self.now) n }
+        ensures { result ≡ row_of (lanes_in self.now) (affinity_of self.now.assigned n) }
+    {
+        let assigned = self.assigned;
+        let affinity = assigned.of(n);
+        self.rows[affinity.0 as usize]
+    }
+
+    /// The row of its worker, if it has one of the plan's.
+    fn worker_row(&self, n: u32) -> Option<u64>
+        requires { IsNumber (work_in self.now) n }
+        ensures { result ≡ worker_row (length (lanes_in self.now)) (workers_in self.now)
+            (row_at self.now.plan.rows n).worker }
+    {
+        let given = self.given;
+        let first = self.lane_count();
+        let k = u64::from(self.worker_count());
+        match given.row(n).worker {
+            Some(worker) if 1 <= worker && worker <= k => Some(first + worker - 1),
+            _ => None,
+        }
+    }
+
+    /// How many lanes of affinities there are.
+    pub(crate) fn lane_count(&self) -> u64
+        ensures count { result ≡ length (lanes_in self.now) }
+        ensures few { result ≤ 65536 }
+    {
+        self.lanes.len() as u64
+    }
+
+    /// How deep in the tree the affinity is whose lane is in this row.
+    pub(crate) fn lane_depth(&self, row: u64) -> u64
+        requires { row < length (lanes_in self.now) }
+        ensures { result ≡ (slice_index_or (lanes_in self.now) row (lane_of 0 0)).depth }
+    {
+        self.lanes[row as usize].depth
+    }
+
+    /// The name of this affinity.
+    pub(crate) fn lane_name(&self, row: u64) -> &str
+        requires { row < length (lanes_in self.now) }
+        ensures { result.now ≡ name_of self.now.tree
+            (slice_index_or (lanes_in self.now) row (lane_of 0 0)).affinity }
+    {
+        let tree = self.tree;
+        let _affinities = tree.len();
+        tree.name(AffinityId(self.lanes[row as usize].affinity as u16))
+    }
+
+    /// The number of workers, if the plan has workers.
+    pub(crate) fn workers(&self) -> Option<u32>
+        ensures workers { result ≡ self.now.plan.summary.workers }
+        ensures few { IfSome result IsWorkers }
+    {
+        let given = self.given;
+        let _messages = given.len();
+        given.workers()
+    }
+
+    /// The number of workers, 0 for a plan without them.
+    pub(crate) fn worker_count(&self) -> u32
+        ensures count { result ≡ workers_in self.now }
+        ensures few { result ≤ MAX_WORKERS }
+    {
+        match self.workers() {
+            Some(k) => k,
+            None => 0,
+        }
+    }
+
+    /// How many lanes there are.
+    pub(crate) fn row_count(&self) -> u64
+        ensures count { result ≡ rows_in self.now }
+        ensures few { result < 2 ^ 32 }
+    {
+        self.lane_count() + u64::from(self.worker_count())
+    }
+
+    /// The length of the plan.
+    pub(crate) fn length(&self) -> u64
+        ensures { result ≡ length_in self.now }
+    {
+        self.ticks
+    }
+
+    /// The sum of all running times.
+    pub(crate) fn total(&self) -> u64
+        ensures { result ≡ total_of (work_in self.now) }
+    {
+        self.plan.total()
+    }
+
+    /// Where step `i` of the axis is.
+    pub(crate) fn tick(&self, i: u32) -> u128
+        ensures { result ≡ i * step_of (length_in self.now) }
+    {
+        u128::from(i) * u128::from(step(self.length()))
+    }
 }
 
 /// The plan in which the messages of the trace start as the rows tell.

@@ -1,29 +1,23 @@
 //! The picture in the Trace Event Format, which Perfetto and the tracing page of Chromium open.
 
-ghost use Rattle.std.specs.Prelude.{◌≡◌, ◌+◌, ◌*◌, ◌^◌, ◌<◌, ◌≤◌, ◌++◌, ℕ, List, All, IfOk, IfSome};
-ghost use Rattle.std.specs.Prelude.{OnOk, false, length, map, slice_index, slice_index_or};
-ghost use Rattle.std.specs.Prelude.{string_bytes};
+ghost use Rattle.std.specs.Prelude.{◌≡◌, ◌<◌, ◌≤◌, ◌++◌, All, IfOk, OnOk, length, string_bytes};
 ghost use Rattle.std.specs.List.{flat_map, range_with_len};
-ghost use Rattle.waff_plan.specs.Bound.{IsWorkers};
-ghost use Rattle.waff_plan.specs.Timetable.{timings_of};
-ghost use Rattle.waff_draw.specs.Bars.{worker_row};
-ghost use Rattle.waff_draw.specs.Charts.{IsChart};
-ghost use Rattle.waff_draw.specs.Events.{affinity_events, affinity_thread, category, document_end};
-ghost use Rattle.waff_draw.specs.Events.{document_start, event_args, event_at, event_start};
+ghost use Rattle.waff_plan.specs.Work.{IsNumber};
+ghost use Rattle.waff_draw.specs.Events.{affinity_thread, category, document_end, document_start};
+ghost use Rattle.waff_draw.specs.Events.{event_args, event_at, event_in, event_start};
 ghost use Rattle.waff_draw.specs.Events.{event_text, event_thread, events_text, quoted};
-ghost use Rattle.waff_draw.specs.Events.{thread_name, thread_place, thread_text, worker_events};
+ghost use Rattle.waff_draw.specs.Events.{thread_name, thread_place, thread_text, threads_text};
 ghost use Rattle.waff_draw.specs.Events.{worker_thread, worker_threads, workers_start};
-ghost use Rattle.waff_draw.specs.Lanes.{is_among, lanes_of, row_of};
-ghost use Rattle.waff_draw.specs.Scene.{Scene, lanes_in, scene_of, worker_count};
+ghost use Rattle.waff_draw.specs.Kinds.{events_of, process_of};
+ghost use Rattle.waff_draw.specs.Scene.{lanes_in, scene_of, work_in};
 
-use crate::bars::{Chart, row_of_worker};
-use crate::chart::chart;
-use crate::lanes::{Lane, lanes};
+use crate::chart::Chart;
+use crate::lanes::LaneKind;
 use crate::pieces::push_worker_name;
 use serde_json::Value;
 use std::alloc::{AllocError, Global};
 use waff_assign::Assigned;
-use waff_model::{AffinityId, Trace, Tree};
+use waff_model::{Trace, Tree};
 use waff_plan_text::GivenPlan;
 
 /// A message as it runs in a thread of a process.
@@ -52,68 +46,30 @@ pub fn events_text(
     ensures { IfOk result (λ text. string_bytes text
         ≡ events_text (scene_of tree.now assigned.now trace.now.messages given.now)) }
 {
-    let lanes = lanes(alloc, tree, assigned)?;
-    let chart = chart(alloc, tree, assigned, trace, given, lanes.as_slice())?;
-    told_text(
-        alloc,
-        tree,
-        assigned,
-        trace,
-        given,
-        lanes.as_slice(),
-        &chart,
-    )
+    let chart = Chart::new(alloc, tree, assigned, trace, given)?;
+    document(alloc, &chart)
 }
 
-/// The events of a plan by its lanes and its chart.
-fn told_text(
-    alloc: Global,
-    tree: &Tree,
-    assigned: &Assigned,
-    trace: &Trace,
-    given: &GivenPlan,
-    lanes: &[Lane],
-    chart: &Chart,
-) -> Result<String, AllocError>
-    requires chart { IsChart
-        (scene_of tree.now assigned.now trace.now.messages given.now) chart.now }
-    requires lanes { lanes.now ≡ lanes_of tree.now assigned.now }
-    requires lanes_known { All (λ lane. lane.affinity < length tree.now) lanes.now }
-    requires few { length lanes.now ≤ 65536 }
-    ensures { IfOk result (λ text. string_bytes text
-        ≡ events_text (scene_of tree.now assigned.now trace.now.messages given.now)) }
+/// The events of a chart.
+fn document(alloc: Global, chart: &Chart<'_>) -> Result<String, AllocError>
+    ensures { IfOk result (λ text. string_bytes text ≡ events_text chart.now) }
 {
     let mut text = String::new(alloc);
-    push_document(alloc, &mut text, tree, assigned, trace, given, lanes, chart)?;
+    push_threads(alloc, &mut text, chart)?;
+    push_events(alloc, &mut text, chart, LaneKind::Affinity)?;
+    push_events(alloc, &mut text, chart, LaneKind::Worker)?;
+    push_document_end(&mut text)?;
     Ok(text)
 }
 
-/// Appends the document.
-fn push_document(
-    alloc: Global,
-    text: &mut String,
-    tree: &Tree,
-    assigned: &Assigned,
-    trace: &Trace,
-    given: &GivenPlan,
-    lanes: &[Lane],
-    chart: &Chart,
-) -> Result<(), AllocError>
-    requires chart { IsChart
-        (scene_of tree.now assigned.now trace.now.messages given.now) chart.now }
-    requires lanes { lanes.now ≡ lanes_of tree.now assigned.now }
-    requires lanes_known { All (λ lane. lane.affinity < length tree.now) lanes.now }
-    requires few { length lanes.now ≤ 65536 }
+/// Appends all that stands before the events of messages.
+fn push_threads(alloc: Global, text: &mut String, chart: &Chart<'_>) -> Result<(), AllocError>
     ensures { OnOk result (string_bytes text.new ≡ string_bytes text.old
-        ++ events_text (scene_of tree.now assigned.now trace.now.messages given.now)) }
+        ++ threads_text chart.now) }
 {
-    let first = lanes.len() as u64;
     push_document_start(text)?;
-    push_affinity_threads(alloc, text, tree, lanes)?;
-    push_worker_threads(alloc, text, first, given.summary().workers)?;
-    push_affinity_events(alloc, text, tree, assigned, trace, given, chart)?;
-    push_worker_events(alloc, text, tree, assigned, trace, given, chart, first)?;
-    push_document_end(text)
+    push_affinity_threads(alloc, text, chart)?;
+    push_worker_threads(alloc, text, chart)
 }
 
 /// Appends the start of the document, with the process of the affinities.
@@ -130,38 +86,31 @@ fn push_document_start(text: &mut String) -> Result<(), AllocError>
 fn push_affinity_threads(
     alloc: Global,
     text: &mut String,
-    tree: &Tree,
-    lanes: &[Lane],
+    chart: &Chart<'_>,
 ) -> Result<(), AllocError>
-    requires known { All (λ lane. lane.affinity < length tree.now) lanes.now }
-    requires few { length lanes.now ≤ 65536 }
     ensures { OnOk result (string_bytes text.new ≡ string_bytes text.old
-        ++ flat_map (affinity_thread tree.now lanes.now) (range_with_len 0 (length lanes.now))) }
+        ++ flat_map (affinity_thread chart.now.tree (lanes_in chart.now))
+        (range_with_len 0 (length (lanes_in chart.now)))) }
 {
-    let _affinities = tree.len();
-    for row in 0..lanes.len() {
-        let name = tree.name(AffinityId(lanes[row].affinity as u16));
-        push_thread(alloc, text, 1, row as u128 + 1, name)?;
+    for row in 0..chart.lane_count() {
+        push_thread(alloc, text, 1, u128::from(row) + 1, chart.lane_name(row))?;
     }
     Ok(())
 }
 
-/// Appends the process of the workers with the threads of their lanes, below this many others, for
-/// a plan that has workers.
+/// Appends the process of the workers with the threads of their lanes, for a plan that has workers.
 fn push_worker_threads(
     alloc: Global,
     text: &mut String,
-    first: u64,
-    workers: Option<u32>,
+    chart: &Chart<'_>,
 ) -> Result<(), AllocError>
-    requires { IfSome workers IsWorkers }
     ensures { OnOk result (string_bytes text.new ≡ string_bytes text.old
-        ++ worker_threads first workers) }
+        ++ worker_threads (length (lanes_in chart.now)) chart.now.plan.summary.workers) }
 {
-    match workers {
+    match chart.workers() {
         Some(k) => {
             push_workers_start(text)?;
-            push_threads_of(alloc, text, first, k)
+            push_threads_of(alloc, text, chart.lane_count(), k)
         }
         None => Ok(()),
     }
@@ -258,77 +207,48 @@ fn push_thread_place(text: &mut String, process: u32, thread: u128) -> Result<()
     )
 }
 
-/// Appends the events of all messages in the lanes of their affinities.
-fn push_affinity_events(
+/// Appends the events of all messages that have a row among the lanes of this kind.
+fn push_events(
     alloc: Global,
     text: &mut String,
-    tree: &Tree,
-    assigned: &Assigned,
-    trace: &Trace,
-    given: &GivenPlan,
-    chart: &Chart,
+    chart: &Chart<'_>,
+    kind: LaneKind,
 ) -> Result<(), AllocError>
-    requires chart { IsChart
-        (scene_of tree.now assigned.now trace.now.messages given.now) chart.now }
     ensures { OnOk result (string_bytes text.new ≡ string_bytes text.old
-        ++ affinity_events (scene_of tree.now assigned.now trace.now.messages given.now)) }
+        ++ events_of chart.now kind) }
 {
-    for n in 1..chart.plan.len() + 1 {
-        let affinity = assigned.of(n);
-        let row = chart.rows[affinity.0 as usize];
-        let event = event_of(chart, 1, row, n);
-        let name = trace.message(n).name.as_str();
-        push_event(alloc, text, &event, name, tree.name(affinity))?;
-    }
-    Ok(())
-}
-
-/// Appends the events of all messages that have a worker in the lanes of their workers, which stand
-/// below this many others.
-fn push_worker_events(
-    alloc: Global,
-    text: &mut String,
-    tree: &Tree,
-    assigned: &Assigned,
-    trace: &Trace,
-    given: &GivenPlan,
-    chart: &Chart,
-    first: u64,
-) -> Result<(), AllocError>
-    requires chart { IsChart
-        (scene_of tree.now assigned.now trace.now.messages given.now) chart.now }
-    requires few { first ≤ 65536 }
-    requires first { first
-        ≡ length (lanes_in (scene_of tree.now assigned.now trace.now.messages given.now)) }
-    ensures { OnOk result (string_bytes text.new ≡ string_bytes text.old
-        ++ worker_events (scene_of tree.now assigned.now trace.now.messages given.now)) }
-{
-    let _messages = given.len();
-    for n in 1..chart.plan.len() + 1 {
-        if let Some(row) = row_of_worker(first, given.workers(), given.row(n).worker) {
-            let event = event_of(chart, 2, row, n);
-            let name = trace.message(n).name.as_str();
-            push_event(alloc, text, &event, name, tree.name(assigned.of(n)))?;
+    for n in 1..chart.len() + 1 {
+        if let Some(row) = chart.row(kind, n) {
+            let event = event_of(chart, process_of(kind), row, n);
+            push_event(alloc, text, &event, chart.name(n), chart.affinity_name(n))?;
         }
     }
     Ok(())
 }
 
+/// The process whose threads are the lanes of this kind.
+fn process_of(kind: LaneKind) -> u32
+    ensures { result ≡ process_of kind }
+{
+    match kind {
+        LaneKind::Affinity => 1,
+        LaneKind::Worker => 2,
+    }
+}
+
 /// The event of message `n` in this row of a process.
-fn event_of(chart: &Chart, process: u32, row: u64, n: u32) -> Event
-    requires from { 1 ≤ n }
-    requires to { n ≤ length chart.now.plan.timings }
-    requires links { length chart.now.plan.timings < length chart.now.links.items }
-    ensures { (scene : Scene) → IsChart scene chart.now → result ≡ event_at scene process row n }
+fn event_of(chart: &Chart<'_>, process: u32, row: u64, n: u32) -> Event
+    requires { IsNumber (work_in chart.now) n }
+    ensures { result ≡ event_at chart.now process row n }
 {
     Event {
         message: n,
         process,
         thread: u128::from(row) + 1,
-        start: chart.plan.start(n),
-        cost: chart.plan.cost(n),
-        release: chart.plan.release(n),
-        is_link: chart.links[n as usize],
+        start: chart.start(n),
+        cost: chart.cost(n),
+        release: chart.release(n),
+        is_link: chart.is_link(n),
     }
 }
 

@@ -18,6 +18,13 @@ pub struct Lane {
     pub depth: u64,
 }
 
+/// What a lane is of: an affinity, or, below those, a worker.
+#[derive(Clone, Copy)]
+pub enum LaneKind {
+    Affinity,
+    Worker,
+}
+
 /// The lanes of the affinities that have a message.
 pub(crate) fn lanes(
     alloc: Global,

@@ -2,8 +2,8 @@
 //! message.
 //!
 //! - `lanes`: the affinities that have a message, in preorder; `marks`: which numbers a list has;
-//! `laws`: each has one lane,
-//!   where its bars are.
+//!   `laws`: each has one lane, where its bars are.
+//! - `chart`: what a picture shows, made ready for drawing.
 //! - `axis`: round numbers of ticks; `xml`: names in a document of markup.
 //! - `svg`: the text of the picture; `bars`: its bars; `pieces`: what both are made of.
 //! - `events`: the same as events of threads, for a viewer of traces.

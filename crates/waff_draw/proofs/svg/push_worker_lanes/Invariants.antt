@@ -1,8 +1,10 @@
-use Rattle.std.proofs.Common.{◌≡◌, ◌-◌, ◌++◌, flat_map, string_bytes}
+use Rattle.std.proofs.Common.{◌≡◌, ◌-◌, ◌++◌, flat_map, length, string_bytes}
 use Rattle.std.specs.List.{range_with_len}
+use Rattle.waff_draw.specs.Scene.{lanes_in}
 use Rattle.waff_draw.specs.Svg.{worker_lane}
 use Rattle.waff_draw.proofs.svg.push_worker_lanes.Given as goal
 
 abbrev pub invariant-loop-worker : goal.invariant-loop-worker
 invariant-loop-worker l =
-    string_bytes l.text ≡ string_bytes l.initial.text ++ flat_map (worker_lane l.first) (range_with_len 1 (l.worker - 1))
+    string_bytes l.text ≡ string_bytes l.initial.text
+    ++ flat_map (worker_lane (length (lanes_in l.chart))) (range_with_len 1 (l.worker - 1))
