@@ -52,11 +52,11 @@ use Rattle.waff_check.specs.declared.verdict.Verdict.{Verdict}
 use Rattle.waff_check.specs.declared.verdict.Verdict.TheVariants as verdict
 use Rattle.waff_check.proofs.OwnLaws.{own_plan_is_shortest, own_plan_is_within_bound}
 use Rattle.waff_check.proofs.PromiseLaws as promise
-use Rattle.waff_tool.specs.CheckText.{IsCheckText}
-use Rattle.waff_tool.specs.Commands as commands
-use Rattle.waff_tool.specs.Commands.{IsPlanText, IsWorkerPlanText, work_in}
+use Rattle.waff_try.specs.CheckText.{IsCheckText}
+use Rattle.waff_accept.specs.Inputs as inputs
+use Rattle.waff_tell.specs.PlanText.{IsPlanText, IsWorkerPlanText, work_in}
 use Rattle.waff_tool.specs.OwnPlans.{OwnPlanPasses, OwnWorkerPlanPasses}
-use Rattle.waff_tool.proofs.CertificateLemmas.{pairs_forward}
+use Rattle.waff_tell.proofs.CertificateLemmas.{pairs_forward}
 
 -- work within the limits of traces
 record IsModest (version : Version) (work : Work) : Type 0 where
@@ -292,7 +292,7 @@ manned work start workers k some_cost seated at_once = record {
 
 -- what was accepted
 module _ (hierarchy_file trace_file : List ℕ) (layout : Hierarchy) (trace : Arrivals) (assigned : List ℕ)
-    (accepts : commands.Accepts hierarchy_file trace_file layout trace assigned) where
+    (accepts : inputs.Accepts hierarchy_file trace_file layout trace assigned) where
   is_trace : IsTrace trace
   is_trace = trace_is_within_limits layout.spaces trace_file trace accepts.is_trace
 

@@ -1,14 +1,2 @@
-pub mod AssignText
-pub mod Certificates
-pub mod CheckText
-pub mod Commands
-pub mod Comparison
 pub mod Explanations
-pub mod Fault
-pub mod PrintedSpaces
-pub mod ReplayText
-pub mod Figures
-pub mod ToolErrors
-pub mod Unique
 pub mod OwnPlans
-pub mod DrawText

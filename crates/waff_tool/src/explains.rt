@@ -7,16 +7,13 @@ ghost use Rattle.waff_tool.specs.Explanations.{OfPlan, OfTrace, RefusesWork, Tel
 ghost use Rattle.waff_tool.specs.Explanations.{first_line, status_explained};
 ghost use Rattle.waff_io.specs.Writing.{AppendsPart};
 
-use crate::checks::{made_line, made_verdict, verdict_status};
-use crate::commands::accept;
-use crate::fault::{ToolError, fault_status, fault_text};
-use crate::output::write_text;
 use std::alloc::{AllocError, Global};
 use std::io::Write;
 use std::thread::Threads;
+use waff_accept::{ToolError, accept, fault_status, fault_text, read_numbered, write_text};
 use waff_check::Verdict;
 use waff_explain::{hierarchy_words, plan_text_words, sizes_words, trace_words, verdict_words};
-use waff_read::read_hierarchy;
+use waff_try::{made_line, made_verdict, verdict_status};
 
 /// What was explained.
 #[derive(Clone, Copy, Debug, PartialEq, Eq)]
@@ -94,9 +91,12 @@ fn find<R: Threads + Sync>(
 fn find_in_hierarchy(alloc: Global, hierarchy: &[u8]) -> Result<Explained, AllocError>
     ensures { IfOk result (OfHierarchy hierarchy.now) }
 {
-    match read_hierarchy(alloc, hierarchy) {
-        Ok(_) => Ok(Explained::Well),
-        Err(fault) => explained_fault(ToolError::of_hierarchy(1, fault)),
+    match read_numbered(alloc, 1, hierarchy) {
+        Ok(layout) => {
+            drop(layout);
+            Ok(Explained::Well)
+        }
+        Err(fault) => explained_fault(fault),
     }
 }
 
@@ -104,7 +104,10 @@ fn find_in_trace(alloc: Global, hierarchy: &[u8], trace: &[u8]) -> Result<Explai
     ensures { IfOk result (OfTrace hierarchy.now trace.now) }
 {
     match accept(alloc, hierarchy, trace) {
-        Ok(_) => Ok(Explained::Well),
+        Ok(accepted) => {
+            drop(accepted);
+            Ok(Explained::Well)
+        }
         Err(fault) => explained_fault(fault),
     }
 }

@@ -1,0 +1,5 @@
+pub mod CertificateLemmas
+mod ComparisonLemmas
+mod FigureUniqueness
+mod LineLaws
+mod Uniqueness

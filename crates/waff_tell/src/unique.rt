@@ -1,0 +1,22 @@
+//! One text for each input. Each law is a function that does nothing and whose contract is the law.
+
+ghost use Rattle.std.specs.Prelude.{ℕ, List, Option};
+ghost use Rattle.waff_tell.specs.Unique.{AssignTextIsOne, CompareTextIsOne, PlanTextIsOne};
+
+/// The text of the affinities of a hierarchy and a trace is one.
+pub fn assign_text_is_one()
+    ensures equal { (hierarchy_file trace_file : List ℕ)
+        → AssignTextIsOne hierarchy_file trace_file }
+{}
+
+/// The text of the plan of a hierarchy and a trace is one, for each number of workers and without.
+pub fn plan_text_is_one()
+    ensures equal { (hierarchy_file trace_file : List ℕ) (workers : Option ℕ)
+        → PlanTextIsOne hierarchy_file trace_file workers }
+{}
+
+/// The text of the comparison of two hierarchies on a trace is one.
+pub fn compare_text_is_one()
+    ensures equal { (first_file second_file trace_file : List ℕ) (k : ℕ)
+        → CompareTextIsOne first_file second_file trace_file k }
+{}

@@ -1,0 +1,3 @@
+mod OrderLemmas
+mod StateLines
+mod Uniqueness

@@ -1,0 +1,5 @@
+pub mod CheckText
+pub mod DrawText
+pub mod PrintedSpaces
+pub mod ReplayText
+pub mod Unique

@@ -1,0 +1,18 @@
+-- Of the same bytes a check has one verdict, and a replay one text.
+use Rattle.std.specs.Prelude.{◌≡◌, ℕ, List}
+use Rattle.waff_check.specs.declared.verdict.Verdict.{Verdict}
+use Rattle.waff_try.specs.CheckText.{IsCheckText}
+use Rattle.waff_try.specs.ReplayText.{IsReplayText}
+
+-- two verdicts on the plan text of a hierarchy and a trace are equal, and so are their texts
+abbrev pub CheckTextIsOne : List ℕ → List ℕ → List ℕ → Type 0
+CheckTextIsOne hierarchy_file trace_file plan_file =
+    (one other : Verdict) → IsCheckText hierarchy_file trace_file plan_file one
+    → IsCheckText hierarchy_file trace_file plan_file other → one ≡ other
+
+-- two texts of the state that a trace leaves under a hierarchy are equal
+abbrev pub ReplayTextIsOne : List ℕ → List ℕ → Type 0
+ReplayTextIsOne hierarchy_file trace_file =
+    (text other : List ℕ) → IsReplayText hierarchy_file trace_file text
+    → IsReplayText hierarchy_file trace_file other
+    → text ≡ other
