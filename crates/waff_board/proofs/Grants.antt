@@ -1,5 +1,5 @@
 -- The parcels of a message: how many they are, and what its operations do to them.
-use Rattle.std.proofs.Common.{◌≡◌, ℕ, zero, suc, ◌-◌, ◌*◌, ◌<◌, ◌≤◌, ◌||◌, Bool, true, false, List, [], ◌∷◌, All, Contains, length, map, get_or, set, slice_index_or, eqb, eqb-true, eq-eqb, ne_eqb, refl, sym, ap, ◌∙◌, subst, arith}
+use Rattle.std.proofs.Common.{◌≡◌, ℕ, zero, suc, ◌-◌, ◌*◌, ◌<◌, ◌≤◌, ◌||◌, Bool, true, false, List, [], Contains, length, map, set, slice_index_or, eqb, eqb-true, eq-eqb, ne_eqb, refl, sym, ap, ◌∙◌, subst, arith}
 use mathlib.Core.Logic.{dite}
 use native.Mathlib.Decide.{ℕ_discrete}
 use Rattle.std.specs.Cmp.{IsEquivalence}
@@ -12,21 +12,19 @@ use Rattle.std.proofs.lemmas.Map.Made.{IsDistinct-from_AllPairs, length-le_from_
 use Rattle.std.proofs.lemmas.Map.Views.{Contains-from_any, list_any-from_Contains}
 use Rattle.waff_model.specs.Cells.{cells_of}
 use Rattle.waff_model.specs.Layout.{Hierarchy, Space, owner_of}
-use Rattle.waff_model.specs.Parcel.{parcel_size}
 use Rattle.waff_model.specs.declared.cell.Cell.{Cell}
 use Rattle.waff_model.specs.declared.limits.TheConstants.{MAX_OPS}
 use Rattle.waff_model.specs.declared.op.Op.{Op}
 use Rattle.waff_cells.specs.Meaning.{Cells, meaning}
 use Rattle.waff_cells.specs.Serial.{ops_of, serial}
-use Rattle.waff_cells.specs.Parcel.{AreParcels, HaveParcelSizes, IsOwned}
+use Rattle.waff_cells.specs.Parcel.{AreParcels}
 use Rattle.waff_core.specs.Job.{JobValue, IsJob, IsIn, IsOwner, owners_of}
 use Rattle.waff_core.specs.Owners.{owners_in}
 use Rattle.waff_core.proofs.Listing.{few_owners}
-use Rattle.waff_core.proofs.Settling.{named_is_cell}
 use Rattle.waff_board.specs.Plays.{finished_view}
 use Rattle.waff_board.specs.Seats.{has_seen}
 use Rattle.waff_board.specs.declared.view.View.{View}
-use Rattle.waff_board.proofs.Begins.{listed_owner, owner_listed}
+use Rattle.waff_board.proofs.Begins.{listed_owner}
 use Rattle.waff_board.proofs.Seen.{or_false, seen_finished}
 
 eqb_laws : IsEquivalence eqb
@@ -65,34 +63,6 @@ module _ (job : JobValue) (is : IsJob job) (m : ℕ) (within : IsIn job m) where
       short_at zero is_in = let from = is_in.from in absurd (omega (arith, from))
       short_at (suc n) is_in = let to = is_in.to in All-get_or (λ (ops : List Op). length ops ≤ MAX_OPS) job.ops n [] (omega (arith, to)) is.few
 
-  -- the cells that the message names are in its parcels
-  pub cells_are_owned : All (IsOwned job.layout.spaces (owners_of job.owners m)) (cells_of (ops_of job.ops m))
-  cells_are_owned k d there =
-      let cell = slice_index_or (cells_of (ops_of job.ops m)) k d in
-      let named : Contains (cells_of (ops_of job.ops m)) cell = (k, there, get_itself (cells_of (ops_of job.ops m)) k d there) in
-      record {
-        there = named_is_cell job is m within cell named;
-        owned = owner_listed job is m (owner_of job.layout.spaces cell) within (record { cell = cell; named = named; owned = refl });
-      }
-    where
-      get_itself : (xs : List Cell) (k : ℕ) (d : Cell) → k < length xs → get_or xs k (get_or xs k d) ≡ get_or xs k d
-      get_itself [] k d there = absurd (omega (arith, there))
-      get_itself (x ∷ xs) zero d there = refl
-      get_itself (x ∷ xs) (suc k) d there = get_itself xs k d (omega (arith, there))
-
--- parcels have their sizes
-pub parcel_sizes : (spaces : List Space) (owners : List ℕ) (cells : Cells) (rows : List (List ℕ)) → AreParcels spaces owners cells rows
-    → HaveParcelSizes spaces owners rows
-parcel_sizes spaces [] cells [] h = refl
-parcel_sizes spaces [] cells (row ∷ rows) h = absurd (let count = h.count in omega (arith, count))
-parcel_sizes spaces (a ∷ owners) cells [] h = absurd (let count = h.count in omega (arith, count))
-parcel_sizes spaces (a ∷ owners) cells (row ∷ rows) h =
-    ap (λ n. n ∷ map length rows) (h.each 0 a refl).count
-    ∙ ap (λ ns. parcel_size spaces a ∷ ns) (parcel_sizes spaces owners cells rows (record {
-      count = let count = h.count in omega (arith, count);
-      each = λ k b at. h.each (suc k) b at;
-    }))
-
 -- the state after a message is what its operations leave of the state before it
 pub serial_after : (spaces : List Space) (owners : List ℕ) (ops : List (List Op)) (m : ℕ) (rows : List (List ℕ)) → 1 ≤ m
     → AreParcels spaces owners (meaning (ops_of ops m) (serial ops (m - 1))) rows → AreParcels spaces owners (serial ops m) rows
@@ -121,21 +91,3 @@ parcels_in job known layout owners m cells rows same is_layout is_owners h =
     subst (λ (l : Hierarchy). AreParcels l.spaces owners cells rows) (sym is_layout)
     (subst (λ names. AreParcels known.layout.spaces names cells rows) (sym is_owners)
     (subst (λ (j : JobValue). AreParcels j.layout.spaces (owners_of j.owners m) cells rows) (sym same) h))
-
-pub parcels_out : (job known : JobValue) (layout : Hierarchy) (owners : List ℕ) (m : ℕ) (cells : Cells) (rows : List (List ℕ)) → known ≡ job
-    → layout ≡ known.layout → owners ≡ owners_of known.owners m
-    → AreParcels layout.spaces owners cells rows → AreParcels job.layout.spaces (owners_of job.owners m) cells rows
-parcels_out job known layout owners m cells rows same is_layout is_owners h =
-    subst (λ (j : JobValue). AreParcels j.layout.spaces (owners_of j.owners m) cells rows) same
-    (subst (λ names. AreParcels known.layout.spaces names cells rows) is_owners
-    (subst (λ (l : Hierarchy). AreParcels l.spaces owners cells rows) is_layout h))
-
--- the cells of a message are in its parcels, by what the job's getters answer
-pub owned_in : (known : JobValue) → IsJob known → (m : ℕ) → IsIn known m → (layout : Hierarchy) (owners : List ℕ) (ops : List Op)
-    → layout ≡ known.layout → owners ≡ owners_of known.owners m → ops ≡ ops_of known.ops m
-    → All (IsOwned layout.spaces owners) (cells_of ops)
-owned_in known is m within layout owners ops is_layout is_owners is_ops =
-    subst (λ (l : Hierarchy). All (IsOwned l.spaces owners) (cells_of ops)) (sym is_layout)
-    (subst (λ names. All (IsOwned known.layout.spaces names) (cells_of ops)) (sym is_owners)
-    (subst (λ (o : List Op). All (IsOwned known.layout.spaces (owners_of known.owners m)) (cells_of o)) (sym is_ops)
-    (cells_are_owned known is m within)))

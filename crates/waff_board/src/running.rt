@@ -152,12 +152,7 @@ impl<'a> Grant<'a> {
             seen,
             mut places,
         } = hand;
-        parcels::apply(
-            places.as_mut_slice(),
-            job.ops(message),
-            job.layout(),
-            job.owners(message),
-        );
+        parcels::run(places.as_mut_slice(), job.row_ops(message));
         let hand = Hand {
             chair,
             seen,

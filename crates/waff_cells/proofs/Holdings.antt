@@ -14,7 +14,7 @@ use Rattle.waff_model.proofs.ParcelLemmas.{place_within, place_filled, same_plac
 use Rattle.waff_cells.specs.Meaning.{Cells}
 use Rattle.waff_cells.specs.Held.{Address, IsWithin, AreApart, Hold}
 use Rattle.waff_cells.specs.Laws.{ParcelIsOne}
-use Rattle.waff_cells.specs.Parcel.{AreParcels, HaveParcelSizes, IsOwned, slot_of}
+use Rattle.waff_cells.specs.Parcel.{AreParcels, HaveParcelSizes, IsOwned, slot_of, address_in}
 
 -- the test of an affinity
 abbrev is_affinity : ℕ → ℕ → Bool
@@ -58,10 +58,6 @@ one_place owners i j rising short within same =
     (λ (after : j < i). absurd (omega (arith, AllPairs-from_increasing owners rising j i 0 after short, same)))
     other)
     (cases_order i j)
-
--- the address of a cell: the slot of its owner, and its place
-abbrev pub address_in : List Space → List ℕ → Cell → Address
-address_in spaces owners cell = (slot_of owners (owner_of spaces cell), place_of spaces cell)
 
 module _ (spaces : List Space) (owners : List ℕ) where
   -- no two cells share an address

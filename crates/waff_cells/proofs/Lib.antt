@@ -3,4 +3,5 @@ mod Writes
 mod Meanings
 pub mod Zeros
 mod Holdings
+pub mod RowRuns
 mod Gathers

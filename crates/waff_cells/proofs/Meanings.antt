@@ -19,11 +19,11 @@ meaning_more ops i d cells within =
 
 -- what all cells of operations are, the cells of each operation are
 module _ (P : Cell → Type 0) where
-  all_left : (xs ys : List Cell) → All P (xs ++ ys) → All P xs
+  pub all_left : (xs ys : List Cell) → All P (xs ++ ys) → All P xs
   all_left xs ys all k d within =
       subst P (get_or_append_left xs ys d k within) (all k d (omega (arith, length-append xs ys)))
 
-  all_right : (xs ys : List Cell) → All P (xs ++ ys) → All P ys
+  pub all_right : (xs ys : List Cell) → All P (xs ++ ys) → All P ys
   all_right xs ys all k d within =
       subst P (get_or-append-add xs ys k d) (all (length xs + k) d (omega (arith, length-append xs ys)))
 

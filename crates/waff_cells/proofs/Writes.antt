@@ -7,10 +7,7 @@ use Rattle.waff_model.specs.declared.cell.Cell.{Cell}
 use Rattle.waff_assign.proofs.CellOrder.{cell_eq_same}
 use Rattle.waff_cells.specs.Meaning.{Cells, is_same, with_number}
 use Rattle.waff_cells.specs.Held.{rows_of, Address, number_at, IsWithin, AreApart, Hold}
-
--- the rows, with this number at an address
-abbrev pub with_number_at : List (List ℕ) → Address → ℕ → List (List ℕ)
-with_number_at rows address n = set rows address.0 (set (get_or rows address.0 []) address.1 n)
+use Rattle.waff_cells.specs.RowOps.{with_number_at}
 
 -- the address is one of a row and of a column in it
 pub record IsInside (rows : List (List ℕ)) (address : Address) : Type 0 where

@@ -6,6 +6,7 @@ use Rattle.waff_model.specs.Layout.{Space, IsCell, owner_of}
 use Rattle.waff_model.specs.Parcel.{parcel_size, place_of}
 use Rattle.waff_cells.specs.Meaning.{Cells}
 use Rattle.waff_cells.specs.Grid.{HasSizes}
+use Rattle.waff_cells.specs.Held.{Address}
 
 -- these numbers are a's parcel: as many as the cells that a owns, each cell's at its place
 pub record IsParcel (spaces : List Space) (a : ℕ) (cells : Cells) (numbers : List ℕ) : Type 0 where
@@ -32,3 +33,7 @@ pub record IsOwned (spaces : List Space) (owners : List ℕ) (cell : Cell) : Typ
 -- the slot of an affinity: its place in the list, 0 where it is not there
 abbrev pub slot_of : List ℕ → ℕ → ℕ
 slot_of owners a = unwrap_or (position (λ owner. owner == a) owners) 0
+
+-- the address of a cell among the parcels of these affinities: the slot of its owner, and its place
+abbrev pub address_in : List Space → List ℕ → Cell → Address
+address_in spaces owners cell = (slot_of owners (owner_of spaces cell), place_of spaces cell)

@@ -84,7 +84,7 @@ pub(crate) fn read<A: Addresses>(rows: &[Vec<u64>], addresses: &A, cell: Cell) -
 }
 
 /// The number at the address.
-fn number_at(rows: &[Vec<u64>], at: (usize, usize)) -> u64
+pub(crate) fn number_at(rows: &[Vec<u64>], at: (usize, usize)) -> u64
     requires { IsWithin (map length (rows_of rows.now)) at }
     ensures { result ≡ number_at (rows_of rows.now) at }
 {

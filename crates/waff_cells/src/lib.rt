@@ -5,6 +5,7 @@
 //! - `state`: the state of all cells, which messages run on one after another.
 //! - `held`: operations on rows that hold the cells of some addresses; `parcels`: on the parcels of
 //! some affinities.
+//! - `row_op`, `rows`: operations that name addresses in place of cells, and their run.
 //! - `gather`: the state whose cells lie in parcels.
 //! - `laws`: that what a message leaves in the cells that it names depends on these cells alone,
 //! and leaves all others.
@@ -14,6 +15,9 @@ mod gather;
 pub mod held;
 pub mod laws;
 pub mod parcels;
+mod row_op;
+pub mod rows;
 mod state;
 
+pub use row_op::RowOp;
 pub use state::State;

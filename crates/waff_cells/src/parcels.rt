@@ -1,14 +1,20 @@
 //! Operations on the parcels of some affinities.
 
-ghost use Rattle.std.specs.Prelude.{◌≡◌, ◌↔◌, ◌==◌, position, All, IsTrue, IsSome, IfSome};
+ghost use Rattle.std.specs.Prelude.{◌≡◌, ◌↔◌, ◌<◌, ◌≤◌, ◌==◌, ◌^◌, ℕ, List, length, map, position};
+ghost use Rattle.std.specs.Prelude.{All, Contains, IsTrue, IsSome, IfSome};
 ghost use Rattle.std.specs.List.Sorted.{IsStrictlyIncreasing};
-ghost use Rattle.waff_model.specs.Cells.{cells_of};
+ghost use Rattle.waff_model.specs.Cells.{cells_of, cells_of_op};
+ghost use Rattle.waff_model.specs.Layout.{Space};
+ghost use Rattle.waff_model.specs.declared.op.Op.{Op};
 ghost use Rattle.waff_cells.specs.Meaning.{Cells, meaning};
 ghost use Rattle.waff_cells.specs.Held.{rows_of};
-ghost use Rattle.waff_cells.specs.Parcel.{AreParcels, HaveParcelSizes, IsOwned, slot_of};
+ghost use Rattle.waff_cells.specs.Grid.{HasSizes};
+ghost use Rattle.waff_cells.specs.Parcel.{AreParcels, HaveParcelSizes, IsOwned, slot_of, address_in};
+ghost use Rattle.waff_cells.specs.RowOps.{AreRowOps, IsOn, row_op};
 
-use crate::held;
 use crate::held::Addresses;
+use crate::row_op::RowOp;
+use crate::{held, rows};
 use waff_model::{Cell, Layout, Op};
 
 /// Runs the operations on the parcels of these affinities, given by their numbers, among whose
@@ -23,6 +29,76 @@ pub fn apply(parcels: &mut [Vec<u64>], ops: &[Op], layout: &Layout, owners: &[u1
         → AreParcels layout.now.spaces owners.now (meaning ops.now cells) (rows_of parcels.new) }
 {
     held::apply(parcels, ops, &InParcels { layout, owners });
+}
+
+/// Runs operations that name the addresses of their cells on parcels.
+pub fn run(parcels: &mut [Vec<u64>], ops: &[RowOp])
+    requires { All (IsOn (map length (rows_of parcels.old))) ops.now }
+    ensures sizes { HasSizes (rows_of parcels.new) (map length (rows_of parcels.old)) }
+    ensures parcels { (spaces : List Space) (owners : List ℕ) (named : List Op) (cells : Cells)
+        → AreRowOps spaces owners named ops.now
+        → AreParcels spaces owners cells (rows_of parcels.old)
+        → AreParcels spaces owners (meaning named cells) (rows_of parcels.new) }
+{
+    rows::run(parcels, ops);
+}
+
+/// The operation on the parcels of these affinities, among whose cells are those that it names.
+pub fn row_op(layout: &Layout, owners: &[u16], op: Op) -> RowOp
+    requires few { length owners.now ≤ 2 ^ 16 }
+    requires owned { All (IsOwned layout.now.spaces owners.now) (cells_of_op op) }
+    ensures { result ≡ row_op (address_in layout.now.spaces owners.now) op }
+{
+    match op {
+        Op::Set { cell, value } => {
+            let (row, column) = site(layout, owners, cell);
+            RowOp::Set { row, column, value }
+        }
+        Op::Add { cell, value } => {
+            let (row, column) = site(layout, owners, cell);
+            RowOp::Add { row, column, value }
+        }
+        Op::Copy { cell, source } => {
+            let (row, column) = site(layout, owners, cell);
+            let (source_row, source_column) = site(layout, owners, source);
+            RowOp::Copy {
+                row,
+                column,
+                source_row,
+                source_column,
+            }
+        }
+        Op::Swap { cell, other } => {
+            let (row, column) = site(layout, owners, cell);
+            let (other_row, other_column) = site(layout, owners, other);
+            RowOp::Swap {
+                row,
+                column,
+                other_row,
+                other_column,
+            }
+        }
+        Op::Read { .. } => RowOp::Read,
+    }
+}
+
+/// The address of the cell among the parcels of these affinities.
+fn site(layout: &Layout, owners: &[u16], cell: Cell) -> (u16, u32)
+    requires few { length owners.now ≤ 2 ^ 16 }
+    requires owned { IsOwned layout.now.spaces owners.now cell }
+    ensures { result ≡ address_in layout.now.spaces owners.now cell }
+{
+    let (owner, place) = layout.place(cell);
+    (slot_within(owners, owner.0), place)
+}
+
+/// The slot of one of the affinities.
+fn slot_within(owners: &[u16], owner: u16) -> u16
+    requires few { length owners.now ≤ 2 ^ 16 }
+    requires listed { Contains owners.now owner }
+    ensures { result ≡ slot_of owners.now owner }
+{
+    slot(owners, owner) as u16
 }
 
 /// The number of the cell, where it is one of the parcels of these affinities.

@@ -12,6 +12,7 @@ mod StatusLaws
 pub mod Listing
 mod Ordering
 mod Making
+mod Addressing
 mod Reading
 mod Pace
 mod StatusLemmas

@@ -5,7 +5,7 @@ use Rattle.std.specs.List.Sorted.{IsPermutation, IsSorted}
 use Rattle.std.specs.Ordering.{nat_cmp}
 use Rattle.std.proofs.lemmas.Bool.{cases_eq}
 use Rattle.std.proofs.lemmas.List.{append_assoc, get_or_append_left, get_or-append-add, get_or_push, length-append, length_push, length-map, map-append, flat_map_more, get_or-map, take_more}
-use Rattle.std.proofs.lemmas.List.Elements.{All-contains, Contains-get_or}
+use Rattle.std.proofs.lemmas.List.Elements.{All-nil, All-push, All-contains, Contains-get_or}
 use Rattle.std.proofs.lemmas.List.Kept.{Contains-dedup_nat, Contains-from_dedup}
 use Rattle.std.proofs.lemmas.List.Sorted.{Contains-permutation, IsPermutation-sym}
 use Rattle.std.proofs.lemmas.Map.Keys.{IsStrictlyIncreasing-dedup}
@@ -95,13 +95,19 @@ lists_owners spaces ops found sorted kept all moved rises is = record {
 pub record AreOwnersUpTo (spaces : List Space) (ops : List (List Op)) (owners : List (List ℕ)) (n : ℕ) : Type 0 where
   pub count : length owners ≡ n
   pub each : (m : ℕ) → 1 ≤ m → m ≤ n → ListsOwners spaces (ops_of ops m) (owners_of owners m)
+  pub few : All (λ owners. length owners ≤ 64) owners
 
 pub owners_none : (spaces : List Space) (ops : List (List Op)) → AreOwnersUpTo spaces ops [] 0
-owners_none spaces ops = record { count = refl; each = λ m from to. absurd (omega (arith, from, to)) }
+owners_none spaces ops = record {
+  count = refl;
+  each = λ m from to. absurd (omega (arith, from, to));
+  few = All-nil (λ (owners : List ℕ). length owners ≤ 64);
+}
 
 pub owners_one_more : (spaces : List Space) (ops : List (List Op)) (owners : List (List ℕ)) (n : ℕ) (kept : List ℕ)
-    → AreOwnersUpTo spaces ops owners n → ListsOwners spaces (get_or ops n []) kept → AreOwnersUpTo spaces ops (owners ++ kept ∷ []) (n + 1)
-owners_one_more spaces ops owners n kept h lists = record {
+    → AreOwnersUpTo spaces ops owners n → ListsOwners spaces (get_or ops n []) kept → length kept ≤ 64
+    → AreOwnersUpTo spaces ops (owners ++ kept ∷ []) (n + 1)
+owners_one_more spaces ops owners n kept h lists short = record {
   count = omega (arith, h.count, length_push owners kept);
   each = λ m from to.
       ⊎_elim {C = ListsOwners spaces (ops_of ops m) (owners_of (owners ++ kept ∷ []) m)}
@@ -115,11 +121,16 @@ owners_one_more spaces ops owners n kept h lists = record {
       let within : m - 1 < length owners = omega (arith, h.count) in
       subst (λ xs. ListsOwners spaces (ops_of ops m) xs) (sym (get_or_append_left owners (kept ∷ []) [] (m - 1) within)) (h.each m from before))
       (cases_eq m (n + 1));
+  few = All-push (λ (owners : List ℕ). length owners ≤ 64) owners kept h.few short;
 }
 
 pub owners_all : (spaces : List Space) (ops : List (List Op)) (owners : List (List ℕ)) (n : ℕ) → n ≡ length ops
     → AreOwnersUpTo spaces ops owners n → AreOwners spaces ops owners
-owners_all spaces ops owners n all h = record { count = h.count ∙ all; each = λ m from to. h.each m from (omega (arith, to, all)) }
+owners_all spaces ops owners n all h = record {
+  count = h.count ∙ all;
+  each = λ m from to. h.each m from (omega (arith, to, all));
+  few = h.few;
+}
 
 -- an operation names two cells at most
 few_cells : (op : Op) → length (cells_of_op op) ≤ 2

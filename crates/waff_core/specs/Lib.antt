@@ -5,5 +5,6 @@ pub mod Refused
 pub mod Settled
 pub mod Laws
 pub mod Owners
+pub mod Addressed
 pub mod Orders
 pub mod Shown

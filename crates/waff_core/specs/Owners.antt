@@ -1,5 +1,5 @@
 -- The owners of footprints.
-use Rattle.std.specs.Prelude.{◌≡◌, ℕ, ◌≤◌, List, length, map}
+use Rattle.std.specs.Prelude.{◌≡◌, ℕ, ◌≤◌, List, length, map, All}
 use Rattle.waff_model.specs.Layout.{Space, owner_of}
 use Rattle.waff_model.specs.declared.cell.Cell.{Cell}
 use Rattle.waff_model.specs.declared.op.Op.{Op}
@@ -10,9 +10,10 @@ use Rattle.waff_core.specs.Job.{ListsOwners, owners_of}
 abbrev pub owners_in : List Space → List Cell → List ℕ
 owners_in spaces cells = map (λ cell. owner_of spaces cell) cells
 
--- the owners of each message's footprint
+-- the owners of each message's footprint, of which there are at most two for each operation
 pub record AreOwners (spaces : List Space) (ops : List (List Op)) (owners : List (List ℕ))
     : Type 0 where
   pub count : length owners ≡ length ops
   pub each : (n : ℕ) → 1 ≤ n → n ≤ length ops
       → ListsOwners spaces (ops_of ops n) (owners_of owners n)
+  pub few : All (λ owners. length owners ≤ 64) owners

@@ -1,15 +1,18 @@
 //! Jobs.
 
 ghost use Rattle.std.specs.Prelude.{◌≡◌, ◌↔◌, ◌<◌, ◌≤◌, length, All, IsTrue, IfOk, IfErr};
-ghost use Rattle.std.specs.Prelude.{slice_get};
+ghost use Rattle.std.specs.Prelude.{map, slice_get};
 ghost use Rattle.waff_model.specs.Cells.{cells_of};
 ghost use Rattle.waff_model.specs.Layout.{IsCell, IsLayout};
 ghost use Rattle.waff_model.specs.Messages.{IsTrace, sizes_of};
+ghost use Rattle.waff_model.specs.Parcel.{parcel_size};
 ghost use Rattle.waff_model.specs.declared.limits.TheConstants.{MAX_MESSAGES};
 ghost use Rattle.waff_assign.specs.Lowest.{IsAssignment};
 ghost use Rattle.waff_assign.specs.Order.{IsOrdered};
 ghost use Rattle.waff_order.specs.Needs.{AreNeeds, needs_of};
 ghost use Rattle.waff_cells.specs.Serial.{operations, ops_of};
+ghost use Rattle.waff_cells.specs.RowOps.{AreRowOps, IsOn};
+ghost use Rattle.waff_core.specs.Addressed.{AreAddressed};
 ghost use Rattle.waff_core.specs.Job.{IsJob, IsJobOf, IsOrder, owners_of};
 ghost use Rattle.waff_core.specs.Owners.{AreOwners};
 
@@ -18,9 +21,11 @@ use crate::operations::list_operations;
 use crate::order::is_order;
 use crate::owners::list_owners;
 use crate::refusal::JobError;
+use crate::row_ops::list_row_ops;
 use std::alloc::{AllocError, Global};
 use std::marker::Model;
 use waff_assign::{Assigned, is_ordered};
+use waff_cells::RowOp;
 use waff_model::{Layout, Op, Trace};
 use waff_order::Needs;
 
@@ -34,10 +39,12 @@ pub struct Job {
     assigned: Assigned,
     needs: Needs,
     owners: Lists<u16>,
+    row_ops: Lists<RowOp>,
     order: Vec<u32>,
 }
 
 impl Model for Job {
+    ghost use Rattle.waff_core.specs.Addressed.{AreAddressed};
     ghost use Rattle.waff_core.specs.Job.{JobValue, IsJob};
 
     ghost Value = { JobValue };
@@ -58,7 +65,7 @@ impl Model for Job {
       needs = j.needs;
       owners = j.owners;
       order = j.order.items;
-    }) };
+    }) × AreAddressed j.layout.spaces j.ops j.owners j.row_ops };
 }
 
 impl Job {
@@ -84,12 +91,13 @@ impl Job {
         let lists = lists_of(alloc, &layout, &trace, &needs, order);
         drop(trace);
         match lists {
-            Ok((ops, owners, order)) => Ok(Job {
+            Ok((ops, owners, row_ops, order)) => Ok(Job {
                 layout,
                 ops,
                 assigned,
                 needs,
                 owners,
+                row_ops,
                 order,
             }),
             Err(e) => {
@@ -145,6 +153,18 @@ impl Job {
         self.owners.of(n)
     }
 
+    /// The operations of message `n` on the parcels of its footprint's owners.
+    pub fn row_ops(&self, n: u32) -> &[RowOp]
+        requires from { 1 ≤ n }
+        requires to { n ≤ length self.now.ops }
+        ensures row_ops { AreRowOps self.now.layout.spaces
+            (owners_of self.now.owners n) (ops_of self.now.ops n) result.now }
+        ensures within { All (IsOn (map (parcel_size self.now.layout.spaces)
+            (owners_of self.now.owners n))) result.now }
+    {
+        self.row_ops.of(n)
+    }
+
     /// The message at this place of the order, from 0.
     pub fn drawn_at(&self, place: u32) -> Option<u32>
         ensures { result ≡ slice_get self.now.order place }
@@ -164,20 +184,23 @@ impl Job {
     }
 }
 
-/// The lists of a job: the operations and the owners of the messages, and the order, if it is one.
+/// The lists of a job: the operations and the owners of the messages, the operations on the owners'
+/// parcels, and the order, if it is one.
 fn lists_of(
     alloc: Global,
     layout: &Layout,
     trace: &Trace,
     needs: &Needs,
     order: &[u32],
-) -> Result<(Lists<Op>, Lists<u16>, Vec<u32>), JobError>
+) -> Result<(Lists<Op>, Lists<u16>, Lists<RowOp>, Vec<u32>), JobError>
     requires fits { trace.now.sizes ≡ sizes_of layout.now.spaces }
     ensures layout { IfOk result (λ lists. IsLayout layout.now) }
     ensures trace { IfOk result (λ lists. IsTrace trace.now) }
     ensures ops { IfOk result (λ lists. lists.0 ≡ operations trace.now.messages) }
     ensures owners { IfOk result (λ lists. AreOwners layout.now.spaces lists.0 lists.1) }
-    ensures order { IfOk result (λ lists. lists.2.items ≡ order.now) }
+    ensures row_ops { IfOk result
+        (λ lists. AreAddressed layout.now.spaces lists.0 lists.1 lists.2) }
+    ensures order { IfOk result (λ lists. lists.3.items ≡ order.now) }
     ensures is_order { IfOk result (λ lists. IsOrder needs.now order.now) }
     ensures refused { IfErr result (λ e. e ≡ JobError.Order → ¬ IsOrder needs.now order.now) }
 {
@@ -192,23 +215,27 @@ fn lists_of(
     }
 }
 
-/// The operations and the owners of the messages, and the order.
+/// The operations and the owners of the messages, the operations on the owners' parcels, and the
+/// order.
 fn copy_lists(
     alloc: Global,
     layout: &Layout,
     trace: &Trace,
     order: &[u32],
-) -> Result<(Lists<Op>, Lists<u16>, Vec<u32>), AllocError>
+) -> Result<(Lists<Op>, Lists<u16>, Lists<RowOp>, Vec<u32>), AllocError>
     requires fits { trace.now.sizes ≡ sizes_of layout.now.spaces }
     ensures layout { IfOk result (λ lists. IsLayout layout.now) }
     ensures trace { IfOk result (λ lists. IsTrace trace.now) }
     ensures ops { IfOk result (λ lists. lists.0 ≡ operations trace.now.messages) }
     ensures owners { IfOk result (λ lists. AreOwners layout.now.spaces lists.0 lists.1) }
-    ensures order { IfOk result (λ lists. lists.2.items ≡ order.now) }
+    ensures row_ops { IfOk result
+        (λ lists. AreAddressed layout.now.spaces lists.0 lists.1 lists.2) }
+    ensures order { IfOk result (λ lists. lists.3.items ≡ order.now) }
 {
     let _ = layout.space_count();
     let ops = list_operations(alloc, trace)?;
     let owners = list_owners(alloc, layout, &ops, trace.len())?;
+    let row_ops = list_row_ops(alloc, layout, &ops, &owners, trace.len())?;
     let order = Vec::from_slice(alloc, order)?;
-    Ok((ops, owners, order))
+    Ok((ops, owners, row_ops, order))
 }

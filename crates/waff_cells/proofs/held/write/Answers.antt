@@ -2,7 +2,8 @@ use Rattle.std.proofs.Common.{◌≡◌, ◌<◌, length, map, arith, [], get_or
 use Rattle.waff_model.specs.declared.cell.Cell.{Cell}
 use Rattle.waff_cells.specs.Meaning.{with_number}
 use Rattle.waff_cells.specs.Held.{rows_of, Address, IsWithin, Hold}
-use Rattle.waff_cells.proofs.Writes.{with_number_at, inside, row_of, count_of, written_rows, written_sizes, written_holds}
+use Rattle.waff_cells.specs.RowOps.{with_number_at}
+use Rattle.waff_cells.proofs.Writes.{inside, row_of, count_of, written_rows, written_sizes, written_holds}
 use Rattle.waff_cells.proofs.held.write.Goals as goal
 
 pub index_mut-requires : goal.index_mut-requires

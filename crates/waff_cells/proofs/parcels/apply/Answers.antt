@@ -2,7 +2,8 @@ use Rattle.std.proofs.Common.{sym, subst, ◌∙◌}
 use Rattle.waff_model.specs.Cells.{cells_of}
 use Rattle.waff_cells.specs.Meaning.{meaning}
 use Rattle.waff_cells.specs.Held.{rows_of, AreWithin}
-use Rattle.waff_cells.proofs.Holdings.{address_in, parcels_apart, parcel_address, hold_parcels, part_parcels}
+use Rattle.waff_cells.specs.Parcel.{address_in}
+use Rattle.waff_cells.proofs.Holdings.{parcels_apart, parcel_address, hold_parcels, part_parcels}
 use Rattle.waff_cells.proofs.parcels.apply.Goals as goal
 
 pub apply-requires-clause-within : goal.apply-requires-clause-within

@@ -1,7 +1,7 @@
 use Rattle.std.proofs.Common.{refl, sym, subst, ◌∙◌}
 use Rattle.waff_cells.specs.Held.{rows_of, IsWithin}
-use Rattle.waff_cells.specs.Parcel.{IsOwned}
-use Rattle.waff_cells.proofs.Holdings.{address_in, parcel_address, hold_parcels}
+use Rattle.waff_cells.specs.Parcel.{IsOwned, address_in}
+use Rattle.waff_cells.proofs.Holdings.{parcel_address, hold_parcels}
 use Rattle.waff_cells.proofs.parcels.get.Goals as goal
 
 pub read-requires-clause-within : goal.read-requires-clause-within

@@ -15,3 +15,13 @@ pub list_owners-requires-clause-cells : goal.list_owners-requires-clause-cells
 list_owners-requires-clause-cells c =
     subst (λ xs. All (λ ops. All (IsCell c.args.layout.now.spaces) (cells_of ops)) xs) (sym c.in_ok-ops.ensures)
     (cells_operations c.args.trace.now c.args.layout.now.spaces c.len.ensures.trace c.requires.fits)
+
+pub list_row_ops-requires-clause-few : goal.list_row_ops-requires-clause-few
+list_row_ops-requires-clause-few c =
+    subst (λ (xs : List (List Op)). All (λ ops. length ops ≤ MAX_OPS) xs) (sym c.in_ok-ops.ensures)
+    (few_operations c.args.trace.now c.len.ensures.trace)
+
+pub list_row_ops-requires-clause-cells : goal.list_row_ops-requires-clause-cells
+list_row_ops-requires-clause-cells c =
+    subst (λ xs. All (λ ops. All (IsCell c.args.layout.now.spaces) (cells_of ops)) xs) (sym c.in_ok-ops.ensures)
+    (cells_operations c.args.trace.now c.args.layout.now.spaces c.len.ensures.trace c.requires.fits)

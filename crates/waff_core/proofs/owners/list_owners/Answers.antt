@@ -13,9 +13,10 @@ use Rattle.waff_core.proofs.owners.list_owners.Goals as goal
 
 -- the owners of one message, and what the loop appends
 step : (spaces : List Space) (ops : List (List Op)) (all : List ℕ) (ends : List ℕ) (n : ℕ) (kept : List ℕ) → AreCuts all 0 ends
-    → AreOwnersUpTo spaces ops (parts all 0 ends) n → ListsOwners spaces (get_or ops n []) kept
+    → AreOwnersUpTo spaces ops (parts all 0 ends) n → ListsOwners spaces (get_or ops n []) kept → length kept ≤ 64
     → AreOwnersUpTo spaces ops (parts (all ++ kept) 0 (ends ++ length (all ++ kept) ∷ [])) (n + 1)
-step spaces ops all ends n kept cuts h lists = rw (parts_push all kept 0 ends cuts) (owners_one_more spaces ops (parts all 0 ends) n kept h lists)
+step spaces ops all ends n kept cuts h lists short =
+    rw (parts_push all kept 0 ends cuts) (owners_one_more spaces ops (parts all 0 ends) n kept h lists short)
 
 pub overflow_cast-len : goal.overflow_cast-len
 overflow_cast-len c =
@@ -57,7 +58,7 @@ loop-n-preserved c =
     (dedup_is eqb sorted kept c.dedup.ensures.filtered) in
     rw (items, pushed, ← next) (record {
       cuts = cuts_push all kept 0 ends c.loop-n.invariant.cuts;
-      owners = step spaces c.args.ops.now all ends n kept c.loop-n.invariant.cuts c.loop-n.invariant.owners (subst (λ xs. ListsOwners spaces xs kept) is lists);
+      owners = step spaces c.args.ops.now all ends n kept c.loop-n.invariant.cuts c.loop-n.invariant.owners (subst (λ xs. ListsOwners spaces xs kept) is lists) bound;
       few = omega (arith, c.loop-n.invariant.few, bound, long);
     })
 

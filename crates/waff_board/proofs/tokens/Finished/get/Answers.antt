@@ -2,7 +2,8 @@ use Rattle.std.proofs.Common.{ℕ, List, Vec, Global, map, sym, subst}
 use Rattle.waff_cells.specs.Serial.{serial}
 use Rattle.waff_cells.specs.Parcel.{AreParcels}
 use Rattle.waff_core.specs.Job.{owners_of}
-use Rattle.waff_board.proofs.Grants.{parcel_sizes, parcels_in}
+use Rattle.waff_cells.proofs.RowRuns.{parcel_sizes}
+use Rattle.waff_board.proofs.Grants.{parcels_in}
 use Rattle.waff_board.proofs.tokens.Finished.get.Goals as goal
 
 pub get-requires : goal.get-requires

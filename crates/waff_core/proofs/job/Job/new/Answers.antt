@@ -3,11 +3,13 @@ use Rattle.waff_core.proofs.job.Job.new.Goals as goal
 
 pub invariant_of-result : goal.invariant_of-result
 invariant_of-result c =
-    let made = c.in-Ok.ensures in
-    rw made.order
-    (job_of c.args.layout c.args.trace c.args.assigned c.args.needs c.args.order.now c.in-Ok.ops c.in-Ok.owners
-    made.layout made.trace c.requires.fits c.requires.assignment.count c.requires.assignment.lowest c.requires.known
-    c.requires.needs made.is_order made.ops made.owners)
+    let made = c.in-Ok.ensures in (
+      rw made.order
+          (job_of c.args.layout c.args.trace c.args.assigned c.args.needs c.args.order.now c.in-Ok.ops c.in-Ok.owners
+          made.layout made.trace c.requires.fits c.requires.assignment.count c.requires.assignment.lowest c.requires.known
+          c.requires.needs made.is_order made.ops made.owners),
+      made.row_ops,
+    )
 
 pub returns-in-Ok-clause-job : goal.returns-in-Ok-clause-job
 returns-in-Ok-clause-job c =

@@ -1,0 +1,59 @@
+//! The operations of messages on the parcels of their footprints' owners, kept flat.
+
+ghost use Rattle.std.specs.Prelude.{◌≡◌, ◌≤◌, ◌++◌, length, map, All, IfOk, OnOk};
+ghost use Rattle.waff_model.specs.Cells.{cells_of};
+ghost use Rattle.waff_model.specs.Layout.{IsCell};
+ghost use Rattle.waff_model.specs.declared.limits.TheConstants.{MAX_MESSAGES, MAX_OPS};
+ghost use Rattle.waff_cells.specs.Parcel.{IsOwned, address_in};
+ghost use Rattle.waff_cells.specs.RowOps.{row_op};
+ghost use Rattle.waff_core.specs.Addressed.{AreAddressed};
+ghost use Rattle.waff_core.specs.Owners.{AreOwners};
+
+use crate::lists::Lists;
+use std::alloc::{AllocError, Global};
+use waff_cells::{RowOp, parcels};
+use waff_model::{Layout, Op};
+
+/// The operations of each of these many messages on the parcels of these owners of its footprint.
+pub(crate) fn list_row_ops(
+    alloc: Global,
+    layout: &Layout,
+    ops: &Lists<Op>,
+    owners: &Lists<u16>,
+    count: u32,
+) -> Result<Lists<RowOp>, AllocError>
+    requires count { count ≡ length ops.now }
+    requires messages { count ≤ MAX_MESSAGES }
+    requires few { All (λ ops. length ops ≤ MAX_OPS) ops.now }
+    requires cells { All (λ ops. All (IsCell layout.now.spaces) (cells_of ops)) ops.now }
+    requires owners { AreOwners layout.now.spaces ops.now owners.now }
+    ensures { IfOk result (AreAddressed layout.now.spaces ops.now owners.now) }
+{
+    let mut all = Vec::new(alloc);
+    let mut ends = Vec::with_capacity(alloc, count as usize)?;
+    for n in 1..count + 1 {
+        let parcels = owners.of(n);
+        let named = ops.of(n);
+        push_row_ops(&mut all, layout, parcels, named)?;
+        ends.push(all.len() as u32)?;
+    }
+    Ok(Lists::new(all, ends))
+}
+
+/// Appends the operations on the parcels of these affinities.
+fn push_row_ops(
+    all: &mut Vec<RowOp>,
+    layout: &Layout,
+    owners: &[u16],
+    ops: &[Op],
+) -> Result<(), AllocError>
+    requires few { length owners.now ≤ 64 }
+    requires owned { All (IsOwned layout.now.spaces owners.now) (cells_of ops.now) }
+    ensures { OnOk result (all.new.items
+        ≡ all.old.items ++ map (row_op (address_in layout.now.spaces owners.now)) ops.now) }
+{
+    for at in 0..ops.len() {
+        all.push(parcels::row_op(layout, owners, ops[at]))?;
+    }
+    Ok(())
+}
