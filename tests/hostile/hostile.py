@@ -38,6 +38,9 @@ WORDS = (
     "explain {H} {T} {F}",
 )
 
+# The replay on the most threads.
+CROWD = "replay {H} {T} --workers 16"
+
 
 class Run:
     """What a run printed, its status (a negative number for a signal, None where it hung) and its seconds of processor time."""
@@ -53,6 +56,9 @@ class Run:
 
     def is_as(self, other):
         return (self.status, self.stdout, self.stderr) == (other.status, other.stdout, other.stderr)
+
+
+MEMORY = Run(4, b"", b"waff: Memory\n", 0)
 
 
 class Count:
@@ -200,13 +206,23 @@ def scratch():
     return tempfile.TemporaryDirectory(prefix="waff-hostile-")
 
 
+def words_parser(about, options):
+    parser = argparse.ArgumentParser(description=about)
+    for name, kind, value, text in options:
+        parser.add_argument(name, type=kind, nargs="?", default=value, help=text)
+    return parser
+
+
+def words_given(about, *options):
+    """The arguments of a script that builds what it runs."""
+    return words_parser(about, options).parse_args()
+
+
 def arguments(about, *options):
     """The arguments of a script. The program is built where that is needed, if no other one is named."""
     global PROGRAM
-    parser = argparse.ArgumentParser(description=about)
+    parser = words_parser(about, options)
     parser.add_argument("--program", help="another build of the program")
-    for name, kind, value, text in options:
-        parser.add_argument(name, type=kind, nargs="?", default=value, help=text)
     given = parser.parse_args()
     if given.program:
         PROGRAM = os.path.realpath(given.program)

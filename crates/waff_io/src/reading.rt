@@ -126,6 +126,7 @@ mod tests {
     #[test]
     fn refuses_more_than_the_limit(rt: HostRuntime) {
         let mut reader: &[u8] = b"waff";
-        assert!(rt; read_whole(rt.alloc(), &mut reader, 3).err() == Some(ReadFault::TooLong));
+        let fault = read_whole(rt.alloc(), &mut reader, 3).err();
+        assert_eq!(rt; fault, Some(ReadFault::TooLong));
     }
 }

@@ -32,6 +32,7 @@ pub fn write_whole<W: Write>(writer: &mut W, text: &[u8]) -> Result<(), WriteFau
 mod tests {
     use super::*;
     use std::io;
+    use std::test::Fail;
 
     /// Takes a few bytes at a time, and at last gives an error or takes none.
     #[derive(Drop)]
@@ -58,7 +59,7 @@ mod tests {
     }
 
     #[test]
-    fn writes_what_the_writer_takes(rt: HostRuntime) {
+    fn writes_what_the_writer_takes(rt: HostRuntime) -> Result<(), Fail> {
         for (room, fails, want, taken) in [
             (100, true, None, "message,affinity\n"),
             (17, true, None, "message,affinity\n"),
@@ -69,10 +70,11 @@ mod tests {
             let mut writer = Slow {
                 room,
                 fails,
-                taken: Vec::new(rt.alloc()),
+                taken: Vec::with_capacity(rt.alloc(), 32)?,
             };
             assert_eq!(rt; write_whole(&mut writer, b"message,affinity\n").err(), want);
             assert_eq!(rt; writer.taken.as_slice(), taken.as_bytes());
         }
+        Ok(())
     }
 }

@@ -96,5 +96,6 @@ fn records_come_in_turn(rt: HostRuntime) -> Result<(), Stop<NotText>> {
 fn a_field_that_is_no_text_is_a_fault(rt: HostRuntime) {
     let mut rdr = text_rows(rt.alloc(), b"a,\xff\n");
     let mut row = StringRecord::new(rt.alloc());
-    assert!(rt; matches!(next_text(&mut rdr, &mut row), Err(Stop::Fault(_))));
+    let read = next_text(&mut rdr, &mut row);
+    assert!(rt; matches!(read, Err(Stop::Fault(_))), "{read:?}");
 }
