@@ -6,7 +6,6 @@ ghost use Rattle.waff_model.specs.Cells.{cells_of_op};
 
 use std::alloc::{AllocError, Global};
 use std::process::Abort;
-use std::test::Fail;
 use waff_model::limits::{MAX_COST, MAX_MESSAGES, MAX_OPS, MAX_RELEASE};
 use waff_model::{
     AffinityId, Cell, Kind, Layout, LayoutError, MapSpec, Message, Op, Ops, SpaceSpec, Text, Texts,
@@ -20,10 +19,20 @@ pub type Map<'a> = (&'a str, i64, &'a [&'a str]);
 /// The tree of these affinities, each with the number of its parent.
 pub fn tree(alloc: Global, rows: &[(&str, Option<u16>)]) -> Result<Tree, TreeError> {
     let mut builder = TreeBuilder::new(alloc);
+    match add_all(&mut builder, rows) {
+        Ok(()) => builder.build(),
+        Err(e) => {
+            drop(builder);
+            Err(e)
+        }
+    }
+}
+
+fn add_all(builder: &mut TreeBuilder, rows: &[(&str, Option<u16>)]) -> Result<(), TreeError> {
     for (name, parent) in rows {
         builder.add(name, parent.map(AffinityId))?;
     }
-    builder.build()
+    Ok(())
 }
 
 fn spaces_to_be(alloc: Global, rows: &[(&str, i64)]) -> Result<Vec<SpaceSpec>, AllocError> {
@@ -60,15 +69,18 @@ fn maps_to_be(alloc: Global, rows: &[Map]) -> Result<Vec<MapSpec>, AllocError> {
 
 /// The layout of these spaces and maps over the tree, or why they are refused.
 pub fn laid_out(
+    rt: &impl Abort,
     alloc: Global,
     tree: Tree,
     spaces: &[(&str, i64)],
     maps: &[Map],
-) -> Result<Result<Layout, LayoutError>, AllocError> {
-    let spaces = spaces_to_be(alloc, spaces)?;
-    let maps = maps_to_be(alloc, maps)?;
-    let kind = Kind::Hierarchical;
-    Ok(Layout::new(alloc, kind, tree, &spaces, &maps))
+) -> Result<Layout, LayoutError> {
+    let spaces = spaces_to_be(alloc, spaces).expect(rt, "spaces");
+    let maps = maps_to_be(alloc, maps).expect(rt, "maps");
+    let layout = Layout::new(alloc, Kind::Hierarchical, tree, &spaces, &maps);
+    drop(spaces);
+    drop(maps);
+    layout
 }
 
 const TREE: &[(&str, Option<u16>)] = &[
@@ -90,10 +102,9 @@ const MAPS: &[Map] = &[
 ];
 
 /// The layout of the hierarchical sample.
-pub fn layout(alloc: Global) -> Result<Layout, Fail> {
-    let tree = tree(alloc, TREE)?;
-    let layout = laid_out(alloc, tree, SPACES, MAPS)??;
-    Ok(layout)
+pub fn layout(rt: &impl Abort, alloc: Global) -> Layout {
+    let tree = tree(alloc, TREE).expect(rt, "a tree");
+    laid_out(rt, alloc, tree, SPACES, MAPS).expect(rt, "a layout")
 }
 
 /// A message of one operation: its name, cost and release, and the operation.
@@ -153,15 +164,20 @@ pub fn trace(
     layout: &Layout,
     version: Version,
     rows: &[Row],
-) -> Result<Trace, AllocError> {
-    let mut trace = match version {
-        Version::V1 => Trace::new(alloc, layout)?,
-        Version::V2 => Trace::with_version(alloc, layout, version)?,
-    };
+) -> Trace {
+    let mut trace = opened(alloc, layout, version).expect(rt, "a trace");
     for (name, cost, release, op) in rows {
-        push(rt, alloc, layout, &mut trace, name, (*cost, *release), *op)?;
+        push(rt, alloc, layout, &mut trace, name, (*cost, *release), *op);
     }
-    Ok(trace)
+    trace
+}
+
+/// A trace of no message.
+fn opened(alloc: Global, layout: &Layout, version: Version) -> Result<Trace, AllocError> {
+    match version {
+        Version::V1 => Trace::new(alloc, layout),
+        Version::V2 => Trace::with_version(alloc, layout, version),
+    }
 }
 
 /// Appends a message of one operation, with its cost and its release, which has to be one for this
@@ -174,7 +190,7 @@ fn push(
     name: &str,
     times: (u32, u32),
     op: Op,
-) -> Result<(), AllocError> {
+) {
     let (cost, release) = times;
     assert!(rt; trace.fits(layout));
     assert!(rt; trace.len() < MAX_MESSAGES as u32);
@@ -184,14 +200,15 @@ fn push(
     assert!(rt; release == 0 || trace.version() == Version::V2);
     assert!(rt; lies(layout, op));
     let mut ops = Ops::new(alloc);
-    ops.push(op)?;
-    let name = Text::of(alloc, name)?;
-    trace.push(Message {
+    ops.push(op).expect(rt, "an operation");
+    let name = Text::of(alloc, name).expect(rt, "a name");
+    let message = Message {
         name,
         cost,
         release,
         ops,
-    })
+    };
+    trace.push(message).expect(rt, "a message");
 }
 
 /// Whether the cells of the operation are cells of the layout.

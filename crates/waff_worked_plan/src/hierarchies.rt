@@ -1,18 +1,17 @@
 //! Hierarchies accepted and refused.
 
+use crate::same::is_same;
 use std::alloc::Global;
 use std::process::Abort;
-use std::test::Fail;
-use waff_model::{AffinityId, Cell, Kind, Layout};
+use waff_model::{AffinityId, Cell, Kind};
 use waff_read::read_hierarchy;
 use waff_samples::H1;
 
 /// The hierarchy has to be refused so, or to be read, which is told as None.
-fn is_told(rt: &impl Abort, alloc: Global, hierarchy: &[u8], wanted: &str) -> Result<(), Fail> {
+pub fn is_told(rt: &impl Abort, alloc: Global, hierarchy: &[u8], wanted: &str) {
     let refusal = read_hierarchy(alloc, hierarchy).err();
-    let told = format!(in alloc; "{refusal:?}")?;
-    assert_eq!(rt; told.as_str(), wanted);
-    Ok(())
+    let told = format!(in alloc; "{refusal:?}").expect(rt, "words");
+    is_same(rt, told.as_str(), wanted);
 }
 
 /// Bytes that are no hierarchy, with why.
@@ -25,11 +24,10 @@ const BYTES: &[(&[u8], &str)] = &[
 ];
 
 #[test]
-fn are_no_documents(rt: HostRuntime) -> Result<(), Fail> {
+fn are_no_documents(rt: HostRuntime) {
     for (bytes, wanted) in BYTES {
-        is_told(&rt, rt.alloc(), bytes, wanted)?;
+        is_told(&rt, rt.alloc(), bytes, wanted);
     }
-    Ok(())
 }
 
 /// What follows a model, refused by its first fault: in the order of the keys, the tree, and then
@@ -112,17 +110,14 @@ const PARTS: &[(&str, &str)] = &[
     ),
 ];
 
-fn is_told_of_parts(rt: &impl Abort, alloc: Global, parts: &str, wanted: &str) -> Result<(), Fail> {
-    let text = format!(in alloc; "model = 'hierarchical'\n{parts}\n")?;
-    is_told(rt, alloc, text.as_bytes(), wanted)
-}
-
 #[test]
-fn are_refused_by_their_first_fault(rt: HostRuntime) -> Result<(), Fail> {
+fn are_refused_by_their_first_fault(rt: HostRuntime) {
     for (parts, wanted) in PARTS {
-        is_told_of_parts(&rt, rt.alloc(), parts, wanted)?;
+        let text = format!(in rt.alloc(); "model = 'hierarchical'\n{parts}\n").expect(
+            &rt, "a text",
+        );
+        is_told(&rt, rt.alloc(), text.as_bytes(), wanted);
     }
-    Ok(())
 }
 
 /// The sample with one change each: a part, what stands in its place, and the refusal.
@@ -164,30 +159,20 @@ const CHANGES: &[(&str, &str, &str)] = &[
 ];
 
 /// The sample with another part in place of the first one like this, which has to be there.
-fn is_told_of_change(
-    rt: &impl Abort,
-    alloc: Global,
-    part: &str,
-    new: &str,
-    wanted: &str,
-) -> Result<(), Fail> {
-    let (before, after) = H1.split_once(part).ok_or("the part is not there")?;
-    let text = format!(in alloc; "{before}{new}{after}")?;
-    is_told(rt, alloc, text.as_bytes(), wanted)
+fn is_told_of_change(rt: &impl Abort, alloc: Global, part: &str, new: &str, wanted: &str) {
+    let (before, after) = H1.split_once(part).expect(rt, "the part is not there");
+    let text = format!(in alloc; "{before}{new}{after}").expect(rt, "a text");
+    is_told(rt, alloc, text.as_bytes(), wanted);
 }
 
 #[test]
-fn are_refused_for_one_change(rt: HostRuntime) -> Result<(), Fail> {
+fn are_refused_for_one_change(rt: HostRuntime) {
     for (part, new, wanted) in CHANGES {
-        is_told_of_change(&rt, rt.alloc(), part, new, wanted)?;
+        is_told_of_change(&rt, rt.alloc(), part, new, wanted);
     }
-    let (without_maps, _) = H1.split_once("[[map]]").ok_or("no map")?;
-    is_told(
-        &rt,
-        rt.alloc(),
-        without_maps.as_bytes(),
-        "Some(Shape { key: Maps })",
-    )
+    let (without_maps, _) = H1.split_once("[[map]]").expect(&rt, "no map");
+    let wanted = "Some(Shape { key: Maps })";
+    is_told(&rt, rt.alloc(), without_maps.as_bytes(), wanted);
 }
 
 const WITH_MORE: &str = "\u{feff}model = 'classical'\nowner = 'ignored'\n\
@@ -195,8 +180,9 @@ const WITH_MORE: &str = "\u{feff}model = 'classical'\nowner = 'ignored'\n\
     [[map]]\nspace = 'f'\nunit = 2\nto = ['T0', 'Serial']\n\
     [[space]]\nname = 'f'\nsize = 8\n";
 
-/// The layout has to be that of two affinities and one space.
-fn has_two_affinities(rt: &impl Abort, layout: &Layout) {
+#[test]
+fn are_read_with_what_the_format_does_not_name(rt: HostRuntime) {
+    let layout = read_hierarchy(rt.alloc(), WITH_MORE.as_bytes()).expect(&rt, "a hierarchy");
     assert!(rt; layout.kind() == Kind::Classical);
     assert!(rt; layout.tree().len() == 2);
     assert!(rt; layout.tree().parent(AffinityId(1)) == Some(AffinityId(0)));
@@ -205,11 +191,5 @@ fn has_two_affinities(rt: &impl Abort, layout: &Layout) {
     let third = Cell { space: 0, index: 2 };
     assert!(rt; layout.has(third));
     assert!(rt; layout.owner(third) == AffinityId(0));
-}
-
-#[test]
-fn are_read_with_what_the_format_does_not_name(rt: HostRuntime) -> Result<(), Fail> {
-    let layout = read_hierarchy(rt.alloc(), WITH_MORE.as_bytes())?;
-    has_two_affinities(&rt, &layout);
-    Ok(())
+    drop(layout);
 }

@@ -3,16 +3,14 @@
 use crate::building::{Map, laid_out, tree};
 use std::alloc::Global;
 use std::process::Abort;
-use std::test::Fail;
 use waff_model::{AffinityId, Cell, Kind, Layout, LayoutError, Trace, Version};
 
 const TREE: &[(&str, Option<u16>)] = &[("root", None), ("v1", Some(0)), ("v2", Some(0))];
 
 /// The layout of these spaces and maps, which have to be accepted.
-fn made(alloc: Global, spaces: &[(&str, i64)], maps: &[Map]) -> Result<Layout, Fail> {
-    let tree = tree(alloc, TREE)?;
-    let layout = laid_out(alloc, tree, spaces, maps)??;
-    Ok(layout)
+fn made(rt: &impl Abort, alloc: Global, spaces: &[(&str, i64)], maps: &[Map]) -> Layout {
+    let tree = tree(alloc, TREE).expect(rt, "a tree");
+    laid_out(rt, alloc, tree, spaces, maps).expect(rt, "a layout")
 }
 
 /// The owner of a cell and the cell's place, if it is one of the layout's.
@@ -47,21 +45,25 @@ const SPACES: &[(&str, i64)] = &[("f", 8), ("g", 4)];
 
 const MAPS: &[Map] = &[("f", 2, &["v1", "v2"]), ("g", 1, &["v1"])];
 
+/// The spaces of the layout by their numbers, where it has them.
+const PARTS: &[(u32, Option<(&str, u32)>)] = &[(0, Some(("f", 8))), (1, Some(("g", 4))), (2, None)];
+
 fn has_its_parts(rt: &impl Abort, layout: &Layout) {
-    assert!(rt; layout.kind() == Kind::Hierarchical);
-    assert!(rt; layout.tree().len() == 3);
-    assert!(rt; parts(layout, 0) == Some(("f", 8)));
-    assert!(rt; parts(layout, 1) == Some(("g", 4)));
-    assert!(rt; parts(layout, 2).is_none());
-    assert!(rt; layout.find_space("g") == Some(1));
-    assert!(rt; layout.find_space("h").is_none());
+    for (space, wanted) in PARTS {
+        let found = parts(layout, *space);
+        assert!(rt; found == *wanted, "{space}: {found:?}");
+    }
 }
 
 #[test]
-fn show_what_they_were_made_of(rt: HostRuntime) -> Result<(), Fail> {
-    let layout = made(rt.alloc(), SPACES, MAPS)?;
+fn show_what_they_were_made_of(rt: HostRuntime) {
+    let layout = made(&rt, rt.alloc(), SPACES, MAPS);
     has_its_parts(&rt, &layout);
-    Ok(())
+    assert!(rt; layout.kind() == Kind::Hierarchical);
+    assert!(rt; layout.tree().len() == 3);
+    assert!(rt; layout.find_space("g") == Some(1));
+    assert!(rt; layout.find_space("h").is_none());
+    drop(layout);
 }
 
 /// Cells with their owners and places, where they are of the layout.
@@ -79,22 +81,24 @@ const LENGTHS: &[(u16, Option<u32>)] = &[(0, Some(0)), (1, Some(8)), (2, Some(4)
 fn has_places(rt: &impl Abort, layout: &Layout) {
     for (space, index, found) in PLACES {
         let (space, index) = (*space, *index);
-        assert!(rt; place(layout, Cell { space, index }) == *found);
+        let place = place(layout, Cell { space, index });
+        assert!(rt; place == *found, "{space}:{index}: {place:?}");
     }
 }
 
 fn has_parcels(rt: &impl Abort, layout: &Layout) {
     for (a, found) in LENGTHS {
-        assert!(rt; parcel_len(layout, *a) == *found);
+        let length = parcel_len(layout, *a);
+        assert!(rt; length == *found, "{a}: {length:?}");
     }
 }
 
 #[test]
-fn place_cells_in_parcels(rt: HostRuntime) -> Result<(), Fail> {
-    let layout = made(rt.alloc(), SPACES, MAPS)?;
+fn place_cells_in_parcels(rt: HostRuntime) {
+    let layout = made(&rt, rt.alloc(), SPACES, MAPS);
     has_places(&rt, &layout);
     has_parcels(&rt, &layout);
-    Ok(())
+    drop(layout);
 }
 
 const OTHER_MAPS: &[Map] = &[("g", 1, &["root"]), ("f", 2, &["v1", "v2"])];
@@ -107,18 +111,23 @@ const OTHERS: &[(&[(&str, i64)], bool)] = &[
 ];
 
 /// Whether a layout has the spaces of another one, which is made of these.
-fn are_same(alloc: Global, layout: &Layout, spaces: &[(&str, i64)]) -> Result<bool, Fail> {
-    let other = made(alloc, spaces, MAPS)?;
-    Ok(layout.same_spaces(&other))
+fn are_same(rt: &impl Abort, alloc: Global, layout: &Layout, spaces: &[(&str, i64)]) -> bool {
+    let other = made(rt, alloc, spaces, MAPS);
+    let answer = layout.same_spaces(&other);
+    drop(other);
+    answer
 }
 
 #[test]
-fn tell_whether_spaces_are_the_same(rt: HostRuntime) -> Result<(), Fail> {
-    let layout = made(rt.alloc(), SPACES, OTHER_MAPS)?;
+fn tell_whether_spaces_are_the_same(rt: HostRuntime) {
+    let layout = made(&rt, rt.alloc(), SPACES, OTHER_MAPS);
     for (spaces, found) in OTHERS {
-        assert!(rt; are_same(rt.alloc(), &layout, spaces)? == *found);
+        assert!(rt;
+            are_same(&rt, rt.alloc(), &layout, spaces) == *found,
+            "{spaces:?}"
+        );
     }
-    Ok(())
+    drop(layout);
 }
 
 const ONE: &[&str] = &["v1"];
@@ -148,43 +157,31 @@ const REFUSED: &[(&[(&str, i64)], &[Map], LayoutError)] = &[
     ),
 ];
 
-/// Why spaces and maps are refused.
-fn refusal(
-    alloc: Global,
-    spaces: &[(&str, i64)],
-    maps: &[Map],
-) -> Result<Option<LayoutError>, Fail> {
-    let tree = tree(alloc, TREE)?;
-    Ok(laid_out(alloc, tree, spaces, maps)?.err())
-}
-
 #[test]
-fn are_refused_for_their_spaces_and_maps(rt: HostRuntime) -> Result<(), Fail> {
+fn are_refused_for_their_spaces_and_maps(rt: HostRuntime) {
     for (spaces, maps, error) in REFUSED {
-        let found = refusal(rt.alloc(), spaces, maps)?;
-        assert!(rt; found == Some(*error));
+        let tree = tree(rt.alloc(), TREE).expect(&rt, "a tree");
+        let found = laid_out(&rt, rt.alloc(), tree, spaces, maps).err();
+        assert!(rt; found == Some(*error), "{spaces:?} {maps:?}: {found:?}");
     }
-    Ok(())
-}
-
-/// A trace of no message for a layout of one space of eight cells.
-fn of_eight(alloc: Global) -> Result<Trace, Fail> {
-    let eight = made(alloc, &[("f", 8)], &[("f", 1, ONE)])?;
-    Ok(Trace::with_version(alloc, &eight, Version::V2)?)
 }
 
 /// Whether the trace fits a layout of one space of so many cells.
-fn fits(alloc: Global, trace: &Trace, size: i64) -> Result<bool, Fail> {
-    let layout = made(alloc, &[("f", size)], &[("f", 1, ONE)])?;
-    Ok(trace.fits(&layout))
+fn fits(rt: &impl Abort, alloc: Global, trace: &Trace, size: i64) -> bool {
+    let layout = made(rt, alloc, &[("f", size)], &[("f", 1, ONE)]);
+    let answer = trace.fits(&layout);
+    drop(layout);
+    answer
 }
 
 #[test]
-fn fit_the_traces_of_their_sizes(rt: HostRuntime) -> Result<(), Fail> {
-    let trace = of_eight(rt.alloc())?;
+fn fit_the_traces_of_their_sizes(rt: HostRuntime) {
+    let eight = made(&rt, rt.alloc(), &[("f", 8)], &[("f", 1, ONE)]);
+    let trace = Trace::with_version(rt.alloc(), &eight, Version::V2).expect(&rt, "a trace");
     assert!(rt; trace.version() == Version::V2);
     assert!(rt; trace.len() == 0);
-    assert!(rt; fits(rt.alloc(), &trace, 8)?);
-    assert!(rt; !fits(rt.alloc(), &trace, 4)?);
-    Ok(())
+    assert!(rt; fits(&rt, rt.alloc(), &trace, 8));
+    assert!(rt; !fits(&rt, rt.alloc(), &trace, 4));
+    drop(trace);
+    drop(eight);
 }

@@ -18,6 +18,8 @@ mod plans;
 #[cfg(test)]
 mod running;
 #[cfg(test)]
+mod same;
+#[cfg(test)]
 mod traces;
 #[cfg(test)]
 mod trees;

@@ -1,6 +1,5 @@
 //! Names, texts, operations and cells.
 
-use std::test::Fail;
 use waff_model::{Cell, Op, Ops, Text, Texts, is_name};
 
 const NAMES: &[(&str, bool)] = &[
@@ -21,29 +20,30 @@ fn tell_names(rt: HostRuntime) {
 }
 
 #[test]
-fn keep_texts_in_order(rt: HostRuntime) -> Result<(), Fail> {
+fn keep_texts_in_order(rt: HostRuntime) {
     let mut texts = Texts::new(rt.alloc());
     for text in ["m 1", ""] {
-        texts.push(Text::of(rt.alloc(), text)?)?;
+        let text = Text::of(rt.alloc(), text).expect(&rt, "a text");
+        texts.push(text).expect(&rt, "a text");
     }
     assert!(rt; texts.len() == 2);
     assert!(rt; texts.get(0).as_str() == "m 1");
     assert!(rt; texts.get(1).as_str() == "");
-    Ok(())
+    drop(texts);
 }
 
 #[test]
-fn keep_operations_in_order(rt: HostRuntime) -> Result<(), Fail> {
+fn keep_operations_in_order(rt: HostRuntime) {
     let cell = Cell { space: 0, index: 4 };
     let mut ops = Ops::new(rt.alloc());
     assert!(rt; ops.is_empty());
     for op in [Op::Read { cell }, Op::Add { cell, value: 7 }] {
-        ops.push(op)?;
+        ops.push(op).expect(&rt, "an operation");
     }
     assert!(rt; ops.len() == 2);
     assert!(rt; ops.get(1) == Op::Add { cell, value: 7 });
     assert!(rt; ops.iter().count() == 2);
-    Ok(())
+    drop(ops);
 }
 
 #[test]

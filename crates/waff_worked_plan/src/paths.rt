@@ -1,13 +1,12 @@
 //! Hierarchies that are one long path.
 
-use std::alloc::Global;
+use crate::hierarchies::is_told;
+use std::alloc::{AllocError, Global};
 use std::fmt::Write;
-use std::test::Fail;
-use waff_read::read_hierarchy;
 
 /// A path of so many affinities, n0 and on, each below the one before it, the first and the last of
 /// which own a cell each.
-pub fn path(alloc: Global, count: u32) -> Result<String, Fail> {
+pub fn path(alloc: Global, count: u32) -> Result<String, AllocError> {
     let mut text = String::from_str(
         alloc,
         "model = \"hierarchical\"\n[[affinity]]\nname = \"n0\"\n",
@@ -16,7 +15,7 @@ pub fn path(alloc: Global, count: u32) -> Result<String, Fail> {
     Ok(text)
 }
 
-fn push_affinities(text: &mut String, count: u32) -> Result<(), Fail> {
+fn push_affinities(text: &mut String, count: u32) -> Result<(), AllocError> {
     let mut last = 0;
     for n in 1..count {
         write!(
@@ -32,18 +31,13 @@ fn push_affinities(text: &mut String, count: u32) -> Result<(), Fail> {
     Ok(())
 }
 
-/// How a path of so many affinities is refused.
-fn refusal(alloc: Global, count: u32) -> Result<String, Fail> {
-    let hierarchy = path(alloc, count)?;
-    let refusal = read_hierarchy(alloc, hierarchy.as_bytes()).err();
-    Ok(format!(in alloc; "{refusal:?}")?)
-}
+/// Paths of so many affinities, and how they are refused, or read.
+const COUNTS: &[(u32, &str)] = &[(4096, "None"), (4097, "Some(Tree(TooMany))")];
 
 #[test]
-fn have_the_affinities_of_the_limit(rt: HostRuntime) -> Result<(), Fail> {
-    for (count, wanted) in [(4096, "None"), (4097, "Some(Tree(TooMany))")] {
-        let found = refusal(rt.alloc(), count)?;
-        assert_eq!(rt; found.as_str(), wanted);
+fn have_the_affinities_of_the_limit(rt: HostRuntime) {
+    for (count, wanted) in COUNTS {
+        let hierarchy = path(rt.alloc(), *count).expect(&rt, "a text");
+        is_told(&rt, rt.alloc(), hierarchy.as_bytes(), wanted);
     }
-    Ok(())
 }

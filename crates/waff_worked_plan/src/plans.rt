@@ -2,7 +2,6 @@
 
 use crate::paths::path;
 use crate::running::{RELEASED, SAMPLE, is_told};
-use std::test::Fail;
 use waff_samples::{C1, H1, X1, X2};
 
 /// Hierarchies and traces, with what is told of their plans.
@@ -35,18 +34,16 @@ const CASES: &[(&str, &str, &str)] = &[
 ];
 
 #[test]
-fn are_as_worked_by_hand(rt: HostRuntime) -> Result<(), Fail> {
+fn are_as_worked_by_hand(rt: HostRuntime) {
     for (hierarchy, trace, wanted) in CASES {
-        is_told(&rt, rt.alloc(), hierarchy, trace, wanted)?;
+        is_told(&rt, rt.alloc(), hierarchy, trace, wanted);
     }
-    Ok(())
 }
 
 #[test]
-fn of_the_ends_of_a_long_path(rt: HostRuntime) -> Result<(), Fail> {
-    let alloc = rt.alloc();
-    let hierarchy = path(alloc, 4096)?;
+fn of_the_ends_of_a_long_path(rt: HostRuntime) {
+    let hierarchy = path(rt.alloc(), 4096).expect(&rt, "a text");
     let trace = "message,cost,ops\nm1,1,read f:1\nm2,1,read f:0\n";
     let wanted = "affinities n4095 n0 starts 0 1 length 2 total 2 chain 1 2 cost 2 release 0";
-    is_told(&rt, alloc, hierarchy.as_str(), trace, wanted)
+    is_told(&rt, rt.alloc(), hierarchy.as_str(), trace, wanted);
 }

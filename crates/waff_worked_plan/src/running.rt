@@ -1,9 +1,9 @@
 //! Hierarchies and traces read, assigned and planned, and told in one line.
 
-use std::alloc::Global;
+use crate::same::is_same;
+use std::alloc::{AllocError, Global};
 use std::fmt::Write;
 use std::process::Abort;
-use std::test::Fail;
 use waff_assign::{Assigned, assign};
 use waff_model::{Layout, Trace, Tree};
 use waff_plan::printed::chain;
@@ -21,44 +21,29 @@ pub const RELEASED: &str = "affinities A0 B0 VolA B1 Serial starts 0 2 10 0 12 l
 
 /// What is told of the unlimited plan of a trace under a hierarchy, both of which have to be
 /// accepted.
-pub fn unlimited(
-    rt: &impl Abort,
-    alloc: Global,
-    hierarchy: &str,
-    trace: &str,
-) -> Result<String, Fail> {
-    let layout = read_hierarchy(alloc, hierarchy.as_bytes())?;
-    let trace = read_trace(alloc, &layout, trace.as_bytes())?;
-    unlimited_of(rt, alloc, &layout, &trace)
+pub fn unlimited(rt: &impl Abort, alloc: Global, hierarchy: &str, trace: &str) -> String {
+    let layout = read_hierarchy(alloc, hierarchy.as_bytes()).expect(rt, "a hierarchy");
+    let trace = read_trace(alloc, &layout, trace.as_bytes()).expect(rt, "a trace");
+    let told = unlimited_of(rt, alloc, &layout, &trace);
+    drop(trace);
+    drop(layout);
+    told
 }
 
 /// What is told of the unlimited plan of a trace that has to be one for the layout.
-pub fn unlimited_of(
-    rt: &impl Abort,
-    alloc: Global,
-    layout: &Layout,
-    trace: &Trace,
-) -> Result<String, Fail> {
+pub fn unlimited_of(rt: &impl Abort, alloc: Global, layout: &Layout, trace: &Trace) -> String {
     assert!(rt; trace.fits(layout));
-    let assigned = assign(alloc, layout, trace)?;
-    let plan = plan(alloc, layout.tree(), &assigned, trace)?;
-    let chain = chain(alloc, layout.tree(), &assigned, &plan)?;
-    told(rt, alloc, layout.tree(), &assigned, &plan, &chain)
-}
-
-fn told(
-    rt: &impl Abort,
-    alloc: Global,
-    tree: &Tree,
-    assigned: &Assigned,
-    plan: &Plan,
-    chain: &Chain,
-) -> Result<String, Fail> {
+    let assigned = assign(alloc, layout, trace).expect(rt, "affinities");
+    let plan = plan(alloc, layout.tree(), &assigned, trace).expect(rt, "a plan");
+    let chain = chain(alloc, layout.tree(), &assigned, &plan).expect(rt, "a chain");
     let mut told = String::new(alloc);
-    push_affinities(rt, &mut told, tree, assigned)?;
-    push_times(&mut told, plan)?;
-    push_chain(&mut told, chain)?;
-    Ok(told)
+    push_affinities(rt, &mut told, layout.tree(), &assigned).expect(rt, "words");
+    push_times(&mut told, &plan).expect(rt, "words");
+    push_chain(&mut told, &chain).expect(rt, "words");
+    drop(chain);
+    drop(plan);
+    drop(assigned);
+    told
 }
 
 fn push_affinities(
@@ -66,7 +51,7 @@ fn push_affinities(
     told: &mut String,
     tree: &Tree,
     assigned: &Assigned,
-) -> Result<(), Fail> {
+) -> Result<(), AllocError> {
     told.push_str("affinities")?;
     for n in 1..assigned.len() + 1 {
         let affinity = assigned.of(n);
@@ -76,37 +61,24 @@ fn push_affinities(
     Ok(())
 }
 
-fn push_times(told: &mut String, plan: &Plan) -> Result<(), Fail> {
+fn push_times(told: &mut String, plan: &Plan) -> Result<(), AllocError> {
     told.push_str(" starts")?;
     for n in 1..plan.len() + 1 {
         write!(told, " {}", plan.start(n))?;
     }
-    write!(told, " length {} total {}", plan.length(), plan.total())?;
-    Ok(())
+    write!(told, " length {} total {}", plan.length(), plan.total())
 }
 
-fn push_chain(told: &mut String, chain: &Chain) -> Result<(), Fail> {
+fn push_chain(told: &mut String, chain: &Chain) -> Result<(), AllocError> {
     told.push_str(" chain")?;
     for message in chain.messages() {
         write!(told, " {message}")?;
     }
-    write!(told, " cost {} release {}", chain.cost(), chain.release())?;
-    Ok(())
+    write!(told, " cost {} release {}", chain.cost(), chain.release())
 }
 
 /// The unlimited plan has to be told so.
-pub fn is_told(
-    rt: &impl Abort,
-    alloc: Global,
-    hierarchy: &str,
-    trace: &str,
-    wanted: &str,
-) -> Result<(), Fail> {
-    is_same(rt, unlimited(rt, alloc, hierarchy, trace)?, wanted);
-    Ok(())
-}
-
-/// What is told has to be this.
-pub fn is_same(rt: &impl Abort, told: String, wanted: &str) {
-    assert_eq!(rt; told.as_str(), wanted);
+pub fn is_told(rt: &impl Abort, alloc: Global, hierarchy: &str, trace: &str, wanted: &str) {
+    let told = unlimited(rt, alloc, hierarchy, trace);
+    is_same(rt, told.as_str(), wanted);
 }

@@ -1,25 +1,23 @@
 //! Traces accepted and refused under the hierarchical sample.
 
 use crate::running::{is_told, unlimited};
-use std::alloc::Global;
+use crate::same::is_same;
+use std::alloc::{AllocError, Global};
 use std::process::Abort;
-use std::test::Fail;
-use waff_model::{Cell, Layout, Message, Op, Trace, Version};
+use waff_model::{Cell, Layout, Message, Op, Version};
 use waff_read::{read_hierarchy, read_trace};
 use waff_samples::H1;
 
 /// The trace has to be refused so, or to be read, which is told as None.
-fn is_refused(
-    rt: &impl Abort,
-    alloc: Global,
-    layout: &Layout,
-    trace: &[u8],
-    wanted: &str,
-) -> Result<(), Fail> {
+fn is_refused(rt: &impl Abort, alloc: Global, layout: &Layout, trace: &[u8], wanted: &str) {
     let refusal = read_trace(alloc, layout, trace).err();
-    let told = format!(in alloc; "{refusal:?}")?;
-    assert_eq!(rt; told.as_str(), wanted);
-    Ok(())
+    let told = format!(in alloc; "{refusal:?}").expect(rt, "words");
+    is_same(rt, told.as_str(), wanted);
+}
+
+/// The layout of the hierarchical sample.
+fn sample(rt: &impl Abort, alloc: Global) -> Layout {
+    read_hierarchy(alloc, H1.as_bytes()).expect(rt, "a hierarchy")
 }
 
 /// Bytes that are refused by the first record with a fault, or read.
@@ -71,12 +69,12 @@ const BYTES: &[(&[u8], &str)] = &[
 ];
 
 #[test]
-fn are_refused_by_the_first_record_with_a_fault(rt: HostRuntime) -> Result<(), Fail> {
-    let layout = read_hierarchy(rt.alloc(), H1.as_bytes())?;
+fn are_refused_by_the_first_record_with_a_fault(rt: HostRuntime) {
+    let layout = sample(&rt, rt.alloc());
     for (bytes, wanted) in BYTES {
-        is_refused(&rt, rt.alloc(), &layout, bytes, wanted)?;
+        is_refused(&rt, rt.alloc(), &layout, bytes, wanted);
     }
-    Ok(())
+    drop(layout);
 }
 
 /// Operations of a message, and how they are refused, or read.
@@ -114,28 +112,22 @@ const OPS: &[(&str, &str)] = &[
     ),
 ];
 
-fn are_refused(
-    rt: &impl Abort,
-    alloc: Global,
-    layout: &Layout,
-    ops: &str,
-    wanted: &str,
-) -> Result<(), Fail> {
-    let trace = format!(in alloc; "message,cost,ops\nm,1,{ops}")?;
-    is_refused(rt, alloc, layout, trace.as_bytes(), wanted)
+fn are_refused(rt: &impl Abort, alloc: Global, layout: &Layout, ops: &str, wanted: &str) {
+    let trace = format!(in alloc; "message,cost,ops\nm,1,{ops}").expect(rt, "a text");
+    is_refused(rt, alloc, layout, trace.as_bytes(), wanted);
 }
 
 #[test]
-fn are_refused_for_an_operation(rt: HostRuntime) -> Result<(), Fail> {
-    let layout = read_hierarchy(rt.alloc(), H1.as_bytes())?;
+fn are_refused_for_an_operation(rt: HostRuntime) {
+    let layout = sample(&rt, rt.alloc());
     for (ops, wanted) in OPS {
-        are_refused(&rt, rt.alloc(), &layout, ops, wanted)?;
+        are_refused(&rt, rt.alloc(), &layout, ops, wanted);
     }
-    Ok(())
+    drop(layout);
 }
 
 /// So many operations, each of the last cell that stands here.
-fn operations(alloc: Global, count: u32, last: &str) -> Result<String, Fail> {
+fn operations(alloc: Global, count: u32, last: &str) -> Result<String, AllocError> {
     let mut ops = String::new(alloc);
     for _ in 1..count {
         ops.push_str("read f:0;")?;
@@ -152,14 +144,13 @@ const COUNTS: &[(u32, &str, &str)] = &[
 ];
 
 #[test]
-fn are_refused_for_too_many_operations_last(rt: HostRuntime) -> Result<(), Fail> {
-    let alloc = rt.alloc();
-    let layout = read_hierarchy(alloc, H1.as_bytes())?;
+fn are_refused_for_too_many_operations_last(rt: HostRuntime) {
+    let layout = sample(&rt, rt.alloc());
     for (count, last, wanted) in COUNTS {
-        let ops = operations(alloc, *count, last)?;
-        are_refused(&rt, alloc, &layout, ops.as_str(), wanted)?;
+        let ops = operations(rt.alloc(), *count, last).expect(&rt, "operations");
+        are_refused(&rt, rt.alloc(), &layout, ops.as_str(), wanted);
     }
-    Ok(())
+    drop(layout);
 }
 
 /// Traces of one message, and what is told of them.
@@ -183,15 +174,14 @@ const ACCEPTED: &[(&str, &str)] = &[
 ];
 
 #[test]
-fn of_one_message_are_accepted(rt: HostRuntime) -> Result<(), Fail> {
+fn of_one_message_are_accepted(rt: HostRuntime) {
     for (trace, wanted) in ACCEPTED {
-        is_told(&rt, rt.alloc(), H1, trace, wanted)?;
+        is_told(&rt, rt.alloc(), H1, trace, wanted);
     }
-    Ok(())
 }
 
 /// A trace of so many messages of one cell.
-fn readers(alloc: Global, count: u32) -> Result<String, Fail> {
+fn readers(alloc: Global, count: u32) -> Result<String, AllocError> {
     let mut trace = String::from_str(alloc, "message,cost,ops\n")?;
     for _ in 0..count {
         trace.push_str("m,1,read f:0\n")?;
@@ -200,19 +190,19 @@ fn readers(alloc: Global, count: u32) -> Result<String, Fail> {
 }
 
 #[test]
-fn have_the_messages_of_the_limit(rt: HostRuntime) -> Result<(), Fail> {
-    let trace = readers(rt.alloc(), 65536)?;
-    let told = unlimited(&rt, rt.alloc(), H1, trace.as_str())?;
+fn have_the_messages_of_the_limit(rt: HostRuntime) {
+    let trace = readers(rt.alloc(), 65536).expect(&rt, "a text");
+    let told = unlimited(&rt, rt.alloc(), H1, trace.as_str());
     assert!(rt; told.as_str().contains(" length 65536 "));
-    Ok(())
 }
 
 #[test]
-fn have_no_more_messages(rt: HostRuntime) -> Result<(), Fail> {
-    let layout = read_hierarchy(rt.alloc(), H1.as_bytes())?;
-    let trace = readers(rt.alloc(), 65537)?;
+fn have_no_more_messages(rt: HostRuntime) {
+    let layout = sample(&rt, rt.alloc());
+    let trace = readers(rt.alloc(), 65537).expect(&rt, "a text");
     let wanted = "Some(TooManyMessages { at: 65538 })";
-    is_refused(&rt, rt.alloc(), &layout, trace.as_bytes(), wanted)
+    is_refused(&rt, rt.alloc(), &layout, trace.as_bytes(), wanted);
+    drop(layout);
 }
 
 const F0: Cell = Cell { space: 0, index: 0 };
@@ -223,57 +213,49 @@ const G3: Cell = Cell { space: 2, index: 3 };
 
 /// The message has to have this name, these times and these operations.
 fn is_message(rt: &impl Abort, message: &Message, name: &str, times: (u32, u32), ops: &[Op]) {
-    assert!(rt; message.name.as_str() == name);
-    assert!(rt; (message.cost, message.release) == times);
+    is_same(rt, message.name.as_str(), name);
+    let found = (message.cost, message.release);
+    assert!(rt; found == times, "{name}: {found:?}");
     assert!(rt; message.ops.len() == ops.len());
     for place in 0..ops.len() {
-        assert!(rt; message.ops.get(place) == ops[place], "{place}");
+        assert!(rt; message.ops.get(place) == ops[place], "{name}: {place}");
     }
 }
 
-/// The trace has to be of this version, and of two messages.
-fn has_two_messages(rt: &impl Abort, trace: &Trace) {
-    assert!(rt; trace.version() == Version::V1);
-    assert!(rt; trace.len() == 2);
-    let set = Op::Set { cell: F0, value: 5 };
-    let read = Op::Read { cell: G3 };
-    is_message(rt, trace.message(1), "m1", (4, 0), &[set, read]);
-    let copy = Op::Copy {
-        cell: F7,
-        source: G3,
-    };
-    is_message(rt, trace.message(2), "m.2", (1000000, 0), &[copy]);
-}
-
 #[test]
-fn are_read_in_the_first_version(rt: HostRuntime) -> Result<(), Fail> {
-    let layout = read_hierarchy(rt.alloc(), H1.as_bytes())?;
+fn are_read_in_the_first_version(rt: HostRuntime) {
+    let layout = sample(&rt, rt.alloc());
     let text = b"\xef\xbb\xbfmessage,cost,ops\r\n\r\n\"m1\",4,set f:0 5;read g:3\n\
         m.2,1000000,copy f:7 g:3";
-    let trace = read_trace(rt.alloc(), &layout, text)?;
-    has_two_messages(&rt, &trace);
-    Ok(())
-}
-
-/// The trace has to be of the second version, and of one message.
-fn has_one_message(rt: &impl Abort, trace: &Trace) {
-    assert!(rt; trace.version() == Version::V2);
-    assert!(rt; trace.len() == 1);
-    let swap = Op::Swap {
-        cell: F7,
-        other: F7,
-    };
-    let value = u64::MAX;
-    let add = Op::Add { cell: G3, value };
-    is_message(rt, trace.message(1), "m", (3, 1000000000), &[swap, add]);
+    let trace = read_trace(rt.alloc(), &layout, text).expect(&rt, "a trace");
+    assert!(rt; trace.version() == Version::V1);
+    assert!(rt; trace.len() == 2);
+    let (cell, source) = (F7, G3);
+    let first = [Op::Set { cell: F0, value: 5 }, Op::Read { cell: G3 }];
+    is_message(&rt, trace.message(1), "m1", (4, 0), &first);
+    is_message(
+        &rt,
+        trace.message(2),
+        "m.2",
+        (1000000, 0),
+        &[Op::Copy { cell, source }],
+    );
+    drop(trace);
+    drop(layout);
 }
 
 #[test]
-fn are_read_in_the_second_version(rt: HostRuntime) -> Result<(), Fail> {
-    let layout = read_hierarchy(rt.alloc(), H1.as_bytes())?;
+fn are_read_in_the_second_version(rt: HostRuntime) {
+    let layout = sample(&rt, rt.alloc());
     let text =
         b"message,cost,release,ops\nm,3,1000000000,swap f:7 f:7;add g:3 18446744073709551615\n";
-    let trace = read_trace(rt.alloc(), &layout, text)?;
-    has_one_message(&rt, &trace);
-    Ok(())
+    let trace = read_trace(rt.alloc(), &layout, text).expect(&rt, "a trace");
+    assert!(rt; trace.version() == Version::V2);
+    assert!(rt; trace.len() == 1);
+    let (cell, other) = (F7, F7);
+    let value = u64::MAX;
+    let ops = [Op::Swap { cell, other }, Op::Add { cell: G3, value }];
+    is_message(&rt, trace.message(1), "m", (3, 1000000000), &ops);
+    drop(trace);
+    drop(layout);
 }

@@ -1,8 +1,8 @@
 //! Trees of affinities.
 
 use crate::building::tree;
-use std::alloc::{AllocError, Global};
-use std::test::Fail;
+use std::alloc::Global;
+use std::process::Abort;
 use waff_model::{AffinityId, Tree, TreeBuilder, TreeError};
 
 /// A root with two children, the second of which has one.
@@ -33,16 +33,24 @@ fn relation(tree: &Tree, one: u16, other: u16) -> Option<(bool, bool)> {
     }
 }
 
+/// The parts of affinities by their numbers, where the tree has them.
+const PARTS: &[(u16, Option<(&str, Option<AffinityId>)>)] = &[
+    (0, Some(("Serial", None))),
+    (3, Some(("B0", Some(AffinityId(2))))),
+    (4, None),
+];
+
 #[test]
-fn keep_names_and_parents(rt: HostRuntime) -> Result<(), Fail> {
-    let tree = tree(rt.alloc(), TREE)?;
-    assert!(rt; parts(&tree, 0) == Some(("Serial", None)));
-    assert!(rt; parts(&tree, 3) == Some(("B0", Some(AffinityId(2)))));
-    assert!(rt; parts(&tree, 4).is_none());
+fn keep_names_and_parents(rt: HostRuntime) {
+    let tree = tree(rt.alloc(), TREE).expect(&rt, "a tree");
+    for (number, wanted) in PARTS {
+        let found = parts(&tree, *number);
+        assert!(rt; found == *wanted, "{number}: {found:?}");
+    }
     assert!(rt; tree.find("VolB") == Some(AffinityId(2)));
     assert!(rt; tree.find("B1").is_none());
     assert!(rt; tree.root() == AffinityId(0));
-    Ok(())
+    drop(tree);
 }
 
 /// Affinities, with whether the first is at or above the second, and whether they exclude each
@@ -55,12 +63,13 @@ const RELATIONS: &[(u16, u16, (bool, bool))] = &[
 ];
 
 #[test]
-fn tell_what_is_above(rt: HostRuntime) -> Result<(), Fail> {
-    let tree = tree(rt.alloc(), TREE)?;
-    for (one, other, found) in RELATIONS {
-        assert!(rt; relation(&tree, *one, *other) == Some(*found));
+fn tell_what_is_above(rt: HostRuntime) {
+    let tree = tree(rt.alloc(), TREE).expect(&rt, "a tree");
+    for (one, other, wanted) in RELATIONS {
+        let found = relation(&tree, *one, *other);
+        assert!(rt; found == Some(*wanted), "{one} {other}: {found:?}");
     }
-    Ok(())
+    drop(tree);
 }
 
 /// Lists of affinities, and how they are refused.
@@ -76,47 +85,48 @@ const REFUSED: &[(&[(&str, Option<u16>)], TreeError)] = &[
 #[test]
 fn are_refused_in_order(rt: HostRuntime) {
     for (rows, error) in REFUSED {
-        assert!(rt; tree(rt.alloc(), rows).err() == Some(*error));
+        let found = tree(rt.alloc(), rows).err();
+        assert!(rt; found == Some(*error), "{rows:?}: {found:?}");
     }
 }
 
 /// Adds the affinity n below the one before it, and answers its number.
 fn add_below(
-    builder: &mut TreeBuilder,
+    rt: &impl Abort,
     alloc: Global,
+    builder: &mut TreeBuilder,
     n: u16,
-) -> Result<Result<AffinityId, TreeError>, AllocError> {
-    let name = format!(in alloc; "n{n}")?;
+) -> Result<AffinityId, TreeError> {
+    let name = format!(in alloc; "n{n}").expect(rt, "a name");
     let parent = n.checked_sub(1).map(AffinityId);
-    Ok(builder.add(name.as_str(), parent))
+    builder.add(name.as_str(), parent)
 }
 
 /// A path of so many affinities, each below the one before it.
-fn path(alloc: Global, count: u16) -> Result<TreeBuilder, Fail> {
+fn path(rt: &impl Abort, alloc: Global, count: u16) -> TreeBuilder {
     let mut builder = TreeBuilder::new(alloc);
     for n in 0..count {
-        add_below(&mut builder, alloc, n)??;
+        let _ = add_below(rt, alloc, &mut builder, n).expect(rt, "an affinity");
     }
-    Ok(builder)
+    builder
 }
 
 #[test]
-fn have_the_affinities_of_the_limit(rt: HostRuntime) -> Result<(), Fail> {
-    let alloc = rt.alloc();
-    let mut builder = path(alloc, 4096)?;
-    let more = add_below(&mut builder, alloc, 4096)?;
+fn have_the_affinities_of_the_limit(rt: HostRuntime) {
+    let mut builder = path(&rt, rt.alloc(), 4096);
+    let more = add_below(&rt, rt.alloc(), &mut builder, 4096);
     assert!(rt; more == Err(TreeError::TooMany));
-    let tree = builder.build()?;
+    let tree = builder.build().expect(&rt, "a tree");
     assert!(rt; tree.len() == 4096);
     assert!(rt; relation(&tree, 1, 4095) == Some((true, true)));
     assert!(rt; relation(&tree, 4095, 4094) == Some((false, true)));
-    Ok(())
+    drop(tree);
 }
 
 #[test]
-fn stay_as_they_are_where_an_affinity_is_refused(rt: HostRuntime) -> Result<(), Fail> {
-    let mut builder = path(rt.alloc(), 2)?;
+fn stay_as_they_are_where_an_affinity_is_refused(rt: HostRuntime) {
+    let mut builder = path(&rt, rt.alloc(), 2);
     assert!(rt; builder.add("n0", Some(AffinityId(9))) == Err(TreeError::Twice));
     assert!(rt; builder.add("n2", Some(AffinityId(1))) == Ok(AffinityId(2)));
-    Ok(())
+    drop(builder);
 }

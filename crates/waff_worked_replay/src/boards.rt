@@ -1,16 +1,16 @@
 //! The running board over the hierarchical sample.
 
-ghost use Rattle.std.specs.Prelude.{◌≡◌, ◌≤◌, length, All, IfOk};
+ghost use Rattle.std.specs.Prelude.{◌≤◌, All};
 ghost use Rattle.waff_model.specs.Messages.{sizes_of};
+ghost use Rattle.waff_cells.specs.Grid.{HasSizes};
 ghost use Rattle.waff_board.specs.Calls.{IsOf};
 
 use crate::jobs::job;
-use crate::states::numbers;
+use crate::states::is_left;
 use std::alloc::Global;
 use std::process::Abort;
-use std::test::Fail;
 use waff_board::{Board, Clear, Cleared, CloseError, Draw, Drawn, EndSeat, Seat};
-use waff_core::Job;
+use waff_cells::State;
 use waff_model::{Cell, Layout};
 use waff_read::read_hierarchy;
 use waff_samples::{H1, X1};
@@ -22,23 +22,20 @@ const F2: Cell = Cell { space: 0, index: 2 };
 
 const G0: Cell = Cell { space: 2, index: 0 };
 
-/// A board for the job and so many seats. The layout has to have the spaces of the job's.
-pub fn seated(
+/// A board with so many seats for a trace under the hierarchical sample, in this order.
+fn seated(
     rt: &impl Abort,
     alloc: Global,
-    layout: &Layout,
-    job: Job,
+    trace: &str,
+    order: &[u32],
     seats: u32,
-) -> Result<(Board, Vec<Seat>), Fail>
+) -> (Board, Vec<Seat>)
     requires some { 1 ≤ seats }
     requires few { seats ≤ 16 }
-    ensures count { IfOk result (λ made. length made.1.items ≡ seats) }
-    ensures of { IfOk result (λ made. All (λ seat. IsOf made.0 seat.hand) made.1.items) }
-    ensures sizes { IfOk result (λ made.
-        sizes_of made.0.setup.job.layout.spaces ≡ sizes_of layout.now.spaces) }
+    ensures { All (λ seat. IsOf result.0 seat.hand) result.1.items }
 {
-    assert!(rt; layout.same_spaces(job.layout()));
-    Ok(Board::new(alloc, job, seats)?)
+    let job = job(rt, alloc, H1, trace, order).expect(rt, "a job");
+    Board::new(alloc, job, seats).expect(rt, "a board")
 }
 
 /// Takes the last of the seats.
@@ -118,89 +115,110 @@ fn run_next(rt: &impl Abort, board: &Board, mut seat: Seat, count: u32) -> Seat
     seat
 }
 
-#[test]
-fn one_seat_runs_all_messages(rt: HostRuntime) -> Result<(), Fail> {
-    let alloc = rt.alloc();
-    let layout = read_hierarchy(alloc, H1.as_bytes())?;
-    let job = job(alloc, H1, X1, &[1, 2, 3, 4, 5, 6])??;
-    let (board, mut seats) = seated(&rt, alloc, &layout, job, 1)?;
-    let seat = sit(&rt, &board, &mut seats);
-    let seat = run_next(&rt, &board, seat, 6);
-    let end = board.end_looks(draw_over(&rt, &board, seat));
+/// The state that one seat leaves of the first trace. The layout has to have its spaces.
+fn left(rt: &impl Abort, alloc: Global, layout: &Layout) -> State
+    ensures { HasSizes result (sizes_of layout.now.spaces) }
+{
+    let job = job(rt, alloc, H1, X1, &[1, 2, 3, 4, 5, 6]).expect(rt, "a job");
+    assert!(rt; layout.same_spaces(job.layout()));
+    let (board, mut seats) = Board::new(alloc, job, 1).expect(rt, "a board");
+    let seat = sit(rt, &board, &mut seats);
+    drop(seats);
+    let seat = run_next(rt, &board, seat, 6);
+    let end = board.end_looks(draw_over(rt, &board, seat));
     assert!(rt; end.unseen().is_none());
-    let state = numbers(alloc, &layout, &board.close(end)?)?;
-    assert_eq!(rt; state.as_str(), "f:0 5, f:2 7, f:4 1, g:0 5, g:4 1");
-    Ok(())
+    board.close(end).expect(rt, "a state")
 }
 
 #[test]
-fn a_board_closes_unfinished(rt: HostRuntime) -> Result<(), Fail> {
-    let alloc = rt.alloc();
+fn one_seat_runs_all_messages(rt: HostRuntime) {
+    let layout = read_hierarchy(rt.alloc(), H1.as_bytes()).expect(&rt, "a hierarchy");
+    let state = left(&rt, rt.alloc(), &layout);
+    is_left(
+        &rt,
+        rt.alloc(),
+        &layout,
+        &state,
+        "f:0 5, f:2 7, f:4 1, g:0 5, g:4 1",
+    );
+    drop(state);
+    drop(layout);
+}
+
+#[test]
+fn a_board_closes_unfinished(rt: HostRuntime) {
     let trace = "message,cost,ops\nm1,1,read f:0\nm2,1,read f:0\nm3,1,read f:0\n";
-    let (board, mut seats) = Board::new(alloc, job(alloc, H1, trace, &[1, 2, 3])??, 3)?;
+    let (board, mut seats) = seated(&rt, rt.alloc(), trace, &[1, 2, 3], 3);
     let first = sit(&rt, &board, &mut seats);
     let second = sit(&rt, &board, &mut seats);
     let third = sit(&rt, &board, &mut seats);
+    drop(seats);
     let first = run_next(&rt, &board, first, 1);
-    let _two = draw(&rt, &board, first);
-    let _three = draw(&rt, &board, second);
+    let two = draw(&rt, &board, first);
+    let three = draw(&rt, &board, second);
     let end = draw_over(&rt, &board, third);
-    assert_eq!(rt;
-        board.close(end).err(),
-        Some(CloseError::Unfinished { message: 2 })
+    let refused = board.close(end).err();
+    assert!(rt;
+        refused == Some(CloseError::Unfinished { message: 2 }),
+        "{refused:?}"
     );
-    Ok(())
+    drop(two);
+    drop(three);
 }
 
 #[test]
-fn a_grant_holds_the_cells_of_its_owners(rt: HostRuntime) -> Result<(), Fail> {
-    let alloc = rt.alloc();
-    let (board, mut seats) = Board::new(alloc, job(alloc, H1, X1, &[1, 2, 4, 3, 5, 6])??, 1)?;
+fn a_grant_holds_the_cells_of_its_owners(rt: HostRuntime) {
+    let (board, mut seats) = seated(&rt, rt.alloc(), X1, &[1, 2, 4, 3, 5, 6], 1);
     let seat = sit(&rt, &board, &mut seats);
+    drop(seats);
     let seat = run_next(&rt, &board, seat, 3);
     let cleared = clear(&rt, &board, draw(&rt, &board, seat));
-    assert_eq!(rt; cleared.message(), 3);
+    assert!(rt; cleared.message() == 3);
     let grant = board.begin(cleared);
-    assert_eq!(rt; grant.get(F0), Some(5));
-    assert_eq!(rt; grant.get(F2), Some(0));
+    assert!(rt; grant.get(F0) == Some(5));
+    assert!(rt; grant.get(F2) == Some(0));
     assert!(rt; grant.get(G0).is_none());
-    assert_eq!(rt; grant.run().get(F2), Some(5));
-    Ok(())
+    let finished = grant.run();
+    assert!(rt; finished.get(F2) == Some(5));
+    drop(finished);
+    drop(board);
 }
 
 #[test]
-fn a_seat_waits_for_a_need(rt: HostRuntime) -> Result<(), Fail> {
-    let alloc = rt.alloc();
-    let (board, mut seats) = Board::new(alloc, job(alloc, H1, X1, &[1, 2, 3, 4, 5, 6])??, 2)?;
+fn a_seat_waits_for_a_need(rt: HostRuntime) {
+    let (board, mut seats) = seated(&rt, rt.alloc(), X1, &[1, 2, 3, 4, 5, 6], 2);
     let first = sit(&rt, &board, &mut seats);
     let second = sit(&rt, &board, &mut seats);
+    drop(seats);
     let one = draw(&rt, &board, first);
     let second = run_next(&rt, &board, second, 1);
     let three = draw(&rt, &board, second);
     let (three, on) = wait(&rt, &board, three);
-    assert_eq!(rt; on, 1);
+    assert!(rt; on == 1);
     let (three, on) = wait(&rt, &board, three);
-    assert_eq!(rt; on, 1);
-    let _first = run(&rt, &board, one);
+    assert!(rt; on == 1);
+    let first = run(&rt, &board, one);
     let grant = board.begin(clear(&rt, &board, three));
-    assert_eq!(rt; grant.get(F0), Some(5));
-    Ok(())
+    assert!(rt; grant.get(F0) == Some(5));
+    drop(grant);
+    drop(first);
+    drop(board);
 }
 
 #[test]
-fn a_dropped_grant_stays_unfinished(rt: HostRuntime) -> Result<(), Fail> {
-    let alloc = rt.alloc();
+fn a_dropped_grant_stays_unfinished(rt: HostRuntime) {
     let trace = "message,cost,ops\nm1,1,set f:0 1\nm2,1,set g:0 1\n";
-    let (board, mut seats) = Board::new(alloc, job(alloc, H1, trace, &[1, 2])??, 2)?;
+    let (board, mut seats) = seated(&rt, rt.alloc(), trace, &[1, 2], 2);
     let first = sit(&rt, &board, &mut seats);
     let second = sit(&rt, &board, &mut seats);
+    drop(seats);
     let cleared = clear(&rt, &board, draw(&rt, &board, first));
     drop(board.begin(cleared));
     let second = run_next(&rt, &board, second, 1);
     let end = board.end_looks(draw_over(&rt, &board, second));
-    assert_eq!(rt;
-        board.close(end).err(),
-        Some(CloseError::Unfinished { message: 1 })
+    let refused = board.close(end).err();
+    assert!(rt;
+        refused == Some(CloseError::Unfinished { message: 1 }),
+        "{refused:?}"
     );
-    Ok(())
 }

@@ -1,12 +1,12 @@
 //! States that messages leave.
 
+ghost use Rattle.std.specs.Prelude.{◌≡◌, IfOk};
 ghost use Rattle.waff_model.specs.Messages.{sizes_of};
 ghost use Rattle.waff_cells.specs.Grid.{HasSizes};
 
-use std::alloc::Global;
+use std::alloc::{AllocError, Global};
 use std::fmt::Write;
 use std::process::Abort;
-use std::test::Fail;
 use waff_cells::State;
 use waff_model::{Cell, Layout, Trace};
 use waff_read::{read_hierarchy, read_trace};
@@ -14,7 +14,7 @@ use waff_replay::serial;
 use waff_samples::{H1, X1, X2};
 
 /// The cells that are not 0, each with its number.
-pub fn numbers(alloc: Global, layout: &Layout, state: &State) -> Result<String, Fail>
+fn numbers(alloc: Global, layout: &Layout, state: &State) -> Result<String, AllocError>
     requires { HasSizes state.now (sizes_of layout.now.spaces) }
 {
     let mut text = String::new(alloc);
@@ -30,46 +30,55 @@ pub fn numbers(alloc: Global, layout: &Layout, state: &State) -> Result<String, 
     Ok(text)
 }
 
+/// The cells that are not 0 have to be these, each with its number.
+pub fn is_left(rt: &impl Abort, alloc: Global, layout: &Layout, state: &State, wanted: &str)
+    requires { HasSizes state.now (sizes_of layout.now.spaces) }
+{
+    let left = numbers(alloc, layout, state).expect(rt, "the numbers");
+    assert_eq!(rt; left.as_str(), wanted);
+}
+
 /// The state after one message after another.
-fn stepped(rt: &impl Abort, alloc: Global, layout: &Layout, trace: &Trace) -> Result<String, Fail> {
-    assert!(rt; trace.fits(layout));
+fn stepped(alloc: Global, layout: &Layout, trace: &Trace) -> Result<State, AllocError>
+    requires { trace.now.sizes ≡ sizes_of layout.now.spaces }
+    ensures { IfOk result (λ state. HasSizes state (sizes_of layout.now.spaces)) }
+{
     let mut state = State::zero(alloc, layout)?;
     for n in 1..trace.len() + 1 {
         state.apply(trace.message(n));
     }
-    numbers(alloc, layout, &state)
+    Ok(state)
 }
 
-/// The state of the serial run.
-fn run(rt: &impl Abort, alloc: Global, layout: &Layout, trace: &Trace) -> Result<String, Fail> {
-    assert!(rt; trace.fits(layout));
-    let state = serial(alloc, layout, trace)?;
-    numbers(alloc, layout, &state)
-}
-
-fn leaves(rt: &impl Abort, alloc: Global, trace: &str, state: &str) -> Result<(), Fail> {
-    let layout = read_hierarchy(alloc, H1.as_bytes())?;
-    let trace = read_trace(alloc, &layout, trace.as_bytes())?;
-    assert_eq!(rt; stepped(rt, alloc, &layout, &trace)?.as_str(), state);
-    assert_eq!(rt; run(rt, alloc, &layout, &trace)?.as_str(), state);
-    Ok(())
-}
-
-#[test]
-fn of_the_samples(rt: HostRuntime) -> Result<(), Fail> {
-    leaves(&rt, rt.alloc(), X1, "f:0 5, f:2 7, f:4 1, g:0 5, g:4 1")?;
-    leaves(&rt, rt.alloc(), X2, "f:0 5, f:2 7, g:0 5, g:4 1")?;
-    leaves(&rt, rt.alloc(), "message,cost,ops\n", "")
+/// The messages one after another, and the serial run, have to leave this.
+fn leaves(rt: &impl Abort, alloc: Global, trace: &str, wanted: &str) {
+    let layout = read_hierarchy(alloc, H1.as_bytes()).expect(rt, "a hierarchy");
+    let trace = read_trace(alloc, &layout, trace.as_bytes()).expect(rt, "a trace");
+    let stepped = stepped(alloc, &layout, &trace).expect(rt, "a state");
+    is_left(rt, alloc, &layout, &stepped, wanted);
+    drop(stepped);
+    let state = serial(alloc, &layout, &trace).expect(rt, "a state");
+    is_left(rt, alloc, &layout, &state, wanted);
+    drop(state);
+    drop(trace);
+    drop(layout);
 }
 
 #[test]
-fn of_an_addition_that_wraps(rt: HostRuntime) -> Result<(), Fail> {
+fn of_the_samples(rt: HostRuntime) {
+    leaves(&rt, rt.alloc(), X1, "f:0 5, f:2 7, f:4 1, g:0 5, g:4 1");
+    leaves(&rt, rt.alloc(), X2, "f:0 5, f:2 7, g:0 5, g:4 1");
+    leaves(&rt, rt.alloc(), "message,cost,ops\n", "");
+}
+
+#[test]
+fn of_an_addition_that_wraps(rt: HostRuntime) {
     let trace = "message,cost,ops\nm1,1,set f:0 2;add f:0 18446744073709551615\n";
-    leaves(&rt, rt.alloc(), trace, "f:0 1")
+    leaves(&rt, rt.alloc(), trace, "f:0 1");
 }
 
 #[test]
-fn of_a_cell_with_itself(rt: HostRuntime) -> Result<(), Fail> {
+fn of_a_cell_with_itself(rt: HostRuntime) {
     let trace = "message,cost,ops\nm1,1,set m:1 5;swap m:1 m:1;copy m:1 m:1\n";
-    leaves(&rt, rt.alloc(), trace, "m:1 5")
+    leaves(&rt, rt.alloc(), trace, "m:1 5");
 }

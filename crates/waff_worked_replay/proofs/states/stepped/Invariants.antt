@@ -3,4 +3,4 @@ use Rattle.waff_cells.specs.Grid.{HasSizes}
 use Rattle.waff_worked_replay.proofs.states.stepped.Given as goal
 
 abbrev pub invariant-loop-n : goal.invariant-loop-n
-invariant-loop-n g l = HasSizes l.state (sizes_of l.layout.spaces)
+invariant-loop-n l = HasSizes l.state (sizes_of l.layout.spaces)
