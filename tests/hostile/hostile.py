@@ -32,6 +32,10 @@ WORDS = (
     "where {H} {T} --names",
     "draw {H} {T} {P}",
     "draw {H} {T} {P} --as events",
+    "explain {H}",
+    "explain {H} {T}",
+    "explain {H} {T} {P}",
+    "explain {H} {T} {F}",
 )
 
 # The replay on the most threads.
@@ -145,6 +149,31 @@ def faults_of(run):
             faults.append("standard output is not empty")
         if not FAULT.fullmatch(run.stderr):
             faults.append("standard error is not one fault line")
+    if run.seconds > SECONDS:
+        faults.append("it takes %.2f s" % run.seconds)
+    return faults
+
+
+def faults_of_explanation(run, told):
+    """What is wrong with how an explanation ended; `told` is the run of a command that looks at the same files, or None."""
+    if run.status is None:
+        return ["it hangs"]
+    faults = []
+    first, newline, rest = run.stdout.partition(b"\n")
+    if run.status not in (0, 1, 3, 4):
+        faults.append("the status is %d" % run.status)
+    if run.stderr:
+        faults.append("standard error is not empty")
+    if not newline or not rest.endswith(b"\n"):
+        faults.append("standard output has no two lines")
+    if any(byte != 10 and not 32 <= byte < 127 for byte in run.stdout):
+        faults.append("standard output is not printable")
+    if run.status in (3, 4) and not FAULT.fullmatch(first + b"\n"):
+        faults.append("its first line is no fault line")
+    if told is not None and run.status != told.status:
+        faults.append("the status of the command is %s" % told.status)
+    if told is not None and run.status in (3, 4) and first + b"\n" != told.stderr:
+        faults.append("the command tells %r" % told.stderr)
     if run.seconds > SECONDS:
         faults.append("it takes %.2f s" % run.seconds)
     return faults

@@ -1,6 +1,7 @@
 //! A tree of affinities that is refused.
 
-use crate::document::{place_of, push_row, rows, text_at};
+use crate::document::{push_row, rows, text_at};
+use crate::named::Named;
 use crate::shown::Shown;
 use std::alloc::AllocError;
 use toml::Value;
@@ -14,11 +15,12 @@ pub(crate) fn push_no_tree(
     error: TreeError,
 ) -> Result<(), AllocError> {
     let affinities = rows(document, "affinity");
+    let named = Named::of(*text.allocator(), affinities, "name")?;
     for number in 0..affinities.len() {
         let row = &affinities[number];
-        if has_error(affinities, number, row, error) {
+        if has_error(&named, number, row, error) {
             push_row(text, "affinity", number, row)?;
-            return push_error(text, affinities, number, row, error);
+            return push_error(text, &named, affinities.len(), number, row, error);
         }
     }
     text.push_str(
@@ -27,19 +29,16 @@ pub(crate) fn push_no_tree(
 }
 
 /// Whether the affinity of a row has the error; those before it have none.
-fn has_error(affinities: &[Value], number: usize, row: &Value, error: TreeError) -> bool {
+fn has_error(named: &Named<'_>, number: usize, row: &Value, error: TreeError) -> bool {
     let name = text_at(row, "name");
     match error {
         TreeError::Name => !is_name(name),
-        TreeError::Twice => place_of(affinities, number, "name", name).is_some(),
+        TreeError::Twice => named.place_before(number, name).is_some(),
         TreeError::SecondRoot => number > 0 && row.get("parent").is_none(),
         TreeError::ParentUnknown => match row.get("parent") {
-            Some(parent) => place_of(
-                affinities,
-                number,
-                "name",
-                parent.as_str().unwrap_or(""),
-            ).is_none(),
+            Some(parent) => named
+                .place_before(number, parent.as_str().unwrap_or(""))
+                .is_none(),
             None => false,
         },
         TreeError::TooMany => number >= MAX_AFFINITIES,
@@ -47,9 +46,12 @@ fn has_error(affinities: &[Value], number: usize, row: &Value, error: TreeError)
     }
 }
 
+/// Appends what was found in the affinity of a row, which has the error, among so many, and what is
+/// wanted.
 fn push_error(
     text: &mut String,
-    affinities: &[Value],
+    named: &Named<'_>,
+    many: usize,
     number: usize,
     row: &Value,
     error: TreeError,
@@ -62,7 +64,7 @@ fn push_error(
             "found: the name `{name}`\nwanted: a name, 1 to {MAX_NAME} of A-Z a-z 0-9 . _ -"
         ),
         TreeError::Twice => {
-            let other = place_of(affinities, number, "name", text_at(row, "name")).unwrap_or(0);
+            let other = named.place_of(text_at(row, "name")).unwrap_or(0);
             writeln!(
                 text,
                 "found: the name `{name}`, which affinity {other} has\nwanted: a name that no affinity before it has"
@@ -71,14 +73,11 @@ fn push_error(
         TreeError::SecondRoot => text.push_str(
             "found: no parent\nwanted: a parent, as each affinity but the first has one\n",
         ),
-        TreeError::ParentUnknown => push_unknown(text, affinities, number, parent),
-        TreeError::TooMany => {
-            let found = affinities.len();
-            writeln!(
-                text,
-                "found: {found} affinities\nwanted: {MAX_AFFINITIES} affinities or fewer"
-            )
-        }
+        TreeError::ParentUnknown => push_unknown(text, named, number, parent),
+        TreeError::TooMany => writeln!(
+            text,
+            "found: {many} affinities\nwanted: {MAX_AFFINITIES} affinities or fewer"
+        ),
         TreeError::NoRoot | TreeError::Memory => Ok(()),
     }
 }
@@ -86,13 +85,13 @@ fn push_error(
 /// Appends that a parent is none of the affinities before.
 fn push_unknown(
     text: &mut String,
-    affinities: &[Value],
+    named: &Named<'_>,
     number: usize,
     parent: &str,
 ) -> Result<(), AllocError> {
     let shown = Shown(parent.as_bytes());
     write!(text, "found: the parent `{shown}`, which ")?;
-    match place_of(affinities, affinities.len(), "name", parent) {
+    match named.place_of(parent) {
         Some(place) if place == number => text.push_str("is the affinity itself\n")?,
         Some(place) => writeln!(text, "is affinity {place}, behind it")?,
         None => text.push_str("no affinity has as its name\n")?,

@@ -24,14 +24,6 @@ pub(crate) fn text_at<'a>(value: &'a Value, key: &str) -> &'a str {
     }
 }
 
-/// The first of these many tables that has the text at the key.
-pub(crate) fn place_of(tables: &[Value], many: usize, key: &str, name: &str) -> Option<usize> {
-    tables
-        .iter()
-        .take(many)
-        .position(|row| text_at(row, key) == name)
-}
-
 /// Appends where a table stands: of which kind it is, its number from 0, and its name.
 pub(crate) fn push_row(
     text: &mut String,

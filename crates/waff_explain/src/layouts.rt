@@ -1,6 +1,7 @@
 //! Spaces and maps that are refused.
 
-use crate::document::{place_of, push_row, rows, text_at};
+use crate::document::{push_row, rows, text_at};
+use crate::named::Named;
 use crate::shown::Shown;
 use std::alloc::AllocError;
 use toml::Value;
@@ -56,10 +57,11 @@ fn push_no_space(text: &mut String, spaces: &[Value], maps: &[Value]) -> Result<
 
 /// Appends which map names no space.
 fn push_no_space_of(text: &mut String, spaces: &[Value], maps: &[Value]) -> Result<(), AllocError> {
+    let named = Named::of(*text.allocator(), spaces, "name")?;
     for number in 0..maps.len() {
         let row = &maps[number];
         let name = text_at(row, "space");
-        if place_of(spaces, spaces.len(), "name", name).is_none() {
+        if named.place_of(name).is_none() {
             push_row(text, "map", number, row)?;
             let name = Shown(name.as_bytes());
             return writeln!(
@@ -107,9 +109,10 @@ fn push_twice(
     kind: &str,
     key: &str,
 ) -> Result<(), AllocError> {
+    let named = Named::of(*text.allocator(), tables, key)?;
     for number in 0..tables.len() {
         let row = &tables[number];
-        if let Some(other) = place_of(tables, number, key, text_at(row, key)) {
+        if let Some(other) = named.place_before(number, text_at(row, key)) {
             push_row(text, kind, number, row)?;
             return writeln!(
                 text,
@@ -122,9 +125,10 @@ fn push_twice(
 
 /// Appends which space has no map.
 fn push_no_map(text: &mut String, spaces: &[Value], maps: &[Value]) -> Result<(), AllocError> {
+    let mapped = Named::of(*text.allocator(), maps, "space")?;
     for number in 0..spaces.len() {
         let row = &spaces[number];
-        if place_of(maps, maps.len(), "space", text_at(row, "name")).is_none() {
+        if mapped.place_of(text_at(row, "name")).is_none() {
             push_row(text, "space", number, row)?;
             return text.push_str("found: no map of the space\nwanted: one map of each space\n");
         }
@@ -138,6 +142,7 @@ fn push_no_owners(
     affinities: &[Value],
     maps: &[Value],
 ) -> Result<(), AllocError> {
+    let named = Named::of(*text.allocator(), affinities, "name")?;
     for number in 0..maps.len() {
         let row = &maps[number];
         let owners = rows(row, "to");
@@ -149,7 +154,7 @@ fn push_no_owners(
                 "found: {found} names in to\nwanted: 1 to {MAX_OWNERS} names"
             );
         }
-        if let Some(owner) = stranger(affinities, owners) {
+        if let Some(owner) = stranger(&named, owners) {
             push_row(text, "map", number, row)?;
             let owner = Shown(owner.as_bytes());
             return writeln!(
@@ -162,10 +167,10 @@ fn push_no_owners(
 }
 
 /// The first owner that is no affinity.
-fn stranger<'a>(affinities: &[Value], owners: &'a [Value]) -> Option<&'a str> {
+fn stranger<'a>(named: &Named<'_>, owners: &'a [Value]) -> Option<&'a str> {
     for owner in owners {
         let name = owner.as_str().unwrap_or("");
-        if place_of(affinities, affinities.len(), "name", name).is_none() {
+        if named.place_of(name).is_none() {
             return Some(name);
         }
     }

@@ -1,12 +1,11 @@
 //! The words that tell where a fault is, what was found there and what is wanted.
 //!
 //! - `hierarchy`: a hierarchy that is refused, over `document` (a document of the wrong shape),
-//! `affinities` (the tree) and
-//!   `layouts` (spaces and maps).
+//!   `affinities` (the tree) and `layouts` (spaces and maps), which find tables by `named`.
 //! - `traces`: a trace that is refused, over `operations` (the operations of a message).
 //! - `plan_texts`: the text of a plan that is refused.
 //! - `verdicts`: a verdict, with the messages that it names, over `case` (a plan with what it is a
-//! plan of).
+//!   plan of).
 //! - `sizes`: how much there is where nothing is wrong.
 //!
 //! `files` reads the files once more, `walk` goes over the records of CSV and tells where each
@@ -20,6 +19,7 @@ mod document;
 mod files;
 mod hierarchy;
 mod layouts;
+mod named;
 mod operations;
 mod plan_texts;
 mod shown;
