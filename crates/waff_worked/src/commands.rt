@@ -1,9 +1,9 @@
 //! The files of a command, refused in order: the hierarchy before the trace, and the trace before
 //! the plan.
 
+use crate::same::is_same;
 use std::alloc::Global;
 use std::process::Abort;
-use std::test::Fail;
 use std::thread::Threads;
 use waff_samples::{H1, X1};
 use waff_tool::{assign_text, check_text};
@@ -14,15 +14,14 @@ fn is_answered<R: Threads + Sync + Abort>(
     alloc: Global,
     texts: [&str; 3],
     wanted: &str,
-    written: usize,
-) -> Result<(), Fail> {
+    bytes: usize,
+) {
     let [hierarchy, trace, plan] = texts.map(|text| text.as_bytes());
-    let mut writer = Vec::new(alloc);
-    let answer = check_text(rt, alloc, hierarchy, trace, plan, &mut writer);
-    let told = format!(in alloc; "{answer:?}")?;
-    assert_eq!(rt; told.as_str(), wanted);
-    assert!(rt; writer.len() == written);
-    Ok(())
+    let mut written = Vec::new(alloc);
+    let answer = check_text(rt, alloc, hierarchy, trace, plan, &mut written);
+    let told = format!(in alloc; "{answer:?}").expect(rt, "words");
+    is_same(rt, told.as_str(), wanted);
+    assert!(rt; written.len() == bytes, "{wanted}: {} bytes", written.len());
 }
 
 /// The second message starts before the first has finished.
@@ -44,32 +43,29 @@ const CHECKS: &[([&str; 3], &str, usize)] = &[
 ];
 
 #[test]
-fn are_checked_in_order(rt: HostRuntime) -> Result<(), Fail> {
-    for (texts, wanted, written) in CHECKS {
-        is_answered(&rt, rt.alloc(), *texts, wanted, *written)?;
+fn are_checked_in_order(rt: HostRuntime) {
+    for (texts, wanted, bytes) in CHECKS {
+        is_answered(&rt, rt.alloc(), *texts, wanted, *bytes);
     }
-    Ok(())
 }
 
 /// Affinities of these texts have to be refused so, with nothing written.
-fn is_refused(
-    rt: &impl Abort,
-    alloc: Global,
-    hierarchy: &str,
-    trace: &str,
-    wanted: &str,
-) -> Result<(), Fail> {
-    let mut writer = Vec::new(alloc);
-    let answer = assign_text(alloc, hierarchy.as_bytes(), trace.as_bytes(), &mut writer);
-    let told = format!(in alloc; "{answer:?}")?;
-    assert_eq!(rt; told.as_str(), wanted);
-    assert!(rt; writer.is_empty());
-    Ok(())
+fn is_refused(rt: &impl Abort, alloc: Global, hierarchy: &str, trace: &str, wanted: &str) {
+    let mut written = Vec::new(alloc);
+    let answer = assign_text(alloc, hierarchy.as_bytes(), trace.as_bytes(), &mut written);
+    let told = format!(in alloc; "{answer:?}").expect(rt, "words");
+    is_same(rt, told.as_str(), wanted);
+    assert!(rt; written.is_empty(), "{wanted}: {} bytes", written.len());
 }
 
 #[test]
-fn refuse_the_hierarchy_before_the_trace(rt: HostRuntime) -> Result<(), Fail> {
-    let alloc = rt.alloc();
-    is_refused(&rt, alloc, "", "", "Err(Hier { file: 1, fault: Model })")?;
-    is_refused(&rt, alloc, H1, "", "Err(Trace(Header { at: 1 }))")
+fn refuse_the_hierarchy_before_the_trace(rt: HostRuntime) {
+    is_refused(
+        &rt,
+        rt.alloc(),
+        "",
+        "",
+        "Err(Hier { file: 1, fault: Model })",
+    );
+    is_refused(&rt, rt.alloc(), H1, "", "Err(Trace(Header { at: 1 }))");
 }

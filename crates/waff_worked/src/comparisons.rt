@@ -1,151 +1,101 @@
 //! Comparisons of two hierarchies.
 
 use crate::changes::changed;
-use std::alloc::{AllocError, Global};
+use crate::same::are_same;
+use std::alloc::Global;
 use std::process::Abort;
-use std::test::Fail;
 use waff_assign::assign;
-use waff_model::{Layout, Trace};
 use waff_order::refines;
 use waff_read::{HierError, read_hierarchy, read_trace};
 use waff_samples::{C1, COMPARE_C1_H1_X1, COMPARE_C2_H1, H1, X1, X2};
 use waff_tool::{ToolError, compare_text};
 
 /// The text of the comparison for two workers has to be this.
-fn is_told(
-    rt: &impl Abort,
-    alloc: Global,
-    hierarchies: (&str, &str),
-    trace: &str,
-    text: &str,
-) -> Result<(), Fail> {
-    let (first, second) = hierarchies;
+fn is_told(rt: &impl Abort, alloc: Global, hierarchies: (&str, &str), trace: &str, text: &str) {
+    let (first, second) = (hierarchies.0.as_bytes(), hierarchies.1.as_bytes());
     let mut written = Vec::new(alloc);
-    compare_text(
-        alloc,
-        first.as_bytes(),
-        second.as_bytes(),
-        trace.as_bytes(),
-        2,
-        &mut written,
-    )?;
-    assert_eq!(rt; written.as_slice(), text.as_bytes());
-    Ok(())
+    compare_text(alloc, first, second, trace.as_bytes(), 2, &mut written).expect(rt, "a text");
+    are_same(rt, written.as_slice(), text.as_bytes());
 }
 
 #[test]
-fn stand_classical_first_in_either_order(rt: HostRuntime) -> Result<(), Fail> {
-    let alloc = rt.alloc();
-    is_told(&rt, alloc, (C1, H1), X1, COMPARE_C1_H1_X1)?;
-    is_told(&rt, alloc, (H1, C1), X1, COMPARE_C1_H1_X1)
+fn stand_classical_first_in_either_order(rt: HostRuntime) {
+    is_told(&rt, rt.alloc(), (C1, H1), X1, COMPARE_C1_H1_X1);
+    is_told(&rt, rt.alloc(), (H1, C1), X1, COMPARE_C1_H1_X1);
 }
 
 #[test]
-fn tell_where_the_hierarchical_one_does_not_refine(rt: HostRuntime) -> Result<(), Fail> {
-    let alloc = rt.alloc();
-    let finer = changed(alloc, C1, "unit = 2", "unit = 1")?;
+fn tell_where_the_hierarchical_one_does_not_refine(rt: HostRuntime) {
+    let finer = changed(&rt, rt.alloc(), C1, "unit = 2", "unit = 1");
     let trace = "message,cost,ops\nm1,1,read f:0\nm2,1,read f:1\n";
-    is_told(&rt, alloc, (finer.as_str(), H1), trace, COMPARE_C2_H1)
+    is_told(&rt, rt.alloc(), (finer.as_str(), H1), trace, COMPARE_C2_H1);
 }
 
 #[test]
-fn tell_of_releases(rt: HostRuntime) -> Result<(), Fail> {
+fn tell_of_releases(rt: HostRuntime) {
     let text = "workers,2\ntotal,15\n\
         model,length,release,chain,list,listrelease,listchain,left,right\n\
         classical,18,10,8,18,10,8,36,43\nhierarchical,13,10,3,13,10,3,26,38\nrefines,yes\n";
-    is_told(&rt, rt.alloc(), (C1, H1), X2, text)
+    is_told(&rt, rt.alloc(), (C1, H1), X2, text);
 }
 
 /// The hierarchies have to be refused so, before the trace is, and nothing is written.
-fn are_refused(
-    rt: &impl Abort,
-    alloc: Global,
-    first: &str,
-    second: &str,
-    error: ToolError,
-) -> Result<(), Fail> {
+fn are_refused(rt: &impl Abort, alloc: Global, first: &str, second: &str, error: ToolError) {
     let mut written = Vec::new(alloc);
     let (first, second) = (first.as_bytes(), second.as_bytes());
-    let result = compare_text(alloc, first, second, b"", 2, &mut written);
-    assert_eq!(rt; result.err(), Some(error));
-    assert!(rt; written.is_empty());
-    Ok(())
+    let refused = compare_text(alloc, first, second, b"", 2, &mut written).err();
+    assert!(rt; refused == Some(error), "{error:?}: {refused:?}");
+    assert!(rt; written.is_empty(), "{error:?}: {} bytes", written.len());
 }
 
 #[test]
-fn want_a_second_hierarchy(rt: HostRuntime) -> Result<(), Fail> {
+fn want_a_second_hierarchy(rt: HostRuntime) {
     let fault = HierError::Model;
-    are_refused(&rt, rt.alloc(), C1, "", ToolError::Hier { file: 2, fault })
+    are_refused(&rt, rt.alloc(), C1, "", ToolError::Hier { file: 2, fault });
 }
 
-/// The hierarchy with a smaller space than the classical sample has.
-fn smaller(alloc: Global, hierarchy: &str) -> Result<String, Fail> {
-    changed(
-        alloc,
-        hierarchy,
-        "name = \"g\"\nsize = 8",
-        "name = \"g\"\nsize = 4",
-    )
-}
+/// The name and the size of a space of the samples, and a smaller size.
+const SIZES: (&str, &str) = ("name = \"g\"\nsize = 8", "name = \"g\"\nsize = 4");
 
 #[test]
-fn want_equal_sizes_even_of_one_model(rt: HostRuntime) -> Result<(), Fail> {
+fn want_equal_sizes_even_of_one_model(rt: HostRuntime) {
     for hierarchy in [H1, C1] {
-        let smaller = smaller(rt.alloc(), hierarchy)?;
+        let smaller = changed(&rt, rt.alloc(), hierarchy, SIZES.0, SIZES.1);
         are_refused(
             &rt,
             rt.alloc(),
             C1,
             smaller.as_str(),
             ToolError::SpacesDiffer,
-        )?;
+        );
     }
-    Ok(())
 }
 
 #[test]
-fn want_two_models(rt: HostRuntime) -> Result<(), Fail> {
-    are_refused(&rt, rt.alloc(), C1, C1, ToolError::ModelsSame)?;
-    are_refused(&rt, rt.alloc(), H1, H1, ToolError::ModelsSame)
-}
-
-/// Whether the first layout refines the second on the trace, which has to be one for both.
-fn refines_on(
-    rt: &impl Abort,
-    alloc: Global,
-    first: &Layout,
-    second: &Layout,
-    trace: &Trace,
-) -> Result<bool, AllocError> {
-    assert!(rt; trace.fits(first));
-    assert!(rt; trace.fits(second));
-    let fine = assign(alloc, first, trace)?;
-    let coarse = assign(alloc, second, trace)?;
-    Ok(refines(first.tree(), &fine, second.tree(), &coarse))
-}
-
-/// Whether the layout refines the hierarchy on the first trace.
-fn layout_refines(
-    rt: &impl Abort,
-    alloc: Global,
-    layout: &Layout,
-    hierarchy: &str,
-) -> Result<bool, Fail> {
-    let second = read_hierarchy(alloc, hierarchy.as_bytes())?;
-    let trace = read_trace(alloc, layout, X1.as_bytes())?;
-    Ok(refines_on(rt, alloc, layout, &second, &trace)?)
+fn want_two_models(rt: HostRuntime) {
+    are_refused(&rt, rt.alloc(), C1, C1, ToolError::ModelsSame);
+    are_refused(&rt, rt.alloc(), H1, H1, ToolError::ModelsSame);
 }
 
 /// Whether the first hierarchy refines the second on the first trace.
-fn first_refines(rt: &impl Abort, alloc: Global, first: &str, second: &str) -> Result<bool, Fail> {
-    let first = read_hierarchy(alloc, first.as_bytes())?;
-    layout_refines(rt, alloc, &first, second)
+fn first_refines(rt: &impl Abort, alloc: Global, first: &str, second: &str) -> bool {
+    let first = read_hierarchy(alloc, first.as_bytes()).expect(rt, "a hierarchy");
+    let second = read_hierarchy(alloc, second.as_bytes()).expect(rt, "a hierarchy");
+    let trace = read_trace(alloc, &first, X1.as_bytes()).expect(rt, "a trace");
+    assert!(rt; trace.fits(&second));
+    let fine = assign(alloc, &first, &trace).expect(rt, "affinities");
+    let coarse = assign(alloc, &second, &trace).expect(rt, "affinities");
+    let answer = refines(first.tree(), &fine, second.tree(), &coarse);
+    drop(fine);
+    drop(coarse);
+    drop(trace);
+    drop(first);
+    drop(second);
+    answer
 }
 
 #[test]
-fn refine_one_way_alone(rt: HostRuntime) -> Result<(), Fail> {
-    let alloc = rt.alloc();
-    assert!(rt; first_refines(&rt, alloc, H1, C1)?);
-    assert!(rt; !first_refines(&rt, alloc, C1, H1)?);
-    Ok(())
+fn refine_one_way_alone(rt: HostRuntime) {
+    assert!(rt; first_refines(&rt, rt.alloc(), H1, C1));
+    assert!(rt; !first_refines(&rt, rt.alloc(), C1, H1));
 }

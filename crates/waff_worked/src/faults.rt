@@ -1,6 +1,6 @@
 //! The lines that tell of faults, and their exit statuses.
 
-use std::test::Fail;
+use crate::same::is_same;
 use waff_model::{AffinityId, LayoutError, TreeError};
 use waff_plan_text::PlanTextError;
 use waff_read::{HierError, Key, TraceError};
@@ -56,11 +56,11 @@ const FAULTS: &[(ToolError, &str, u8)] = &[
 ];
 
 #[test]
-fn are_told(rt: HostRuntime) -> Result<(), Fail> {
+fn are_told(rt: HostRuntime) {
     for (error, line, status) in FAULTS {
-        let told = fault_text(rt.alloc(), error)?;
-        assert_eq!(rt; told.as_str(), *line);
-        assert!(rt; fault_status(error) == *status);
+        let told = fault_text(rt.alloc(), error).expect(&rt, "a line");
+        is_same(&rt, told.as_str(), line);
+        let found = fault_status(error);
+        assert!(rt; found == *status, "{line}: {found}");
     }
-    Ok(())
 }

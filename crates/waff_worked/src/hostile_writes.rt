@@ -1,9 +1,9 @@
 //! Writers that fail or take little, and readers that fail: what was written or read by then.
 
+use crate::same::are_same;
 use std::alloc::Global;
 use std::io::{self, Read, Write};
 use std::process::Abort;
-use std::test::Fail;
 use std::thread::Threads;
 use waff_samples::{ASSIGN_H1_X1, C1, COMPARE_C1_H1_X1, H1, PLAN_H1_X1, PLAN_H1_X1_WORKERS2, X1};
 use waff_tool::{
@@ -72,7 +72,7 @@ fn fails_at_each_byte<R: Threads + Sync + Abort>(
     call: Call,
     text: &str,
     fails: bool,
-) -> Result<(), Fail> {
+) {
     for room in 0..text.len() {
         let mut writer = Narrow {
             room,
@@ -80,29 +80,22 @@ fn fails_at_each_byte<R: Threads + Sync + Abort>(
             fails,
             taken: Vec::new(alloc),
         };
-        let result = write_text(rt, alloc, call, &mut writer);
-        assert_eq!(rt; result.err(), Some(ToolError::Write));
-        assert_eq!(rt; writer.taken.as_slice(), &text.as_bytes()[..room]);
+        let refused = write_text(rt, alloc, call, &mut writer).err();
+        assert!(rt; refused == Some(ToolError::Write), "{room}: {refused:?}");
+        are_same(rt, writer.taken.as_slice(), &text.as_bytes()[..room]);
     }
-    Ok(())
 }
 
 /// A writer with room for the text has to be given the whole, if it takes one byte at once.
-fn is_taken_byte_by_byte<R: Threads + Sync + Abort>(
-    rt: &R,
-    alloc: Global,
-    call: Call,
-    text: &str,
-) -> Result<(), Fail> {
+fn is_taken_byte_by_byte<R: Threads + Sync + Abort>(rt: &R, alloc: Global, call: Call, text: &str) {
     let mut writer = Narrow {
         room: text.len(),
         at_once: 1,
         fails: true,
         taken: Vec::new(alloc),
     };
-    write_text(rt, alloc, call, &mut writer)?;
-    assert_eq!(rt; writer.taken.as_slice(), text.as_bytes());
-    Ok(())
+    write_text(rt, alloc, call, &mut writer).expect(rt, "a text");
+    are_same(rt, writer.taken.as_slice(), text.as_bytes());
 }
 
 /// The calls with the texts that they write for the samples.
@@ -115,13 +108,12 @@ const TEXTS: &[(Call, &str)] = &[
 ];
 
 #[test]
-fn leave_the_part_that_was_taken(rt: HostRuntime) -> Result<(), Fail> {
+fn leave_the_part_that_was_taken(rt: HostRuntime) {
     for (call, text) in TEXTS {
-        fails_at_each_byte(&rt, rt.alloc(), *call, text, true)?;
-        fails_at_each_byte(&rt, rt.alloc(), *call, text, false)?;
-        is_taken_byte_by_byte(&rt, rt.alloc(), *call, text)?;
+        fails_at_each_byte(&rt, rt.alloc(), *call, text, true);
+        fails_at_each_byte(&rt, rt.alloc(), *call, text, false);
+        is_taken_byte_by_byte(&rt, rt.alloc(), *call, text);
     }
-    Ok(())
 }
 
 /// Gives some bytes, a few at once, and then an error.
@@ -144,8 +136,12 @@ impl Read for Breaks {
 
 /// The reader has to fail so at this limit.
 fn fails(rt: &impl Abort, alloc: Global, mut reader: Breaks, limit: u64, fault: ReadFault) {
-    let result = read_whole(alloc, &mut reader, limit);
-    assert!(rt; result.err() == Some(fault));
+    let refused = read_whole(alloc, &mut reader, limit).err();
+    assert!(rt;
+        refused == Some(fault),
+        "{} bytes left: {refused:?}",
+        reader.left
+    );
 }
 
 #[test]
@@ -161,11 +157,6 @@ fn fail_after_any_number_of_bytes(rt: HostRuntime) {
         }
     }
     let (left, at_once) = (3, 3);
-    fails(
-        &rt,
-        rt.alloc(),
-        Breaks { left, at_once },
-        5,
-        ReadFault::Failed,
-    );
+    let breaks = Breaks { left, at_once };
+    fails(&rt, rt.alloc(), breaks, 5, ReadFault::Failed);
 }

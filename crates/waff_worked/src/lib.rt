@@ -17,6 +17,8 @@ mod plan_texts;
 #[cfg(test)]
 mod replay_texts;
 #[cfg(test)]
+mod same;
+#[cfg(test)]
 mod sweeps;
 #[cfg(test)]
 mod texts;

@@ -1,9 +1,9 @@
 //! Plan texts accepted and refused: the unlimited plan of the first trace with one change each.
 
 use crate::changes::changed;
+use crate::same::is_same;
 use std::alloc::Global;
 use std::process::Abort;
-use std::test::Fail;
 use waff_model::Version;
 use waff_plan_text::{GivenPlan, read_plan};
 use waff_samples::{PLAN_H1_X1, PLAN_H1_X2};
@@ -16,11 +16,10 @@ fn is_refused(
     messages: u32,
     text: &[u8],
     wanted: &str,
-) -> Result<(), Fail> {
+) {
     let refusal = read_plan(alloc, version, messages, text).err();
-    let told = format!(in alloc; "{refusal:?}")?;
-    assert_eq!(rt; told.as_str(), wanted);
-    Ok(())
+    let told = format!(in alloc; "{refusal:?}").expect(rt, "words");
+    is_same(rt, told.as_str(), wanted);
 }
 
 /// Parts of the text with what stands in their place, and the refusal.
@@ -63,62 +62,59 @@ const CHANGES: &[(&str, &str, &str)] = &[
 ];
 
 #[test]
-fn are_refused_for_one_change(rt: HostRuntime) -> Result<(), Fail> {
-    let alloc = rt.alloc();
+fn are_refused_for_one_change(rt: HostRuntime) {
     for (part, other, wanted) in CHANGES {
-        let text = changed(alloc, PLAN_H1_X1, part, other)?;
-        is_refused(&rt, alloc, Version::V1, 6, text.as_bytes(), wanted)?;
+        let text = changed(&rt, rt.alloc(), PLAN_H1_X1, part, other);
+        is_refused(&rt, rt.alloc(), Version::V1, 6, text.as_bytes(), wanted);
     }
-    Ok(())
 }
 
 /// A plan of one message in the second version.
-const ONE: &str = "message,affinity,start,finish,worker\n1,A0,10,14,64\nworkers,64\ntotal,4\n\
+const ONE: &[u8] = b"message,affinity,start,finish,worker\n1,A0,10,14,64\nworkers,64\ntotal,4\n\
     length,14\nchain,\nrelease,0\ncost,9\nbound,9,9\n";
 
+/// Plan texts of a version and of so many messages that lack a part, and the refusal.
+const PARTS: &[(Version, u32, &[u8], &str)] = &[
+    (Version::V1, 6, b"", "Some(Header { at: 1 })"),
+    (Version::V1, 6, b"message,\xff\n", "Some(Csv { at: 1 })"),
+    (Version::V1, 1, ONE, "Some(Summary { at: 7 })"),
+];
+
 #[test]
-fn are_refused_without_a_header_or_a_release(rt: HostRuntime) -> Result<(), Fail> {
+fn are_refused_without_a_header_or_a_release(rt: HostRuntime) {
     let alloc = rt.alloc();
-    is_refused(&rt, alloc, Version::V1, 6, b"", "Some(Header { at: 1 })")?;
-    is_refused(
-        &rt,
-        alloc,
-        Version::V1,
-        6,
-        b"message,\xff\n",
-        "Some(Csv { at: 1 })",
-    )?;
-    let told = "Some(Summary { at: 7 })";
-    is_refused(&rt, alloc, Version::V1, 1, ONE.as_bytes(), told)?;
-    let text = changed(alloc, PLAN_H1_X2, "release,10\n", "")?;
+    for (version, messages, text, wanted) in PARTS {
+        is_refused(&rt, alloc, *version, *messages, text, wanted);
+    }
+    let text = changed(&rt, alloc, PLAN_H1_X2, "release,10\n", "");
     let told = "Some(Summary { at: 11 })";
-    is_refused(&rt, alloc, Version::V2, 5, text.as_bytes(), told)
+    is_refused(&rt, alloc, Version::V2, 5, text.as_bytes(), told);
 }
 
 #[test]
-fn are_of_the_version_that_is_asked_for(rt: HostRuntime) -> Result<(), Fail> {
-    let given = read_plan(rt.alloc(), Version::V2, 1, ONE.as_bytes())?;
+fn are_of_the_version_that_is_asked_for(rt: HostRuntime) {
+    let given = read_plan(rt.alloc(), Version::V2, 1, ONE).expect(&rt, "a plan");
     assert!(rt; given.workers() == Some(64));
     assert!(rt; given.version() == Version::V2);
-    Ok(())
+    drop(given);
 }
 
 /// The message has to start and finish at these ticks.
-fn runs(rt: &impl Abort, given: &GivenPlan, message: u32, start: u64, finish: u64) {
+fn runs(rt: &impl Abort, given: &GivenPlan, message: u32, wanted: (u64, u64)) {
     assert!(rt; 1 <= message && message <= given.len());
-    assert!(rt; given.start(message) == start);
-    assert!(rt; given.finish(message) == finish);
+    let found = (given.start(message), given.finish(message));
+    assert!(rt; found == wanted, "{message}: {found:?}");
 }
 
 #[test]
-fn give_their_rows_in_the_order_of_the_messages(rt: HostRuntime) -> Result<(), Fail> {
+fn give_their_rows_in_the_order_of_the_messages(rt: HostRuntime) {
     let rows = ("1,A0,0,4,-\n2,B0,0,3,-\n", "2,B0,0,3,-\n1,A0,0,4,-\n");
-    let text = changed(rt.alloc(), PLAN_H1_X1, rows.0, rows.1)?;
-    let given = read_plan(rt.alloc(), Version::V1, 6, text.as_bytes())?;
+    let text = changed(&rt, rt.alloc(), PLAN_H1_X1, rows.0, rows.1);
+    let given = read_plan(rt.alloc(), Version::V1, 6, text.as_bytes()).expect(&rt, "a plan");
     assert!(rt; given.len() == 6);
     assert!(rt; given.workers().is_none());
-    runs(&rt, &given, 3, 4, 6);
-    runs(&rt, &given, 1, 0, 4);
-    runs(&rt, &given, 6, 7, 9);
-    Ok(())
+    runs(&rt, &given, 3, (4, 6));
+    runs(&rt, &given, 1, (0, 4));
+    runs(&rt, &given, 6, (7, 9));
+    drop(given);
 }

@@ -1,8 +1,8 @@
 //! Sweeps over numbers of workers, and where the time goes.
 
+use crate::same::are_same;
 use std::alloc::Global;
 use std::process::Abort;
-use std::test::Fail;
 use waff_samples::{H1, X1, X2};
 use waff_tool::{sweep_text, where_text};
 
@@ -70,28 +70,25 @@ const WHERE_H1_X1_NAMES: &str = "name,messages,cost,chain\n\
     m6,1,2,2\n";
 
 /// The sweep of the trace has to be this.
-fn is_swept(rt: &impl Abort, alloc: Global, trace: &str, text: &str) -> Result<(), Fail> {
+fn is_swept(rt: &impl Abort, alloc: Global, trace: &str, text: &str) {
     let mut written = Vec::new(alloc);
-    sweep_text(alloc, H1.as_bytes(), trace.as_bytes(), &mut written)?;
-    assert_eq!(rt; written.as_slice(), text.as_bytes());
-    Ok(())
+    sweep_text(alloc, H1.as_bytes(), trace.as_bytes(), &mut written).expect(rt, "a text");
+    are_same(rt, written.as_slice(), text.as_bytes());
 }
 
 #[test]
-fn of_workers(rt: HostRuntime) -> Result<(), Fail> {
-    let alloc = rt.alloc();
-    is_swept(&rt, alloc, X1, SWEEP_H1_X1)?;
-    is_swept(&rt, alloc, X2, SWEEP_H1_X2)?;
-    is_swept(&rt, alloc, "message,cost,ops\n", SWEEP_OF_NONE)
+fn of_workers(rt: HostRuntime) {
+    is_swept(&rt, rt.alloc(), X1, SWEEP_H1_X1);
+    is_swept(&rt, rt.alloc(), X2, SWEEP_H1_X2);
+    is_swept(&rt, rt.alloc(), "message,cost,ops\n", SWEEP_OF_NONE);
 }
 
 #[test]
-fn of_places(rt: HostRuntime) -> Result<(), Fail> {
-    let alloc = rt.alloc();
+fn of_places(rt: HostRuntime) {
+    let (hierarchy, trace) = (H1.as_bytes(), X1.as_bytes());
     for (by_name, text) in [(false, WHERE_H1_X1), (true, WHERE_H1_X1_NAMES)] {
-        let mut written = Vec::new(alloc);
-        where_text(alloc, H1.as_bytes(), X1.as_bytes(), by_name, &mut written)?;
-        assert_eq!(rt; written.as_slice(), text.as_bytes());
+        let mut written = Vec::new(rt.alloc());
+        where_text(rt.alloc(), hierarchy, trace, by_name, &mut written).expect(&rt, "a text");
+        are_same(&rt, written.as_slice(), text.as_bytes());
     }
-    Ok(())
 }

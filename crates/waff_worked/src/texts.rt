@@ -1,33 +1,30 @@
 //! Texts of the commands, from bytes to bytes.
 
+use crate::same::are_same;
 use std::alloc::Global;
 use std::process::Abort;
-use std::test::Fail;
 use waff_samples::{ASSIGN_H1_X1, H1, PLAN_H1_HEADER_ALONE, PLAN_H1_X1, PLAN_H1_X2, X1, X2};
 use waff_tool::{ReadFault, assign_text, plan_text, read_whole};
 
 /// The text of the unlimited plan has to be this.
-fn is_planned(rt: &impl Abort, alloc: Global, trace: &str, text: &str) -> Result<(), Fail> {
+fn is_planned(rt: &impl Abort, alloc: Global, trace: &str, text: &str) {
     let mut written = Vec::new(alloc);
-    plan_text(alloc, H1.as_bytes(), trace.as_bytes(), None, &mut written)?;
-    assert_eq!(rt; written.as_slice(), text.as_bytes());
-    Ok(())
+    plan_text(alloc, H1.as_bytes(), trace.as_bytes(), None, &mut written).expect(rt, "a text");
+    are_same(rt, written.as_slice(), text.as_bytes());
 }
 
 #[test]
-fn of_plans(rt: HostRuntime) -> Result<(), Fail> {
-    let alloc = rt.alloc();
-    is_planned(&rt, alloc, X1, PLAN_H1_X1)?;
-    is_planned(&rt, alloc, "message,cost,ops\n", PLAN_H1_HEADER_ALONE)?;
-    is_planned(&rt, alloc, X2, PLAN_H1_X2)
+fn of_plans(rt: HostRuntime) {
+    is_planned(&rt, rt.alloc(), X1, PLAN_H1_X1);
+    is_planned(&rt, rt.alloc(), "message,cost,ops\n", PLAN_H1_HEADER_ALONE);
+    is_planned(&rt, rt.alloc(), X2, PLAN_H1_X2);
 }
 
 #[test]
-fn of_affinities(rt: HostRuntime) -> Result<(), Fail> {
+fn of_affinities(rt: HostRuntime) {
     let mut written = Vec::new(rt.alloc());
-    assign_text(rt.alloc(), H1.as_bytes(), X1.as_bytes(), &mut written)?;
-    assert_eq!(rt; written.as_slice(), ASSIGN_H1_X1.as_bytes());
-    Ok(())
+    assign_text(rt.alloc(), H1.as_bytes(), X1.as_bytes(), &mut written).expect(&rt, "a text");
+    are_same(&rt, written.as_slice(), ASSIGN_H1_X1.as_bytes());
 }
 
 /// Bytes read whole within the limit have to be all of them, and beyond it to be too many.

@@ -1,9 +1,9 @@
 //! Verdicts on plans under the hierarchical sample.
 
 use crate::changes::changed;
+use crate::same::{are_same, is_same};
 use std::alloc::Global;
 use std::process::Abort;
-use std::test::Fail;
 use std::thread::Threads;
 use waff_samples::{H1, PLAN_H1_HEADER_ALONE, PLAN_H1_X1, PLAN_H1_X1_WORKERS2, PLAN_H1_X2, X1, X2};
 use waff_tool::{check_text, verdict_status};
@@ -15,14 +15,16 @@ fn is_found<R: Threads + Sync + Abort>(
     trace: &str,
     plan: &str,
     wanted: (&str, &str),
-) -> Result<(), Fail> {
+) {
     let (trace, plan) = (trace.as_bytes(), plan.as_bytes());
     let mut written = Vec::new(alloc);
-    let verdict = check_text(rt, alloc, H1.as_bytes(), trace, plan, &mut written)?;
-    let told = format!(in alloc; "{} {verdict:?}", verdict_status(&verdict))?;
-    assert_eq!(rt; told.as_str(), wanted.0);
-    assert_eq!(rt; written.as_slice(), wanted.1.as_bytes());
-    Ok(())
+    let verdict = check_text(rt, alloc, H1.as_bytes(), trace, plan, &mut written).expect(
+        rt,
+        "a verdict",
+    );
+    let told = format!(in alloc; "{} {verdict:?}", verdict_status(&verdict)).expect(rt, "words");
+    is_same(rt, told.as_str(), wanted.0);
+    are_same(rt, written.as_slice(), wanted.1.as_bytes());
 }
 
 /// A trace with a plan, a part of the plan and what stands in its place, the exit status with the
@@ -123,11 +125,9 @@ const CASES: &[(&str, &str, [&str; 2], (&str, &str))] = &[
 const NONE: &str = "message,cost,ops\n";
 
 #[test]
-fn on_the_samples_and_their_plans_with_one_change(rt: HostRuntime) -> Result<(), Fail> {
-    let alloc = rt.alloc();
+fn on_the_samples_and_their_plans_with_one_change(rt: HostRuntime) {
     for (trace, plan, [part, other], wanted) in CASES {
-        let plan = changed(alloc, plan, part, other)?;
-        is_found(&rt, alloc, trace, plan.as_str(), *wanted)?;
+        let plan = changed(&rt, rt.alloc(), plan, part, other);
+        is_found(&rt, rt.alloc(), trace, plan.as_str(), *wanted);
     }
-    Ok(())
 }

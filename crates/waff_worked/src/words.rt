@@ -1,10 +1,10 @@
 //! Numbers in words.
 
+use std::alloc::AllocError;
 use std::fmt::Write;
-use std::test::Fail;
 
 /// Appends the numbers, each after a space.
-pub fn push_numbers(words: &mut String, numbers: &[u32]) -> Result<(), Fail> {
+pub fn push_numbers(words: &mut String, numbers: &[u32]) -> Result<(), AllocError> {
     for number in numbers {
         write!(words, " {number}")?;
     }

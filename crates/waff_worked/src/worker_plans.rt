@@ -3,15 +3,14 @@
 ghost use Rattle.std.specs.Prelude.{◌≤◌};
 ghost use Rattle.waff_model.specs.declared.limits.TheConstants.{MAX_WORKERS};
 
+use crate::same::{are_same, is_same};
 use crate::words::push_numbers;
 use std::alloc::{AllocError, Global};
 use std::fmt::Write;
 use std::process::Abort;
-use std::test::Fail;
 use waff_assign::assign;
 use waff_list::{WorkerPlan, list_chain, list_plan};
 use waff_model::limits::MAX_TICK;
-use waff_model::{Layout, Trace};
 use waff_order::Needs;
 use waff_order::predecessors::needs;
 use waff_plan::{Chain, Plan};
@@ -20,57 +19,30 @@ use waff_samples::{H1, PLAN_H1_X1_WORKERS2, X1, X2};
 use waff_tool::plan_text;
 
 /// The text of the plan for k workers has to be this.
-fn has_text(rt: &impl Abort, alloc: Global, trace: &str, k: u32, text: &str) -> Result<(), Fail>
+fn has_text(rt: &impl Abort, alloc: Global, trace: &str, k: u32, text: &str)
     requires some { 1 ≤ k }
     requires few { k ≤ MAX_WORKERS }
 {
     let (hierarchy, trace) = (H1.as_bytes(), trace.as_bytes());
     let mut written = Vec::new(alloc);
-    plan_text(alloc, hierarchy, trace, Some(k), &mut written)?;
-    assert_eq!(rt; written.as_slice(), text.as_bytes());
-    Ok(())
-}
-
-/// The plan for k workers and its chain, of a trace that has to be one for the layout.
-fn made(
-    rt: &impl Abort,
-    alloc: Global,
-    layout: &Layout,
-    trace: &Trace,
-    k: u32,
-) -> Result<(WorkerPlan, Chain), AllocError>
-    requires some { 1 ≤ k }
-    requires few { k ≤ MAX_WORKERS }
-{
-    assert!(rt; trace.fits(layout));
-    let assigned = assign(alloc, layout, trace)?;
-    let needs = needs(alloc, layout.tree(), &assigned)?;
-    let made = list_plan(alloc, &needs, trace, k)?;
-    let chain = list_chain(alloc, layout.tree(), &assigned, &made)?;
-    Ok((made, chain))
-}
-
-/// The plan of a trace for k workers under the hierarchical sample, and its chain.
-fn listed(rt: &impl Abort, alloc: Global, trace: &str, k: u32) -> Result<(WorkerPlan, Chain), Fail>
-    requires some { 1 ≤ k }
-    requires few { k ≤ MAX_WORKERS }
-{
-    let layout = read_hierarchy(alloc, H1.as_bytes())?;
-    let trace = read_trace(alloc, &layout, trace.as_bytes())?;
-    Ok(made(rt, alloc, &layout, &trace, k)?)
+    plan_text(alloc, hierarchy, trace, Some(k), &mut written).expect(rt, "a text");
+    are_same(rt, written.as_slice(), text.as_bytes());
 }
 
 /// What is told of a plan: starts, workers, order, length, and the chain with its cost and release.
-fn told(alloc: Global, made: &WorkerPlan, chain: &Chain) -> Result<String, Fail> {
+fn told(alloc: Global, made: &WorkerPlan, chain: &Chain) -> Result<String, AllocError> {
     let mut told = String::new(alloc);
     push_starts(&mut told, made)?;
     push_workers(&mut told, made)?;
-    push_order(&mut told, made)?;
-    push_chain(&mut told, chain)?;
+    told.push_str(" order")?;
+    push_numbers(&mut told, made.order())?;
+    write!(told, " length {} chain", made.plan().length())?;
+    push_numbers(&mut told, chain.messages())?;
+    write!(told, " cost {} release {}", chain.cost(), chain.release())?;
     Ok(told)
 }
 
-fn push_starts(told: &mut String, made: &WorkerPlan) -> Result<(), Fail> {
+fn push_starts(told: &mut String, made: &WorkerPlan) -> Result<(), AllocError> {
     told.push_str("starts")?;
     for n in 1..made.plan().len() + 1 {
         write!(told, " {}", made.plan().start(n))?;
@@ -78,7 +50,7 @@ fn push_starts(told: &mut String, made: &WorkerPlan) -> Result<(), Fail> {
     Ok(())
 }
 
-fn push_workers(told: &mut String, made: &WorkerPlan) -> Result<(), Fail> {
+fn push_workers(told: &mut String, made: &WorkerPlan) -> Result<(), AllocError> {
     told.push_str(" workers")?;
     for n in 1..made.plan().len() + 1 {
         write!(told, " {}", made.worker(n))?;
@@ -86,29 +58,26 @@ fn push_workers(told: &mut String, made: &WorkerPlan) -> Result<(), Fail> {
     Ok(())
 }
 
-fn push_order(told: &mut String, made: &WorkerPlan) -> Result<(), Fail> {
-    told.push_str(" order")?;
-    push_numbers(told, made.order())?;
-    write!(told, " length {}", made.plan().length())?;
-    Ok(())
-}
-
-fn push_chain(told: &mut String, chain: &Chain) -> Result<(), Fail> {
-    told.push_str(" chain")?;
-    push_numbers(told, chain.messages())?;
-    write!(told, " cost {} release {}", chain.cost(), chain.release())?;
-    Ok(())
-}
-
-/// The plan for k workers has to be told so.
-fn is_told(rt: &impl Abort, alloc: Global, trace: &str, k: u32, wanted: &str) -> Result<(), Fail>
+/// The plan of a trace for k workers under the hierarchical sample has to be told so, with its
+/// chain.
+fn is_told(rt: &impl Abort, alloc: Global, trace: &str, k: u32, wanted: &str)
     requires some { 1 ≤ k }
     requires few { k ≤ MAX_WORKERS }
 {
-    let (made, chain) = listed(rt, alloc, trace, k)?;
-    let told = told(alloc, &made, &chain)?;
-    assert_eq!(rt; told.as_str(), wanted);
-    Ok(())
+    let layout = read_hierarchy(alloc, H1.as_bytes()).expect(rt, "a hierarchy");
+    let trace = read_trace(alloc, &layout, trace.as_bytes()).expect(rt, "a trace");
+    let assigned = assign(alloc, &layout, &trace).expect(rt, "affinities");
+    let needs = needs(alloc, layout.tree(), &assigned).expect(rt, "needs");
+    let made = list_plan(alloc, &needs, &trace, k).expect(rt, "a plan");
+    let chain = list_chain(alloc, layout.tree(), &assigned, &made).expect(rt, "a chain");
+    let told = told(alloc, &made, &chain).expect(rt, "words");
+    is_same(rt, told.as_str(), wanted);
+    drop(made);
+    drop(chain);
+    drop(assigned);
+    drop(needs);
+    drop(trace);
+    drop(layout);
 }
 
 const AS_LONG_AS_THE_BOUND: &str =
@@ -166,37 +135,29 @@ const CASES: &[(&str, u32, &str, &str)] = &[
 ];
 
 #[test]
-fn are_as_worked_by_hand(rt: HostRuntime) -> Result<(), Fail> {
+fn are_as_worked_by_hand(rt: HostRuntime) {
     for (trace, k, wanted, text) in CASES {
         let k = *k;
         assert!(rt; 1 <= k && k <= 64);
-        is_told(&rt, rt.alloc(), trace, k, wanted)?;
-        has_text(&rt, rt.alloc(), trace, k, text)?;
+        is_told(&rt, rt.alloc(), trace, k, wanted);
+        has_text(&rt, rt.alloc(), trace, k, text);
     }
-    Ok(())
-}
-
-/// The needs of the messages of a trace that has to be one for the layout.
-fn needs_of(
-    rt: &impl Abort,
-    alloc: Global,
-    layout: &Layout,
-    trace: &Trace,
-) -> Result<Needs, AllocError> {
-    assert!(rt; trace.fits(layout));
-    let assigned = assign(alloc, layout, trace)?;
-    needs(alloc, layout.tree(), &assigned)
 }
 
 /// The needs of the messages of a trace under the hierarchical sample.
-fn needed(rt: &impl Abort, alloc: Global, trace: &str) -> Result<Needs, Fail> {
-    let layout = read_hierarchy(alloc, H1.as_bytes())?;
-    let trace = read_trace(alloc, &layout, trace.as_bytes())?;
-    Ok(needs_of(rt, alloc, &layout, &trace)?)
+fn needed(rt: &impl Abort, alloc: Global, trace: &str) -> Needs {
+    let layout = read_hierarchy(alloc, H1.as_bytes()).expect(rt, "a hierarchy");
+    let trace = read_trace(alloc, &layout, trace.as_bytes()).expect(rt, "a trace");
+    let assigned = assign(alloc, &layout, &trace).expect(rt, "affinities");
+    let needs = needs(alloc, layout.tree(), &assigned).expect(rt, "needs");
+    drop(assigned);
+    drop(trace);
+    drop(layout);
+    needs
 }
 
 /// The needs of each message.
-fn listed_needs(alloc: Global, needs: &Needs) -> Result<String, Fail> {
+fn listed_needs(alloc: Global, needs: &Needs) -> Result<String, AllocError> {
     let mut words = String::new(alloc);
     for n in 1..needs.len() + 1 {
         write!(words, "{n}:")?;
@@ -207,11 +168,11 @@ fn listed_needs(alloc: Global, needs: &Needs) -> Result<String, Fail> {
 }
 
 #[test]
-fn wait_for_their_needs(rt: HostRuntime) -> Result<(), Fail> {
-    let needs = needed(&rt, rt.alloc(), X1)?;
-    let words = listed_needs(rt.alloc(), &needs)?;
-    assert_eq!(rt; words.as_str(), "1:\n2:\n3: 1\n4:\n5: 2 3 4\n6: 5\n");
-    Ok(())
+fn wait_for_their_needs(rt: HostRuntime) {
+    let needs = needed(&rt, rt.alloc(), X1);
+    let words = listed_needs(rt.alloc(), &needs).expect(&rt, "words");
+    is_same(&rt, words.as_str(), "1:\n2:\n3: 1\n4:\n5: 2 3 4\n6: 5\n");
+    drop(needs);
 }
 
 /// A trace of two messages of two volumes, so many times.
@@ -233,26 +194,13 @@ fn count(alloc: Global, needs: &Needs) -> Result<usize, AllocError> {
 }
 
 #[test]
-fn wait_for_few_of_many(rt: HostRuntime) -> Result<(), Fail> {
-    let trace = turns(rt.alloc(), 2048)?;
-    let needs = needed(&rt, rt.alloc(), trace.as_str())?;
+fn wait_for_few_of_many(rt: HostRuntime) {
+    let trace = turns(rt.alloc(), 2048).expect(&rt, "a trace");
+    let needs = needed(&rt, rt.alloc(), trace.as_str());
     assert!(rt; needs.len() == 4096);
-    let count = count(rt.alloc(), &needs)?;
+    let count = count(rt.alloc(), &needs).expect(&rt, "needs");
     assert!(rt; count <= 12288, "there are {count} needs");
-    Ok(())
-}
-
-/// The length and the total of the plan of a trace in which the messages start at these ticks.
-fn of_starts(
-    rt: &impl Abort,
-    alloc: Global,
-    trace: &Trace,
-    starts: &[u64],
-) -> Result<(u64, u64), AllocError> {
-    assert!(rt; trace.len() as usize == starts.len());
-    assert!(rt; starts.iter().all(|start| *start <= MAX_TICK));
-    let plan = Plan::of_starts(alloc, trace, starts)?;
-    Ok((plan.length(), plan.total()))
+    drop(needs);
 }
 
 /// Traces with starts, and the length and the total.
@@ -261,12 +209,24 @@ const STARTS: &[(&str, &[u64], (u64, u64))] = &[
     (AS_LONG_AS_THE_BOUND, &[0, 1, 0], (2, 4)),
 ];
 
+/// The plan of a trace in which the messages start at these ticks has to have this length and this
+/// total.
+fn is_as_long(rt: &impl Abort, alloc: Global, trace: &str, starts: &[u64], wanted: (u64, u64)) {
+    let layout = read_hierarchy(alloc, H1.as_bytes()).expect(rt, "a hierarchy");
+    let trace = read_trace(alloc, &layout, trace.as_bytes()).expect(rt, "a trace");
+    assert!(rt; trace.len() as usize == starts.len());
+    assert!(rt; starts.iter().all(|start| *start <= MAX_TICK));
+    let plan = Plan::of_starts(alloc, &trace, starts).expect(rt, "a plan");
+    let found = (plan.length(), plan.total());
+    assert!(rt; found == wanted, "{starts:?}: {found:?}");
+    drop(plan);
+    drop(trace);
+    drop(layout);
+}
+
 #[test]
-fn are_as_long_as_their_starts_say(rt: HostRuntime) -> Result<(), Fail> {
-    let layout = read_hierarchy(rt.alloc(), H1.as_bytes())?;
+fn are_as_long_as_their_starts_say(rt: HostRuntime) {
     for (trace, starts, wanted) in STARTS {
-        let trace = read_trace(rt.alloc(), &layout, trace.as_bytes())?;
-        assert!(rt; of_starts(&rt, rt.alloc(), &trace, starts)? == *wanted);
+        is_as_long(&rt, rt.alloc(), trace, starts, *wanted);
     }
-    Ok(())
 }
