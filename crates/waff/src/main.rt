@@ -1,7 +1,7 @@
 //! The program `waff`: its words, its files, what it prints and its exit status.
 //!
 //! - `words`: the words of the command line, and `help`: what their help ends with; `files`: files
-//! and standard input, read whole.
+//!   and standard input, read whole.
 //! - `failure`: why it ends with another status than 0, and what it says then.
 //!
 //! The texts are those of the library `waff_tool`.

@@ -4,7 +4,7 @@
 //! above one another exclude each other, and the earlier runs first: that order of pairs is what
 //! all crates above plan, check and replay by.
 //! - `footprints`: the footprint of a message; `covering`: the lowest affinity at or above all of
-//! it.
+//!   it.
 //! - `assignment`: the affinities of all messages, `assigned`.
 //! - `order`: whether two messages are an ordered pair.
 //! - `unique`: that one footprint has one lowest affinity, and one trace one assignment.

@@ -6,11 +6,11 @@
 //! begin, `Grant`, run, `Finished`, finish, `Seat`; at the end `EndSeat`, until it has seen all
 //! messages done, and close. From draw to the end nothing takes memory or waits.
 //! - `law`: the rule between any two steps; `plays`: the kinds of steps; `view`, `hand`: what a
-//! seat knows and holds.
+//!   seat knows and holds.
 //! - `board`, `opening`: the board, and making it with its seats; `tokens`: what the calls take and
-//! give.
+//!   give.
 //! - `drawing`, `clearing`, `running`, `ending`, `closing`: the calls, in their order; `reading`:
-//! what a token tells.
+//!   what a token tells.
 //! - `laws`: what holds between any two steps, whichever threads make them.
 //!
 //! At most 16 seats. The words that contracts cite stand in `specs/`: `Views`, `Shows` and `Rule`

@@ -4,11 +4,11 @@
 //! row of the cells that one affinity owns, in the order of cells.
 //! - `state`: the state of all cells, which messages run on one after another.
 //! - `held`: operations on rows that hold the cells of some addresses; `parcels`: on the parcels of
-//! some affinities.
+//!   some affinities.
 //! - `row_op`, `rows`: operations that name addresses in place of cells, and their run.
 //! - `gather`: the state whose cells lie in parcels.
 //! - `laws`: that what a message leaves in the cells that it names depends on these cells alone,
-//! and leaves all others.
+//!   and leaves all others.
 #![tactic(auto)]
 
 mod gather;

@@ -2,8 +2,7 @@
 //!
 //! - `verdict`: what a check finds.
 //! - `overlap`, `crowd`, `worker`, `told`, `totals`, `links`: one kind of fault each; `shifts`:
-//! whether any worker is wrong;
-//!   `ticks`: whether a tick is crowded.
+//!   whether any worker is wrong; `ticks`: whether a tick is crowded.
 //! - `checking`: the check, over all kinds.
 //! - `own`, `unique`: laws of verdicts.
 #![tactic(auto)]

@@ -30,8 +30,8 @@ use waff_model::{Layout, Op, Trace};
 use waff_order::Needs;
 
 /// What is replayed: the messages of a trace under a layout, with their affinities, their needs and
-/// the owners of their
-/// footprints, in the order in which they are handed out. Messages are numbered from 1.
+/// the owners of their footprints, in the order in which they are handed out. Messages are numbered
+/// from 1.
 #[derive(Drop)]
 pub struct Job {
     layout: Layout,

@@ -60,8 +60,7 @@ pub fn running_do_not_exclude()
 {}
 
 /// A parcel that is away is with one running message, and when a message may begin the parcels of
-/// its
-/// footprint's owners are home.
+/// its footprint's owners are home.
 pub fn parcels_are_with_one()
     ensures away { (job : JobValue) → IsJob job → AwayWithOne job }
     ensures home { (job : JobValue) → IsJob job → BeginsAtHome job }

@@ -5,7 +5,7 @@
 //! ends it. The machine is pure: no thread is in it. What the crates above rest on: whatever list
 //! of events it accepts, each cell has the value that the order of arrival gives it.
 //! - `job`, `order`, `refusal`: jobs, and why they are refused; `lists`, `operations`, `owners`,
-//! `row_ops`: what a step reads, kept flat.
+//!   `row_ops`: what a step reads, kept flat.
 //! - `event`, `phase`, `status`, `homes`: the parts of a state; `core_state`: the whole.
 //! - `steps`, `run`: one event, and lists of them.
 //! - `laws`: what holds of the machine, whoever runs it.

@@ -3,9 +3,9 @@
 //!
 //! - `ratio`: ratios as they are printed.
 //! - `figures`: what is told of one plan; `sweep`: of the plans for 1 to 64 workers, and their
-//! text.
+//!   text.
 //! - `tally`: what is told of some of the messages; `below`: costs summed up the tree; `names`: the
-//! distinct names.
+//!   distinct names.
 //! - `by_affinity`, `by_name`: the texts of these.
 #![tactic(auto)]
 

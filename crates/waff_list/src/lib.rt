@@ -5,10 +5,10 @@
 //! release and the cost of its printed chain.
 //! - `list`: the plan and its printed chain; `worker_plan`: plans for k workers.
 //! - `planner`, over `progress` (the plan while it is made), `candidates` (messages that may be
-//! ready), `dependents` (the
-//!   messages that need each message), `releases` and `ticks` (when something happens).
+//!   ready), `dependents` (the messages that need each message), `releases` and `ticks` (when
+//!   something happens).
 //! - `laws`: the bound, and that needs make the same plans as all pairs; `unique`: that there is
-//! one list plan.
+//!   one list plan.
 #![tactic(auto)]
 
 mod candidates;

@@ -2,14 +2,13 @@
 //!
 //! What all other crates speak of, with its limits; nothing is read, planned or run here.
 //! - `tree`, over `nodes` (found by number and by name) and `places` (in preorder): affinities,
-//! each below its parent.
+//!   each below its parent.
 //! - `layout`, over `layout_rows` (what it is made of, and why that is refused) and `space`: which
-//! affinity owns each cell;
-//!   `parcels`: where a cell stands among the cells of its owner.
+//!   affinity owns each cell; `parcels`: where a cell stands among the cells of its owner.
 //! - `trace`, `message`, `op`: messages with their costs, releases (in ticks) and operations on
-//! cells.
+//!   cells.
 //! - `cell`, `kind`, `name`, `texts`: the small parts; `limits`: the limits of hierarchies, traces
-//! and plans.
+//!   and plans.
 //! - `laws`: what holds of the parcels of all layouts.
 //!
 //! Affinities and spaces are numbered from 0, messages from 1, in the order in which they are

@@ -4,10 +4,9 @@
 //! them lead to all earlier messages that exclude it: whoever waits for the needs waits for all,
 //! and there are few of them.
 //! - `predecessors`: the needs, found with `opened` and `latest`, tables by the places of
-//! affinities in preorder; `lists`: their
-//!   lists.
+//!   affinities in preorder; `lists`: their lists.
 //! - `refinement`: whether all pairs that one hierarchy orders are ordered by another one, with
-//! `lowests`.
+//!   `lowests`.
 #![tactic(auto)]
 
 mod latest;

@@ -7,9 +7,9 @@
 //! - `timing`, `timetable`: costs and releases; plans.
 //! - `unlimited`, over `least` and `latest`: the unlimited plan.
 //! - `table`, over `spread` and `standing`: the latest message that excludes another, by places in
-//! preorder.
+//!   preorder.
 //! - `printed`, over `links` and `linked`: the printed chain; `totals`: what the summary of a plan
-//! tells.
+//!   tells.
 //! - `ordered`: whether a plan keeps the order of the messages.
 //! - `laws`: what holds of all plans; `unique`: that the definitions leave no choice.
 #![tactic(auto)]

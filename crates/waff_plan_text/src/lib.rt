@@ -10,7 +10,7 @@
 //! Reading:
 //! - `refusal`: why a text is refused.
 //! - `records`: its records, one after the other; `field`, `row`, `lines`: by kind; `slots`: the
-//! rows so far.
+//!   rows so far.
 //! - `summary`, `closing`: the lines of the summary.
 //! - `given`: the plan that a text gives.
 //! - `reading`: the reader, over all records.

@@ -1,14 +1,13 @@
 //! The readers of hierarchies and traces.
 //!
 //! - `hierarchy`: the reader of hierarchies, over `document` (the values of a TOML document),
-//! `shape` (the keys and their
-//! types), `affinities` (the tree) and `spaces` (the rows of a layout); `hier_error` has what it
-//! refuses.
+//!   `shape` (the keys and their types), `affinities` (the tree) and `spaces` (the rows of a
+//!   layout); `hier_error` has what it refuses.
 //! - `trace`: the reader of traces, over `message` (one record), `ops` (the operations of a
-//! message), `op` (one operation), `beginnings` (what a text without a fault begins with)
-//!   and `space_table` (the spaces by name); `trace_fault` has what it refuses.
+//!   message), `op` (one operation), `beginnings` (what a text without a fault begins with) and
+//!   `space_table` (the spaces by name); `trace_fault` has what it refuses.
 //! - `laws`: what holds of all files that are accepted or refused; `limit_laws`: that what is read
-//! is within the limits.
+//!   is within the limits.
 //!
 //! What the files stand for is defined in `specs/`. Of a hierarchy: `Hierarchies` (whole files),
 //! over `Documents`, `Shapes`, `Affinities` and `Spaces`. Of a trace: `Traces` (whole texts), over

@@ -1,8 +1,8 @@
 //! The commands that tell of a trace under a hierarchy: assign, plan, compare, sweep and where.
 //!
 //! The nouns: the *text* of a command is lines of fields, defined of the bytes of its files by one
-//! record in `specs/`; a plan is told with its printed chain as its *certificate*.
-//! The one step: the files are accepted, the text is made of them, and then it is written.
+//! record in `specs/`; a plan is told with its printed chain as its *certificate*. The one step:
+//! the files are accepted, the text is made of them, and then it is written.
 //!
 //! - `assigns` (assign), `plans` (plan), `comparison` (compare, over `measures`), `sweeps` (sweep)
 //!   and `wheres` (where): a command each.

@@ -1,5 +1,5 @@
-//! The commands, from the bytes of files to the bytes of a text: each has one record in `specs/`
-//! of its crate that says what its text is.
+//! The commands, from the bytes of files to the bytes of a text: each has one record in `specs/` of
+//! its crate that says what its text is.
 //!
 //! The whole text is made before the first byte is written, so a refusal leaves nothing written,
 //! and a writer that fails has taken a prefix of it.

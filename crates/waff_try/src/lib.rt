@@ -1,9 +1,9 @@
 //! The commands that try a plan out: check, draw and replay.
 //!
 //! The nouns: a plan text that is handed in has a *verdict* and a *picture*, whether or not the
-//! plan obeys; a trace that is replayed in the order of a list plan leaves a *state*.
-//! The one step: the files are accepted, the verdict, the picture or the state is made of them, and
-//! then its text is written.
+//! plan obeys; a trace that is replayed in the order of a list plan leaves a *state*. The one step:
+//! the files are accepted, the verdict, the picture or the state is made of them, and then its text
+//! is written.
 //!
 //! - `checks` (check, over `verdict_line`), `draws` (draw) and `replays` (replay, over
 //!   `state_text`): a command each.
