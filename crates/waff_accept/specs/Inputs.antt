@@ -36,3 +36,9 @@ Refuses hierarchy_file trace_file tool.SpacesDiffer = ⊥
 Refuses hierarchy_file trace_file tool.ModelsSame = ⊥
 Refuses hierarchy_file trace_file tool.Write = Unit {0}
 Refuses hierarchy_file trace_file tool.Memory = Unit {0}
+
+-- an error that tells of the files: neither want of memory nor a writer's fault
+abbrev pub TellsOfFiles : ToolError → Type 0
+TellsOfFiles tool.Memory = ⊥
+TellsOfFiles tool.Write = ⊥
+TellsOfFiles error = Unit {0}

@@ -1,3 +1,4 @@
 pub mod Fault
 pub mod Inputs
 pub mod ToolErrors
+pub mod Unique

@@ -9,6 +9,7 @@
 //! - `inputs`: a hierarchy by its number; a hierarchy and a trace with the affinities.
 //! - `fault`, `fault_names`: faults, their lines and statuses.
 //! - `output`: a text written.
+//! - `unique`: one fault for each input.
 //!
 //! What each text is, the commands say; plan texts are read by those that take one. The limits of
 //! files are those of their readers, and want of memory is one fault wherever it comes from.
@@ -18,6 +19,7 @@ mod fault;
 mod fault_names;
 mod inputs;
 mod output;
+pub mod unique;
 
 pub use fault::{ToolError, fault_status, fault_text};
 pub use inputs::{Accepted, accept, read_numbered};

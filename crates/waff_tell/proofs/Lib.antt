@@ -2,4 +2,5 @@ pub mod CertificateLemmas
 mod ComparisonLemmas
 mod FigureUniqueness
 mod LineLaws
+mod Refusals
 mod Uniqueness

@@ -167,13 +167,16 @@ compared_is_one classical hierarchical trace k text other tree fine_tree runs p 
     ∙ sym q.lines
 
 -- two files are a classical and a hierarchical hierarchy in one way
-apart : (one other : Hierarchy) → one.kind ≡ kind.Classical → other.kind ≡ kind.Hierarchical → one ≡ other → ⊥
-apart one other is_classical is_hierarchical same =
-    let kinds : one.kind ≡ other.kind = ap (λ (l : Hierarchy). l.kind) same in
+pub of_kinds : (one other : Hierarchy) → one.kind ≡ kind.Classical → other.kind ≡ kind.Hierarchical → one.kind ≡ other.kind → ⊥
+of_kinds one other is_classical is_hierarchical kinds =
     let equal : kind.Classical ≡ kind.Hierarchical = sym is_classical ∙ kinds ∙ is_hierarchical in
     cc
 
-same_models : (first second : List ℕ) (classical hierarchical coarse fine : Hierarchy) → AreModels first second classical hierarchical
+apart : (one other : Hierarchy) → one.kind ≡ kind.Classical → other.kind ≡ kind.Hierarchical → one ≡ other → ⊥
+apart one other is_classical is_hierarchical same =
+    of_kinds one other is_classical is_hierarchical (ap (λ (l : Hierarchy). l.kind) same)
+
+pub same_models : (first second : List ℕ) (classical hierarchical coarse fine : Hierarchy) → AreModels first second classical hierarchical
     → AreModels first second coarse fine → (classical ≡ coarse) × (hierarchical ≡ fine)
 same_models first second classical hierarchical coarse fine p q = elim p.files [
   | inl (one, two) ↦ elim q.files [

@@ -6,7 +6,7 @@
 //!
 //! - `assigns` (assign), `plans` (plan), `comparison` (compare, over `measures`), `sweeps` (sweep)
 //!   and `wheres` (where): a command each.
-//! - `unique`, and the laws of `sweeps` and `wheres`: one text for each input.
+//! - `unique`, and the laws of `sweeps` and `wheres`: one text or one fault for each input.
 //!
 //! The whole text is made before the first byte is written, so a refusal leaves nothing written.
 //! Plans are the planner's own here: those that are handed in, and replays, are waff_try's.

@@ -1,7 +1,9 @@
-//! One text for each input. Each law is a function that does nothing and whose contract is the law.
+//! One text or one fault for each input. Each law is a function that does nothing and whose contract
+//! is the law.
 
 ghost use Rattle.std.specs.Prelude.{ℕ, List, Option};
-ghost use Rattle.waff_tell.specs.Unique.{AssignTextIsOne, CompareTextIsOne, PlanTextIsOne};
+ghost use Rattle.waff_tell.specs.Unique.{AssignTextIsOne, CompareTextIsOne, ComparedIsNotRefused};
+ghost use Rattle.waff_tell.specs.Unique.{ComparisonRefusalIsOne, PlanTextIsOne};
 
 /// The text of the affinities of a hierarchy and a trace is one.
 pub fn assign_text_is_one()
@@ -19,4 +21,16 @@ pub fn plan_text_is_one()
 pub fn compare_text_is_one()
     ensures equal { (first_file second_file trace_file : List ℕ) (k : ℕ)
         → CompareTextIsOne first_file second_file trace_file k }
+{}
+
+/// The error that tells why two hierarchies and a trace are refused is one.
+pub fn comparison_refusal_is_one()
+    ensures equal { (first_file second_file trace_file : List ℕ)
+        → ComparisonRefusalIsOne first_file second_file trace_file }
+{}
+
+/// Files that are compared are not refused, but for want of memory or a writer's fault.
+pub fn compared_is_not_refused()
+    ensures none { (first_file second_file trace_file : List ℕ)
+        → ComparedIsNotRefused first_file second_file trace_file }
 {}

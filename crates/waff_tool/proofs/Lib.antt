@@ -1,1 +1,2 @@
+mod ExplainedLaws
 mod OwnPlanLaws

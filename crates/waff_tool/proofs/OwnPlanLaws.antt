@@ -54,7 +54,7 @@ use Rattle.waff_check.proofs.OwnLaws.{own_plan_is_shortest, own_plan_is_within_b
 use Rattle.waff_check.proofs.PromiseLaws as promise
 use Rattle.waff_try.specs.CheckText.{IsCheckText}
 use Rattle.waff_accept.specs.Inputs as inputs
-use Rattle.waff_tell.specs.PlanText.{IsPlanText, IsWorkerPlanText, work_in}
+use Rattle.waff_tell.specs.PlanText.{work_in}
 use Rattle.waff_tool.specs.OwnPlans.{OwnPlanPasses, OwnWorkerPlanPasses}
 use Rattle.waff_tell.proofs.CertificateLemmas.{pairs_forward}
 

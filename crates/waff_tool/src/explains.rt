@@ -3,8 +3,9 @@ ghost use Rattle.std.specs.Prelude.{◌≡◌, ◌≢◌, ℕ, List, IfOk, IfErr
 ghost use Rattle.std.specs.Prelude.{string_bytes};
 ghost use Rattle.std.specs.Io.KnownBytes.{Appends, Keeps};
 ghost use Rattle.waff_tool.specs.Explanations.{BeginsWith, IsExplained, IsExplanation, OfHierarchy};
-ghost use Rattle.waff_tool.specs.Explanations.{OfPlan, OfTrace, RefusesWork, TellsOfFiles};
+ghost use Rattle.waff_tool.specs.Explanations.{OfPlan, OfTrace, RefusesWork};
 ghost use Rattle.waff_tool.specs.Explanations.{first_line, status_explained};
+ghost use Rattle.waff_accept.specs.Inputs.{TellsOfFiles};
 ghost use Rattle.waff_io.specs.Writing.{AppendsPart};
 
 use std::alloc::{AllocError, Global};

@@ -6,7 +6,7 @@
 //! - waff_tell: assign, plan, compare, sweep and where; waff_try: check, draw and replay;
 //!   `explains`: explain, which tells the fault or the verdict that the others find.
 //! - waff_accept: why a command gave no text, its line and its exit status; waff_io: files read.
-//! - `unique`: one text for each input; `own`: plans that are printed pass the check.
+//! - `unique`: one text or one fault for each input; `own`: plans that are printed pass the check.
 #![tactic(auto)]
 
 mod explains;

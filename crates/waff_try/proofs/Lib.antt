@@ -1,3 +1,4 @@
 mod OrderLemmas
+pub mod Refusals
 mod StateLines
-mod Uniqueness
+pub mod Uniqueness

@@ -7,7 +7,8 @@
 //!
 //! - `checks` (check, over `verdict_line`), `draws` (draw) and `replays` (replay, over
 //!   `state_text`): a command each.
-//! - `unique`, and the law of `draws`: one verdict, one picture and one state for each input.
+//! - `unique`, and the law of `draws`: one verdict or fault, one picture and one state for each
+//!   input.
 //!
 //! The whole text is made before the first byte is written, so a refusal leaves nothing written.
 //! What a verdict promises is waff_check's, what threads do is waff_replay's.
