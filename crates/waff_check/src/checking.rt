@@ -1,9 +1,8 @@
 //! The check of a plan that is given.
 
 ghost use Rattle.std.specs.Prelude.{◌≡◌, ◌<◌, length, All, IfOk};
-ghost use Rattle.waff_plan.specs.Timetable.{timings_of};
 ghost use Rattle.waff_plan.specs.Timing.{start_of, work_of};
-ghost use Rattle.waff_check.specs.Verdicts.{IsPraise, IsVerdict, claim_of, starts_of};
+ghost use Rattle.waff_check.specs.Verdicts.{IsPraise, IsVerdict, claim_of};
 ghost use Rattle.waff_check.specs.Promises.{PromisesBound, PromisesChain, PromisesObeys};
 ghost use Rattle.waff_check.specs.Promises.{PromisesOneAtATime, PromisesShortest};
 ghost use Rattle.waff_check.specs.Promises.{PromisesWorkerPlan};
@@ -22,16 +21,6 @@ use waff_model::{Trace, Tree};
 use waff_plan::Plan;
 use waff_plan::laws::{bound_is_within_ratio, bound_is_within_twice, chains_are_within_length};
 use waff_plan_text::GivenPlan;
-
-// The plan in which the messages of the trace start as the rows tell.
-fn told_plan(alloc: Global, trace: &Trace, given: &GivenPlan) -> Result<Plan, AllocError>
-    requires { length given.now.rows ≡ length trace.now.messages }
-    ensures timings { IfOk result (λ plan. plan.timings ≡ timings_of trace.now.messages) }
-    ensures starts { IfOk result (λ plan. plan.starts ≡ starts_of given.now) }
-{
-    let starts = given.starts(alloc)?;
-    Plan::of_starts(alloc, trace, starts.as_slice())
-}
 
 /// The verdict on a plan that is given for the messages of a trace, whose affinities are assigned:
 /// the first fault of the first kind that there is, or else how good the plan is. Pairs of messages
@@ -86,7 +75,7 @@ fn find<R: Threads + Sync>(
     ensures { IfOk result
         (IsVerdict (claim_of tree.now assigned.now trace.now.messages given.now)) }
 {
-    let plan = told_plan(alloc, trace, given)?;
+    let plan = given.plan(alloc, trace)?;
     let workers = given.workers();
     if let Some((first, second)) = first_overlap(rt, alloc, tree, assigned, &plan)? {
         return Ok(Verdict::Overlap { first, second });

@@ -1,11 +1,10 @@
 //! What a picture shows, made ready for drawing.
 
-ghost use Rattle.std.specs.Prelude.{◌≡◌, ◌*◌, ◌^◌, ◌<◌, ◌≤◌, All, IfOk, IfSome, length, map};
+ghost use Rattle.std.specs.Prelude.{◌≡◌, ◌*◌, ◌^◌, ◌<◌, ◌≤◌, All, IfOk, IfSome, length};
 ghost use Rattle.std.specs.Prelude.{slice_index_or};
 ghost use Rattle.waff_model.specs.Tree.{name_of};
 ghost use Rattle.waff_assign.specs.Order.{affinity_of};
 ghost use Rattle.waff_plan.specs.Bound.{IsWorkers};
-ghost use Rattle.waff_plan.specs.Timetable.{timings_of};
 ghost use Rattle.waff_plan.specs.Work.{IsNumber, total_of};
 ghost use Rattle.waff_plan_text.specs.Given.{row_at};
 ghost use Rattle.waff_draw.specs.Axis.{step_of};
@@ -71,7 +70,7 @@ impl<'a> Chart<'a> {
             chart ≡ scene_of tree.now assigned.now trace.now.messages given.now) }
     {
         let lanes = lanes(alloc, tree, assigned)?;
-        let plan = plan_of(alloc, trace, given)?;
+        let plan = given.plan(alloc, trace)?;
         let ticks = plan.length();
         let rows = rows(alloc, tree.len() as usize, lanes.as_slice())?;
         let links = marks(alloc, trace.len() as usize + 1, given.chain())?;
@@ -261,14 +260,4 @@ impl<'a> Chart<'a> {
     {
         u128::from(i) * u128::from(step(self.length()))
     }
-}
-
-/// The plan in which the messages of the trace start as the rows tell.
-fn plan_of(alloc: Global, trace: &Trace, given: &GivenPlan) -> Result<Plan, AllocError>
-    requires rows { length given.now.rows ≡ length trace.now.messages }
-    ensures timings { IfOk result (λ plan. plan.timings ≡ timings_of trace.now.messages) }
-    ensures starts { IfOk result (λ plan. plan.starts ≡ map (λ row. row.start) given.now.rows) }
-{
-    let starts = given.starts(alloc)?;
-    Plan::of_starts(alloc, trace, starts.as_slice())
 }

@@ -6,7 +6,7 @@ use crate::walk::Walk;
 use std::alloc::{AllocError, Global};
 use waff_assign::Assigned;
 use waff_model::{AffinityId, Message, Trace, Tree};
-use waff_plan::{Plan, Totals};
+use waff_plan::Totals;
 use waff_plan_text::{GivenPlan, Row};
 
 /// A plan that was given, and the bytes that give it. What is asked of a message that there is not
@@ -124,8 +124,7 @@ impl<'a> Case<'a> {
 
     /// The totals that the starts of the rows and the chain of the summary make.
     pub(crate) fn totals(&self, alloc: Global) -> Result<Totals, AllocError> {
-        let starts = self.given.starts(alloc)?;
-        let plan = Plan::of_starts(alloc, self.trace, starts.as_slice())?;
+        let plan = self.given.plan(alloc, self.trace)?;
         Ok(plan.totals(self.given.workers(), self.given.chain()))
     }
 

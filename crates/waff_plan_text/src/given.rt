@@ -7,7 +7,8 @@ use crate::row::Row;
 use crate::summary::Summary;
 use std::alloc::{AllocError, Global};
 use std::marker::Model;
-use waff_model::Version;
+use waff_model::{Trace, Version};
+use waff_plan::Plan;
 
 /// A plan as a text gives it, which need not be a plan of anything: a row for each message, and a
 /// summary. Messages are numbered from 1; all times are ticks.
@@ -30,6 +31,7 @@ impl Model for GivenPlan {
 }
 
 impl GivenPlan {
+    ghost use Rattle.waff_plan.specs.Timetable.{timings_of};
     ghost use Rattle.waff_plan_text.specs.Given.{IsGiven, row_at};
 
     /// The plan of these rows and this summary.
@@ -80,8 +82,18 @@ impl GivenPlan {
         self.rows[n as usize - 1].finish
     }
 
+    /// The plan in which the messages of the trace start as the rows tell.
+    pub fn plan(&self, alloc: Global, trace: &Trace) -> Result<Plan, AllocError>
+        requires rows { length self.now.rows ≡ length trace.now.messages }
+        ensures timings { IfOk result (λ plan. plan.timings ≡ timings_of trace.now.messages) }
+        ensures starts { IfOk result (λ plan. plan.starts ≡ map (λ row. row.start) self.now.rows) }
+    {
+        let starts = self.starts(alloc)?;
+        Plan::of_starts(alloc, trace, starts.as_slice())
+    }
+
     /// The starts by the rows, in the order of the messages.
-    pub fn starts(&self, alloc: Global) -> Result<Vec<u64>, AllocError>
+    fn starts(&self, alloc: Global) -> Result<Vec<u64>, AllocError>
         ensures starts { IfOk result (λ v. v.items ≡ map (λ row. row.start) self.now.rows) }
         ensures given { IsGiven self.now }
     {
