@@ -1,4 +1,4 @@
-//! One fault for each input. Each law is a function that does nothing and whose contract is the law.
+//! One fault for each input. Each law is a function that does nothing, and its contract is the law.
 
 ghost use Rattle.std.specs.Prelude.{ℕ, List};
 ghost use Rattle.waff_accept.specs.Unique.{AcceptedIsNotRefused, RefusalIsOne};

@@ -1,4 +1,4 @@
-//! One text or one fault for each input. Each law is a function that does nothing and whose contract
+//! One text or one fault for each input. Each law is a function that does nothing, and its contract
 //! is the law.
 
 ghost use Rattle.std.specs.Prelude.{ℕ, List, Option};

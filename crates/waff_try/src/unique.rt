@@ -1,5 +1,5 @@
-//! One verdict or one fault, and one state, for each input. Each law is a function that does nothing and whose
-//! contract is the law.
+//! One verdict or one fault, and one state, for each input. Each law is a function that does
+//! nothing, and its contract is the law.
 
 ghost use Rattle.std.specs.Prelude.{ℕ, List};
 ghost use Rattle.waff_try.specs.Unique.{CheckRefusalIsOne, CheckTextIsOne, CheckedIsNotRefused};
