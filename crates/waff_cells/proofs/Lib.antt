@@ -5,3 +5,4 @@ pub mod Zeros
 mod Holdings
 pub mod RowRuns
 mod Gathers
+mod CellRuns
