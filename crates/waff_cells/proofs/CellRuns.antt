@@ -1,18 +1,18 @@
 -- Cells that stand one after another in one parcel.
-use Rattle.std.proofs.Common.{◌≡◌, ℕ, zero, suc, ◌+◌, ◌-◌, ◌<◌, ◌≤◌, inl, inr, eqb, List, [], ◌∷◌, ◌++◌, length, map, take, drop, get_or, Vec, Global, refl, sym, ◌∙◌, ap, ap₂, subst, arith, eq-eqb}
+use Rattle.std.proofs.Common.{◌≡◌, ℕ, zero, suc, ◌+◌, ◌-◌, ◌<◌, ◌≤◌, inl, inr, eqb, List, ◌∷◌, ◌++◌, length, map, take, drop, get_or, Vec, Global, refl, sym, ◌∙◌, ap, ap₂, subst, arith}
 use Rattle.std.specs.List.{range_with_len}
 use Rattle.std.specs.Prelude.{slice_range}
 use Rattle.std.proofs.lemmas.Bool.{cases_Bool, cases_lt, cases_eq, eqb-true}
 use Rattle.std.proofs.lemmas.Grind.{same_number_lists, get_or_default_zero}
-use Rattle.std.proofs.lemmas.List.{get_or_append_left, get_or-append-add, get_or-take, get_or-drop, length-drop, length-take-le, map-append}
+use Rattle.std.proofs.lemmas.List.{get_or-take, get_or-drop, length-drop, length-take-le, map-append}
 use Rattle.std.proofs.lemmas.List.Sums.{count_by_more_yes, count_by_more_no}
 use Rattle.std.proofs.lemmas.List.FromFn.{length-map-range_with_len, get_or-map-range_with_len}
 use Rattle.waff_model.specs.Layout.{Space, IsCell, size_at, owner_of}
-use Rattle.waff_model.specs.Parcel.{owners_in, cells_ahead, cells_before, count_of, place_of}
+use Rattle.waff_model.specs.Parcel.{owners_in, cells_before, count_of, place_of}
 use Rattle.waff_model.specs.declared.cell.Cell.{Cell}
 use Rattle.waff_model.proofs.ParcelLemmas.{cells_before-all, owner_of_number}
-use Rattle.waff_cells.specs.Held.{rows_of, number_at}
-use Rattle.waff_cells.specs.Gathered.{LieIn, IsRun, lies_at, cells_of_parcels}
+use Rattle.waff_cells.specs.Held.{rows_of}
+use Rattle.waff_cells.specs.Gathered.{LieIn, IsRun, cells_of_parcels}
 use Rattle.waff_cells.proofs.Gathers.{owner_within, place_below, number_is}
 
 -- one cell more: it is a's, or there are no more of a's
@@ -160,6 +160,6 @@ range_parts a (suc n) m j on =
 
 -- a run more
 pub rows_on : (f : ℕ → ℕ) (index count : ℕ) (row : List ℕ) → row ≡ map f (range_with_len 0 index) ++ map f (range_with_len index count) → row ≡ map f (range_with_len 0 (index + count))
-rows_on f index count row is = 
+rows_on f index count row is =
     is ∙ sym (map-append f (range_with_len 0 index) (range_with_len index count))
     ∙ ap (map f) (range_parts 0 index count index (omega arith))

@@ -6,3 +6,5 @@ mod Holdings
 pub mod RowRuns
 mod Gathers
 mod CellRuns
+pub mod Naming
+mod Placing

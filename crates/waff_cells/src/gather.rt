@@ -99,12 +99,7 @@ fn ends_run(layout: &Layout, first: Cell, count: u32) -> bool
 }
 
 /// The numbers of so many cells from this one on, which are a run.
-fn numbers_at<'a>(
-    layout: &Layout,
-    parcels: &'a [Vec<u64>],
-    first: Cell,
-    count: u32,
-) -> &'a [u64]
+fn numbers_at<'a>(layout: &Layout, parcels: &'a [Vec<u64>], first: Cell, count: u32) -> &'a [u64]
     requires some { 1 ≤ count }
     requires short { first.index + count < 2 ^ 32 }
     requires cells { first.index + count ≤ size_at layout.now.spaces first.space }

@@ -1,6 +1,6 @@
-use Rattle.std.proofs.Common.{◌≡◌, ◌+◌, ◌-◌, ◌<◌, ◌<◌, ℕ, arith, ap, subst, sym, ◌∙◌}
+use Rattle.std.proofs.Common.{◌≡◌, ◌+◌, ◌-◌, arith, ap, subst, sym, ◌∙◌}
 use Rattle.std.proofs.lemmas.Bool.{eqb-true}
-use Rattle.waff_model.specs.Layout.{size_at, owner_of}
+use Rattle.waff_model.specs.Layout.{owner_of}
 use Rattle.waff_model.specs.Parcel.{place_of}
 use Rattle.waff_cells.specs.Gathered.{IsRun}
 use Rattle.waff_cells.proofs.CellRuns.{run_up_to, cell_on}

@@ -1,6 +1,6 @@
-use Rattle.std.proofs.Common.{◌≡◌, ◌+◌, ◌≤◌, length, arith, ap, sym, ◌∙◌}
+use Rattle.std.proofs.Common.{◌+◌, length, arith, ap, ◌∙◌}
 use Rattle.std.specs.Prelude.{slice_range}
-use Rattle.waff_cells.proofs.CellRuns.{run_owner, run_end, run_numbers}
+use Rattle.waff_cells.proofs.CellRuns.{run_end, run_numbers}
 use Rattle.waff_cells.proofs.gather.numbers_at.Goals as goal
 
 pub slice_bounds-result-end : goal.slice_bounds-result-end

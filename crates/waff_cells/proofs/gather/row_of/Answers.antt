@@ -1,6 +1,4 @@
-use Rattle.std.proofs.Common.{◌≡◌, ℕ, ◌+◌, ◌++◌, List, arith, ap, ap₂, sym, ◌∙◌}
-use Rattle.std.specs.List.{range_with_len}
-use Rattle.waff_model.specs.declared.cell.Cell.{Cell}
+use Rattle.std.proofs.Common.{ℕ, ◌++◌, List, arith, ap₂, ◌∙◌}
 use Rattle.waff_cells.specs.Held.{rows_of}
 use Rattle.waff_cells.specs.Gathered.{cells_of_parcels}
 use Rattle.waff_cells.proofs.CellRuns.{rows_on}
