@@ -5,3 +5,6 @@ pub mod Zeros
 mod Holdings
 pub mod RowRuns
 mod Gathers
+mod CellRuns
+pub mod Naming
+mod Placing

@@ -1,5 +1,5 @@
 -- Operations on rows, and the operations of a message that they stand for.
-use Rattle.std.proofs.Common.{◌≡◌, ℕ, zero, suc, ◌+◌, ◌%◌, ◌^◌, ◌<◌, List, [], ◌∷◌, ◌++◌, length, map, All, get_or, take, refl, sym, ◌∙◌, ap, subst, arith}
+use Rattle.std.proofs.Common.{◌≡◌, ℕ, suc, ◌+◌, ◌%◌, ◌^◌, ◌<◌, List, [], ◌∷◌, ◌++◌, length, map, All, get_or, take, refl, sym, ◌∙◌, ap, subst, arith}
 use Rattle.std.proofs.lemmas.List.{take_more, get_or-map, length-map}
 use Rattle.waff_model.specs.Cells.{cells_of_op, cells_of}
 use Rattle.waff_model.specs.Layout.{Space}
@@ -98,7 +98,7 @@ op_is_on at sizes (Set cell value) within = within 0 cell (omega arith)
 op_is_on at sizes (Add cell value) within = within 0 cell (omega arith)
 op_is_on at sizes (Copy cell source) within = (within 0 cell (omega arith), within 1 cell (omega arith))
 op_is_on at sizes (Swap cell other) within = (within 0 cell (omega arith), within 1 cell (omega arith))
-op_is_on at sizes (Read cell) within = tt
+op_is_on at sizes (Read cell) within = within 0 cell (omega arith)
 
 pub parcel_sizes : (spaces : List Space) (owners : List ℕ) (cells : Cells) (rows : List (List ℕ)) → AreParcels spaces owners cells rows
     → HaveParcelSizes spaces owners rows

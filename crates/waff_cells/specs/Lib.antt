@@ -6,3 +6,4 @@ pub mod Parcel
 pub mod RowOps
 pub mod Gathered
 pub mod Laws
+pub mod Named

@@ -19,7 +19,7 @@ row_op at (Set cell value) = row.Set (at cell).0 (at cell).1 value
 row_op at (Add cell value) = row.Add (at cell).0 (at cell).1 value
 row_op at (Copy cell source) = row.Copy (at cell).0 (at cell).1 (at source).0 (at source).1
 row_op at (Swap cell other) = row.Swap (at cell).0 (at cell).1 (at other).0 (at other).1
-row_op at (Read cell) = row.Read
+row_op at (Read cell) = row.Read (at cell).0 (at cell).1
 
 -- the rows, with this number at an address
 abbrev pub with_number_at : List (List ℕ) → Address → ℕ → List (List ℕ)
@@ -35,7 +35,7 @@ row_effect (row.Copy r c s d) rows = with_number_at rows (r, c) (number_at rows 
 row_effect (row.Swap r c s d) rows =
     with_number_at (with_number_at rows (r, c) (number_at rows (s, d))) (s, d)
     (number_at rows (r, c))
-row_effect row.Read rows = rows
+row_effect (row.Read r c) rows = rows
 
 -- what operations do to rows, in their order
 abbrev pub row_meaning : List RowOp → List (List ℕ) → List (List ℕ)
@@ -48,7 +48,7 @@ IsOn sizes (row.Set r c value) = IsWithin sizes (r, c)
 IsOn sizes (row.Add r c value) = IsWithin sizes (r, c)
 IsOn sizes (row.Copy r c s d) = IsWithin sizes (r, c) × IsWithin sizes (s, d)
 IsOn sizes (row.Swap r c s d) = IsWithin sizes (r, c) × IsWithin sizes (s, d)
-IsOn sizes row.Read = Unit {0}
+IsOn sizes (row.Read r c) = IsWithin sizes (r, c)
 
 -- these are the operations of a message on the parcels of these affinities, among whose cells are
 -- all that they name

@@ -1,13 +1,13 @@
 //! The state whose cells lie in parcels.
 
-ghost use Rattle.std.specs.Prelude.{◌≡◌, ◌<◌, length, map, IfOk};
+ghost use Rattle.std.specs.Prelude.{◌≡◌, ◌+◌, ◌^◌, ◌<◌, ◌≤◌, length, map, IfOk, IsTrue};
 ghost use Rattle.std.specs.List.{range_with_len};
 ghost use Rattle.waff_model.specs.Layout.{IsCell, size_at};
 ghost use Rattle.waff_model.specs.Messages.{sizes_of};
 ghost use Rattle.waff_model.specs.declared.cell.Cell.{Cell};
 ghost use Rattle.waff_cells.specs.Grid.{cells_in, HasSizes};
 ghost use Rattle.waff_cells.specs.Held.{rows_of};
-ghost use Rattle.waff_cells.specs.Gathered.{LieIn, cells_of_parcels};
+ghost use Rattle.waff_cells.specs.Gathered.{IsRun, LieIn, cells_of_parcels};
 
 use crate::state::State;
 use std::alloc::{AllocError, Global};
@@ -34,7 +34,7 @@ impl State {
     }
 }
 
-/// The numbers of the cells of space `s`.
+/// The numbers of the cells of space `s`, copied a run at a time.
 fn row_of(
     alloc: Global,
     layout: &Layout,
@@ -48,10 +48,69 @@ fn row_of(
         (record { space = s; index = i }))
         (range_with_len 0 (size_at layout.now.spaces s))) }
 {
-    let mut row = Vec::with_capacity(alloc, layout.space_size(s) as usize)?;
-    for index in 0..layout.space_size(s) {
-        let (owner, at) = layout.place(Cell { space: s, index });
-        row.push(parcels[owner.0 as usize][at as usize])?;
+    let size = layout.space_size(s);
+    let mut row = Vec::with_capacity(alloc, size as usize)?;
+    let mut index = 0;
+    let mut most = 1;
+    while index < size {
+        let first = Cell { space: s, index };
+        let count = run_at(layout, first, size.min(index.saturating_add(most)) - index);
+        row.extend_from_slice(numbers_at(layout, parcels, first, count))?;
+        index += count;
+        most = count.saturating_mul(2);
     }
     Ok(row)
+}
+
+/// How many cells from this one on, as many as asked for or else fewer, are a run.
+fn run_at(layout: &Layout, first: Cell, most: u32) -> u32
+    requires some { 1 ≤ most }
+    requires short { first.index + most < 2 ^ 32 }
+    requires cells { first.index + most ≤ size_at layout.now.spaces first.space }
+    ensures some { 1 ≤ result }
+    ensures most { result ≤ most }
+    ensures run { IsRun layout.now.spaces first result }
+{
+    let mut count = most;
+    while 1 < count && !ends_run(layout, first, count) {
+        count /= 2;
+    }
+    count
+}
+
+/// Whether the last of so many cells from this one on stands where it does in a run: then no cell
+/// of another owner is between them.
+fn ends_run(layout: &Layout, first: Cell, count: u32) -> bool
+    requires some { 1 ≤ count }
+    requires short { first.index + count < 2 ^ 32 }
+    requires cells { first.index + count ≤ size_at layout.now.spaces first.space }
+    ensures { IsTrue result → IsRun layout.now.spaces first count }
+{
+    let (owner, place) = layout.place(first);
+    let last = Cell {
+        space: first.space,
+        index: first.index + (count - 1),
+    };
+    let (last_owner, last_place) = layout.place(last);
+    if last_owner.0 != owner.0 || last_place < place {
+        return false;
+    }
+    last_place - place == count - 1
+}
+
+/// The numbers of so many cells from this one on, which are a run.
+fn numbers_at<'a>(layout: &Layout, parcels: &'a [Vec<u64>], first: Cell, count: u32) -> &'a [u64]
+    requires some { 1 ≤ count }
+    requires short { first.index + count < 2 ^ 32 }
+    requires cells { first.index + count ≤ size_at layout.now.spaces first.space }
+    requires run { IsRun layout.now.spaces first count }
+    requires lie { LieIn layout.now.spaces (rows_of parcels.now) }
+    ensures { result.now ≡ map
+        (λ i. cells_of_parcels layout.now.spaces (rows_of parcels.now)
+        (record { space = first.space; index = i })) (range_with_len first.index count) }
+{
+    let (owner, place) = layout.place(first);
+    let at = place as usize;
+    let parcel = parcels[owner.0 as usize].as_slice();
+    &parcel[at..at + count as usize]
 }

@@ -78,7 +78,10 @@ pub fn row_op(layout: &Layout, owners: &[u16], op: Op) -> RowOp
                 other_column,
             }
         }
-        Op::Read { .. } => RowOp::Read,
+        Op::Read { cell } => {
+            let (row, column) = site(layout, owners, cell);
+            RowOp::Read { row, column }
+        }
     }
 }
 

@@ -30,5 +30,8 @@ pub enum RowOp {
         other_column: u32,
     },
     /// Nothing changes.
-    Read,
+    Read {
+        row: u16,
+        column: u32,
+    },
 }

@@ -51,7 +51,7 @@ fn run_op(rows: &mut [Vec<u64>], op: RowOp)
             write(rows, row, column, two);
             write(rows, other_row, other_column, one);
         }
-        RowOp::Read => {}
+        RowOp::Read { .. } => {}
     }
 }
 

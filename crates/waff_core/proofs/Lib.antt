@@ -17,3 +17,4 @@ mod Reading
 mod Pace
 mod StatusLemmas
 mod Lending
+mod Naming

@@ -8,3 +8,4 @@ pub mod Owners
 pub mod Addressed
 pub mod Orders
 pub mod Shown
+pub mod Named

@@ -2,8 +2,7 @@
 
 ghost use Rattle.std.specs.Prelude.{◌≡◌, ◌↔◌, ◌<◌, ◌≤◌, length, All, IsTrue, IfOk, IfErr};
 ghost use Rattle.std.specs.Prelude.{map, slice_get};
-ghost use Rattle.waff_model.specs.Cells.{cells_of};
-ghost use Rattle.waff_model.specs.Layout.{IsCell, IsLayout};
+ghost use Rattle.waff_model.specs.Layout.{IsLayout};
 ghost use Rattle.waff_model.specs.Messages.{IsTrace, sizes_of};
 ghost use Rattle.waff_model.specs.Parcel.{parcel_size};
 ghost use Rattle.waff_model.specs.declared.limits.TheConstants.{MAX_MESSAGES};
@@ -35,7 +34,6 @@ use waff_order::Needs;
 #[derive(Drop)]
 pub struct Job {
     layout: Layout,
-    ops: Lists<Op>,
     assigned: Assigned,
     needs: Needs,
     owners: Lists<u16>,
@@ -44,14 +42,16 @@ pub struct Job {
 }
 
 impl Model for Job {
+    ghost use Rattle.waff_cells.specs.Named.{cell_at};
     ghost use Rattle.waff_core.specs.Addressed.{AreAddressed};
     ghost use Rattle.waff_core.specs.Job.{JobValue, IsJob};
+    ghost use Rattle.waff_core.specs.Named.{ops_named};
 
     ghost Value = { JobValue };
 
     ghost view = { λ j. record {
       layout = j.layout;
-      ops = j.ops;
+      ops = ops_named (cell_at j.layout.spaces) j.owners j.row_ops;
       assigned = j.assigned;
       needs = j.needs;
       owners = j.owners;
@@ -60,12 +60,13 @@ impl Model for Job {
 
     ghost invariant = { λ j. IsJob (record {
       layout = j.layout;
-      ops = j.ops;
+      ops = ops_named (cell_at j.layout.spaces) j.owners j.row_ops;
       assigned = j.assigned;
       needs = j.needs;
       owners = j.owners;
       order = j.order.items;
-    }) × AreAddressed j.layout.spaces j.ops j.owners j.row_ops };
+    }) × AreAddressed j.layout.spaces
+        (ops_named (cell_at j.layout.spaces) j.owners j.row_ops) j.owners j.row_ops };
 }
 
 impl Job {
@@ -91,15 +92,17 @@ impl Job {
         let lists = lists_of(alloc, &layout, &trace, &needs, order);
         drop(trace);
         match lists {
-            Ok((ops, owners, row_ops, order)) => Ok(Job {
-                layout,
-                ops,
-                assigned,
-                needs,
-                owners,
-                row_ops,
-                order,
-            }),
+            Ok((ops, owners, row_ops, order)) => {
+                drop(ops);
+                Ok(Job {
+                    layout,
+                    assigned,
+                    needs,
+                    owners,
+                    row_ops,
+                    order,
+                })
+            }
             Err(e) => {
                 drop((layout, assigned, needs));
                 Err(e)
@@ -120,16 +123,6 @@ impl Job {
         ensures { result.now ≡ self.now.layout }
     {
         &self.layout
-    }
-
-    /// The operations of message `n`.
-    pub fn ops(&self, n: u32) -> &[Op]
-        requires from { 1 ≤ n }
-        requires to { n ≤ length self.now.ops }
-        ensures ops { result.now ≡ ops_of self.now.ops n }
-        ensures cells { All (IsCell self.now.layout.spaces) (cells_of result.now) }
-    {
-        self.ops.of(n)
     }
 
     /// The needs of message `n`, in rising order.

@@ -1,8 +1,13 @@
 //! The steps of the core machine.
 
-ghost use Rattle.std.specs.Prelude.{◌≡◌, ◌↔◌, ◌+◌, ◌-◌, ◌^◌, ◌<◌, ◌≤◌, length, true, All, IsTrue};
+ghost use Rattle.std.specs.Prelude.{◌≡◌, ◌↔◌, ◌+◌, ◌-◌, ◌^◌, ◌<◌, ◌≤◌, length, map, true, All, IsTrue};
 ghost use Rattle.std.specs.Prelude.{IfOk, IfErr, MatchOption};
+ghost use Rattle.waff_model.specs.Messages.{sizes_of};
 ghost use Rattle.waff_model.specs.declared.limits.TheConstants.{MAX_MESSAGES};
+ghost use Rattle.waff_cells.specs.Grid.{HasSizes, cells_in};
+ghost use Rattle.waff_cells.specs.Meaning.{meaning};
+ghost use Rattle.waff_cells.specs.Named.{ArePlaces, places_in};
+ghost use Rattle.waff_cells.specs.Serial.{ops_of};
 ghost use Rattle.waff_core.specs.Job.{IsIn, IsJob};
 ghost use Rattle.waff_core.specs.Machine.{IsClear, Steps, opening, phase_drawn, phase_of};
 ghost use Rattle.waff_core.specs.Refused.{IsLeastUndone, IsRefused};
@@ -10,16 +15,17 @@ ghost use Rattle.waff_core.specs.Shown.{Fits, IsSteady, core_in};
 
 use crate::{CoreError, Event, Job, Phase};
 use std::alloc::{AllocError, Global};
-use waff_cells::State;
+use waff_cells::{Places, State};
 
 /// The machine: how many draws there were, the phases of the actors, which messages are done, by
-/// number, and the cells.
+/// number, the cells, and where they stand in parcels.
 #[derive(Drop)]
 pub(crate) struct Machine {
     pub drawn: u32,
     pub phases: Vec<Phase>,
     pub done: Vec<bool>,
     pub state: State,
+    pub places: Places,
 }
 
 impl Machine {
@@ -36,6 +42,7 @@ impl Machine {
             phases: vec![in alloc; Phase::Free; seats as usize]?,
             done: vec![in alloc; false; count + 1]?,
             state: State::zero(alloc, job.layout())?,
+            places: Places::new(alloc, job.layout())?,
         })
     }
 
@@ -115,7 +122,7 @@ impl Machine {
                 return Err(CoreError::Nothing { place });
             }
         };
-        self.state.apply_ops(job.ops(m));
+        apply(&mut self.state, &self.places, job, m);
         self.done[m as usize] = true;
         self.phases[actor as usize - 1] = Phase::Free;
         Ok(())
@@ -162,6 +169,22 @@ impl Machine {
             }
         }
         true
+    }
+}
+
+/// Runs the operations of message `m` on the state, as the places name them.
+fn apply(state: &mut State, places: &Places, job: &Job, m: u32)
+    requires message { IsIn job.now m }
+    requires places { ArePlaces job.now.layout.spaces (places_in places.now) }
+    requires rows { HasSizes state.old (sizes_of job.now.layout.spaces) }
+    ensures sizes { HasSizes state.new (map length state.old) }
+    ensures cells { cells_in state.new ≡ meaning (ops_of job.now.ops m) (cells_in state.old) }
+{
+    let _ = job.len();
+    let owners = job.owners(m);
+    let row_ops = job.row_ops(m);
+    for at in 0..row_ops.len() {
+        state.apply_ops(&[places.op(owners, row_ops[at])]);
     }
 }
 

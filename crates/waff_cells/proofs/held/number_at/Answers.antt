@@ -1,4 +1,4 @@
-use Rattle.std.proofs.Common.{◌≡◌, ℕ, ◌<◌, length, map, arith, [], get_or, Vec, Global, sym, ◌∙◌, ap, subst}
+use Rattle.std.proofs.Common.{◌≡◌, ℕ, ◌<◌, length, arith, [], get_or, Vec, Global, ◌∙◌, ap}
 use Rattle.waff_cells.specs.Held.{rows_of}
 use Rattle.waff_cells.proofs.Writes.{inside, row_of, count_of}
 use Rattle.waff_cells.proofs.held.number_at.Goals as goal

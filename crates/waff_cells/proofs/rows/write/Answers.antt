@@ -1,4 +1,4 @@
-use Rattle.std.proofs.Common.{◌≡◌, ◌<◌, length, map, arith, [], get_or, sym, ◌∙◌, ap}
+use Rattle.std.proofs.Common.{◌≡◌, ◌<◌, length, map, arith, [], get_or, ◌∙◌, ap}
 use Rattle.waff_cells.specs.Held.{rows_of, Address}
 use Rattle.waff_cells.proofs.Writes.{inside, row_of, count_of, written_rows, written_sizes}
 use Rattle.waff_cells.proofs.rows.write.Goals as goal

@@ -1,14 +1,12 @@
-use Rattle.std.proofs.Common.{◌≡◌, ℕ, ◌+◌, ◌-◌, ◌≤◌, List, [], ◌∷◌, ◌++◌, length, map, All, get_or, arith, rules, refl, sym, ◌∙◌, ap, subst}
+use Rattle.std.proofs.Common.{◌≡◌, ℕ, ◌+◌, ◌-◌, ◌≤◌, List, [], ◌∷◌, ◌++◌, length, map, get_or, arith, rules, refl, sym, ◌∙◌, ap, subst}
 use Rattle.std.proofs.lemmas.List.{length-append, length-map}
-use Rattle.waff_model.specs.Cells.{cells_of}
-use Rattle.waff_model.specs.Layout.{Space, IsCell}
+use Rattle.waff_model.specs.Layout.{Space}
 use Rattle.waff_model.specs.declared.op.Op.{Op}
 use Rattle.waff_order.specs.Cuts.{parts, AreCuts}
 use Rattle.waff_order.proofs.Parts.{parts_push, cuts_push}
 use Rattle.waff_cells.specs.Parcel.{address_in}
 use Rattle.waff_cells.specs.RowOps.{row_op, AreRowOps}
 use Rattle.waff_cells.specs.declared.row_op.RowOp.{RowOp}
-use Rattle.waff_core.specs.Job.{ListsOwners}
 use Rattle.waff_core.proofs.Addressing.{AreAddressedUpTo, cells_owned, message_owned, addressed, addressed_more}
 use Rattle.waff_core.proofs.row_ops.list_row_ops.Goals as goal
 

@@ -1,8 +1,5 @@
-use Rattle.std.proofs.Common.{◌∷◌, [], ◌++◌, arith, ◌∙◌, ap}
 use Rattle.waff_model.specs.Cells.{cells_of_op}
-use Rattle.waff_cells.specs.Parcel.{IsOwned, address_in}
-use Rattle.waff_cells.specs.RowOps.{row_op}
-use Rattle.waff_core.proofs.Addressing.{pushed_more}
+use Rattle.waff_cells.specs.Parcel.{IsOwned}
 use Rattle.waff_core.proofs.Listing.{All-flat}
 use Rattle.waff_core.proofs.row_ops.push_row_ops.Goals as goal
 

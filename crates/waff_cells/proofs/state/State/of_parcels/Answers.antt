@@ -1,4 +1,4 @@
-use Rattle.std.proofs.Common.{◌≡◌, ℕ, ◌<◌, ◌≤◌, [], ◌∷◌, ◌++◌, length, Vec, Global, arith, ◌∙◌, ap}
+use Rattle.std.proofs.Common.{ℕ, ◌<◌, length, Vec, Global, arith, ◌∙◌, ap}
 use Rattle.std.proofs.lemmas.List.{map_push}
 use Rattle.waff_cells.specs.Held.{rows_of}
 use Rattle.waff_cells.proofs.Gathers.{rows_more, all_rows}

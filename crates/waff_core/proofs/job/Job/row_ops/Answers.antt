@@ -1,4 +1,7 @@
-use Rattle.std.proofs.Common.{◌≡◌, ◌≤◌, List, length, arith, ap, subst}
+use Rattle.std.proofs.Common.{◌≡◌, List, length, arith, ap, subst}
+use Rattle.waff_model.specs.declared.op.Op.{Op}
+use Rattle.waff_cells.specs.Named.{cell_at}
+use Rattle.waff_core.specs.Named.{ops_named}
 use Rattle.waff_cells.proofs.RowRuns.{ops_are_on}
 use Rattle.waff_core.specs.Addressed.{AreAddressed}
 use Rattle.waff_core.specs.Job.{JobValue, owners_of}
@@ -8,7 +11,9 @@ use Rattle.waff_core.proofs.job.Job.row_ops.Goals as goal
 
 pub of-requires-clause-to : goal.of-requires-clause-to
 of-requires-clause-to c =
-    let long : length c.self.inside.ops ≡ length c.args.self.now.ops = ap (λ (j : JobValue). length j.ops) c.self.view_is in
+    let inside = c.self.inside in
+    let named : List (List Op) = ops_named (cell_at inside.layout.spaces) inside.owners inside.row_ops in
+    let long : length named ≡ length c.args.self.now.ops = ap (λ (j : JobValue). length j.ops) c.self.view_is in
     let count = c.self.invariant.1.count in
     omega (arith, long, count, c.requires.to)
 
