@@ -8,7 +8,8 @@ use std::process::Abort;
 use std::sync::Wait;
 use std::thread::Threads;
 use waff_samples::{
-    ASSIGN_H1_X1, C1, COMPARE_C1_H1_X1, H1, PLAN_H1_X1, PLAN_H1_X1_WORKERS2, STATE_H1_X1, X1,
+    ASSIGN_H1_X1, C1, COMPARE_C1_H1_X1, H1, PLAN_H1_HEADER_ALONE, PLAN_H1_X1, PLAN_H1_X1_WORKERS2,
+    STATE_H1_X1, X1,
 };
 use waff_tool::{
     Picture, ReadFault, ToolError, assign_text, check_text, compare_text, draw_text, explain_text,
@@ -78,6 +79,9 @@ fn write_text<R: Threads + Wait + Sync>(
     }
 }
 
+/// The trace of no message, of which a picture is short.
+const NONE: &str = "message,cost,ops\n";
+
 /// Writes the text of a call that takes a plan, else that of a check.
 fn write_of_plan<R: Threads + Sync>(
     rt: &R,
@@ -86,9 +90,10 @@ fn write_of_plan<R: Threads + Sync>(
     writer: &mut Narrow,
 ) -> Result<(), ToolError> {
     let (hierarchy, trace, plan) = (H1.as_bytes(), X1.as_bytes(), PLAN_H1_X1.as_bytes());
+    let (none, empty) = (NONE.as_bytes(), PLAN_H1_HEADER_ALONE.as_bytes());
     match call {
-        Call::Picture => draw_text(alloc, hierarchy, trace, plan, Picture::Svg, writer),
-        Call::Events => draw_text(alloc, hierarchy, trace, plan, Picture::TraceEvents, writer),
+        Call::Picture => draw_text(alloc, hierarchy, none, empty, Picture::Svg, writer),
+        Call::Events => draw_text(alloc, hierarchy, none, empty, Picture::TraceEvents, writer),
         Call::Explain => {
             explain_text(rt, alloc, hierarchy, Some(trace), Some(plan), writer)?;
             Ok(())
@@ -155,9 +160,6 @@ const TEXTS: &[(Call, &str)] = &[
     (Call::Check, "shortest\n"),
     (Call::Compare, COMPARE_C1_H1_X1),
     (Call::Replay, STATE_H1_X1),
-    (Call::Sweep, SWEEP_H1_X1),
-    (Call::Affinities, WHERE_H1_X1),
-    (Call::Names, WHERE_H1_X1_NAMES),
 ];
 
 #[test]
@@ -167,11 +169,25 @@ fn leave_the_part_that_was_taken(rt: HostRuntime) {
     }
 }
 
-/// More bytes than the samples' pictures and explanations have.
+/// The calls that tell of workers and of places, with their texts.
+const TABLES: &[(Call, &str)] = &[
+    (Call::Sweep, SWEEP_H1_X1),
+    (Call::Affinities, WHERE_H1_X1),
+    (Call::Names, WHERE_H1_X1_NAMES),
+];
+
+#[test]
+fn leave_the_part_of_a_table_that_was_taken(rt: HostRuntime) {
+    for (call, text) in TABLES {
+        is_given(&rt, rt.alloc(), *call, text.as_bytes());
+    }
+}
+
+/// More bytes than these pictures and the explanation have.
 const MORE: usize = 10_000;
 
 #[test]
-fn leave_the_part_of_a_picture_or_an_explanation_that_was_taken(rt: HostRuntime) {
+fn leave_the_part_of_other_texts_that_was_taken(rt: HostRuntime) {
     for call in [Call::Picture, Call::Events, Call::Explain] {
         let whole = given(&rt, rt.alloc(), call, MORE, MORE);
         is_given(&rt, rt.alloc(), call, whole.as_slice());
