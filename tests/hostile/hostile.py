@@ -1,11 +1,13 @@
 """What the scripts of this folder share: the samples, the commands that the built program knows, and runs of it."""
 import argparse
+import fcntl
 import os
 import re
 import resource
 import subprocess
 import sys
 import tempfile
+import time
 
 ROOT = os.path.normpath(os.path.join(os.path.dirname(os.path.realpath(__file__)), "..", ".."))
 PROGRAM = os.path.join(ROOT, "crates", "waff", "out", "waff")
@@ -59,6 +61,11 @@ class Run:
 
 
 MEMORY = Run(4, b"", b"waff: Memory\n", 0)
+WRITE = Run(4, b"", b"waff: Write\n", 0)
+
+# The least room of a pipe, and the flag that sets it.
+ROOM = 4096
+SET_ROOM = 1031
 
 
 class Count:
@@ -130,6 +137,49 @@ def run(words, stdin=b"", before=()):
     except subprocess.TimeoutExpired:
         return Run(None, b"", b"", processor_seconds() - begin)
     return Run(done.returncode, done.stdout, done.stderr, processor_seconds() - begin)
+
+
+def shell(redirections):
+    """The words that start a program with redirections of the shell."""
+    return "sh", "-c", 'exec "$@" ' + redirections, "sh"
+
+
+def under(words, limit, stdin=b""):
+    """A run under a limit of its address space. A status of 127 says that the system did not start it."""
+    return run(words, stdin, before=("prlimit", "--core=0", "--as=%d" % limit))
+
+
+def is_told(line):
+    """Whether all that a command lacks is told to it. The stack of an explanation grows beyond what a program starts with, and
+    where there is no room for that the system ends the program."""
+    return line is None or not line.startswith("explain")
+
+
+def least_limit(words, right, stdin=b""):
+    """About the least limit of the address space under which the run is right."""
+    return next(it for it in range(4 << 20, 1 << 34, 1 << 18) if under(words, it, stdin).is_as(right))
+
+
+def piped(words, stdin, wanted, pause):
+    """A run into a narrow pipe, of which `wanted` bytes are read, all where it is None; it is closed then."""
+    begin = processor_seconds()
+    reader, writer = os.pipe()
+    fcntl.fcntl(writer, SET_ROOM, ROOM)
+    with subprocess.Popen([PROGRAM, *words], stdin=subprocess.PIPE, stdout=writer, stderr=subprocess.PIPE) as process:
+        os.close(writer)
+        process.stdin.write(stdin)
+        process.stdin.close()
+        taken = b""
+        while wanted is None or len(taken) < wanted:
+            time.sleep(pause)
+            some = os.read(reader, 977 if wanted is None else min(977, wanted - len(taken)))
+            if not some:
+                break
+            taken += some
+        os.close(reader)
+        told = process.stderr.read()
+        status = process.wait(HANGS)
+    return Run(status, taken, told, processor_seconds() - begin)
 
 
 def faults_of(run):

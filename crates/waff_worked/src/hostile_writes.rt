@@ -1,13 +1,19 @@
 //! Writers that fail or take little, and readers that fail: what was written or read by then.
 
 use crate::same::are_same;
+use crate::sweeps::{SWEEP_H1_X1, WHERE_H1_X1, WHERE_H1_X1_NAMES};
 use std::alloc::Global;
 use std::io::{self, Read, Write};
 use std::process::Abort;
+use std::sync::Wait;
 use std::thread::Threads;
-use waff_samples::{ASSIGN_H1_X1, C1, COMPARE_C1_H1_X1, H1, PLAN_H1_X1, PLAN_H1_X1_WORKERS2, X1};
+use waff_samples::{
+    ASSIGN_H1_X1, C1, COMPARE_C1_H1_X1, H1, PLAN_H1_HEADER_ALONE, PLAN_H1_X1, PLAN_H1_X1_WORKERS2,
+    STATE_H1_X1, X1,
+};
 use waff_tool::{
-    ReadFault, ToolError, assign_text, check_text, compare_text, plan_text, read_whole,
+    Picture, ReadFault, ToolError, assign_text, check_text, compare_text, draw_text, explain_text,
+    plan_text, read_whole, replay_text, sweep_text, where_text,
 };
 
 /// The calls that write a text.
@@ -18,6 +24,13 @@ enum Call {
     PlanForTwo,
     Check,
     Compare,
+    Replay,
+    Sweep,
+    Affinities,
+    Names,
+    Picture,
+    Events,
+    Explain,
 }
 
 /// Has room for some bytes, of which it takes a few at once, and then fails, or takes none.
@@ -46,7 +59,7 @@ impl Write for Narrow {
 }
 
 /// Writes the text of the call for the samples.
-fn write_text<R: Threads + Sync>(
+fn write_text<R: Threads + Wait + Sync>(
     rt: &R,
     alloc: Global,
     call: Call,
@@ -57,20 +70,47 @@ fn write_text<R: Threads + Sync>(
         Call::Assign => assign_text(alloc, hierarchy, trace, writer),
         Call::Plan => plan_text(alloc, hierarchy, trace, None, writer),
         Call::PlanForTwo => plan_text(alloc, hierarchy, trace, Some(2), writer),
-        Call::Check => {
-            check_text(rt, alloc, hierarchy, trace, PLAN_H1_X1.as_bytes(), writer)?;
+        Call::Compare => compare_text(alloc, C1.as_bytes(), hierarchy, trace, 2, writer),
+        Call::Replay => replay_text(rt, alloc, hierarchy, trace, 2, writer),
+        Call::Sweep => sweep_text(alloc, hierarchy, trace, writer),
+        Call::Affinities => where_text(alloc, hierarchy, trace, false, writer),
+        Call::Names => where_text(alloc, hierarchy, trace, true, writer),
+        _ => write_of_plan(rt, alloc, call, writer),
+    }
+}
+
+/// The trace of no message, of which a picture is short.
+const NONE: &str = "message,cost,ops\n";
+
+/// Writes the text of a call that takes a plan, else that of a check.
+fn write_of_plan<R: Threads + Sync>(
+    rt: &R,
+    alloc: Global,
+    call: Call,
+    writer: &mut Narrow,
+) -> Result<(), ToolError> {
+    let (hierarchy, trace, plan) = (H1.as_bytes(), X1.as_bytes(), PLAN_H1_X1.as_bytes());
+    let (none, empty) = (NONE.as_bytes(), PLAN_H1_HEADER_ALONE.as_bytes());
+    match call {
+        Call::Picture => draw_text(alloc, hierarchy, none, empty, Picture::Svg, writer),
+        Call::Events => draw_text(alloc, hierarchy, none, empty, Picture::TraceEvents, writer),
+        Call::Explain => {
+            explain_text(rt, alloc, hierarchy, Some(trace), Some(plan), writer)?;
             Ok(())
         }
-        Call::Compare => compare_text(alloc, C1.as_bytes(), hierarchy, trace, 2, writer),
+        _ => {
+            check_text(rt, alloc, hierarchy, trace, plan, writer)?;
+            Ok(())
+        }
     }
 }
 
 /// A writer with less room than the text has to be left with as much of it as it has room for.
-fn fails_at_each_byte<R: Threads + Sync + Abort>(
+fn fails_at_each_byte<R: Threads + Wait + Sync + Abort>(
     rt: &R,
     alloc: Global,
     call: Call,
-    text: &str,
+    text: &[u8],
     fails: bool,
 ) {
     for room in 0..text.len() {
@@ -82,20 +122,34 @@ fn fails_at_each_byte<R: Threads + Sync + Abort>(
         };
         let refused = write_text(rt, alloc, call, &mut writer).err();
         assert!(rt; refused == Some(ToolError::Write), "{room}: {refused:?}");
-        are_same(rt, writer.taken.as_slice(), &text.as_bytes()[..room]);
+        are_same(rt, writer.taken.as_slice(), &text[..room]);
     }
 }
 
-/// A writer with room for the text has to be given the whole, if it takes one byte at once.
-fn is_taken_byte_by_byte<R: Threads + Sync + Abort>(rt: &R, alloc: Global, call: Call, text: &str) {
+/// What a writer with room for so many bytes is given, if it takes so many at once.
+fn given<R: Threads + Wait + Sync + Abort>(
+    rt: &R,
+    alloc: Global,
+    call: Call,
+    room: usize,
+    at_once: usize,
+) -> Vec<u8> {
     let mut writer = Narrow {
-        room: text.len(),
-        at_once: 1,
+        room,
+        at_once,
         fails: true,
         taken: Vec::new(alloc),
     };
     write_text(rt, alloc, call, &mut writer).expect(rt, "a text");
-    are_same(rt, writer.taken.as_slice(), text.as_bytes());
+    writer.taken
+}
+
+/// Writers of each number of bytes have to be given this text as far as they take it.
+fn is_given<R: Threads + Wait + Sync + Abort>(rt: &R, alloc: Global, call: Call, text: &[u8]) {
+    fails_at_each_byte(rt, alloc, call, text, true);
+    fails_at_each_byte(rt, alloc, call, text, false);
+    let whole = given(rt, alloc, call, text.len(), 1);
+    are_same(rt, whole.as_slice(), text);
 }
 
 /// The calls with the texts that they write for the samples.
@@ -105,14 +159,38 @@ const TEXTS: &[(Call, &str)] = &[
     (Call::PlanForTwo, PLAN_H1_X1_WORKERS2),
     (Call::Check, "shortest\n"),
     (Call::Compare, COMPARE_C1_H1_X1),
+    (Call::Replay, STATE_H1_X1),
 ];
 
 #[test]
 fn leave_the_part_that_was_taken(rt: HostRuntime) {
     for (call, text) in TEXTS {
-        fails_at_each_byte(&rt, rt.alloc(), *call, text, true);
-        fails_at_each_byte(&rt, rt.alloc(), *call, text, false);
-        is_taken_byte_by_byte(&rt, rt.alloc(), *call, text);
+        is_given(&rt, rt.alloc(), *call, text.as_bytes());
+    }
+}
+
+/// The calls that tell of workers and of places, with their texts.
+const TABLES: &[(Call, &str)] = &[
+    (Call::Sweep, SWEEP_H1_X1),
+    (Call::Affinities, WHERE_H1_X1),
+    (Call::Names, WHERE_H1_X1_NAMES),
+];
+
+#[test]
+fn leave_the_part_of_a_table_that_was_taken(rt: HostRuntime) {
+    for (call, text) in TABLES {
+        is_given(&rt, rt.alloc(), *call, text.as_bytes());
+    }
+}
+
+/// More bytes than these pictures and the explanation have.
+const MORE: usize = 10_000;
+
+#[test]
+fn leave_the_part_of_other_texts_that_was_taken(rt: HostRuntime) {
+    for call in [Call::Picture, Call::Events, Call::Explain] {
+        let whole = given(&rt, rt.alloc(), call, MORE, MORE);
+        is_given(&rt, rt.alloc(), call, whole.as_slice());
     }
 }
 

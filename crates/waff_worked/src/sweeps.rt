@@ -6,7 +6,8 @@ use std::process::Abort;
 use waff_samples::{H1, X1, X2};
 use waff_tool::{sweep_text, where_text};
 
-const SWEEP_H1_X1: &str = "workers,length,speedup,busy,least,over,waits,latency\n\
+/// The sweep of the first trace under the hierarchical sample.
+pub const SWEEP_H1_X1: &str = "workers,length,speedup,busy,least,over,waits,latency\n\
     1,17,1.00,1.00,17,1.00,49,17\n\
     2,11,1.54,0.77,9,1.22,24,11\n\
     3,9,1.88,0.62,9,1.00,17,9\n\
@@ -52,7 +53,8 @@ const SWEEP_OF_NONE: &str = "workers,length,speedup,busy,least,over,waits,latenc
     64,0,-,-,0,-,0,0\n\
     -,0,-,-,0,-,0,0\n";
 
-const WHERE_H1_X1: &str = "affinity,parent,messages,cost,below,chain\n\
+/// Where the time of the first trace goes, by affinities.
+pub const WHERE_H1_X1: &str = "affinity,parent,messages,cost,below,chain\n\
     Serial,-,1,1,17,1\n\
     VolA,Serial,1,2,8,2\n\
     VolB,Serial,0,0,8,0\n\
@@ -61,7 +63,8 @@ const WHERE_H1_X1: &str = "affinity,parent,messages,cost,below,chain\n\
     B0,VolB,1,3,3,0\n\
     B1,VolB,1,5,5,0\n";
 
-const WHERE_H1_X1_NAMES: &str = "name,messages,cost,chain\n\
+/// And by names.
+pub const WHERE_H1_X1_NAMES: &str = "name,messages,cost,chain\n\
     m1,1,4,4\n\
     m2,1,3,0\n\
     m3,1,2,2\n\

@@ -27,24 +27,25 @@ fn of_affinities(rt: HostRuntime) {
     are_same(&rt, written.as_slice(), ASSIGN_H1_X1.as_bytes());
 }
 
-/// Bytes read whole within the limit have to be all of them, and beyond it to be too many.
-fn is_read(rt: &impl Abort, alloc: Global, bytes: &[u8], limit: u64) {
+/// Bytes read whole within a limit have to be all of them, or where a fault stands here to be
+/// refused so.
+fn is_read(rt: &impl Abort, alloc: Global, bytes: &[u8], limit: u64, fault: Option<ReadFault>) {
     let mut reader = bytes;
     match read_whole(alloc, &mut reader, limit) {
         Ok(whole) => {
-            assert!(rt; whole.as_slice() == bytes);
-            assert!(rt; bytes.len() as u64 <= limit);
+            are_same(rt, whole.as_slice(), bytes);
+            assert!(rt; fault.is_none(), "{limit}: {fault:?}");
         }
-        Err(fault) => {
-            assert!(rt; fault == ReadFault::TooLong);
-            assert!(rt; bytes.len() as u64 > limit);
+        Err(found) => {
+            assert!(rt; fault == Some(found), "{limit}: {found:?}");
         }
     }
 }
 
 #[test]
 fn are_read_whole(rt: HostRuntime) {
-    is_read(&rt, rt.alloc(), b"abcde", 5);
-    is_read(&rt, rt.alloc(), b"abcde", 4);
-    is_read(&rt, rt.alloc(), b"", 0);
+    is_read(&rt, rt.alloc(), b"abcde", 5, None);
+    let fault = Some(ReadFault::TooLong);
+    is_read(&rt, rt.alloc(), b"abcde", 4, fault);
+    is_read(&rt, rt.alloc(), b"", 0, None);
 }

@@ -137,7 +137,6 @@ const CHANGES: &[(&str, &str, &str)] = &[
     ("size = 8", "size = 0", "Some(Layout(Size))"),
     ("size = 8", "size = 262145", "Some(Layout(Size))"),
     ("size = 8", "size = 262135", "Some(Layout(TooManyCells))"),
-    ("size = 8", "size = 262134", "None"),
     ("unit = 2", "unit = 0", "Some(Layout(Unit))"),
     ("unit = 2", "unit = -1", "Some(Layout(Unit))"),
     ("to = [\"A0\", \"A1\"]", "to = []", "Some(Layout(To))"),
@@ -173,6 +172,11 @@ fn are_refused_for_one_change(rt: HostRuntime) {
     let (without_maps, _) = H1.split_once("[[map]]").expect(&rt, "no map");
     let wanted = "Some(Shape { key: Maps })";
     is_told(&rt, rt.alloc(), without_maps.as_bytes(), wanted);
+}
+
+#[test]
+fn have_the_cells_of_the_limit(rt: HostRuntime) {
+    is_told_of_change(&rt, rt.alloc(), "size = 8", "size = 262134", "None");
 }
 
 const WITH_MORE: &str = "\u{feff}model = 'classical'\nowner = 'ignored'\n\

@@ -115,7 +115,7 @@ fn path(rt: &impl Abort, alloc: Global, count: u16) -> TreeBuilder {
 fn have_the_affinities_of_the_limit(rt: HostRuntime) {
     let mut builder = path(&rt, rt.alloc(), 4096);
     let more = add_below(&rt, rt.alloc(), &mut builder, 4096);
-    assert!(rt; more == Err(TreeError::TooMany));
+    assert!(rt; more == Err(TreeError::TooMany), "{more:?}");
     let tree = builder.build().expect(&rt, "a tree");
     assert!(rt; tree.len() == 4096);
     assert!(rt; relation(&tree, 1, 4095) == Some((true, true)));
@@ -126,7 +126,9 @@ fn have_the_affinities_of_the_limit(rt: HostRuntime) {
 #[test]
 fn stay_as_they_are_where_an_affinity_is_refused(rt: HostRuntime) {
     let mut builder = path(&rt, rt.alloc(), 2);
-    assert!(rt; builder.add("n0", Some(AffinityId(9))) == Err(TreeError::Twice));
-    assert!(rt; builder.add("n2", Some(AffinityId(1))) == Ok(AffinityId(2)));
+    let again = builder.add("n0", Some(AffinityId(9)));
+    assert!(rt; again == Err(TreeError::Twice), "{again:?}");
+    let more = builder.add("n2", Some(AffinityId(1)));
+    assert!(rt; more == Ok(AffinityId(2)), "{more:?}");
     drop(builder);
 }
