@@ -1,5 +1,5 @@
 -- An operation without a fault is found at the beginning of a text, so one walk finds all of them.
-use Rattle.std.proofs.Common.{◌≡◌, ℕ, ◌+◌, ◌<◌, ◌≤◌, List, [], ◌∷◌, ◌++◌, ◌∙◌, length, take, drop, get_or, Bool, true, false, Option, Some, None, Result, Ok, Err, position, refl, sym, ap, subst, append_assoc, arith, inl, inr, ◌⊎◌}
+use Rattle.std.proofs.Common.{◌≡◌, ℕ, ◌+◌, ◌<◌, ◌≤◌, List, [], ◌∷◌, ◌++◌, ◌∙◌, length, take, drop, Bool, true, false, Option, Some, None, Result, Ok, Err, position, refl, sym, ap, subst, append_assoc, arith, inl, inr, ◌⊎◌}
 use Rattle.std.specs.Prelude.{IfOk, codes, nat_lt, ◌==◌, if◌then◌else◌}
 use Rattle.std.specs.List.{join_with_byte}
 use Rattle.std.specs.Result.{result_ok}
@@ -14,12 +14,12 @@ use Rattle.waff_model.specs.declared.limits.TheConstants.{MAX_OPS}
 use Rattle.waff_model.specs.declared.op.Op.{Op}
 use Rattle.waff_model.specs.declared.op.Op.TheVariants as op
 use Rattle.waff_parse.specs.Refusals.{◌>>=◌, both, one, pair}
-use Rattle.waff_parse.specs.Texts.{first_number, parts}
+use Rattle.waff_parse.specs.Texts.{parts}
 use Rattle.waff_parse.specs.Walks.{gather}
 use Rattle.waff_parse.proofs.Laws.{gather-length}
 use Rattle.waff_parse.proofs.TextLaws.{parts-cons, parts-no_place, parts-place}
-use Rattle.waff_read.specs.Beginnings.{behind, cell_and_number, first_cell, first_op, two_cells}
-use Rattle.waff_read.specs.Ops.{cell_of, op_of, op_of_one, op_of_parts, op_of_two, op_of_words, ops_of, pieces_of, value_of, with_cell, with_value}
+use Rattle.waff_read.specs.Beginnings.{behind, cell_and_number, first_op, two_cells}
+use Rattle.waff_read.specs.Ops.{cell_of, op_of, op_of_one, op_of_parts, op_of_two, ops_of, pieces_of, value_of, with_cell, with_value}
 use Rattle.waff_read.specs.TraceFaults.{number}
 use Rattle.waff_read.specs.declared.trace_fault.TraceFault.{TraceFault}
 use Rattle.waff_read.specs.declared.trace_fault.TraceFault.TheVariants as fault
@@ -90,7 +90,7 @@ module _ (spaces : List Space) (first second tail : List ℕ) where
       by : (s : Bool) → bytes_eq verb (codes "set") ≡ s → (a : Bool) → bytes_eq verb (codes "add") ≡ a → (c : Bool) → bytes_eq verb (codes "copy") ≡ c
           → (w : Bool) → bytes_eq verb (codes "swap") ≡ w
           → (if s then with_value op.Set spaces first second else if a then with_value op.Add spaces first second else if c then with_cell op.Copy spaces first second
-              else if w then with_cell op.Swap spaces first second else Err fault.Op) ≡ Ok o → Found verb o
+          else if w then with_cell op.Swap spaces first second else Err fault.Op) ≡ Ok o → Found verb o
       by true s a ea c ec w ew h = subst (λ v. Found v o) (is (codes "set") s) (set-there o h other)
       by false s true a c ec w ew h = subst (λ v. Found v o) (is (codes "add") a) (add-there o h other)
       by false s false a true c w ew h = subst (λ v. Found v o) (is (codes "copy") c) (copy-there o h other)
@@ -147,7 +147,7 @@ first_piece : (text : List ℕ) → FirstPiece text
 first_piece text = by (position (λ b. b == 59) text) refl
   where
     by : (r : Option ℕ) → r ≡ position (λ b. b == 59) text → FirstPiece text
-    by None is = record { piece = text; tail = []; others = []; whole = sym (append-nil text); ends = inl refl; parted = parts-no_place 59 text is; }
+    by None is = record { piece = text; tail = []; others = []; whole = sym (append-nil text); ends = inl refl; parted = parts-no_place 59 text is }
     by (Some i) is =
         let p = parts-place 59 text i is in
         record {

@@ -250,13 +250,13 @@ module _ (spaces : List Space) (text rest : List ℕ) (o : Op) where
 
       after_add : Behind (codes "add ") (with_number op.Add spaces)
           ⊎ (or_else (behind (codes "copy ") text) (with_other op.Copy spaces)
-              (or_else (behind (codes "swap ") text) (with_other op.Swap spaces) (behind (codes "read ") text >>= of_cell spaces)) ≡ Some (o, rest)) → BeginsWithOp spaces text o rest
+          (or_else (behind (codes "swap ") text) (with_other op.Swap spaces) (behind (codes "read ") text >>= of_cell spaces)) ≡ Some (o, rest)) → BeginsWithOp spaces text o rest
       after_add (inl s) = add-found s
       after_add (inr f) = after_copy (either (behind (codes "copy ") text) _ _ (o, rest) f)
 
       after_set : Behind (codes "set ") (with_number op.Set spaces)
           ⊎ (or_else (behind (codes "add ") text) (with_number op.Add spaces) (or_else (behind (codes "copy ") text) (with_other op.Copy spaces)
-              (or_else (behind (codes "swap ") text) (with_other op.Swap spaces) (behind (codes "read ") text >>= of_cell spaces))) ≡ Some (o, rest)) → BeginsWithOp spaces text o rest
+          (or_else (behind (codes "swap ") text) (with_other op.Swap spaces) (behind (codes "read ") text >>= of_cell spaces))) ≡ Some (o, rest)) → BeginsWithOp spaces text o rest
       after_set (inl s) = set-found s
       after_set (inr f) = after_add (either (behind (codes "add ") text) _ _ (o, rest) f)
 

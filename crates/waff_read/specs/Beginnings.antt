@@ -1,7 +1,6 @@
 -- What a text begins with, and the rest of it.
-use Rattle.std.specs.Prelude.{ℕ, List, ◌∷◌, ◌+◌, ◌==◌, [], codes, length, take, drop, position}
+use Rattle.std.specs.Prelude.{ℕ, List, ◌+◌, ◌==◌, codes, length, take, drop, position}
 use Rattle.std.specs.Prelude.{nat_lt, if◌then◌else◌, Option, Some, None, option_map}
-use Rattle.std.specs.Prelude.{option_and_then}
 use Rattle.std.specs.Borrow.{Bor}
 use Rattle.std.specs.Str.{bytes_eq}
 use Rattle.waff_model.specs.Layout.{Space, size_at, space_named}
