@@ -72,12 +72,14 @@ pub fn number(text: &str) -> Option<Option<u64>>
     digits_number(digits)
 }
 
-// The number of the digits before a place, and the text from there on.
+// The number that the digits of a text write, which end here and have this value, and the text
+// behind them.
+#[tactic(auto, unfolding(crate::specs::Texts::first_number))]
 fn number_until(text: &[u8], end: usize, value: u64) -> Option<(u64, &[u8])>
     requires within { end ≤ length text.now }
-    requires digits { list_all is_ascii_digit (take end text.now) ≡ true }
+    requires digits { take end text.now ≡ texts.first_digits text.now }
     requires value { value ≡ digits_value 10 (take end text.now) }
-    ensures { IfSome result (λ r. texts.BeginsWithNumber text.now r.0 r.1.now) }
+    ensures { option_map texts.with_rest result ≡ texts.first_number text.now }
 {
     if end == 0 {
         return None;
@@ -88,10 +90,11 @@ fn number_until(text: &[u8], end: usize, value: u64) -> Option<(u64, &[u8])>
     Some((value, &text[end..]))
 }
 
-/// The number that a text begins with, up to the last digit in a row, and the rest of the text: none
-/// where no digit is there, and where a number has a leading zero or is 2^64 or more.
+/// The number that the digits at the beginning of a text write, all that stand there in a row, and
+/// the text behind them: none exactly where there is no digit, where they have a leading zero, or
+/// where their number is 2^64 or more.
 pub fn first_number(text: &[u8]) -> Option<(u64, &[u8])>
-    ensures { IfSome result (λ r. texts.BeginsWithNumber text.now r.0 r.1.now) }
+    ensures { option_map texts.with_rest result ≡ texts.first_number text.now }
 {
     let mut value: u64 = 0;
     for place in 0..text.len() {

@@ -1,6 +1,6 @@
 -- What a text begins with, by its parts.
-use Rattle.std.proofs.Common.{◌≡◌, ℕ, ◌<◌, ◌≤◌, List, [], ◌∷◌, ◌++◌, ◌∙◌, length, take, drop, Bool, true, false, Some, Ok, refl, sym, ap, append_assoc, arith}
-use Rattle.std.specs.Prelude.{All, codes, not, unwrap_or, ◌==◌, ◌&&◌, nat_le}
+use Rattle.std.proofs.Common.{◌≡◌, ℕ, ◌<◌, ◌≤◌, List, [], ◌∷◌, ◌++◌, ◌∙◌, length, take, drop, Bool, true, false, Some, None, Ok, refl, sym, ap, append_assoc, arith}
+use Rattle.std.specs.Prelude.{All, codes, not, ◌==◌, ◌&&◌, ◌||◌, if◌then◌else◌, nat_le}
 use Rattle.std.specs.Char.{is_ascii_digit}
 use Rattle.std.specs.List.{list_all}
 use Rattle.std.specs.Str.{bytes_eq}
@@ -10,31 +10,81 @@ use Rattle.std.proofs.lemmas.List.Elements.{All-cons, All-nil}
 use Rattle.std.proofs.lemmas.List.Folds.{list_all-append}
 use Rattle.std.proofs.lemmas.List.Splits.{slice_split_at, slice_split_none}
 use Rattle.std.proofs.lemmas.Slice.Eq.{bytes_eq-Decides}
-use Rattle.waff_model.specs.Layout.{Hierarchy, IsLayout, Space, name_at, size_at}
+use Rattle.waff_model.specs.Layout.{Space, size_at, space_named}
 use Rattle.waff_model.specs.Names.{is_name, is_name_byte}
 use Rattle.waff_model.specs.declared.cell.Cell.{Cell}
 use Rattle.waff_model.specs.declared.limits.TheConstants.{MAX_NAME, MAX_OPS}
 use Rattle.waff_model.specs.declared.op.Op.{Op}
 use Rattle.waff_model.specs.declared.op.Op.TheVariants as op
 use Rattle.waff_parse.specs.Refusals.{both}
-use Rattle.waff_parse.specs.Texts.{BeginsWithNumber, number_of, parts}
+use Rattle.waff_parse.specs.Texts.{number_of, parts}
 use Rattle.waff_parse.specs.Walks.{gather}
 use Rattle.waff_parse.proofs.Laws.{both-assoc}
-use Rattle.waff_read.specs.Beginnings.{BeginsWithCell, BeginsWithCellAndNumber, BeginsWithOp, BeginsWithSpace, BeginsWithTwoCells, is_cell_byte}
+use Rattle.waff_read.specs.Beginnings.{behind}
 use Rattle.waff_read.specs.Ops.{cell_of, op_of, op_of_one, op_of_two, ops_of, pieces_of, value_of}
 use Rattle.waff_read.specs.TraceFaults.{number}
 use Rattle.waff_read.proofs.PartLemmas.{all_other, all_wider, no_digits}
-use Rattle.waff_read.proofs.SpellingLaws.{All-two, parts-join, space_found, space_has_name}
+use Rattle.waff_read.proofs.SpellingLaws.{All-two, parts-join}
 
--- a text that begins with these bytes is they and what is behind them
-pub behind_bytes : (text first rest : List ℕ) → bytes_eq (take (length first) text) first ≡ true → rest ≡ drop (length first) text → text ≡ first ++ rest
-behind_bytes text first rest same is =
-    sym (take-append-drop (length first) text)
-    ∙ ap (λ (l : List ℕ). l ++ drop (length first) text) ((bytes_eq-Decides (take (length first) text) first).0 same)
-    ∙ ap (λ (l : List ℕ). first ++ l) (sym is)
+-- a text begins with a number below 2^64
+pub record BeginsWithNumber (text : List ℕ) (n : ℕ) (rest : List ℕ) : Type 0 where
+  pub digits : List ℕ
+  pub whole : text ≡ digits ++ rest
+  pub number : number_of digits ≡ Some n
+
+-- the name of a space, and `:`
+pub record BeginsWithSpace (spaces : List Space) (text : List ℕ) (space : ℕ) (rest : List ℕ) : Type 0 where
+  pub name : List ℕ
+  pub whole : text ≡ name ++ 58 ∷ rest
+  pub named : is_name name ≡ true
+  pub found : space_named spaces name ≡ Some space
+
+-- a byte of a cell: one of a name, or `:`
+abbrev pub is_cell_byte : ℕ → Bool
+is_cell_byte b = is_name_byte b || (b == 58)
+
+-- a cell
+pub record BeginsWithCell (spaces : List Space) (text : List ℕ) (cell : Cell) (rest : List ℕ) : Type 0 where
+  pub word : List ℕ
+  pub whole : text ≡ word ++ rest
+  pub spelled : cell_of spaces word ≡ Ok cell
+  pub unparted : list_all is_cell_byte word ≡ true
+
+-- a cell and a number, with a space between them
+pub record BeginsWithCellAndNumber (spaces : List Space) (text : List ℕ) (cell : Cell) (n : ℕ) (rest : List ℕ) : Type 0 where
+  pub words : List ℕ
+  pub here : BeginsWithCell spaces text cell (32 ∷ words)
+  pub there : BeginsWithNumber words n rest
+  pub small : n < 18446744073709551616
+
+-- two cells, with a space between them
+pub record BeginsWithTwoCells (spaces : List Space) (text : List ℕ) (cell other : Cell) (rest : List ℕ) : Type 0 where
+  pub words : List ℕ
+  pub here : BeginsWithCell spaces text cell (32 ∷ words)
+  pub there : BeginsWithCell spaces words other rest
+
+-- an operation, without a `;`
+pub record BeginsWithOp (spaces : List Space) (text : List ℕ) (op : Op) (rest : List ℕ) : Type 0 where
+  pub piece : List ℕ
+  pub whole : text ≡ piece ++ rest
+  pub spelled : op_of spaces piece ≡ Ok op
+  pub unparted : list_all (λ b. not (b == 59)) piece ≡ true
+
+-- what stands behind the first bytes of a text, and they, are the text
+pub behind_bytes : (first text rest : List ℕ) → behind first text ≡ Some rest → text ≡ first ++ rest
+unfolding behind
+behind_bytes first text rest is = by (bytes_eq (take (length first) text) first) refl is
+  where
+    by : (same : Bool) → bytes_eq (take (length first) text) first ≡ same → (if same then Some (drop (length first) text) else None) ≡ Some rest → text ≡ first ++ rest
+    by true same e =
+        let there : drop (length first) text ≡ rest = cc in
+        sym (take-append-drop (length first) text)
+        ∙ ap (λ (l : List ℕ). l ++ drop (length first) text) ((bytes_eq-Decides (take (length first) text) first).0 same)
+        ∙ ap (λ (l : List ℕ). first ++ l) there
+    by false same e = absurd (cc e)
 
 -- a number is digits
-number_is_digits : (text : List ℕ) (n : ℕ) → number_of text ≡ Some n → list_all is_ascii_digit text ≡ true
+pub number_is_digits : (text : List ℕ) (n : ℕ) → number_of text ≡ Some n → list_all is_ascii_digit text ≡ true
 number_is_digits text n is = by (list_all is_ascii_digit text) refl
   where
     by : (digits : Bool) → list_all is_ascii_digit text ≡ digits → list_all is_ascii_digit text ≡ true
@@ -58,7 +108,7 @@ named_in_cell name named =
     (and_parts (nat_le 1 (length name) && nat_le (length name) MAX_NAME) (list_all is_name_byte name) named).1
 
 -- a `:` and a number are behind a name
-name_free : (name : List ℕ) → is_name name ≡ true → All (λ b. (b == 58) ≡ false) name
+pub name_free : (name : List ℕ) → is_name name ≡ true → All (λ b. (b == 58) ≡ false) name
 name_free name named =
     all_other 58 is_name_byte refl name
     (and_parts (nat_le 1 (length name) && nat_le (length name) MAX_NAME) (list_all is_name_byte name) named).1
@@ -145,47 +195,35 @@ pub set_begins : (spaces : List Space) (text words rest : List ℕ) (cell : Cell
     → BeginsWithOp spaces text (op.Set cell n) rest
 unfolding op_of_two
 set_begins spaces text words rest cell n whole w =
-    op_of_two_begins (codes "set") w.1.word refl w.1.unparted w.2.digits (number_in_cell w.2.digits n w.2.number) spaces text words w.0 rest (op.Set cell n) whole w.1.whole w.2.whole
-    (rw (w.1.spelled, value_spelled w.2.digits n w.2.number w.2.small) refl)
+    op_of_two_begins (codes "set") w.here.word refl w.here.unparted w.there.digits (number_in_cell w.there.digits n w.there.number) spaces text words w.words rest (op.Set cell n) whole w.here.whole w.there.whole
+    (rw (w.here.spelled, value_spelled w.there.digits n w.there.number w.small) refl)
 
 pub add_begins : (spaces : List Space) (text words rest : List ℕ) (cell : Cell) (n : ℕ) → text ≡ codes "add " ++ words → BeginsWithCellAndNumber spaces words cell n rest
     → BeginsWithOp spaces text (op.Add cell n) rest
 unfolding op_of_two
 add_begins spaces text words rest cell n whole w =
-    op_of_two_begins (codes "add") w.1.word refl w.1.unparted w.2.digits (number_in_cell w.2.digits n w.2.number) spaces text words w.0 rest (op.Add cell n) whole w.1.whole w.2.whole
-    (rw (w.1.spelled, value_spelled w.2.digits n w.2.number w.2.small) refl)
+    op_of_two_begins (codes "add") w.here.word refl w.here.unparted w.there.digits (number_in_cell w.there.digits n w.there.number) spaces text words w.words rest (op.Add cell n) whole w.here.whole w.there.whole
+    (rw (w.here.spelled, value_spelled w.there.digits n w.there.number w.small) refl)
 
 pub copy_begins : (spaces : List Space) (text words rest : List ℕ) (cell other : Cell) → text ≡ codes "copy " ++ words → BeginsWithTwoCells spaces words cell other rest
     → BeginsWithOp spaces text (op.Copy cell other) rest
 unfolding op_of_two
 copy_begins spaces text words rest cell other whole w =
-    op_of_two_begins (codes "copy") w.1.word refl w.1.unparted w.2.word w.2.unparted spaces text words w.0 rest (op.Copy cell other) whole w.1.whole w.2.whole
-    (rw (w.1.spelled, w.2.spelled) refl)
+    op_of_two_begins (codes "copy") w.here.word refl w.here.unparted w.there.word w.there.unparted spaces text words w.words rest (op.Copy cell other) whole w.here.whole w.there.whole
+    (rw (w.here.spelled, w.there.spelled) refl)
 
 pub swap_begins : (spaces : List Space) (text words rest : List ℕ) (cell other : Cell) → text ≡ codes "swap " ++ words → BeginsWithTwoCells spaces words cell other rest
     → BeginsWithOp spaces text (op.Swap cell other) rest
 unfolding op_of_two
 swap_begins spaces text words rest cell other whole w =
-    op_of_two_begins (codes "swap") w.1.word refl w.1.unparted w.2.word w.2.unparted spaces text words w.0 rest (op.Swap cell other) whole w.1.whole w.2.whole
-    (rw (w.1.spelled, w.2.spelled) refl)
+    op_of_two_begins (codes "swap") w.here.word refl w.here.unparted w.there.word w.there.unparted spaces text words w.words rest (op.Swap cell other) whole w.here.whole w.there.whole
+    (rw (w.here.spelled, w.there.spelled) refl)
 
 pub read_begins : (spaces : List Space) (text words rest : List ℕ) (cell : Cell) → text ≡ codes "read " ++ words → BeginsWithCell spaces words cell rest
     → BeginsWithOp spaces text (op.Read cell) rest
 unfolding op_of_one
 read_begins spaces text words rest cell whole w =
     op_of_one_begins (codes "read") w.word refl w.unparted spaces text words rest (op.Read cell) whole w.whole (rw w.spelled refl)
-
--- a space of a layout is found by its name
-pub space_begins : (layout : Hierarchy) → IsLayout layout → (text name rest : List ℕ) (s : ℕ) → s < length layout.spaces → name_at layout.spaces s ≡ Some name
-    → text ≡ name ++ 58 ∷ rest → BeginsWithSpace layout.spaces text s rest
-space_begins layout is text name rest s inside named whole =
-    let same : unwrap_or (name_at layout.spaces s) [] ≡ name = rw named refl in
-    record {
-      name = name;
-      whole = whole;
-      named = rw same at (space_has_name layout is s inside);
-      found = rw same at (space_found layout is s inside);
-    }
 
 -- the operation before the end of a text is the last
 pub pieces-last : (spaces : List Space) (text rest : List ℕ) (list : List Op) (o : Op) → BeginsWithOp spaces text o rest → rest ≡ []

@@ -13,6 +13,8 @@ pub mod FaultLaws
 mod HierarchyLaws
 mod SpellingLaws
 mod BeginningLemmas
+mod FirstLaws
+mod FaultlessLaws
 mod TraceSpellings
 mod RefusalLaws
 mod AffinityLaws

@@ -6,7 +6,7 @@ use Rattle.std.proofs.lemmas.Bool.{le-ltb, lt-ltb}
 use Rattle.waff_model.specs.Layout.{Space}
 use Rattle.waff_model.specs.declared.limits.TheConstants.{MAX_OPS}
 use Rattle.waff_model.specs.declared.op.Op.{Op}
-use Rattle.waff_parse.specs.Refusals.{◌>>=◌, both, one}
+use Rattle.waff_parse.specs.Refusals.{◌>>=◌, both, one, pair}
 use Rattle.waff_read.specs.Ops.{first_ops, ops_of, pieces_of}
 use Rattle.waff_read.specs.TraceFaults.{number}
 use Rattle.waff_read.specs.declared.trace_fault.TraceFault.{TraceFault}
@@ -69,3 +69,15 @@ ops_of-few spaces text kept some is few = rw some (by (pieces_of spaces text) is
         let all = kept-few list (rw (← same) few) in
         rw (le-ltb MAX_OPS (length list) all.1) (ap Ok (sym all.0 ∙ sym same))
     by (Err f) e = absurd (cc e)
+
+-- where one reading after another gives a value, both do
+pub then-ok : {F A B : Type 0} (m : Result A F) (f : A → Result B F) (y : B) → (m >>= f) ≡ Ok y → (x : A) × (m ≡ Ok x) × (f x ≡ Ok y)
+then-ok (Ok x) f y e = (x, refl, e)
+then-ok (Err d) f y e = absurd (cc e)
+
+-- where two readings side by side give a value, both do
+pub pair-ok : {F A B : Type 0} (rank : F → ℕ) (a : Result A F) (b : Result B F) (p : A × B) → pair rank a b ≡ Ok p → (x : A) × (y : B) × (a ≡ Ok x) × (b ≡ Ok y) × (p ≡ (x, y))
+pair-ok rank (Ok x) (Ok y) p e = (x, y, refl, refl, cc)
+pair-ok rank (Ok x) (Err d) p e = absurd (cc e)
+pair-ok rank (Err d) (Ok y) p e = absurd (cc e)
+pair-ok rank (Err c) (Err d) p e = absurd (cc e)

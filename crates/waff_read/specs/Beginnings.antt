@@ -1,47 +1,104 @@
 -- What a text begins with, and the rest of it.
-use Rattle.std.specs.Prelude.{◌≡◌, ℕ, List, ◌∷◌, ◌++◌, Bool, true, not, ◌==◌, ◌||◌, Some, Ok}
-use Rattle.std.specs.List.{list_all}
-use Rattle.waff_model.specs.Layout.{Space, space_named}
-use Rattle.waff_model.specs.Names.{is_name, is_name_byte}
+use Rattle.std.specs.Prelude.{ℕ, List, ◌+◌, ◌==◌, codes, length, take, drop, position}
+use Rattle.std.specs.Prelude.{nat_lt, if◌then◌else◌, Option, Some, None, option_map}
+use Rattle.std.specs.Borrow.{Bor}
+use Rattle.std.specs.Str.{bytes_eq}
+use Rattle.waff_model.specs.Layout.{Space, size_at, space_named}
+use Rattle.waff_model.specs.Names.{is_name}
 use Rattle.waff_model.specs.declared.cell.Cell.{Cell}
 use Rattle.waff_model.specs.declared.op.Op.{Op}
-use Rattle.waff_parse.specs.Texts.{BeginsWithNumber}
-use Rattle.waff_read.specs.Ops.{cell_of, op_of}
+use Rattle.waff_model.specs.declared.op.Op.TheVariants as op
+use Rattle.waff_parse.specs.Texts.{first_digits, first_number, number_of}
 
--- the name of a space, and `:`
-pub record BeginsWithSpace (spaces : List Space) (text : List ℕ) (space : ℕ)
-    (rest : List ℕ) : Type 0 where
-  pub name : List ℕ
-  pub whole : text ≡ name ++ 58 ∷ rest
-  pub named : is_name name ≡ true
-  pub found : space_named spaces name ≡ Some space
+-- one beginning, and then another in what stands behind it
+infixl 10 ◌>>=◌
+abbrev pub ◌>>=◌ : {A B : Type 0} → Option A → (A → Option B) → Option B
+None >>= f = None
+(Some x) >>= f = f x
 
--- a byte of a cell: one of a name, or `:`
-abbrev pub is_cell_byte : ℕ → Bool
-is_cell_byte b = is_name_byte b || (b == 58)
+-- what stands behind the first bytes of a text, where it begins with these
+unfoldable pub behind : List ℕ → List ℕ → Option (List ℕ)
+behind first text =
+    if bytes_eq (take (length first) text) first then Some (drop (length first) text) else None
 
--- a cell
-pub record BeginsWithCell (spaces : List Space) (text : List ℕ) (cell : Cell)
-    (rest : List ℕ) : Type 0 where
-  pub word : List ℕ
-  pub whole : text ≡ word ++ rest
-  pub spelled : cell_of spaces word ≡ Ok cell
-  pub unparted : list_all is_cell_byte word ≡ true
+-- what stands behind a name and `:`
+abbrev pub behind_name : List ℕ → List ℕ → Option (List ℕ)
+behind_name name text = behind name text >>= (λ more. behind (codes ":") more)
 
--- a cell and a number, with a space between them
-abbrev pub BeginsWithCellAndNumber : List Space → List ℕ → Cell → ℕ → List ℕ → Type 0
-BeginsWithCellAndNumber spaces text cell n rest = (words : List ℕ)
-    × BeginsWithCell spaces text cell (32 ∷ words) × BeginsWithNumber words n rest
+-- the space of a name
+abbrev pub space_of_name : List Space → List ℕ → Option ℕ
+space_of_name spaces name = if is_name name then space_named spaces name else None
 
--- two cells, with a space between them
-abbrev pub BeginsWithTwoCells : List Space → List ℕ → Cell → Cell → List ℕ → Type 0
-BeginsWithTwoCells spaces text cell other rest = (words : List ℕ)
-    × BeginsWithCell spaces text cell (32 ∷ words) × BeginsWithCell spaces words other rest
+-- the space whose name stands before the first `:` of a text, and what stands behind that
+unfoldable pub first_space : List Space → List ℕ → Option (ℕ × List ℕ)
+first_space spaces text = do
+  place ← position (λ b. b == 58) text
+  space ← space_of_name spaces (take place text)
+  Some (space, drop (place + 1) text)
 
--- an operation, without a `;`
-pub record BeginsWithOp (spaces : List Space) (text : List ℕ) (op : Op)
-    (rest : List ℕ) : Type 0 where
-  pub piece : List ℕ
-  pub whole : text ≡ piece ++ rest
-  pub spelled : op_of spaces piece ≡ Ok op
-  pub unparted : list_all (λ b. not (b == 59)) piece ≡ true
+-- a number if it is below a limit, and the rest of a text
+abbrev pub number_below : ℕ → List ℕ → ℕ → Option (ℕ × List ℕ)
+number_below limit rest n = if nat_lt n limit then Some (n, rest) else None
+
+-- the number below a limit that the digits at the beginning write, and what stands behind them
+unfoldable pub first_below : ℕ → List ℕ → Option (ℕ × List ℕ)
+first_below limit text =
+    number_of (first_digits text) >>= number_below limit (drop (length (first_digits text)) text)
+
+-- the cell
+unfoldable pub first_cell : List Space → List ℕ → Option (Cell × List ℕ)
+first_cell spaces text = do
+  space ← first_space spaces text
+  index ← first_below (size_at spaces space.0) space.1
+  Some (record { space = space.0; index = index.0 }, index.1)
+
+-- the cell and the number, with a space between them
+unfoldable pub cell_and_number : List Space → List ℕ → Option (Cell × ℕ × List ℕ)
+cell_and_number spaces text = do
+  cell ← first_cell spaces text
+  words ← behind (codes " ") cell.1
+  number ← first_number words
+  Some (cell.0, number.0, number.1)
+
+-- the two cells, with a space between them
+unfoldable pub two_cells : List Space → List ℕ → Option (Cell × Cell × List ℕ)
+two_cells spaces text = do
+  cell ← first_cell spaces text
+  words ← behind (codes " ") cell.1
+  other ← first_cell spaces words
+  Some (cell.0, other.0, other.1)
+
+-- the operation on what stands behind its verb
+abbrev pub with_number : (Cell → ℕ → Op) → List Space → List ℕ → Option (Op × List ℕ)
+with_number make spaces words =
+    option_map (λ found. (make found.0 found.1, found.2)) (cell_and_number spaces words)
+
+abbrev pub with_other : (Cell → Cell → Op) → List Space → List ℕ → Option (Op × List ℕ)
+with_other make spaces words =
+    option_map (λ found. (make found.0 found.1, found.2)) (two_cells spaces words)
+
+abbrev pub of_cell : List Space → List ℕ → Option (Op × List ℕ)
+of_cell spaces words =
+    option_map (λ found. (op.Read found.0, found.1)) (first_cell spaces words)
+
+-- what is behind one verb, or else another beginning
+abbrev pub or_else : {A : Type 0} → Option A → (A → Option (Op × List ℕ))
+    → Option (Op × List ℕ) → Option (Op × List ℕ)
+or_else None f other = other
+or_else (Some words) f other = f words
+
+-- the operation that a text begins with, as far as its last word goes
+unfoldable pub first_op : List Space → List ℕ → Option (Op × List ℕ)
+first_op spaces text =
+    or_else (behind (codes "set ") text) (with_number op.Set spaces)
+    (or_else (behind (codes "add ") text) (with_number op.Add spaces)
+    (or_else (behind (codes "copy ") text) (with_other op.Copy spaces)
+    (or_else (behind (codes "swap ") text) (with_other op.Swap spaces)
+    (behind (codes "read ") text >>= of_cell spaces))))
+
+-- what was found, with the text that was borrowed
+abbrev pub with_rest : {A : Type 0} → A × Bor (List ℕ) → A × List ℕ
+with_rest found = (found.0, found.1.now)
+
+abbrev pub two_with_rest : {A B : Type 0} → A × B × Bor (List ℕ) → A × B × List ℕ
+two_with_rest found = (found.0, found.1, found.2.now)

@@ -1,6 +1,6 @@
 //! What a text begins with: a cell, an operation. What is read so has no fault.
 
-ghost use Rattle.std.specs.Prelude.{◌≡◌, ◌++◌, IfSome};
+ghost use Rattle.std.specs.Prelude.{◌≡◌, option_map};
 ghost use Rattle.waff_read.specs.Beginnings as beginnings;
 
 use crate::space_table::SpaceTable;
@@ -8,19 +8,22 @@ use waff_model::{Cell, Op};
 use waff_parse::first_number;
 
 /// The text behind its first bytes, where it begins with these.
+#[tactic(auto, unfolding(crate::specs::Beginnings::behind))]
 pub(crate) fn behind<'t>(text: &'t [u8], first: &[u8]) -> Option<&'t [u8]>
-    ensures { IfSome result (λ rest. text.now ≡ first.now ++ rest.now) }
+    ensures { option_map (λ rest. rest.now) result ≡ beginnings.behind first.now text.now }
 {
     text.strip_prefix(first)
 }
 
 // The cell that a text begins with; the space that is guessed is looked for first.
+#[tactic(auto, unfolding(crate::specs::Beginnings::first_cell))]
 fn first_cell<'t>(spaces: &SpaceTable<'_>, guess: u32, text: &'t [u8]) -> Option<(Cell, &'t [u8])>
-    ensures { IfSome result (λ r. beginnings.BeginsWithCell spaces.now text.now r.0 r.1.now) }
+    ensures { option_map beginnings.with_rest result ≡ beginnings.first_cell spaces.now text.now }
 {
     let (space, index) = spaces.first_space(guess, text)?;
+    let size = spaces.size(space);
     let (index, rest) = first_number(index)?;
-    if index >= u64::from(spaces.size(space)) {
+    if index >= u64::from(size) {
         return None;
     }
     let index = index as u32;
@@ -28,13 +31,14 @@ fn first_cell<'t>(spaces: &SpaceTable<'_>, guess: u32, text: &'t [u8]) -> Option
 }
 
 // The cell and the number, with a space between them, that a text begins with.
+#[tactic(auto, unfolding(crate::specs::Beginnings::cell_and_number))]
 fn cell_and_number<'t>(
     spaces: &SpaceTable<'_>,
     guess: u32,
     text: &'t [u8],
 ) -> Option<(Cell, u64, &'t [u8])>
-    ensures { IfSome result (λ r.
-        beginnings.BeginsWithCellAndNumber spaces.now text.now r.0 r.1 r.2.now) }
+    ensures { option_map beginnings.two_with_rest result
+        ≡ beginnings.cell_and_number spaces.now text.now }
 {
     let (cell, rest) = first_cell(spaces, guess, text)?;
     let (value, rest) = first_number(behind(rest, b" ")?)?;
@@ -42,26 +46,29 @@ fn cell_and_number<'t>(
 }
 
 // The two cells, with a space between them, that a text begins with.
+#[tactic(auto, unfolding(crate::specs::Beginnings::two_cells))]
 fn two_cells<'t>(
     spaces: &SpaceTable<'_>,
     guess: u32,
     text: &'t [u8],
 ) -> Option<(Cell, Cell, &'t [u8])>
-    ensures { IfSome result (λ r.
-        beginnings.BeginsWithTwoCells spaces.now text.now r.0 r.1 r.2.now) }
+    ensures { option_map beginnings.two_with_rest result
+        ≡ beginnings.two_cells spaces.now text.now }
 {
     let (cell, rest) = first_cell(spaces, guess, text)?;
     let (other, rest) = first_cell(spaces, cell.space, behind(rest, b" ")?)?;
     Some((cell, other, rest))
 }
 
-/// The operation that a text begins with; the space that is guessed is looked for first.
+/// The operation that a text begins with, as far as its last word goes; the space that is guessed
+/// is looked for first.
+#[tactic(auto, unfolding(crate::specs::Beginnings::first_op))]
 pub(crate) fn first_op<'t>(
     spaces: &SpaceTable<'_>,
     guess: u32,
     text: &'t [u8],
 ) -> Option<(Op, &'t [u8])>
-    ensures { IfSome result (λ r. beginnings.BeginsWithOp spaces.now text.now r.0 r.1.now) }
+    ensures { option_map beginnings.with_rest result ≡ beginnings.first_op spaces.now text.now }
 {
     if let Some(words) = behind(text, b"set ") {
         let (cell, value, rest) = cell_and_number(spaces, guess, words)?;

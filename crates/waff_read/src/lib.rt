@@ -12,7 +12,7 @@
 //! What the files stand for is defined in `specs/`. Of a hierarchy: `Hierarchies` (whole files),
 //! over `Documents`, `Shapes`, `Affinities` and `Spaces`. Of a trace: `Traces` (whole texts), over
 //! `Messages` (records) and `Ops` (operations as they are spelled), with `TraceFaults` (the order
-//! of the refusals).
+//! of the refusals); what the walk over operations finds, in `Beginnings`.
 #![tactic(auto)]
 
 mod affinities;

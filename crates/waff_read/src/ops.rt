@@ -1,7 +1,8 @@
 //! The operations of a message.
 
-ghost use Rattle.std.specs.Prelude.{◌≡◌, ◌≤◌, ◌+◌, [], ◌∷◌, ◌++◌, IfOk, IfSome, Ok, OnOk};
+ghost use Rattle.std.specs.Prelude.{◌≡◌, ◌≤◌, ◌+◌, [], ◌∷◌, ◌++◌, IfOk, OnOk};
 ghost use Rattle.std.specs.Prelude.{length, take};
+ghost use Rattle.std.specs.Result.{result_ok};
 ghost use Rattle.waff_model.specs.declared.limits.TheConstants.{MAX_OPS};
 ghost use Rattle.waff_parse.specs.Refusals.{both, one};
 ghost use Rattle.waff_parse.specs.Stopping.{Gives};
@@ -80,15 +81,14 @@ fn space_of(op: Op) -> u32
 // About how many bytes an operation takes, with the `;` behind it.
 const OP_BYTES: usize = 12;
 
-// The operations of a text that has no fault and not too many of them, in one walk over its bytes.
+// The operations of a text in one walk over its bytes: none exactly where it has a fault, or too
+// many operations.
 fn read_faultless(
     alloc: Global,
     spaces: &SpaceTable<'_>,
     text: &[u8],
 ) -> Result<Option<Ops>, AllocError>
-    ensures read { IfOk result (λ found. IfSome found (λ list.
-        ops.pieces_of spaces.now text.now ≡ Ok list)) }
-    ensures few { IfOk result (λ found. IfSome found (λ list. length list ≤ MAX_OPS)) }
+    ensures { IfOk result (λ found. found ≡ result_ok (ops.ops_of spaces.now text.now)) }
 {
     let room = MAX_OPS.min(1 + text.len() / OP_BYTES);
     let mut list = Ops::with_capacity(alloc, room)?;

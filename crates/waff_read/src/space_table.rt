@@ -1,7 +1,8 @@
 //! The spaces of a layout, found by name in one step.
 
-ghost use Rattle.std.specs.Prelude.{◌≡◌, ◌<◌, ◌∷◌, ◌++◌, length, IfOk, IfSome};
+ghost use Rattle.std.specs.Prelude.{◌≡◌, ◌==◌, ◌<◌, length, position, option_map, IfOk, IfSome};
 ghost use Rattle.waff_model.specs.Layout.{IsLayout, names_of, size_at, space_named};
+ghost use Rattle.waff_read.specs.Beginnings as beginnings;
 
 use crate::beginnings::behind;
 use crate::names::Names;
@@ -29,8 +30,6 @@ impl<'a> Model for SpaceTable<'a> {
 }
 
 impl<'a> SpaceTable<'a> {
-    ghost use Rattle.waff_read.specs.Beginnings.{BeginsWithSpace};
-
     pub(crate) fn new(alloc: Global, layout: &'a Layout) -> Result<Self, AllocError>
         ensures { IfOk result (λ table. table ≡ layout.now.spaces) }
     {
@@ -55,24 +54,36 @@ impl<'a> SpaceTable<'a> {
         }
     }
 
-    // The space whose name a text begins with, before a `:`, found by name, and the text after it.
-    fn found_space<'t>(&self, text: &'t [u8]) -> Option<(u32, &'t [u8])>
-        ensures begins { IfSome result (λ r. BeginsWithSpace self.now text.now r.0 r.1.now) }
-        ensures within { IfSome result (λ r. r.0 < length self.now) }
+    // The number of the space with this name, if it is a name.
+    fn named(&self, name: &[u8]) -> Option<u32>
+        ensures named { result ≡ beginnings.space_of_name self.now name.now }
+        ensures within { IfSome result (λ s. s < length self.now) }
     {
-        let end = text.iter().position(|byte| *byte == b':')?;
-        let name = str::from_utf8(&text[..end]).ok()?;
+        let name = str::from_utf8(name).ok()?;
         if !is_name(name) {
             return None;
         }
-        let space = self.find(name)?;
+        self.find(name)
+    }
+
+    // The space whose name stands before the first `:` of a text, found by name, and the text after
+    // that.
+    #[tactic(auto, unfolding(crate::specs::Beginnings::first_space))]
+    fn found_space<'t>(&self, text: &'t [u8]) -> Option<(u32, &'t [u8])>
+        ensures begins { option_map beginnings.with_rest result
+            ≡ beginnings.first_space self.now text.now }
+        ensures within { IfSome result (λ r. r.0 < length self.now) }
+    {
+        let end = first_colon(text)?;
+        let space = self.named(&text[..end])?;
         Some((space, &text[end + 1..]))
     }
 
-    /// The space whose name a text begins with, before a `:`, and the text after it. The space that
-    /// is guessed is looked for first.
+    /// The space whose name stands before the first `:` of a text, and the text after that. The space
+    /// that is guessed is looked for first.
     pub(crate) fn first_space<'t>(&self, guess: u32, text: &'t [u8]) -> Option<(u32, &'t [u8])>
-        ensures begins { IfSome result (λ r. BeginsWithSpace self.now text.now r.0 r.1.now) }
+        ensures begins { option_map beginnings.with_rest result
+            ≡ beginnings.first_space self.now text.now }
         ensures within { IfSome result (λ r. r.0 < length self.now) }
     {
         if guess < self.layout.space_count() {
@@ -93,9 +104,17 @@ impl<'a> SpaceTable<'a> {
     }
 }
 
+// The place of the first `:` of a text.
+fn first_colon(text: &[u8]) -> Option<usize>
+    ensures place { result ≡ position (λ b. b == 58) text.now }
+    ensures within { IfSome result (λ place. place < length text.now) }
+{
+    text.iter().position(|byte| *byte == b':')
+}
+
 // The text behind a name and a `:`, where it begins with these.
 fn behind_name<'t>(text: &'t [u8], name: &str) -> Option<&'t [u8]>
-    ensures { IfSome result (λ rest. text.now ≡ name.now ++ 58 ∷ rest.now) }
+    ensures { option_map (λ rest. rest.now) result ≡ beginnings.behind_name name.now text.now }
 {
     behind(behind(text, name.as_bytes())?, b":")
 }
