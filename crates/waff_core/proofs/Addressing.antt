@@ -25,17 +25,13 @@ cells_owned spaces ops owners cells lists k d there =
       owned = (lists.each (owner_of spaces cell)).1 (record { cell = cell; named = Contains-get_or (cells_of ops) k d there; owned = refl });
     }
 
--- what is known of a message: its operations, its owners, and its cells
+-- the owners of a message's footprint
 pub message_owned : (spaces : List Space) (ops : List (List Op)) (owners : List (List ℕ)) (n : ℕ) → 1 ≤ n → n ≤ length ops
-    → All (λ ops. All (IsCell spaces) (cells_of ops)) ops → AreOwners spaces ops owners
-    → (named : List Op) (parcels : List ℕ) → named ≡ get_or ops (n - 1) [] → parcels ≡ get_or owners (n - 1) []
-    → ListsOwners spaces named parcels × All (IsCell spaces) (cells_of named)
-message_owned spaces ops owners n from to cells are named parcels is_named is_parcels =
-    let lists : ListsOwners spaces (get_or ops (n - 1) []) (get_or owners (n - 1) [])
-    = subst (λ xs. ListsOwners spaces xs (get_or owners (n - 1) [])) (ops_of-at ops n from) (are.each n from to) in (
-      subst (λ xs. ListsOwners spaces xs parcels) (sym is_named) (subst (λ xs. ListsOwners spaces (get_or ops (n - 1) []) xs) (sym is_parcels) lists),
-      subst (λ (xs : List Op). All (IsCell spaces) (cells_of xs)) (sym is_named) (cells (n - 1) [] (omega (arith, from, to))),
-    )
+    → AreOwners spaces ops owners → (named : List Op) (parcels : List ℕ) → named ≡ get_or ops (n - 1) []
+    → parcels ≡ get_or owners (n - 1) [] → ListsOwners spaces named parcels
+message_owned spaces ops owners n from to are named parcels is_named is_parcels =
+    subst (λ xs. ListsOwners spaces xs parcels) (ops_of-at ops n from ∙ sym is_named)
+    (subst (λ xs. ListsOwners spaces (ops_of ops n) xs) (sym is_parcels) (are.each n from to))
 
 -- those of a message
 pub addressed : (spaces : List Space) (ops : List Op) (owners : List ℕ) (row_ops : List RowOp) → All (IsCell spaces) (cells_of ops)

@@ -1,5 +1,5 @@
 -- The operations and the owners of messages, one message after another.
-use Rattle.std.proofs.Common.{◌≡◌, ◌≢◌, ℕ, zero, suc, ◌+◌, ◌-◌, ◌*◌, ◌<◌, ◌≤◌, List, [], ◌∷◌, ◌++◌, length, get_or, take, map, All, Contains, eqb, arith, refl, ap, sym, ◌∙◌, subst, ⊎_elim}
+use Rattle.std.proofs.Common.{◌≡◌, ◌≢◌, ℕ, zero, suc, ◌+◌, ◌-◌, ◌*◌, ◌<◌, ◌≤◌, List, [], ◌∷◌, ◌++◌, length, slice_get, Some, get_or, take, map, All, Contains, eqb, arith, refl, ap, sym, ◌∙◌, subst, ⊎_elim}
 use Rattle.std.specs.List.{flat_map, dedup}
 use Rattle.std.specs.List.Sorted.{IsPermutation, IsSorted}
 use Rattle.std.specs.Ordering.{nat_cmp}
@@ -8,13 +8,15 @@ use Rattle.std.proofs.lemmas.List.{append_assoc, get_or_append_left, get_or-appe
 use Rattle.std.proofs.lemmas.List.Elements.{All-nil, All-push, All-contains, Contains-get_or}
 use Rattle.std.proofs.lemmas.List.Kept.{Contains-dedup_nat, Contains-from_dedup}
 use Rattle.std.proofs.lemmas.List.Sorted.{Contains-permutation, IsPermutation-sym}
+use Rattle.std.proofs.lemmas.Option.{get_or_from_slice_get, slice_get_within}
 use Rattle.std.proofs.lemmas.Map.Keys.{IsStrictlyIncreasing-dedup}
 use Rattle.waff_model.specs.Cells.{cells_of, cells_of_op}
 use Rattle.waff_model.specs.Layout.{Space, IsCell, owner_of}
 use Rattle.waff_model.specs.declared.cell.Cell.{Cell}
+use Rattle.waff_model.specs.declared.message.Message.{Message}
 use Rattle.waff_model.specs.declared.op.Op.{Op}
 use Rattle.waff_model.specs.declared.op.Op.TheVariants.{Set, Add, Copy, Swap, Read}
-use Rattle.waff_cells.specs.Serial.{ops_of}
+use Rattle.waff_cells.specs.Serial.{operations, ops_of}
 use Rattle.waff_core.specs.Job.{JobValue, IsJob, IsIn, IsOwner, ListsOwners, owners_of}
 use Rattle.waff_core.specs.Owners.{owners_in, AreOwners}
 
@@ -44,6 +46,13 @@ owners_more before spaces ops i d within =
     ∙ ap (λ xs. before ++ xs)
     (sym (map-append f (cells_of (take i ops)) (cells_of_op op))
     ∙ ap (λ xs. map f xs) (flat_map_more cells_of_op [] (take i ops) op ∙ ap (λ xs. cells_of xs) (sym (take_more ops i d within))))
+
+-- the operations of the message at a place
+pub operations_at : (messages : List Message) (n : ℕ) (message : Message) → slice_get messages n ≡ Some message
+    → get_or (operations messages) n [] ≡ message.ops
+operations_at messages n message there =
+    get_or-map (λ (m : Message). m.ops) messages n message [] (slice_get_within messages n message there)
+    ∙ ap (λ (m : Message). m.ops) (get_or_from_slice_get messages n message message there)
 
 -- the operations of a message, at its place
 pub ops_of-at : (ops : List (List Op)) (n : ℕ) → 1 ≤ n → ops_of ops n ≡ get_or ops (n - 1) []

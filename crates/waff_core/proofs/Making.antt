@@ -1,6 +1,6 @@
 -- What a job is made of.
 use Rattle.std.proofs.Common.{◌≡◌, ℕ, ◌-◌, ◌<◌, ◌≤◌, List, [], length, All, arith, ap, sym, ◌∙◌, subst, inl, inr}
-use Rattle.std.proofs.lemmas.List.{length-map, get_or-map}
+use Rattle.std.proofs.lemmas.List.{length-map}
 use Rattle.std.proofs.lemmas.List.Elements.{All-map, All-weaker}
 use Rattle.std.proofs.lemmas.Option.{slice_get_cases}
 use Rattle.waff_model.specs.Cells.{cells_of}
@@ -16,7 +16,7 @@ use Rattle.waff_order.specs.Needs.{AreNeeds}
 use Rattle.waff_cells.specs.Serial.{operations, ops_of}
 use Rattle.waff_core.specs.Job.{IsJob, IsOrder}
 use Rattle.waff_core.specs.Owners.{AreOwners}
-use Rattle.waff_core.proofs.Listing.{ops_of-at}
+use Rattle.waff_core.proofs.Listing.{ops_of-at, operations_at}
 
 -- the operations of a trace's messages are few, and their cells are those of the layout
 pub few_operations : (trace : Arrivals) → IsTrace trace → All (λ ops. length ops ≤ MAX_OPS) (operations trace.messages)
@@ -39,9 +39,7 @@ lowest_of layout messages assigned lowest n from to =
       | inl there ↦
           let message = there.0 in
           let same : ops_of (operations messages) n ≡ message.ops
-          = ops_of-at (operations messages) n from
-          ∙ get_or-map (λ (m : Message). m.ops) messages (n - 1) message [] there.1
-          ∙ ap (λ (m : Message). m.ops) there.3 in
+          = ops_of-at (operations messages) n from ∙ operations_at messages (n - 1) message there.2 in
           subst (λ (ops : List Op). IsLowest layout (IsInFootprint ops) (affinity_of assigned n)) (sym same) (lowest n message from there.2)
       | inr past ↦ absurd (omega (arith, past.0))
     ]

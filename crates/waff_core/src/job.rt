@@ -16,7 +16,6 @@ ghost use Rattle.waff_core.specs.Job.{IsJob, IsJobOf, IsOrder, owners_of};
 ghost use Rattle.waff_core.specs.Owners.{AreOwners};
 
 use crate::lists::Lists;
-use crate::operations::list_operations;
 use crate::order::is_order;
 use crate::owners::list_owners;
 use crate::refusal::JobError;
@@ -25,7 +24,7 @@ use std::alloc::{AllocError, Global};
 use std::marker::Model;
 use waff_assign::{Assigned, is_ordered};
 use waff_cells::RowOp;
-use waff_model::{Layout, Op, Trace};
+use waff_model::{Layout, Trace};
 use waff_order::Needs;
 
 /// What is replayed: the messages of a trace under a layout, with their affinities, their needs and
@@ -92,17 +91,14 @@ impl Job {
         let lists = lists_of(alloc, &layout, &trace, &needs, order);
         drop(trace);
         match lists {
-            Ok((ops, owners, row_ops, order)) => {
-                drop(ops);
-                Ok(Job {
-                    layout,
-                    assigned,
-                    needs,
-                    owners,
-                    row_ops,
-                    order,
-                })
-            }
+            Ok((owners, row_ops, order)) => Ok(Job {
+                layout,
+                assigned,
+                needs,
+                owners,
+                row_ops,
+                order,
+            }),
             Err(e) => {
                 drop((layout, assigned, needs));
                 Err(e)
@@ -177,23 +173,23 @@ impl Job {
     }
 }
 
-/// The lists of a job: the operations and the owners of the messages, the operations on the owners'
-/// parcels, and the order, if it is one.
+/// The lists of a job: the owners of the messages, the operations on their parcels, and the order,
+/// if it is one.
 fn lists_of(
     alloc: Global,
     layout: &Layout,
     trace: &Trace,
     needs: &Needs,
     order: &[u32],
-) -> Result<(Lists<Op>, Lists<u16>, Lists<RowOp>, Vec<u32>), JobError>
+) -> Result<(Lists<u16>, Lists<RowOp>, Vec<u32>), JobError>
     requires fits { trace.now.sizes ≡ sizes_of layout.now.spaces }
     ensures layout { IfOk result (λ lists. IsLayout layout.now) }
     ensures trace { IfOk result (λ lists. IsTrace trace.now) }
-    ensures ops { IfOk result (λ lists. lists.0 ≡ operations trace.now.messages) }
-    ensures owners { IfOk result (λ lists. AreOwners layout.now.spaces lists.0 lists.1) }
-    ensures row_ops { IfOk result
-        (λ lists. AreAddressed layout.now.spaces lists.0 lists.1 lists.2) }
-    ensures order { IfOk result (λ lists. lists.3.items ≡ order.now) }
+    ensures owners { IfOk result
+        (λ lists. AreOwners layout.now.spaces (operations trace.now.messages) lists.0) }
+    ensures row_ops { IfOk result (λ lists. AreAddressed layout.now.spaces
+        (operations trace.now.messages) lists.0 lists.1) }
+    ensures order { IfOk result (λ lists. lists.2.items ≡ order.now) }
     ensures is_order { IfOk result (λ lists. IsOrder needs.now order.now) }
     ensures refused { IfErr result (λ e. e ≡ JobError.Order → ¬ IsOrder needs.now order.now) }
 {
@@ -208,27 +204,25 @@ fn lists_of(
     }
 }
 
-/// The operations and the owners of the messages, the operations on the owners' parcels, and the
-/// order.
+/// The owners of the messages, the operations on their parcels, and the order.
 fn copy_lists(
     alloc: Global,
     layout: &Layout,
     trace: &Trace,
     order: &[u32],
-) -> Result<(Lists<Op>, Lists<u16>, Lists<RowOp>, Vec<u32>), AllocError>
+) -> Result<(Lists<u16>, Lists<RowOp>, Vec<u32>), AllocError>
     requires fits { trace.now.sizes ≡ sizes_of layout.now.spaces }
     ensures layout { IfOk result (λ lists. IsLayout layout.now) }
     ensures trace { IfOk result (λ lists. IsTrace trace.now) }
-    ensures ops { IfOk result (λ lists. lists.0 ≡ operations trace.now.messages) }
-    ensures owners { IfOk result (λ lists. AreOwners layout.now.spaces lists.0 lists.1) }
-    ensures row_ops { IfOk result
-        (λ lists. AreAddressed layout.now.spaces lists.0 lists.1 lists.2) }
-    ensures order { IfOk result (λ lists. lists.3.items ≡ order.now) }
+    ensures owners { IfOk result
+        (λ lists. AreOwners layout.now.spaces (operations trace.now.messages) lists.0) }
+    ensures row_ops { IfOk result (λ lists. AreAddressed layout.now.spaces
+        (operations trace.now.messages) lists.0 lists.1) }
+    ensures order { IfOk result (λ lists. lists.2.items ≡ order.now) }
 {
     let _ = layout.space_count();
-    let ops = list_operations(alloc, trace)?;
-    let owners = list_owners(alloc, layout, &ops, trace.len())?;
-    let row_ops = list_row_ops(alloc, layout, &ops, &owners, trace.len())?;
+    let owners = list_owners(alloc, layout, trace)?;
+    let row_ops = list_row_ops(alloc, layout, trace, &owners)?;
     let order = Vec::from_slice(alloc, order)?;
-    Ok((ops, owners, row_ops, order))
+    Ok((owners, row_ops, order))
 }

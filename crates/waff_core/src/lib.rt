@@ -4,7 +4,7 @@
 //! actor draws the next message, begins it when all earlier messages that exclude it are done, and
 //! ends it. The machine is pure: no thread is in it. What the crates above rest on: whatever list
 //! of events it accepts, each cell has the value that the order of arrival gives it.
-//! - `job`, `order`, `refusal`: jobs, and why they are refused; `lists`, `operations`, `owners`,
+//! - `job`, `order`, `refusal`: jobs, and why they are refused; `operations`, `lists`, `owners`,
 //!   `row_ops`: what a step reads, kept flat.
 //! - `event`, `phase`, `status`, `homes`: the parts of a state; `core_state`: the whole.
 //! - `steps`, `run`: one event, and lists of them.

@@ -1,30 +1,19 @@
-//! The operations of a trace's messages, kept flat.
+//! The operations of a trace's messages.
 
-ghost use Rattle.std.specs.Prelude.{◌≡◌, ◌++◌, length, IfOk, OnOk};
+ghost use Rattle.std.specs.Prelude.{◌≡◌, ◌-◌, ◌≤◌, [], length, All, slice_index_or};
+ghost use Rattle.waff_model.specs.Cells.{cells_of, LiesIn};
+ghost use Rattle.waff_model.specs.declared.limits.TheConstants.{MAX_OPS};
 ghost use Rattle.waff_cells.specs.Serial.{operations};
 
-use crate::lists::Lists;
-use std::alloc::{AllocError, Global};
-use waff_model::{Op, Ops, Trace};
+use waff_model::{Op, Trace};
 
-/// The operations of each message of the trace.
-pub(crate) fn list_operations(alloc: Global, trace: &Trace) -> Result<Lists<Op>, AllocError>
-    ensures { IfOk result (λ ops. ops ≡ operations trace.now.messages) }
+/// The operations of message `n`, from 1.
+pub(crate) fn ops_of(trace: &Trace, n: u32) -> &[Op]
+    requires from { 1 ≤ n }
+    requires to { n ≤ length trace.now.messages }
+    ensures ops { result.now ≡ slice_index_or (operations trace.now.messages) (n - 1) [] }
+    ensures few { length result.now ≤ MAX_OPS }
+    ensures cells { All (LiesIn trace.now.sizes) (cells_of result.now) }
 {
-    let mut all = Vec::new(alloc);
-    let mut ends = Vec::with_capacity(alloc, trace.len() as usize)?;
-    for n in 1..trace.len() + 1 {
-        push_ops(&mut all, &trace.message(n).ops)?;
-        ends.push(all.len() as u32)?;
-    }
-    Ok(Lists::new(all, ends))
-}
-
-fn push_ops(all: &mut Vec<Op>, ops: &Ops) -> Result<(), AllocError>
-    ensures { OnOk result (all.new.items ≡ all.old.items ++ ops.now) }
-{
-    for place in 0..ops.len() {
-        all.push(ops.get(place))?;
-    }
-    Ok(())
+    trace.message(n).ops.iter().as_slice()
 }

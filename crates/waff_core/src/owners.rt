@@ -1,34 +1,35 @@
 //! The owners of the footprints of messages, kept flat.
 
-ghost use Rattle.std.specs.Prelude.{◌≡◌, ◌≤◌, ◌++◌, length, All, IfOk, OnOk};
+ghost use Rattle.std.specs.Prelude.{◌≡◌, ◌++◌, All, IfOk, OnOk};
 ghost use Rattle.waff_model.specs.Cells.{cells_of, cells_of_op};
 ghost use Rattle.waff_model.specs.Layout.{IsCell};
-ghost use Rattle.waff_model.specs.declared.limits.TheConstants.{MAX_MESSAGES, MAX_OPS};
+ghost use Rattle.waff_model.specs.Messages.{IsTrace, sizes_of};
+ghost use Rattle.waff_cells.specs.Serial.{operations};
 ghost use Rattle.waff_core.specs.Owners.{AreOwners, owners_in};
 
 use crate::lists::Lists;
+use crate::operations::ops_of;
 use std::alloc::{AllocError, Global};
-use waff_model::{Layout, Op};
+use waff_model::{Layout, Op, Trace};
 
-/// The owners of the footprint of each of these many messages, each once, in rising order.
+/// The owners of the footprint of each message, each once, in rising order.
 pub(crate) fn list_owners(
     alloc: Global,
     layout: &Layout,
-    ops: &Lists<Op>,
-    count: u32,
+    trace: &Trace,
 ) -> Result<Lists<u16>, AllocError>
-    requires count { count ≡ length ops.now }
-    requires messages { count ≤ MAX_MESSAGES }
-    requires few { All (λ ops. length ops ≤ MAX_OPS) ops.now }
-    requires cells { All (λ ops. All (IsCell layout.now.spaces) (cells_of ops)) ops.now }
-    ensures { IfOk result (AreOwners layout.now.spaces ops.now) }
+    requires fits { trace.now.sizes ≡ sizes_of layout.now.spaces }
+    ensures trace { IfOk result (λ owners. IsTrace trace.now) }
+    ensures owners { IfOk result
+        (AreOwners layout.now.spaces (operations trace.now.messages)) }
 {
     let mut all = Vec::new(alloc);
-    let mut ends = Vec::with_capacity(alloc, count as usize)?;
+    let mut ends = Vec::with_capacity(alloc, trace.len() as usize)?;
     let mut owners: Vec<u16> = Vec::new(alloc);
-    for n in 1..count + 1 {
+    for n in 1..trace.len() + 1 {
+        let named = ops_of(trace, n);
         owners.clear();
-        push_owners(&mut owners, layout, ops.of(n))?;
+        push_owners(&mut owners, layout, named)?;
         owners.sort_unstable();
         owners.dedup();
         all.extend_from_slice(owners.as_slice())?;

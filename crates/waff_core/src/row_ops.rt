@@ -2,38 +2,37 @@
 
 ghost use Rattle.std.specs.Prelude.{◌≡◌, ◌≤◌, ◌++◌, length, map, All, IfOk, OnOk};
 ghost use Rattle.waff_model.specs.Cells.{cells_of};
-ghost use Rattle.waff_model.specs.Layout.{IsCell};
-ghost use Rattle.waff_model.specs.declared.limits.TheConstants.{MAX_MESSAGES, MAX_OPS};
+ghost use Rattle.waff_model.specs.Messages.{sizes_of};
 ghost use Rattle.waff_cells.specs.Parcel.{IsOwned, address_in};
 ghost use Rattle.waff_cells.specs.RowOps.{row_op};
+ghost use Rattle.waff_cells.specs.Serial.{operations};
 ghost use Rattle.waff_core.specs.Addressed.{AreAddressed};
 ghost use Rattle.waff_core.specs.Owners.{AreOwners};
 
 use crate::lists::Lists;
+use crate::operations::ops_of;
 use std::alloc::{AllocError, Global};
 use waff_cells::{RowOp, parcels};
-use waff_model::{Layout, Op};
+use waff_model::{Layout, Op, Trace};
 
-/// The operations of each of these many messages on the parcels of these owners of its footprint.
+/// The operations of each message on the parcels of these owners of its footprint.
 pub(crate) fn list_row_ops(
     alloc: Global,
     layout: &Layout,
-    ops: &Lists<Op>,
+    trace: &Trace,
     owners: &Lists<u16>,
-    count: u32,
 ) -> Result<Lists<RowOp>, AllocError>
-    requires count { count ≡ length ops.now }
-    requires messages { count ≤ MAX_MESSAGES }
-    requires few { All (λ ops. length ops ≤ MAX_OPS) ops.now }
-    requires cells { All (λ ops. All (IsCell layout.now.spaces) (cells_of ops)) ops.now }
-    requires owners { AreOwners layout.now.spaces ops.now owners.now }
-    ensures { IfOk result (AreAddressed layout.now.spaces ops.now owners.now) }
+    requires fits { trace.now.sizes ≡ sizes_of layout.now.spaces }
+    requires owners { AreOwners layout.now.spaces
+        (operations trace.now.messages) owners.now }
+    ensures { IfOk result (AreAddressed layout.now.spaces
+        (operations trace.now.messages) owners.now) }
 {
     let mut all = Vec::new(alloc);
-    let mut ends = Vec::with_capacity(alloc, count as usize)?;
-    for n in 1..count + 1 {
+    let mut ends = Vec::with_capacity(alloc, trace.len() as usize)?;
+    for n in 1..trace.len() + 1 {
         let parcels = owners.of(n);
-        let named = ops.of(n);
+        let named = ops_of(trace, n);
         push_row_ops(&mut all, layout, parcels, named)?;
         ends.push(all.len() as u32)?;
     }
