@@ -1,4 +1,4 @@
-use Rattle.std.proofs.Common.{◌≡◌, ℕ, ◌+◌, ◌-◌, ◌≤◌, List, [], ◌∷◌, ◌++◌, length, map, get_or, All, arith, rules, refl, sym, ◌∙◌, ap, subst}
+use Rattle.std.proofs.Common.{◌≡◌, ℕ, ◌+◌, ◌-◌, ◌≤◌, List, [], ◌∷◌, ◌++◌, length, map, get_or, All, arith, rules, refl, ◌∙◌, ap, subst}
 use Rattle.std.proofs.lemmas.List.{length-append, length-map}
 use Rattle.waff_model.specs.Cells.{cells_of}
 use Rattle.waff_model.specs.Layout.{Space, IsCell}
