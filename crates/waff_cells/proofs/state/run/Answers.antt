@@ -1,13 +1,12 @@
-use Rattle.std.proofs.Common.{◌≡◌, ◌≤◌, ◌^◌, length, map, take, All, arith, sym, ◌∙◌, ap, subst, get_or}
+use Rattle.std.proofs.Common.{◌≤◌, ◌^◌, length, map, take, All, arith, sym, ◌∙◌, ap, subst, get_or}
 use Rattle.std.proofs.lemmas.List.{take_all, length-map}
-use Rattle.waff_model.specs.Cells.{cells_of, cells_of_op, LiesIn}
-use Rattle.waff_model.specs.declared.cell.Cell.{Cell}
+use Rattle.waff_model.specs.Cells.{cells_of_op, LiesIn}
 use Rattle.waff_model.specs.declared.op.Op.{Op}
 use Rattle.waff_model.specs.declared.op.Op.TheVariants.{Set}
 use Rattle.waff_cells.specs.Meaning.{meaning}
 use Rattle.waff_cells.specs.Grid.{cells_in}
 use Rattle.waff_cells.specs.Held.{rows_of}
-use Rattle.waff_cells.specs.RowOps.{row_op, row_effect, IsOn}
+use Rattle.waff_cells.specs.RowOps.{row_effect, IsOn}
 use Rattle.waff_cells.proofs.InRows.{in_space, short_space, op_leaves}
 use Rattle.waff_cells.proofs.Meanings.{meaning_more, cells_at}
 use Rattle.waff_cells.proofs.RowRuns.{op_is_on}
