@@ -3,6 +3,7 @@ mod Writes
 mod Meanings
 pub mod Zeros
 mod Holdings
+mod InRows
 pub mod RowRuns
 mod Gathers
 mod CellRuns

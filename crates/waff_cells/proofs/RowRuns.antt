@@ -40,7 +40,7 @@ module _ (Has : Cell → Type 0) (at : Cell → Address) (apart : AreApart Has a
     holds = λ cells hold. written_holds Has at apart rows cell n has there cells hold;
   }
 
-  op_keeps : (op : Op) (rows : List (List ℕ)) → All Has (cells_of_op op) → AreWithin (map length rows) at (cells_of_op op)
+  pub op_keeps : (op : Op) (rows : List (List ℕ)) → All Has (cells_of_op op) → AreWithin (map length rows) at (cells_of_op op)
       → Keeps Has at rows (row_effect (row_op at op) rows) (effect op)
   op_keeps (Set cell value) rows has within = write_keeps rows cell value (has 0 cell (omega arith)) (within 0 cell (omega arith))
   op_keeps (Add cell value) rows has within =
@@ -93,7 +93,7 @@ module _ (Has : Cell → Type 0) (at : Cell → Address) (apart : AreApart Has a
       }
 
 -- the addresses of operations lie in the rows where those of their cells do
-op_is_on : (at : Cell → Address) (sizes : List ℕ) (op : Op) → AreWithin sizes at (cells_of_op op) → IsOn sizes (row_op at op)
+pub op_is_on : (at : Cell → Address) (sizes : List ℕ) (op : Op) → AreWithin sizes at (cells_of_op op) → IsOn sizes (row_op at op)
 op_is_on at sizes (Set cell value) within = within 0 cell (omega arith)
 op_is_on at sizes (Add cell value) within = within 0 cell (omega arith)
 op_is_on at sizes (Copy cell source) within = (within 0 cell (omega arith), within 1 cell (omega arith))

@@ -12,24 +12,11 @@ ghost use Rattle.waff_cells.specs.Grid.{HasSizes};
 ghost use Rattle.waff_cells.specs.Parcel.{AreParcels, HaveParcelSizes, IsOwned, slot_of, address_in};
 ghost use Rattle.waff_cells.specs.RowOps.{AreRowOps, IsOn, row_op};
 
-use crate::held::Addresses;
+use crate::addresses::Addresses;
 use crate::row_op::RowOp;
-use crate::{held, rows};
+use crate::rows::number_at;
+use crate::{addresses, rows};
 use waff_model::{Cell, Layout, Op};
-
-/// Runs the operations on the parcels of these affinities, given by their numbers, among whose
-/// cells are all that the operations name.
-pub fn apply(parcels: &mut [Vec<u64>], ops: &[Op], layout: &Layout, owners: &[u16])
-    requires sizes { HaveParcelSizes layout.now.spaces owners.now (rows_of parcels.old) }
-    requires rising { IsStrictlyIncreasing owners.now }
-    requires owned { All (IsOwned layout.now.spaces owners.now) (cells_of ops.now) }
-    ensures sizes { HaveParcelSizes layout.now.spaces owners.now (rows_of parcels.new) }
-    ensures parcels { (cells : Cells)
-        → AreParcels layout.now.spaces owners.now cells (rows_of parcels.old)
-        → AreParcels layout.now.spaces owners.now (meaning ops.now cells) (rows_of parcels.new) }
-{
-    held::apply(parcels, ops, &InParcels { layout, owners });
-}
 
 /// Runs operations that name the addresses of their cells on parcels.
 pub fn run(parcels: &mut [Vec<u64>], ops: &[RowOp])
@@ -49,50 +36,7 @@ pub fn row_op(layout: &Layout, owners: &[u16], op: Op) -> RowOp
     requires owned { All (IsOwned layout.now.spaces owners.now) (cells_of_op op) }
     ensures { result ≡ row_op (address_in layout.now.spaces owners.now) op }
 {
-    match op {
-        Op::Set { cell, value } => {
-            let (row, column) = site(layout, owners, cell);
-            RowOp::Set { row, column, value }
-        }
-        Op::Add { cell, value } => {
-            let (row, column) = site(layout, owners, cell);
-            RowOp::Add { row, column, value }
-        }
-        Op::Copy { cell, source } => {
-            let (row, column) = site(layout, owners, cell);
-            let (source_row, source_column) = site(layout, owners, source);
-            RowOp::Copy {
-                row,
-                column,
-                source_row,
-                source_column,
-            }
-        }
-        Op::Swap { cell, other } => {
-            let (row, column) = site(layout, owners, cell);
-            let (other_row, other_column) = site(layout, owners, other);
-            RowOp::Swap {
-                row,
-                column,
-                other_row,
-                other_column,
-            }
-        }
-        Op::Read { cell } => {
-            let (row, column) = site(layout, owners, cell);
-            RowOp::Read { row, column }
-        }
-    }
-}
-
-/// The address of the cell among the parcels of these affinities.
-fn site(layout: &Layout, owners: &[u16], cell: Cell) -> (u16, u32)
-    requires few { length owners.now ≤ 2 ^ 16 }
-    requires owned { IsOwned layout.now.spaces owners.now cell }
-    ensures { result ≡ address_in layout.now.spaces owners.now cell }
-{
-    let (owner, place) = layout.place(cell);
-    (slot_within(owners, owner.0), place)
+    addresses::row_op(&InParcels { layout, owners }, op)
 }
 
 /// The slot of one of the affinities.
@@ -113,7 +57,8 @@ pub fn get(parcels: &[Vec<u64>], layout: &Layout, owners: &[u16], cell: Cell) ->
         → IfSome result (λ number. number ≡ cells cell) }
 {
     if is_owned(layout, owners, cell) {
-        Some(held::read(parcels, &InParcels { layout, owners }, cell))
+        let (owner, place) = layout.place(cell);
+        Some(number_at(parcels, (slot(owners, owner.0), place as usize)))
     } else {
         None
     }
@@ -134,18 +79,17 @@ struct InParcels<'a> {
 }
 
 impl<'a> Addresses for InParcels<'a> {
-    ghost use Rattle.waff_model.specs.Layout.{owner_of};
-    ghost use Rattle.waff_model.specs.Parcel.{place_of};
-    ghost use Rattle.waff_cells.specs.Parcel.{IsOwned, slot_of};
+    ghost use Rattle.std.specs.Prelude.{◌≤◌, ◌^◌, length};
+    ghost use Rattle.waff_cells.specs.Parcel.{IsOwned, address_in};
 
-    ghost has = { λ s. IsOwned s.layout.now.spaces s.owners.now };
+    ghost has = { λ s cell.
+        (length s.owners.now ≤ 2 ^ 16) × IsOwned s.layout.now.spaces s.owners.now cell };
 
-    ghost at = { λ s cell.
-        (slot_of s.owners.now (owner_of s.layout.now.spaces cell), place_of s.layout.now.spaces cell) };
+    ghost at = { λ s. address_in s.layout.now.spaces s.owners.now };
 
-    fn address(&self, cell: Cell) -> (usize, usize) {
+    fn address(&self, cell: Cell) -> (u16, u32) {
         let (owner, place) = self.layout.place(cell);
-        (slot(self.owners, owner.0), place as usize)
+        (slot_within(self.owners, owner.0), place)
     }
 }
 

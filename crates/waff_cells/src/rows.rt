@@ -5,11 +5,10 @@ ghost use Rattle.waff_cells.specs.Grid.{HasSizes};
 ghost use Rattle.waff_cells.specs.Held.{rows_of, number_at, IsWithin};
 ghost use Rattle.waff_cells.specs.RowOps.{with_number_at, row_effect, row_meaning, IsOn};
 
-use crate::held::number_at;
 use crate::row_op::RowOp;
 
 /// Runs the operations on the rows.
-pub fn run(rows: &mut [Vec<u64>], ops: &[RowOp])
+pub(crate) fn run(rows: &mut [Vec<u64>], ops: &[RowOp])
     requires { All (IsOn (map length (rows_of rows.old))) ops.now }
     ensures sizes { HasSizes (rows_of rows.new) (map length (rows_of rows.old)) }
     ensures rows { rows_of rows.new ≡ row_meaning ops.now (rows_of rows.old) }
@@ -20,7 +19,7 @@ pub fn run(rows: &mut [Vec<u64>], ops: &[RowOp])
 }
 
 /// Runs the operation on the rows.
-fn run_op(rows: &mut [Vec<u64>], op: RowOp)
+pub(crate) fn run_op(rows: &mut [Vec<u64>], op: RowOp)
     requires { IsOn (map length (rows_of rows.old)) op }
     ensures sizes { HasSizes (rows_of rows.new) (map length (rows_of rows.old)) }
     ensures effect { rows_of rows.new ≡ row_effect op (rows_of rows.old) }
@@ -53,6 +52,14 @@ fn run_op(rows: &mut [Vec<u64>], op: RowOp)
         }
         RowOp::Read { .. } => {}
     }
+}
+
+/// The number at the address.
+pub(crate) fn number_at(rows: &[Vec<u64>], at: (usize, usize)) -> u64
+    requires { IsWithin (map length (rows_of rows.now)) at }
+    ensures { result ≡ number_at (rows_of rows.now) at }
+{
+    rows[at.0][at.1]
 }
 
 /// The number at the address.

@@ -1,13 +1,15 @@
 //! The state of all cells of a layout.
 
-ghost use Rattle.std.specs.Prelude.{◌≡◌, ◌<◌, length, map, All, IfOk};
+ghost use Rattle.std.specs.Prelude.{◌≡◌, ◌<◌, ◌≤◌, ◌^◌, length, map, All, IfOk};
 ghost use Rattle.waff_model.specs.Cells.{cells_of, LiesIn};
 ghost use Rattle.waff_model.specs.Messages.{sizes_of};
 ghost use Rattle.waff_model.specs.declared.cell.Cell.{Cell};
 ghost use Rattle.waff_cells.specs.Meaning.{meaning};
 ghost use Rattle.waff_cells.specs.Grid.{cells_in, HasSizes};
+ghost use Rattle.waff_cells.specs.Held.{rows_of};
 
-use crate::held::{Addresses, apply};
+use crate::addresses::{Addresses, row_op};
+use crate::rows;
 use std::alloc::{AllocError, Global};
 use std::marker::Model;
 use waff_model::{Cell, Layout, Message, Op};
@@ -19,11 +21,14 @@ pub struct State {
 }
 
 impl Model for State {
-    ghost use Rattle.std.specs.Prelude.{ℕ, List, map};
+    ghost use Rattle.std.specs.Prelude.{ℕ, List, ◌≤◌, length, map};
+    ghost use Rattle.waff_model.specs.declared.limits.TheConstants.{MAX_SPACES};
 
     ghost Value = { List (List ℕ) };
 
     ghost view = { λ s. map (λ row. row.items) s.rows.items };
+
+    ghost invariant = { λ s. length s.rows.items ≤ MAX_SPACES };
 }
 
 impl State {
@@ -56,7 +61,7 @@ impl State {
         ensures cells { (cell : Cell)
             → cells_in self.new cell ≡ meaning ops.now (cells_in self.old) cell }
     {
-        apply(&mut self.rows, ops, &InSpaces);
+        run(&mut self.rows, ops);
     }
 
     /// The number that the cell, which is the state's, holds.
@@ -68,15 +73,30 @@ impl State {
     }
 }
 
+/// Runs the operations on the rows of a state.
+fn run(spaces: &mut [Vec<u64>], ops: &[Op])
+    requires few { length spaces.old ≤ 2 ^ 16 }
+    requires within { All (LiesIn (map length (rows_of spaces.old))) (cells_of ops.now) }
+    ensures sizes { HasSizes (rows_of spaces.new) (map length (rows_of spaces.old)) }
+    ensures cells { (cell : Cell) → cells_in (rows_of spaces.new) cell
+        ≡ meaning ops.now (cells_in (rows_of spaces.old)) cell }
+{
+    for op in ops {
+        rows::run_op(spaces, row_op(&InSpaces, *op));
+    }
+}
+
 /// Where a state holds each cell: in the row of its space, at its index.
 struct InSpaces;
 
 impl Addresses for InSpaces {
-    ghost has = { λ _ _. Unit {0} };
+    ghost use Rattle.std.specs.Prelude.{◌<◌, ◌^◌};
+
+    ghost has = { λ _ cell. cell.space < 2 ^ 16 };
 
     ghost at = { λ _ cell. (cell.space, cell.index) };
 
-    fn address(&self, cell: Cell) -> (usize, usize) {
-        (cell.space as usize, cell.index as usize)
+    fn address(&self, cell: Cell) -> (u16, u32) {
+        (cell.space as u16, cell.index)
     }
 }

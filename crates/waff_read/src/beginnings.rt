@@ -8,6 +8,7 @@ use waff_model::{Cell, Op};
 use waff_parse::first_number;
 
 /// The text behind its first bytes, where it begins with these.
+#[inline(always)]
 #[tactic(auto, unfolding(crate::specs::Beginnings::behind))]
 pub(crate) fn behind<'t>(text: &'t [u8], first: &[u8]) -> Option<&'t [u8]>
     ensures { option_map (λ rest. rest.now) result ≡ beginnings.behind first.now text.now }
@@ -16,6 +17,7 @@ pub(crate) fn behind<'t>(text: &'t [u8], first: &[u8]) -> Option<&'t [u8]>
 }
 
 // The cell that a text begins with; the space that is guessed is looked for first.
+#[inline(always)]
 #[tactic(auto, unfolding(crate::specs::Beginnings::first_cell))]
 fn first_cell<'t>(spaces: &SpaceTable<'_>, guess: u32, text: &'t [u8]) -> Option<(Cell, &'t [u8])>
     ensures { option_map beginnings.with_rest result ≡ beginnings.first_cell spaces.now text.now }
@@ -31,6 +33,7 @@ fn first_cell<'t>(spaces: &SpaceTable<'_>, guess: u32, text: &'t [u8]) -> Option
 }
 
 // The cell and the number, with a space between them, that a text begins with.
+#[inline(always)]
 #[tactic(auto, unfolding(crate::specs::Beginnings::cell_and_number))]
 fn cell_and_number<'t>(
     spaces: &SpaceTable<'_>,
@@ -46,6 +49,7 @@ fn cell_and_number<'t>(
 }
 
 // The two cells, with a space between them, that a text begins with.
+#[inline(always)]
 #[tactic(auto, unfolding(crate::specs::Beginnings::two_cells))]
 fn two_cells<'t>(
     spaces: &SpaceTable<'_>,

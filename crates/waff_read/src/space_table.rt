@@ -68,6 +68,7 @@ impl<'a> SpaceTable<'a> {
 
     // The space whose name stands before the first `:` of a text, found by name, and the text after
     // that.
+    #[inline(never)]
     #[tactic(auto, unfolding(crate::specs::Beginnings::first_space))]
     fn found_space<'t>(&self, text: &'t [u8]) -> Option<(u32, &'t [u8])>
         ensures begins { option_map beginnings.with_rest result
@@ -81,6 +82,7 @@ impl<'a> SpaceTable<'a> {
 
     /// The space whose name stands before the first `:` of a text, and the text after that. The space
     /// that is guessed is looked for first.
+    #[inline(always)]
     pub(crate) fn first_space<'t>(&self, guess: u32, text: &'t [u8]) -> Option<(u32, &'t [u8])>
         ensures begins { option_map beginnings.with_rest result
             ≡ beginnings.first_space self.now text.now }

@@ -1,7 +1,7 @@
 use Rattle.std.proofs.Common.{◌≡◌, ℕ, ◌<◌, length, arith, [], get_or, Vec, Global, ◌∙◌, ap}
 use Rattle.waff_cells.specs.Held.{rows_of}
 use Rattle.waff_cells.proofs.Writes.{inside, row_of, count_of}
-use Rattle.waff_cells.proofs.held.number_at.Goals as goal
+use Rattle.waff_cells.proofs.rows.number_at.Goals as goal
 
 pub index-requires : goal.index-requires
 index-requires c =
