@@ -2,12 +2,12 @@
 
 ghost use Rattle.std.specs.Prelude.{◌≡◌, ◌↔◌, ◌<◌, ◌≤◌, All, IsTrue, length};
 
-use crate::walk::Walk;
 use std::alloc::{AllocError, Global};
 use waff_assign::Assigned;
 use waff_model::{AffinityId, Message, Trace, Tree};
 use waff_plan::Totals;
 use waff_plan_text::{GivenPlan, Row};
+use waff_words::{Words, push_line};
 
 /// A plan that was given, and the bytes that give it. What is asked of a message that there is not
 /// is 0, or empty.
@@ -129,97 +129,70 @@ impl<'a> Case<'a> {
     }
 
     /// Appends where the row of a message stands, and what there is to tell of the message.
-    pub(crate) fn push_message(
-        &self,
-        alloc: Global,
-        text: &mut String,
-        n: u32,
-    ) -> Result<(), AllocError> {
-        let number = format!(in alloc; "{n}")?;
-        self.push_line(alloc, text, number.as_str())?;
-        self.push_facts(text, n)
+    pub(crate) fn push_message(&self, words: &mut Words, n: u32) {
+        match format!(in words.alloc(); "{n}") {
+            Ok(number) => self.push_line(words, number.as_str()),
+            Err(_) => words.refuse(),
+        }
+        self.push_facts(words, n);
     }
 
     /// Appends where the first record behind the header stands that begins with this field.
-    pub(crate) fn push_line(
-        &self,
-        alloc: Global,
-        text: &mut String,
-        first: &str,
-    ) -> Result<(), AllocError> {
-        let mut walk = Walk::new(alloc, self.bytes);
-        let _header = walk.next()?;
-        if walk.find(first)? {
-            walk.push_place(text, "plan")
-        } else {
-            Ok(())
-        }
+    pub(crate) fn push_line(&self, words: &mut Words, first: &str) {
+        push_line(words, self.bytes, first);
     }
 
     /// Appends what there is to tell of a message.
-    pub(crate) fn push_facts(&self, text: &mut String, n: u32) -> Result<(), AllocError> {
+    pub(crate) fn push_facts(&self, words: &mut Words, n: u32) {
         let Some(message) = self.message(n) else {
-            return Ok(());
+            return;
         };
-        let name = message.name.as_str();
-        let (affinity, release, cost) = (self.affinity(n), message.release, message.cost);
-        let (start, finish) = (self.start(n), self.told_finish(n));
-        write!(
-            text,
-            "message {n}: {name}, affinity {affinity}, release {release}, cost {cost}, start {start}, finish {finish}"
-        )?;
-        match self.worker(n) {
-            Some(worker) => writeln!(text, ", worker {worker}"),
-            None => text.push_str("\n"),
+        words.message("", n);
+        words.name(": ", message.name.as_str());
+        words.name(", affinity ", self.affinity(n));
+        words.number(", release ", u64::from(message.release));
+        words.number(", cost ", u64::from(message.cost));
+        words.number(", start ", self.start(n));
+        words.number(", finish ", self.told_finish(n));
+        if let Some(worker) = self.worker(n) {
+            words.number(", worker ", worker);
         }
+        words.text("\n");
     }
 
     /// Appends why the affinities of two messages exclude each other.
-    pub(crate) fn push_exclusion(
-        &self,
-        text: &mut String,
-        one: u32,
-        other: u32,
-    ) -> Result<(), AllocError> {
+    pub(crate) fn push_exclusion(&self, words: &mut Words, one: u32, other: u32) {
         if !self.has(one) || !self.has(other) {
-            return Ok(());
+            return;
         }
         let (first, second) = (self.assigned.of(one), self.assigned.of(other));
         if first == second {
-            let name = self.tree.name(first);
-            return writeln!(
-                text,
-                "why: both run in {name}, and an affinity excludes itself"
-            );
-        }
-        if self.tree.at_or_above(first, second) {
-            self.push_way(text, second, first)
+            words.name("why: both run in ", self.tree.name(first));
+            words.text(", and an affinity excludes itself\n");
+        } else if self.tree.at_or_above(first, second) {
+            self.push_way(words, second, first);
         } else {
-            self.push_way(text, first, second)
+            self.push_way(words, first, second);
         }
     }
 
     /// Appends the way in the tree from an affinity up to one above it.
-    fn push_way(
-        &self,
-        text: &mut String,
-        low: AffinityId,
-        high: AffinityId,
-    ) -> Result<(), AllocError>
+    fn push_way(&self, words: &mut Words, low: AffinityId, high: AffinityId)
         requires low { low.0 < length self.now.tree.now }
         requires high { high.0 < length self.now.tree.now }
     {
         let (below, above) = (self.tree.name(low), self.tree.name(high));
-        write!(
-            text,
-            "why: {below} and {above} exclude each other, as {below} is below {above}: {below}"
-        )?;
+        words.name("why: ", below);
+        words.name(" and ", above);
+        words.name(" exclude each other, as ", below);
+        words.name(" is below ", above);
+        words.name(": ", below);
         for number in (0..low.0).rev() {
             let between = AffinityId(number);
             if self.tree.at_or_above(between, low) && self.tree.at_or_above(high, between) {
-                write!(text, " -> {}", self.tree.name(between))?;
+                words.name(" -> ", self.tree.name(between));
             }
         }
-        text.push_str("\n")
+        words.text("\n");
     }
 }

@@ -4,11 +4,12 @@ ghost use Rattle.std.specs.Prelude.{◌≡◌, ◌<◌, All, length};
 ghost use Rattle.waff_model.specs.Messages.{sizes_of};
 
 use crate::case::Case;
-use crate::files::{layout_of, plan_of, trace_of};
 use std::alloc::{AllocError, Global};
 use waff_assign::{Assigned, assign};
 use waff_check::Verdict;
 use waff_model::{Layout, Trace, Tree};
+use waff_plan::Totals;
+use waff_words::{Words, layout_of, plan_of, trace_of};
 
 /// What the verdict tells of the plan: where a fault is, the messages that it names, what was found
 /// and what is wanted, or else how good the plan is.
@@ -20,7 +21,9 @@ pub fn verdict_words(
     verdict: Verdict,
 ) -> Result<String, AllocError> {
     let layout = layout_of(alloc, hierarchy)?;
-    words_under(alloc, &layout, trace, plan, verdict)
+    let words = words_under(alloc, &layout, trace, plan, verdict);
+    drop(layout);
+    words
 }
 
 /// The words under a hierarchy.
@@ -69,237 +72,203 @@ fn words_of_plan(
         given: &given,
         bytes: plan,
     };
-    finding_text(alloc, &case, verdict)
+    let mut words = Words::new(alloc);
+    push_finding(&mut words, &case, verdict);
+    words.finish()
 }
 
-fn finding_text(alloc: Global, case: &Case<'_>, verdict: Verdict) -> Result<String, AllocError> {
-    let mut text = String::new(alloc);
-    push_finding(alloc, &mut text, case, verdict)?;
-    Ok(text)
-}
-
-fn push_finding(
-    alloc: Global,
-    text: &mut String,
-    case: &Case<'_>,
-    verdict: Verdict,
-) -> Result<(), AllocError> {
+fn push_finding(words: &mut Words, case: &Case<'_>, verdict: Verdict) {
     match verdict {
-        Verdict::Overlap { first, second } => push_overlap(alloc, text, case, first, second),
-        Verdict::TooManyAt { tick } => push_crowd(text, case, tick),
-        Verdict::Worker { message } => push_worker(alloc, text, case, message),
-        Verdict::Affinity { message } => push_affinity(alloc, text, case, message),
-        Verdict::Finish { message } => push_finish(alloc, text, case, message),
-        Verdict::Totals => push_totals(alloc, text, case),
-        Verdict::NotAChain { place } => push_no_link(alloc, text, case, place),
-        Verdict::Early { message } => push_early(alloc, text, case, message),
-        Verdict::Obeys => text.push_str(
-            "found: no fault, and no more is known of how short the plan is\n",
-        ),
-        Verdict::Shortest => push_shortest(text, case),
-        Verdict::WithinBound => push_within_bound(text, case),
+        Verdict::Overlap { first, second } => push_overlap(words, case, first, second),
+        Verdict::TooManyAt { tick } => push_crowd(words, case, tick),
+        Verdict::Worker { message } => push_worker(words, case, message),
+        Verdict::Affinity { message } => push_affinity(words, case, message),
+        Verdict::Finish { message } => push_finish(words, case, message),
+        Verdict::Totals => push_totals(words, case),
+        Verdict::NotAChain { place } => push_no_link(words, case, place),
+        Verdict::Early { message } => push_early(words, case, message),
+        Verdict::Obeys => {
+            words.text("found: no fault, and no more is known of how short the plan is\n")
+        }
+        Verdict::Shortest => push_shortest(words, case),
+        Verdict::WithinBound => push_within_bound(words, case),
     }
 }
 
 /// Appends two messages that overlap, and why they must not.
-fn push_overlap(
-    alloc: Global,
-    text: &mut String,
-    case: &Case<'_>,
-    first: u32,
-    second: u32,
-) -> Result<(), AllocError> {
-    case.push_message(alloc, text, first)?;
-    case.push_message(alloc, text, second)?;
-    let start = case.start(second);
+fn push_overlap(words: &mut Words, case: &Case<'_>, first: u32, second: u32) {
     let end = case.end(first);
-    writeln!(
-        text,
-        "found: message {second} starts at {start}, before message {first} has finished at {end}"
-    )?;
-    case.push_exclusion(text, first, second)?;
-    writeln!(text, "wanted: message {second} starts at {end} or later")
+    case.push_message(words, first);
+    case.push_message(words, second);
+    words.message("found: ", second);
+    words.number(" starts at ", case.start(second));
+    words.message(", before ", first);
+    words.number(" has finished at ", end);
+    words.text("\n");
+    case.push_exclusion(words, first, second);
+    words.message("wanted: ", second);
+    words.number(" starts at ", end);
+    words.text(" or later\n");
 }
 
 /// Appends the messages that run at a tick, one more than there are workers.
-fn push_crowd(text: &mut String, case: &Case<'_>, tick: u64) -> Result<(), AllocError> {
+fn push_crowd(words: &mut Words, case: &Case<'_>, tick: u64) {
     let workers = case.workers();
+    words.number("where: plan, tick ", tick);
+    words.text("\n");
+    let running = push_running(words, case, tick, workers);
+    words.number("found: running at tick ", tick);
+    words.number(": ", u64::from(running));
+    words.number("\nwanted: ", u64::from(workers));
+    words.text(" or fewer, the number of workers\n");
+}
+
+/// Appends the first messages that run at a tick, one more than this many; how many run.
+fn push_running(words: &mut Words, case: &Case<'_>, tick: u64, many: u32) -> u32 {
     let mut running: u32 = 0;
-    writeln!(text, "where: plan, tick {tick}")?;
     for n in 1..case.trace.len() + 1 {
         if case.runs_at(n, tick) {
-            if running <= workers {
-                case.push_facts(text, n)?;
+            if running <= many {
+                case.push_facts(words, n);
             }
             running = running.saturating_add(1);
         }
     }
-    writeln!(
-        text,
-        "found: running at tick {tick}: {running}\nwanted: {workers} or fewer, the number of workers"
-    )
+    running
 }
 
 /// Appends why the worker of a message is wrong.
-fn push_worker(
-    alloc: Global,
-    text: &mut String,
-    case: &Case<'_>,
-    message: u32,
-) -> Result<(), AllocError> {
-    case.push_message(alloc, text, message)?;
+fn push_worker(words: &mut Words, case: &Case<'_>, message: u32) {
+    let workers = u64::from(case.workers());
+    case.push_message(words, message);
     let Some(worker) = case.worker(message) else {
-        return writeln!(
-            text,
-            "found: no worker\nwanted: a worker from 1 to {}, as the plan has workers",
-            case.workers()
-        );
+        words.number("found: no worker\nwanted: a worker from 1 to ", workers);
+        return words.text(", as the plan has workers\n");
     };
-    let workers = case.workers();
     if workers == 0 {
-        return writeln!(
-            text,
-            "found: worker {worker}\nwanted: `-`, as the plan has no workers"
-        );
+        words.number("found: worker ", worker);
+        words.text("\nwanted: `-`, as the plan has no workers\n");
+    } else if worker < 1 || workers < worker {
+        words.number("found: worker ", worker);
+        words.number("\nwanted: a worker from 1 to ", workers);
+        words.text("\n");
+    } else {
+        push_taken(words, case, message, worker);
     }
-    if worker < 1 || u64::from(workers) < worker {
-        return writeln!(
-            text,
-            "found: worker {worker}\nwanted: a worker from 1 to {workers}"
-        );
-    }
-    push_taken(alloc, text, case, message, worker)
 }
 
 /// Appends which message of lower number the worker runs at a tick of the message.
-fn push_taken(
-    alloc: Global,
-    text: &mut String,
-    case: &Case<'_>,
-    message: u32,
-    worker: u64,
-) -> Result<(), AllocError> {
+fn push_taken(words: &mut Words, case: &Case<'_>, message: u32, worker: u64) {
     for other in 1..message {
         if case.worker(other) == Some(worker) && case.run_together(other, message) {
-            case.push_message(alloc, text, other)?;
-            return writeln!(
-                text,
-                "found: worker {worker} runs message {other} at a tick of message {message}\nwanted: a worker that runs no message of lower number at that time"
-            );
+            return push_both(words, case, message, worker, other);
         }
     }
-    Ok(())
 }
 
-fn push_affinity(
-    alloc: Global,
-    text: &mut String,
-    case: &Case<'_>,
-    message: u32,
-) -> Result<(), AllocError> {
-    case.push_message(alloc, text, message)?;
-    let told = case.told_affinity(message);
-    let affinity = case.affinity(message);
-    writeln!(
-        text,
-        "found: the affinity {told}\nwanted: the affinity {affinity}, the lowest one that covers the cells of message {message}"
-    )
+/// Appends the message that the worker runs at a tick of another.
+fn push_both(words: &mut Words, case: &Case<'_>, message: u32, worker: u64, other: u32) {
+    case.push_message(words, other);
+    words.number("found: worker ", worker);
+    words.message(" runs ", other);
+    words.message(" at a tick of ", message);
+    words.text("\nwanted: a worker that runs no message of lower number at that time\n");
 }
 
-fn push_finish(
-    alloc: Global,
-    text: &mut String,
-    case: &Case<'_>,
-    message: u32,
-) -> Result<(), AllocError> {
-    case.push_message(alloc, text, message)?;
-    let told = case.told_finish(message);
-    let end = case.end(message);
-    writeln!(
-        text,
-        "found: the finish {told}\nwanted: the finish {end}, which is start and cost"
-    )
+fn push_affinity(words: &mut Words, case: &Case<'_>, message: u32) {
+    case.push_message(words, message);
+    words.name("found: the affinity ", case.told_affinity(message));
+    words.name("\nwanted: the affinity ", case.affinity(message));
+    words.message(", the lowest one that covers the cells of ", message);
+    words.text("\n");
 }
 
-fn push_early(
-    alloc: Global,
-    text: &mut String,
-    case: &Case<'_>,
-    message: u32,
-) -> Result<(), AllocError> {
-    case.push_message(alloc, text, message)?;
-    let start = case.start(message);
-    let release = case.release(message);
-    writeln!(
-        text,
-        "found: message {message} starts at {start}, before its release\nwanted: message {message} starts at {release} or later"
-    )
+fn push_finish(words: &mut Words, case: &Case<'_>, message: u32) {
+    case.push_message(words, message);
+    words.number("found: the finish ", case.told_finish(message));
+    words.number("\nwanted: the finish ", case.end(message));
+    words.text(", which is start and cost\n");
+}
+
+fn push_early(words: &mut Words, case: &Case<'_>, message: u32) {
+    case.push_message(words, message);
+    words.message("found: ", message);
+    words.number(" starts at ", case.start(message));
+    words.message(", before its release\nwanted: ", message);
+    words.number(" starts at ", case.release(message));
+    words.text(" or later\n");
 }
 
 /// Appends the lines of the summary that are wrong.
-fn push_totals(alloc: Global, text: &mut String, case: &Case<'_>) -> Result<(), AllocError> {
-    let told = case.given.summary().totals;
-    let made = case.totals(alloc)?;
-    case.push_line(alloc, text, "workers")?;
-    push_difference(text, "total", told.total, made.total)?;
-    push_difference(text, "length", told.length, made.length)?;
-    push_difference(text, "release", told.release, made.release)?;
-    push_difference(text, "cost", told.cost, made.cost)?;
-    push_difference(text, "first side of the bound", told.left, made.left)?;
-    push_difference(text, "second side of the bound", told.right, made.right)
+fn push_totals(words: &mut Words, case: &Case<'_>) {
+    case.push_line(words, "workers");
+    match case.totals(words.alloc()) {
+        Ok(made) => push_differences(words, case.given.summary().totals, made),
+        Err(_) => words.refuse(),
+    }
 }
 
-fn push_difference(text: &mut String, what: &str, told: u64, made: u64) -> Result<(), AllocError> {
-    if told == made {
-        return Ok(());
+fn push_differences(words: &mut Words, told: Totals, made: Totals) {
+    push_difference(words, "total", told.total, made.total);
+    push_difference(words, "length", told.length, made.length);
+    push_difference(words, "release", told.release, made.release);
+    push_difference(words, "cost", told.cost, made.cost);
+    push_difference(words, "first side of the bound", told.left, made.left);
+    push_difference(words, "second side of the bound", told.right, made.right);
+}
+
+fn push_difference(words: &mut Words, what: &str, told: u64, made: u64) {
+    if told != made {
+        words.name("found: the ", what);
+        words.number(" ", told);
+        words.name("\nwanted: the ", what);
+        words.number(" ", made);
+        words.text("\n");
     }
-    writeln!(text, "found: the {what} {told}\nwanted: the {what} {made}")
 }
 
 /// Appends two neighbours of the chain that are no ordered pair.
-fn push_no_link(
-    alloc: Global,
-    text: &mut String,
-    case: &Case<'_>,
-    place: u64,
-) -> Result<(), AllocError> {
-    case.push_line(alloc, text, "chain")?;
+fn push_no_link(words: &mut Words, case: &Case<'_>, place: u64) {
     let before = case.link(place.saturating_sub(1));
     let message = case.link(place);
-    case.push_facts(text, before)?;
-    case.push_facts(text, message)?;
-    write!(
-        text,
-        "found: message {message} at place {place} of the chain, "
-    )?;
+    case.push_line(words, "chain");
+    case.push_facts(words, before);
+    case.push_facts(words, message);
+    words.message("found: ", message);
+    words.number(" at place ", place);
+    push_why(words, before, message);
+    words.message("wanted: a message behind ", before);
+    words.text(", their affinities exclude each other\n");
+}
+
+/// Appends why two messages are no ordered pair.
+fn push_why(words: &mut Words, before: u32, message: u32) {
     if message <= before {
-        writeln!(text, "which does not come after message {before}")?;
+        words.message(" of the chain, which does not come after ", before);
+        words.text("\n");
     } else {
-        writeln!(
-            text,
-            "whose affinity and that of message {before} do not exclude each other"
-        )?;
+        words.message(" of the chain, whose affinity and that of ", before);
+        words.text(" do not exclude each other\n");
     }
-    writeln!(
-        text,
-        "wanted: a message behind message {before}, their affinities exclude each other"
-    )
 }
 
-fn push_shortest(text: &mut String, case: &Case<'_>) -> Result<(), AllocError> {
+fn push_shortest(words: &mut Words, case: &Case<'_>) {
     let totals = case.given.summary().totals;
-    let (length, release, cost) = (totals.length, totals.release, totals.cost);
-    writeln!(
-        text,
-        "found: no fault, and no plan that obeys is shorter: the chain's release {release} and cost {cost} make the length {length}"
-    )
+    words.number(
+        "found: no fault, and no plan that obeys is shorter: the chain's release ",
+        totals.release,
+    );
+    words.number(" and cost ", totals.cost);
+    words.number(" make the length ", totals.length);
+    words.text("\n");
 }
 
-fn push_within_bound(text: &mut String, case: &Case<'_>) -> Result<(), AllocError> {
+fn push_within_bound(words: &mut Words, case: &Case<'_>) {
     let totals = case.given.summary().totals;
-    let (left, right) = (totals.left, totals.right);
-    writeln!(
-        text,
-        "found: no fault, and the plan is within the bound for its workers: {left} is at most {right}"
-    )
+    words.number(
+        "found: no fault, and the plan is within the bound for its workers: ",
+        totals.left,
+    );
+    words.number(" is at most ", totals.right);
+    words.text("\n");
 }

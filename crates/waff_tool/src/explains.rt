@@ -13,8 +13,9 @@ use std::io::Write;
 use std::thread::Threads;
 use waff_accept::{ToolError, accept, fault_status, fault_text, read_numbered, write_text};
 use waff_check::Verdict;
-use waff_explain::{hierarchy_words, plan_text_words, sizes_words, trace_words, verdict_words};
+use waff_explain::verdict_words;
 use waff_try::{made_line, made_verdict, verdict_status};
+use waff_words::{hierarchy_words, plan_text_words, sizes_words, trace_words};
 
 /// What was explained.
 #[derive(Clone, Copy, Debug, PartialEq, Eq)]

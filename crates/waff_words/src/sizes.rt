@@ -1,6 +1,7 @@
 //! How much there is where nothing is wrong.
 
 use crate::files::{layout_of, trace_of};
+use crate::words::Words;
 use std::alloc::{AllocError, Global};
 use waff_model::Layout;
 
@@ -12,34 +13,33 @@ pub fn sizes_words(
     trace: Option<&[u8]>,
 ) -> Result<String, AllocError> {
     let layout = layout_of(alloc, hierarchy)?;
-    sizes_text(alloc, &layout, trace)
+    let text = sizes_text(alloc, &layout, trace);
+    drop(layout);
+    text
 }
 
 fn sizes_text(alloc: Global, layout: &Layout, trace: Option<&[u8]>) -> Result<String, AllocError> {
-    let mut text = String::new(alloc);
-    push_sizes(alloc, &mut text, layout, trace)?;
-    Ok(text)
-}
-
-fn push_sizes(
-    alloc: Global,
-    text: &mut String,
-    layout: &Layout,
-    trace: Option<&[u8]>,
-) -> Result<(), AllocError> {
-    let (affinities, cells) = (layout.tree().len(), cells_of(layout));
-    write!(text, "affinities: {affinities}, cells: {cells}")?;
+    let mut words = Words::new(alloc);
+    push_sizes(&mut words, layout);
     if let Some(trace) = trace {
-        let messages = trace_of(alloc, layout, trace)?.len();
-        write!(text, ", messages: {messages}")?;
+        push_messages(&mut words, layout, trace);
     }
-    text.push_str("\n")
+    words.text("\n");
+    words.finish()
 }
 
-fn cells_of(layout: &Layout) -> u64 {
+fn push_sizes(words: &mut Words, layout: &Layout) {
     let mut cells: u64 = 0;
     for space in 0..layout.space_count() {
         cells = cells.saturating_add(u64::from(layout.space_size(space)));
     }
-    cells
+    words.number("affinities: ", u64::from(layout.tree().len()));
+    words.number(", cells: ", cells);
+}
+
+fn push_messages(words: &mut Words, layout: &Layout, trace: &[u8]) {
+    match trace_of(words.alloc(), layout, trace) {
+        Ok(trace) => words.number(", messages: ", u64::from(trace.len())),
+        Err(_) => words.refuse(),
+    }
 }

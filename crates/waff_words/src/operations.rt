@@ -1,7 +1,6 @@
 //! What is wrong with an operation of a message.
 
-use crate::shown::Shown;
-use std::alloc::AllocError;
+use crate::words::Words;
 use waff_model::{Layout, is_name};
 use waff_parse::{cut, number};
 use waff_read::TraceError;
@@ -41,37 +40,37 @@ impl<'a> Flaw<'a> {
     }
 
     /// Appends what was found, and what is wanted.
-    pub(crate) fn push_words(
-        self,
-        text: &mut String,
-        piece: u64,
-        op: &str,
-    ) -> Result<(), AllocError> {
-        let op = Shown(op.as_bytes());
-        write!(text, "found: operation {piece}, `{op}`: ")?;
+    pub(crate) fn push_words(self, words: &mut Words, piece: u64, op: &str) {
+        words.number("found: operation ", piece);
+        words.shown(", `", op);
         match self {
-            Flaw::Words => writeln!(
-                text,
-                "these words are no operation\nwanted: `set C N`, `add C N`, `copy C D`, `swap C D` or `read C`"
+            Flaw::Words => words.text(
+                "`: these words are no operation\nwanted: `set C N`, `add C N`, `copy C D`, `swap C D` or `read C`\n",
             ),
-            Flaw::Cell(word) => writeln!(
-                text,
-                "`{}` is no cell\nwanted: a cell: a name, `:` and a number without a leading zero",
-                Shown(word.as_bytes())
-            ),
-            Flaw::Number(word) => writeln!(
-                text,
-                "`{}` is no number in range\nwanted: a number from 0 to 18446744073709551615 without a leading zero",
-                Shown(word.as_bytes())
-            ),
-            Flaw::Space(word) => writeln!(
-                text,
-                "no space has the name `{word}`\nwanted: the name of a space of the hierarchy"
-            ),
-            Flaw::Index(word, size) => writeln!(
-                text,
-                "`{word}` is behind the end of its space\nwanted: a number below the size of the space, which is {size}"
-            ),
+            Flaw::Cell(word) => {
+                words.shown("`: `", word);
+                words.text(
+                    "` is no cell\nwanted: a cell: a name, `:` and a number without a leading zero\n",
+                );
+            }
+            Flaw::Number(word) => {
+                words.shown("`: `", word);
+                words.text(
+                    "` is no number in range\nwanted: a number from 0 to 18446744073709551615 without a leading zero\n",
+                );
+            }
+            Flaw::Space(word) => {
+                words.name("`: no space has the name `", word);
+                words.text("`\nwanted: the name of a space of the hierarchy\n");
+            }
+            Flaw::Index(word, size) => {
+                words.name("`: `", word);
+                words.number(
+                    "` is behind the end of its space\nwanted: a number below the size of the space, which is ",
+                    u64::from(size),
+                );
+                words.text("\n");
+            }
         }
     }
 }

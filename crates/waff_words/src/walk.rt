@@ -1,18 +1,20 @@
 //! The records of CSV in turn, and where each stands.
 
-use crate::shown::Shown;
+use crate::words::Words;
 use csv::{ByteRecord, Reader};
-use std::alloc::{AllocError, Global};
+use std::alloc::Global;
 use std::str;
 use waff_parse::text_rows;
 
-/// A walk over the records of bytes, read as the readers read them.
+/// A walk over the records of bytes, as the readers read them. It ends where memory is refused.
 #[derive(Drop)]
 pub(crate) struct Walk<'a> {
     bytes: &'a [u8],
     rdr: Reader<&'a [u8]>,
     row: ByteRecord,
+    /// The number of the record, from 1.
     at: u64,
+    is_refused: bool,
 }
 
 impl<'a> Walk<'a> {
@@ -22,47 +24,49 @@ impl<'a> Walk<'a> {
             rdr: text_rows(alloc, bytes),
             row: ByteRecord::new(alloc),
             at: 0,
+            is_refused: false,
         }
     }
 
     /// Goes to the next record, if there is one.
-    pub(crate) fn next(&mut self) -> Result<bool, AllocError> {
+    pub(crate) fn next(&mut self) -> bool {
+        if self.is_refused {
+            return false;
+        }
         match self.rdr.read_byte_record(&mut self.row) {
             Ok(true) => {
                 self.at = self.at.saturating_add(1);
-                Ok(true)
+                true
             }
-            Ok(false) => Ok(false),
-            Err(_) => Err(AllocError),
+            Ok(false) => false,
+            Err(_) => {
+                self.is_refused = true;
+                false
+            }
         }
     }
 
     /// Goes on to the record of this number, if there is one.
-    pub(crate) fn go_to(&mut self, at: u64) -> Result<bool, AllocError> {
+    pub(crate) fn go_to(&mut self, at: u64) -> bool {
         for _ in self.at..at {
-            if !self.next()? {
-                return Ok(false);
+            if !self.next() {
+                return false;
             }
         }
-        Ok(true)
+        true
     }
 
     /// Goes on to the next record whose first field this is, if there is one.
-    pub(crate) fn find(&mut self, first: &str) -> Result<bool, AllocError> {
+    pub(crate) fn find(&mut self, first: &str) -> bool {
         for _ in 0..u64::MAX {
-            if !self.next()? {
-                return Ok(false);
+            if !self.next() {
+                return false;
             }
             if self.field(0) == first {
-                return Ok(true);
+                return true;
             }
         }
-        Ok(false)
-    }
-
-    /// The number of the record, from 1.
-    pub(crate) fn at(&self) -> u64 {
-        self.at
+        false
     }
 
     /// How many fields the record has.
@@ -77,52 +81,70 @@ impl<'a> Walk<'a> {
 
     /// The field at a place, an empty one where there is none or it is no text.
     pub(crate) fn field(&self, place: usize) -> &str {
-        match str::from_utf8(self.bytes(place)) {
-            Ok(text) => text,
-            Err(_) => "",
+        str::from_utf8(self.bytes(place)).unwrap_or("")
+    }
+
+    /// Ends the walk. The words keep that memory was refused, if it was.
+    pub(crate) fn end(self, words: &mut Words) {
+        let is_refused = self.is_refused;
+        drop(self);
+        if is_refused {
+            words.refuse();
         }
     }
 
     /// Goes on to the record of this number and appends where in the file it stands, or that the
     /// file ends before it.
-    pub(crate) fn push_record(
-        &mut self,
-        text: &mut String,
-        file: &str,
-        at: u64,
-    ) -> Result<(), AllocError> {
-        if self.go_to(at)? {
-            self.push_place(text, file)
+    pub(crate) fn push_record(&mut self, words: &mut Words, file: &str, at: u64) {
+        if self.go_to(at) {
+            self.push_place(words, file);
         } else {
-            push_end(text, file, at)
+            push_end(words, file, at);
         }
     }
 
     /// Appends which record of a file it is, its line and its text.
-    pub(crate) fn push_place(&self, text: &mut String, file: &str) -> Result<(), AllocError> {
-        let place = self.row.position();
-        let (from, line) = match place {
+    fn push_place(&self, words: &mut Words, file: &str) {
+        let (from, line) = match self.row.position() {
             Some(place) => (place.byte(), place.line()),
             None => (0, 1),
         };
         let whole = part(self.bytes, from, self.rdr.position().byte());
         let (blank, record) = split_ends(whole);
-        let line = line.saturating_add(feeds(blank));
-        let at = self.at;
-        writeln!(
-            text,
-            "where: {file}, record {at}, line {line}: {}",
-            Shown(record)
-        )
+        words.name("where: ", file);
+        words.number(", record ", self.at);
+        words.number(", line ", line.saturating_add(feeds(blank)));
+        words.bytes(": ", record);
+        words.text("\n");
     }
 }
 
+/// Appends where the first record behind the header stands that begins with this field.
+pub fn push_line(words: &mut Words, bytes: &[u8], first: &str) {
+    let mut walk = Walk::new(words.alloc(), bytes);
+    walk.next();
+    if walk.find(first) {
+        walk.push_place(words, "plan");
+    }
+    walk.end(words);
+}
+
+/// The number of the first record behind the header that begins with this field, or else of the
+/// last record, and whether there is one.
+pub(crate) fn find_behind_header(words: &mut Words, bytes: &[u8], first: &str) -> (u64, bool) {
+    let mut walk = Walk::new(words.alloc(), bytes);
+    walk.next();
+    let is_found = walk.find(first);
+    let at = walk.at;
+    walk.end(words);
+    (at, is_found)
+}
+
 /// Appends that a file ends before the record of this number.
-fn push_end(text: &mut String, file: &str, at: u64) -> Result<(), AllocError> {
-    writeln!(
-        text,
-        "where: {file}, its end, where record {at} would stand"
-    )
+fn push_end(words: &mut Words, file: &str, at: u64) {
+    words.name("where: ", file);
+    words.number(", its end, where record ", at);
+    words.text(" would stand\n");
 }
 
 fn part(bytes: &[u8], from: u64, to: u64) -> &[u8] {

@@ -9,7 +9,7 @@ use waff_plan_text::{GivenPlan, read_plan};
 use waff_read::{read_hierarchy, read_trace};
 
 /// The layout of a hierarchy that was accepted.
-pub(crate) fn layout_of(alloc: Global, hierarchy: &[u8]) -> Result<Layout, AllocError> {
+pub fn layout_of(alloc: Global, hierarchy: &[u8]) -> Result<Layout, AllocError> {
     match read_hierarchy(alloc, hierarchy) {
         Ok(layout) => Ok(layout),
         Err(_) => Err(AllocError),
@@ -17,7 +17,7 @@ pub(crate) fn layout_of(alloc: Global, hierarchy: &[u8]) -> Result<Layout, Alloc
 }
 
 /// The trace that was accepted for the layout.
-pub(crate) fn trace_of(alloc: Global, layout: &Layout, trace: &[u8]) -> Result<Trace, AllocError>
+pub fn trace_of(alloc: Global, layout: &Layout, trace: &[u8]) -> Result<Trace, AllocError>
     ensures { IfOk result (λ trace. trace.sizes ≡ sizes_of layout.now.spaces) }
 {
     match read_trace(alloc, layout, trace) {
@@ -27,7 +27,7 @@ pub(crate) fn trace_of(alloc: Global, layout: &Layout, trace: &[u8]) -> Result<T
 }
 
 /// The plan whose text was accepted for the trace.
-pub(crate) fn plan_of(alloc: Global, trace: &Trace, plan: &[u8]) -> Result<GivenPlan, AllocError>
+pub fn plan_of(alloc: Global, trace: &Trace, plan: &[u8]) -> Result<GivenPlan, AllocError>
     ensures { IfOk result (λ plan. length plan.rows ≡ length trace.now.messages) }
 {
     match read_plan(alloc, trace.version(), trace.len(), plan) {

@@ -1,0 +1,114 @@
+//! A tree of affinities that is refused.
+
+use crate::document::{push_row, rows, text_at, text_of};
+use crate::fields::{push_no_name, push_too_many};
+use crate::named::Named;
+use crate::words::Words;
+use toml::Value;
+use waff_model::limits::MAX_AFFINITIES;
+use waff_model::{AffinityId, TreeError, is_name};
+
+/// Appends which affinity is refused first, what was found and what is wanted.
+pub(crate) fn push_no_tree(words: &mut Words, document: &Value, error: TreeError) {
+    let affinities = rows(document, "affinity");
+    let named = Named::of(words, affinities, "name");
+    match first_refused(&named, affinities, error) {
+        Some(number) => push_error(words, &named, affinities, number, error),
+        None => words.text(
+            "where: hierarchy, affinity\nfound: no affinity\nwanted: one affinity or more, the root first\n",
+        ),
+    }
+}
+
+/// The first affinity that has the error.
+fn first_refused(named: &Named<'_>, affinities: &[Value], error: TreeError) -> Option<usize> {
+    for number in 0..affinities.len() {
+        if has_error(named, number, &affinities[number], error) {
+            return Some(number);
+        }
+    }
+    None
+}
+
+/// Whether the affinity of a row has the error; those before it have none.
+fn has_error(named: &Named<'_>, number: usize, row: &Value, error: TreeError) -> bool {
+    let has_parent = row.get("parent").is_some();
+    match error {
+        TreeError::Name => !is_name(text_at(row, "name")),
+        TreeError::Twice => named.has_before(number, text_at(row, "name")),
+        TreeError::SecondRoot => number > 0 && !has_parent,
+        TreeError::ParentUnknown => {
+            has_parent && !named.has_before(number, text_at(row, "parent"))
+        }
+        TreeError::TooMany => number >= MAX_AFFINITIES,
+        TreeError::NoRoot | TreeError::Memory => false,
+    }
+}
+
+/// Appends where the affinity of this number stands, what was found in it, which has the error, and
+/// what is wanted.
+fn push_error(
+    words: &mut Words,
+    named: &Named<'_>,
+    affinities: &[Value],
+    number: usize,
+    error: TreeError,
+) {
+    push_row(words, "affinity", affinities, number);
+    let name = text_of(affinities, number, "name");
+    match error {
+        TreeError::Name => push_no_name(words, "name", name),
+        TreeError::Twice => push_twice(words, named, name),
+        TreeError::SecondRoot => {
+            words.text(
+                "found: no parent\nwanted: a parent, as each affinity but the first has one\n",
+            )
+        }
+        TreeError::ParentUnknown => {
+            push_unknown(words, named, number, text_of(affinities, number, "parent"))
+        }
+        TreeError::TooMany => {
+            push_too_many(words, "affinities", affinities.len(), MAX_AFFINITIES)
+        },
+        TreeError::NoRoot | TreeError::Memory => {}
+    }
+}
+
+/// Appends that an affinity before has the name.
+fn push_twice(words: &mut Words, named: &Named<'_>, name: &str) {
+    let other = named.place_of(name).unwrap_or(0);
+    words.shown("found: the name `", name);
+    words.count("`, which affinity ", other);
+    words.text(" has\nwanted: a name that no affinity before it has\n");
+}
+
+/// Appends that a parent is none of the affinities before.
+fn push_unknown(words: &mut Words, named: &Named<'_>, number: usize, parent: &str) {
+    words.shown("found: the parent `", parent);
+    match named.place_of(parent) {
+        Some(place) if place == number => words.text("`, which is the affinity itself\n"),
+        Some(place) => {
+            words.count("`, which is affinity ", place);
+            words.text(", behind it\n");
+        }
+        None => words.text("`, which no affinity has as its name\n"),
+    }
+    if number == 0 {
+        words.text("wanted: no parent, as the first affinity is the root\n");
+    } else {
+        words.text("wanted: the name of an affinity that stands before it\n");
+    }
+}
+
+/// Appends which affinity of a classical hierarchy is below a child of the root.
+pub(crate) fn push_third_level(words: &mut Words, document: &Value, affinity: AffinityId) {
+    let affinities = rows(document, "affinity");
+    let number = usize::from(affinity.0);
+    push_row(words, "affinity", affinities, number);
+    words.shown("found: the parent `", text_of(affinities, number, "parent"));
+    words.shown(
+        "` in a classical hierarchy\nwanted: the root `",
+        text_of(affinities, 0, "name"),
+    );
+    words.text("` as parent, or the model \"hierarchical\"\n");
+}

@@ -1,0 +1,71 @@
+//! A hierarchy that is refused.
+
+use crate::affinities::{push_no_tree, push_third_level};
+use crate::document::{push_no_key, push_no_model};
+use crate::layouts::push_no_layout;
+use crate::walk::feeds;
+use crate::words::Words;
+use std::alloc::{AllocError, Global};
+use toml::Value;
+use waff_read::HierError;
+
+/// Where the fault is for which the hierarchy is refused, what was found and what is wanted.
+pub fn hierarchy_words(
+    alloc: Global,
+    bytes: &[u8],
+    fault: HierError,
+) -> Result<String, AllocError> {
+    let mut words = Words::new(alloc);
+    match toml::table_from_slice(alloc, bytes) {
+        Ok(table) => push_fault(&mut words, &Value::Table(table), fault),
+        Err(e) => push_no_document(&mut words, bytes, &e),
+    }
+    words.finish()
+}
+
+fn push_fault(words: &mut Words, document: &Value, fault: HierError) {
+    match fault {
+        HierError::Model => push_no_model(words, document),
+        HierError::Shape { key } => push_no_key(words, document, key),
+        HierError::Tree(error) => push_no_tree(words, document, error),
+        HierError::NotClassical { affinity } => push_third_level(words, document, affinity),
+        HierError::Layout(error) => push_no_layout(words, document, error),
+        HierError::Toml | HierError::Memory => {}
+    }
+}
+
+/// Appends at which line the bytes are no document, as far as the reader of TOML tells it.
+fn push_no_document(words: &mut Words, bytes: &[u8], e: &toml::de::Error) {
+    if e.is_memory() {
+        words.refuse();
+        return;
+    }
+    let start = match e.span() {
+        Some(span) => span.start,
+        None => 0,
+    };
+    push_line(words, bytes, start);
+    words.name("found: no TOML: ", e.message());
+    words.text("\nwanted: a document in TOML\n");
+}
+
+/// Appends the line in which a byte stands.
+fn push_line(words: &mut Words, bytes: &[u8], start: usize) {
+    let before = bytes.get(..start).unwrap_or(b"");
+    let begin = match before.iter().rposition(|byte| *byte == b'\n') {
+        Some(last) => last.saturating_add(1),
+        None => 0,
+    };
+    let rest = bytes.get(begin..).unwrap_or(b"");
+    words.number("where: hierarchy, line ", feeds(before).saturating_add(1));
+    words.bytes(": ", first_line(rest));
+    words.text("\n");
+}
+
+/// The bytes before the first line feed.
+fn first_line(bytes: &[u8]) -> &[u8] {
+    match bytes.iter().position(|byte| *byte == b'\n') {
+        Some(end) => bytes.get(..end).unwrap_or(b""),
+        None => bytes,
+    }
+}

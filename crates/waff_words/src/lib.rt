@@ -1,0 +1,35 @@
+//! The words that tell of files: where the fault is for which one is refused, what was found there
+//! and what is wanted, or how much there is.
+//!
+//! - `hierarchy`: a hierarchy that is refused, over `document` (a document of the wrong shape),
+//!   `affinities` (the tree) and `layouts` (spaces and maps), which find tables by `named`.
+//! - `traces`: a trace that is refused, over `operations` (the operations of a message).
+//! - `plan_texts`: the text of a plan that is refused.
+//! - `sizes`: how much there is where nothing is wrong.
+//!
+//! `words` is a text that grows by pieces. `files` reads the files once more, `walk` goes over the
+//! records of CSV and tells where each stands. What is refused is the matter of the readers, which
+//! decide: these words look at the same bytes again and tell what the readers saw.
+#![tactic(auto)]
+
+mod affinities;
+mod document;
+mod fields;
+mod files;
+mod hierarchy;
+mod layouts;
+mod named;
+mod operations;
+mod plan_texts;
+mod sizes;
+mod traces;
+mod walk;
+mod words;
+
+pub use files::{layout_of, plan_of, trace_of};
+pub use hierarchy::hierarchy_words;
+pub use plan_texts::plan_text_words;
+pub use sizes::sizes_words;
+pub use traces::trace_words;
+pub use walk::push_line;
+pub use words::Words;

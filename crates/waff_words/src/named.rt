@@ -1,0 +1,60 @@
+//! The tables of an array, found by the text that each has at a key.
+
+use crate::document::text_at;
+use crate::words::Words;
+use std::collections::HashMap;
+use toml::Value;
+
+/// For each text at the key, the first table that has it.
+#[derive(Drop)]
+pub(crate) struct Named<'a> {
+    places: HashMap<&'a str, usize>,
+}
+
+impl<'a> Named<'a> {
+    /// The tables by their texts at the key, the empty one where there is none. The words keep that
+    /// memory was refused.
+    pub(crate) fn of(words: &mut Words, tables: &'a [Value], key: &str) -> Self {
+        let mut places = HashMap::new(words.alloc());
+        for number in 0..tables.len() {
+            let name = text_at(&tables[number], key);
+            if !places.contains_key(name) && places.insert(name, number).is_err() {
+                words.refuse();
+            }
+        }
+        Named { places }
+    }
+
+    /// The first table that has the text.
+    pub(crate) fn place_of(&self, name: &str) -> Option<usize> {
+        self.places.get(name).copied()
+    }
+
+    /// Whether a table before that of this number has the text.
+    pub(crate) fn has_before(&self, number: usize, name: &str) -> bool {
+        match self.place_of(name) {
+            Some(place) => place < number,
+            None => false,
+        }
+    }
+
+    /// The first of these tables whose text at the key none has.
+    pub(crate) fn first_stranger(&self, tables: &[Value], key: &str) -> Option<usize> {
+        for number in 0..tables.len() {
+            if self.place_of(text_at(&tables[number], key)).is_none() {
+                return Some(number);
+            }
+        }
+        None
+    }
+
+    /// The first of the tables whose text at the key one before it has.
+    pub(crate) fn first_twice(&self, tables: &[Value], key: &str) -> Option<usize> {
+        for number in 0..tables.len() {
+            if self.has_before(number, text_at(&tables[number], key)) {
+                return Some(number);
+            }
+        }
+        None
+    }
+}

@@ -1,0 +1,216 @@
+//! The text of a plan that is refused.
+
+use crate::fields::{push_no_name, push_no_number, push_no_text};
+use crate::files::{layout_of, trace_of};
+use crate::walk::{Walk, find_behind_header};
+use crate::words::Words;
+use std::alloc::{AllocError, Global};
+use waff_model::limits::{MAX_TICK, MAX_WORKERS};
+use waff_model::{Layout, Version, is_name};
+use waff_parse::{number, number_within};
+use waff_plan_text::PlanTextError;
+
+/// Where the fault is for which the text of a plan of the trace is refused, what was found and what
+/// is wanted.
+pub fn plan_text_words(
+    alloc: Global,
+    hierarchy: &[u8],
+    trace: &[u8],
+    plan: &[u8],
+    fault: PlanTextError,
+) -> Result<String, AllocError> {
+    let layout = layout_of(alloc, hierarchy)?;
+    let text = refusal_text(alloc, &layout, trace, plan, fault);
+    drop(layout);
+    text
+}
+
+fn refusal_text(
+    alloc: Global,
+    layout: &Layout,
+    trace: &[u8],
+    plan: &[u8],
+    fault: PlanTextError,
+) -> Result<String, AllocError> {
+    let mut words = Words::new(alloc);
+    push_under(&mut words, layout, trace, plan, fault);
+    words.finish()
+}
+
+/// Appends what there is to tell of the plan under a hierarchy.
+fn push_under(
+    words: &mut Words,
+    layout: &Layout,
+    trace: &[u8],
+    bytes: &[u8],
+    fault: PlanTextError,
+) {
+    match trace_of(words.alloc(), layout, trace) {
+        Ok(trace) => push_refusal(words, trace.version(), trace.len(), bytes, fault),
+        Err(_) => words.refuse(),
+    }
+}
+
+/// Appends the record that has the fault, what was found and what is wanted.
+fn push_refusal(
+    words: &mut Words,
+    version: Version,
+    messages: u32,
+    bytes: &[u8],
+    fault: PlanTextError,
+) {
+    let summary = summary_of(words, bytes);
+    let at = record_of(fault, summary);
+    let mut walk = Walk::new(words.alloc(), bytes);
+    walk.push_record(words, "plan", at);
+    match fault {
+        PlanTextError::Twice { .. } => push_twice(words, bytes, walk.field(0)),
+        PlanTextError::Summary { .. } => {
+            push_no_line(words, version, messages, at.saturating_sub(summary))
+        }
+        _ => push_fault(words, messages, &walk, fault),
+    }
+    walk.end(words);
+}
+
+/// Appends what was found and what is wanted of the record at which the walk stands.
+fn push_fault(words: &mut Words, messages: u32, walk: &Walk<'_>, fault: PlanTextError) {
+    match fault {
+        PlanTextError::Csv { .. } => push_no_text(words, walk),
+        PlanTextError::Header { .. } => words.text(
+            "found: no header\nwanted: the header message,affinity,start,finish,worker\n",
+        ),
+        PlanTextError::Row { .. } => push_no_row(words, messages, walk),
+        PlanTextError::Missing { message } => push_missing(words, message, messages),
+        PlanTextError::TooLarge { .. } => push_too_large(words, walk),
+        _ => {}
+    }
+}
+
+/// The number of the record that a fault tells; of a message without a row, that of the record at
+/// which the summary begins.
+fn record_of(fault: PlanTextError, summary: u64) -> u64 {
+    match fault {
+        PlanTextError::Csv { at }
+        | PlanTextError::Header { at }
+        | PlanTextError::Row { at }
+        | PlanTextError::Twice { at }
+        | PlanTextError::Summary { at }
+        | PlanTextError::TooLarge { at } => at,
+        PlanTextError::Missing { .. } | PlanTextError::Memory => summary,
+    }
+}
+
+/// The number of the record at which the summary begins, or would begin at the end.
+fn summary_of(words: &mut Words, bytes: &[u8]) -> u64 {
+    let (at, is_found) = find_behind_header(words, bytes, "workers");
+    if is_found { at } else { at.saturating_add(1) }
+}
+
+fn push_missing(words: &mut Words, message: u32, messages: u32) {
+    words.message("found: no row of ", message);
+    words.number(
+        "\nwanted: a row of each message from 1 to ",
+        u64::from(messages),
+    );
+    words.text("\n");
+}
+
+/// Appends what the record has that no row has.
+fn push_no_row(words: &mut Words, messages: u32, walk: &Walk<'_>) {
+    let fields = walk.len();
+    if fields != 5 {
+        words.count("found: fields: ", fields);
+        return words.text(
+            "\nwanted: five fields: a message, an affinity, a start, a finish and a worker\n",
+        );
+    }
+    if number_within(walk.field(0), 1, u64::from(messages)).is_none() {
+        return push_no_number(words, "message", walk.field(0), 1, u64::from(messages));
+    }
+    if !is_name(walk.field(1)) {
+        return push_no_name(words, "affinity", walk.field(1));
+    }
+    push_no_times(words, walk);
+}
+
+/// Appends which of the last three fields of a row is wrong.
+fn push_no_times(words: &mut Words, walk: &Walk<'_>) {
+    if number(walk.field(2)).is_none() {
+        return push_no_number(words, "start", walk.field(2), 0, MAX_TICK);
+    }
+    if number(walk.field(3)).is_none() {
+        return push_no_number(words, "finish", walk.field(3), 0, MAX_TICK);
+    }
+    words.bytes("found: the worker `", walk.bytes(4));
+    words.text("`\nwanted: a number without a leading zero, or `-` in a plan without workers\n");
+}
+
+/// Appends which record is the first row of the message.
+fn push_twice(words: &mut Words, bytes: &[u8], message: &str) {
+    let (first, _) = find_behind_header(words, bytes, message);
+    words.name("found: a row of message ", message);
+    words.number(", which has one in record ", first);
+    words.text("\nwanted: one row of each message\n");
+}
+
+/// Appends which field is above the limit.
+fn push_too_large(words: &mut Words, walk: &Walk<'_>) {
+    if let Some(place) = too_large(walk) {
+        words.shown("found: the number ", walk.field(place));
+        words.count(" in field ", place.saturating_add(1));
+        words.number("\nwanted: a number from 0 to ", MAX_TICK);
+        words.text("\n");
+    }
+}
+
+/// The first field behind the first that is a number above the limit.
+fn too_large(walk: &Walk<'_>) -> Option<usize> {
+    for place in 1..walk.len() {
+        let field = walk.field(place);
+        if number(field).is_some() && number_within(field, 0, MAX_TICK).is_none() {
+            return Some(place);
+        }
+    }
+    None
+}
+
+/// Appends which line of the summary was wanted, by how many come before it.
+fn push_no_line(words: &mut Words, version: Version, messages: u32, before: u64) {
+    words.text("found: another record than the next of the summary, or none\n");
+    let place = match version {
+        Version::V1 if before > 3 => before.saturating_add(1),
+        _ => before,
+    };
+    match place {
+        0 => push_no_workers(words),
+        3 => push_no_chain(words, u64::from(messages)),
+        _ => words.text(line_of(place)),
+    }
+}
+
+fn push_no_workers(words: &mut Words) {
+    words.number(
+        "wanted: `workers,-`, or `workers,K` with K from 1 to ",
+        u64::from(MAX_WORKERS),
+    );
+    words.text("\n");
+}
+
+fn push_no_chain(words: &mut Words, messages: u64) {
+    words.number("wanted: `chain,` and numbers from 1 to ", messages);
+    words.number(" joined by one space, ", messages);
+    words.text(" of them or fewer\n");
+}
+
+/// The line that tells what is wanted at a place of the summary.
+fn line_of(place: u64) -> &'static str {
+    match place {
+        1 => "wanted: `total,N`\n",
+        2 => "wanted: `length,N`\n",
+        4 => "wanted: `release,N`\n",
+        5 => "wanted: `cost,N`\n",
+        6 => "wanted: `bound,N,N`\n",
+        _ => "wanted: the end of the text\n",
+    }
+}
