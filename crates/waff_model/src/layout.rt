@@ -146,8 +146,7 @@ impl Layout {
         ensures owner { result.0 ≡ owner_of self.now.spaces cell }
         ensures within { result.0 < length self.now.tree }
     {
-        let space = &self.spaces[cell.space as usize];
-        AffinityId(space.owner(cell.index))
+        self.place(cell).0
     }
 
     /// How many cells the affinity owns.

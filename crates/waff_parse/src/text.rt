@@ -90,6 +90,9 @@ fn number_until(text: &[u8], end: usize, value: u64) -> Option<(u64, &[u8])>
     Some((value, &text[end..]))
 }
 
+// So many digits write a number below 2^64, whatever they are.
+const SHORT: usize = 19;
+
 /// The number that the digits at the beginning of a text write, all that stand there in a row, and
 /// the text behind them: none exactly where there is no digit, where they have a leading zero, or
 /// where their number is 2^64 or more.
@@ -97,7 +100,27 @@ pub fn first_number(text: &[u8]) -> Option<(u64, &[u8])>
     ensures { option_map texts.with_rest result ≡ texts.first_number text.now }
 {
     let mut value: u64 = 0;
-    for place in 0..text.len() {
+    let short = text.len().min(SHORT);
+    for place in 0..short {
+        let byte = text[place];
+        if !byte.is_ascii_digit() {
+            return number_until(text, place, value);
+        }
+        value = value * 10 + u64::from(byte - b'0');
+    }
+    number_from(text, short, value)
+}
+
+// The same, where the digits before this place write this value.
+#[inline(never)]
+fn number_from(text: &[u8], from: usize, value: u64) -> Option<(u64, &[u8])>
+    requires within { from ≤ length text.now }
+    requires digits { list_all is_ascii_digit (take from text.now) ≡ true }
+    requires value { value ≡ digits_value 10 (take from text.now) }
+    ensures { option_map texts.with_rest result ≡ texts.first_number text.now }
+{
+    let mut value = value;
+    for place in from..text.len() {
         let byte = text[place];
         if !byte.is_ascii_digit() {
             return number_until(text, place, value);

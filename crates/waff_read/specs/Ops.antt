@@ -106,11 +106,3 @@ ops_of spaces text =
     if length text == 0 then Err fault.NoOps else (do
       list ← pieces_of spaces text
       if nat_lt MAX_OPS (length list) then Err fault.TooManyOps else Ok list)
-
--- the space of the first cell of an operation
-abbrev pub space_of : Op → ℕ
-space_of (op.Set cell value) = cell.space
-space_of (op.Add cell value) = cell.space
-space_of (op.Copy cell source) = cell.space
-space_of (op.Swap cell other) = cell.space
-space_of (op.Read cell) = cell.space

@@ -3,8 +3,9 @@
 ghost use Rattle.std.specs.Prelude.{◌≡◌, option_map};
 ghost use Rattle.waff_read.specs.Beginnings as beginnings;
 
+use crate::parts::{Parts, Verb};
 use crate::space_table::SpaceTable;
-use waff_model::{Cell, Op};
+use waff_model::Cell;
 use waff_parse::first_number;
 
 /// The text behind its first bytes, where it begins with these.
@@ -64,32 +65,33 @@ fn two_cells<'t>(
     Some((cell, other, rest))
 }
 
-/// The operation that a text begins with, as far as its last word goes; the space that is guessed
-/// is looked for first.
+/// The parts of the operation that a text begins with, as far as its last word goes; the space that
+/// is guessed is looked for first.
 #[tactic(auto, unfolding(crate::specs::Beginnings::first_op))]
-pub(crate) fn first_op<'t>(
+pub(crate) fn first_parts<'t>(
     spaces: &SpaceTable<'_>,
     guess: u32,
     text: &'t [u8],
-) -> Option<(Op, &'t [u8])>
-    ensures { option_map beginnings.with_rest result ≡ beginnings.first_op spaces.now text.now }
+) -> Option<(Parts, &'t [u8])>
+    ensures { option_map beginnings.made_with_rest result
+        ≡ beginnings.first_op spaces.now text.now }
 {
     if let Some(words) = behind(text, b"set ") {
         let (cell, value, rest) = cell_and_number(spaces, guess, words)?;
-        return Some((Op::Set { cell, value }, rest));
+        return Some((Parts::of(Verb::Set, cell, value, cell), rest));
     }
     if let Some(words) = behind(text, b"add ") {
         let (cell, value, rest) = cell_and_number(spaces, guess, words)?;
-        return Some((Op::Add { cell, value }, rest));
+        return Some((Parts::of(Verb::Add, cell, value, cell), rest));
     }
     if let Some(words) = behind(text, b"copy ") {
-        let (cell, source, rest) = two_cells(spaces, guess, words)?;
-        return Some((Op::Copy { cell, source }, rest));
+        let (cell, other, rest) = two_cells(spaces, guess, words)?;
+        return Some((Parts::of(Verb::Copy, cell, 0, other), rest));
     }
     if let Some(words) = behind(text, b"swap ") {
         let (cell, other, rest) = two_cells(spaces, guess, words)?;
-        return Some((Op::Swap { cell, other }, rest));
+        return Some((Parts::of(Verb::Swap, cell, 0, other), rest));
     }
     let (cell, rest) = first_cell(spaces, guess, behind(text, b"read ")?)?;
-    Some((Op::Read { cell }, rest))
+    Some((Parts::of(Verb::Read, cell, 0, cell), rest))
 }

@@ -9,7 +9,7 @@ ghost use Rattle.waff_parse.specs.Stopping.{Gives};
 ghost use Rattle.waff_read.specs.Ops as ops;
 ghost use Rattle.waff_read.specs.TraceFaults.{number};
 
-use crate::beginnings::{behind, first_op};
+use crate::beginnings::{behind, first_parts};
 use crate::op::read_op;
 use crate::space_table::SpaceTable;
 use crate::trace_fault::TraceFault;
@@ -65,19 +65,6 @@ fn read_pieces(
     Ok(list)
 }
 
-// The space of the first cell of an operation.
-fn space_of(op: Op) -> u32
-    ensures { result ≡ ops.space_of op }
-{
-    match op {
-        Op::Set { cell, .. } => cell.space,
-        Op::Add { cell, .. } => cell.space,
-        Op::Copy { cell, .. } => cell.space,
-        Op::Swap { cell, .. } => cell.space,
-        Op::Read { cell } => cell.space,
-    }
-}
-
 // About how many bytes an operation takes, with the `;` behind it.
 const OP_BYTES: usize = 12;
 
@@ -95,17 +82,17 @@ fn read_faultless(
     let mut guess = 0;
     let mut left = text;
     for count in 0..MAX_OPS {
-        let Some((op, rest)) = first_op(spaces, guess, left) else {
+        let Some((parts, rest)) = first_parts(spaces, guess, left) else {
             return Ok(None);
         };
-        list.push(op)?;
+        parts.push_to(&mut list)?;
         if rest.is_empty() {
             return Ok(Some(list));
         }
         let Some(more) = behind(rest, b";") else {
             return Ok(None);
         };
-        guess = space_of(op);
+        guess = parts.cell.space;
         left = more;
     }
     Ok(None)
