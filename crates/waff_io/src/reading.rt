@@ -29,7 +29,8 @@ impl From<AllocError> for ReadFault {
     }
 }
 
-/// The least room for one read.
+/// The most bytes that are asked for at once. What is asked for has been written with zeros just before, so it is no more than
+/// a processor keeps at hand.
 const CHUNK: usize = 64 * 1024;
 
 /// All bytes up to the end, at most `limit`. A reader that gives no byte is at its end. On a fault
@@ -84,21 +85,16 @@ fn read_more<R: Read>(
         .map_err(|_| ReadFault::Failed)
 }
 
-/// Room behind the first `filled` bytes: where there is little, twice as many bytes, but no more
-/// than show that the limit is passed.
+/// Room for a read behind the first `filled` bytes, but no more than shows that the limit is passed.
 fn make_room(bytes: &mut Vec<u8>, filled: usize, limit: u64) -> Result<(), AllocError>
     requires filled { filled ≤ vec_len bytes.old }
     requires within { filled ≤ limit }
     ensures kept { take filled bytes.new.items ≡ take filled bytes.old.items }
     ensures room { OnOk result (filled < vec_len bytes.new) }
 {
-    let len = bytes.len();
-    if len - filled >= CHUNK {
-        return Ok(());
-    }
-    let doubled = len.checked_add(len.max(CHUNK)).ok_or(AllocError)?;
-    let wanted = doubled.min(limit.saturating_add(1) as usize);
-    if wanted > len {
+    let roomy = filled.checked_add(CHUNK).ok_or(AllocError)?;
+    let wanted = roomy.min(limit.saturating_add(1) as usize);
+    if wanted > bytes.len() {
         bytes.resize(wanted, 0)?;
     }
     Ok(())

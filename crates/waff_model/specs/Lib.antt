@@ -1,4 +1,5 @@
 pub mod Names
+pub mod Texts
 pub mod Refusals
 pub mod Tree
 pub mod TreeRefusal
