@@ -12,7 +12,8 @@ use Rattle.waff_model.specs.Layout.{Space, owner_of}
 use Rattle.waff_model.specs.Parcel.{parcel_size, place_of}
 use Rattle.waff_model.proofs.ParcelLemmas.{place_within, place_filled, same_place}
 use Rattle.waff_cells.specs.Meaning.{Cells}
-use Rattle.waff_cells.specs.Held.{Address, IsWithin, AreApart, Hold}
+use Rattle.waff_cells.specs.Held.{Address, IsWithin}
+use Rattle.waff_cells.proofs.HeldCells.{AreApart, Hold}
 use Rattle.waff_cells.specs.Laws.{ParcelIsOne}
 use Rattle.waff_cells.specs.Parcel.{AreParcels, HaveParcelSizes, IsOwned, slot_of, address_in}
 

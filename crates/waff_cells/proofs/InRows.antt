@@ -7,7 +7,8 @@ use Rattle.waff_model.specs.declared.cell.Cell.{Cell}
 use Rattle.waff_model.specs.declared.op.Op.{Op}
 use Rattle.waff_cells.specs.Meaning.{Cells, effect}
 use Rattle.waff_cells.specs.Grid.{cells_in}
-use Rattle.waff_cells.specs.Held.{Address, AreApart}
+use Rattle.waff_cells.specs.Held.{Address}
+use Rattle.waff_cells.proofs.HeldCells.{AreApart}
 use Rattle.waff_cells.specs.RowOps.{row_op, row_effect}
 use Rattle.waff_cells.proofs.RowRuns.{op_keeps}
 

@@ -1,3 +1,4 @@
+pub mod HeldCells
 pub mod MeaningLaws
 mod Writes
 mod Meanings

@@ -14,7 +14,8 @@ use Rattle.waff_model.specs.declared.cell.Cell.{Cell}
 use Rattle.waff_model.specs.declared.op.Op.{Op}
 use Rattle.waff_model.specs.declared.op.Op.TheVariants.{Set, Add, Copy, Swap, Read}
 use Rattle.waff_model.proofs.ParcelLemmas.{same_place}
-use Rattle.waff_cells.specs.Named.{Places, ArePlaces, cells_across, all_cells, cell_at, no_cell, op_named}
+use Rattle.waff_cells.specs.InOrder.{cells_across, all_cells}
+use Rattle.waff_cells.specs.Named.{Places, ArePlaces, cell_at, no_cell, op_named}
 use Rattle.waff_cells.specs.Parcel.{IsOwned, slot_of, address_in}
 use Rattle.waff_cells.specs.RowOps.{row_op}
 use Rattle.waff_cells.proofs.Holdings.{slot_is}

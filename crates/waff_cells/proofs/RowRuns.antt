@@ -8,7 +8,8 @@ use Rattle.waff_model.specs.declared.cell.Cell.{Cell}
 use Rattle.waff_model.specs.declared.op.Op.{Op}
 use Rattle.waff_model.specs.declared.op.Op.TheVariants.{Set, Add, Copy, Swap, Read}
 use Rattle.waff_cells.specs.Meaning.{Cells, with_number, effect, meaning}
-use Rattle.waff_cells.specs.Held.{Address, number_at, IsWithin, AreWithin, AreApart, Hold, HoldAfter}
+use Rattle.waff_cells.specs.Held.{Address, number_at, IsWithin}
+use Rattle.waff_cells.proofs.HeldCells.{AreWithin, AreApart, Hold, HoldAfter}
 use Rattle.waff_cells.specs.Parcel.{AreParcels, HaveParcelSizes, IsOwned, address_in}
 use Rattle.waff_cells.specs.RowOps.{row_op, with_number_at, row_effect, row_meaning, IsOn, AreRowOps}
 use Rattle.waff_cells.specs.declared.row_op.RowOp.{RowOp}

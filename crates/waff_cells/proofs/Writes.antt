@@ -6,7 +6,8 @@ use Rattle.std.proofs.lemmas.List.{length-map, get_or-map, get_or_past, map-set,
 use Rattle.waff_model.specs.declared.cell.Cell.{Cell}
 use Rattle.waff_assign.proofs.CellOrder.{cell_eq_same}
 use Rattle.waff_cells.specs.Meaning.{Cells, is_same, with_number}
-use Rattle.waff_cells.specs.Held.{rows_of, Address, number_at, IsWithin, AreApart, Hold}
+use Rattle.waff_cells.specs.Held.{rows_of, Address, number_at, IsWithin}
+use Rattle.waff_cells.proofs.HeldCells.{AreApart, Hold}
 use Rattle.waff_cells.specs.RowOps.{with_number_at}
 
 -- the address is one of a row and of a column in it

@@ -1,9 +1,7 @@
 -- Rows of numbers that hold cells, each cell at an address of its own. The rows of a state and the
 -- parcels that a message holds are such rows.
-use Rattle.std.specs.Prelude.{◌≡◌, ℕ, ◌<◌, List, [], map, slice_index, slice_index_or, All}
+use Rattle.std.specs.Prelude.{ℕ, ◌<◌, List, [], map, slice_index, slice_index_or}
 use Rattle.std.specs.Global.{Vec}
-use Rattle.waff_model.specs.declared.cell.Cell.{Cell}
-use Rattle.waff_cells.specs.Meaning.{Cells}
 
 -- the numbers of each row
 abbrev pub rows_of : List (Vec ℕ) → List (List ℕ)
@@ -20,21 +18,3 @@ number_at rows address = slice_index_or (slice_index_or rows address.0 []) addre
 -- the address lies in rows of these sizes
 abbrev pub IsWithin : List ℕ → Address → Type 0
 IsWithin sizes address = address.1 < slice_index sizes address.0
-
--- the addresses of these cells do
-abbrev pub AreWithin : List ℕ → (Cell → Address) → List Cell → Type 0
-AreWithin sizes at cells = All (λ cell. IsWithin sizes (at cell)) cells
-
--- no two of the cells that there are share an address
-abbrev pub AreApart : (Cell → Type 0) → (Cell → Address) → Type 0
-AreApart Has at = (one other : Cell) → Has one → Has other → at one ≡ at other → one ≡ other
-
--- the rows hold these numbers of the cells that there are, each at its address
-abbrev pub Hold : (Cell → Type 0) → (Cell → Address) → List (List ℕ) → Cells → Type 0
-Hold Has at rows cells = (cell : Cell) → Has cell → number_at rows (at cell) ≡ cells cell
-
--- what the rows held before, they hold after as the step leaves it
-abbrev pub HoldAfter : (Cell → Type 0) → (Cell → Address) → List (List ℕ) → List (List ℕ)
-    → (Cells → Cells) → Type 0
-HoldAfter Has at before after step =
-    (cells : Cells) → Hold Has at before cells → Hold Has at after (step cells)

@@ -6,4 +6,5 @@ pub mod Parcel
 pub mod RowOps
 pub mod Gathered
 pub mod Laws
+pub mod InOrder
 pub mod Named

@@ -1,13 +1,13 @@
 -- The cells at the places of parcels, and the operations on cells for which those on parcels stand.
-use Rattle.std.specs.Prelude.{◌≡◌, ℕ, ◌<◌, ◌⊎◌, ◌==◌, ◌&&◌, List, [], length, map, find, flat_map}
+use Rattle.std.specs.Prelude.{◌≡◌, ℕ, ◌<◌, ◌⊎◌, ◌==◌, ◌&&◌, List, [], length, map, find}
 use Rattle.std.specs.Prelude.{unwrap_or, slice_index, slice_index_or}
 use Rattle.std.specs.Global.{Vec}
-use Rattle.std.specs.List.{range_with_len}
-use Rattle.waff_model.specs.Layout.{Space, IsCell, size_at, owner_of}
+use Rattle.waff_model.specs.Layout.{Space, IsCell, owner_of}
 use Rattle.waff_model.specs.Parcel.{parcel_size, place_of}
 use Rattle.waff_model.specs.declared.cell.Cell.{Cell}
 use Rattle.waff_model.specs.declared.op.Op.{Op}
 use Rattle.waff_model.specs.declared.op.Op.TheVariants.{Set, Add, Copy, Swap, Read}
+use Rattle.waff_cells.specs.InOrder.{all_cells}
 use Rattle.waff_cells.specs.declared.row_op.RowOp.{RowOp}
 use Rattle.waff_cells.specs.declared.row_op.RowOp.TheVariants as row
 
@@ -19,15 +19,6 @@ Places = ℕ → ℕ → Cell
 abbrev pub ArePlaces : List Space → Places → Type 0
 ArePlaces spaces cells =
     (cell : Cell) → IsCell spaces cell → cells (owner_of spaces cell) (place_of spaces cell) ≡ cell
-
--- the cells of the space s, by index
-abbrev pub cells_across : List Space → ℕ → List Cell
-cells_across spaces s =
-    map (λ i. record { space = s; index = i }) (range_with_len 0 (size_at spaces s))
-
--- all cells, in their order
-abbrev pub all_cells : List Space → List Cell
-all_cells spaces = flat_map (cells_across spaces) (range_with_len 0 (length spaces))
 
 -- the first cell of all, where there is none at a place
 abbrev pub no_cell : Cell

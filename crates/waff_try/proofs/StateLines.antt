@@ -15,7 +15,8 @@ use Rattle.waff_cells.proofs.Zeros.{size_is}
 use Rattle.waff_plan.proofs.Longest.{range_with_len_more}
 use Rattle.waff_plan_text.specs.Lines.{line_text, text_of}
 use Rattle.waff_try.specs.PrintedSpaces.{AreAllPrinted}
-use Rattle.waff_try.specs.ReplayText.{cell_line, cell_lines, cells_before, cells_below, is_told, state_header, state_lines}
+use Rattle.waff_cells.specs.InOrder.{cells_below, cells_of_first}
+use Rattle.waff_try.specs.ReplayText.{cell_line, cell_lines, is_told, state_header, state_lines}
 use Rattle.waff_try.specs.declared.state_text.PrintedSpace.{PrintedSpace}
 
 abbrev cell_at : ℕ → ℕ → Cell
@@ -78,25 +79,25 @@ untold_further spaces cells s n value before now valued untold h =
 
 -- the cells of one space more
 pub space_further : (spaces : List Space) (cells : Cells) (s size : ℕ) (before so_far now : List ℕ) → size_at spaces s ≡ size
-    → so_far ≡ before ++ text_of (cell_lines spaces cells (cells_before spaces s))
+    → so_far ≡ before ++ text_of (cell_lines spaces cells (cells_of_first spaces s))
     → now ≡ so_far ++ text_of (cell_lines spaces cells (cells_below s size))
-    → now ≡ before ++ text_of (cell_lines spaces cells (cells_before spaces (s + 1)))
+    → now ≡ before ++ text_of (cell_lines spaces cells (cells_of_first spaces (s + 1)))
 space_further spaces cells s size before so_far now sized h k =
     let row = cell_line spaces cells in
     let told = is_told cells in
     let of_space = λ (s : ℕ). cells_below s (size_at spaces s) in
     let here : 0 + s ≡ s = omega arith in
-    let all : cells_before spaces (s + 1) ≡ cells_before spaces s ++ of_space s =
+    let all : cells_of_first spaces (s + 1) ≡ cells_of_first spaces s ++ of_space s =
     ap (flat_map of_space) (range_with_len_more 0 s s here) ∙ sym (flat_map_more of_space [] (range_with_len 0 s) s) in
-    let lines : cell_lines spaces cells (cells_before spaces (s + 1)) ≡ cell_lines spaces cells (cells_before spaces s) ++ cell_lines spaces cells (of_space s) =
+    let lines : cell_lines spaces cells (cells_of_first spaces (s + 1)) ≡ cell_lines spaces cells (cells_of_first spaces s) ++ cell_lines spaces cells (of_space s) =
     ap (cell_lines spaces cells) all
-    ∙ ap (map row) (filter-append told (cells_before spaces s) (of_space s))
-    ∙ map-append row (filter told (cells_before spaces s)) (filter told (of_space s)) in
+    ∙ ap (map row) (filter-append told (cells_of_first spaces s) (of_space s))
+    ∙ map-append row (filter told (cells_of_first spaces s)) (filter told (of_space s)) in
     k ∙ ap (λ bs. bs ++ text_of (cell_lines spaces cells (cells_below s size))) h
-    ∙ ap (λ z. (before ++ text_of (cell_lines spaces cells (cells_before spaces s))) ++ text_of (cell_lines spaces cells (cells_below s z))) (sym sized)
-    ∙ append_assoc before (text_of (cell_lines spaces cells (cells_before spaces s))) (text_of (cell_lines spaces cells (of_space s)))
+    ∙ ap (λ z. (before ++ text_of (cell_lines spaces cells (cells_of_first spaces s))) ++ text_of (cell_lines spaces cells (cells_below s z))) (sym sized)
+    ∙ append_assoc before (text_of (cell_lines spaces cells (cells_of_first spaces s))) (text_of (cell_lines spaces cells (of_space s)))
     ∙ ap (λ bs. before ++ bs)
-    (sym (flat_map-append line_text (cell_lines spaces cells (cells_before spaces s)) (cell_lines spaces cells (of_space s))) ∙ ap text_of (sym lines))
+    (sym (flat_map-append line_text (cell_lines spaces cells (cells_of_first spaces s)) (cell_lines spaces cells (of_space s))) ∙ ap text_of (sym lines))
 
 -- states with the same numbers have the same lines
 cell_lines_same : (spaces : List Space) (one other : Cells) → ((cell : Cell) → one cell ≡ other cell) → (some : List Cell)
@@ -114,7 +115,7 @@ cell_lines_same spaces one other same (cell ∷ some) =
 pub state_lines_same : (spaces : List Space) (one other : Cells) → ((cell : Cell) → one cell ≡ other cell)
     → state_lines spaces one ≡ state_lines spaces other
 state_lines_same spaces one other same =
-    ap (λ ls. state_header ∷ ls) (cell_lines_same spaces one other same (cells_before spaces (length spaces)))
+    ap (λ ls. state_header ∷ ls) (cell_lines_same spaces one other same (cells_of_first spaces (length spaces)))
 
 -- of no space
 nowhere : PrintedSpace

@@ -1,13 +1,14 @@
 -- What a replay prints: a header, and a line for each cell whose number is not 0.
 use Rattle.std.specs.Prelude.{◌≡◌, ℕ, ◌==◌, Bool, not, List, [], ◌∷◌, Ok, length, map, codes}
 use Rattle.std.specs.Prelude.{decimal}
-use Rattle.std.specs.List.{filter, flat_map, range_with_len}
-use Rattle.waff_model.specs.Layout.{Hierarchy, Space, size_at}
+use Rattle.std.specs.List.{filter}
+use Rattle.waff_model.specs.Layout.{Hierarchy, Space}
 use Rattle.waff_model.specs.Messages.{Arrivals}
 use Rattle.waff_model.specs.declared.cell.Cell.{Cell}
 use Rattle.waff_read.specs.Hierarchies.{hierarchy_of}
 use Rattle.waff_read.specs.Spellings.{cell_spelled}
 use Rattle.waff_read.specs.Traces.{trace_of}
+use Rattle.waff_cells.specs.InOrder.{all_cells}
 use Rattle.waff_cells.specs.Meaning.{Cells}
 use Rattle.waff_cells.specs.Serial.{operations, serial}
 use Rattle.waff_plan_text.specs.Lines.{text_of}
@@ -15,18 +16,6 @@ use Rattle.waff_plan_text.specs.Lines.{text_of}
 -- the header
 abbrev pub state_header : List (List ℕ)
 state_header = codes "cell" ∷ codes "value" ∷ []
-
--- the cells of the space s below an index, by index
-abbrev pub cells_below : ℕ → ℕ → List Cell
-cells_below s end = map (λ i. record { space = s; index = i }) (range_with_len 0 end)
-
--- the cells of the spaces below a number, by space and then by index
-abbrev pub cells_before : List Space → ℕ → List Cell
-cells_before spaces end = flat_map (λ s. cells_below s (size_at spaces s)) (range_with_len 0 end)
-
--- all cells, by space and then by index
-abbrev pub cells_in_order : List Space → List Cell
-cells_in_order spaces = cells_before spaces (length spaces)
 
 -- a cell is told of where its number is not 0
 abbrev pub is_told : Cells → Cell → Bool
@@ -42,7 +31,7 @@ cell_lines spaces cells some = map (cell_line spaces cells) (filter (is_told cel
 
 -- the lines of a state
 abbrev pub state_lines : List Space → Cells → List (List (List ℕ))
-state_lines spaces cells = state_header ∷ cell_lines spaces cells (cells_in_order spaces)
+state_lines spaces cells = state_header ∷ cell_lines spaces cells (all_cells spaces)
 
 -- the state that the messages of a trace leave in the order of arrival
 abbrev pub state_after : Arrivals → Cells

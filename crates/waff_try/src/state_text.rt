@@ -8,7 +8,8 @@ ghost use Rattle.waff_model.specs.Layout.{Space, name_at, size_at};
 ghost use Rattle.waff_cells.specs.Grid.{cells_in};
 ghost use Rattle.waff_plan_text.specs.Lines.{line_text, text_of};
 ghost use Rattle.waff_try.specs.PrintedSpaces.{AreAllPrinted, ArePrinted};
-ghost use Rattle.waff_try.specs.ReplayText.{cell_lines, cells_below, cells_in_order, state_lines};
+ghost use Rattle.waff_cells.specs.InOrder.{all_cells, cells_below};
+ghost use Rattle.waff_try.specs.ReplayText.{cell_lines, state_lines};
 
 use std::alloc::{AllocError, Global};
 use waff_cells::State;
@@ -62,7 +63,7 @@ fn push_spaces(text: &mut String, printed: &[PrintedSpace], state: &State) -> Re
     requires sizes { map length state.now ≡ map (λ space. space.size) printed.now }
     ensures { OnOk result ((spaces : List Space) → AreAllPrinted spaces printed.now
         → string_bytes text.new ≡ string_bytes text.old
-        ++ text_of (cell_lines spaces (cells_in state.now) (cells_in_order spaces))) }
+        ++ text_of (cell_lines spaces (cells_in state.now) (all_cells spaces))) }
 {
     for s in 0..printed.len() {
         push_space(text, s as u32, &printed[s], state)?;

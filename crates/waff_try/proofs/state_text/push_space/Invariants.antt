@@ -2,7 +2,8 @@ use Rattle.std.proofs.Common.{◌≡◌, ◌++◌, List, Some, string_bytes}
 use Rattle.waff_model.specs.Layout.{Space, name_at, size_at}
 use Rattle.waff_cells.specs.Grid.{cells_in}
 use Rattle.waff_plan_text.specs.Lines.{text_of}
-use Rattle.waff_try.specs.ReplayText.{cell_lines, cells_below}
+use Rattle.waff_cells.specs.InOrder.{cells_below}
+use Rattle.waff_try.specs.ReplayText.{cell_lines}
 use Rattle.waff_try.proofs.state_text.push_space.Given as goal
 
 abbrev pub invariant-loop-index : goal.invariant-loop-index
