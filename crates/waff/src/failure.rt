@@ -1,19 +1,13 @@
 //! Why the program ends with another status than 0, and what it says then.
-use clap::error::ErrorKind;
 use std::alloc::{AllocError, Global};
+use waff_args::{FAILED, REFUSED, Refusal};
 use waff_tool::{ReadFault, ToolError, fault_status, fault_text};
-
-/// The words were refused.
-pub const REFUSED: u8 = 2;
-
-/// Something could not be read or written, or memory was refused.
-pub const FAILED: u8 = 4;
 
 /// Why the program did not do what it was asked for.
 #[derive(Drop)]
 pub enum Failure {
-    /// The words were refused, or help was asked for.
-    Words(clap::Error),
+    /// The words were refused, or help was asked for; that was told, and this is the exit status.
+    Told(u8),
     /// A word is not text, or one is missing that was not refused.
     NoWords,
     /// The file of this place among the file words could not be read or is too long; 0 is standard
@@ -29,12 +23,12 @@ impl From<AllocError> for Failure {
     }
 }
 
-impl From<clap::Error> for Failure {
-    fn from(error: clap::Error) -> Failure {
-        if error.kind() == ErrorKind::OutOfMemory {
-            Failure::Memory
-        } else {
-            Failure::Words(error)
+impl From<Refusal> for Failure {
+    fn from(refusal: Refusal) -> Failure {
+        match refusal {
+            Refusal::Told(status) => Failure::Told(status),
+            Refusal::NoWords => Failure::NoWords,
+            Refusal::Memory => Failure::Memory,
         }
     }
 }
@@ -54,10 +48,10 @@ impl Failure {
         }
     }
 
-    /// Says why on standard error, or shows the help on standard output, and gives the exit status.
-    pub fn report<R: Print + Eprint>(self, rt: &R, alloc: Global) -> u8 {
+    /// Says why on standard error, and gives the exit status.
+    pub fn report(self, rt: &impl Eprint, alloc: Global) -> u8 {
         match self {
-            Failure::Words(error) => report_words(rt, &error),
+            Failure::Told(status) => status,
             Failure::NoWords => {
                 say(rt, "error: a word is missing or is not text");
                 REFUSED
@@ -86,12 +80,4 @@ const OUT_OF_MEMORY: &str = "waff: Memory";
 /// A line on standard error. Where that fails, the exit status has to do.
 fn say(rt: &impl Eprint, line: &str) {
     let _ = rt.eprintln(line);
-}
-
-fn report_words<R: Print + Eprint>(rt: &R, error: &clap::Error) -> u8 {
-    if error.print(rt).is_err() && !error.use_stderr() {
-        say(rt, "waff: Write");
-        return FAILED;
-    }
-    error.exit_code() as u8
 }

@@ -1,18 +1,15 @@
 //! The program `waff`: its words, its files, what it prints and its exit status.
 //!
-//! - `words`: the words of the command line, and `help`: what their help ends with; `files`: files
-//!   and standard input, read whole.
+//! - `files`: files and standard input, read whole.
 //! - `failure`: why it ends with another status than 0, and what it says then.
 //!
-//! The texts are those of the library `waff_tool`.
+//! The words are read by the library `waff_args`, the texts are those of `waff_tool`.
 #![tactic(auto)]
 
 ghost use Rattle.std.specs.Prelude.{◌≤◌, IfSome};
 
 mod failure;
 mod files;
-mod help;
-mod words;
 
 use failure::Failure;
 use files::{read_file, read_given, read_input};
@@ -22,13 +19,13 @@ use std::rt::Runtime;
 use std::sync::Wait;
 use std::thread::Threads;
 use std::{env, io};
+use waff_args::{Drawing, FileNames, Request, read_words};
 use waff_core::limits::MAX_SEATS;
 use waff_model::limits::MAX_WORKERS;
 use waff_tool::{
     Picture, assign_text, check_text, compare_text, draw_text, explain_text, explained_status,
     plan_text, replay_text, split_input, sweep_text, verdict_status, where_text,
 };
-use words::{FileNames, Request, read_words};
 
 fn main(rt: HostRuntime) -> ExitCode {
     let status = match run(&rt) {
@@ -42,7 +39,7 @@ fn main(rt: HostRuntime) -> ExitCode {
 fn run<R: Runtime + AllocGlobal + Threads + Wait + Sync>(rt: &R) -> Result<u8, Failure> {
     let alloc = rt.alloc();
     let words = words_of(rt)?;
-    match read_words(alloc, words.as_slice())? {
+    match read_words(rt, alloc, words.as_slice())? {
         Request::PlanOfInput => plan_of_input(rt, alloc)?,
         Request::Assign(files) => print_assignment(rt, alloc, files)?,
         Request::Plan(files, workers) => print_plan(rt, alloc, files, workers)?,
@@ -54,7 +51,7 @@ fn run<R: Runtime + AllocGlobal + Threads + Wait + Sync>(rt: &R) -> Result<u8, F
         Request::Compare(files, other, k) => print_comparison(rt, alloc, files, other, k)?,
         Request::Sweep(files) => print_sweep(rt, alloc, files)?,
         Request::Where(files, by_name) => print_where(rt, alloc, files, by_name)?,
-        Request::Draw(files, plan, picture) => print_picture(rt, alloc, files, plan, picture)?,
+        Request::Draw(files, plan, drawing) => print_picture(rt, alloc, files, plan, drawing)?,
     }
     Ok(0)
 }
@@ -228,11 +225,15 @@ fn print_picture<R: Runtime>(
     alloc: Global,
     files: FileNames<'_>,
     plan: &str,
-    picture: Picture,
+    drawing: Drawing,
 ) -> Result<(), Failure> {
     let hierarchy = read_file(rt, alloc, files.hierarchy, 1)?;
     let trace = read_file(rt, alloc, files.trace, 2)?;
     let plan = read_file(rt, alloc, plan, 3)?;
+    let picture = match drawing {
+        Drawing::Svg => Picture::Svg,
+        Drawing::Events => Picture::TraceEvents,
+    };
     Ok(draw_text(
         alloc,
         hierarchy.as_slice(),

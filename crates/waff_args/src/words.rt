@@ -1,14 +1,13 @@
 //! The words of the command line.
 ghost use Rattle.std.specs.Prelude.{◌≤◌, IfOk, IfSome};
-ghost use Rattle.waff.specs.Requests.{IsWithinLimits};
+ghost use Rattle.waff_args.specs.Requests.{IsWithinLimits};
 
-use crate::failure::Failure;
 use crate::help;
+use crate::refusal::Refusal;
 use clap::{Arg, ArgAction, ArgMatches, Command, value_parser};
 use std::alloc::{AllocError, Global};
 use waff_core::limits::MAX_SEATS;
 use waff_model::limits::MAX_WORKERS;
-use waff_tool::Picture;
 
 /// What the words ask for.
 #[derive(Clone, Copy)]
@@ -29,10 +28,18 @@ pub enum Request<'a> {
     /// Where the time goes, by the names of messages or by affinity.
     Where(FileNames<'a>, bool),
     /// The plan in the file of this name, drawn as this picture.
-    Draw(FileNames<'a>, &'a str, Picture),
+    Draw(FileNames<'a>, &'a str, Drawing),
     /// The first fault, or the verdict, of a hierarchy, of a trace where there is one, and of a
     /// plan where there is one.
     Explain(&'a str, Option<&'a str>, Option<&'a str>),
+}
+
+/// As what a plan is drawn.
+#[derive(Clone, Copy)]
+pub enum Drawing {
+    Svg,
+    /// Events, for a viewer of traces.
+    Events,
 }
 
 /// The names of the files of a command.
@@ -42,11 +49,25 @@ pub struct FileNames<'a> {
     pub trace: &'a str,
 }
 
-/// Reads the words, the program's own name first.
-pub fn read_words<'a>(alloc: Global, words: &'a [String]) -> Result<Request<'a>, Failure>
+/// Reads the words, the program's own name first. Where they are refused, or ask for help, that is
+/// printed, and the refusal has the exit status.
+pub fn read_words<'a, R: Print + Eprint>(
+    rt: &R,
+    alloc: Global,
+    words: &'a [String],
+) -> Result<Request<'a>, Refusal>
     ensures { IfOk result IsWithinLimits }
 {
-    let matches = waff(alloc)?.try_get_matches_from(words)?;
+    match waff(alloc)?.try_get_matches_from(words) {
+        Ok(matches) => asked_for(&matches),
+        Err(error) => Err(Refusal::of(rt, &error)),
+    }
+}
+
+/// What the words ask for that were found.
+fn asked_for<'a>(matches: &ArgMatches<'a>) -> Result<Request<'a>, Refusal>
+    ensures { IfOk result IsWithinLimits }
+{
     match matches.subcommand() {
         Some(("assign", matches)) => Ok(Request::Assign(file_names(matches)?)),
         Some(("plan", matches)) => {
@@ -58,11 +79,11 @@ pub fn read_words<'a>(alloc: Global, words: &'a [String]) -> Result<Request<'a>,
             word(matches, "PLAN")?,
         )),
         Some(("replay", matches)) => {
-            let workers = workers(matches, MAX_SEATS)?.ok_or(Failure::NoWords)?;
+            let workers = workers(matches, MAX_SEATS)?.ok_or(Refusal::NoWords)?;
             Ok(Request::Replay(file_names(matches)?, workers))
         }
         Some(("compare", matches)) => {
-            let k = workers(matches, MAX_WORKERS)?.ok_or(Failure::NoWords)?;
+            let k = workers(matches, MAX_WORKERS)?.ok_or(Refusal::NoWords)?;
             Ok(Request::Compare(file_names(matches)?, word(matches, "OTHER")?, k))
         }
         Some(("sweep", matches)) => Ok(Request::Sweep(file_names(matches)?)),
@@ -73,46 +94,46 @@ pub fn read_words<'a>(alloc: Global, words: &'a [String]) -> Result<Request<'a>,
         Some(("draw", matches)) => Ok(Request::Draw(
             file_names(matches)?,
             word(matches, "PLAN")?,
-            picture(matches)?,
+            drawn_as(matches)?,
         )),
         Some(("explain", matches)) => Ok(Request::Explain(
             word(matches, "HIER")?,
             matches.get_str("TRACE"),
             matches.get_str("PLAN"),
         )),
-        Some(_) => Err(Failure::NoWords),
+        Some(_) => Err(Refusal::NoWords),
         None => Ok(Request::PlanOfInput),
     }
 }
 
-fn file_names<'a>(matches: &ArgMatches<'a>) -> Result<FileNames<'a>, Failure> {
+fn file_names<'a>(matches: &ArgMatches<'a>) -> Result<FileNames<'a>, Refusal> {
     Ok(FileNames {
         hierarchy: word(matches, "HIER")?,
         trace: word(matches, "TRACE")?,
     })
 }
 
-fn word<'a>(matches: &ArgMatches<'a>, id: &str) -> Result<&'a str, Failure> {
-    matches.get_str(id).ok_or(Failure::NoWords)
+fn word<'a>(matches: &ArgMatches<'a>, id: &str) -> Result<&'a str, Refusal> {
+    matches.get_str(id).ok_or(Refusal::NoWords)
 }
 
 /// The number of workers, where it is given; there are this many at most.
-fn workers(matches: &ArgMatches<'_>, most: u32) -> Result<Option<u32>, Failure>
+fn workers(matches: &ArgMatches<'_>, most: u32) -> Result<Option<u32>, Refusal>
     ensures some { IfOk result (λ number. IfSome number (λ k. 1 ≤ k)) }
     ensures few { IfOk result (λ number. IfSome number (λ k. k ≤ most)) }
 {
     match matches.get_one::<u32>("workers") {
-        Some(k) if k == 0 || k > most => Err(Failure::NoWords),
+        Some(k) if k == 0 || k > most => Err(Refusal::NoWords),
         number => Ok(number),
     }
 }
 
 /// As what the plan is drawn.
-fn picture(matches: &ArgMatches<'_>) -> Result<Picture, Failure> {
+fn drawn_as(matches: &ArgMatches<'_>) -> Result<Drawing, Refusal> {
     match matches.get_str("as") {
-        Some("svg") => Ok(Picture::Svg),
-        Some("events") => Ok(Picture::TraceEvents),
-        _ => Err(Failure::NoWords),
+        Some("svg") => Ok(Drawing::Svg),
+        Some("events") => Ok(Drawing::Events),
+        _ => Err(Refusal::NoWords),
     }
 }
 

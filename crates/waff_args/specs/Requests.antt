@@ -2,8 +2,8 @@
 use Rattle.std.specs.Prelude.{◌≤◌, IfSome}
 use Rattle.waff_core.specs.declared.limits.TheConstants.{MAX_SEATS}
 use Rattle.waff_model.specs.declared.limits.TheConstants.{MAX_WORKERS}
-use Rattle.waff.specs.declared.words.Request.{Request}
-use Rattle.waff.specs.declared.words.Request.TheVariants as request
+use Rattle.waff_args.specs.declared.words.Request.{Request}
+use Rattle.waff_args.specs.declared.words.Request.TheVariants as request
 
 -- where a plan, a comparison or a replay for a number of workers is asked for, that number is
 -- within the limits
