@@ -1,7 +1,6 @@
 -- A digit more, in the bytes and in the number, which is below the power of ten for so many digits.
-use Rattle.std.proofs.Common.{◌≡◌, ℕ, List, sym, ap, ◌∙◌, ◌+◌, ◌*◌, ◌<◌, ◌≤◌, ◌^◌, refl, get_or, length, take, arith}
+use Rattle.std.proofs.Common.{ℕ, List, sym, ap, ◌∙◌, ◌<◌, ◌≤◌, ◌^◌, get_or, length, take, arith}
 use Rattle.std.proofs.Math.Nat.{pow-le-pow_right}
-use Rattle.std.proofs.lemmas.Bool.Decides.{nat_tests}
 use Rattle.std.proofs.lemmas.Grind.{pow_more}
 use Rattle.std.proofs.lemmas.Int.Digits.{digits_value_more}
 use Rattle.waff_parse.proofs.TextLaws.{digits-and, digits-end, value_of_digit}
