@@ -25,8 +25,8 @@ impl From<AllocError> for Refusal {
 }
 
 impl Refusal {
-    /// The refusal of this error, which is printed: help on standard output, what is wrong on standard
-    /// error.
+    /// The refusal of this error, which is printed: help on standard output, what is wrong on
+    /// standard error.
     pub(crate) fn of<R: Print + Eprint>(rt: &R, error: &clap::Error) -> Refusal {
         if error.kind() == ErrorKind::OutOfMemory {
             return Refusal::Memory;

@@ -3,8 +3,8 @@
 //! Values are of 64 bits and an addition wraps round. A state maps cells to values; a parcel is the
 //! row of the cells that one affinity owns, in the order of cells.
 //! - `state`: the state of all cells, which messages run on one after another.
-//! - `row_op`, `rows`: operations that name addresses in place of cells, and their run; `addresses`:
-//!   the operation with the addresses of its cells, whatever rows hold them.
+//! - `row_op`, `rows`: operations that name addresses in place of cells, and their run.
+//! - `addresses`: the operation with the addresses of its cells, whatever rows hold them.
 //! - `parcels`: operations on the parcels of some affinities.
 //! - `places`: the cells at the places of parcels, by which operations on parcels are named again.
 //! - `gather`: the state whose cells lie in parcels.

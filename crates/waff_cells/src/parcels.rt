@@ -9,7 +9,8 @@ ghost use Rattle.waff_model.specs.declared.op.Op.{Op};
 ghost use Rattle.waff_cells.specs.Meaning.{Cells, meaning};
 ghost use Rattle.waff_cells.specs.Held.{rows_of};
 ghost use Rattle.waff_cells.specs.Grid.{HasSizes};
-ghost use Rattle.waff_cells.specs.Parcel.{AreParcels, HaveParcelSizes, IsOwned, slot_of, address_in};
+ghost use Rattle.waff_cells.specs.Parcel.{AreParcels, HaveParcelSizes, IsOwned, slot_of};
+ghost use Rattle.waff_cells.specs.Parcel.{address_in};
 ghost use Rattle.waff_cells.specs.RowOps.{AreRowOps, IsOn, row_op};
 
 use crate::addresses::Addresses;

@@ -29,8 +29,8 @@ impl From<AllocError> for ReadFault {
     }
 }
 
-/// The most bytes that are asked for at once. What is asked for has been written with zeros just before, so it is no more than
-/// a processor keeps at hand.
+/// The most bytes that are asked for at once. What is asked for has been written with zeros just
+/// before, so it is no more than a processor keeps at hand.
 const CHUNK: usize = 64 * 1024;
 
 /// All bytes up to the end, at most `limit`. A reader that gives no byte is at its end. On a fault
@@ -85,7 +85,8 @@ fn read_more<R: Read>(
         .map_err(|_| ReadFault::Failed)
 }
 
-/// Room for a read behind the first `filled` bytes, but no more than shows that the limit is passed.
+/// Room for a read behind the first `filled` bytes, but no more than shows that the limit is
+/// passed.
 fn make_room(bytes: &mut Vec<u8>, filled: usize, limit: u64) -> Result<(), AllocError>
     requires filled { filled ≤ vec_len bytes.old }
     requires within { filled ≤ limit }

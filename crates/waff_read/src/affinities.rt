@@ -70,7 +70,8 @@ fn name_of(row: &Value) -> &str
 /// has.
 fn parent_of(names: &Names, row: &Value) -> Option<AffinityId>
     requires { length names.now ≤ MAX_AFFINITIES }
-    ensures { option_map (λ p. p.0) result ≡ option_map (place_of names.now) (text_at (codes "parent") (view row.now)) }
+    ensures { option_map (λ p. p.0) result
+        ≡ option_map (place_of names.now) (text_at (codes "parent") (view row.now)) }
 {
     match text(row, "parent") {
         Some(parent) => Some(AffinityId(place(names, parent))),

@@ -84,7 +84,8 @@ fn check_shape(document: &Value) -> Result<(), HierError>
 
 /// The tree of the document's affinities.
 fn read_affinities(alloc: Global, document: &Value) -> Result<Tree, HierError>
-    ensures { Reads (λ tree. tree) result (told tree_error (tree_of (rows_at (codes "affinity") (view document.now)))) }
+    ensures { Reads (λ tree. tree) result
+        (told tree_error (tree_of (rows_at (codes "affinity") (view document.now)))) }
 {
     match read_tree(alloc, rows(document, "affinity")) {
         Ok(tree) => Ok(tree),

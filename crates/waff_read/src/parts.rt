@@ -39,9 +39,9 @@ impl Parts {
         }
     }
 
-    /// Appends the operation that is made of these parts. Each verb pushes its own: an operation that
-    /// comes from one of several branches goes through memory, and is read there in other pieces than
-    /// it was written in, for which a processor waits.
+    /// Appends the operation that is made of these parts. Each verb pushes its own: an operation
+    /// that comes from one of several branches goes through memory, and is read there in other
+    /// pieces than it was written in, for which a processor waits.
     #[inline(always)]
     pub(crate) fn push_to(self, list: &mut Ops) -> Result<(), AllocError>
         ensures { OnOk result (list.new ≡ list.old ++ beginnings.made self ∷ []) }

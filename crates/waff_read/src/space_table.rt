@@ -80,8 +80,8 @@ impl<'a> SpaceTable<'a> {
         Some((space, &text[end + 1..]))
     }
 
-    /// The space whose name stands before the first `:` of a text, and the text after that. The space
-    /// that is guessed is looked for first.
+    /// The space whose name stands before the first `:` of a text, and the text after that. The
+    /// space that is guessed is looked for first.
     #[inline(always)]
     pub(crate) fn first_space<'t>(&self, guess: u32, text: &'t [u8]) -> Option<(u32, &'t [u8])>
         ensures begins { option_map beginnings.with_rest result
@@ -114,8 +114,8 @@ fn first_colon(text: &[u8]) -> Option<usize>
     text.iter().position(|byte| *byte == b':')
 }
 
-// The text behind its first bytes, where it begins with these. They are few, so they are compared one
-// after another, without a call.
+// The text behind its first bytes, where it begins with these. They are few, so they are compared
+// one after another, without a call.
 #[inline(always)]
 #[tactic(auto, unfolding(crate::specs::Beginnings::behind))]
 fn behind_few<'t>(text: &'t [u8], first: &[u8]) -> Option<&'t [u8]>
