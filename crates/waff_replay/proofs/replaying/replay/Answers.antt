@@ -1,4 +1,4 @@
-use Rattle.std.proofs.Common.{◌≡◌, ◌-◌, take, vec_len}
+use Rattle.std.proofs.Common.{◌-◌, take, vec_len}
 use Rattle.std.proofs.lemmas.List.Elements.{All-same, All-take}
 use Rattle.waff_board.specs.Calls.{IsOf}
 use Rattle.waff_board.specs.declared.tokens.Seat.{Seat}

@@ -1,4 +1,3 @@
-use Rattle.std.proofs.Common.{◌≡◌}
 use Rattle.waff_board.specs.Calls.{IsOf}
 use Rattle.waff_replay.proofs.replaying.settle.Given as goal
 
