@@ -17,7 +17,7 @@ pub struct Place {
 
 impl Place {
     /// Whether the other place is this one or one of those below it.
-    pub(crate) fn spans(&self, other: &Place) -> bool
+    pub fn spans(&self, other: &Place) -> bool
         ensures { IsTrue result ↔ Spans self.now other.now }
     {
         self.first <= other.first && other.first < self.end

@@ -1,5 +1,5 @@
 -- The starts of the least plan, one message after another, by the table of the latest messages.
-use Rattle.std.proofs.Common.{◌≡◌, ◌≢◌, ℕ, ◌+◌, ◌-◌, ◌*◌, ◌/◌, ◌^◌, ◌<◌, ◌≤◌, max, List, [], ◌∷◌, ◌++◌, length, get_or, Option, Some, None, MatchOption, All, arith, sym, ◌∙◌, ap, subst, ⊎_elim}
+use Rattle.std.proofs.Common.{◌≡◌, ◌≢◌, ℕ, ◌+◌, ◌-◌, ◌*◌, ◌/◌, ◌^◌, ◌<◌, ◌≤◌, max, List, [], ◌∷◌, ◌++◌, length, get_or, Option, Some, None, option_map, MatchOption, All, arith, sym, ◌∙◌, ap, subst, ⊎_elim}
 use Rattle.std.proofs.lemmas.Bool.{cases_eq}
 use Rattle.std.proofs.lemmas.List.{get_or_append_left, get_or_push, get_or_default, length_push}
 use Rattle.waff_model.specs.Tree.{Node}
@@ -10,6 +10,7 @@ use Rattle.waff_plan.specs.Work.{Work, finish_of}
 use Rattle.waff_plan.specs.Obeys.{IsForward}
 use Rattle.waff_plan.specs.Table.{IsUpTo, noted_at, message_place, IsTable, IsLatestMeeting, IsLatestExcluding}
 use Rattle.waff_plan.specs.Timing.{start_of}
+use Rattle.waff_plan.specs.declared.last.Placed.{Placed}
 use Rattle.waff_plan.specs.declared.latest.Latest.{Latest}
 use Rattle.waff_plan.specs.declared.table.Table.{Table}
 use Rattle.waff_model.specs.declared.limits.TheConstants.{MAX_TICK}
@@ -35,6 +36,12 @@ table_again places assigned finish again n table same h =
       over = λ p.
           found_again (λ i. IsUpTo n i × (((place i).first ≤ p) × (p < (place i).end))) finish again
           (noted_at table.over.places.items table.over.blocks.items p) (λ i is. same i is.0.from is.0.to) (h.over p);
+      last = record {
+        latest =
+            found_again (IsUpTo n) finish again (option_map (λ (x : Placed). x.message) table.last)
+            (λ i is. same i is.from is.to) h.last.latest;
+        place = h.last.place;
+      };
     }
 
 -- a message starts at its release or at the finish of the latest message that excludes it

@@ -1,5 +1,5 @@
 -- The tables by places: which messages their entries speak of.
-use Rattle.std.proofs.Common.{◌≡◌, ◌≢◌, ◌⊎◌, ℕ, ◌+◌, ◌*◌, ◌/◌, ◌<◌, ◌≤◌, inl, inr, ◌-◌, List, length, get_or, set, replicate, All, Option, Some, None, arith, refl, sym, ◌∙◌, ap, subst}
+use Rattle.std.proofs.Common.{◌≡◌, ◌≢◌, ◌⊎◌, ℕ, ◌+◌, ◌*◌, ◌/◌, ◌<◌, ◌≤◌, inl, inr, ◌-◌, List, length, get_or, set, replicate, All, Option, Some, None, option_map, IfSome, arith, refl, sym, ◌∙◌, ap, subst}
 use Rattle.std.proofs.lemmas.Bool.{cases_eq, cases_lt}
 use Rattle.std.proofs.lemmas.List.{get_or-set_same, get_or-set_other, get_or_past, get_or-replicate, length-replicate}
 use Rattle.waff_model.specs.Tree.{Node, Excludes}
@@ -7,7 +7,8 @@ use Rattle.waff_model.specs.Places.{place_at, Spans, AreNested}
 use Rattle.waff_model.specs.declared.places.Place.{Place}
 use Rattle.waff_assign.specs.Order.{affinity_of}
 use Rattle.waff_plan.specs.Latest.{later_of, IsFound}
-use Rattle.waff_plan.specs.Table.{IsUpTo, IsLatestAt, AreStanding, noted_at, AreCut, IsNoted, message_place, AreOver, IsLatestMeeting, IsLatestExcluding}
+use Rattle.waff_plan.specs.Table.{IsUpTo, IsLatestAt, AreStanding, noted_at, AreCut, IsNoted, message_place, AreOver, IsLast, IsLatestMeeting, IsLatestExcluding}
+use Rattle.waff_plan.specs.declared.last.Placed.{Placed}
 use Rattle.waff_plan.specs.declared.latest.Latest.{Latest}
 use Rattle.waff_plan.proofs.Latests.{found_same, found_either, found_noted, found_passed}
 use Rattle.waff_plan.proofs.Later.{later_joined, later_between}
@@ -181,6 +182,27 @@ over_more places assigned finish n place message old old_blocks new new_blocks n
             (found_passed At finish n (noted_at old old_blocks p) (λ here. let high = here.1 in omega (arith, high)) found)
       ]
     ]
+
+-- one more message, which may be the latest of all
+pub last_more : (places : List Place) (assigned : List ℕ) (finish : ℕ → ℕ) (n : ℕ) (old : Option Placed) (next new : Placed)
+    → next.message.number ≡ n + 1 → message_place places assigned (n + 1) ≡ next.place → finish (n + 1) ≡ next.message.finish
+    → Some new.message ≡ later_of (option_map (λ (x : Placed). x.message) old) (Some next.message) → (new ≡ next) ⊎ (old ≡ Some new)
+    → IsLast places assigned finish n old → IsLast places assigned finish (n + 1) (Some new)
+last_more places assigned finish n old next new number is finish_is later one_of_both h =
+    let latest = option_map (λ (x : Placed). x.message) old in
+    record {
+      latest = subst (λ x. IsFound (IsUpTo (n + 1)) finish x) (sym later)
+          (found_same (λ i. IsUpTo (n + 1) i × (i ≡ i)) (IsUpTo (n + 1)) finish (later_of latest (Some next.message))
+          (λ i both. both.0) (λ i up_to. (up_to, refl))
+          (found_noted (λ i. i ≡ i) finish n latest next.message number finish_is refl
+          (found_same (IsUpTo n) (λ i. IsUpTo n i × (i ≡ i)) finish latest (λ i up_to. (up_to, refl)) (λ i both. both.0) h.latest)));
+      place = elim one_of_both [
+        | inl same ↦
+            subst (λ (x : Placed). message_place places assigned x.message.number ≡ x.place) (sym same)
+            (ap (λ x. message_place places assigned x) number ∙ is)
+        | inr same ↦ subst (λ x. IfSome x (λ (l : Placed). message_place places assigned l.message.number ≡ l.place)) same h.place
+      ];
+    }
 
 -- among places that nest, those meet whose affinities exclude each other
 pub meeting_excludes : (tree : List Node) (places : List Place) (assigned : List ℕ) (finish : ℕ → ℕ) (m a : ℕ) (latest : Option Latest)

@@ -2,12 +2,13 @@
 -- below one stand at one run of places; the places are cut into blocks of 64, so that a long run is
 -- passed block by block.
 use Rattle.std.specs.Prelude.{◌≡◌, ℕ, ◌*◌, ◌/◌, ◌<◌, ◌≤◌, ◌⊎◌, List, length, Option, Some, None}
-use Rattle.std.specs.Prelude.{slice_index_or}
+use Rattle.std.specs.Prelude.{slice_index_or, option_map, IfSome}
 use Rattle.waff_model.specs.Tree.{Node, Excludes}
 use Rattle.waff_model.specs.Places.{place_at, Spans}
 use Rattle.waff_model.specs.declared.places.Place.{Place}
 use Rattle.waff_assign.specs.Order.{affinity_of}
 use Rattle.waff_plan.specs.Latest.{later_of, IsFound}
+use Rattle.waff_plan.specs.declared.last.Placed.{Placed}
 use Rattle.waff_plan.specs.declared.latest.Latest.{Latest}
 use Rattle.waff_plan.specs.declared.table.Table.{Table}
 
@@ -65,12 +66,20 @@ AreOver places assigned finish n noted noted_blocks =
     × (p < (message_place places assigned i).end))) finish
     (noted_at noted noted_blocks p)
 
+-- the latest of the first n messages, with its place
+pub record IsLast (places : List Place) (assigned : List ℕ) (finish : ℕ
+    → ℕ) (n : ℕ) (last : Option Placed) : Type 0 where
+  pub latest : IsFound (IsUpTo n) finish (option_map (λ placed. placed.message) last)
+  pub place :
+      IfSome last (λ placed. message_place places assigned placed.message.number ≡ placed.place)
+
 -- the table of the first n messages
 pub record IsTable (places : List Place) (assigned : List ℕ) (finish : ℕ
     → ℕ) (n : ℕ) (table : Table) : Type 0 where
   pub own : AreStanding n (λ i.
       (message_place places assigned i).first) finish table.own.places.items table.own.blocks.items
   pub over : AreOver places assigned finish n table.over.places.items table.over.blocks.items
+  pub last : IsLast places assigned finish n table.last
 
 -- of the first n messages the latest whose place is one of these, or that has this place among its
 -- own

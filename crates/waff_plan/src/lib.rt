@@ -6,14 +6,15 @@
 //! wait for one another, whose first release and costs add up to the length.
 //! - `timing`, `timetable`: costs and releases; plans.
 //! - `unlimited`, over `least` and `latest`: the unlimited plan.
-//! - `table`, over `spread` and `standing`: the latest message that excludes another, by places in
-//!   preorder.
+//! - `table`, over `last`, `spread` and `standing`: the latest message that excludes another, by
+//!   places in preorder.
 //! - `printed`, over `links` and `linked`: the printed chain; `totals`: what the summary of a plan
 //!   tells.
 //! - `ordered`: whether a plan keeps the order of the messages.
 //! - `laws`: what holds of all plans; `unique`: that the definitions leave no choice.
 #![tactic(auto)]
 
+mod last;
 mod latest;
 pub mod laws;
 mod least;

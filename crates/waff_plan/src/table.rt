@@ -4,6 +4,7 @@ ghost use Rattle.std.specs.Prelude.{◌≡◌, ℕ, ◌+◌, ◌<◌, ◌≤◌,
 ghost use Rattle.waff_model.specs.declared.places.Place.{Place};
 ghost use Rattle.waff_plan.specs.Table.{message_place, HasPlaces, IsTable, IsLatestMeeting};
 
+use crate::last::{Placed, later_placed};
 use crate::latest::{Latest, later};
 use crate::spread::Spread;
 use crate::standing::Standing;
@@ -16,6 +17,8 @@ use waff_model::Place;
 pub(crate) struct Table {
     own: Standing,
     over: Spread,
+    /// The latest of all, which often excludes the next message.
+    last: Option<Placed>,
 }
 
 impl Table {
@@ -29,11 +32,27 @@ impl Table {
         Ok(Table {
             own: Standing::none(alloc, count)?,
             over: Spread::none(alloc, count)?,
+            last: None,
         })
     }
 
     /// The latest message whose affinity excludes the one that has this place.
     pub fn latest(&self, place: Place) -> Option<Latest>
+        requires forward { place.first < place.end }
+        requires within { place.end ≤ length self.now.own.places.items }
+        requires places { HasPlaces (length self.now.own.places.items) self.now }
+        ensures { (places : List Place) (assigned : List ℕ) (finish : ℕ → ℕ) (n : ℕ)
+            → IsTable places assigned finish n self.now
+            → IsLatestMeeting places assigned finish n place result }
+    {
+        match self.last {
+            Some(last) if last.meets(place) => Some(last.message),
+            _ => self.latest_by_places(place),
+        }
+    }
+
+    /// The same, of all the places that the affinity meets.
+    fn latest_by_places(&self, place: Place) -> Option<Latest>
         requires forward { place.first < place.end }
         requires within { place.end ≤ length self.now.own.places.items }
         requires places { HasPlaces (length self.now.own.places.items) self.now }
@@ -60,5 +79,6 @@ impl Table {
         let (first, end) = (place.first as usize, place.end as usize);
         self.own.put(first, message);
         self.over.note(first, end, message);
+        self.last = Some(later_placed(self.last, Placed { message, place }));
     }
 }
