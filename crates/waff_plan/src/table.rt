@@ -51,7 +51,7 @@ impl Table {
         }
     }
 
-    /// The same, of all the places that the affinity meets.
+    /// The same, by what is noted at its place and what stands at its run of places.
     fn latest_by_places(&self, place: Place) -> Option<Latest>
         requires forward { place.first < place.end }
         requires within { place.end ≤ length self.now.own.places.items }
