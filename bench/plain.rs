@@ -6,34 +6,34 @@ use std::collections::{BTreeMap, BinaryHeap, HashMap};
 use std::fmt::Write as _;
 use std::io::Write as _;
 
-struct Map {
-    unit: usize,
-    to: Vec<usize>,
+pub struct Map {
+    pub unit: usize,
+    pub to: Vec<usize>,
 }
 
-struct Hierarchy {
-    model: String,
-    names: Vec<String>,
-    parents: Vec<usize>,
-    depths: Vec<u32>,
+pub struct Hierarchy {
+    pub model: String,
+    pub names: Vec<String>,
+    pub parents: Vec<usize>,
+    pub depths: Vec<u32>,
     /// The places of an affinity in preorder: its own, and the first past those below it.
-    from: Vec<u32>,
-    to: Vec<u32>,
-    spaces: HashMap<String, usize>,
-    maps: Vec<Map>,
+    pub from: Vec<u32>,
+    pub to: Vec<u32>,
+    pub spaces: HashMap<String, usize>,
+    pub maps: Vec<Map>,
 }
 
-struct Message {
-    name: String,
-    cost: u64,
-    release: u64,
+pub struct Message {
+    pub name: String,
+    pub cost: u64,
+    pub release: u64,
     /// Each cell as its space and its index.
-    cells: Vec<(usize, usize)>,
+    pub cells: Vec<(usize, usize)>,
 }
 
-struct Trace {
-    has_releases: bool,
-    messages: Vec<Message>,
+pub struct Trace {
+    pub has_releases: bool,
+    pub messages: Vec<Message>,
 }
 
 /// The texts between the quotation marks of a value.
@@ -58,36 +58,45 @@ fn tables(text: &str) -> Vec<(String, HashMap<String, String>)> {
 /// Reads a hierarchy that has a key a line.
 fn read_hierarchy(text: &str) -> Hierarchy {
     let tables = tables(text);
-    let mut h = Hierarchy {
-        model: texts(&tables[0].1["model"]).remove(0),
-        names: vec![],
-        parents: vec![],
-        depths: vec![],
-        from: vec![],
-        to: vec![],
-        spaces: HashMap::new(),
-        maps: vec![],
-    };
+    let (mut names, mut parents) = (vec![], vec![]);
     let mut numbers: HashMap<String, usize> = HashMap::new();
     for (_, keys) in tables.iter().filter(|it| it.0 == "affinity") {
         let name = texts(&keys["name"]).remove(0);
         let parent = keys.get("parent").map_or(usize::MAX, |it| numbers[&texts(it)[0]]);
-        h.depths.push(h.depths.get(parent).map_or(0, |depth| depth + 1));
-        h.parents.push(parent);
-        numbers.insert(name.clone(), h.names.len());
-        h.names.push(name);
+        parents.push(parent);
+        numbers.insert(name.clone(), names.len());
+        names.push(name);
     }
+    let (mut spaces, mut maps) = (HashMap::new(), vec![]);
     for (_, keys) in tables.iter().filter(|it| it.0 == "space") {
-        h.spaces.insert(texts(&keys["name"]).remove(0), h.maps.len());
-        h.maps.push(Map { unit: 1, to: vec![] });
+        spaces.insert(texts(&keys["name"]).remove(0), maps.len());
+        maps.push(Map { unit: 1, to: vec![] });
     }
     for (_, keys) in tables.iter().filter(|it| it.0 == "map") {
         let to = texts(&keys["to"]).iter().map(|name| numbers[name]).collect();
         let unit = keys["unit"].parse().unwrap();
-        h.maps[h.spaces[&texts(&keys["space"])[0]]] = Map { unit, to };
+        maps[spaces[&texts(&keys["space"])[0]]] = Map { unit, to };
     }
-    places(&mut h);
-    h
+    Hierarchy::new(texts(&tables[0].1["model"]).remove(0), names, parents, spaces, maps)
+}
+
+impl Hierarchy {
+    /// Every affinity stands after its parent; the root, the first, has none.
+    pub fn new(
+        model: String,
+        names: Vec<String>,
+        parents: Vec<usize>,
+        spaces: HashMap<String, usize>,
+        maps: Vec<Map>,
+    ) -> Hierarchy {
+        let mut depths: Vec<u32> = vec![];
+        for &parent in &parents {
+            depths.push(depths.get(parent).map_or(0, |depth| depth + 1));
+        }
+        let mut h = Hierarchy { model, names, parents, depths, from: vec![], to: vec![], spaces, maps };
+        places(&mut h);
+        h
+    }
 }
 
 /// Sets the places in preorder.
@@ -174,7 +183,7 @@ fn read_trace(h: &Hierarchy, text: &str) -> Trace {
 }
 
 /// The affinity of each message: the lowest at or above the owners of its cells.
-fn assign(h: &Hierarchy, trace: &Trace) -> Vec<usize> {
+pub fn assign(h: &Hierarchy, trace: &Trace) -> Vec<usize> {
     let owner = |&(space, index): &(usize, usize)| {
         let map = &h.maps[space];
         map.to[index / map.unit % map.to.len()]
@@ -345,7 +354,7 @@ fn bound(trace: &Trace, plan: &Plan, chain: &[usize], k: Option<u64>) -> (u64, u
     }
 }
 
-fn assign_text(h: &Hierarchy, trace: &Trace, assigned: &[usize]) -> String {
+pub fn assign_text(h: &Hierarchy, trace: &Trace, assigned: &[usize]) -> String {
     let mut text = String::from("message,name,affinity\n");
     for (n, (message, &a)) in trace.messages.iter().zip(assigned).enumerate() {
         writeln!(text, "{},{},{}", n + 1, message.name, h.names[a]).unwrap();
@@ -353,7 +362,7 @@ fn assign_text(h: &Hierarchy, trace: &Trace, assigned: &[usize]) -> String {
     text
 }
 
-fn plan_text(h: &Hierarchy, trace: &Trace, assigned: &[usize], k: Option<u64>) -> String {
+pub fn plan_text(h: &Hierarchy, trace: &Trace, assigned: &[usize], k: Option<u64>) -> String {
     let needs = needs(h, assigned);
     let plan = match k {
         None => unlimited(trace, &needs),
@@ -391,15 +400,18 @@ fn worker(k: Option<u64>, field: &str) -> Option<usize> {
     }
 }
 
-/// The verdict on a plan text.
-fn check_text(h: &Hierarchy, trace: &Trace, assigned: &[usize], text: &str) -> String {
+/// The verdict on a plan of which `next` gives the records after the first, one by one.
+pub fn check_text(
+    h: &Hierarchy,
+    trace: &Trace,
+    assigned: &[usize],
+    mut next: impl FnMut(&mut Vec<String>) -> bool,
+) -> String {
     let needs = needs(h, assigned);
     let mut fields = vec![];
-    let mut text = record(text, &mut fields).unwrap();
     let mut rows: Vec<(String, u64, u64, String)> = vec![Default::default(); trace.messages.len()];
     let mut summary: HashMap<String, String> = HashMap::new();
-    while let Some(rest) = record(text, &mut fields) {
-        text = rest;
+    while next(&mut fields) {
         if fields.len() == 5 {
             let number = fields[0].parse::<usize>().unwrap() - 1;
             let mut it = fields.drain(1..);
@@ -476,7 +488,7 @@ fn check_text(h: &Hierarchy, trace: &Trace, assigned: &[usize], text: &str) -> S
     }
 }
 
-fn compare_text(one: &Hierarchy, other: &Hierarchy, trace: &Trace, k: u64) -> String {
+pub fn compare_text(one: &Hierarchy, other: &Hierarchy, trace: &Trace, k: u64) -> String {
     let (classical, hierarchical) = if one.model == "classical" { (one, other) } else { (other, one) };
     let mut text = format!("workers,{k}\ntotal,{}\n", total(trace));
     let releases = trace.has_releases;
@@ -553,7 +565,15 @@ fn main() {
         match words[0].as_str() {
             "assign" => assign_text(&h, &trace, &assigned),
             "plan" => plan_text(&h, &trace, &assigned, k),
-            "check" => check_text(&h, &trace, &assigned, &file(2)),
+            "check" => {
+                let plan = file(2);
+                let mut rest = record(&plan, &mut vec![]);
+                let next = |fields: &mut Vec<String>| {
+                    rest = rest.and_then(|text| record(text, fields));
+                    rest.is_some()
+                };
+                check_text(&h, &trace, &assigned, next)
+            }
             word => panic!("no command {word}"),
         }
     };

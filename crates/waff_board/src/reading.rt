@@ -1,4 +1,4 @@
-//! Reading the message of a token, and the cells that it holds.
+//! Reading the message of a token, and the cells that it holds; a grant's message stands with its run.
 
 ghost use Rattle.std.specs.Prelude.{◌≡◌, ◌-◌, ◌↔◌, IfSome, IsSome};
 ghost use Rattle.waff_cells.specs.Parcel.{IsOwned};
@@ -28,13 +28,6 @@ impl Cleared {
 }
 
 impl<'a> Grant<'a> {
-    /// The message that the seat runs.
-    pub fn message(&self) -> u32
-        ensures { result ≡ self.now.message }
-    {
-        self.message
-    }
-
     /// The number of a cell of the parcels before the message, None for another cell.
     pub fn get(&self, cell: Cell) -> Option<u64>
         ensures held { IsSome result ↔ IsOwned self.now.hand.chair.me.0.job.layout.spaces

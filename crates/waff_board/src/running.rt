@@ -134,6 +134,13 @@ impl Board {
 }
 
 impl<'a> Grant<'a> {
+    /// The message that the seat runs.
+    pub fn message(&self) -> u32
+        ensures { result ≡ self.now.message }
+    {
+        self.message
+    }
+
     /// Runs the message's operations on the parcels.
     #[inline(always)]
     pub fn run(self) -> Finished<'a>
