@@ -29,6 +29,7 @@ impl Board {
         ensures job { IsJob result.now }
     {
         let job = &self.setup.job;
+        // Its contract tells `IsJob`.
         let _ = job.len();
         job
     }

@@ -82,6 +82,7 @@ fn state_left(
     ensures refused { IfErr result (Refuses chair.me.0) }
 {
     let parcels = parcels_left(table, chair, job, heap)?;
+    // Its contract tells `IsJob`.
     let _ = job.len();
     match State::of_parcels(heap, job.layout(), &parcels) {
         Ok(state) => Ok(state),

@@ -174,6 +174,7 @@ fn known(job: &Job) -> &Job
     ensures same { result.now ≡ job.now }
     ensures job { IsJob result.now }
 {
+    // Its contract tells `IsJob`.
     let _ = job.len();
     job
 }

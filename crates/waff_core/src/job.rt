@@ -220,6 +220,7 @@ fn copy_lists(
         (operations trace.now.messages) lists.0 lists.1) }
     ensures order { IfOk result (λ lists. lists.2.items ≡ order.now) }
 {
+    // Its contract tells `IsLayout`.
     let _ = layout.space_count();
     let owners = list_owners(alloc, layout, trace)?;
     let row_ops = list_row_ops(alloc, layout, trace, &owners)?;

@@ -180,6 +180,7 @@ fn apply(state: &mut State, places: &Places, job: &Job, m: u32)
     ensures sizes { HasSizes state.new (map length state.old) }
     ensures cells { cells_in state.new ≡ meaning (ops_of job.now.ops m) (cells_in state.old) }
 {
+    // Its contract tells `IsJob`.
     let _ = job.len();
     let owners = job.owners(m);
     let row_ops = job.row_ops(m);

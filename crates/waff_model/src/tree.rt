@@ -154,6 +154,7 @@ impl Tree {
         ensures number { result.0 ≡ 0 }
         ensures root { parent_of self.now result.0 ≡ None }
     {
+        // A look at a field tells the invariant of the tree.
         let _ = &self.nodes;
         AffinityId(0)
     }
