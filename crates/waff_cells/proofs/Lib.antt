@@ -5,6 +5,7 @@ mod Meanings
 pub mod Zeros
 mod Holdings
 mod InRows
+mod ShortOps
 pub mod RowRuns
 mod Gathers
 mod CellRuns

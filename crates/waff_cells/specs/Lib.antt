@@ -4,6 +4,7 @@ pub mod Grid
 pub mod Held
 pub mod Parcel
 pub mod RowOps
+pub mod ShortOps
 pub mod Gathered
 pub mod Laws
 pub mod InOrder

@@ -4,6 +4,7 @@
 //! row of the cells that one affinity owns, in the order of cells.
 //! - `state`: the state of all cells, which messages run on one after another.
 //! - `row_op`, `rows`: operations that name addresses in place of cells, and their run.
+//! - `short_op`, `op_list`: lists of these, in eight bytes each where their numbers are small.
 //! - `addresses`: the operation with the addresses of its cells, whatever rows hold them.
 //! - `parcels`: operations on the parcels of some affinities.
 //! - `places`: the cells at the places of parcels, by which operations on parcels are named again.
@@ -15,12 +16,15 @@
 mod addresses;
 mod gather;
 pub mod laws;
+mod op_list;
 pub mod parcels;
 mod places;
 mod row_op;
 mod rows;
+mod short_op;
 mod state;
 
+pub use op_list::{OpList, OpSlice};
 pub use places::Places;
 pub use row_op::RowOp;
 pub use state::State;

@@ -14,17 +14,18 @@ ghost use Rattle.waff_cells.specs.Parcel.{address_in};
 ghost use Rattle.waff_cells.specs.RowOps.{AreRowOps, IsOn, row_op};
 
 use crate::addresses::Addresses;
+use crate::op_list::OpSlice;
 use crate::row_op::RowOp;
 use crate::rows::number_at;
 use crate::{addresses, rows};
 use waff_model::{Cell, Layout, Op};
 
 /// Runs operations that name the addresses of their cells on parcels.
-pub fn run(parcels: &mut [Vec<u64>], ops: &[RowOp])
-    requires { All (IsOn (map length (rows_of parcels.old))) ops.now }
+pub fn run(parcels: &mut [Vec<u64>], ops: OpSlice<'_>)
+    requires { All (IsOn (map length (rows_of parcels.old))) ops }
     ensures sizes { HasSizes (rows_of parcels.new) (map length (rows_of parcels.old)) }
     ensures parcels { (spaces : List Space) (owners : List ℕ) (named : List Op) (cells : Cells)
-        → AreRowOps spaces owners named ops.now
+        → AreRowOps spaces owners named ops.entry
         → AreParcels spaces owners cells (rows_of parcels.old)
         → AreParcels spaces owners (meaning named cells) (rows_of parcels.new) }
 {

@@ -5,16 +5,17 @@ ghost use Rattle.waff_cells.specs.Grid.{HasSizes};
 ghost use Rattle.waff_cells.specs.Held.{rows_of, number_at, IsWithin};
 ghost use Rattle.waff_cells.specs.RowOps.{with_number_at, row_effect, row_meaning, IsOn};
 
+use crate::op_list::OpSlice;
 use crate::row_op::RowOp;
 
 /// Runs the operations on the rows.
-pub(crate) fn run(rows: &mut [Vec<u64>], ops: &[RowOp])
-    requires { All (IsOn (map length (rows_of rows.old))) ops.now }
+pub(crate) fn run(rows: &mut [Vec<u64>], ops: OpSlice<'_>)
+    requires { All (IsOn (map length (rows_of rows.old))) ops }
     ensures sizes { HasSizes (rows_of rows.new) (map length (rows_of rows.old)) }
-    ensures rows { rows_of rows.new ≡ row_meaning ops.now (rows_of rows.old) }
+    ensures rows { rows_of rows.new ≡ row_meaning ops.entry (rows_of rows.old) }
 {
-    for op in ops {
-        run_op(rows, *op);
+    for op in ops.short {
+        run_op(rows, op.row_op(ops.long));
     }
 }
 

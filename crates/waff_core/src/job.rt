@@ -15,7 +15,7 @@ ghost use Rattle.waff_core.specs.Addressed.{AreAddressed};
 ghost use Rattle.waff_core.specs.Job.{IsJob, IsJobOf, IsOrder, owners_of};
 ghost use Rattle.waff_core.specs.Owners.{AreOwners};
 
-use crate::lists::Lists;
+use crate::lists::{Lists, OpLists};
 use crate::order::is_order;
 use crate::owners::list_owners;
 use crate::refusal::JobError;
@@ -23,7 +23,7 @@ use crate::row_ops::list_row_ops;
 use std::alloc::{AllocError, Global};
 use std::marker::Model;
 use waff_assign::{Assigned, is_ordered};
-use waff_cells::RowOp;
+use waff_cells::OpSlice;
 use waff_model::{Layout, Trace};
 use waff_order::Needs;
 
@@ -36,7 +36,7 @@ pub struct Job {
     assigned: Assigned,
     needs: Needs,
     owners: Lists<u16>,
-    row_ops: Lists<RowOp>,
+    row_ops: OpLists,
     order: Vec<u32>,
 }
 
@@ -143,13 +143,13 @@ impl Job {
     }
 
     /// The operations of message `n` on the parcels of its footprint's owners.
-    pub fn row_ops(&self, n: u32) -> &[RowOp]
+    pub fn row_ops(&self, n: u32) -> OpSlice<'_>
         requires from { 1 ≤ n }
         requires to { n ≤ length self.now.ops }
         ensures row_ops { AreRowOps self.now.layout.spaces
-            (owners_of self.now.owners n) (ops_of self.now.ops n) result.now }
+            (owners_of self.now.owners n) (ops_of self.now.ops n) result }
         ensures within { All (IsOn (map (parcel_size self.now.layout.spaces)
-            (owners_of self.now.owners n))) result.now }
+            (owners_of self.now.owners n))) result }
     {
         self.row_ops.of(n)
     }
@@ -181,7 +181,7 @@ fn lists_of(
     trace: &Trace,
     needs: &Needs,
     order: &[u32],
-) -> Result<(Lists<u16>, Lists<RowOp>, Vec<u32>), JobError>
+) -> Result<(Lists<u16>, OpLists, Vec<u32>), JobError>
     requires fits { trace.now.sizes ≡ sizes_of layout.now.spaces }
     ensures layout { IfOk result (λ lists. IsLayout layout.now) }
     ensures trace { IfOk result (λ lists. IsTrace trace.now) }
@@ -210,7 +210,7 @@ fn copy_lists(
     layout: &Layout,
     trace: &Trace,
     order: &[u32],
-) -> Result<(Lists<u16>, Lists<RowOp>, Vec<u32>), AllocError>
+) -> Result<(Lists<u16>, OpLists, Vec<u32>), AllocError>
     requires fits { trace.now.sizes ≡ sizes_of layout.now.spaces }
     ensures layout { IfOk result (λ lists. IsLayout layout.now) }
     ensures trace { IfOk result (λ lists. IsTrace trace.now) }

@@ -1,9 +1,10 @@
 //! Lists of lists, kept flat.
 
-ghost use Rattle.std.specs.Prelude.{◌≡◌, ◌-◌, ◌≤◌, [], length, slice_index_or, slice_range};
+ghost use Rattle.std.specs.Prelude.{◌≡◌, ◌-◌, ◌≤◌, List, [], length, slice_index_or, slice_range};
 ghost use Rattle.waff_order.specs.Cuts.{parts, AreCuts};
 
 use std::marker::Model;
+use waff_cells::{OpList, OpSlice, RowOp};
 
 /// A list for each message: one list of all elements, and the places where the parts end.
 #[derive(Drop)]
@@ -38,20 +39,59 @@ impl<T> Lists<T> {
         requires to { n ≤ length self.now }
         ensures { result.now ≡ slice_index_or self.now (n - 1) [] }
     {
-        let (from, to) = bounds(self.all.as_slice(), self.ends.as_slice(), n);
+        let (from, to) = bounds::<T>(self.ends.as_slice(), n);
         &self.all[from..to]
     }
 }
 
+/// The operations of each message: one list of all, and the places where the parts end.
+#[derive(Drop)]
+pub(crate) struct OpLists {
+    all: OpList,
+    ends: Vec<u32>,
+}
+
+impl Model for OpLists {
+    ghost use Rattle.std.specs.Prelude.{List};
+    ghost use Rattle.waff_cells.specs.declared.row_op.RowOp.{RowOp};
+    ghost use Rattle.waff_order.specs.Cuts.{parts, AreCuts};
+
+    ghost Value = { List (List RowOp) };
+
+    ghost view = { λ l. parts l.all 0 l.ends.items };
+
+    ghost invariant = { λ l. AreCuts l.all 0 l.ends.items };
+}
+
+impl OpLists {
+    /// The lists that stand one after another in `all` and end at these places.
+    pub fn new(all: OpList, ends: Vec<u32>) -> Self
+        requires { AreCuts all 0 ends.items }
+        ensures { result ≡ parts all 0 ends.items }
+    {
+        OpLists { all, ends }
+    }
+
+    /// The operations of message `n`, from 1.
+    pub fn of(&self, n: u32) -> OpSlice<'_>
+        requires from { 1 ≤ n }
+        requires to { n ≤ length self.now }
+        ensures { result ≡ slice_index_or self.now (n - 1) [] }
+    {
+        let (from, to) = bounds::<RowOp>(self.ends.as_slice(), n);
+        self.all.range(from, to)
+    }
+}
+
 /// Where the list of message `n` begins and ends.
-fn bounds<T>(all: &[T], ends: &[u32], n: u32) -> (usize, usize)
-    requires cuts { AreCuts all.now 0 ends.now }
+fn bounds<T>(ends: &[u32], n: u32) -> (usize, usize)
     requires from { 1 ≤ n }
     requires to { n ≤ length ends.now }
-    ensures forward { result.0 ≤ result.1 }
-    ensures within { result.1 ≤ length all.now }
-    ensures part { slice_range all.now result.0 result.1
-        ≡ slice_index_or (parts all.now 0 ends.now) (n - 1) [] }
+    ensures forward { (all : List T) → AreCuts all 0 ends.now → result.0 ≤ result.1 }
+    ensures within { (all : List T) → AreCuts all 0 ends.now → result.1 ≤ length all }
+    ensures part { (all : List T) → AreCuts all 0 ends.now
+        → slice_range all result.0 result.1
+        ≡ slice_index_or (parts all 0 ends.now) (n - 1) [] }
 {
     let place = n as usize - 1;
     let to = ends[place] as usize;

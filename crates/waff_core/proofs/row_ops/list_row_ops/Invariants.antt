@@ -6,7 +6,7 @@ use Rattle.waff_core.proofs.row_ops.list_row_ops.Given as goal
 
 abbrev pub invariant-loop-n : goal.invariant-loop-n
 invariant-loop-n l = record {
-  cuts : AreCuts l.all.items 0 l.ends.items;
-  row_ops : AreAddressedUpTo l.layout.spaces (operations l.trace.messages) l.owners (parts l.all.items 0 l.ends.items) (l.n - 1);
-  few : length l.all.items ≤ 32 * (l.n - 1);
+  cuts : AreCuts l.all 0 l.ends.items;
+  row_ops : AreAddressedUpTo l.layout.spaces (operations l.trace.messages) l.owners (parts l.all 0 l.ends.items) (l.n - 1);
+  few : length l.all ≤ 32 * (l.n - 1);
 }

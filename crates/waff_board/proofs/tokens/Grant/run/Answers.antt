@@ -19,9 +19,9 @@ run-requires c =
     let before : AreParcels v.job.layout.spaces (owners_of v.job.owners m) (serial v.job.ops (m - 1)) rows
     = subst (λ (xs : List (Vec ℕ Global)). AreParcels v.job.layout.spaces (owners_of v.job.owners m) (serial v.job.ops (m - 1)) (map (λ (row : Vec ℕ Global). row.items) xs))
     (sym c.as_mut_slice.ensures.value) c.args.self.before in
-    subst (λ sizes. All (IsOn sizes) c.row_ops.result.now)
+    subst (λ sizes. All (IsOn sizes) c.row_ops.result)
     (sym (parcel_sizes v.job.layout.spaces (owners_of v.job.owners m) (serial v.job.ops (m - 1)) rows before))
-    (subst (λ (j : JobValue). All (IsOn (map (parcel_size j.layout.spaces) (owners_of j.owners m))) c.row_ops.result.now) same c.row_ops.ensures.within)
+    (subst (λ (j : JobValue). All (IsOn (map (parcel_size j.layout.spaces) (owners_of j.owners m))) c.row_ops.result) same c.row_ops.ensures.within)
 
 pub invariant_of-result : goal.invariant_of-result
 invariant_of-result c =
@@ -32,8 +32,8 @@ invariant_of-result c =
     let before : AreParcels v.job.layout.spaces (owners_of v.job.owners m) (serial v.job.ops (m - 1)) rows
     = subst (λ (xs : List (Vec ℕ Global)). AreParcels v.job.layout.spaces (owners_of v.job.owners m) (serial v.job.ops (m - 1)) (map (λ (row : Vec ℕ Global). row.items) xs))
     (sym c.as_mut_slice.ensures.value) c.args.self.before in
-    let are : AreRowOps v.job.layout.spaces (owners_of v.job.owners m) (ops_of v.job.ops m) c.row_ops.result.now
-    = subst (λ (j : JobValue). AreRowOps j.layout.spaces (owners_of j.owners m) (ops_of j.ops m) c.row_ops.result.now) same c.row_ops.ensures.row_ops in
+    let are : AreRowOps v.job.layout.spaces (owners_of v.job.owners m) (ops_of v.job.ops m) c.row_ops.result
+    = subst (λ (j : JobValue). AreRowOps j.layout.spaces (owners_of j.owners m) (ops_of j.ops m) c.row_ops.result) same c.row_ops.ensures.row_ops in
     let left = map (λ (row : Vec ℕ Global). row.items) c.run.new.parcels in
     let after : AreParcels v.job.layout.spaces (owners_of v.job.owners m) (meaning (ops_of v.job.ops m) (serial v.job.ops (m - 1))) left
     = c.run.ensures.parcels v.job.layout.spaces (owners_of v.job.owners m) (ops_of v.job.ops m) (serial v.job.ops (m - 1)) are before in

@@ -21,12 +21,12 @@ pub returns-clause-row_ops : goal.returns-clause-row_ops
 returns-clause-row_ops c =
     addressed_at c.args.self.now c.self.inside.row_ops
     (subst (λ (j : JobValue). AreAddressed j.layout.spaces j.ops j.owners c.self.inside.row_ops) c.self.view_is c.self.invariant.1)
-    c.args.n (record { from = c.requires.from; to = c.requires.to }) c.of.result.now c.of.ensures
+    c.args.n (record { from = c.requires.from; to = c.requires.to }) c.of.result c.of.ensures
 
 pub returns-clause-within : goal.returns-clause-within
 returns-clause-within c =
     let job = c.args.self.now in
-    ops_are_on job.layout.spaces (owners_of job.owners c.args.n) (ops_of job.ops c.args.n) c.of.result.now
+    ops_are_on job.layout.spaces (owners_of job.owners c.args.n) (ops_of job.ops c.args.n) c.of.result
     (addressed_at job c.self.inside.row_ops
     (subst (λ (j : JobValue). AreAddressed j.layout.spaces j.ops j.owners c.self.inside.row_ops) c.self.view_is c.self.invariant.1)
-    c.args.n (record { from = c.requires.from; to = c.requires.to }) c.of.result.now c.of.ensures)
+    c.args.n (record { from = c.requires.from; to = c.requires.to }) c.of.result c.of.ensures)
