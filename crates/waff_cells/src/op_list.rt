@@ -1,6 +1,6 @@
 //! Lists of operations on rows of numbers, which take eight bytes for each whose numbers are small.
 
-ghost use Rattle.std.specs.Prelude.{◌≡◌, ◌<◌, ◌≤◌, ◌^◌, ◌++◌, ◌∷◌, [], length, OnOk, Some};
+ghost use Rattle.std.specs.Prelude.{◌≡◌, ◌<◌, ◌≤◌, ◌^◌, ◌++◌, ◌∷◌, [], length, OnErr, OnOk, Some};
 ghost use Rattle.std.specs.Prelude.{slice_get, slice_range};
 
 use crate::row_op::RowOp;
@@ -47,7 +47,8 @@ impl OpList {
     /// Appends the operation.
     pub fn push(&mut self, op: RowOp) -> Result<(), AllocError>
         requires room { length self.old < 2 ^ 32 }
-        ensures { OnOk result (self.new ≡ self.old ++ op ∷ []) }
+        ensures pushed { OnOk result (self.new ≡ self.old ++ op ∷ []) }
+        ensures unchanged { OnErr result (self.new ≡ self.old) }
     {
         match ShortOp::of(op) {
             Some(short) => {
@@ -61,7 +62,8 @@ impl OpList {
     /// Appends the operation to the long ones.
     fn push_long(&mut self, op: RowOp) -> Result<(), AllocError>
         requires room { length self.old < 2 ^ 32 }
-        ensures { OnOk result (self.new ≡ self.old ++ op ∷ []) }
+        ensures pushed { OnOk result (self.new ≡ self.old ++ op ∷ []) }
+        ensures unchanged { OnErr result (self.new ≡ self.old) }
     {
         let at = self.long.len() as u32;
         self.long.push(op)?;

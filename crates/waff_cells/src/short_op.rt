@@ -8,7 +8,7 @@ use crate::row_op::RowOp;
 
 /// An operation whose rows are below 2^8, its columns below 2^16 and its value below 2^32, or where
 /// a longer one stands.
-#[derive(Clone, Copy, Debug, PartialEq, Eq)]
+#[derive(Clone, Copy)]
 pub(crate) enum ShortOp {
     Set {
         row: u8,
