@@ -1,10 +1,10 @@
 //! The state of all cells of a layout.
 
 ghost use Rattle.std.specs.Prelude.{◌≡◌, ◌<◌, ◌≤◌, ◌^◌, length, map, All, IfOk};
-ghost use Rattle.waff_model.specs.Cells.{cells_of, LiesIn};
+ghost use Rattle.waff_model.specs.Cells.{cells_of, cells_of_op, LiesIn};
 ghost use Rattle.waff_model.specs.Messages.{sizes_of};
 ghost use Rattle.waff_model.specs.declared.cell.Cell.{Cell};
-ghost use Rattle.waff_cells.specs.Meaning.{meaning};
+ghost use Rattle.waff_cells.specs.Meaning.{effect, meaning};
 ghost use Rattle.waff_cells.specs.Grid.{cells_in, HasSizes};
 ghost use Rattle.waff_cells.specs.Held.{rows_of};
 
@@ -12,7 +12,7 @@ use crate::addresses::{Addresses, row_op};
 use crate::rows;
 use std::alloc::{AllocError, Global};
 use std::marker::Model;
-use waff_model::{Cell, Layout, Message, Op};
+use waff_model::{Cell, Layout, Message, Op, Ops};
 
 /// The number that each cell of a layout holds: a row for each space.
 #[derive(Drop)]
@@ -51,17 +51,17 @@ impl State {
         ensures cells { (cell : Cell)
             → cells_in self.new cell ≡ meaning message.now.ops (cells_in self.old) cell }
     {
-        self.apply_ops(message.ops.iter().as_slice());
+        run(&mut self.rows, &message.ops);
     }
 
-    /// Runs the operations, whose cells are the state's.
-    pub fn apply_ops(&mut self, ops: &[Op])
-        requires { All (LiesIn (map length self.old)) (cells_of ops.now) }
+    /// Runs the operation, whose cells are the state's.
+    pub fn apply_op(&mut self, op: Op)
+        requires { All (LiesIn (map length self.old)) (cells_of_op op) }
         ensures sizes { HasSizes self.new (map length self.old) }
         ensures cells { (cell : Cell)
-            → cells_in self.new cell ≡ meaning ops.now (cells_in self.old) cell }
+            → cells_in self.new cell ≡ effect op (cells_in self.old) cell }
     {
-        run(&mut self.rows, ops);
+        run_op(&mut self.rows, op);
     }
 
     /// The number that the cell, which is the state's, holds.
@@ -74,16 +74,28 @@ impl State {
 }
 
 /// Runs the operations on the rows of a state.
-fn run(spaces: &mut [Vec<u64>], ops: &[Op])
+fn run(spaces: &mut [Vec<u64>], ops: &Ops)
     requires few { length spaces.old ≤ 2 ^ 16 }
     requires within { All (LiesIn (map length (rows_of spaces.old))) (cells_of ops.now) }
     ensures sizes { HasSizes (rows_of spaces.new) (map length (rows_of spaces.old)) }
     ensures cells { (cell : Cell) → cells_in (rows_of spaces.new) cell
         ≡ meaning ops.now (cells_in (rows_of spaces.old)) cell }
 {
-    for op in ops {
-        rows::run_op(spaces, row_op(&InSpaces, *op));
+    for at in 0..ops.len() {
+        run_op(spaces, ops.get(at));
     }
+}
+
+/// Runs the operation on the rows of a state.
+#[inline(always)]
+fn run_op(spaces: &mut [Vec<u64>], op: Op)
+    requires few { length spaces.old ≤ 2 ^ 16 }
+    requires within { All (LiesIn (map length (rows_of spaces.old))) (cells_of_op op) }
+    ensures sizes { HasSizes (rows_of spaces.new) (map length (rows_of spaces.old)) }
+    ensures cells { (cell : Cell) → cells_in (rows_of spaces.new) cell
+        ≡ effect op (cells_in (rows_of spaces.old)) cell }
+{
+    rows::run_op(spaces, row_op(&InSpaces, op));
 }
 
 /// Where a state holds each cell: in the row of its space, at its index.

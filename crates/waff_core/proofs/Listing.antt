@@ -4,7 +4,7 @@ use Rattle.std.specs.List.{flat_map, dedup}
 use Rattle.std.specs.List.Sorted.{IsPermutation, IsSorted}
 use Rattle.std.specs.Ordering.{nat_cmp}
 use Rattle.std.proofs.lemmas.Bool.{cases_eq}
-use Rattle.std.proofs.lemmas.List.{append_assoc, get_or_append_left, get_or-append-add, get_or_push, length-append, length_push, length-map, map-append, flat_map_more, get_or-map, take_more}
+use Rattle.std.proofs.lemmas.List.{append_assoc, get_or_append_left, get_or-append-add, get_or_push, length-append, length_push, length-map, map-append, map_push, flat_map_more, get_or-map, take_more}
 use Rattle.std.proofs.lemmas.List.Elements.{All-nil, All-push, All-contains, Contains-get_or}
 use Rattle.std.proofs.lemmas.List.Kept.{Contains-dedup_nat, Contains-from_dedup}
 use Rattle.std.proofs.lemmas.List.Sorted.{Contains-permutation, IsPermutation-sym}
@@ -36,7 +36,7 @@ All-flat P f (x ∷ xs) zero d within h = All-left P (f x) (flat_map f xs) h
 All-flat P f (x ∷ xs) (suc i) d within h = All-flat P f xs i d (omega arith) (All-right P (f x) (flat_map f xs) h)
 
 -- the owners of the cells of one operation more
-pub owners_more : (before : List ℕ) (spaces : List Space) (ops : List Op) (i : ℕ) (d : Op) → i < length ops
+owners_more : (before : List ℕ) (spaces : List Space) (ops : List Op) (i : ℕ) (d : Op) → i < length ops
     → (before ++ owners_in spaces (cells_of (take i ops))) ++ owners_in spaces (cells_of_op (get_or ops i d))
     ≡ before ++ owners_in spaces (cells_of (take (i + 1) ops))
 owners_more before spaces ops i d within =
@@ -46,6 +46,26 @@ owners_more before spaces ops i d within =
     ∙ ap (λ xs. before ++ xs)
     (sym (map-append f (cells_of (take i ops)) (cells_of_op op))
     ∙ ap (λ xs. map f xs) (flat_map_more cells_of_op [] (take i ops) op ∙ ap (λ xs. cells_of xs) (sym (take_more ops i d within))))
+
+-- the same of the operation that was found at its place
+pub owners_more_found : (before : List ℕ) (spaces : List Space) (ops : List Op) (i : ℕ) (op : Op) → slice_get ops i ≡ Some op
+    → (before ++ owners_in spaces (cells_of (take i ops))) ++ owners_in spaces (cells_of_op op) ≡ before ++ owners_in spaces (cells_of (take (i + 1) ops))
+owners_more_found before spaces ops i op is =
+    ap (λ x. (before ++ owners_in spaces (cells_of (take i ops))) ++ owners_in spaces (cells_of_op x)) (sym (get_or_from_slice_get ops i op op is))
+    ∙ owners_more before spaces ops i op (slice_get_within ops i op is)
+
+-- what all cells of operations are, those of the operation that was found are
+pub cells_found : (P : Cell → Type 0) (ops : List Op) (i : ℕ) (op : Op) → slice_get ops i ≡ Some op → All P (cells_of ops) → All P (cells_of_op op)
+cells_found P ops i op is all =
+    subst (λ x. All P (cells_of_op x)) (get_or_from_slice_get ops i op op is) (All-flat P cells_of_op ops i op (slice_get_within ops i op is) all)
+
+-- the images of one element more
+pub images_more : {X Y : Type 0} (before : List Y) (f : X → Y) (xs : List X) (i : ℕ) (x : X) → slice_get xs i ≡ Some x
+    → (before ++ map f (take i xs)) ++ f x ∷ [] ≡ before ++ map f (take (i + 1) xs)
+images_more before f xs i x is =
+    append_assoc before (map f (take i xs)) (f x ∷ [])
+    ∙ ap (λ ys. before ++ ys)
+    (sym (ap (map f) (take_more xs i x (slice_get_within xs i x is) ∙ ap (λ y. take i xs ++ y ∷ []) (get_or_from_slice_get xs i x x is)) ∙ map_push f (take i xs) x))
 
 -- the operations of the message at a place
 pub operations_at : (messages : List Message) (n : ℕ) (message : Message) → slice_get messages n ≡ Some message

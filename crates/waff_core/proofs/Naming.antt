@@ -2,8 +2,7 @@
 use Rattle.std.proofs.Common.{◌≡◌, ℕ, ◌+◌, ◌-◌, ◌<◌, ◌≤◌, List, [], ◌∷◌, ◌++◌, length, map, take, get_or, All, arith, refl, sym, ◌∙◌, ap, subst}
 use Rattle.std.proofs.lemmas.List.{length-map, get_or-map, get_or_default, same_lists, take_more}
 use Rattle.std.proofs.lemmas.List.FromFn.{length-map-range_with_len, get_or-map-range_with_len}
-use Rattle.std.proofs.lemmas.List.Elements.{All-nil, All-append}
-use Rattle.waff_model.specs.Cells.{cells_of, cells_of_op, LiesIn}
+use Rattle.waff_model.specs.Cells.{cells_of_op, LiesIn}
 use Rattle.waff_model.specs.Layout.{Space, size_at}
 use Rattle.waff_model.specs.Messages.{sizes_of}
 use Rattle.waff_model.specs.declared.op.Op.{Op}
@@ -69,13 +68,13 @@ module _ (spaces : List Space) (places : Places) (are : ArePlaces spaces places)
       ∙ op_is_named spaces places are owners (get_or named k none) (All-flat (IsOwned spaces owners) cells_of_op named k none within_named rows.owned)
 
   pub named_meaning : (before after start : Cells) → before ≡ meaning (take k named) start
-      → after ≡ meaning (op_named places owners (get_or row_ops k d) ∷ []) before → after ≡ meaning (take (k + 1) named) start
+      → after ≡ effect (op_named places owners (get_or row_ops k d)) before → after ≡ meaning (take (k + 1) named) start
   named_meaning before after start is next =
-      next ∙ ap (λ op. meaning (op ∷ []) before) named_at ∙ ap (meaning (get_or named k none ∷ [])) is
+      next ∙ ap (λ op. effect op before) named_at ∙ ap (meaning (get_or named k none ∷ [])) is
       ∙ sym (ap (λ xs. meaning xs start) (take_more named k none within_named) ∙ meaning-append (take k named) (get_or named k none ∷ []) start)
 
   -- its cells are those of the state
-  pub named_lies : (sizes : List ℕ) → sizes ≡ sizes_of spaces → All (LiesIn sizes) (cells_of (op_named places owners (get_or row_ops k d) ∷ []))
+  pub named_lies : (sizes : List ℕ) → sizes ≡ sizes_of spaces → All (LiesIn sizes) (cells_of_op (op_named places owners (get_or row_ops k d)))
   named_lies sizes sized =
       let owned : All (IsOwned spaces owners) (cells_of_op (get_or named k none)) = All-flat (IsOwned spaces owners) cells_of_op named k none within_named rows.owned in
       let lies : All (LiesIn sizes) (cells_of_op (get_or named k none))
@@ -83,5 +82,4 @@ module _ (spaces : List Space) (places : Places) (are : ArePlaces spaces places)
       let cell = get_or (cells_of_op (get_or named k none)) i e in
       let size : get_or sizes cell.space 0 ≡ size_at spaces cell.space = ap (λ xs. get_or xs cell.space 0) sized ∙ size_is spaces cell.space in
       omega (arith, (owned i e there).there, size) in
-      subst (λ op. All (LiesIn sizes) (cells_of (op ∷ []))) (sym named_at)
-      (All-append (LiesIn sizes) (cells_of_op (get_or named k none)) [] lies (All-nil (LiesIn sizes)))
+      subst (λ op. All (LiesIn sizes) (cells_of_op op)) (sym named_at) lies

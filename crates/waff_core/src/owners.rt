@@ -10,7 +10,7 @@ ghost use Rattle.waff_core.specs.Owners.{AreOwners, owners_in};
 use crate::lists::Lists;
 use crate::operations::ops_of;
 use std::alloc::{AllocError, Global};
-use waff_model::{Layout, Op, Trace};
+use waff_model::{Layout, Op, Ops, Trace};
 
 /// The owners of the footprint of each message, each once, in rising order.
 pub(crate) fn list_owners(
@@ -39,13 +39,13 @@ pub(crate) fn list_owners(
 }
 
 /// Appends the owners of the cells that the operations name.
-fn push_owners(owners: &mut Vec<u16>, layout: &Layout, ops: &[Op]) -> Result<(), AllocError>
+fn push_owners(owners: &mut Vec<u16>, layout: &Layout, ops: &Ops) -> Result<(), AllocError>
     requires { All (IsCell layout.now.spaces) (cells_of ops.now) }
     ensures { OnOk result
         (owners.new.items ≡ owners.old.items ++ owners_in layout.now.spaces (cells_of ops.now)) }
 {
     for at in 0..ops.len() {
-        push_owners_of_op(owners, layout, ops[at])?;
+        push_owners_of_op(owners, layout, ops.get(at))?;
     }
     Ok(())
 }

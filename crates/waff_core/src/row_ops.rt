@@ -13,7 +13,7 @@ use crate::lists::{Lists, OpLists};
 use crate::operations::ops_of;
 use std::alloc::{AllocError, Global};
 use waff_cells::{OpList, parcels};
-use waff_model::{Layout, Op, Trace};
+use waff_model::{Layout, Ops, Trace};
 
 /// The operations of each message on the parcels of these owners of its footprint.
 pub(crate) fn list_row_ops(
@@ -44,7 +44,7 @@ fn push_row_ops(
     all: &mut OpList,
     layout: &Layout,
     owners: &[u16],
-    ops: &[Op],
+    ops: &Ops,
 ) -> Result<(), AllocError>
     requires few { length owners.now ≤ 64 }
     requires room { length all.old + length ops.now ≤ 2 ^ 32 }
@@ -53,7 +53,7 @@ fn push_row_ops(
         ≡ all.old ++ map (row_op (address_in layout.now.spaces owners.now)) ops.now) }
 {
     for at in 0..ops.len() {
-        all.push(parcels::row_op(layout, owners, ops[at]))?;
+        all.push(parcels::row_op(layout, owners, ops.get(at)))?;
     }
     Ok(())
 }

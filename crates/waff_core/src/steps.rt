@@ -185,7 +185,7 @@ fn apply(state: &mut State, places: &Places, job: &Job, m: u32)
     let owners = job.owners(m);
     let row_ops = job.row_ops(m);
     for at in 0..row_ops.len() {
-        state.apply_ops(&[places.op(owners, row_ops.at(at))]);
+        state.apply_op(places.op(owners, row_ops.at(at)));
     }
 }
 

@@ -9,6 +9,7 @@ pub mod Cells
 pub mod Layout
 pub mod LayoutOf
 pub mod LayoutRefusal
+pub mod PackedOps
 pub mod Parcel
 pub mod ParcelTable
 pub mod ParcelLaws

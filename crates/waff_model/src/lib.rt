@@ -5,8 +5,8 @@
 //!   each below its parent.
 //! - `layout`, over `layout_rows` (what it is made of, and why that is refused) and `space`: which
 //!   affinity owns each cell; `parcels`: where a cell stands among the cells of its owner.
-//! - `trace`, `message`, `op`: messages with their costs, releases (in ticks) and operations on
-//!   cells.
+//! - `trace`, `message`, `op`, `ops` over `packed_op`: messages with their costs, releases (in
+//!   ticks) and operations on cells.
 //! - `cell`, `kind`, `name`, `texts`: the small parts; `limits`: the limits of hierarchies, traces
 //!   and plans.
 //! - `laws`: what holds of the parcels of all layouts.
@@ -25,6 +25,8 @@ mod message;
 mod name;
 mod nodes;
 mod op;
+mod ops;
+mod packed_op;
 mod parcels;
 mod places;
 mod space;
@@ -38,7 +40,8 @@ pub use layout::Layout;
 pub use layout_rows::{LayoutError, MapSpec, SpaceSpec};
 pub use message::{Message, Version};
 pub use name::{Text, is_name};
-pub use op::{Op, Ops};
+pub use op::Op;
+pub use ops::Ops;
 pub use places::Place;
 pub use texts::Texts;
 pub use trace::Trace;

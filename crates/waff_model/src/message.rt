@@ -1,7 +1,7 @@
 //! Messages, and the versions of traces.
 
 use crate::name::Text;
-use crate::op::Ops;
+use crate::ops::Ops;
 
 /// The version of a trace: in the first every release is 0.
 #[derive(Clone, Copy, Debug, PartialEq, Eq)]

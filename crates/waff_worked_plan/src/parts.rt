@@ -35,14 +35,24 @@ fn keep_texts_in_order(rt: HostRuntime) {
 #[test]
 fn keep_operations_in_order(rt: HostRuntime) {
     let cell = Cell { space: 0, index: 4 };
+    let kept = [
+        Op::Read { cell },
+        Op::Add { cell, value: 7 },
+        Op::Set {
+            cell,
+            value: 1 << 32,
+        },
+        Op::Add { cell, value: 8 },
+    ];
     let mut ops = Ops::new(rt.alloc());
     assert!(rt; ops.is_empty());
-    for op in [Op::Read { cell }, Op::Add { cell, value: 7 }] {
+    for op in kept {
         ops.push(op).expect(&rt, "an operation");
     }
-    assert!(rt; ops.len() == 2);
-    assert!(rt; ops.get(1) == Op::Add { cell, value: 7 });
-    assert!(rt; ops.iter().count() == 2);
+    assert!(rt; ops.len() == 4);
+    for place in 0..4 {
+        assert!(rt; ops.get(place) == kept[place]);
+    }
     drop(ops);
 }
 
