@@ -13,7 +13,7 @@
 //!   what a token tells.
 //! - `laws`: what holds between any two steps, whichever threads make them.
 //!
-//! At most 16 seats. The words that contracts cite stand in `specs/`: `Views`, `Shows` and `Rule`
+//! At most 16 seats. The words that contracts cite stand in `specs/`: `Seats`, `Shows` and `Rule`
 //! first.
 #![tactic(auto)]
 

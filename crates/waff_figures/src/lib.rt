@@ -7,6 +7,7 @@
 //! - `tally`: what is told of some of the messages; `below`: costs summed up the tree; `names`: the
 //!   distinct names.
 //! - `by_affinity`, `by_name`: the texts of these.
+//! - `laws`: the columns of these texts add up.
 #![tactic(auto)]
 
 mod below;

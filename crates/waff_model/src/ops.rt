@@ -61,6 +61,7 @@ impl Ops {
         Ok(())
     }
 
+    #[inline(always)]
     pub fn len(&self) -> usize
         ensures { result ≡ length self.now }
     {
@@ -74,6 +75,7 @@ impl Ops {
     }
 
     /// The operation at a place, from 0.
+    #[inline(always)]
     pub fn get(&self, place: usize) -> Op
         requires { place < length self.now }
         ensures { slice_get self.now place ≡ Some result }

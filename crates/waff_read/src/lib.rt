@@ -1,8 +1,8 @@
 //! The readers of hierarchies and traces.
 //!
 //! - `hierarchy`: the reader of hierarchies, over `document` (the values of a TOML document),
-//!   `shape` (the keys and their types), `affinities` (the tree) and `spaces` (the rows of a
-//!   layout); `hier_error` has what it refuses.
+//!   `shape` (the keys and their types), `affinities` (the tree), `spaces` (the rows of a layout)
+//!   and `names` (affinities and spaces by name); `hier_error` has what it refuses.
 //! - `trace`: the reader of traces, over `message` (one record), `ops` (the operations of a
 //!   message), `op` (one operation), `beginnings` (what a text without a fault begins with),
 //!   `parts` (what an operation is made of) and `space_table` (the spaces by name); `trace_fault`

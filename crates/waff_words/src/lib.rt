@@ -5,6 +5,7 @@
 //!   `affinities` (the tree) and `layouts` (spaces and maps), which find tables by `named`.
 //! - `traces`: a trace that is refused, over `operations` (the operations of a message).
 //! - `plan_texts`: the text of a plan that is refused.
+//! - `fields`: a field that is no name, no number or no text.
 //! - `sizes`: how much there is where nothing is wrong.
 //!
 //! `words` is a text that grows by pieces. `files` reads the files once more, `walk` goes over the
