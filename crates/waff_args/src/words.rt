@@ -69,40 +69,37 @@ fn asked_for<'a>(matches: &ArgMatches<'a>) -> Result<Request<'a>, Refusal>
     ensures { IfOk result IsWithinLimits }
 {
     match matches.subcommand() {
-        Some(("assign", matches)) => Ok(Request::Assign(file_names(matches)?)),
-        Some(("plan", matches)) => {
-            let k = workers(matches, MAX_WORKERS)?;
-            Ok(Request::Plan(file_names(matches)?, k))
-        }
-        Some(("check", matches)) => Ok(Request::Check(
-            file_names(matches)?,
-            word(matches, "PLAN")?,
-        )),
-        Some(("replay", matches)) => {
-            let workers = workers(matches, MAX_SEATS)?.ok_or(Refusal::NoWords)?;
-            Ok(Request::Replay(file_names(matches)?, workers))
-        }
-        Some(("compare", matches)) => {
-            let k = workers(matches, MAX_WORKERS)?.ok_or(Refusal::NoWords)?;
-            Ok(Request::Compare(file_names(matches)?, word(matches, "OTHER")?, k))
-        }
-        Some(("sweep", matches)) => Ok(Request::Sweep(file_names(matches)?)),
-        Some(("where", matches)) => Ok(Request::Where(
-            file_names(matches)?,
-            matches.get_flag("names"),
-        )),
-        Some(("draw", matches)) => Ok(Request::Draw(
-            file_names(matches)?,
-            word(matches, "PLAN")?,
-            drawn_as(matches)?,
-        )),
         Some(("explain", matches)) => Ok(Request::Explain(
             word(matches, "HIER")?,
             matches.get_str("TRACE"),
             matches.get_str("PLAN"),
         )),
-        Some(_) => Err(Refusal::NoWords),
+        Some((command, matches)) => asked_of(command, file_names(matches)?, matches),
         None => Ok(Request::PlanOfInput),
+    }
+}
+
+/// What the words of a command on these files ask for.
+fn asked_of<'a>(
+    command: &str,
+    files: FileNames<'a>,
+    matches: &ArgMatches<'a>,
+) -> Result<Request<'a>, Refusal>
+    ensures { IfOk result IsWithinLimits }
+{
+    match command {
+        "assign" => Ok(Request::Assign(files)),
+        "plan" => Ok(Request::Plan(files, workers(matches, MAX_WORKERS)?)),
+        "check" => Ok(Request::Check(files, word(matches, "PLAN")?)),
+        "replay" => Ok(Request::Replay(files, wanted_workers(matches, MAX_SEATS)?)),
+        "compare" => {
+            let k = wanted_workers(matches, MAX_WORKERS)?;
+            Ok(Request::Compare(files, word(matches, "OTHER")?, k))
+        }
+        "sweep" => Ok(Request::Sweep(files)),
+        "where" => Ok(Request::Where(files, matches.get_flag("names"))),
+        "draw" => Ok(Request::Draw(files, word(matches, "PLAN")?, drawn_as(matches)?)),
+        _ => Err(Refusal::NoWords),
     }
 }
 
@@ -128,6 +125,13 @@ fn workers(matches: &ArgMatches<'_>, most: u32) -> Result<Option<u32>, Refusal>
     }
 }
 
+/// The number of workers, which has to be given; there are this many at most.
+fn wanted_workers(matches: &ArgMatches<'_>, most: u32) -> Result<u32, Refusal>
+    ensures { IfOk result (λ k. (1 ≤ k) × (k ≤ most)) }
+{
+    workers(matches, most)?.ok_or(Refusal::NoWords)
+}
+
 /// As what the plan is drawn.
 fn drawn_as(matches: &ArgMatches<'_>) -> Result<Drawing, Refusal> {
     match matches.get_str("as") {
@@ -138,21 +142,30 @@ fn drawn_as(matches: &ArgMatches<'_>) -> Result<Drawing, Refusal> {
 }
 
 fn waff<'a>(alloc: Global) -> Result<Command<'a>, AllocError> {
-    Command::new(alloc, "waff")
+    let waff = Command::new(alloc, "waff")
         .version("0.1.0")
         .about("How much parallelism a tree of affinities allows a trace of messages")
         .after_help(
             "With no words: the plan of the hierarchy and the trace on standard input, a line --- between them.",
-        )
-        .subcommand(assign(alloc)?.after_help(help::ASSIGN))?
-        .subcommand(plan(alloc)?.after_help(help::PLAN))?
-        .subcommand(check(alloc)?.after_help(help::CHECK))?
-        .subcommand(explain(alloc)?.after_help(help::EXPLAIN))?
-        .subcommand(sweep(alloc)?.after_help(help::SWEEP))?
-        .subcommand(place(alloc)?.after_help(help::WHERE))?
-        .subcommand(draw(alloc)?.after_help(help::DRAW))?
-        .subcommand(replay(alloc)?.after_help(help::REPLAY))?
-        .subcommand(compare(alloc)?.after_help(help::COMPARE))
+        );
+    let waff = with(waff, assign(alloc), help::ASSIGN)?;
+    let waff = with(waff, plan(alloc), help::PLAN)?;
+    let waff = with(waff, check(alloc), help::CHECK)?;
+    let waff = with(waff, explain(alloc), help::EXPLAIN)?;
+    let waff = with(waff, sweep(alloc), help::SWEEP)?;
+    let waff = with(waff, place(alloc), help::WHERE)?;
+    let waff = with(waff, draw(alloc), help::DRAW)?;
+    let waff = with(waff, replay(alloc), help::REPLAY)?;
+    with(waff, compare(alloc), help::COMPARE)
+}
+
+/// The program with one more command, whose help ends so.
+fn with<'a>(
+    waff: Command<'a>,
+    command: Result<Command<'a>, AllocError>,
+    help: &'a str,
+) -> Result<Command<'a>, AllocError> {
+    waff.subcommand(command?.after_help(help))
 }
 
 fn assign<'a>(alloc: Global) -> Result<Command<'a>, AllocError> {
