@@ -34,7 +34,8 @@ impl State {
     }
 }
 
-/// The numbers of the cells of space `s`, copied a run at a time.
+/// The numbers of the cells of space `s`, copied a run at a time. Runs are often as long as the one
+/// before.
 fn row_of(
     alloc: Global,
     layout: &Layout,
@@ -51,19 +52,56 @@ fn row_of(
     let size = layout.space_size(s);
     let mut row = Vec::with_capacity(alloc, size as usize)?;
     let mut index = 0;
-    let mut most = 1;
+    let mut count = 1;
     while index < size {
         let first = Cell { space: s, index };
-        let count = run_at(layout, first, size.min(index.saturating_add(most)) - index);
+        let most = size - index;
+        count = run_at(layout, first, count.min(most), most);
         row.extend_from_slice(numbers_at(layout, parcels, first, count))?;
         index += count;
-        most = count.saturating_mul(2);
     }
     Ok(row)
 }
 
-/// How many cells from this one on, as many as asked for or else fewer, are a run.
-fn run_at(layout: &Layout, first: Cell, most: u32) -> u32
+/// How many cells from this one on, at most so many, are a run: as many as guessed, or else more or
+/// fewer.
+fn run_at(layout: &Layout, first: Cell, guess: u32, most: u32) -> u32
+    requires some { 1 ≤ guess }
+    requires guess { guess ≤ most }
+    requires short { first.index + most < 2 ^ 32 }
+    requires cells { first.index + most ≤ size_at layout.now.spaces first.space }
+    ensures some { 1 ≤ result }
+    ensures most { result ≤ most }
+    ensures run { IsRun layout.now.spaces first result }
+{
+    if ends_run(layout, first, guess) {
+        longer_run(layout, first, guess, most)
+    } else {
+        shorter_run(layout, first, guess)
+    }
+}
+
+/// How many cells from this one on, at most so many, are a run, where those known are one: these,
+/// twice as many and so on.
+fn longer_run(layout: &Layout, first: Cell, known: u32, most: u32) -> u32
+    requires some { 1 ≤ known }
+    requires known { known ≤ most }
+    requires short { first.index + most < 2 ^ 32 }
+    requires cells { first.index + most ≤ size_at layout.now.spaces first.space }
+    requires run { IsRun layout.now.spaces first known }
+    ensures some { 1 ≤ result }
+    ensures most { result ≤ most }
+    ensures run { IsRun layout.now.spaces first result }
+{
+    let mut count = known;
+    while count <= most / 2 && ends_run(layout, first, count * 2) {
+        count *= 2;
+    }
+    count
+}
+
+/// How many cells from this one on, as many as asked for or else half of them and so on, are a run.
+fn shorter_run(layout: &Layout, first: Cell, most: u32) -> u32
     requires some { 1 ≤ most }
     requires short { first.index + most < 2 ^ 32 }
     requires cells { first.index + most ≤ size_at layout.now.spaces first.space }

@@ -10,8 +10,8 @@ loop-index-preserved c =
     let index = c.loop-index.index in
     let count = c.run_at-count.result in
     record {
-      within = omega (arith, c.run_at-count.ensures.most, c.min.ensures, c.loop-index.invariant.within);
-      most = omega (arith, c.saturating_mul-most.ensures, c.run_at-count.ensures.some);
+      within = omega (arith, c.run_at-count.ensures.most, c.loop-index.invariant.within);
+      some = c.run_at-count.ensures.some;
       numbers = rows_on f index count c.extend_from_slice.new.self.items
           (c.in_ok-extend_from_slice.ensures.items
           ∙ ap₂ (λ (xs ys : List ℕ). xs ++ ys) c.loop-index.invariant.numbers c.numbers_at.ensures);
