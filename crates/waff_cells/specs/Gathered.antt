@@ -1,5 +1,5 @@
 -- Cells that lie in the parcels of their owners.
-use Rattle.std.specs.Prelude.{◌≡◌, ℕ, ◌+◌, ◌<◌, List, length, map}
+use Rattle.std.specs.Prelude.{ℕ, List, length, map}
 use Rattle.waff_model.specs.Layout.{Space, IsCell, owner_of}
 use Rattle.waff_model.specs.Parcel.{place_of}
 use Rattle.waff_model.specs.declared.cell.Cell.{Cell}
@@ -18,11 +18,3 @@ LieIn spaces parcels =
 -- the number that each cell has in the parcels
 abbrev pub cells_of_parcels : List Space → List (List ℕ) → Cells
 cells_of_parcels spaces parcels = λ cell. number_at parcels (lies_at spaces cell)
-
--- so many cells of a space, from this one on, are a run: one affinity owns them, and they stand one
--- after another in its parcel
-abbrev pub IsRun : List Space → Cell → ℕ → Type 0
-IsRun spaces first count = (k : ℕ) → k < count
-    → let cell : Cell = record { space = first.space; index = first.index + k } in
-    (owner_of spaces cell ≡ owner_of spaces first)
-    × (place_of spaces cell ≡ place_of spaces first + k)

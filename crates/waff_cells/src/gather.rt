@@ -1,13 +1,14 @@
 //! The state whose cells lie in parcels.
 
-ghost use Rattle.std.specs.Prelude.{◌≡◌, ◌+◌, ◌^◌, ◌<◌, ◌≤◌, length, map, IfOk, IsTrue};
+ghost use Rattle.std.specs.Prelude.{◌≡◌, ◌+◌, ◌^◌, ◌<◌, ◌≤◌, length, map, IfOk};
 ghost use Rattle.std.specs.List.{range_with_len};
 ghost use Rattle.waff_model.specs.Layout.{IsCell, size_at};
 ghost use Rattle.waff_model.specs.Messages.{sizes_of};
+ghost use Rattle.waff_model.specs.Parcel.{IsRun};
 ghost use Rattle.waff_model.specs.declared.cell.Cell.{Cell};
 ghost use Rattle.waff_cells.specs.Grid.{cells_in, HasSizes};
 ghost use Rattle.waff_cells.specs.Held.{rows_of};
-ghost use Rattle.waff_cells.specs.Gathered.{IsRun, LieIn, cells_of_parcels};
+ghost use Rattle.waff_cells.specs.Gathered.{LieIn, cells_of_parcels};
 
 use crate::state::State;
 use std::alloc::{AllocError, Global};
@@ -34,8 +35,7 @@ impl State {
     }
 }
 
-/// The numbers of the cells of space `s`, copied a run at a time. Runs are often as long as the one
-/// before.
+/// The numbers of the cells of space `s`, copied a run at a time.
 fn row_of(
     alloc: Global,
     layout: &Layout,
@@ -52,88 +52,13 @@ fn row_of(
     let size = layout.space_size(s);
     let mut row = Vec::with_capacity(alloc, size as usize)?;
     let mut index = 0;
-    let mut count = 1;
     while index < size {
         let first = Cell { space: s, index };
-        let most = size - index;
-        count = run_at(layout, first, count.min(most), most);
+        let count = layout.run_len(first);
         row.extend_from_slice(numbers_at(layout, parcels, first, count))?;
         index += count;
     }
     Ok(row)
-}
-
-/// How many cells from this one on, at most so many, are a run: as many as guessed, or else more or
-/// fewer.
-fn run_at(layout: &Layout, first: Cell, guess: u32, most: u32) -> u32
-    requires some { 1 ≤ guess }
-    requires guess { guess ≤ most }
-    requires short { first.index + most < 2 ^ 32 }
-    requires cells { first.index + most ≤ size_at layout.now.spaces first.space }
-    ensures some { 1 ≤ result }
-    ensures most { result ≤ most }
-    ensures run { IsRun layout.now.spaces first result }
-{
-    if ends_run(layout, first, guess) {
-        longer_run(layout, first, guess, most)
-    } else {
-        shorter_run(layout, first, guess)
-    }
-}
-
-/// How many cells from this one on, at most so many, are a run, where those known are one: these,
-/// twice as many and so on.
-fn longer_run(layout: &Layout, first: Cell, known: u32, most: u32) -> u32
-    requires some { 1 ≤ known }
-    requires known { known ≤ most }
-    requires short { first.index + most < 2 ^ 32 }
-    requires cells { first.index + most ≤ size_at layout.now.spaces first.space }
-    requires run { IsRun layout.now.spaces first known }
-    ensures some { 1 ≤ result }
-    ensures most { result ≤ most }
-    ensures run { IsRun layout.now.spaces first result }
-{
-    let mut count = known;
-    while count <= most / 2 && ends_run(layout, first, count * 2) {
-        count *= 2;
-    }
-    count
-}
-
-/// How many cells from this one on, as many as asked for or else half of them and so on, are a run.
-fn shorter_run(layout: &Layout, first: Cell, most: u32) -> u32
-    requires some { 1 ≤ most }
-    requires short { first.index + most < 2 ^ 32 }
-    requires cells { first.index + most ≤ size_at layout.now.spaces first.space }
-    ensures some { 1 ≤ result }
-    ensures most { result ≤ most }
-    ensures run { IsRun layout.now.spaces first result }
-{
-    let mut count = most;
-    while 1 < count && !ends_run(layout, first, count) {
-        count /= 2;
-    }
-    count
-}
-
-/// Whether the last of so many cells from this one on stands where it does in a run: then no cell
-/// of another owner is between them.
-fn ends_run(layout: &Layout, first: Cell, count: u32) -> bool
-    requires some { 1 ≤ count }
-    requires short { first.index + count < 2 ^ 32 }
-    requires cells { first.index + count ≤ size_at layout.now.spaces first.space }
-    ensures { IsTrue result → IsRun layout.now.spaces first count }
-{
-    let (owner, place) = layout.place(first);
-    let last = Cell {
-        space: first.space,
-        index: first.index + (count - 1),
-    };
-    let (last_owner, last_place) = layout.place(last);
-    if last_owner.0 != owner.0 || last_place < place {
-        return false;
-    }
-    last_place - place == count - 1
 }
 
 /// The numbers of so many cells from this one on, which are a run.

@@ -9,7 +9,7 @@ use Rattle.std.proofs.lemmas.List.FromFn.{length-map-range_with_len, get_or-map-
 use Rattle.waff_model.specs.declared.cell.Cell.{Cell}
 use Rattle.waff_model.specs.declared.parcels.Parcels.{Parcels}
 use Rattle.waff_model.specs.Tree.{Node}
-use Rattle.waff_model.specs.Layout.{Space, Hierarchy, IsSpace, IsCell, size_at, owner_of}
+use Rattle.waff_model.specs.Layout.{Space, Hierarchy, IsSpace, IsCell, size_at, owner_at, owner_of}
 use Rattle.waff_model.specs.Parcel.{owners_in, cells_ahead, cells_before, count_of, parcel_size, place_of}
 use Rattle.waff_model.specs.ParcelTable.{IsMapped, place_at, sizes_of, AreParcels}
 use Rattle.waff_model.proofs.ParcelLemmas.{count_more, cell_numbered, length-owners_in, owner_of_number, cells_before-all}
@@ -18,6 +18,24 @@ space_below : (spaces : List Space) (s i : ℕ) → i < size_at spaces s → s <
 space_below [] s i within = absurd (omega arith)
 space_below (space ∷ spaces) zero i within = omega arith
 space_below (space ∷ spaces) (suc s) i within = omega (arith, space_below spaces s i within)
+
+-- the size and the owners of the space that is read there
+pub record IsRead (spaces : List Space) (s : ℕ) (space : Space) : Type 0 where
+  pub size : size_at spaces s ≡ space.size
+  pub owner : (index : ℕ) → owner_of spaces (record { space = s; index = index }) ≡ owner_at space index
+
+space_read : (spaces : List Space) (s : ℕ) → s < length spaces → (space : Space) → space ≡ get_or spaces s space → IsRead spaces s space
+space_read [] s within space is = absurd (omega (arith, within))
+space_read (first ∷ spaces) zero within space is = record {
+  size = ap (λ (sp : Space). sp.size) (sym is);
+  owner = λ index. ap (λ (sp : Space). owner_at sp index) (sym is);
+}
+space_read (first ∷ spaces) (suc s) within space is =
+    let later = space_read spaces s (omega (arith, within)) space is in
+    record { size = later.size; owner = later.owner }
+
+pub space_of_cell : (spaces : List Space) (cell : Cell) → IsCell spaces cell → (space : Space) → space ≡ get_or spaces cell.space space → IsRead spaces cell.space space
+space_of_cell spaces cell is_cell = space_read spaces cell.space (space_below spaces cell.space cell.index is_cell)
 
 owner_below : (tree : List Node) (spaces : List Space) (s i : ℕ) → All (IsSpace tree) spaces → i < size_at spaces s → owner_of spaces (record { space = s; index = i }) < length tree
 owner_below tree [] s i each within = absurd (omega arith)
