@@ -69,6 +69,13 @@ module _ (job : JobValue) (is : IsLayout job.layout) (cells : Cells) (vecs : Lis
       ap (λ xs. get_or xs place 0) (row_there vecs a slot.0 slot.1)
       ∙ get_or_from_slice_get slot.0.items place (cells cell) 0 (slot.2.each cell is_cell refl)
 
+-- what is seen done has a status word that says so
+pub seen_done : {S : Type 0} (items : S → List ℕ) (key : Setup) (job : JobValue) (id : ℕ) (v : View) (words : List ℕ) (xs : List S)
+    → Final (Seen (Holds items key) id v) words xs → key.job ≡ job
+    → (n : ℕ) → IsIn job n → has_seen v n ≡ true → slice_index words n ≡ 2
+seen_done items key job id v words xs final told n is_in seen =
+    seen_is_done items key id v words xs final n (subst (λ (j : JobValue). IsIn j n) (sym told) is_in) seen
+
 -- a message whose status word says that it is not done is not seen done
 pub undone_unseen : {S : Type 0} (items : S → List ℕ) (key : Setup) (job : JobValue) (id : ℕ) (v : View) (words : List ℕ) (xs : List S)
     → Final (Seen (Holds items key) id v) words xs → key.job ≡ job → v.job ≡ job
@@ -77,7 +84,7 @@ undone_unseen items key job id v words xs final told of m from to undone = recor
   is_in = subst (λ (j : JobValue). IsIn j m) (sym of) is_in;
   unseen = ⊎_elim {C = has_seen v m ≡ false}
       (λ (seen : has_seen v m ≡ true).
-      absurd (undone (seen_is_done items key id v words xs final m (subst (λ (j : JobValue). IsIn j m) (sym told) is_in) seen)))
+      absurd (undone (seen_done items key job id v words xs final told m is_in seen)))
       (λ (unseen : has_seen v m ≡ false). unseen)
       (cases_Bool (has_seen v m));
 }

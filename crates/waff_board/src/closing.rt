@@ -12,6 +12,7 @@ ghost use Rattle.waff_cells.specs.Held.{rows_of};
 ghost use Rattle.waff_cells.specs.Serial.{serial};
 ghost use Rattle.waff_board.specs.Calls.{IsOf};
 ghost use Rattle.waff_board.specs.Endings.{Refuses};
+ghost use Rattle.waff_board.specs.Seats.{HasSeen};
 
 use crate::board::Board;
 use crate::hand::Hand;
@@ -49,8 +50,9 @@ impl Board {
         ensures refused { IfErr result (Refuses seat.hand.chair.me.0) }
     {
         let Board { table, setup, heap } = self;
+        let seen_to = seat.seen_to;
         let chair = chair_of(seat);
-        let state = state_left(table, chair, &setup.job, heap);
+        let state = state_left(table, chair, seen_to, &setup.job, heap);
         drop(setup);
         state
     }
@@ -60,7 +62,7 @@ impl Board {
 fn chair_of(seat: EndSeat) -> Seat<Vec<u64>, View>
     ensures { result ≡ seat.hand.chair }
 {
-    let EndSeat { hand } = seat;
+    let EndSeat { hand, .. } = seat;
     let Hand { chair, .. } = hand;
     chair
 }
@@ -69,6 +71,7 @@ fn chair_of(seat: EndSeat) -> Seat<Vec<u64>, View>
 fn state_left(
     table: Table<Vec<u64>, View, Setup, Law, Global>,
     chair: Seat<Vec<u64>, View>,
+    seen_to: u32,
     job: &Job,
     heap: Global,
 ) -> Result<State, CloseError>
@@ -76,12 +79,14 @@ fn state_left(
     requires words { table.shared.table_id.words ≡ length job.now.ops + 1 }
     requires table { chair.table_id ≡ table.shared.table_id }
     requires of { chair.me.0.job ≡ job.now }
+    requires few { seen_to ≤ length job.now.ops }
+    requires seen { (n : ℕ) → 1 ≤ n → n ≤ seen_to → HasSeen chair.me.0 n }
     ensures sizes { IfOk result (λ state. HasSizes state (sizes_of job.now.layout.spaces)) }
     ensures cells { IfOk result (λ state. (cell : Cell)
         → cells_in state cell ≡ serial job.now.ops (length job.now.ops) cell) }
     ensures refused { IfErr result (Refuses chair.me.0) }
 {
-    let parcels = parcels_left(table, chair, job, heap)?;
+    let parcels = parcels_left(table, chair, seen_to, job, heap)?;
     // Its contract tells `IsJob`.
     let _ = job.len();
     match State::of_parcels(heap, job.layout(), &parcels) {
@@ -94,6 +99,7 @@ fn state_left(
 fn parcels_left(
     table: Table<Vec<u64>, View, Setup, Law, Global>,
     chair: Seat<Vec<u64>, View>,
+    seen_to: u32,
     job: &Job,
     heap: Global,
 ) -> Result<Vec<Vec<u64>>, CloseError>
@@ -101,6 +107,8 @@ fn parcels_left(
     requires words { table.shared.table_id.words ≡ length job.now.ops + 1 }
     requires table { chair.table_id ≡ table.shared.table_id }
     requires of { chair.me.0.job ≡ job.now }
+    requires few { seen_to ≤ length job.now.ops }
+    requires seen { (n : ℕ) → 1 ≤ n → n ≤ seen_to → HasSeen chair.me.0 n }
     ensures lie { IfOk result (λ parcels. LieIn job.now.layout.spaces (rows_of parcels.items)) }
     ensures cells { IfOk result (λ parcels. (cell : Cell) → IsCell job.now.layout.spaces cell
         → cells_of_parcels job.now.layout.spaces (rows_of parcels.items) cell
@@ -112,7 +120,7 @@ fn parcels_left(
         return Err(CloseError::Memory);
     };
     let closed = table.close_with(chair);
-    let unfinished = first_unfinished(&closed, job.len());
+    let unfinished = first_unfinished(&closed, seen_to, job.len());
     let parcels = unload(closed, parcels);
     match unfinished {
         Some(message) => {
@@ -123,10 +131,13 @@ fn parcels_left(
     }
 }
 
-/// The least message that is not done.
-fn first_unfinished(closed: &Closed<Vec<u64>, Global>, messages: u32) -> Option<u32>
+/// The least message that is not done, where each up to `seen_to` is.
+fn first_unfinished(closed: &Closed<Vec<u64>, Global>, seen_to: u32, messages: u32) -> Option<u32>
     requires full { IsFull closed.now.words }
     requires count { slots_len closed.now.words ≡ messages + 1 }
+    requires few { seen_to ≤ messages }
+    requires seen { (n : ℕ) → 1 ≤ n → n ≤ seen_to
+        → slice_index (slots_items closed.now.words) n ≡ 2 }
     ensures some { IfSome result (λ m. (1 ≤ m) × (m ≤ messages)
         × (slice_index (slots_items closed.now.words) m ≢ 2)) }
     ensures least { IfSome result (λ m. (n : ℕ) → 1 ≤ n → n < m
@@ -134,7 +145,7 @@ fn first_unfinished(closed: &Closed<Vec<u64>, Global>, messages: u32) -> Option<
     ensures none { IfNone result ((n : ℕ) → 1 ≤ n → n ≤ messages
         → slice_index (slots_items closed.now.words) n ≡ 2) }
 {
-    for before in 0..messages {
+    for before in seen_to..messages {
         let n = before + 1;
         if closed.word(n as usize) != DONE {
             return Some(n);

@@ -37,7 +37,7 @@ impl Board {
         };
         match self.message_at(number) {
             Some(message) => Draw::Got(Drawn { hand, message }),
-            None => Draw::Over(EndSeat { hand }),
+            None => Draw::Over(EndSeat { hand, seen_to: 0 }),
         }
     }
 

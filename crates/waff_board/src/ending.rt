@@ -14,11 +14,18 @@ impl Board {
         ensures looks { LookedOver seat.hand.chair.me.0 result.hand.chair.me.0 }
         ensures of { IsOf self.now result.hand }
     {
-        let EndSeat { mut hand } = seat;
+        let EndSeat {
+            mut hand,
+            mut seen_to,
+        } = seat;
         for before in 0..self.job().len() {
-            hand = self.look(hand, before + 1);
+            let n = before + 1;
+            hand = self.look(hand, n);
+            if seen_to == before && hand.seen[n as usize] {
+                seen_to = n;
+            }
         }
-        EndSeat { hand }
+        EndSeat { hand, seen_to }
     }
 }
 
@@ -29,7 +36,7 @@ impl EndSeat {
         ensures none { IfNone result (SeesAll self.now.hand.chair.me.0) }
     {
         let seen = &self.hand.seen;
-        for n in 1..seen.len() {
+        for n in self.seen_to as usize + 1..seen.len() {
             if !seen[n] {
                 return Some(n as u32);
             }

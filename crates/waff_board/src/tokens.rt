@@ -81,7 +81,11 @@ pub struct Finished<'a> {
 #[derive(Drop)]
 pub struct EndSeat {
     pub(crate) hand: Hand,
+    /// Each message up to this one is seen done.
+    pub(crate) seen_to: u32,
     ghost ended: { hand.chair.me.0.phase ≡ Ended },
     ghost empty: { hand.chair.me.1 ≡ [] },
     ghost short: { length hand.chair.me.0.job.ops < 2 ^ 32 },
+    ghost few: { seen_to ≤ length hand.chair.me.0.job.ops },
+    ghost seen: { (n : ℕ) → 1 ≤ n → n ≤ seen_to → HasSeen hand.chair.me.0 n },
 }

@@ -33,6 +33,8 @@ invariant_of-result-in-None c =
       short = subst (λ (j : JobValue). length j.ops < 2 ^ 32)
           (sym (drawn_job c.args.seat.hand.chair.me.0 c.fetch_add-number.new.seat.me.0 c.args.self.now.setup.job c.fetch_add-number.result view c.requires.1))
           c.args.self.now.short;
+      few = omega arith;
+      seen = λ n from to. absurd (omega (arith, from, to));
     }
 
 pub returns-in-Some : goal.returns-in-Some
