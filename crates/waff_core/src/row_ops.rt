@@ -14,6 +14,7 @@ use crate::operations::ops_of;
 use std::alloc::{AllocError, Global};
 use waff_cells::{OpList, parcels};
 use waff_model::{Layout, Ops, Trace};
+use waff_order::room_for_ends;
 
 /// The operations of each message on the parcels of these owners of its footprint.
 pub(crate) fn list_row_ops(
@@ -29,7 +30,7 @@ pub(crate) fn list_row_ops(
         (operations trace.now.messages) owners.now) }
 {
     let mut all = OpList::new(alloc);
-    let mut ends = Vec::with_capacity(alloc, trace.len() as usize)?;
+    let mut ends = room_for_ends(alloc, trace.len())?;
     for n in 1..trace.len() + 1 {
         let parcels = owners.of(n);
         let named = ops_of(trace, n);

@@ -1,11 +1,15 @@
-//! The needs of messages, as lists.
+//! The needs of messages, as lists, and room for the ends of such lists.
 
-ghost use Rattle.std.specs.Prelude.{◌≡◌, ◌≤◌, length, slice_range};
+ghost use Rattle.std.specs.Prelude.{◌≡◌, ◌≤◌, [], length, slice_range, vec_capacity, IfOk};
 ghost use Rattle.std.specs.List.Sorted.{IsStrictlyIncreasing};
 ghost use Rattle.waff_order.specs.Needs.{needs_of, AreLists};
 ghost use Rattle.waff_order.specs.Cuts.{parts, AreCuts};
 
+use std::alloc::{AllocError, Global};
 use std::marker::Model;
+
+/// As many ends as lie in a page of memory.
+const PAGE: usize = 1024;
 
 /// The needs of each message of a trace: earlier messages that must have finished before it starts.
 #[derive(Drop)]
@@ -72,4 +76,17 @@ fn bounds(all: &[u32], ends: &[u32], n: u32) -> (usize, usize)
         return (0, to);
     }
     (ends[place - 1] as usize, to)
+}
+
+/// An empty list with room for `count` ends, and for a page of them more.
+///
+/// A processor looks up the address of a page in a table of sets, in the set that the low bits of
+/// the page's number name, and a set has room for four pages or so. Lists of 65,536 ends that follow
+/// each other in memory lie a multiple of all sets apart. Without the spare page the ends of a
+/// message would be in pages of one set, which push each other out of it at each message.
+pub fn room_for_ends(alloc: Global, count: u32) -> Result<Vec<u32>, AllocError>
+    ensures items { IfOk result (λ ends. ends.items ≡ []) }
+    ensures room { IfOk result (λ ends. count ≤ vec_capacity ends) }
+{
+    Vec::with_capacity(alloc, count as usize + PAGE)
 }

@@ -6,8 +6,8 @@ ghost use Rattle.waff_order.specs.Needs.{AreNeeds, IsWithinDepth};
 ghost use Rattle.waff_order.specs.Open.{chosen};
 ghost use Rattle.waff_order.specs.Runs.{noted_at, AreFilled, AreGathered};
 
-use crate::Needs;
 use crate::latest::Latest;
+use crate::lists::{Needs, room_for_ends};
 use crate::opened::Opened;
 use std::alloc::{AllocError, Global};
 use waff_assign::Assigned;
@@ -27,7 +27,7 @@ pub fn needs(alloc: Global, tree: &Tree, assigned: &Assigned) -> Result<Needs, A
     let mut opened = Opened::none(alloc, count)?;
     let mut latest = Latest::none(alloc, count)?;
     let mut all = Vec::new(alloc);
-    let mut ends = Vec::with_capacity(alloc, assigned.len() as usize)?;
+    let mut ends = room_for_ends(alloc, assigned.len())?;
     let mut needs = Vec::new(alloc);
     for m in 1..assigned.len() + 1 {
         let place = places[assigned.of(m).0 as usize];

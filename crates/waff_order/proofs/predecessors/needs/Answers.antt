@@ -36,8 +36,8 @@ note-requires-clause-notes c =
     subst (λ n. AreNotes n c.loop-m.m c.loop-m.latest.places.items c.loop-m.latest.blocks.items) (sym notes.count)
     (notes_later (length c.args.tree.now) (c.loop-m.m - 1) c.loop-m.m c.loop-m.latest.places.items c.loop-m.latest.blocks.items (omega arith) notes)
 
-pub overflow_cast-len-in-loop-m : goal.overflow_cast-len-in-loop-m
-overflow_cast-len-in-loop-m c =
+pub overflow_cast-len : goal.overflow_cast-len
+overflow_cast-len c =
     let assigned = c.args.assigned.now in
     let places = c.places-places.result.now in
     let all = c.loop-m.all.items in
