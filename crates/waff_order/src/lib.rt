@@ -4,7 +4,7 @@
 //! them lead to all earlier messages that exclude it: whoever waits for the needs waits for all,
 //! and there are few of them.
 //! - `predecessors`: the needs, found with `opened` and `latest`, tables by the places of
-//!   affinities in preorder; `lists`: their lists, and room for such lists.
+//!   affinities in preorder; `lists`: lists of lists.
 //! - `refinement`: whether all pairs that one hierarchy orders are ordered by another one, with
 //!   `lowests`.
 #![tactic(auto)]
@@ -16,7 +16,7 @@ mod opened;
 pub mod predecessors;
 mod refinement;
 
-pub use lists::{Needs, room_for_ends};
+pub use lists::{Lists, Needs};
 pub use refinement::refines;
 
 /// Tables by places are cut into blocks of so many places.

@@ -7,7 +7,7 @@ ghost use Rattle.waff_order.specs.Open.{chosen};
 ghost use Rattle.waff_order.specs.Runs.{noted_at, AreFilled, AreGathered};
 
 use crate::latest::Latest;
-use crate::lists::{Needs, room_for_ends};
+use crate::lists::{Lists, Needs};
 use crate::opened::Opened;
 use std::alloc::{AllocError, Global};
 use waff_assign::Assigned;
@@ -27,7 +27,7 @@ pub fn needs(alloc: Global, tree: &Tree, assigned: &Assigned) -> Result<Needs, A
     let mut opened = Opened::none(alloc, count)?;
     let mut latest = Latest::none(alloc, count)?;
     let mut all = Vec::new(alloc);
-    let mut ends = room_for_ends(alloc, assigned.len())?;
+    let mut ends = Vec::with_capacity(alloc, assigned.len() as usize)?;
     let mut needs = Vec::new(alloc);
     for m in 1..assigned.len() + 1 {
         let place = places[assigned.of(m).0 as usize];
@@ -38,7 +38,7 @@ pub fn needs(alloc: Global, tree: &Tree, assigned: &Assigned) -> Result<Needs, A
         all.extend_from_slice(needs.as_slice())?;
         ends.push(all.len() as u32)?;
     }
-    Ok(Needs::new(all, ends))
+    Ok(Needs::new(Lists::new(all, ends)))
 }
 
 /// Lists the needs of a message at this place, and closes the messages that it takes.

@@ -2,7 +2,7 @@ use Rattle.std.proofs.Common.{◌≡◌, ℕ, ◌+◌, ◌-◌, ◌≤◌, List,
 use Rattle.std.proofs.lemmas.List.{length-append}
 use Rattle.waff_model.specs.Places.{place_at}
 use Rattle.waff_model.specs.declared.places.Place.{Place}
-use Rattle.waff_order.specs.Needs.{AreNeeds, IsWithinDepth}
+use Rattle.waff_order.specs.Needs.{AreLists, AreNeeds, IsWithinDepth}
 use Rattle.waff_order.specs.Cuts.{parts, AreCuts}
 use Rattle.waff_assign.specs.Order.{affinity_of}
 use Rattle.waff_order.specs.Open.{chosen}
@@ -36,8 +36,8 @@ note-requires-clause-notes c =
     subst (λ n. AreNotes n c.loop-m.m c.loop-m.latest.places.items c.loop-m.latest.blocks.items) (sym notes.count)
     (notes_later (length c.args.tree.now) (c.loop-m.m - 1) c.loop-m.m c.loop-m.latest.places.items c.loop-m.latest.blocks.items (omega arith) notes)
 
-pub overflow_cast-len : goal.overflow_cast-len
-overflow_cast-len c =
+pub overflow_cast-len-in-loop-m : goal.overflow_cast-len-in-loop-m
+overflow_cast-len-in-loop-m c =
     let assigned = c.args.assigned.now in
     let places = c.places-places.result.now in
     let all = c.loop-m.all.items in
@@ -104,32 +104,33 @@ loop-m-preserved c =
       filled = c.put.ensures.filled;
     }
 
-pub new-requires-clause-cuts : goal.new-requires-clause-cuts
-new-requires-clause-cuts c = c.loop-m.invariant.reached.cuts
+pub new-requires : goal.new-requires
+new-requires c = c.loop-m.invariant.reached.cuts
 
-pub new-requires-clause-lists : goal.new-requires-clause-lists
-new-requires-clause-lists c =
+pub new-requires-2 : goal.new-requires-2
+new-requires-2 c =
     let few : length c.args.assigned.now ≤ 65536 = c.len.ensures.few in
-    up_to_lists c.args.tree.now c.args.assigned.now (parts c.loop-m.all.items 0 c.loop-m.ends.items) (c.loop-m.m - 1)
-    (omega arith) c.loop-m.invariant.reached.needs
+    subst AreLists (sym c.new.ensures)
+    (up_to_lists c.args.tree.now c.args.assigned.now (parts c.loop-m.all.items 0 c.loop-m.ends.items) (c.loop-m.m - 1)
+    (omega arith) c.loop-m.invariant.reached.needs)
 
 pub returns-clause-needs : goal.returns-clause-needs
 returns-clause-needs c =
-    subst (AreNeeds c.args.tree.now c.args.assigned.now) (sym c.new.ensures)
+    subst (AreNeeds c.args.tree.now c.args.assigned.now) (sym (c.new-2.ensures ∙ c.new.ensures))
     (up_to_all c.args.tree.now c.args.assigned.now (parts c.loop-m.all.items 0 c.loop-m.ends.items) (c.loop-m.m - 1)
     (omega arith) c.loop-m.invariant.reached.needs)
 
 pub returns-clause-few : goal.returns-clause-few
 returns-clause-few c = λ depth within.
     let reached = c.loop-m.invariant.reached in
-    let all : sum_by length c.new.result ≡ length c.loop-m.all.items
-    = ap (λ xs. sum_by length xs) c.new.ensures ∙ sum c.loop-m.all.items c.loop-m.ends.items reached.cuts in
-    needs_by_depth (length c.args.assigned.now) (sum_by length c.new.result) depth (omega (arith, all, reached.total))
+    let all : sum_by length c.new-2.result ≡ length c.loop-m.all.items
+    = ap (λ xs. sum_by length xs) (c.new-2.ensures ∙ c.new.ensures) ∙ sum c.loop-m.all.items c.loop-m.ends.items reached.cuts in
+    needs_by_depth (length c.args.assigned.now) (sum_by length c.new-2.result) depth (omega (arith, all, reached.total))
     (λ none. let flat = reached.flat (subst (λ d. IsWithinDepth c.args.tree.now d) none within) in omega (arith, all, flat))
 
 pub returns-clause-twice : goal.returns-clause-twice
 returns-clause-twice c =
     let reached = c.loop-m.invariant.reached in
-    let all : sum_by length c.new.result ≡ length c.loop-m.all.items
-    = ap (λ xs. sum_by length xs) c.new.ensures ∙ sum c.loop-m.all.items c.loop-m.ends.items reached.cuts in
+    let all : sum_by length c.new-2.result ≡ length c.loop-m.all.items
+    = ap (λ xs. sum_by length xs) (c.new-2.ensures ∙ c.new.ensures) ∙ sum c.loop-m.all.items c.loop-m.ends.items reached.cuts in
     omega (arith, all, reached.total)
