@@ -3,8 +3,9 @@
 ghost use Rattle.std.specs.Prelude.{◌≡◌, ◌+◌, ◌^◌, ◌<◌, ◌≤◌, IfSome, length};
 ghost use Rattle.waff_plan.specs.Bound.{IsWorkers};
 ghost use Rattle.waff_plan.specs.Chain.{IsListed, chain_cost, chain_release};
-ghost use Rattle.waff_plan.specs.Timing.{start_of, timing_of, work_of};
+ghost use Rattle.waff_plan.specs.Timing.{timing_of};
 ghost use Rattle.waff_plan.specs.Totals.{totals_of};
+ghost use Rattle.waff_plan.specs.Timetable.{work_in, starts_in};
 
 use crate::Plan;
 
@@ -29,7 +30,7 @@ impl Plan {
         requires workers { IfSome workers IsWorkers }
         requires listed { IsListed (length self.now.timings) chain.now }
         ensures totals { result
-            ≡ totals_of workers (work_of self.now.timings) (start_of self.now.starts) chain.now }
+            ≡ totals_of workers (work_in self.now) (starts_in self.now) chain.now }
         ensures small { result.release + result.cost < 2 ^ 49 }
     {
         let total = self.total();
@@ -57,7 +58,7 @@ impl Plan {
 /// The sum of the running times of the messages.
 pub(crate) fn cost_of(plan: &Plan, chain: &[u32]) -> u64
     requires { IsListed (length plan.now.timings) chain.now }
-    ensures cost { result ≡ chain_cost (work_of plan.now.timings) chain.now }
+    ensures cost { result ≡ chain_cost (work_in plan.now) chain.now }
     ensures small { result ≤ 2 ^ 48 }
 {
     let _messages = plan.len();
@@ -71,7 +72,7 @@ pub(crate) fn cost_of(plan: &Plan, chain: &[u32]) -> u64
 /// The release of the first message, 0 where there is none.
 pub(crate) fn release_of(plan: &Plan, chain: &[u32]) -> u64
     requires { IsListed (length plan.now.timings) chain.now }
-    ensures release { result ≡ chain_release (work_of plan.now.timings) chain.now }
+    ensures release { result ≡ chain_release (work_in plan.now) chain.now }
     ensures small { result < 2 ^ 32 }
 {
     match chain {
