@@ -8,12 +8,13 @@ ghost use Rattle.waff_plan.specs.Work.{IsNumber, finish_of};
 ghost use Rattle.waff_plan.specs.Timetable.{work_in, starts_in};
 
 use crate::Plan;
-use crate::latest::{Latest, later};
+use crate::latest::{Found, Latest};
 use crate::table::Table;
 use std::alloc::{AllocError, Global};
 use waff_assign::Assigned;
 use waff_model::Tree;
 use waff_model::limits::MAX_MESSAGES;
+use waff_model::spans::Later;
 
 /// For each message the latest of those that it waited for, where it did not wait for its release
 /// instead.
@@ -60,12 +61,12 @@ pub(crate) fn last(plan: &Plan) -> Option<u32>
         (IsLatest (IsNumber (work_in plan.now))
         (finish_of (work_in plan.now) (starts_in plan.now))) }
 {
-    let mut last = None;
+    let mut last = Found::none();
     for m in 1..plan.len() + 1 {
         let finish = plan.finish(m);
-        last = later(last, Some(Latest { finish, number: m }));
+        last = last.later(Found::one(Latest { finish, number: m }));
     }
-    match last {
+    match last.message() {
         Some(latest) => Some(latest.number),
         None => None,
     }

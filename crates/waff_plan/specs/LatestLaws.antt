@@ -1,8 +1,9 @@
--- The later of some messages, in any order.
+-- That the latest of some messages is the same in whatever order they come.
 use Rattle.std.proofs.Common.{◌≡◌, ℕ, Bool, true, false, Option, Some, None, arith, refl, sym, ◌∙◌, ap}
 use Rattle.std.proofs.lemmas.Bool.{false≢true}
 use Rattle.std.proofs.lemmas.Bool.Decides.{nat_tests}
-use Rattle.waff_plan.specs.Latest.{is_later, later_of}
+use Rattle.waff_model.specs.Later.{IsOrder}
+use Rattle.waff_plan.specs.Latest.{is_later, later_of, latest_order}
 use Rattle.waff_plan.specs.declared.latest.Latest.{Latest}
 
 later_join : (one other third : Latest) → is_later one other ≡ true → is_later other third ≡ true → is_later one third ≡ true
@@ -47,15 +48,17 @@ joined one other third true false first second = rw (first, second, first) refl
 joined one other third false true first second = rw (first, second) refl
 joined one other third false false first second = rw (first, second, first, earlier_join one other third first second) refl
 
--- the later of two, and a third
-pub later_joined : (one other : Option Latest) (third : Latest) → later_of one (later_of other (Some third)) ≡ later_of (later_of one other) (Some third)
-later_joined None other third = refl
-later_joined (Some one) None third = refl
-later_joined (Some one) (Some other) third = joined one other third (is_later one other) (is_later other third) refl refl
+-- of a first, a second and a third, where there are some
+all_joined : (one other third : Option Latest) → later_of one (later_of other third) ≡ later_of (later_of one other) third
+all_joined None other third = refl
+all_joined (Some one) None third = refl
+all_joined (Some one) (Some other) None = sym (later_none (later_of (Some one) (Some other)))
+all_joined (Some one) (Some other) (Some third) = joined one other third (is_later one other) (is_later other third) refl refl
 
--- the same where the third comes between
-pub later_between : (one other : Option Latest) (third : Latest) → later_of (later_of one (Some third)) other ≡ later_of (later_of one other) (Some third)
-later_between one None third = later_none (later_of one (Some third)) ∙ ap (λ x. later_of x (Some third)) (sym (later_none one))
-later_between None (Some other) third = later_swaps third other
-later_between (Some one) (Some other) third =
-    sym (later_joined (Some one) (Some third) other) ∙ ap (λ x. later_of (Some one) x) (later_swaps third other) ∙ later_joined (Some one) (Some other) third
+all_swaps : (one other : Option Latest) → later_of one other ≡ later_of other one
+all_swaps None other = sym (later_none other)
+all_swaps (Some one) None = refl
+all_swaps (Some one) (Some other) = later_swaps one other
+
+pub latest_laws : IsOrder latest_order
+latest_laws = record { first = λ x. refl; joined = all_joined; swaps = all_swaps }
