@@ -6,9 +6,9 @@ use Rattle.waff_model.specs.Tree.{Node}
 use Rattle.waff_model.specs.Places.{place_at, AreNested}
 use Rattle.waff_model.specs.declared.places.Place.{Place}
 use Rattle.waff_assign.specs.Order.{affinity_of, IsOrdered}
-use Rattle.waff_plan.specs.Work.{Work, finish_of}
+use Rattle.waff_plan.specs.Work.{Work, finish_of, IsMessage}
 use Rattle.waff_plan.specs.Obeys.{IsForward}
-use Rattle.waff_plan.specs.Table.{IsUpTo, LatestTable, message_place, IsTable, IsLatestMeeting, IsLatestExcluding}
+use Rattle.waff_plan.specs.Table.{LatestTable, message_place, IsTable, IsLatestMeeting, IsLatestExcluding}
 use Rattle.waff_plan.specs.Timing.{start_of}
 use Rattle.waff_plan.specs.declared.last.Placed.{Placed}
 use Rattle.waff_plan.specs.declared.latest.Latest.{Latest}
@@ -25,14 +25,14 @@ table_again places assigned finish again n table same h =
     let place : ℕ → Place = λ i. message_place places assigned i in
     record {
       own = λ p.
-          found_again (λ i. IsUpTo n i × ((place i).first ≡ p)) finish again (get_or table.own p None)
+          found_again (λ i. IsMessage n i × ((place i).first ≡ p)) finish again (get_or table.own p None)
           (λ i is. same i is.0.from is.0.to) (h.own p);
       over = λ p.
-          found_again (λ i. IsUpTo n i × (((place i).first ≤ p) × (p < (place i).end))) finish again
+          found_again (λ i. IsMessage n i × (((place i).first ≤ p) × (p < (place i).end))) finish again
           (get_or table.over p None) (λ i is. same i is.0.from is.0.to) (h.over p);
       last = record {
         latest =
-            found_again (IsUpTo n) finish again (option_map (λ (x : Placed). x.message) table.last)
+            found_again (IsMessage n) finish again (option_map (λ (x : Placed). x.message) table.last)
             (λ i is. same i is.from is.to) h.last.latest;
         place = h.last.place;
       };

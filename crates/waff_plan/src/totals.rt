@@ -10,10 +10,11 @@ ghost use Rattle.waff_plan.specs.Timetable.{work_in, starts_in};
 use crate::Plan;
 
 /// What the summary of a plan tells of it and of a chain of its messages, in ticks.
-#[derive(Clone, Copy, Debug, PartialEq, Eq)]
+#[derive(Clone, Copy, PartialEq)]
 pub struct Totals {
     /// The sum of all costs.
     pub total: u64,
+    /// The length of the plan.
     pub length: u64,
     /// The release of the chain.
     pub release: u64,
@@ -21,6 +22,7 @@ pub struct Totals {
     pub cost: u64,
     /// Of a list plan and its printed chain this is at most `right`: the bound.
     pub left: u64,
+    /// What `left` is compared with.
     pub right: u64,
 }
 
