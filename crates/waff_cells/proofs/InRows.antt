@@ -3,7 +3,7 @@ use Rattle.std.proofs.Common.{◌≡◌, ℕ, List, length, map, All, refl, ap, 
 use Rattle.waff_model.specs.Cells.{cells_of, LiesIn}
 use Rattle.waff_model.specs.declared.cell.Cell.{Cell}
 use Rattle.waff_model.specs.declared.op.Op.{Op}
-use Rattle.waff_cells.specs.Meaning.{Cells, meaning}
+use Rattle.waff_cells.specs.Meaning.{meaning}
 use Rattle.waff_cells.specs.Grid.{cells_in}
 use Rattle.waff_cells.specs.Held.{Address}
 use Rattle.waff_cells.proofs.HeldCells.{AreApart}

@@ -1,4 +1,4 @@
-use Rattle.std.proofs.Common.{◌≡◌, length, map, sym, ◌∙◌, ap, subst}
+use Rattle.std.proofs.Common.{length, map, sym, ◌∙◌, ap, subst}
 use Rattle.std.proofs.lemmas.Option.{slice_get_within, get_or_from_slice_get}
 use Rattle.waff_model.specs.Cells.{cells_of_op}
 use Rattle.waff_cells.specs.Held.{rows_of, AreWithin, IsWithin}
