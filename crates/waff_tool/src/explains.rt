@@ -5,17 +5,16 @@ ghost use Rattle.std.specs.Io.KnownBytes.{Appends, Keeps};
 ghost use Rattle.waff_tool.specs.Explanations.{BeginsWith, IsExplained, IsExplanation, OfHierarchy};
 ghost use Rattle.waff_tool.specs.Explanations.{OfPlan, OfTrace, RefusesWork};
 ghost use Rattle.waff_tool.specs.Explanations.{first_line, status_explained};
-ghost use Rattle.waff_accept.specs.Inputs.{TellsOfFiles};
+ghost use Rattle.waff_inputs.specs.Inputs.{TellsOfFiles};
 ghost use Rattle.waff_io.specs.Writing.{AppendsPart};
 
+use crate::checks::{made_line, made_verdict, verdict_status};
 use std::alloc::{AllocError, Global};
 use std::io::Write;
 use std::thread::Threads;
-use waff_accept::{ToolError, accept, fault_status, fault_text, read_numbered, write_text};
 use waff_check::Verdict;
-use waff_explain::verdict_words;
-use waff_try::{made_line, made_verdict, verdict_status};
-use waff_words::{hierarchy_words, plan_text_words, sizes_words, trace_words};
+use waff_explain::{hierarchy_words, plan_text_words, sizes_words, trace_words, verdict_words};
+use waff_inputs::{ToolError, accept, fault_status, fault_text, read_numbered, write_text};
 
 /// What was explained.
 #[derive(Clone, Copy, Debug, PartialEq, Eq)]

@@ -1,0 +1,70 @@
+//! The sweep over numbers of workers.
+ghost use Rattle.std.specs.Prelude.{◌≡◌, ◌≢◌, ◌<◌, ℕ, All, List, IfOk, IfErr, IsErrOf, OnOk};
+ghost use Rattle.std.specs.Prelude.{length, string_bytes};
+ghost use Rattle.std.specs.Io.KnownBytes.{Appends, Keeps};
+ghost use Rattle.waff_inputs.specs.Inputs.{Accepts, Refuses};
+ghost use Rattle.waff_tool.specs.Figures.{IsSweepText, SweepTextIsOne};
+ghost use Rattle.waff_io.specs.Writing.{AppendsPart};
+
+use std::alloc::{AllocError, Global};
+use std::io::Write;
+use waff_figures::{figures_text, list_figures};
+use waff_inputs::{Accepted, ToolError, accept, write_text};
+use waff_plan::unlimited::plan;
+
+/// Writes how long the trace takes under the hierarchy for 1 to 64 workers and with no limit on
+/// them, how busy the workers are, and how long the messages wait. Nothing is written before the
+/// whole text is made.
+pub fn sweep_text<W: Write>(
+    alloc: Global,
+    hierarchy: &[u8],
+    trace: &[u8],
+    writer: &mut W,
+) -> Result<(), ToolError>
+    ensures written { OnOk result ((text : List ℕ) × IsSweepText hierarchy.now trace.now text
+        × Appends (W.contents writer.old) (W.contents writer.new) text) }
+    ensures prefix { IsErrOf result ToolError.Write
+        → (text : List ℕ) × IsSweepText hierarchy.now trace.now text
+        × AppendsPart (W.contents writer.old) (W.contents writer.new) text }
+    ensures refused { IfErr result (Refuses hierarchy.now trace.now) }
+    ensures nothing { IfErr result (λ e. e ≢ ToolError.Write
+        → Keeps (W.contents writer.old) (W.contents writer.new)) }
+{
+    let text = made_sweep_text(alloc, hierarchy, trace)?;
+    write_text(writer, text.as_bytes())
+}
+
+fn made_sweep_text(alloc: Global, hierarchy: &[u8], trace: &[u8]) -> Result<String, ToolError>
+    ensures made { IfOk result (λ text. IsSweepText hierarchy.now trace.now (string_bytes text)) }
+    ensures refused { IfErr result (Refuses hierarchy.now trace.now) }
+    ensures nothing { IfErr result (λ e. e ≢ ToolError.Write) }
+{
+    let accepted = accept(alloc, hierarchy, trace)?;
+    let text = swept_text(alloc, &accepted).map_err(ToolError::from);
+    drop(accepted);
+    text
+}
+
+/// The text of a sweep of what was read.
+fn swept_text(alloc: Global, accepted: &Accepted) -> Result<String, AllocError>
+    requires lengths { length accepted.now.assigned ≡ length accepted.now.trace.messages }
+    requires known { All (λ affinity.
+        affinity < length accepted.now.layout.tree) accepted.now.assigned }
+    ensures { IfOk result (λ text. (hierarchy trace : List ℕ)
+        → Accepts hierarchy trace accepted.now.layout accepted.now.trace accepted.now.assigned
+        → IsSweepText hierarchy trace (string_bytes text)) }
+{
+    let tree = accepted.layout.tree();
+    let plan = plan(alloc, tree, &accepted.assigned, &accepted.trace)?;
+    let listed = list_figures(alloc, tree, &accepted.assigned, &accepted.trace, &plan)?;
+    let text = figures_text(alloc, listed.as_slice(), &plan);
+    drop(listed);
+    drop(plan);
+    text
+}
+
+/// The text of a sweep of a hierarchy and a trace is one.
+pub fn sweep_text_is_one()
+    ensures equal { (hierarchy_file trace_file : List ℕ)
+        → SweepTextIsOne hierarchy_file trace_file }
+{}
