@@ -1,3 +1,4 @@
+pub mod Deliveries
 pub mod Fault
 pub mod Inputs
 pub mod ToolErrors

@@ -17,6 +17,9 @@ pub struct Accepted {
     pub layout: Layout,
     pub trace: Trace,
     pub assigned: Assigned,
+    ghost lengths: { length assigned ≡ length trace.messages },
+    ghost known: { All (λ affinity. affinity < length layout.tree) assigned },
+    ghost fits: { trace.sizes ≡ sizes_of layout.spaces },
 }
 
 /// Reads the hierarchy of this number.
@@ -35,9 +38,6 @@ pub fn read_numbered(alloc: Global, file: u8, hierarchy: &[u8]) -> Result<Layout
 pub fn accept(alloc: Global, hierarchy: &[u8], trace: &[u8]) -> Result<Accepted, ToolError>
     ensures accepted { IfOk result (λ a.
         Accepts hierarchy.now trace.now a.layout a.trace a.assigned) }
-    ensures known { IfOk result (λ a.
-        All (λ affinity. affinity < length a.layout.tree) a.assigned) }
-    ensures fits { IfOk result (λ a. a.trace.sizes ≡ sizes_of a.layout.spaces) }
     ensures refused { IfErr result (Refuses hierarchy.now trace.now) }
     ensures nothing { IfErr result (λ e. e ≢ ToolError.Write) }
 {
@@ -60,9 +60,6 @@ fn with_affinities(alloc: Global, layout: Layout, trace: Trace) -> Result<Accept
     ensures accepted { IfOk result (λ a. (hierarchy_file trace_file : List ℕ)
         → hierarchy_of hierarchy_file ≡ Ok layout → trace_of layout.spaces trace_file ≡ Ok trace
         → Accepts hierarchy_file trace_file a.layout a.trace a.assigned) }
-    ensures known { IfOk result (λ a.
-        All (λ affinity. affinity < length a.layout.tree) a.assigned) }
-    ensures fits { IfOk result (λ a. a.trace.sizes ≡ sizes_of a.layout.spaces) }
 {
     match assign(alloc, &layout, &trace) {
         Ok(assigned) => Ok(Accepted {

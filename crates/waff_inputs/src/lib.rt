@@ -23,4 +23,4 @@ pub mod unique;
 
 pub use fault::{ToolError, fault_status, fault_text};
 pub use inputs::{Accepted, accept, read_numbered};
-pub use output::write_text;
+pub use output::{deliver, write_text};

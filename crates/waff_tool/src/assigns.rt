@@ -5,13 +5,14 @@ ghost use Rattle.std.specs.Io.KnownBytes.{Appends, Keeps};
 ghost use Rattle.std.specs.List.{range_with_len};
 ghost use Rattle.waff_io.specs.Writing.{AppendsPart};
 ghost use Rattle.waff_plan_text.specs.Lines.{line_text, text_of};
+ghost use Rattle.waff_inputs.specs.Deliveries.{Delivers, Makes};
 ghost use Rattle.waff_inputs.specs.Inputs.{Refuses};
 ghost use Rattle.waff_tool.specs.AssignText.{IsAssignText, assign_lines, assign_row};
 
 use std::alloc::{AllocError, Global};
 use std::io::Write;
 use waff_assign::Assigned;
-use waff_inputs::{ToolError, accept, write_text};
+use waff_inputs::{ToolError, accept, deliver};
 use waff_model::{Trace, Tree};
 
 /// Writes the affinity of each message of the trace under the hierarchy. Nothing is written before
@@ -22,23 +23,15 @@ pub fn assign_text<W: Write>(
     trace: &[u8],
     writer: &mut W,
 ) -> Result<(), ToolError>
-    ensures written { OnOk result ((text : List ℕ) × IsAssignText hierarchy.now trace.now text
-        × Appends (W.contents writer.old) (W.contents writer.new) text) }
-    ensures prefix { IsErrOf result ToolError.Write
-        → (text : List ℕ) × IsAssignText hierarchy.now trace.now text
-        × AppendsPart (W.contents writer.old) (W.contents writer.new) text }
-    ensures refused { IfErr result (Refuses hierarchy.now trace.now) }
-    ensures nothing { IfErr result (λ e. e ≢ ToolError.Write
-        → Keeps (W.contents writer.old) (W.contents writer.new)) }
+    ensures { Delivers (λ _ text. IsAssignText hierarchy.now trace.now text)
+        (Refuses hierarchy.now trace.now) (W.contents writer.old) (W.contents writer.new) result }
 {
-    let text = made_assign_text(alloc, hierarchy, trace)?;
-    write_text(writer, text.as_bytes())
+    deliver(writer, made_assign_text(alloc, hierarchy, trace))
 }
 
 fn made_assign_text(alloc: Global, hierarchy: &[u8], trace: &[u8]) -> Result<String, ToolError>
-    ensures made { IfOk result (λ text. IsAssignText hierarchy.now trace.now (string_bytes text)) }
-    ensures refused { IfErr result (Refuses hierarchy.now trace.now) }
-    ensures nothing { IfErr result (λ e. e ≢ ToolError.Write) }
+    ensures { Makes (λ text. IsAssignText hierarchy.now trace.now (string_bytes text))
+        (Refuses hierarchy.now trace.now) result }
 {
     let accepted = accept(alloc, hierarchy, trace)?;
     let tree = accepted.layout.tree();

@@ -2,6 +2,7 @@
 ghost use Rattle.std.specs.Prelude.{◌≡◌, ◌≢◌, ◌<◌, ℕ, All, List, IfOk, IfErr, IsErrOf, length};
 ghost use Rattle.std.specs.Prelude.{string_bytes};
 ghost use Rattle.std.specs.Io.KnownBytes.{Appends, Keeps};
+ghost use Rattle.waff_inputs.specs.Deliveries.{Delivers, Makes};
 ghost use Rattle.waff_inputs.specs.Inputs.{Accepts};
 ghost use Rattle.waff_tool.specs.CheckText.{IsCheckText, RefusesCheck, status_after, verdict_text};
 ghost use Rattle.waff_io.specs.Writing.{AppendsPart};
@@ -24,14 +25,10 @@ pub fn check_text<R: Threads + Sync, W: Write>(
     plan: &[u8],
     writer: &mut W,
 ) -> Result<Verdict, ToolError>
-    ensures written { IfOk result (λ verdict. IsCheckText hierarchy.now trace.now plan.now verdict
-        × Appends (W.contents writer.old) (W.contents writer.new) (verdict_text verdict)) }
-    ensures prefix { IsErrOf result ToolError.Write
-        → (verdict : Verdict) × IsCheckText hierarchy.now trace.now plan.now verdict
-        × AppendsPart (W.contents writer.old) (W.contents writer.new) (verdict_text verdict) }
-    ensures refused { IfErr result (RefusesCheck hierarchy.now trace.now plan.now) }
-    ensures nothing { IfErr result (λ e. e ≢ ToolError.Write
-        → Keeps (W.contents writer.old) (W.contents writer.new)) }
+    ensures { Delivers (λ verdict text.
+        IsCheckText hierarchy.now trace.now plan.now verdict × (text ≡ verdict_text verdict))
+        (RefusesCheck hierarchy.now trace.now plan.now)
+        (W.contents writer.old) (W.contents writer.new) result }
 {
     let verdict = made_verdict(rt, alloc, hierarchy, trace, plan)?;
     let line = made_line(alloc, verdict)?;
@@ -47,9 +44,8 @@ pub fn made_verdict<R: Threads + Sync>(
     trace: &[u8],
     plan: &[u8],
 ) -> Result<Verdict, ToolError>
-    ensures made { IfOk result (IsCheckText hierarchy.now trace.now plan.now) }
-    ensures refused { IfErr result (RefusesCheck hierarchy.now trace.now plan.now) }
-    ensures nothing { IfErr result (λ e. e ≢ ToolError.Write) }
+    ensures { Makes (IsCheckText hierarchy.now trace.now plan.now)
+        (RefusesCheck hierarchy.now trace.now plan.now) result }
 {
     let accepted = accept(alloc, hierarchy, trace)?;
     let verdict = verdict_on(rt, alloc, &accepted, plan);
@@ -64,9 +60,6 @@ fn verdict_on<R: Threads + Sync>(
     accepted: &Accepted,
     plan: &[u8],
 ) -> Result<Verdict, ToolError>
-    requires lengths { length accepted.now.assigned ≡ length accepted.now.trace.messages }
-    requires known { All (λ affinity.
-        affinity < length accepted.now.layout.tree) accepted.now.assigned }
     ensures made { IfOk result (λ verdict. (hierarchy trace : List ℕ)
         → Accepts hierarchy trace accepted.now.layout accepted.now.trace accepted.now.assigned
         → IsCheckText hierarchy trace plan.now verdict) }

@@ -7,13 +7,14 @@ ghost use Rattle.waff_model.specs.Messages.{sizes_of};
 ghost use Rattle.waff_read.specs.Hierarchies.{hierarchy_of};
 ghost use Rattle.waff_tool.specs.Comparison.{AreHierarchies, AreModels, IsCompared, IsCompareText};
 ghost use Rattle.waff_tool.specs.Comparison.{RefusesComparison};
+ghost use Rattle.waff_inputs.specs.Deliveries.{Delivers, Makes};
 ghost use Rattle.waff_io.specs.Writing.{AppendsPart};
 
 use crate::measures::{comparison_text, measure};
 use std::alloc::{AllocError, Global};
 use std::io::Write;
 use waff_assign::assign;
-use waff_inputs::{ToolError, read_numbered, write_text};
+use waff_inputs::{ToolError, deliver, read_numbered};
 use waff_model::limits::MAX_WORKERS;
 use waff_model::{Kind, Layout, Trace};
 use waff_order::refines;
@@ -33,18 +34,13 @@ pub fn compare_text<W: Write>(
 ) -> Result<(), ToolError>
     requires some { 1 ≤ workers }
     requires few { workers ≤ MAX_WORKERS }
-    ensures written { OnOk result ((text : List ℕ)
-        × IsCompareText first.now second.now trace.now workers text
-        × Appends (W.contents writer.old) (W.contents writer.new) text) }
-    ensures prefix { IsErrOf result ToolError.Write → (text : List ℕ)
-        × IsCompareText first.now second.now trace.now workers text
-        × AppendsPart (W.contents writer.old) (W.contents writer.new) text }
-    ensures refused { IfErr result (RefusesComparison first.now second.now trace.now) }
-    ensures nothing { IfErr result (λ e. e ≢ ToolError.Write
-        → Keeps (W.contents writer.old) (W.contents writer.new)) }
+    ensures { Delivers (λ _ text. IsCompareText first.now second.now trace.now workers text)
+        (RefusesComparison first.now second.now trace.now) (W.contents writer.old) (W.contents writer.new) result }
 {
-    let text = made_compare_text(alloc, first, second, trace, workers)?;
-    write_text(writer, text.as_bytes())
+    deliver(
+        writer,
+        made_compare_text(alloc, first, second, trace, workers),
+    )
 }
 
 fn made_compare_text(
@@ -56,10 +52,8 @@ fn made_compare_text(
 ) -> Result<String, ToolError>
     requires some { 1 ≤ workers }
     requires few { workers ≤ MAX_WORKERS }
-    ensures made { IfOk result (λ text.
-        IsCompareText first.now second.now trace.now workers (string_bytes text)) }
-    ensures refused { IfErr result (RefusesComparison first.now second.now trace.now) }
-    ensures nothing { IfErr result (λ e. e ≢ ToolError.Write) }
+    ensures { Makes (λ text. IsCompareText first.now second.now trace.now workers (string_bytes text))
+        (RefusesComparison first.now second.now trace.now) result }
 {
     let first = read_numbered(alloc, 1, first)?;
     let text = text_with_second(alloc, &first, second, trace, workers);

@@ -2,6 +2,7 @@
 ghost use Rattle.std.specs.Prelude.{◌≡◌, ◌≢◌, ◌<◌, ℕ, All, List, IfOk, IfErr, IsErrOf, OnOk};
 ghost use Rattle.std.specs.Prelude.{length, string_bytes};
 ghost use Rattle.std.specs.Io.KnownBytes.{Appends, Keeps};
+ghost use Rattle.waff_inputs.specs.Deliveries.{Delivers, Makes};
 ghost use Rattle.waff_inputs.specs.Inputs.{Accepts};
 ghost use Rattle.waff_tool.specs.CheckText.{RefusesCheck};
 ghost use Rattle.waff_draw.specs.Scene.{scene_of};
@@ -13,7 +14,7 @@ use std::io::Write;
 use waff_assign::Assigned;
 use waff_check::{GivenPlan, read_plan};
 use waff_draw::{events_text, svg_text};
-use waff_inputs::{Accepted, ToolError, accept, write_text};
+use waff_inputs::{Accepted, ToolError, accept, deliver};
 use waff_model::{Trace, Tree};
 
 /// As what a plan is drawn: a document in SVG for a browser, or events for a viewer of traces.
@@ -33,18 +34,10 @@ pub fn draw_text<W: Write>(
     picture: Picture,
     writer: &mut W,
 ) -> Result<(), ToolError>
-    ensures written { OnOk result ((text : List ℕ)
-        × IsDrawText hierarchy.now trace.now plan.now picture text
-        × Appends (W.contents writer.old) (W.contents writer.new) text) }
-    ensures prefix { IsErrOf result ToolError.Write → (text : List ℕ)
-        × IsDrawText hierarchy.now trace.now plan.now picture text
-        × AppendsPart (W.contents writer.old) (W.contents writer.new) text }
-    ensures refused { IfErr result (RefusesCheck hierarchy.now trace.now plan.now) }
-    ensures nothing { IfErr result (λ e. e ≢ ToolError.Write
-        → Keeps (W.contents writer.old) (W.contents writer.new)) }
+    ensures { Delivers (λ _ text. IsDrawText hierarchy.now trace.now plan.now picture text)
+        (RefusesCheck hierarchy.now trace.now plan.now) (W.contents writer.old) (W.contents writer.new) result }
 {
-    let text = made_picture(alloc, hierarchy, trace, plan, picture)?;
-    write_text(writer, text.as_bytes())
+    deliver(writer, made_picture(alloc, hierarchy, trace, plan, picture))
 }
 
 fn made_picture(
@@ -54,10 +47,8 @@ fn made_picture(
     plan: &[u8],
     picture: Picture,
 ) -> Result<String, ToolError>
-    ensures made { IfOk result (λ text.
-        IsDrawText hierarchy.now trace.now plan.now picture (string_bytes text)) }
-    ensures refused { IfErr result (RefusesCheck hierarchy.now trace.now plan.now) }
-    ensures nothing { IfErr result (λ e. e ≢ ToolError.Write) }
+    ensures { Makes (λ text. IsDrawText hierarchy.now trace.now plan.now picture (string_bytes text))
+        (RefusesCheck hierarchy.now trace.now plan.now) result }
 {
     let accepted = accept(alloc, hierarchy, trace)?;
     let text = picture_on(alloc, &accepted, plan, picture);
@@ -72,9 +63,6 @@ fn picture_on(
     plan: &[u8],
     picture: Picture,
 ) -> Result<String, ToolError>
-    requires lengths { length accepted.now.assigned ≡ length accepted.now.trace.messages }
-    requires known { All (λ affinity.
-        affinity < length accepted.now.layout.tree) accepted.now.assigned }
     ensures made { IfOk result (λ text. (hierarchy trace : List ℕ)
         → Accepts hierarchy trace accepted.now.layout accepted.now.trace accepted.now.assigned
         → IsDrawText hierarchy trace plan.now picture (string_bytes text)) }

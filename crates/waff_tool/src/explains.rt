@@ -5,6 +5,7 @@ ghost use Rattle.std.specs.Io.KnownBytes.{Appends, Keeps};
 ghost use Rattle.waff_tool.specs.Explanations.{BeginsWith, IsExplained, IsExplanation, OfHierarchy};
 ghost use Rattle.waff_tool.specs.Explanations.{OfPlan, OfTrace, RefusesWork};
 ghost use Rattle.waff_tool.specs.Explanations.{first_line, status_explained};
+ghost use Rattle.waff_inputs.specs.Deliveries.{Delivers};
 ghost use Rattle.waff_inputs.specs.Inputs.{TellsOfFiles};
 ghost use Rattle.waff_io.specs.Writing.{AppendsPart};
 
@@ -51,17 +52,9 @@ pub fn explain_text<R: Threads + Sync, W: Write>(
     plan: Option<&[u8]>,
     writer: &mut W,
 ) -> Result<Explained, ToolError>
-    ensures written { IfOk result (λ explained. (text : List ℕ)
-        × IsExplanation hierarchy.now (option_copied trace.entry)
-        (option_copied plan.entry) explained text
-        × Appends (W.contents writer.old) (W.contents writer.new) text) }
-    ensures prefix { IsErrOf result ToolError.Write → (explained : Explained) × (text : List ℕ)
-        × IsExplanation hierarchy.now (option_copied trace.entry)
-        (option_copied plan.entry) explained text
-        × AppendsPart (W.contents writer.old) (W.contents writer.new) text }
-    ensures refused { IfErr result RefusesWork }
-    ensures nothing { IfErr result (λ e. e ≢ ToolError.Write
-        → Keeps (W.contents writer.old) (W.contents writer.new)) }
+    ensures { Delivers (λ explained text. IsExplanation hierarchy.now (option_copied trace.entry)
+        (option_copied plan.entry) explained text)
+        RefusesWork (W.contents writer.old) (W.contents writer.new) result }
 {
     let explained = find(rt, alloc, hierarchy, trace, plan)?;
     let text = explanation(alloc, explained, hierarchy, trace, plan)?;

@@ -3,12 +3,13 @@ ghost use Rattle.std.specs.Prelude.{◌≡◌, ◌≢◌, ◌<◌, ◌≤◌, �
 ghost use Rattle.std.specs.Prelude.{OnOk, length, string_bytes};
 ghost use Rattle.std.specs.Io.KnownBytes.{Appends, Keeps};
 ghost use Rattle.waff_io.specs.Writing.{AppendsPart};
+ghost use Rattle.waff_inputs.specs.Deliveries.{Delivers, Makes};
 ghost use Rattle.waff_inputs.specs.Inputs.{Accepts, Refuses};
 ghost use Rattle.waff_tool.specs.PlanText.{IsPlanText, IsPlanTextFor, IsWorkerPlanText};
 
 use std::alloc::{AllocError, Global};
 use std::io::Write;
-use waff_inputs::{Accepted, ToolError, accept, write_text};
+use waff_inputs::{Accepted, ToolError, accept, deliver};
 use waff_list::laws::needs_make_the_same_plans;
 use waff_list::{list_chain, list_plan};
 use waff_model::limits::MAX_WORKERS;
@@ -28,18 +29,10 @@ pub fn plan_text<W: Write>(
 ) -> Result<(), ToolError>
     requires some { IfSome workers (λ k. 1 ≤ k) }
     requires few { IfSome workers (λ k. k ≤ MAX_WORKERS) }
-    ensures written { OnOk result ((text : List ℕ)
-        × IsPlanTextFor hierarchy.now trace.now workers text
-        × Appends (W.contents writer.old) (W.contents writer.new) text) }
-    ensures prefix { IsErrOf result ToolError.Write
-        → (text : List ℕ) × IsPlanTextFor hierarchy.now trace.now workers text
-        × AppendsPart (W.contents writer.old) (W.contents writer.new) text }
-    ensures refused { IfErr result (Refuses hierarchy.now trace.now) }
-    ensures nothing { IfErr result (λ e. e ≢ ToolError.Write
-        → Keeps (W.contents writer.old) (W.contents writer.new)) }
+    ensures { Delivers (λ _ text. IsPlanTextFor hierarchy.now trace.now workers text)
+        (Refuses hierarchy.now trace.now) (W.contents writer.old) (W.contents writer.new) result }
 {
-    let text = made_plan_text(alloc, hierarchy, trace, workers)?;
-    write_text(writer, text.as_bytes())
+    deliver(writer, made_plan_text(alloc, hierarchy, trace, workers))
 }
 
 fn made_plan_text(
@@ -50,10 +43,8 @@ fn made_plan_text(
 ) -> Result<String, ToolError>
     requires some { IfSome workers (λ k. 1 ≤ k) }
     requires few { IfSome workers (λ k. k ≤ MAX_WORKERS) }
-    ensures made { IfOk result (λ text.
-        IsPlanTextFor hierarchy.now trace.now workers (string_bytes text)) }
-    ensures refused { IfErr result (Refuses hierarchy.now trace.now) }
-    ensures nothing { IfErr result (λ e. e ≢ ToolError.Write) }
+    ensures { Makes (λ text. IsPlanTextFor hierarchy.now trace.now workers (string_bytes text))
+        (Refuses hierarchy.now trace.now) result }
 {
     let accepted = accept(alloc, hierarchy, trace)?;
     let text = planned_text(alloc, &accepted, workers).map_err(ToolError::from);
@@ -67,9 +58,6 @@ fn planned_text(
     accepted: &Accepted,
     workers: Option<u32>,
 ) -> Result<String, AllocError>
-    requires lengths { length accepted.now.assigned ≡ length accepted.now.trace.messages }
-    requires known { All (λ affinity.
-        affinity < length accepted.now.layout.tree) accepted.now.assigned }
     requires some { IfSome workers (λ k. 1 ≤ k) }
     requires few { IfSome workers (λ k. k ≤ MAX_WORKERS) }
     ensures { IfOk result (λ text. (hierarchy trace : List ℕ)
@@ -84,9 +72,6 @@ fn planned_text(
 
 /// The text of the unlimited plan.
 fn made_unlimited_text(alloc: Global, accepted: &Accepted) -> Result<String, AllocError>
-    requires lengths { length accepted.now.assigned ≡ length accepted.now.trace.messages }
-    requires known { All (λ affinity.
-        affinity < length accepted.now.layout.tree) accepted.now.assigned }
     ensures { IfOk result (λ text. (hierarchy trace : List ℕ)
         → Accepts hierarchy trace accepted.now.layout accepted.now.trace accepted.now.assigned
         → IsPlanText hierarchy trace (string_bytes text)) }
@@ -110,9 +95,6 @@ fn made_unlimited_text(alloc: Global, accepted: &Accepted) -> Result<String, All
 
 /// The text of the list plan for k workers.
 fn made_worker_text(alloc: Global, accepted: &Accepted, k: u32) -> Result<String, AllocError>
-    requires lengths { length accepted.now.assigned ≡ length accepted.now.trace.messages }
-    requires known { All (λ affinity.
-        affinity < length accepted.now.layout.tree) accepted.now.assigned }
     requires some { 1 ≤ k }
     requires few { k ≤ MAX_WORKERS }
     ensures { IfOk result (λ text. (hierarchy trace : List ℕ)

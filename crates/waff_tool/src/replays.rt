@@ -10,6 +10,7 @@ ghost use Rattle.waff_core.specs.Job.{IsOrder};
 ghost use Rattle.waff_io.specs.Writing.{AppendsPart};
 ghost use Rattle.waff_order.specs.Needs.{AreNeeds};
 ghost use Rattle.waff_plan_text.specs.Lines.{text_of};
+ghost use Rattle.waff_inputs.specs.Deliveries.{Delivers, Makes};
 ghost use Rattle.waff_inputs.specs.Inputs.{Refuses};
 ghost use Rattle.waff_tool.specs.ListOrder.{IsListOrder};
 ghost use Rattle.waff_tool.specs.PrintedSpaces.{AreAllPrinted};
@@ -22,7 +23,7 @@ use std::sync::Wait;
 use std::thread::Threads;
 use waff_core::limits::MAX_SEATS;
 use waff_core::{Job, JobError};
-use waff_inputs::{Accepted, ToolError, accept, write_text};
+use waff_inputs::{Accepted, ToolError, accept, deliver};
 use waff_list::laws::needs_make_the_same_plans;
 use waff_list::{WorkerPlan, list_plan};
 use waff_model::limits::MAX_SPACES;
@@ -43,17 +44,13 @@ pub fn replay_text<R: Threads + Wait + Sync, W: Write>(
 ) -> Result<(), ToolError>
     requires some { 1 ≤ workers }
     requires few { workers ≤ MAX_SEATS }
-    ensures written { OnOk result ((text : List ℕ) × IsReplayText hierarchy.now trace.now text
-        × Appends (W.contents writer.old) (W.contents writer.new) text) }
-    ensures prefix { IsErrOf result ToolError.Write
-        → (text : List ℕ) × IsReplayText hierarchy.now trace.now text
-        × AppendsPart (W.contents writer.old) (W.contents writer.new) text }
-    ensures refused { IfErr result (Refuses hierarchy.now trace.now) }
-    ensures nothing { IfErr result (λ e. e ≢ ToolError.Write
-        → Keeps (W.contents writer.old) (W.contents writer.new)) }
+    ensures { Delivers (λ _ text. IsReplayText hierarchy.now trace.now text)
+        (Refuses hierarchy.now trace.now) (W.contents writer.old) (W.contents writer.new) result }
 {
-    let text = made_replay_text(rt, alloc, hierarchy, trace, workers)?;
-    write_text(writer, text.as_bytes())
+    deliver(
+        writer,
+        made_replay_text(rt, alloc, hierarchy, trace, workers),
+    )
 }
 
 fn made_replay_text<R: Threads + Wait + Sync>(
@@ -65,9 +62,8 @@ fn made_replay_text<R: Threads + Wait + Sync>(
 ) -> Result<String, ToolError>
     requires some { 1 ≤ workers }
     requires few { workers ≤ MAX_SEATS }
-    ensures made { IfOk result (λ text. IsReplayText hierarchy.now trace.now (string_bytes text)) }
-    ensures refused { IfErr result (Refuses hierarchy.now trace.now) }
-    ensures nothing { IfErr result (λ e. e ≢ ToolError.Write) }
+    ensures { Makes (λ text. IsReplayText hierarchy.now trace.now (string_bytes text))
+        (Refuses hierarchy.now trace.now) result }
 {
     let accepted = accept(alloc, hierarchy, trace)?;
     match printed_spaces(alloc, &accepted.layout) {
@@ -91,10 +87,8 @@ fn replayed_text<R: Threads + Wait + Sync>(
     printed: &[PrintedSpace],
     workers: u32,
 ) -> Result<String, AllocError>
-    requires fits { accepted.trace.sizes ≡ sizes_of accepted.layout.spaces }
     requires trace { IsTrace accepted.trace }
     requires assignment { IsAssignment accepted.layout accepted.trace.messages accepted.assigned }
-    requires known { All (λ affinity. affinity < length accepted.layout.tree) accepted.assigned }
     requires printed { AreAllPrinted accepted.layout.spaces printed.now }
     requires few_printed { length printed.now ≤ MAX_SPACES }
     requires some { 1 ≤ workers }
@@ -111,10 +105,8 @@ fn replayed_text<R: Threads + Wait + Sync>(
 
 /// The job of what was accepted, in the order of the list plan for k workers.
 fn job_in_list_order(alloc: Global, accepted: Accepted, k: u32) -> Result<Job, AllocError>
-    requires fits { accepted.trace.sizes ≡ sizes_of accepted.layout.spaces }
     requires trace { IsTrace accepted.trace }
     requires assignment { IsAssignment accepted.layout accepted.trace.messages accepted.assigned }
-    requires known { All (λ affinity. affinity < length accepted.layout.tree) accepted.assigned }
     requires some { 1 ≤ k }
     requires few { k ≤ MAX_SEATS }
     ensures layout { IfOk result (λ job. job.layout ≡ accepted.layout) }
@@ -142,10 +134,8 @@ fn job_in_order(
     needs: Needs,
     order: &[u32],
 ) -> Result<Job, AllocError>
-    requires fits { accepted.trace.sizes ≡ sizes_of accepted.layout.spaces }
     requires trace { IsTrace accepted.trace }
     requires assignment { IsAssignment accepted.layout accepted.trace.messages accepted.assigned }
-    requires known { All (λ affinity. affinity < length accepted.layout.tree) accepted.assigned }
     requires needs { AreNeeds accepted.layout.tree accepted.assigned needs }
     requires order { IsOrder needs order.now }
     ensures layout { IfOk result (λ job. job.layout ≡ accepted.layout) }
@@ -173,8 +163,6 @@ fn needs_and_plan(
     requires trace { IsTrace accepted.now.trace }
     requires assignment { IsAssignment accepted.now.layout
         accepted.now.trace.messages accepted.now.assigned }
-    requires known { All (λ affinity.
-        affinity < length accepted.now.layout.tree) accepted.now.assigned }
     requires some { 1 ≤ k }
     requires few { k ≤ MAX_SEATS }
     ensures needs { IfOk result (λ made.

@@ -2,6 +2,7 @@
 ghost use Rattle.std.specs.Prelude.{◌≡◌, ◌≢◌, ◌<◌, ℕ, All, List, IfOk, IfErr, IsErrOf, OnOk};
 ghost use Rattle.std.specs.Prelude.{length, string_bytes};
 ghost use Rattle.std.specs.Io.KnownBytes.{Appends, Keeps};
+ghost use Rattle.waff_inputs.specs.Deliveries.{Delivers, Makes};
 ghost use Rattle.waff_inputs.specs.Inputs.{Accepts, Refuses};
 ghost use Rattle.waff_tool.specs.Figures.{IsSweepText, SweepTextIsOne};
 ghost use Rattle.waff_io.specs.Writing.{AppendsPart};
@@ -9,7 +10,7 @@ ghost use Rattle.waff_io.specs.Writing.{AppendsPart};
 use std::alloc::{AllocError, Global};
 use std::io::Write;
 use waff_figures::{figures_text, list_figures};
-use waff_inputs::{Accepted, ToolError, accept, write_text};
+use waff_inputs::{Accepted, ToolError, accept, deliver};
 use waff_plan::unlimited::plan;
 
 /// Writes how long the trace takes under the hierarchy for 1 to 64 workers and with no limit on
@@ -21,23 +22,15 @@ pub fn sweep_text<W: Write>(
     trace: &[u8],
     writer: &mut W,
 ) -> Result<(), ToolError>
-    ensures written { OnOk result ((text : List ℕ) × IsSweepText hierarchy.now trace.now text
-        × Appends (W.contents writer.old) (W.contents writer.new) text) }
-    ensures prefix { IsErrOf result ToolError.Write
-        → (text : List ℕ) × IsSweepText hierarchy.now trace.now text
-        × AppendsPart (W.contents writer.old) (W.contents writer.new) text }
-    ensures refused { IfErr result (Refuses hierarchy.now trace.now) }
-    ensures nothing { IfErr result (λ e. e ≢ ToolError.Write
-        → Keeps (W.contents writer.old) (W.contents writer.new)) }
+    ensures { Delivers (λ _ text. IsSweepText hierarchy.now trace.now text)
+        (Refuses hierarchy.now trace.now) (W.contents writer.old) (W.contents writer.new) result }
 {
-    let text = made_sweep_text(alloc, hierarchy, trace)?;
-    write_text(writer, text.as_bytes())
+    deliver(writer, made_sweep_text(alloc, hierarchy, trace))
 }
 
 fn made_sweep_text(alloc: Global, hierarchy: &[u8], trace: &[u8]) -> Result<String, ToolError>
-    ensures made { IfOk result (λ text. IsSweepText hierarchy.now trace.now (string_bytes text)) }
-    ensures refused { IfErr result (Refuses hierarchy.now trace.now) }
-    ensures nothing { IfErr result (λ e. e ≢ ToolError.Write) }
+    ensures { Makes (λ text. IsSweepText hierarchy.now trace.now (string_bytes text))
+        (Refuses hierarchy.now trace.now) result }
 {
     let accepted = accept(alloc, hierarchy, trace)?;
     let text = swept_text(alloc, &accepted).map_err(ToolError::from);
@@ -47,9 +40,6 @@ fn made_sweep_text(alloc: Global, hierarchy: &[u8], trace: &[u8]) -> Result<Stri
 
 /// The text of a sweep of what was read.
 fn swept_text(alloc: Global, accepted: &Accepted) -> Result<String, AllocError>
-    requires lengths { length accepted.now.assigned ≡ length accepted.now.trace.messages }
-    requires known { All (λ affinity.
-        affinity < length accepted.now.layout.tree) accepted.now.assigned }
     ensures { IfOk result (λ text. (hierarchy trace : List ℕ)
         → Accepts hierarchy trace accepted.now.layout accepted.now.trace accepted.now.assigned
         → IsSweepText hierarchy trace (string_bytes text)) }

@@ -2,6 +2,7 @@
 ghost use Rattle.std.specs.Prelude.{◌≡◌, ◌≢◌, ◌<◌, ℕ, Bool, All, List, IfOk, IfErr, IsErrOf, OnOk};
 ghost use Rattle.std.specs.Prelude.{length, string_bytes};
 ghost use Rattle.std.specs.Io.KnownBytes.{Appends, Keeps};
+ghost use Rattle.waff_inputs.specs.Deliveries.{Delivers, Makes};
 ghost use Rattle.waff_inputs.specs.Inputs.{Accepts, Refuses};
 ghost use Rattle.waff_tool.specs.Figures.{IsAffinitiesText, IsNamesText, IsWhereText};
 ghost use Rattle.waff_tool.specs.Figures.{WhereTextIsOne};
@@ -11,7 +12,7 @@ use std::alloc::{AllocError, Global};
 use std::io::Write;
 use waff_figures::laws::{chain_adds_up, costs_add_up};
 use waff_figures::{affinities_text, names_text};
-use waff_inputs::{Accepted, ToolError, accept, write_text};
+use waff_inputs::{Accepted, ToolError, accept, deliver};
 use waff_plan::printed::chain;
 use waff_plan::unlimited::plan;
 
@@ -25,18 +26,10 @@ pub fn where_text<W: Write>(
     by_name: bool,
     writer: &mut W,
 ) -> Result<(), ToolError>
-    ensures written { OnOk result ((text : List ℕ)
-        × IsWhereText hierarchy.now trace.now by_name text
-        × Appends (W.contents writer.old) (W.contents writer.new) text) }
-    ensures prefix { IsErrOf result ToolError.Write
-        → (text : List ℕ) × IsWhereText hierarchy.now trace.now by_name text
-        × AppendsPart (W.contents writer.old) (W.contents writer.new) text }
-    ensures refused { IfErr result (Refuses hierarchy.now trace.now) }
-    ensures nothing { IfErr result (λ e. e ≢ ToolError.Write
-        → Keeps (W.contents writer.old) (W.contents writer.new)) }
+    ensures { Delivers (λ _ text. IsWhereText hierarchy.now trace.now by_name text)
+        (Refuses hierarchy.now trace.now) (W.contents writer.old) (W.contents writer.new) result }
 {
-    let text = made_where_text(alloc, hierarchy, trace, by_name)?;
-    write_text(writer, text.as_bytes())
+    deliver(writer, made_where_text(alloc, hierarchy, trace, by_name))
 }
 
 fn made_where_text(
@@ -45,10 +38,8 @@ fn made_where_text(
     trace: &[u8],
     by_name: bool,
 ) -> Result<String, ToolError>
-    ensures made { IfOk result (λ text.
-        IsWhereText hierarchy.now trace.now by_name (string_bytes text)) }
-    ensures refused { IfErr result (Refuses hierarchy.now trace.now) }
-    ensures nothing { IfErr result (λ e. e ≢ ToolError.Write) }
+    ensures { Makes (λ text. IsWhereText hierarchy.now trace.now by_name (string_bytes text))
+        (Refuses hierarchy.now trace.now) result }
 {
     let accepted = accept(alloc, hierarchy, trace)?;
     let text = spent_text(alloc, &accepted, by_name).map_err(ToolError::from);
@@ -58,9 +49,6 @@ fn made_where_text(
 
 /// The text of where the time of what was read goes.
 fn spent_text(alloc: Global, accepted: &Accepted, by_name: bool) -> Result<String, AllocError>
-    requires lengths { length accepted.now.assigned ≡ length accepted.now.trace.messages }
-    requires known { All (λ affinity.
-        affinity < length accepted.now.layout.tree) accepted.now.assigned }
     ensures { IfOk result (λ text. (hierarchy trace : List ℕ)
         → Accepts hierarchy trace accepted.now.layout accepted.now.trace accepted.now.assigned
         → IsWhereText hierarchy trace by_name (string_bytes text)) }
@@ -74,9 +62,6 @@ fn spent_text(alloc: Global, accepted: &Accepted, by_name: bool) -> Result<Strin
 
 /// The text by affinity.
 fn made_affinities_text(alloc: Global, accepted: &Accepted) -> Result<String, AllocError>
-    requires lengths { length accepted.now.assigned ≡ length accepted.now.trace.messages }
-    requires known { All (λ affinity.
-        affinity < length accepted.now.layout.tree) accepted.now.assigned }
     ensures { IfOk result (λ text. (hierarchy trace : List ℕ)
         → Accepts hierarchy trace accepted.now.layout accepted.now.trace accepted.now.assigned
         → IsAffinitiesText hierarchy trace (string_bytes text)) }
@@ -95,9 +80,6 @@ fn made_affinities_text(alloc: Global, accepted: &Accepted) -> Result<String, Al
 
 /// The text by the names of messages.
 fn made_names_text(alloc: Global, accepted: &Accepted) -> Result<String, AllocError>
-    requires lengths { length accepted.now.assigned ≡ length accepted.now.trace.messages }
-    requires known { All (λ affinity.
-        affinity < length accepted.now.layout.tree) accepted.now.assigned }
     ensures { IfOk result (λ text. (hierarchy trace : List ℕ)
         → Accepts hierarchy trace accepted.now.layout accepted.now.trace accepted.now.assigned
         → IsNamesText hierarchy trace (string_bytes text)) }

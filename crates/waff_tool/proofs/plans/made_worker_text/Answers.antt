@@ -27,7 +27,7 @@ returns c =
     c.in_ok-made.ensures.follows in
     let list = rw (tree, timings) at plan in
     let printed = rw (tree, timings) at c.in_ok-chain.ensures.printed in
-    let forward = pairs_forward c.args.accepted.now.layout.tree assigned c.args.accepted.now.trace.messages c.requires.lengths in
+    let forward = pairs_forward c.args.accepted.now.layout.tree assigned c.args.accepted.now.trace.messages c.args.accepted.now.lengths in
     let version = c.args.accepted.now.trace.version in
     let layout = c.args.accepted.now.layout.tree in
     let text_for : Version → List Node → List Timing → List ℕ → List ℕ → List ℕ → List ℕ = λ version tree timings starts seats chain. text_of

@@ -1,8 +1,5 @@
 use Rattle.std.proofs.Common.{◌≡◌, length, sym, ◌∙◌, ap, subst}
-use Rattle.waff_assign.specs.Order.{IsOrdered}
 use Rattle.waff_plan.specs.Timing.{start_of, work_of}
-use Rattle.waff_list.specs.ListRule.{IsListPlan}
-use Rattle.waff_list.specs.Seats.{IsInOrder}
 use Rattle.waff_list.specs.Unique.{EachRuns}
 use Rattle.waff_list.proofs.TraceWork.{count_is, trace_is_small}
 use Rattle.waff_tool.proofs.OrderLemmas.{plan_order_is_order}
@@ -34,12 +31,11 @@ returns-clause-list c =
     let assigned = c.args.accepted.now.assigned in
     let timings = c.in_ok-plan.plan.table.timings in
     let start = start_of c.in_ok-plan.plan.table.starts in
-    let order = c.in_ok-plan.plan.order in
     let is = c.in_ok-plan.ensures.timings in
     let plan = c.needs_make_the_same_plans.ensures tree assigned c.in_ok-needs.needs (work_of timings) c.args.k start
     c.in_ok-needs.ensures.needs c.in_ok-plan.ensures.follows in
     record {
       start = start;
-      plan = subst (λ ts. IsListPlan (IsOrdered tree assigned) (work_of ts) c.args.k start) is plan;
-      listed = subst (λ ts. IsInOrder (work_of ts) start order) is c.in_ok-plan.ensures.order;
+      plan = rw (c.tree.ensures, is) at plan;
+      listed = rw is at c.in_ok-plan.ensures.order;
     }

@@ -22,7 +22,7 @@ returns c =
     let assigned = c.args.accepted.now.assigned in
     let tree = c.tree-tree.ensures in
     let timings = c.in_ok-plan.ensures.timings in
-    let forward = pairs_forward layout.tree assigned trace.messages c.requires.lengths in
+    let forward = pairs_forward layout.tree assigned trace.messages c.args.accepted.now.lengths in
     let least = rw (tree, timings) at c.in_ok-plan.ensures.least in
     let printed = rw (tree, timings) at c.in_ok-chain.ensures.printed in
     let filled = rw tree at c.len-affinities.ensures.tree.filled in
@@ -46,8 +46,8 @@ returns c =
       accepts = accepts;
       certified = certified (IsOrdered layout.tree assigned) (work_in trace) (start_of plan.starts) chain.messages forward least printed;
       are_below = is.1;
-      costs_add_up = c.costs_add_up.ensures layout.tree assigned (work_in trace) chain.messages filled c.requires.known;
-      chain_adds_up = c.chain_adds_up.ensures layout.tree assigned (work_in trace) chain.messages filled c.requires.known;
+      costs_add_up = c.costs_add_up.ensures layout.tree assigned (work_in trace) chain.messages filled c.args.accepted.now.known;
+      chain_adds_up = c.chain_adds_up.ensures layout.tree assigned (work_in trace) chain.messages filled c.args.accepted.now.known;
       lines = is.2;
     })
     c.affinities_text-text.ensures
