@@ -2,12 +2,13 @@
 
 ghost use Rattle.std.specs.Prelude.{◌≡◌, ◌↔◌, ◌<◌, ◌≤◌, All, IsTrue, length};
 
+use crate::walk::push_line;
+use crate::words::Words;
 use std::alloc::{AllocError, Global};
 use waff_assign::Assigned;
 use waff_model::{AffinityId, Message, Trace, Tree};
 use waff_plan::Totals;
 use waff_plan_text::{GivenPlan, Row};
-use waff_words::{Words, push_line};
 
 /// A plan that was given, and the bytes that give it. What is asked of a message that there is not
 /// is 0, or empty.

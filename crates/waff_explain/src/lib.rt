@@ -1,10 +1,38 @@
-//! The words that tell what a verdict says of a plan, with the messages that it names. Those of the
-//! files are in `waff_words`.
+//! The words that tell of files: where the fault is for which one is refused, what was found there
+//! and what is wanted, or how much there is; and what a verdict says of a plan, with the messages
+//! that it names.
 //!
+//! - `hierarchy`: a hierarchy that is refused, over `document` (a document of the wrong shape),
+//!   `affinities` (the tree) and `layouts` (spaces and maps), which find tables by `named`.
+//! - `traces`: a trace that is refused, over `operations` (the operations of a message).
+//! - `plan_texts`: the text of a plan that is refused.
+//! - `fields`: a field that is no name, no number or no text.
+//! - `sizes`: how much there is where nothing is wrong.
 //! - `verdicts`: a verdict, over `case` (a plan that was given, with what it is a plan of).
+//!
+//! `words` is a text that grows by pieces. `files` reads the files once more, `walk` goes over the
+//! records of CSV and tells where each stands. What is refused is the matter of the readers, which
+//! decide: these words look at the same bytes again and tell what the readers saw.
 #![tactic(auto)]
 
+mod affinities;
 mod case;
+mod document;
+mod fields;
+mod files;
+mod hierarchy;
+mod layouts;
+mod named;
+mod operations;
+mod plan_texts;
+mod sizes;
+mod traces;
 mod verdicts;
+mod walk;
+mod words;
 
+pub use hierarchy::hierarchy_words;
+pub use plan_texts::plan_text_words;
+pub use sizes::sizes_words;
+pub use traces::trace_words;
 pub use verdicts::verdict_words;

@@ -4,12 +4,13 @@ ghost use Rattle.std.specs.Prelude.{◌≡◌, ◌<◌, All, length};
 ghost use Rattle.waff_model.specs.Messages.{sizes_of};
 
 use crate::case::Case;
+use crate::files::{layout_of, plan_of, trace_of};
+use crate::words::Words;
 use std::alloc::{AllocError, Global};
 use waff_assign::{Assigned, assign};
 use waff_check::Verdict;
 use waff_model::{Layout, Trace, Tree};
 use waff_plan::Totals;
-use waff_words::{Words, layout_of, plan_of, trace_of};
 
 /// What the verdict tells of the plan: where a fault is, the messages that it names, what was found
 /// and what is wanted, or else how good the plan is.

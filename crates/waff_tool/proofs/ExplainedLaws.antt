@@ -6,9 +6,9 @@ use Rattle.waff_read.specs.Hierarchies.{hierarchy_of}
 use Rattle.waff_read.specs.Traces.{trace_of}
 use Rattle.waff_read.specs.declared.hier_error.HierError.{HierError}
 use Rattle.waff_read.specs.declared.trace_fault.TraceError.{TraceError}
-use Rattle.waff_accept.specs.declared.fault.ToolError.TheVariants as tool
-use Rattle.waff_try.proofs.Refusals.{check_refusal_is_one, checked_is_not_refused}
-use Rattle.waff_try.proofs.Uniqueness.{check_text_is_one}
+use Rattle.waff_inputs.specs.declared.fault.ToolError.TheVariants as tool
+use Rattle.waff_tool.proofs.CheckRefusals.{check_refusal_is_one, checked_is_not_refused}
+use Rattle.waff_tool.proofs.CheckUniqueness.{check_text_is_one}
 use Rattle.waff_tool.specs.Explanations.{OfHierarchy, OfPlan, OfTrace}
 use Rattle.waff_tool.specs.Unique.{ExplainedIsOne}
 use Rattle.waff_tool.specs.declared.explains.Explained.{Explained}

@@ -1,2 +1,12 @@
+pub mod CertificateLemmas
+pub mod CheckRefusals
+pub mod CheckUniqueness
+mod ComparisonLemmas
+mod ComparisonRefusals
 mod ExplainedLaws
+mod FigureUniqueness
+mod LineLaws
+mod OrderLemmas
 mod OwnPlanLaws
+mod StateLines
+mod TextUniqueness

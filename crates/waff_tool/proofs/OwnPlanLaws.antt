@@ -52,11 +52,11 @@ use Rattle.waff_check.specs.declared.verdict.Verdict.{Verdict}
 use Rattle.waff_check.specs.declared.verdict.Verdict.TheVariants as verdict
 use Rattle.waff_check.proofs.OwnLaws.{own_plan_is_shortest, own_plan_is_within_bound}
 use Rattle.waff_check.proofs.PromiseLaws as promise
-use Rattle.waff_try.specs.CheckText.{IsCheckText}
-use Rattle.waff_accept.specs.Inputs as inputs
-use Rattle.waff_tell.specs.PlanText.{work_in}
+use Rattle.waff_tool.specs.CheckText.{IsCheckText}
+use Rattle.waff_inputs.specs.Inputs as inputs
+use Rattle.waff_tool.specs.PlanText.{work_in}
 use Rattle.waff_tool.specs.OwnPlans.{OwnPlanPasses, OwnWorkerPlanPasses}
-use Rattle.waff_tell.proofs.CertificateLemmas.{pairs_forward}
+use Rattle.waff_tool.proofs.CertificateLemmas.{pairs_forward}
 
 -- work within the limits of traces
 record IsModest (version : Version) (work : Work) : Type 0 where

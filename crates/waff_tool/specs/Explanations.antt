@@ -5,13 +5,13 @@ use Rattle.waff_model.specs.Layout.{Hierarchy}
 use Rattle.waff_model.specs.Messages.{Arrivals}
 use Rattle.waff_read.specs.Hierarchies.{hierarchy_of}
 use Rattle.waff_read.specs.Traces.{trace_of}
-use Rattle.waff_try.specs.CheckText.{IsCheckText, RefusesCheck, status_after, verdict_text}
-use Rattle.waff_accept.specs.Inputs.{Refuses, RefusesHierarchy, TellsOfFiles}
-use Rattle.waff_accept.specs.Fault.{fault_line, status_of}
+use Rattle.waff_tool.specs.CheckText.{IsCheckText, RefusesCheck, status_after, verdict_text}
+use Rattle.waff_inputs.specs.Inputs.{Refuses, RefusesHierarchy, TellsOfFiles}
+use Rattle.waff_inputs.specs.Fault.{fault_line, status_of}
 use Rattle.waff_tool.specs.declared.explains.Explained.{Explained}
 use Rattle.waff_tool.specs.declared.explains.Explained.TheVariants as explained
-use Rattle.waff_accept.specs.declared.fault.ToolError.{ToolError}
-use Rattle.waff_accept.specs.declared.fault.ToolError.TheVariants as tool
+use Rattle.waff_inputs.specs.declared.fault.ToolError.{ToolError}
+use Rattle.waff_inputs.specs.declared.fault.ToolError.TheVariants as tool
 
 -- an error that tells nothing of the files
 abbrev pub RefusesWork : ToolError → Type 0

@@ -1,3 +1,13 @@
+pub mod AssignText
+pub mod Certificates
+pub mod CheckText
+pub mod Comparison
+pub mod DrawText
 pub mod Explanations
+pub mod Figures
+pub mod ListOrder
 pub mod OwnPlans
+pub mod PlanText
+pub mod PrintedSpaces
+pub mod ReplayText
 pub mod Unique

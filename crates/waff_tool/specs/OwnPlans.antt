@@ -2,8 +2,8 @@
 use Rattle.std.specs.Prelude.{ℕ, ◌⊎◌, List}
 use Rattle.waff_plan.specs.Bound.{IsWorkers}
 use Rattle.waff_check.specs.declared.verdict.Verdict.TheVariants as verdict
-use Rattle.waff_try.specs.CheckText.{IsCheckText}
-use Rattle.waff_tell.specs.PlanText.{IsPlanText, IsWorkerPlanText}
+use Rattle.waff_tool.specs.CheckText.{IsCheckText}
+use Rattle.waff_tool.specs.PlanText.{IsPlanText, IsWorkerPlanText}
 
 -- the text of a plan without workers is read, and found shortest
 abbrev pub OwnPlanPasses : List ℕ → List ℕ → List ℕ → Type 0

@@ -5,17 +5,17 @@ ghost use Rattle.std.specs.Io.KnownBytes.{Appends, Keeps};
 ghost use Rattle.waff_tool.specs.Explanations.{BeginsWith, IsExplained, IsExplanation, OfHierarchy};
 ghost use Rattle.waff_tool.specs.Explanations.{OfPlan, OfTrace, RefusesWork};
 ghost use Rattle.waff_tool.specs.Explanations.{first_line, status_explained};
-ghost use Rattle.waff_accept.specs.Inputs.{TellsOfFiles};
+ghost use Rattle.waff_inputs.specs.Deliveries.{Delivers};
+ghost use Rattle.waff_inputs.specs.Inputs.{TellsOfFiles};
 ghost use Rattle.waff_io.specs.Writing.{AppendsPart};
 
+use crate::checks::{made_line, made_verdict, verdict_status};
 use std::alloc::{AllocError, Global};
 use std::io::Write;
 use std::thread::Threads;
-use waff_accept::{ToolError, accept, fault_status, fault_text, read_numbered, write_text};
 use waff_check::Verdict;
-use waff_explain::verdict_words;
-use waff_try::{made_line, made_verdict, verdict_status};
-use waff_words::{hierarchy_words, plan_text_words, sizes_words, trace_words};
+use waff_explain::{hierarchy_words, plan_text_words, sizes_words, trace_words, verdict_words};
+use waff_inputs::{ToolError, accept, fault_status, fault_text, read_numbered, write_text};
 
 /// What was explained.
 #[derive(Clone, Copy, Debug, PartialEq, Eq)]
@@ -52,17 +52,9 @@ pub fn explain_text<R: Threads + Sync, W: Write>(
     plan: Option<&[u8]>,
     writer: &mut W,
 ) -> Result<Explained, ToolError>
-    ensures written { IfOk result (λ explained. (text : List ℕ)
-        × IsExplanation hierarchy.now (option_copied trace.entry)
-        (option_copied plan.entry) explained text
-        × Appends (W.contents writer.old) (W.contents writer.new) text) }
-    ensures prefix { IsErrOf result ToolError.Write → (explained : Explained) × (text : List ℕ)
-        × IsExplanation hierarchy.now (option_copied trace.entry)
-        (option_copied plan.entry) explained text
-        × AppendsPart (W.contents writer.old) (W.contents writer.new) text }
-    ensures refused { IfErr result RefusesWork }
-    ensures nothing { IfErr result (λ e. e ≢ ToolError.Write
-        → Keeps (W.contents writer.old) (W.contents writer.new)) }
+    ensures { Delivers (λ explained text. IsExplanation hierarchy.now (option_copied trace.entry)
+        (option_copied plan.entry) explained text)
+        RefusesWork (W.contents writer.old) (W.contents writer.new) result }
 {
     let explained = find(rt, alloc, hierarchy, trace, plan)?;
     let text = explanation(alloc, explained, hierarchy, trace, plan)?;

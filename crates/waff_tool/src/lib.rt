@@ -1,20 +1,41 @@
-//! The commands, from the bytes of files to the bytes of a text: each has one record in `specs/` of
-//! its crate that says what its text is.
+//! The commands, from the bytes of files to the bytes of a text: each has one record in `specs/` that
+//! says what its text is.
 //!
-//! The whole text is made before the first byte is written, so a refusal leaves nothing written,
-//! and a writer that fails has taken a prefix of it.
-//! - waff_tell: assign, plan, compare, sweep and where; waff_try: check, draw and replay;
-//!   `explains`: explain, which tells the fault or the verdict that the others find.
-//! - waff_accept: why a command gave no text, its line and its exit status; waff_io: files read.
-//! - `unique`: one text or one fault for each input; `own`: plans that are printed pass the check.
+//! The files are accepted, the text is made of them, and then it is written: the whole text is made
+//! before the first byte is written, so a refusal leaves nothing written, and a writer that fails
+//! has taken a prefix of it. A plan is told with its printed chain as its *certificate*.
+//! - `assigns` (assign), `plans` (plan), `comparison` (compare, over `measures`), `sweeps` (sweep),
+//!   `wheres` (where): commands that tell of a trace under a hierarchy.
+//! - `checks` (check, over `verdict_line`), `draws` (draw): a plan that is handed in, tried;
+//!   `replays` (replay, over `state_text`): the state that threads leave.
+//! - `explains` (explain): the fault or the verdict that the others find, in words.
+//! - `unique`, and the laws of `sweeps`, `wheres` and `draws`: one text or one fault for each input;
+//!   `own`: plans that are printed pass the check.
 #![tactic(auto)]
 
+mod assigns;
+mod checks;
+mod comparison;
+pub mod draws;
 mod explains;
+mod measures;
 pub mod own;
+mod plans;
+mod replays;
+mod state_text;
+pub mod sweeps;
 pub mod unique;
+mod verdict_line;
+pub mod wheres;
 
+pub use assigns::assign_text;
+pub use checks::{check_text, verdict_status};
+pub use comparison::compare_text;
+pub use draws::{Picture, draw_text};
 pub use explains::{Explained, explain_text, explained_status};
-pub use waff_accept::{ToolError, fault_status, fault_text};
+pub use plans::plan_text;
+pub use replays::replay_text;
+pub use sweeps::sweep_text;
+pub use waff_inputs::{ToolError, fault_status, fault_text};
 pub use waff_io::{ReadFault, read_whole, split_input};
-pub use waff_tell::{assign_text, compare_text, plan_text, sweep_text, sweeps, where_text, wheres};
-pub use waff_try::{Picture, check_text, draw_text, draws, replay_text, verdict_status};
+pub use wheres::where_text;

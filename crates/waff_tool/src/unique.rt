@@ -1,16 +1,67 @@
-//! One text, or one fault, for each input.
+//! One text, one verdict or one fault for each input. Each law is a function that does nothing, and
+//! its contract is the law.
 
 ghost use Rattle.std.specs.Prelude.{ℕ, List, Option};
-ghost use Rattle.waff_tool.specs.Unique.{ExplainedIsOne};
+ghost use Rattle.waff_tool.specs.Unique.{AssignTextIsOne, CompareTextIsOne, ComparedIsNotRefused};
+ghost use Rattle.waff_tool.specs.Unique.{ComparisonRefusalIsOne, PlanTextIsOne};
+ghost use Rattle.waff_tool.specs.Unique.{CheckRefusalIsOne, CheckTextIsOne, CheckedIsNotRefused};
+ghost use Rattle.waff_tool.specs.Unique.{ReplayTextIsOne, ExplainedIsOne};
 
-pub use waff_accept::unique::{accepted_is_not_refused, refusal_is_one};
-pub use waff_tell::unique::{
-    assign_text_is_one, compare_text_is_one, compared_is_not_refused, comparison_refusal_is_one,
-    plan_text_is_one,
-};
-pub use waff_try::unique::{
-    check_refusal_is_one, check_text_is_one, checked_is_not_refused, replay_text_is_one,
-};
+pub use waff_inputs::unique::{accepted_is_not_refused, refusal_is_one};
+
+/// The text of the affinities of a hierarchy and a trace is one.
+pub fn assign_text_is_one()
+    ensures equal { (hierarchy_file trace_file : List ℕ)
+        → AssignTextIsOne hierarchy_file trace_file }
+{}
+
+/// The text of the plan of a hierarchy and a trace is one, for each number of workers and without.
+pub fn plan_text_is_one()
+    ensures equal { (hierarchy_file trace_file : List ℕ) (workers : Option ℕ)
+        → PlanTextIsOne hierarchy_file trace_file workers }
+{}
+
+/// The text of the comparison of two hierarchies on a trace is one.
+pub fn compare_text_is_one()
+    ensures equal { (first_file second_file trace_file : List ℕ) (k : ℕ)
+        → CompareTextIsOne first_file second_file trace_file k }
+{}
+
+/// The error that tells why two hierarchies and a trace are refused is one.
+pub fn comparison_refusal_is_one()
+    ensures equal { (first_file second_file trace_file : List ℕ)
+        → ComparisonRefusalIsOne first_file second_file trace_file }
+{}
+
+/// Files that are compared are not refused, but for want of memory or a writer's fault.
+pub fn compared_is_not_refused()
+    ensures none { (first_file second_file trace_file : List ℕ)
+        → ComparedIsNotRefused first_file second_file trace_file }
+{}
+
+/// The verdict on a plan text is one.
+pub fn check_text_is_one()
+    ensures equal { (hierarchy_file trace_file plan_file : List ℕ)
+        → CheckTextIsOne hierarchy_file trace_file plan_file }
+{}
+
+/// The error that tells why a hierarchy, a trace and a plan text are refused is one.
+pub fn check_refusal_is_one()
+    ensures equal { (hierarchy_file trace_file plan_file : List ℕ)
+        → CheckRefusalIsOne hierarchy_file trace_file plan_file }
+{}
+
+/// Files on which there is a verdict are not refused, but for want of memory or a writer's fault.
+pub fn checked_is_not_refused()
+    ensures none { (hierarchy_file trace_file plan_file : List ℕ)
+        → CheckedIsNotRefused hierarchy_file trace_file plan_file }
+{}
+
+/// The text of the state that a trace leaves under a hierarchy is one, whoever replays the trace.
+pub fn replay_text_is_one()
+    ensures equal { (hierarchy_file trace_file : List ℕ)
+        → ReplayTextIsOne hierarchy_file trace_file }
+{}
 
 /// The fault or the verdict that is explained is one: a function that does nothing and whose
 /// contract is the law.

@@ -1,5 +1,0 @@
-use Rattle.waff_accept.proofs.Refusals.{accepted_is_not_refused}
-use Rattle.waff_accept.proofs.unique.accepted_is_not_refused.Goals as goal
-
-pub returns : goal.returns
-returns c = record { none = accepted_is_not_refused }

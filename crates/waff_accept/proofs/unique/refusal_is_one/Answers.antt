@@ -1,5 +1,0 @@
-use Rattle.waff_accept.proofs.Refusals.{refusal_is_one}
-use Rattle.waff_accept.proofs.unique.refusal_is_one.Goals as goal
-
-pub returns : goal.returns
-returns c = record { equal = refusal_is_one }

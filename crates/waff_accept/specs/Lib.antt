@@ -1,4 +1,0 @@
-pub mod Fault
-pub mod Inputs
-pub mod ToolErrors
-pub mod Unique

@@ -1,0 +1,5 @@
+pub mod Deliveries
+pub mod Fault
+pub mod Inputs
+pub mod ToolErrors
+pub mod Unique

@@ -1,0 +1,76 @@
+//! The files of a command: a hierarchy, and a trace over it.
+ghost use Rattle.std.specs.Prelude.{◌≡◌, ◌≢◌, ◌<◌, Ok, ℕ, All, IfErr, IfOk, List, length};
+ghost use Rattle.waff_model.specs.Messages.{sizes_of};
+ghost use Rattle.waff_read.specs.Hierarchies.{hierarchy_of};
+ghost use Rattle.waff_read.specs.Traces.{trace_of};
+ghost use Rattle.waff_inputs.specs.Inputs.{Accepts, Refuses, RefusesHierarchy};
+
+use crate::fault::ToolError;
+use std::alloc::{AllocError, Global};
+use waff_assign::{Assigned, assign};
+use waff_model::{Layout, Trace};
+use waff_read::{read_hierarchy, read_trace};
+
+/// A hierarchy, a trace over it, and the affinity of each message.
+#[derive(Drop)]
+pub struct Accepted {
+    pub layout: Layout,
+    pub trace: Trace,
+    pub assigned: Assigned,
+    ghost lengths: { length assigned ≡ length trace.messages },
+    ghost known: { All (λ affinity. affinity < length layout.tree) assigned },
+    ghost fits: { trace.sizes ≡ sizes_of layout.spaces },
+}
+
+/// Reads the hierarchy of this number.
+pub fn read_numbered(alloc: Global, file: u8, hierarchy: &[u8]) -> Result<Layout, ToolError>
+    ensures layout { IfOk result (λ layout. hierarchy_of hierarchy.now ≡ Ok layout) }
+    ensures refused { IfErr result (RefusesHierarchy file hierarchy.now) }
+    ensures nothing { IfErr result (λ e. e ≢ ToolError.Write) }
+{
+    match read_hierarchy(alloc, hierarchy) {
+        Ok(layout) => Ok(layout),
+        Err(fault) => Err(ToolError::of_hierarchy(file, fault)),
+    }
+}
+
+/// Reads the files, the hierarchy first.
+pub fn accept(alloc: Global, hierarchy: &[u8], trace: &[u8]) -> Result<Accepted, ToolError>
+    ensures accepted { IfOk result (λ a.
+        Accepts hierarchy.now trace.now a.layout a.trace a.assigned) }
+    ensures refused { IfErr result (Refuses hierarchy.now trace.now) }
+    ensures nothing { IfErr result (λ e. e ≢ ToolError.Write) }
+{
+    let layout = match read_hierarchy(alloc, hierarchy) {
+        Ok(layout) => layout,
+        Err(fault) => return Err(ToolError::of_hierarchy(1, fault)),
+    };
+    match read_trace(alloc, &layout, trace) {
+        Ok(trace) => with_affinities(alloc, layout, trace).map_err(ToolError::from),
+        Err(fault) => {
+            drop(layout);
+            Err(ToolError::from(fault))
+        }
+    }
+}
+
+/// The hierarchy and the trace, with the affinity of each message.
+fn with_affinities(alloc: Global, layout: Layout, trace: Trace) -> Result<Accepted, AllocError>
+    requires fits { trace.sizes ≡ sizes_of layout.spaces }
+    ensures accepted { IfOk result (λ a. (hierarchy_file trace_file : List ℕ)
+        → hierarchy_of hierarchy_file ≡ Ok layout → trace_of layout.spaces trace_file ≡ Ok trace
+        → Accepts hierarchy_file trace_file a.layout a.trace a.assigned) }
+{
+    match assign(alloc, &layout, &trace) {
+        Ok(assigned) => Ok(Accepted {
+            layout,
+            trace,
+            assigned,
+        }),
+        Err(error) => {
+            drop(layout);
+            drop(trace);
+            Err(error)
+        }
+    }
+}

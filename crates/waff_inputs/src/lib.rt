@@ -1,0 +1,26 @@
+//! What every command begins and ends with: its files accepted or refused, and its text written.
+//!
+//! The nouns: a hierarchy and a trace over it are *accepted*, with the affinity of each message; a
+//! *fault* (`ToolError`) tells why a command gave no text, and has a line and an exit status; a
+//! *text* is written whole, or a part of it from its front.
+//! The one step: the bytes of a hierarchy and of a trace are read in this order, and the first that
+//! is refused decides.
+//!
+//! - `inputs`: a hierarchy by its number; a hierarchy and a trace with the affinities.
+//! - `fault`, `fault_names`: faults, their lines and statuses.
+//! - `output`: a text written.
+//! - `unique`: one fault for each input.
+//!
+//! What each text is, the commands say; plan texts are read by those that take one. The limits of
+//! files are those of their readers, and want of memory is one fault wherever it comes from.
+#![tactic(auto)]
+
+mod fault;
+mod fault_names;
+mod inputs;
+mod output;
+pub mod unique;
+
+pub use fault::{ToolError, fault_status, fault_text};
+pub use inputs::{Accepted, accept, read_numbered};
+pub use output::{deliver, write_text};

@@ -1,6 +1,0 @@
-pub mod CertificateLemmas
-mod ComparisonLemmas
-mod FigureUniqueness
-mod LineLaws
-mod Refusals
-mod Uniqueness

@@ -1,5 +1,0 @@
-use Rattle.waff_tell.proofs.FigureUniqueness.{where_text_is_one}
-use Rattle.waff_tell.proofs.wheres.where_text_is_one.Goals as goal
-
-pub returns : goal.returns
-returns c = record { equal = where_text_is_one }

@@ -1,0 +1,176 @@
+-- Of the same bytes there is one sweep, and one text of where the time goes.
+use Rattle.std.proofs.Common.{◌≡◌, ℕ, ◌+◌, ◌-◌, ◌<◌, ◌≤◌, Bool, true, false, List, ◌∷◌, map, length, get_or, Option, Some, None, arith, sym, ◌∙◌, ap, subst}
+use Rattle.std.proofs.lemmas.List.{same_lists, get_or-map, length-map}
+use Rattle.std.proofs.lemmas.Option.{same_Some}
+use Rattle.waff_model.specs.Layout.{Hierarchy}
+use Rattle.waff_model.specs.Messages.{Arrivals}
+use Rattle.waff_assign.specs.Order.{IsOrdered}
+use Rattle.waff_plan.specs.Chain.{IsPrinted}
+use Rattle.waff_plan.specs.Obeys.{IsForward, IsLeast}
+use Rattle.waff_plan.specs.Timing.{start_of}
+use Rattle.waff_plan.specs.Unique.{AreSame}
+use Rattle.waff_plan.specs.Work.{Work, finish_of, greatest, length_of, total_of}
+use Rattle.waff_plan.proofs.Uniqueness.{least_is_one, printed_is_one, same_length}
+use Rattle.waff_list.specs.ListRule.{IsListPlan}
+use Rattle.waff_list.specs.Unique.{EachRuns}
+use Rattle.waff_list.proofs.Uniqueness.{list_plan_is_one}
+use Rattle.waff_plan_text.specs.Lines.{text_of}
+use Rattle.waff_figures.specs.ByAffinity.{AreCostsBelow, affinities_lines, affinities_header, affinity_row, parent_field, tally_row, runs_in}
+use Rattle.waff_model.specs.Tree.{name_of, parent_of}
+use Rattle.waff_figures.specs.Tally.{tally_of}
+use Rattle.waff_figures.specs.ByName.{message_names, names_lines}
+use Rattle.waff_figures.specs.Figures.{figures_of, latency_of, least_of, waits_of}
+use Rattle.waff_figures.specs.Sweep.{AreListed, IsListed, sweep_lines, sweep_workers}
+use Rattle.waff_figures.specs.declared.figures.Figures.{Figures}
+use Rattle.waff_figures.proofs.AddingUp.{cost_below_is_one}
+use Rattle.waff_figures.proofs.RowLemmas.{map_range_same}
+use Rattle.waff_figures.proofs.SumLemmas.{sum_same}
+use Rattle.waff_tool.specs.PlanText.{work_in}
+use Rattle.waff_tool.specs.Figures.{IsAffinitiesText, IsNamesText, SweepTextIsOne, WhereTextIsOne}
+use Rattle.waff_tool.proofs.CertificateLemmas.{pairs_forward}
+use Rattle.waff_inputs.proofs.SameInput.{moved_back, same_input}
+use Rattle.waff_tool.proofs.TextUniqueness.{trace_runs}
+
+-- plans with the same starts have the same figures
+figures_same : (workers : Option ℕ) (work : Work) (shortest : ℕ) (start other : ℕ → ℕ) → AreSame work start other
+    → figures_of workers work shortest start ≡ figures_of workers work shortest other
+figures_same workers work shortest start other same =
+    let told : ℕ → ℕ → ℕ → Figures = λ l w t. record {
+      workers = workers;
+      total = total_of work;
+      length = l;
+      least = least_of workers (total_of work) shortest;
+      waits = w;
+      latency = t;
+    } in
+    let at : (m : ℕ) → 1 ≤ m → m < 1 + work.count → start m ≡ other m = λ m from to. same m (record { from = from; to = omega (arith, to) }) in
+    let waits : waits_of work start ≡ waits_of work other
+    = sum_same (λ m. start m - work.release m) (λ m. other m - work.release m) 1 work.count (λ m from to. ap (λ s. s - work.release m) (at m from to)) in
+    let latency : latency_of work start ≡ latency_of work other
+    = ap greatest (map_range_same (λ m. finish_of work start m - work.release m) (λ m. finish_of work other m - work.release m) 1 work.count
+    (λ m from to. ap (λ s. s + work.cost m - work.release m) (at m from to))) in
+    ap (λ l. told l (waits_of work start) (latency_of work start)) (same_length work start other same)
+    ∙ ap (λ w. told (length_of work other) w (latency_of work start)) waits
+    ∙ ap (λ t. told (length_of work other) (waits_of work other) t) latency
+
+-- the figures of list plans for the same number of workers are the same
+abbrev IsListPlanFor : (ℕ → ℕ → Type 0) → Work → ℕ → List ℕ → Type 0
+IsListPlanFor before work k starts = IsListPlan before work k (start_of starts)
+
+listed_same : (before : ℕ → ℕ → Type 0) (work : Work) → IsForward before work → EachRuns work → (shortest : ℕ) (one other : Figures)
+    → IsListed before work shortest one → IsListed before work shortest other → one.workers ≡ other.workers → one ≡ other
+listed_same before work forward runs shortest one other p q workers =
+    let first : one.workers ≡ Some p.k = ap (λ (f : Figures). f.workers) p.figures_are in
+    let second : other.workers ≡ Some q.k = ap (λ (f : Figures). f.workers) q.figures_are in
+    let same_k : p.k ≡ q.k = same_Some p.k q.k (sym first ∙ workers ∙ second) in
+    let list = subst (λ k. IsListPlanFor before work k q.starts) (sym same_k) q.list in
+    let same = list_plan_is_one before work forward runs p.k (start_of p.starts) (start_of q.starts) p.list list in
+    p.figures_are ∙ figures_same (Some p.k) work shortest (start_of p.starts) (start_of q.starts) same
+    ∙ ap (λ k. figures_of (Some k) work shortest (start_of q.starts)) same_k ∙ sym q.figures_are
+
+count_of : (listed : List Figures) → map (λ (f : Figures). f.workers) listed ≡ map (λ (k : ℕ). Some k) sweep_workers → length listed ≡ 12
+count_of listed workers = sym (length-map listed (λ (f : Figures). f.workers)) ∙ ap length workers
+
+-- the list of them is one
+listed_is_one : (before : ℕ → ℕ → Type 0) (work : Work) → IsForward before work → EachRuns work → (shortest : ℕ) (one other : List Figures)
+    → AreListed before work shortest one → AreListed before work shortest other → one ≡ other
+listed_is_one before work forward runs shortest one other p q =
+    let f : Figures → Option ℕ = λ figures. figures.workers in
+    let long : length one ≡ length other = count_of one p.workers ∙ sym (count_of other q.workers) in
+    same_lists one other long (λ i d inside.
+    let there : i < length other = subst (λ n. i < n) long inside in
+    let workers : f (get_or one i d) ≡ f (get_or other i d)
+    = sym (get_or-map f one i d None inside) ∙ ap (λ ws. get_or ws i None) (p.workers ∙ sym q.workers) ∙ get_or-map f other i d None there in
+    listed_same before work forward runs shortest (get_or one i d) (get_or other i d) (p.each i d inside) (q.each i d there) workers)
+
+-- the sweep
+abbrev IsSwept : List ℕ → List Figures → List ℕ → Hierarchy → Arrivals → List ℕ → Type 0
+IsSwept starts listed text layout trace assigned =
+    IsLeast (IsOrdered layout.tree assigned) (work_in trace) (start_of starts)
+    × AreListed (IsOrdered layout.tree assigned) (work_in trace) (length_of (work_in trace) (start_of starts)) listed
+    × (text ≡ text_of (sweep_lines listed (figures_of None (work_in trace) (length_of (work_in trace) (start_of starts)) (start_of starts))))
+
+one_sweep : (layout : Hierarchy) (trace : Arrivals) (assigned : List ℕ) → IsForward (IsOrdered layout.tree assigned) (work_in trace) → EachRuns (work_in trace)
+    → (starts : List ℕ) (listed : List Figures) (text others : List ℕ) (more : List Figures) (other : List ℕ)
+    → IsSwept starts listed text layout trace assigned → IsSwept others more other layout trace assigned → text ≡ other
+one_sweep layout trace assigned forward runs starts listed text others more other p q =
+    let before = IsOrdered layout.tree assigned in
+    let work = work_in trace in
+    let same = least_is_one before work (start_of starts) (start_of others) p.0 q.0 in
+    let lengths = same_length work (start_of starts) (start_of others) same in
+    let lists = listed_is_one before work forward runs (length_of work (start_of starts)) listed more p.1
+    (subst (λ n. AreListed before work n more) (sym lengths) q.1) in
+    p.2
+    ∙ ap (λ fs. text_of (sweep_lines fs (figures_of None work (length_of work (start_of starts)) (start_of starts)))) lists
+    ∙ ap (λ f. text_of (sweep_lines more f)) (figures_same None work (length_of work (start_of starts)) (start_of starts) (start_of others) same)
+    ∙ ap (λ n. text_of (sweep_lines more (figures_of None work n (start_of others)))) lengths
+    ∙ sym q.2
+
+pub sweep_text_is_one : (hierarchy_file trace_file : List ℕ) → SweepTextIsOne hierarchy_file trace_file
+sweep_text_is_one hierarchy_file trace_file text other p q =
+    let same = same_input hierarchy_file trace_file p.layout q.layout p.trace q.trace p.assigned q.assigned p.accepts q.accepts in
+    let told = moved_back (IsSwept q.starts q.listed other) p.layout q.layout p.trace q.trace p.assigned q.assigned same (q.least, q.are_listed, q.lines) in
+    one_sweep p.layout p.trace p.assigned (pairs_forward p.layout.tree p.assigned p.trace.messages p.accepts.assignment.count)
+    (trace_runs p.layout trace_file p.trace p.accepts.is_trace) p.starts p.listed text q.starts q.listed other (p.least, p.are_listed, p.lines) told
+
+-- where the time goes, by affinity
+abbrev IsParted : List ℕ → List ℕ → List ℕ → List ℕ → Hierarchy → Arrivals → List ℕ → Type 0
+IsParted starts chain below text layout trace assigned =
+    IsLeast (IsOrdered layout.tree assigned) (work_in trace) (start_of starts)
+    × IsPrinted (IsOrdered layout.tree assigned) (work_in trace) (start_of starts) chain
+    × AreCostsBelow layout.tree assigned (work_in trace) below
+    × (text ≡ text_of (affinities_lines layout.tree assigned (work_in trace) chain below))
+
+one_part : (layout : Hierarchy) (trace : Arrivals) (assigned : List ℕ) → IsForward (IsOrdered layout.tree assigned) (work_in trace)
+    → (starts chain below text others links sums other : List ℕ) → IsParted starts chain below text layout trace assigned
+    → IsParted others links sums other layout trace assigned → text ≡ other
+one_part layout trace assigned forward starts chain below text others links sums other p q =
+    let tree = layout.tree in
+    let work = work_in trace in
+    let same = least_is_one (IsOrdered tree assigned) work (start_of starts) (start_of others) p.0 q.0 in
+    let chains = printed_is_one (IsOrdered tree assigned) work forward (start_of starts) (start_of others) chain links same p.1 q.1 in
+    let row = λ (a cost : ℕ). tally_row (name_of tree a) (parent_field tree (parent_of tree a)) cost (tally_of work chain (runs_in assigned a)) in
+    let rows = map_range_same (affinity_row tree assigned work chain below) (affinity_row tree assigned work chain sums) 0 (length tree)
+    (λ a from to. ap (row a) (cost_below_is_one tree assigned work a (get_or below a 0) (get_or sums a 0) (p.2 a (omega (arith, to))) (q.2 a (omega (arith, to))))) in
+    p.3
+    ∙ ap (λ rs. text_of (affinities_header ∷ rs)) rows
+    ∙ ap (λ c. text_of (affinities_lines tree assigned work c sums)) chains
+    ∙ sym q.3
+
+affinities_text_is_one : (hierarchy_file trace_file text other : List ℕ) → IsAffinitiesText hierarchy_file trace_file text
+    → IsAffinitiesText hierarchy_file trace_file other → text ≡ other
+affinities_text_is_one hierarchy_file trace_file text other p q =
+    let same = same_input hierarchy_file trace_file p.layout q.layout p.trace q.trace p.assigned q.assigned p.accepts q.accepts in
+    let told = moved_back (IsParted q.starts q.chain q.below other) p.layout q.layout p.trace q.trace p.assigned q.assigned same
+    (q.certified.least, q.certified.printed, q.are_below, q.lines) in
+    one_part p.layout p.trace p.assigned (pairs_forward p.layout.tree p.assigned p.trace.messages p.accepts.assignment.count)
+    p.starts p.chain p.below text q.starts q.chain q.below other (p.certified.least, p.certified.printed, p.are_below, p.lines) told
+
+-- by name
+abbrev IsNamed : List ℕ → List ℕ → List ℕ → Hierarchy → Arrivals → List ℕ → Type 0
+IsNamed starts chain text layout trace assigned =
+    IsLeast (IsOrdered layout.tree assigned) (work_in trace) (start_of starts)
+    × IsPrinted (IsOrdered layout.tree assigned) (work_in trace) (start_of starts) chain
+    × (text ≡ text_of (names_lines (message_names trace.messages) (work_in trace) chain))
+
+one_named : (layout : Hierarchy) (trace : Arrivals) (assigned : List ℕ) → IsForward (IsOrdered layout.tree assigned) (work_in trace)
+    → (starts chain text others links other : List ℕ) → IsNamed starts chain text layout trace assigned → IsNamed others links other layout trace assigned
+    → text ≡ other
+one_named layout trace assigned forward starts chain text others links other p q =
+    let work = work_in trace in
+    let same = least_is_one (IsOrdered layout.tree assigned) work (start_of starts) (start_of others) p.0 q.0 in
+    let chains = printed_is_one (IsOrdered layout.tree assigned) work forward (start_of starts) (start_of others) chain links same p.1 q.1 in
+    p.2 ∙ ap (λ c. text_of (names_lines (message_names trace.messages) work c)) chains ∙ sym q.2
+
+names_text_is_one : (hierarchy_file trace_file text other : List ℕ) → IsNamesText hierarchy_file trace_file text
+    → IsNamesText hierarchy_file trace_file other → text ≡ other
+names_text_is_one hierarchy_file trace_file text other p q =
+    let same = same_input hierarchy_file trace_file p.layout q.layout p.trace q.trace p.assigned q.assigned p.accepts q.accepts in
+    let told = moved_back (IsNamed q.starts q.chain other) p.layout q.layout p.trace q.trace p.assigned q.assigned same
+    (q.certified.least, q.certified.printed, q.lines) in
+    one_named p.layout p.trace p.assigned (pairs_forward p.layout.tree p.assigned p.trace.messages p.accepts.assignment.count)
+    p.starts p.chain text q.starts q.chain other (p.certified.least, p.certified.printed, p.lines) told
+
+pub where_text_is_one : (hierarchy_file trace_file : List ℕ) (by_name : Bool) → WhereTextIsOne hierarchy_file trace_file by_name
+where_text_is_one hierarchy_file trace_file false text other p q = affinities_text_is_one hierarchy_file trace_file text other p q
+where_text_is_one hierarchy_file trace_file true text other p q = names_text_is_one hierarchy_file trace_file text other p q

@@ -1,0 +1,41 @@
+use Rattle.std.proofs.Common.{◌≡◌, ℕ, List, string_bytes, ◌∙◌, ap}
+use Rattle.std.proofs.lemmas.Result.{IfOk-weaker}
+use Rattle.waff_assign.specs.Order.{IsOrdered}
+use Rattle.waff_plan.specs.declared.timing.Timing.{Timing}
+use Rattle.waff_plan.specs.Timetable.{timings_of}
+use Rattle.waff_plan.specs.Timing.{work_of, start_of}
+use Rattle.waff_plan_text.specs.Lines.{text_of}
+use Rattle.waff_figures.specs.ByName.{message_names, names_lines}
+use Rattle.waff_inputs.specs.Inputs.{Accepts}
+use Rattle.waff_tool.specs.PlanText.{work_in}
+use Rattle.waff_tool.specs.Figures.{IsNamesText}
+use Rattle.waff_tool.proofs.CertificateLemmas.{certified, pairs_forward}
+use Rattle.waff_tool.proofs.wheres.made_names_text.Goals as goal
+
+pub returns : goal.returns
+returns c =
+    let plan = c.in_ok-plan.plan in
+    let chain = c.in_ok-chain.chain in
+    let layout = c.args.accepted.now.layout in
+    let trace = c.args.accepted.now.trace in
+    let assigned = c.args.accepted.now.assigned in
+    let tree = c.tree-tree.ensures in
+    let timings = c.in_ok-plan.ensures.timings in
+    let forward = pairs_forward layout.tree assigned trace.messages c.args.accepted.now.lengths in
+    let least = rw (tree, timings) at c.in_ok-plan.ensures.least in
+    let printed = rw (tree, timings) at c.in_ok-chain.ensures.printed in
+    let text_for : List Timing → List ℕ → List ℕ = λ timings chain. text_of (names_lines (message_names trace.messages) (work_of timings) chain) in
+    IfOk-weaker c.names_text-text.result
+    (λ text. string_bytes text ≡ text_for plan.timings c.messages.result.now)
+    (λ text. (hierarchy trace_file : List ℕ) → Accepts hierarchy trace_file layout trace assigned → IsNamesText hierarchy trace_file (string_bytes text))
+    (λ text lines hierarchy trace_file accepts. record {
+      layout = layout;
+      trace = trace;
+      assigned = assigned;
+      starts = plan.starts;
+      chain = chain.messages;
+      accepts = accepts;
+      certified = certified (IsOrdered layout.tree assigned) (work_in trace) (start_of plan.starts) chain.messages forward least printed;
+      lines = lines ∙ ap (λ ts. text_for ts c.messages.result.now) timings ∙ ap (λ ch. text_for (timings_of trace.messages) ch) c.messages.ensures;
+    })
+    c.names_text-text.ensures

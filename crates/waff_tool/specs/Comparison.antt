@@ -1,0 +1,150 @@
+-- What is printed where a classical and a hierarchical hierarchy are compared on one trace.
+use Rattle.std.specs.Prelude.{◌≡◌, ℕ, ◌≤◌, ◌⊎◌, ◌↔◌, Bool, true, false, IsTrue, List, [], ◌∷◌, ◌++◌}
+use Rattle.std.specs.Prelude.{Some, None, Ok, Err, codes, decimal}
+use Rattle.waff_model.specs.Layout.{Hierarchy, SameSpaces}
+use Rattle.waff_model.specs.Messages.{Arrivals}
+use Rattle.waff_model.specs.declared.kind.Kind.{Kind}
+use Rattle.waff_model.specs.declared.kind.Kind.TheVariants as kind
+use Rattle.waff_model.specs.declared.message.Version.{Version}
+use Rattle.waff_model.specs.declared.message.Version.TheVariants.{V1, V2}
+use Rattle.waff_read.specs.Hierarchies.{hierarchy_of}
+use Rattle.waff_read.specs.Traces.{trace_of}
+use Rattle.waff_assign.specs.Lowest.{IsAssignment}
+use Rattle.waff_assign.specs.Order.{IsOrdered, Refines}
+use Rattle.waff_plan.specs.Timing.{start_of}
+use Rattle.waff_plan.specs.Totals.{totals_of}
+use Rattle.waff_plan.specs.Work.{Work, total_of}
+use Rattle.waff_plan.specs.declared.totals.Totals.{Totals}
+use Rattle.waff_inputs.specs.Inputs.{RefusesHierarchy}
+use Rattle.waff_tool.specs.Certificates.{IsBounded, IsCertified}
+use Rattle.waff_tool.specs.PlanText.{work_in}
+use Rattle.waff_plan_text.specs.Lines.{text_of}
+use Rattle.waff_inputs.specs.declared.fault.ToolError.{ToolError}
+use Rattle.waff_inputs.specs.declared.fault.ToolError.TheVariants as tool
+use Rattle.waff_tool.specs.declared.measures.Measured.{Measured}
+
+-- what is told of a trace under one hierarchy: of its least plan, and of its list plan for k
+-- workers, each with its printed chain
+pub record IsMeasured (layout : Hierarchy)
+    (assigned : List ℕ) (work : Work) (k : ℕ) (measured : Measured) : Type 0 where
+  pub starts : List ℕ
+  pub chain : List ℕ
+  pub list_starts : List ℕ
+  pub list_chain : List ℕ
+  pub certified : IsCertified (IsOrdered layout.tree assigned) work (start_of starts) chain
+  pub bounded : IsBounded (IsOrdered layout.tree assigned) work k (start_of list_starts) list_chain
+  pub kind : measured.kind ≡ layout.kind
+  pub unlimited : measured.unlimited ≡ totals_of None work (start_of starts) chain
+  pub listed : measured.listed ≡ totals_of (Some k) work (start_of list_starts) list_chain
+
+abbrev pub kind_field : Kind → List ℕ
+kind_field kind.Classical = codes "classical"
+kind_field kind.Hierarchical = codes "hierarchical"
+
+-- what the lines of the hierarchies tell
+abbrev pub measures_header : Version → List (List ℕ)
+measures_header V1 =
+    codes "model" ∷ codes "length" ∷ codes "chain"
+    ∷ codes "list" ∷ codes "listchain" ∷ codes "left" ∷ codes "right" ∷ []
+measures_header V2 =
+    codes "model" ∷ codes "length" ∷ codes "release"
+    ∷ codes "chain" ∷ codes "list" ∷ codes "listrelease" ∷ codes "listchain"
+    ∷ codes "left" ∷ codes "right" ∷ []
+
+-- what is told of a plan: its length, and the release and the cost of its printed chain; a trace of
+-- the first version has no releases
+abbrev pub plan_fields : Version → Totals → List (List ℕ)
+plan_fields V1 plan = decimal plan.length ∷ decimal plan.cost ∷ []
+plan_fields V2 plan = decimal plan.length ∷ decimal plan.release ∷ decimal plan.cost ∷ []
+
+-- the line of a hierarchy
+abbrev pub measured_line : Version → Measured → List (List ℕ)
+measured_line version measured =
+    kind_field measured.kind
+    ∷ plan_fields version measured.unlimited
+    ++ plan_fields version measured.listed
+    ++ decimal measured.listed.left ∷ decimal measured.listed.right ∷ []
+
+abbrev pub answer_field : Bool → List ℕ
+answer_field true = codes "yes"
+answer_field false = codes "no"
+
+-- the lines of a comparison
+abbrev pub compare_lines : Version → ℕ → ℕ → Measured → Measured → Bool → List (List (List ℕ))
+compare_lines version k total classical hierarchical refined =
+    (codes "workers" ∷ decimal k ∷ [])
+    ∷ (codes "total" ∷ decimal total ∷ [])
+    ∷ measures_header version
+    ∷ measured_line version classical
+    ∷ measured_line version hierarchical
+    ∷ (codes "refines" ∷ answer_field refined ∷ [])
+    ∷ []
+
+-- the text of the comparison of a classical and a hierarchical hierarchy on a trace: it tells
+-- whether the hierarchical one refines the classical one, and where it does its least plan is no
+-- longer
+pub record IsCompared (classical hierarchical : Hierarchy)
+    (trace : Arrivals) (k : ℕ) (text : List ℕ) : Type 0 where
+  pub coarse : List ℕ
+  pub fine : List ℕ
+  pub of_classical : Measured
+  pub of_hierarchical : Measured
+  pub refined : Bool
+  pub coarse_assignment : IsAssignment classical trace.messages coarse
+  pub fine_assignment : IsAssignment hierarchical trace.messages fine
+  pub classical_measured : IsMeasured classical coarse (work_in trace) k of_classical
+  pub hierarchical_measured : IsMeasured hierarchical fine (work_in trace) k of_hierarchical
+  pub told : IsTrue refined ↔ Refines hierarchical.tree fine classical.tree coarse
+  pub no_longer : IsTrue refined → of_hierarchical.unlimited.length ≤ of_classical.unlimited.length
+  pub lines : text ≡ text_of (compare_lines trace.version k
+      (total_of (work_in trace)) of_classical of_hierarchical refined)
+
+-- two files that are a classical and a hierarchical hierarchy, in either order, of the same spaces
+pub record AreModels (first_file second_file : List ℕ)
+    (classical hierarchical : Hierarchy) : Type 0 where
+  pub files : ((hierarchy_of first_file ≡ Ok classical)
+      × (hierarchy_of second_file ≡ Ok hierarchical))
+      ⊎ ((hierarchy_of first_file ≡ Ok hierarchical) × (hierarchy_of second_file ≡ Ok classical))
+  pub is_classical : classical.kind ≡ kind.Classical
+  pub is_hierarchical : hierarchical.kind ≡ kind.Hierarchical
+  pub same_spaces : SameSpaces classical.spaces hierarchical.spaces
+
+-- the text of the comparison of two hierarchies on a trace
+pub record IsCompareText (first_file second_file trace_file : List ℕ)
+    (k : ℕ) (text : List ℕ) : Type 0 where
+  pub classical : Hierarchy
+  pub hierarchical : Hierarchy
+  pub trace : Arrivals
+  pub models : AreModels first_file second_file classical hierarchical
+  pub is_trace : trace_of classical.spaces trace_file ≡ Ok trace
+  pub compared : IsCompared classical hierarchical trace k text
+
+-- two files that are hierarchies
+abbrev pub AreHierarchies : List ℕ → List ℕ → Hierarchy → Hierarchy → Type 0
+AreHierarchies first_file second_file first second =
+    (hierarchy_of first_file ≡ Ok first) × (hierarchy_of second_file ≡ Ok second)
+
+-- an error tells the first of the faults of two hierarchies, in this order: the first one is
+-- refused, the second one is, their spaces differ, their models are the same
+abbrev pub RefusesModels : List ℕ → List ℕ → ToolError → Type 0
+RefusesModels first_file second_file tool.SpacesDiffer =
+    (first : Hierarchy) × (second : Hierarchy) × AreHierarchies first_file second_file first second
+    × ¬ SameSpaces first.spaces second.spaces
+RefusesModels first_file second_file tool.ModelsSame =
+    (first : Hierarchy) × (second : Hierarchy) × AreHierarchies first_file second_file first second
+    × SameSpaces first.spaces second.spaces × (first.kind ≡ second.kind)
+RefusesModels first_file second_file error =
+    RefusesHierarchy 1 first_file error
+    ⊎ ((first : Hierarchy) × (hierarchy_of first_file ≡ Ok first)
+    × RefusesHierarchy 2 second_file error)
+
+-- an error tells the first of the faults: of the hierarchies, and then of the trace; want of memory
+-- and a writer's fault tell nothing of the files
+abbrev pub RefusesComparison : List ℕ → List ℕ → List ℕ → ToolError → Type 0
+RefusesComparison first_file second_file trace_file (tool.Trace fault) =
+    (classical : Hierarchy) × (hierarchical : Hierarchy)
+    × AreModels first_file second_file classical hierarchical
+    × (trace_of classical.spaces trace_file ≡ Err fault)
+RefusesComparison first_file second_file trace_file tool.Write = Unit {0}
+RefusesComparison first_file second_file trace_file error =
+    RefusesModels first_file second_file error

@@ -1,0 +1,82 @@
+-- What the sweep over numbers of workers prints for the bytes of its files, and what tells where
+-- the time goes.
+use Rattle.std.specs.Prelude.{◌≡◌, ℕ, Bool, true, false, List, None}
+use Rattle.waff_model.specs.Layout.{Hierarchy}
+use Rattle.waff_model.specs.Messages.{Arrivals}
+use Rattle.waff_assign.specs.Order.{IsOrdered}
+use Rattle.waff_plan.specs.Obeys.{IsLeast}
+use Rattle.waff_plan.specs.Timing.{start_of}
+use Rattle.waff_plan.specs.Work.{length_of}
+use Rattle.waff_plan_text.specs.Lines.{text_of}
+use Rattle.waff_figures.specs.ByAffinity.{AreCostsBelow, affinities_lines}
+use Rattle.waff_figures.specs.ByName.{message_names, names_lines}
+use Rattle.waff_figures.specs.Figures.{figures_of}
+use Rattle.waff_figures.specs.Laws.{ChainAddsUp, CostsAddUp}
+use Rattle.waff_figures.specs.Sweep.{AreListed, sweep_lines}
+use Rattle.waff_figures.specs.declared.figures.Figures.{Figures}
+use Rattle.waff_tool.specs.Certificates.{IsCertified}
+use Rattle.waff_inputs.specs.Inputs.{Accepts}
+use Rattle.waff_tool.specs.PlanText.{work_in}
+
+-- the text of a sweep: the figures of the list plan for each number of workers, none of which is
+-- beaten by more than `least` allows, and those of the least plan
+pub record IsSweepText (hierarchy_file trace_file text : List ℕ) : Type 0 where
+  pub layout : Hierarchy
+  pub trace : Arrivals
+  pub assigned : List ℕ
+  pub starts : List ℕ
+  pub listed : List Figures
+  pub accepts : Accepts hierarchy_file trace_file layout trace assigned
+  pub least : IsLeast (IsOrdered layout.tree assigned) (work_in trace) (start_of starts)
+  pub are_listed : AreListed (IsOrdered layout.tree assigned)
+      (work_in trace) (length_of (work_in trace) (start_of starts)) listed
+  pub lines : text ≡ text_of (sweep_lines listed
+      (figures_of None (work_in trace) (length_of (work_in trace) (start_of starts))
+      (start_of starts)))
+
+-- the text of where the time goes by affinity, with the printed chain of the least plan; its
+-- columns add up to the total and to the cost of the chain
+pub record IsAffinitiesText (hierarchy_file trace_file text : List ℕ) : Type 0 where
+  pub layout : Hierarchy
+  pub trace : Arrivals
+  pub assigned : List ℕ
+  pub starts : List ℕ
+  pub chain : List ℕ
+  pub below : List ℕ
+  pub accepts : Accepts hierarchy_file trace_file layout trace assigned
+  pub certified : IsCertified (IsOrdered layout.tree assigned)
+      (work_in trace) (start_of starts) chain
+  pub are_below : AreCostsBelow layout.tree assigned (work_in trace) below
+  pub costs_add_up : CostsAddUp layout.tree assigned (work_in trace) chain
+  pub chain_adds_up : ChainAddsUp layout.tree assigned (work_in trace) chain
+  pub lines : text ≡ text_of (affinities_lines layout.tree assigned (work_in trace) chain below)
+
+-- the text of where the time goes by the names of messages
+pub record IsNamesText (hierarchy_file trace_file text : List ℕ) : Type 0 where
+  pub layout : Hierarchy
+  pub trace : Arrivals
+  pub assigned : List ℕ
+  pub starts : List ℕ
+  pub chain : List ℕ
+  pub accepts : Accepts hierarchy_file trace_file layout trace assigned
+  pub certified : IsCertified (IsOrdered layout.tree assigned)
+      (work_in trace) (start_of starts) chain
+  pub lines : text ≡ text_of (names_lines (message_names trace.messages) (work_in trace) chain)
+
+-- the text of where the time goes, by affinity or by name
+abbrev pub IsWhereText : List ℕ → List ℕ → Bool → List ℕ → Type 0
+IsWhereText hierarchy_file trace_file false text = IsAffinitiesText hierarchy_file trace_file text
+IsWhereText hierarchy_file trace_file true text = IsNamesText hierarchy_file trace_file text
+
+-- two texts of a sweep of a hierarchy and a trace are equal
+abbrev pub SweepTextIsOne : List ℕ → List ℕ → Type 0
+SweepTextIsOne hierarchy_file trace_file =
+    (text other : List ℕ) → IsSweepText hierarchy_file trace_file text
+    → IsSweepText hierarchy_file trace_file other
+    → text ≡ other
+
+-- two texts of where the time of a hierarchy and a trace goes are equal
+abbrev pub WhereTextIsOne : List ℕ → List ℕ → Bool → Type 0
+WhereTextIsOne hierarchy_file trace_file by_name =
+    (text other : List ℕ) → IsWhereText hierarchy_file trace_file by_name text
+    → IsWhereText hierarchy_file trace_file by_name other → text ≡ other

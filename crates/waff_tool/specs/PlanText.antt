@@ -1,0 +1,56 @@
+-- What `plan` prints for the bytes of its files.
+use Rattle.std.specs.Prelude.{◌≡◌, ℕ, List, Option, Some, None}
+use Rattle.waff_model.specs.Layout.{Hierarchy}
+use Rattle.waff_model.specs.Messages.{Arrivals}
+use Rattle.waff_assign.specs.Order.{IsOrdered}
+use Rattle.waff_plan.specs.Timetable.{timings_of}
+use Rattle.waff_plan.specs.Timing.{work_of, start_of}
+use Rattle.waff_plan.specs.Work.{Work, IsNumber}
+use Rattle.waff_list.specs.Seating.{worker_of}
+use Rattle.waff_list.specs.Seats.{IsSeated}
+use Rattle.waff_plan_text.specs.Lines.{text_of}
+use Rattle.waff_inputs.specs.Inputs.{Accepts}
+use Rattle.waff_tool.specs.Certificates.{IsBounded, IsCertified}
+use Rattle.waff_plan_text.specs.Spelling.{unlimited_lines, worker_lines}
+
+-- the work that the messages of a trace are
+abbrev pub work_in : Arrivals → Work
+work_in trace = work_of (timings_of trace.messages)
+
+-- the text of the least plan of a hierarchy and a trace, with the chain that shows that no obeying
+-- plan is shorter
+pub record IsPlanText (hierarchy_file trace_file text : List ℕ) : Type 0 where
+  pub layout : Hierarchy
+  pub trace : Arrivals
+  pub assigned : List ℕ
+  pub starts : List ℕ
+  pub chain : List ℕ
+  pub accepts : Accepts hierarchy_file trace_file layout trace assigned
+  pub certified : IsCertified (IsOrdered layout.tree assigned)
+      (work_in trace) (start_of starts) chain
+  pub lines : text ≡ text_of
+      (unlimited_lines trace.version layout.tree assigned (work_in trace) (start_of starts) chain)
+
+-- the text of the list plan of a hierarchy and a trace for k workers, with the chain that bounds
+-- its length
+pub record IsWorkerPlanText (hierarchy_file trace_file : List ℕ)
+    (k : ℕ) (text : List ℕ) : Type 0 where
+  pub layout : Hierarchy
+  pub trace : Arrivals
+  pub assigned : List ℕ
+  pub starts : List ℕ
+  pub workers : List ℕ
+  pub chain : List ℕ
+  pub accepts : Accepts hierarchy_file trace_file layout trace assigned
+  pub bounded : IsBounded (IsOrdered layout.tree assigned) (work_in trace) k (start_of starts) chain
+  pub seated : (m : ℕ) → IsNumber (work_in trace) m
+      → IsSeated (work_in trace) (start_of starts) (worker_of workers) m
+  pub lines : text ≡ text_of
+      (worker_lines trace.version layout.tree assigned
+      (work_in trace) k (start_of starts) workers chain)
+
+-- the text of the plan for this number of workers, or of the least plan where there is no number
+abbrev pub IsPlanTextFor : List ℕ → List ℕ → Option ℕ → List ℕ → Type 0
+IsPlanTextFor hierarchy_file trace_file None text = IsPlanText hierarchy_file trace_file text
+IsPlanTextFor hierarchy_file trace_file (Some k) text =
+    IsWorkerPlanText hierarchy_file trace_file k text

@@ -1,0 +1,101 @@
+//! The check of a plan text.
+ghost use Rattle.std.specs.Prelude.{◌≡◌, ◌≢◌, ◌<◌, ℕ, All, List, IfOk, IfErr, IsErrOf, length};
+ghost use Rattle.std.specs.Prelude.{string_bytes};
+ghost use Rattle.std.specs.Io.KnownBytes.{Appends, Keeps};
+ghost use Rattle.waff_inputs.specs.Deliveries.{Delivers, Makes};
+ghost use Rattle.waff_inputs.specs.Inputs.{Accepts};
+ghost use Rattle.waff_tool.specs.CheckText.{IsCheckText, RefusesCheck, status_after, verdict_text};
+ghost use Rattle.waff_io.specs.Writing.{AppendsPart};
+
+use crate::verdict_line::VerdictFields;
+use std::alloc::{AllocError, Global};
+use std::io::Write;
+use std::thread::Threads;
+use waff_check::{Verdict, check, read_plan};
+use waff_inputs::{Accepted, ToolError, accept, write_text};
+
+/// Writes the verdict on the plan that the text gives for the trace under the hierarchy, and
+/// answers it. The pairs of messages are tested in threads. Nothing is written before the whole
+/// line is made.
+pub fn check_text<R: Threads + Sync, W: Write>(
+    rt: &R,
+    alloc: Global,
+    hierarchy: &[u8],
+    trace: &[u8],
+    plan: &[u8],
+    writer: &mut W,
+) -> Result<Verdict, ToolError>
+    ensures { Delivers (λ verdict text.
+        IsCheckText hierarchy.now trace.now plan.now verdict × (text ≡ verdict_text verdict))
+        (RefusesCheck hierarchy.now trace.now plan.now)
+        (W.contents writer.old) (W.contents writer.new) result }
+{
+    let verdict = made_verdict(rt, alloc, hierarchy, trace, plan)?;
+    let line = made_line(alloc, verdict)?;
+    write_text(writer, line.as_bytes())?;
+    Ok(verdict)
+}
+
+/// The verdict on the plan of the text. The hierarchy is read first, then the trace.
+pub fn made_verdict<R: Threads + Sync>(
+    rt: &R,
+    alloc: Global,
+    hierarchy: &[u8],
+    trace: &[u8],
+    plan: &[u8],
+) -> Result<Verdict, ToolError>
+    ensures { Makes (IsCheckText hierarchy.now trace.now plan.now)
+        (RefusesCheck hierarchy.now trace.now plan.now) result }
+{
+    let accepted = accept(alloc, hierarchy, trace)?;
+    let verdict = verdict_on(rt, alloc, &accepted, plan);
+    drop(accepted);
+    verdict
+}
+
+/// The verdict on the plan of the text for what was read.
+fn verdict_on<R: Threads + Sync>(
+    rt: &R,
+    alloc: Global,
+    accepted: &Accepted,
+    plan: &[u8],
+) -> Result<Verdict, ToolError>
+    ensures made { IfOk result (λ verdict. (hierarchy trace : List ℕ)
+        → Accepts hierarchy trace accepted.now.layout accepted.now.trace accepted.now.assigned
+        → IsCheckText hierarchy trace plan.now verdict) }
+    ensures refused { IfErr result (λ e. (hierarchy trace : List ℕ)
+        → Accepts hierarchy trace accepted.now.layout accepted.now.trace accepted.now.assigned
+        → RefusesCheck hierarchy trace plan.now e) }
+    ensures nothing { IfErr result (λ e. e ≢ ToolError.Write) }
+{
+    let trace = &accepted.trace;
+    let given = read_plan(alloc, trace.version(), trace.len(), plan)?;
+    let tree = accepted.layout.tree();
+    let verdict = check(rt, alloc, tree, &accepted.assigned, trace, &given)?;
+    drop(given);
+    Ok(verdict)
+}
+
+/// The line of a verdict.
+pub fn made_line(alloc: Global, verdict: Verdict) -> Result<String, AllocError>
+    ensures { IfOk result (λ text. string_bytes text ≡ verdict_text verdict) }
+{
+    format!(in alloc; "{}\n", VerdictFields(verdict))
+}
+
+/// The exit status of the program after a verdict.
+pub fn verdict_status(verdict: &Verdict) -> u8
+    ensures { result ≡ status_after verdict.now }
+{
+    match verdict {
+        Verdict::Obeys | Verdict::Shortest | Verdict::WithinBound => 0,
+        Verdict::Overlap { .. }
+        | Verdict::TooManyAt { .. }
+        | Verdict::Worker { .. }
+        | Verdict::Affinity { .. }
+        | Verdict::Finish { .. }
+        | Verdict::Totals
+        | Verdict::NotAChain { .. }
+        | Verdict::Early { .. } => 1,
+    }
+}

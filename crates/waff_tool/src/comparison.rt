@@ -1,0 +1,166 @@
+//! The command that compares two hierarchies on one trace.
+ghost use Rattle.std.specs.Prelude.{◌≡◌, ◌≢◌, ◌≤◌, Ok, ℕ, List, IfOk, IfErr, IsErrOf, OnOk};
+ghost use Rattle.std.specs.Prelude.{string_bytes};
+ghost use Rattle.std.specs.Io.KnownBytes.{Appends, Keeps};
+ghost use Rattle.waff_model.specs.Layout.{SameSpaces};
+ghost use Rattle.waff_model.specs.Messages.{sizes_of};
+ghost use Rattle.waff_read.specs.Hierarchies.{hierarchy_of};
+ghost use Rattle.waff_tool.specs.Comparison.{AreHierarchies, AreModels, IsCompared, IsCompareText};
+ghost use Rattle.waff_tool.specs.Comparison.{RefusesComparison};
+ghost use Rattle.waff_inputs.specs.Deliveries.{Delivers, Makes};
+ghost use Rattle.waff_io.specs.Writing.{AppendsPart};
+
+use crate::measures::{comparison_text, measure};
+use std::alloc::{AllocError, Global};
+use std::io::Write;
+use waff_assign::assign;
+use waff_inputs::{ToolError, deliver, read_numbered};
+use waff_model::limits::MAX_WORKERS;
+use waff_model::{Kind, Layout, Trace};
+use waff_order::refines;
+use waff_plan::laws::refined_is_no_longer;
+use waff_read::read_trace;
+
+/// Writes what the trace comes to under the classical and the hierarchical one of two hierarchies,
+/// given in either order, for this number of workers, and whether the hierarchical one refines the
+/// classical one on the trace. Nothing is written before the whole text is made.
+pub fn compare_text<W: Write>(
+    alloc: Global,
+    first: &[u8],
+    second: &[u8],
+    trace: &[u8],
+    workers: u32,
+    writer: &mut W,
+) -> Result<(), ToolError>
+    requires some { 1 ≤ workers }
+    requires few { workers ≤ MAX_WORKERS }
+    ensures { Delivers (λ _ text. IsCompareText first.now second.now trace.now workers text)
+        (RefusesComparison first.now second.now trace.now) (W.contents writer.old) (W.contents writer.new) result }
+{
+    deliver(
+        writer,
+        made_compare_text(alloc, first, second, trace, workers),
+    )
+}
+
+fn made_compare_text(
+    alloc: Global,
+    first: &[u8],
+    second: &[u8],
+    trace: &[u8],
+    workers: u32,
+) -> Result<String, ToolError>
+    requires some { 1 ≤ workers }
+    requires few { workers ≤ MAX_WORKERS }
+    ensures { Makes (λ text. IsCompareText first.now second.now trace.now workers (string_bytes text))
+        (RefusesComparison first.now second.now trace.now) result }
+{
+    let first = read_numbered(alloc, 1, first)?;
+    let text = text_with_second(alloc, &first, second, trace, workers);
+    drop(first);
+    text
+}
+
+/// The text that compares a hierarchy that was read with the one of these bytes.
+fn text_with_second(
+    alloc: Global,
+    first: &Layout,
+    second: &[u8],
+    trace: &[u8],
+    k: u32,
+) -> Result<String, ToolError>
+    requires some { 1 ≤ k }
+    requires few { k ≤ MAX_WORKERS }
+    ensures made { IfOk result (λ text. (first_file : List ℕ)
+        → hierarchy_of first_file ≡ Ok first.now
+        → IsCompareText first_file second.now trace.now k (string_bytes text)) }
+    ensures refused { IfErr result (λ e. (first_file : List ℕ)
+        → hierarchy_of first_file ≡ Ok first.now
+        → RefusesComparison first_file second.now trace.now e) }
+    ensures nothing { IfErr result (λ e. e ≢ ToolError.Write) }
+{
+    let second = read_numbered(alloc, 2, second)?;
+    let text = either_text(alloc, first, &second, trace, k);
+    drop(second);
+    text
+}
+
+/// The text that compares two hierarchies, given in either order, which have to be of the same
+/// spaces and of different models.
+fn either_text(
+    alloc: Global,
+    first: &Layout,
+    second: &Layout,
+    trace: &[u8],
+    k: u32,
+) -> Result<String, ToolError>
+    requires some { 1 ≤ k }
+    requires few { k ≤ MAX_WORKERS }
+    ensures made { IfOk result (λ text. (first_file second_file : List ℕ)
+        → AreHierarchies first_file second_file first.now second.now
+        → IsCompareText first_file second_file trace.now k (string_bytes text)) }
+    ensures refused { IfErr result (λ e. (first_file second_file : List ℕ)
+        → AreHierarchies first_file second_file first.now second.now
+        → RefusesComparison first_file second_file trace.now e) }
+    ensures nothing { IfErr result (λ e. e ≢ ToolError.Write) }
+{
+    if !first.same_spaces(second) {
+        return Err(ToolError::SpacesDiffer);
+    }
+    match (first.kind(), second.kind()) {
+        (Kind::Classical, Kind::Hierarchical) => models_text(alloc, first, second, trace, k),
+        (Kind::Hierarchical, Kind::Classical) => models_text(alloc, second, first, trace, k),
+        _ => Err(ToolError::ModelsSame),
+    }
+}
+
+/// The text that compares a classical and a hierarchical hierarchy of the same spaces on the trace
+/// of these bytes.
+fn models_text(
+    alloc: Global,
+    classical: &Layout,
+    hierarchical: &Layout,
+    trace: &[u8],
+    k: u32,
+) -> Result<String, ToolError>
+    requires same_spaces { SameSpaces classical.now.spaces hierarchical.now.spaces }
+    requires some { 1 ≤ k }
+    requires few { k ≤ MAX_WORKERS }
+    ensures made { IfOk result (λ text. (first_file second_file : List ℕ)
+        → AreModels first_file second_file classical.now hierarchical.now
+        → IsCompareText first_file second_file trace.now k (string_bytes text)) }
+    ensures refused { IfErr result (λ e. (first_file second_file : List ℕ)
+        → AreModels first_file second_file classical.now hierarchical.now
+        → RefusesComparison first_file second_file trace.now e) }
+    ensures nothing { IfErr result (λ e. e ≢ ToolError.Write) }
+{
+    let trace = read_trace(alloc, classical, trace)?;
+    let text = compared_text(alloc, classical, hierarchical, &trace, k);
+    drop(trace);
+    text.map_err(ToolError::from)
+}
+
+/// The text that compares the models on the trace for k workers.
+fn compared_text(
+    alloc: Global,
+    classical: &Layout,
+    hierarchical: &Layout,
+    trace: &Trace,
+    k: u32,
+) -> Result<String, AllocError>
+    requires fits { trace.now.sizes ≡ sizes_of classical.now.spaces }
+    requires same_spaces { SameSpaces classical.now.spaces hierarchical.now.spaces }
+    requires some { 1 ≤ k }
+    requires few { k ≤ MAX_WORKERS }
+    ensures { IfOk result (λ text.
+        IsCompared classical.now hierarchical.now trace.now k (string_bytes text)) }
+{
+    let coarse = assign(alloc, classical, trace)?;
+    let fine = assign(alloc, hierarchical, trace)?;
+    let of_classical = measure(alloc, classical, &coarse, trace, k)?;
+    let of_hierarchical = measure(alloc, hierarchical, &fine, trace, k)?;
+    refined_is_no_longer();
+    let refined = refines(hierarchical.tree(), &fine, classical.tree(), &coarse);
+    let version = trace.version();
+    comparison_text(alloc, version, k, &of_classical, &of_hierarchical, refined)
+}

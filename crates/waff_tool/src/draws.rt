@@ -1,0 +1,107 @@
+//! The picture of a plan.
+ghost use Rattle.std.specs.Prelude.{◌≡◌, ◌≢◌, ◌<◌, ℕ, All, List, IfOk, IfErr, IsErrOf, OnOk};
+ghost use Rattle.std.specs.Prelude.{length, string_bytes};
+ghost use Rattle.std.specs.Io.KnownBytes.{Appends, Keeps};
+ghost use Rattle.waff_inputs.specs.Deliveries.{Delivers, Makes};
+ghost use Rattle.waff_inputs.specs.Inputs.{Accepts};
+ghost use Rattle.waff_tool.specs.CheckText.{RefusesCheck};
+ghost use Rattle.waff_draw.specs.Scene.{scene_of};
+ghost use Rattle.waff_tool.specs.DrawText.{DrawTextIsOne, IsDrawText, picture_of};
+ghost use Rattle.waff_io.specs.Writing.{AppendsPart};
+
+use std::alloc::{AllocError, Global};
+use std::io::Write;
+use waff_assign::Assigned;
+use waff_check::{GivenPlan, read_plan};
+use waff_draw::{events_text, svg_text};
+use waff_inputs::{Accepted, ToolError, accept, deliver};
+use waff_model::{Trace, Tree};
+
+/// As what a plan is drawn: a document in SVG for a browser, or events for a viewer of traces.
+#[derive(Clone, Copy, Debug, PartialEq, Eq)]
+pub enum Picture {
+    Svg,
+    TraceEvents,
+}
+
+/// Writes the picture of the plan that the text gives for the trace under the hierarchy, whether or
+/// not the plan obeys. Nothing is written before the whole picture is made.
+pub fn draw_text<W: Write>(
+    alloc: Global,
+    hierarchy: &[u8],
+    trace: &[u8],
+    plan: &[u8],
+    picture: Picture,
+    writer: &mut W,
+) -> Result<(), ToolError>
+    ensures { Delivers (λ _ text. IsDrawText hierarchy.now trace.now plan.now picture text)
+        (RefusesCheck hierarchy.now trace.now plan.now) (W.contents writer.old) (W.contents writer.new) result }
+{
+    deliver(writer, made_picture(alloc, hierarchy, trace, plan, picture))
+}
+
+fn made_picture(
+    alloc: Global,
+    hierarchy: &[u8],
+    trace: &[u8],
+    plan: &[u8],
+    picture: Picture,
+) -> Result<String, ToolError>
+    ensures { Makes (λ text. IsDrawText hierarchy.now trace.now plan.now picture (string_bytes text))
+        (RefusesCheck hierarchy.now trace.now plan.now) result }
+{
+    let accepted = accept(alloc, hierarchy, trace)?;
+    let text = picture_on(alloc, &accepted, plan, picture);
+    drop(accepted);
+    text
+}
+
+/// The picture of the plan of the text for what was read.
+fn picture_on(
+    alloc: Global,
+    accepted: &Accepted,
+    plan: &[u8],
+    picture: Picture,
+) -> Result<String, ToolError>
+    ensures made { IfOk result (λ text. (hierarchy trace : List ℕ)
+        → Accepts hierarchy trace accepted.now.layout accepted.now.trace accepted.now.assigned
+        → IsDrawText hierarchy trace plan.now picture (string_bytes text)) }
+    ensures refused { IfErr result (λ e. (hierarchy trace : List ℕ)
+        → Accepts hierarchy trace accepted.now.layout accepted.now.trace accepted.now.assigned
+        → RefusesCheck hierarchy trace plan.now e) }
+    ensures nothing { IfErr result (λ e. e ≢ ToolError.Write) }
+{
+    let trace = &accepted.trace;
+    let given = read_plan(alloc, trace.version(), trace.len(), plan)?;
+    let tree = accepted.layout.tree();
+    let text = pictured(alloc, tree, &accepted.assigned, trace, &given, picture)?;
+    drop(given);
+    Ok(text)
+}
+
+/// The picture of a plan that is given.
+fn pictured(
+    alloc: Global,
+    tree: &Tree,
+    assigned: &Assigned,
+    trace: &Trace,
+    given: &GivenPlan,
+    picture: Picture,
+) -> Result<String, AllocError>
+    requires lengths { length assigned.now ≡ length trace.now.messages }
+    requires known { All (λ a. a < length tree.now) assigned.now }
+    requires rows { length given.now.rows ≡ length trace.now.messages }
+    ensures { IfOk result (λ text. string_bytes text
+        ≡ picture_of picture (scene_of tree.now assigned.now trace.now.messages given.now)) }
+{
+    match picture {
+        Picture::Svg => svg_text(alloc, tree, assigned, trace, given),
+        Picture::TraceEvents => events_text(alloc, tree, assigned, trace, given),
+    }
+}
+
+/// The picture of a plan text of a hierarchy and a trace is one.
+pub fn draw_text_is_one()
+    ensures equal { (hierarchy_file trace_file plan_file : List ℕ) (picture : Picture)
+        → DrawTextIsOne hierarchy_file trace_file plan_file picture }
+{}

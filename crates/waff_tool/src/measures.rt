@@ -1,0 +1,204 @@
+//! What is told of a trace under one hierarchy, and the text that tells it of two.
+ghost use Rattle.std.specs.Prelude.{◌≡◌, ◌<◌, ◌≤◌, [], ◌∷◌, ◌++◌, ℕ, All, IfOk, List, None, OnOk};
+ghost use Rattle.std.specs.Prelude.{Some, decimal, length, string_bytes};
+ghost use Rattle.waff_model.specs.declared.message.Version.TheVariants.{V1, V2};
+ghost use Rattle.waff_assign.specs.Order.{IsOrdered};
+ghost use Rattle.waff_plan.specs.Timetable.{timings_of};
+ghost use Rattle.waff_plan.specs.Timing.{start_of, work_of};
+ghost use Rattle.waff_plan.specs.Totals.{totals_of};
+ghost use Rattle.waff_plan_text.specs.Lines.{line_text, text_of};
+ghost use Rattle.waff_tool.specs.Certificates.{IsBounded, IsCertified};
+ghost use Rattle.waff_tool.specs.Comparison.{IsMeasured, compare_lines, kind_field, measured_line};
+ghost use Rattle.waff_tool.specs.Comparison.{measures_header, plan_fields};
+
+use std::alloc::{AllocError, Global};
+use waff_assign::Assigned;
+use waff_list::laws::needs_make_the_same_plans;
+use waff_list::{list_chain, list_plan};
+use waff_model::limits::MAX_WORKERS;
+use waff_model::{Kind, Layout, Trace, Version};
+use waff_order::predecessors::needs;
+use waff_plan::Totals;
+use waff_plan::printed::chain;
+use waff_plan::unlimited::plan;
+
+/// What is told of a trace under one hierarchy: of its unlimited plan and of its list plan.
+#[derive(Clone, Copy)]
+pub struct Measured {
+    pub kind: Kind,
+    pub unlimited: Totals,
+    pub listed: Totals,
+}
+
+/// What is told of the trace with these affinities, for k workers.
+pub fn measure(
+    alloc: Global,
+    layout: &Layout,
+    assigned: &Assigned,
+    trace: &Trace,
+    k: u32,
+) -> Result<Measured, AllocError>
+    requires lengths { length assigned.now ≡ length trace.now.messages }
+    requires known { All (λ a. a < length layout.now.tree) assigned.now }
+    requires some { 1 ≤ k }
+    requires few { k ≤ MAX_WORKERS }
+    ensures { IfOk result
+        (IsMeasured layout.now assigned.now (work_of (timings_of trace.now.messages)) k) }
+{
+    let unlimited = unlimited_totals(alloc, layout, assigned, trace)?;
+    let listed = list_totals(alloc, layout, assigned, trace, k)?;
+    Ok(Measured {
+        kind: layout.kind(),
+        unlimited,
+        listed,
+    })
+}
+
+/// What is told of the unlimited plan.
+fn unlimited_totals(
+    alloc: Global,
+    layout: &Layout,
+    assigned: &Assigned,
+    trace: &Trace,
+) -> Result<Totals, AllocError>
+    requires lengths { length assigned.now ≡ length trace.now.messages }
+    requires known { All (λ a. a < length layout.now.tree) assigned.now }
+    ensures { IfOk result (λ totals. (starts : List ℕ) × (chain : List ℕ)
+        × IsCertified (IsOrdered layout.now.tree assigned.now)
+        (work_of (timings_of trace.now.messages)) (start_of starts) chain
+        × (totals
+        ≡ totals_of None (work_of (timings_of trace.now.messages)) (start_of starts) chain)) }
+{
+    let tree = layout.tree();
+    let plan = plan(alloc, tree, assigned, trace)?;
+    let chain = chain(alloc, tree, assigned, &plan)?;
+    let totals = plan.totals(None, chain.messages());
+    drop(chain);
+    drop(plan);
+    Ok(totals)
+}
+
+/// What is told of the list plan for k workers.
+fn list_totals(
+    alloc: Global,
+    layout: &Layout,
+    assigned: &Assigned,
+    trace: &Trace,
+    k: u32,
+) -> Result<Totals, AllocError>
+    requires lengths { length assigned.now ≡ length trace.now.messages }
+    requires known { All (λ a. a < length layout.now.tree) assigned.now }
+    requires some { 1 ≤ k }
+    requires few { k ≤ MAX_WORKERS }
+    ensures { IfOk result (λ totals. (starts : List ℕ) × (chain : List ℕ)
+        × IsBounded (IsOrdered layout.now.tree assigned.now)
+        (work_of (timings_of trace.now.messages)) k (start_of starts) chain
+        × (totals ≡ totals_of (Some k) (work_of (timings_of trace.now.messages))
+        (start_of starts) chain)) }
+{
+    let tree = layout.tree();
+    let needs = needs(alloc, tree, assigned)?;
+    let made = list_plan(alloc, &needs, trace, k)?;
+    drop(needs);
+    let chain = list_chain(alloc, tree, assigned, &made)?;
+    let listed = made.plan();
+    needs_make_the_same_plans();
+    let totals = listed.totals(Some(k), chain.messages());
+    drop(chain);
+    drop(made);
+    Ok(totals)
+}
+
+/// The lines of a comparison for k workers.
+pub fn comparison_text(
+    alloc: Global,
+    version: Version,
+    k: u32,
+    classical: &Measured,
+    hierarchical: &Measured,
+    refined: bool,
+) -> Result<String, AllocError>
+    ensures { IfOk result (λ text. string_bytes text
+        ≡ text_of (compare_lines version k classical.now.unlimited.total
+        classical.now hierarchical.now refined)) }
+{
+    let total = classical.unlimited.total;
+    let answer = if refined { "yes" } else { "no" };
+    let mut text = String::new(alloc);
+    writeln!(text, "workers,{k}\ntotal,{total}")?;
+    push_header(&mut text, version)?;
+    push_measured(&mut text, version, classical)?;
+    push_measured(&mut text, version, hierarchical)?;
+    writeln!(text, "refines,{answer}")?;
+    Ok(text)
+}
+
+/// Appends the line that names what the lines of hierarchies tell.
+fn push_header(text: &mut String, version: Version) -> Result<(), AllocError>
+    ensures { OnOk result (string_bytes text.new ≡ string_bytes text.old
+        ++ line_text (measures_header version)) }
+{
+    text.push_str(match version {
+        Version::V1 => "model,length,chain,list,listchain,left,right\n",
+        Version::V2 => "model,length,release,chain,list,listrelease,listchain,left,right\n",
+    })
+}
+
+/// Appends the line of one hierarchy.
+fn push_measured(text: &mut String, version: Version, measured: &Measured) -> Result<(), AllocError>
+    ensures { OnOk result (string_bytes text.new ≡ string_bytes text.old
+        ++ line_text (measured_line version measured.now)) }
+{
+    let kind = kind_name(measured.kind);
+    match version {
+        Version::V1 => push_first(text, kind, &measured.unlimited, &measured.listed),
+        Version::V2 => push_second(text, kind, &measured.unlimited, &measured.listed),
+    }
+}
+
+/// Appends the line of one hierarchy for a trace of the first version.
+fn push_first(text: &mut String, kind: &str, plan: &Totals, list: &Totals) -> Result<(), AllocError>
+    ensures { OnOk result (string_bytes text.new ≡ string_bytes text.old
+        ++ line_text (kind.now ∷ plan_fields V1 plan.now ++ plan_fields V1 list.now
+        ++ decimal list.now.left ∷ decimal list.now.right ∷ [])) }
+{
+    writeln!(
+        text,
+        "{kind},{},{},{},{},{},{}",
+        plan.length, plan.cost, list.length, list.cost, list.left, list.right
+    )
+}
+
+/// Appends the line of one hierarchy for a trace of the second version.
+fn push_second(
+    text: &mut String,
+    kind: &str,
+    plan: &Totals,
+    list: &Totals,
+) -> Result<(), AllocError>
+    ensures { OnOk result (string_bytes text.new ≡ string_bytes text.old
+        ++ line_text (kind.now ∷ plan_fields V2 plan.now ++ plan_fields V2 list.now
+        ++ decimal list.now.left ∷ decimal list.now.right ∷ [])) }
+{
+    writeln!(
+        text,
+        "{kind},{},{},{},{},{},{},{},{}",
+        plan.length,
+        plan.release,
+        plan.cost,
+        list.length,
+        list.release,
+        list.cost,
+        list.left,
+        list.right
+    )
+}
+
+fn kind_name(kind: Kind) -> &'static str
+    ensures { result.now ≡ kind_field kind }
+{
+    match kind {
+        Kind::Classical => "classical",
+        Kind::Hierarchical => "hierarchical",
+    }
+}

@@ -1,0 +1,124 @@
+//! The command `plan`: for a number of workers, or with no limit on them.
+ghost use Rattle.std.specs.Prelude.{◌≡◌, ◌≢◌, ◌<◌, ◌≤◌, ℕ, All, List, IfOk, IfErr, IsErrOf, IfSome};
+ghost use Rattle.std.specs.Prelude.{OnOk, length, string_bytes};
+ghost use Rattle.std.specs.Io.KnownBytes.{Appends, Keeps};
+ghost use Rattle.waff_io.specs.Writing.{AppendsPart};
+ghost use Rattle.waff_inputs.specs.Deliveries.{Delivers, Makes};
+ghost use Rattle.waff_inputs.specs.Inputs.{Accepts, Refuses};
+ghost use Rattle.waff_tool.specs.PlanText.{IsPlanText, IsPlanTextFor, IsWorkerPlanText};
+
+use std::alloc::{AllocError, Global};
+use std::io::Write;
+use waff_inputs::{Accepted, ToolError, accept, deliver};
+use waff_list::laws::needs_make_the_same_plans;
+use waff_list::{list_chain, list_plan};
+use waff_model::limits::MAX_WORKERS;
+use waff_order::predecessors::needs;
+use waff_plan::printed::chain;
+use waff_plan::unlimited::plan;
+use waff_plan_text::{unlimited_text, worker_text};
+
+/// Writes the plan of the trace under the hierarchy for this number of workers, or with no limit on
+/// them where there is no number. Nothing is written before the whole text is made.
+pub fn plan_text<W: Write>(
+    alloc: Global,
+    hierarchy: &[u8],
+    trace: &[u8],
+    workers: Option<u32>,
+    writer: &mut W,
+) -> Result<(), ToolError>
+    requires some { IfSome workers (λ k. 1 ≤ k) }
+    requires few { IfSome workers (λ k. k ≤ MAX_WORKERS) }
+    ensures { Delivers (λ _ text. IsPlanTextFor hierarchy.now trace.now workers text)
+        (Refuses hierarchy.now trace.now) (W.contents writer.old) (W.contents writer.new) result }
+{
+    deliver(writer, made_plan_text(alloc, hierarchy, trace, workers))
+}
+
+fn made_plan_text(
+    alloc: Global,
+    hierarchy: &[u8],
+    trace: &[u8],
+    workers: Option<u32>,
+) -> Result<String, ToolError>
+    requires some { IfSome workers (λ k. 1 ≤ k) }
+    requires few { IfSome workers (λ k. k ≤ MAX_WORKERS) }
+    ensures { Makes (λ text. IsPlanTextFor hierarchy.now trace.now workers (string_bytes text))
+        (Refuses hierarchy.now trace.now) result }
+{
+    let accepted = accept(alloc, hierarchy, trace)?;
+    let text = planned_text(alloc, &accepted, workers).map_err(ToolError::from);
+    drop(accepted);
+    text
+}
+
+/// The text of the plan of what was read.
+fn planned_text(
+    alloc: Global,
+    accepted: &Accepted,
+    workers: Option<u32>,
+) -> Result<String, AllocError>
+    requires some { IfSome workers (λ k. 1 ≤ k) }
+    requires few { IfSome workers (λ k. k ≤ MAX_WORKERS) }
+    ensures { IfOk result (λ text. (hierarchy trace : List ℕ)
+        → Accepts hierarchy trace accepted.now.layout accepted.now.trace accepted.now.assigned
+        → IsPlanTextFor hierarchy trace workers (string_bytes text)) }
+{
+    match workers {
+        None => made_unlimited_text(alloc, accepted),
+        Some(k) => made_worker_text(alloc, accepted, k),
+    }
+}
+
+/// The text of the unlimited plan.
+fn made_unlimited_text(alloc: Global, accepted: &Accepted) -> Result<String, AllocError>
+    ensures { IfOk result (λ text. (hierarchy trace : List ℕ)
+        → Accepts hierarchy trace accepted.now.layout accepted.now.trace accepted.now.assigned
+        → IsPlanText hierarchy trace (string_bytes text)) }
+{
+    let tree = accepted.layout.tree();
+    let plan = plan(alloc, tree, &accepted.assigned, &accepted.trace)?;
+    let chain = chain(alloc, tree, &accepted.assigned, &plan)?;
+    let version = accepted.trace.version();
+    let text = unlimited_text(
+        alloc,
+        version,
+        tree,
+        &accepted.assigned,
+        &plan,
+        chain.messages(),
+    );
+    drop(chain);
+    drop(plan);
+    text
+}
+
+/// The text of the list plan for k workers.
+fn made_worker_text(alloc: Global, accepted: &Accepted, k: u32) -> Result<String, AllocError>
+    requires some { 1 ≤ k }
+    requires few { k ≤ MAX_WORKERS }
+    ensures { IfOk result (λ text. (hierarchy trace : List ℕ)
+        → Accepts hierarchy trace accepted.now.layout accepted.now.trace accepted.now.assigned
+        → IsWorkerPlanText hierarchy trace k (string_bytes text)) }
+{
+    let tree = accepted.layout.tree();
+    let needs = needs(alloc, tree, &accepted.assigned)?;
+    let made = list_plan(alloc, &needs, &accepted.trace, k)?;
+    drop(needs);
+    let chain = list_chain(alloc, tree, &accepted.assigned, &made)?;
+    let version = accepted.trace.version();
+    needs_make_the_same_plans();
+    let text = worker_text(
+        alloc,
+        version,
+        tree,
+        &accepted.assigned,
+        made.plan(),
+        k,
+        made.seats(),
+        chain.messages(),
+    );
+    drop(chain);
+    drop(made);
+    text
+}

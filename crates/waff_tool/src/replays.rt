@@ -1,0 +1,178 @@
+//! The replay of a trace.
+
+ghost use Rattle.std.specs.Prelude.{◌≡◌, ◌≢◌, ◌<◌, ◌≤◌, ℕ, All, List, IfErr, IfOk, IsErrOf, OnOk};
+ghost use Rattle.std.specs.Prelude.{length, string_bytes};
+ghost use Rattle.std.specs.Io.KnownBytes.{Appends, Keeps};
+ghost use Rattle.waff_model.specs.Messages.{IsTrace, sizes_of};
+ghost use Rattle.waff_assign.specs.Lowest.{IsAssignment};
+ghost use Rattle.waff_cells.specs.Serial.{operations};
+ghost use Rattle.waff_core.specs.Job.{IsOrder};
+ghost use Rattle.waff_io.specs.Writing.{AppendsPart};
+ghost use Rattle.waff_order.specs.Needs.{AreNeeds};
+ghost use Rattle.waff_plan_text.specs.Lines.{text_of};
+ghost use Rattle.waff_inputs.specs.Deliveries.{Delivers, Makes};
+ghost use Rattle.waff_inputs.specs.Inputs.{Refuses};
+ghost use Rattle.waff_tool.specs.ListOrder.{IsListOrder};
+ghost use Rattle.waff_tool.specs.PrintedSpaces.{AreAllPrinted};
+ghost use Rattle.waff_tool.specs.ReplayText.{IsReplayText, state_after, state_lines};
+
+use crate::state_text::{PrintedSpace, printed_spaces, state_text};
+use std::alloc::{AllocError, Global};
+use std::io::Write;
+use std::sync::Wait;
+use std::thread::Threads;
+use waff_core::limits::MAX_SEATS;
+use waff_core::{Job, JobError};
+use waff_inputs::{Accepted, ToolError, accept, deliver};
+use waff_list::laws::needs_make_the_same_plans;
+use waff_list::{WorkerPlan, list_plan};
+use waff_model::limits::MAX_SPACES;
+use waff_order::Needs;
+use waff_order::predecessors::needs;
+use waff_replay::{Open, replay};
+
+/// Writes the state that the messages of the trace leave under the hierarchy. They are replayed by
+/// this many workers, each in a thread of its own, in the order of the list plan for as many;
+/// releases are not waited for. Nothing is written before the whole text is made.
+pub fn replay_text<R: Threads + Wait + Sync, W: Write>(
+    rt: &R,
+    alloc: Global,
+    hierarchy: &[u8],
+    trace: &[u8],
+    workers: u32,
+    writer: &mut W,
+) -> Result<(), ToolError>
+    requires some { 1 ≤ workers }
+    requires few { workers ≤ MAX_SEATS }
+    ensures { Delivers (λ _ text. IsReplayText hierarchy.now trace.now text)
+        (Refuses hierarchy.now trace.now) (W.contents writer.old) (W.contents writer.new) result }
+{
+    deliver(
+        writer,
+        made_replay_text(rt, alloc, hierarchy, trace, workers),
+    )
+}
+
+fn made_replay_text<R: Threads + Wait + Sync>(
+    rt: &R,
+    alloc: Global,
+    hierarchy: &[u8],
+    trace: &[u8],
+    workers: u32,
+) -> Result<String, ToolError>
+    requires some { 1 ≤ workers }
+    requires few { workers ≤ MAX_SEATS }
+    ensures { Makes (λ text. IsReplayText hierarchy.now trace.now (string_bytes text))
+        (Refuses hierarchy.now trace.now) result }
+{
+    let accepted = accept(alloc, hierarchy, trace)?;
+    match printed_spaces(alloc, &accepted.layout) {
+        Ok(printed) => {
+            let text = replayed_text(rt, alloc, accepted, &printed, workers);
+            drop(printed);
+            text.map_err(ToolError::from)
+        }
+        Err(error) => {
+            drop(accepted);
+            Err(ToolError::from(error))
+        }
+    }
+}
+
+/// The text of the state that a replay leaves, over the spaces of the layout as they are printed.
+fn replayed_text<R: Threads + Wait + Sync>(
+    rt: &R,
+    alloc: Global,
+    accepted: Accepted,
+    printed: &[PrintedSpace],
+    workers: u32,
+) -> Result<String, AllocError>
+    requires trace { IsTrace accepted.trace }
+    requires assignment { IsAssignment accepted.layout accepted.trace.messages accepted.assigned }
+    requires printed { AreAllPrinted accepted.layout.spaces printed.now }
+    requires few_printed { length printed.now ≤ MAX_SPACES }
+    requires some { 1 ≤ workers }
+    requires few { workers ≤ MAX_SEATS }
+    ensures { IfOk result (λ text. string_bytes text
+        ≡ text_of (state_lines accepted.layout.spaces (state_after accepted.trace))) }
+{
+    let job = job_in_list_order(alloc, accepted, workers)?;
+    let state = replay(rt, alloc, job, workers, &Open)?;
+    let text = state_text(alloc, printed, &state);
+    drop(state);
+    text
+}
+
+/// The job of what was accepted, in the order of the list plan for k workers.
+fn job_in_list_order(alloc: Global, accepted: Accepted, k: u32) -> Result<Job, AllocError>
+    requires trace { IsTrace accepted.trace }
+    requires assignment { IsAssignment accepted.layout accepted.trace.messages accepted.assigned }
+    requires some { 1 ≤ k }
+    requires few { k ≤ MAX_SEATS }
+    ensures layout { IfOk result (λ job. job.layout ≡ accepted.layout) }
+    ensures ops { IfOk result (λ job. job.ops ≡ operations accepted.trace.messages) }
+    ensures order { IfOk result (λ job.
+        IsListOrder accepted.layout.tree accepted.assigned accepted.trace k job.order) }
+{
+    match needs_and_plan(alloc, &accepted, k) {
+        Ok((needs, plan)) => {
+            let job = job_in_order(alloc, accepted, needs, plan.order());
+            drop(plan);
+            job
+        }
+        Err(error) => {
+            drop(accepted);
+            Err(error)
+        }
+    }
+}
+
+/// The job of what was accepted, in this order.
+fn job_in_order(
+    alloc: Global,
+    accepted: Accepted,
+    needs: Needs,
+    order: &[u32],
+) -> Result<Job, AllocError>
+    requires trace { IsTrace accepted.trace }
+    requires assignment { IsAssignment accepted.layout accepted.trace.messages accepted.assigned }
+    requires needs { AreNeeds accepted.layout.tree accepted.assigned needs }
+    requires order { IsOrder needs order.now }
+    ensures layout { IfOk result (λ job. job.layout ≡ accepted.layout) }
+    ensures ops { IfOk result (λ job. job.ops ≡ operations accepted.trace.messages) }
+    ensures order { IfOk result (λ job. job.order ≡ order.now) }
+{
+    let Accepted {
+        layout,
+        trace,
+        assigned,
+    } = accepted;
+    match Job::new(alloc, layout, trace, assigned, needs, order) {
+        Ok(job) => Ok(job),
+        Err(JobError::Memory) => Err(AllocError),
+        Err(JobError::Order) => unreachable!(),
+    }
+}
+
+/// The needs of the messages of what was accepted, and their list plan for k workers.
+fn needs_and_plan(
+    alloc: Global,
+    accepted: &Accepted,
+    k: u32,
+) -> Result<(Needs, WorkerPlan), AllocError>
+    requires trace { IsTrace accepted.now.trace }
+    requires assignment { IsAssignment accepted.now.layout
+        accepted.now.trace.messages accepted.now.assigned }
+    requires some { 1 ≤ k }
+    requires few { k ≤ MAX_SEATS }
+    ensures needs { IfOk result (λ made.
+        AreNeeds accepted.now.layout.tree accepted.now.assigned made.0) }
+    ensures order { IfOk result (λ made. IsOrder made.0 made.1.order) }
+    ensures list { IfOk result (λ made. IsListOrder accepted.now.layout.tree
+        accepted.now.assigned accepted.now.trace k made.1.order) }
+{
+    let needs = needs(alloc, accepted.layout.tree(), &accepted.assigned)?;
+    let plan = list_plan(alloc, &needs, &accepted.trace, k)?;
+    needs_make_the_same_plans();
+    Ok((needs, plan))
+}

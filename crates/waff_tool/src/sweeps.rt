@@ -1,0 +1,60 @@
+//! The sweep over numbers of workers.
+ghost use Rattle.std.specs.Prelude.{◌≡◌, ◌≢◌, ◌<◌, ℕ, All, List, IfOk, IfErr, IsErrOf, OnOk};
+ghost use Rattle.std.specs.Prelude.{length, string_bytes};
+ghost use Rattle.std.specs.Io.KnownBytes.{Appends, Keeps};
+ghost use Rattle.waff_inputs.specs.Deliveries.{Delivers, Makes};
+ghost use Rattle.waff_inputs.specs.Inputs.{Accepts, Refuses};
+ghost use Rattle.waff_tool.specs.Figures.{IsSweepText, SweepTextIsOne};
+ghost use Rattle.waff_io.specs.Writing.{AppendsPart};
+
+use std::alloc::{AllocError, Global};
+use std::io::Write;
+use waff_figures::{figures_text, list_figures};
+use waff_inputs::{Accepted, ToolError, accept, deliver};
+use waff_plan::unlimited::plan;
+
+/// Writes how long the trace takes under the hierarchy for 1 to 64 workers and with no limit on
+/// them, how busy the workers are, and how long the messages wait. Nothing is written before the
+/// whole text is made.
+pub fn sweep_text<W: Write>(
+    alloc: Global,
+    hierarchy: &[u8],
+    trace: &[u8],
+    writer: &mut W,
+) -> Result<(), ToolError>
+    ensures { Delivers (λ _ text. IsSweepText hierarchy.now trace.now text)
+        (Refuses hierarchy.now trace.now) (W.contents writer.old) (W.contents writer.new) result }
+{
+    deliver(writer, made_sweep_text(alloc, hierarchy, trace))
+}
+
+fn made_sweep_text(alloc: Global, hierarchy: &[u8], trace: &[u8]) -> Result<String, ToolError>
+    ensures { Makes (λ text. IsSweepText hierarchy.now trace.now (string_bytes text))
+        (Refuses hierarchy.now trace.now) result }
+{
+    let accepted = accept(alloc, hierarchy, trace)?;
+    let text = swept_text(alloc, &accepted).map_err(ToolError::from);
+    drop(accepted);
+    text
+}
+
+/// The text of a sweep of what was read.
+fn swept_text(alloc: Global, accepted: &Accepted) -> Result<String, AllocError>
+    ensures { IfOk result (λ text. (hierarchy trace : List ℕ)
+        → Accepts hierarchy trace accepted.now.layout accepted.now.trace accepted.now.assigned
+        → IsSweepText hierarchy trace (string_bytes text)) }
+{
+    let tree = accepted.layout.tree();
+    let plan = plan(alloc, tree, &accepted.assigned, &accepted.trace)?;
+    let listed = list_figures(alloc, tree, &accepted.assigned, &accepted.trace, &plan)?;
+    let text = figures_text(alloc, listed.as_slice(), &plan);
+    drop(listed);
+    drop(plan);
+    text
+}
+
+/// The text of a sweep of a hierarchy and a trace is one.
+pub fn sweep_text_is_one()
+    ensures equal { (hierarchy_file trace_file : List ℕ)
+        → SweepTextIsOne hierarchy_file trace_file }
+{}

@@ -1,4 +1,0 @@
-mod OrderLemmas
-pub mod Refusals
-mod StateLines
-pub mod Uniqueness

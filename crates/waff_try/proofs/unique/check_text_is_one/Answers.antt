@@ -1,5 +1,0 @@
-use Rattle.waff_try.proofs.Uniqueness.{check_text_is_one}
-use Rattle.waff_try.proofs.unique.check_text_is_one.Goals as goal
-
-pub returns : goal.returns
-returns c = record { equal = check_text_is_one }

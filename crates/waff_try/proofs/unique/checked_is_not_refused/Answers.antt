@@ -1,5 +1,0 @@
-use Rattle.waff_try.proofs.Refusals.{checked_is_not_refused}
-use Rattle.waff_try.proofs.unique.checked_is_not_refused.Goals as goal
-
-pub returns : goal.returns
-returns c = record { none = checked_is_not_refused }

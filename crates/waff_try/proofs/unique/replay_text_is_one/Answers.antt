@@ -1,5 +1,0 @@
-use Rattle.waff_try.proofs.Uniqueness.{replay_text_is_one}
-use Rattle.waff_try.proofs.unique.replay_text_is_one.Goals as goal
-
-pub returns : goal.returns
-returns c = record { equal = replay_text_is_one }

@@ -1,5 +1,0 @@
-pub mod CheckText
-pub mod DrawText
-pub mod PrintedSpaces
-pub mod ReplayText
-pub mod Unique
