@@ -94,14 +94,7 @@ const REFUSED: &[(&[Event], CoreError)] = &[
         &[Event::Draw(1), Event::Draw(1)],
         CoreError::Busy { place: 2 },
     ),
-    (&[Event::Draw(0)], CoreError::Nothing { place: 1 }),
-    (&[Event::Draw(3)], CoreError::Nothing { place: 1 }),
     (&[Event::Begin(1)], CoreError::Nothing { place: 1 }),
-    (&[Event::End(3)], CoreError::Nothing { place: 1 }),
-    (
-        &[Event::Draw(1), Event::End(1)],
-        CoreError::Nothing { place: 2 },
-    ),
     (
         &[
             Event::Draw(1),
@@ -123,20 +116,10 @@ const REFUSED: &[(&[Event], CoreError)] = &[
 ];
 
 /// The same of an order that is used up by the first draw, for one actor.
-const USED_UP: &[(&[Event], CoreError)] = &[
-    (
-        &[Event::Draw(1), Event::Draw(1)],
-        CoreError::Nothing { place: 2 },
-    ),
-    (
-        &[Event::Draw(1), Event::Begin(1)],
-        CoreError::Nothing { place: 2 },
-    ),
-    (
-        &[Event::Draw(1), Event::End(1)],
-        CoreError::Nothing { place: 2 },
-    ),
-];
+const USED_UP: &[(&[Event], CoreError)] = &[(
+    &[Event::Draw(1), Event::Draw(1)],
+    CoreError::Nothing { place: 2 },
+)];
 
 /// The same of actors that are none of two.
 const NO_ACTORS: &[(&[Event], CoreError)] = &[

@@ -15,66 +15,125 @@ use waff_read::read_hierarchy;
 use waff_replay::{Gate, Open, replay};
 use waff_samples::{H1, X1, X2};
 
-/// A replay of this trace of so many messages has to leave these cells that are not 0, each with
-/// its number.
+/// A trace under a hierarchy, how many messages it has, and the cells that are not 0 after it, each
+/// with its number.
+#[derive(Drop)]
+struct Case<'a> {
+    hierarchy: &'a str,
+    trace: &'a str,
+    messages: u32,
+    wanted: &'a str,
+}
+
+/// A replay of the trace has to leave these cells.
 fn leaves<R: Threads + Wait + Abort + Sync, G: Gate>(
     rt: &R,
     alloc: Global,
-    trace: (&str, u32),
+    case: &Case<'_>,
     workers: u32,
     gate: &G,
-    wanted: &str,
 )
-    requires short { trace.1 < 1_000_000 }
+    requires short { case.now.messages < 1_000_000 }
     requires some { 1 ≤ workers }
     requires few { workers ≤ 16 }
 {
-    let (trace, messages) = trace;
-    let shown = read_hierarchy(alloc, H1.as_bytes()).expect(rt, "a hierarchy");
-    let order = count_to(alloc, messages).expect(rt, "an order");
-    let job = job(rt, alloc, H1, trace, &order).expect(rt, "a job");
+    let shown = read_hierarchy(alloc, case.hierarchy.as_bytes()).expect(rt, "a hierarchy");
+    let order = count_to(alloc, case.messages).expect(rt, "an order");
+    let job = job(rt, alloc, case.hierarchy, case.trace, &order).expect(rt, "a job");
     drop(order);
     assert!(rt; shown.same_spaces(job.layout()));
     let state = replay(rt, alloc, job, workers, gate).expect(rt, "a state");
-    is_left(rt, alloc, &shown, &state, wanted);
+    is_left(rt, alloc, &shown, &state, case.wanted);
     drop(state);
     drop(shown);
 }
 
+const FIRST: Case<'static> = Case {
+    hierarchy: H1,
+    trace: X1,
+    messages: 6,
+    wanted: "f:0 5, f:2 7, f:4 1, g:0 5, g:4 1",
+};
+
+const SECOND: Case<'static> = Case {
+    hierarchy: H1,
+    trace: X2,
+    messages: 5,
+    wanted: "f:0 5, f:2 7, g:0 5, g:4 1",
+};
+
 #[test]
 fn of_the_samples(rt: HostRuntime) {
-    let wanted = "f:0 5, f:2 7, f:4 1, g:0 5, g:4 1";
     for run in 0..1000u32 {
-        leaves(&rt, rt.alloc(), (X1, 6), 1 + run % 16, &Open, wanted);
+        leaves(&rt, rt.alloc(), &FIRST, 1 + run % 16, &Open);
     }
-    let wanted = "f:0 5, f:2 7, g:0 5, g:4 1";
-    leaves(&rt, rt.alloc(), (X2, 5), 2, &Open, wanted);
+    leaves(&rt, rt.alloc(), &SECOND, 2, &Open);
+}
+
+/// A gate that counts how often each of the messages 1 to 16 comes.
+#[derive(Drop)]
+struct Tally {
+    /// A hexadecimal digit for each message, that of the first the lowest.
+    came: AtomicU64,
+}
+
+impl Tally {
+    /// None has come yet.
+    fn new() -> Self {
+        Tally {
+            came: AtomicU64::new(0),
+        }
+    }
+}
+
+impl Gate for Tally {
+    fn before(&self, grant: &Grant<'_>) {
+        self.came
+            .fetch_add(digit(grant.message()), Ordering::SeqCst);
+    }
+}
+
+/// A one in the digit of the message.
+fn digit(message: u32) -> u64 {
+    match message {
+        1..=16 => 1 << (4 * (message - 1)),
+        _ => 0,
+    }
+}
+
+/// The tally in which each of so many messages, 16 or fewer, has come once.
+fn once_each(messages: u32) -> u64 {
+    (1..messages.min(16) + 1).fold(0, |sum, message| sum | digit(message))
+}
+
+#[test]
+fn each_message_passes_the_gate_once(rt: HostRuntime) {
+    for workers in [1, 2, 3, 16] {
+        let tally = Tally::new();
+        leaves(&rt, rt.alloc(), &FIRST, workers, &tally);
+        let came = tally.came.load(Ordering::SeqCst);
+        assert!(rt; came == once_each(6), "{workers} workers: {came:x}");
+    }
 }
 
 /// As many turns as a message waits for the others.
 const TURNS: u32 = 100_000_000;
 
-/// The sum of the notes of messages 1, 2 and 3.
-const ALL: u64 = 7;
-
-/// A gate at which messages 1, 2 and 3 wait for each other.
+/// A gate at which messages wait until all have come.
 #[derive(Drop)]
 struct Meeting {
-    came: AtomicU64,
+    tally: Tally,
+    /// The tally when all have come.
+    all: u64,
     missed: AtomicBool,
 }
 
 impl Gate for Meeting {
     fn before(&self, grant: &Grant<'_>) {
-        let note = match grant.message() {
-            1 => 1,
-            2 => 2,
-            3 => 4,
-            _ => 0,
-        };
-        self.came.fetch_add(note, Ordering::SeqCst);
+        self.tally.before(grant);
         for _ in 0..TURNS {
-            if self.came.load(Ordering::SeqCst) == ALL {
+            let came = self.tally.came.load(Ordering::SeqCst);
+            if came == self.all || self.missed.load(Ordering::SeqCst) {
                 return;
             }
             spin_loop();
@@ -83,22 +142,77 @@ impl Gate for Meeting {
     }
 }
 
-#[test]
-fn three_workers_hold_grants_at_once(rt: HostRuntime) {
-    let trace = "message,cost,ops\nm1,1,set f:0 1\nm2,1,set g:0 1\nm3,1,set f:2 1\n";
+/// Messages 1, 2 and 3 exclude nobody.
+const THREE: Case<'static> = Case {
+    hierarchy: H1,
+    trace: "message,cost,ops\nm1,1,set f:0 1\nm2,1,set g:0 1\nm3,1,set f:2 1\n",
+    messages: 3,
+    wanted: "f:0 1, f:2 1, g:0 1",
+};
+
+/// Sixteen messages that exclude nobody.
+const SIXTEEN: Case<'static> = Case {
+    hierarchy: WIDE,
+    trace: "message,cost,ops\n\
+        m,1,add f:0 1\nm,1,add f:1 2\nm,1,add f:2 3\nm,1,add f:3 4\n\
+        m,1,add f:4 5\nm,1,add f:5 6\nm,1,add f:6 7\nm,1,add f:7 8\n\
+        m,1,add f:8 9\nm,1,add f:9 10\nm,1,add f:10 11\nm,1,add f:11 12\n\
+        m,1,add f:12 13\nm,1,add f:13 14\nm,1,add f:14 15\nm,1,add f:15 16\n",
+    messages: 16,
+    wanted: "f:0 1, f:1 2, f:2 3, f:3 4, f:4 5, f:5 6, f:6 7, f:7 8, \
+        f:8 9, f:9 10, f:10 11, f:11 12, f:12 13, f:13 14, f:14 15, f:15 16",
+};
+
+/// Sixteen affinities below one root, and a space with a cell for each.
+const WIDE: &str = "model = \"hierarchical\"\n\
+[[space]]\nname = \"f\"\nsize = 16\n\
+[[affinity]]\nname = \"Serial\"\n\
+[[affinity]]\nname = \"W0\"\nparent = \"Serial\"\n\
+[[affinity]]\nname = \"W1\"\nparent = \"Serial\"\n\
+[[affinity]]\nname = \"W2\"\nparent = \"Serial\"\n\
+[[affinity]]\nname = \"W3\"\nparent = \"Serial\"\n\
+[[affinity]]\nname = \"W4\"\nparent = \"Serial\"\n\
+[[affinity]]\nname = \"W5\"\nparent = \"Serial\"\n\
+[[affinity]]\nname = \"W6\"\nparent = \"Serial\"\n\
+[[affinity]]\nname = \"W7\"\nparent = \"Serial\"\n\
+[[affinity]]\nname = \"W8\"\nparent = \"Serial\"\n\
+[[affinity]]\nname = \"W9\"\nparent = \"Serial\"\n\
+[[affinity]]\nname = \"W10\"\nparent = \"Serial\"\n\
+[[affinity]]\nname = \"W11\"\nparent = \"Serial\"\n\
+[[affinity]]\nname = \"W12\"\nparent = \"Serial\"\n\
+[[affinity]]\nname = \"W13\"\nparent = \"Serial\"\n\
+[[affinity]]\nname = \"W14\"\nparent = \"Serial\"\n\
+[[affinity]]\nname = \"W15\"\nparent = \"Serial\"\n\
+[[map]]\nspace = \"f\"\nunit = 1\n\
+to = [\"W0\", \"W1\", \"W2\", \"W3\", \"W4\", \"W5\", \"W6\", \"W7\", \
+\"W8\", \"W9\", \"W10\", \"W11\", \"W12\", \"W13\", \"W14\", \"W15\"]\n\
+";
+
+/// As many workers as messages hold a grant each until the last has come. A replay on fewer threads
+/// misses.
+fn all_meet<R: Threads + Wait + Abort + Sync>(rt: &R, alloc: Global, case: &Case<'_>)
+    requires some { 1 ≤ case.now.messages }
+    requires few { case.now.messages ≤ 16 }
+{
     let meeting = Meeting {
-        came: AtomicU64::new(0),
+        tally: Tally::new(),
+        all: once_each(case.messages),
         missed: AtomicBool::new(false),
     };
-    leaves(
-        &rt,
-        rt.alloc(),
-        (trace, 3),
-        3,
-        &meeting,
-        "f:0 1, f:2 1, g:0 1",
+    leaves(rt, alloc, case, case.messages, &meeting);
+    let came = meeting.tally.came.load(Ordering::SeqCst);
+    assert!(rt; came == meeting.all, "{} came: {came:x}", case.messages);
+    assert!(rt;
+        !meeting.missed.load(Ordering::SeqCst),
+        "{} missed",
+        case.messages
     );
-    assert!(rt; !meeting.missed.load(Ordering::SeqCst));
+}
+
+#[test]
+fn as_many_workers_as_messages_hold_grants_at_once(rt: HostRuntime) {
+    all_meet(&rt, rt.alloc(), &THREE);
+    all_meet(&rt, rt.alloc(), &SIXTEEN);
 }
 
 /// A trace of so many additions to one cell.
@@ -113,12 +227,11 @@ fn additions(alloc: Global, count: u32) -> Result<String, AllocError> {
 #[test]
 fn of_a_chain_of_messages(rt: HostRuntime) {
     let trace = additions(rt.alloc(), 65536).expect(&rt, "a trace");
-    leaves(
-        &rt,
-        rt.alloc(),
-        (trace.as_str(), 65536),
-        2,
-        &Open,
-        "f:0 65536",
-    );
+    let chain = Case {
+        hierarchy: H1,
+        trace: trace.as_str(),
+        messages: 65536,
+        wanted: "f:0 65536",
+    };
+    leaves(&rt, rt.alloc(), &chain, 2, &Open);
 }

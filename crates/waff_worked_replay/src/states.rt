@@ -64,21 +64,25 @@ fn leaves(rt: &impl Abort, alloc: Global, trace: &str, wanted: &str) {
     drop(layout);
 }
 
-#[test]
-fn of_the_samples(rt: HostRuntime) {
-    leaves(&rt, rt.alloc(), X1, "f:0 5, f:2 7, f:4 1, g:0 5, g:4 1");
-    leaves(&rt, rt.alloc(), X2, "f:0 5, f:2 7, g:0 5, g:4 1");
-    leaves(&rt, rt.alloc(), "message,cost,ops\n", "");
-}
+/// Traces, and the cells that are not 0 after them, each with its number: the samples, no message, an
+/// addition that wraps, and a cell with itself.
+const STATES: &[(&str, &str)] = &[
+    (X1, "f:0 5, f:2 7, f:4 1, g:0 5, g:4 1"),
+    (X2, "f:0 5, f:2 7, g:0 5, g:4 1"),
+    ("message,cost,ops\n", ""),
+    (
+        "message,cost,ops\nm1,1,set f:0 2;add f:0 18446744073709551615\n",
+        "f:0 1",
+    ),
+    (
+        "message,cost,ops\nm1,1,set m:1 5;swap m:1 m:1;copy m:1 m:1\n",
+        "m:1 5",
+    ),
+];
 
 #[test]
-fn of_an_addition_that_wraps(rt: HostRuntime) {
-    let trace = "message,cost,ops\nm1,1,set f:0 2;add f:0 18446744073709551615\n";
-    leaves(&rt, rt.alloc(), trace, "f:0 1");
-}
-
-#[test]
-fn of_a_cell_with_itself(rt: HostRuntime) {
-    let trace = "message,cost,ops\nm1,1,set m:1 5;swap m:1 m:1;copy m:1 m:1\n";
-    leaves(&rt, rt.alloc(), trace, "m:1 5");
+fn are_as_worked_by_hand(rt: HostRuntime) {
+    for (trace, wanted) in STATES {
+        leaves(&rt, rt.alloc(), trace, wanted);
+    }
 }
