@@ -2,7 +2,7 @@
 
 import re
 
-from .logs import Data, Lines, Meta, Refusal, read_text
+from .logs import Data, Lines, Meta, Refusal, read_lines
 from .model import Devices
 
 SECTOR = 512
@@ -98,9 +98,8 @@ class BlkReader(Reader):
 
 
 def read_blkparse(asked):
-    log = Lines(asked.log)
-    lines = read_text(asked.log).splitlines()
-    log.count = len(lines)
+    lines = read_lines(asked.log)
+    log = Lines(asked.log, len(lines))
     reader = BlkReader(log)
     reader.read(lines)
     log.report()
@@ -109,10 +108,9 @@ def read_blkparse(asked):
 
 def read_msr(asked):
     """Lines of Timestamp, Hostname, DiskNumber, Type, Offset, Size, ResponseTime; both times are in 100 nanoseconds."""
-    log = Lines(asked.log)
+    lines = read_lines(asked.log)
+    log = Lines(asked.log, len(lines))
     reader = Reader()
-    lines = read_text(asked.log).splitlines()
-    log.count = len(lines)
     for number, line in enumerate(lines, 1):
         fields = line.strip().split(",")
         if number == 1 and fields[0].strip().lower() == "timestamp":

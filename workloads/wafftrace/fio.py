@@ -3,7 +3,7 @@
 import collections
 import re
 
-from .logs import Data, Lines, Meta, Refusal, read_text, shown
+from .logs import Data, Lines, Meta, Refusal, read_lines, shown
 from .model import VOLUME, Volume
 
 HEADER = re.compile(r"fio version ([23]) iolog")
@@ -16,10 +16,9 @@ class Latencies:
     """The latencies of a log, by direction and size, and by offset where the log has it, in the order of the log."""
 
     def __init__(self, name):
-        self.lines = Lines(name)
         self.waiting = collections.defaultdict(collections.deque)
-        lines = read_text(name).splitlines()
-        self.lines.count = len(lines)
+        lines = read_lines(name)
+        self.lines = Lines(name, len(lines))
         for number, line in enumerate(lines, 1):
             fields = line.replace(" ", "").split(",")
             if len(fields) < 4 or not all(it.isdecimal() for it in fields[:4]):
@@ -52,9 +51,8 @@ class Reader:
         return file
 
     def read(self, name, latencies):
-        log = Lines(name)
-        lines = read_text(name).splitlines()
-        log.count = len(lines)
+        lines = read_lines(name)
+        log = Lines(name, len(lines))
         if lines:
             header = HEADER.fullmatch(lines[0].strip())
             if header is None:
@@ -64,7 +62,6 @@ class Reader:
         log.report()
         left = sum(len(it) for it in latencies.waiting.values()) if latencies else 0
         if left:
-            log.without.clear()
             raise Refusal(3, f"{shown(latencies.lines.name)}: {left} of its latencies are of no request of {shown(log.name)}")
 
     def actions(self, log, lines, has_times, latencies):

@@ -26,18 +26,27 @@ def read_text(name):
         raise Refusal(4, f"{shown(name)}: {fault.strerror}") from None
 
 
+def read_lines(name):
+    """The lines of a file, which end with LF or CR LF."""
+    lines = [line.removesuffix("\r") for line in read_text(name).split("\n")]
+    if lines[-1] == "":
+        lines.pop()
+    return lines
+
+
 def shown(text):
-    """A text on one line, cut where it is long."""
-    plain = "".join(c if c.isprintable() else "\\x%02x" % (ord(c) & 0xFF) for c in text[:SHOWN_CHARACTERS])
+    """A text on one line, cut where it is long; bytes that are no printable ASCII as `\\xHH`."""
+    bytes_shown = text[:SHOWN_CHARACTERS].encode("utf-8", "surrogateescape")
+    plain = "".join(chr(byte) if 32 <= byte < 127 else f"\\x{byte:02x}" for byte in bytes_shown)
     return plain + ("..." if len(text) > SHOWN_CHARACTERS else "")
 
 
 class Lines:
     """The lines of one log: how many there are, and what became of those that no message comes of."""
 
-    def __init__(self, name):
+    def __init__(self, name, count):
         self.name = "standard input" if name == "-" else name
-        self.count = 0
+        self.count = count
         self.strange = []
         self.strange_count = 0
         self.without = collections.Counter()
@@ -59,15 +68,15 @@ class Lines:
     def report(self):
         """Tells on standard error what became of the lines. A log of which no line was understood is refused."""
         tell(f"{self.name}: {self.count} lines")
-        for why, count in sorted(self.without.items(), key=lambda item: (-item[1], item[0])):
-            tell(f"{self.name}: no message of {why}: {count}")
+        for why, count in sorted((+self.without).items(), key=lambda item: (-item[1], item[0])):
+            tell(f"{self.name}: no message comes of {why}: {count}")
         if self.backwards:
             tell(f"{self.name}: lines at an earlier time than one before them: {self.backwards}; the trace is sorted by time")
         if self.strange_count:
             tell(f"{self.name}: lines that are not understood: {self.strange_count}")
             for number, line in self.strange:
                 tell(f"{self.name}:{number}: {shown(line)}")
-        if self.count and self.strange_count == self.count:
+        if self.strange_count and self.strange_count + self.without["blank lines"] == self.count:
             raise Refusal(3, f"{shown(self.name)}: no line of it is understood")
 
 

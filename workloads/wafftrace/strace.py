@@ -4,7 +4,7 @@ import collections
 import posixpath
 import re
 
-from .logs import Data, Lines, Meta, read_text
+from .logs import Data, Lines, Meta, read_lines
 from .model import VOLUME, Volume
 
 HEAD = re.compile(r"(?:\[pid +(\d+)\] +|(\d+) +)?(\d+)\.(\d{6}) (.*)")
@@ -601,11 +601,8 @@ CALLS = calls()
 
 def read(asked):
     """The volume and the requests of the log."""
-    log = Lines(asked.log)
-    lines = read_text(asked.log).split("\n")
-    if lines[-1] == "":
-        lines.pop()
-    log.count = len(lines)
+    lines = read_lines(asked.log)
+    log = Lines(asked.log, len(lines))
     under = posixpath.normpath(asked.under) if asked.under else None
     reader = Reader(log, under, asked.cwd)
     reader.read(lines)
