@@ -1,4 +1,7 @@
-"""Logs of fio: iologs of version 2 and 3 (`write_iolog`), and logs of latencies (`write_lat_log`)."""
+"""Logs of fio: iologs of version 2 and 3 (`write_iolog`), and logs of latencies (`write_lat_log`).
+
+The times of version 3 are in microseconds, as fio 3.33 writes them; latencies are in nanoseconds, as all of fio 3 does.
+"""
 
 import collections
 import re

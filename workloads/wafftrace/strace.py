@@ -7,8 +7,8 @@ import re
 from .logs import Data, Lines, Meta, read_lines
 from .model import VOLUME, Volume
 
-HEAD = re.compile(r"(?:\[pid +(\d+)\] +|(\d+) +)?(\d+)\.(\d{6}) (.*)")
-TAIL = re.compile(r"(-?\d+|\?|0x[0-9a-f]+)(?:<.*?>)?([^<]*?)(?: <(\d+)\.(\d{6})>)?$")
+HEAD = re.compile(r"(?:\[pid +(\d+)\] +|(\d+) +)?(\d+)\.(\d{6}|\d{9}) (.*)")
+TAIL = re.compile(r"(-?\d+|\?|0x[0-9a-f]+)(?:<.*?>)?([^<]*?)(?: <(\d+)\.(\d{6}|\d{9})>)?$")
 DESCRIPTOR = re.compile(r"(\d+)(?:<([^>]*)>)?")
 TEXT = r'"((?:[^"\\]|\\.)*)"'
 PATH = re.compile(r"(?:(AT_FDCWD|\d+)(?:<[^>]*>)?, )?" + TEXT)
@@ -17,6 +17,11 @@ SIZE = re.compile(r"st_size=(\d+)")
 UNFINISHED = "<unfinished ...>"
 RESUMED = " resumed>"
 NO_FILES = ("/dev/", "/proc/", "/sys/")
+
+
+def nanoseconds(seconds, digits):
+    """Seconds with six or nine digits after the point, in nanoseconds."""
+    return int(seconds + digits) * (1000 if len(digits) == 6 else 1)
 
 
 class Open:
@@ -94,8 +99,8 @@ class Reader:
                 else:
                     self.log.not_understood(number, line)
                 continue
-            attached, first, seconds, micros, rest = head.groups()
-            time = int(seconds + micros) * 1000
+            attached, first, seconds, digits, rest = head.groups()
+            time = nanoseconds(seconds, digits)
             self.log.at(time)
             if not self.event(attached or first or "", time, rest):
                 self.log.not_understood(number, line)
@@ -151,14 +156,14 @@ class Reader:
         tail = TAIL.match(args, at + 3) if bracket and at >= 0 else None
         if tail is None:
             return False
-        result, _, seconds, micros = tail.groups()
+        result, _, seconds, digits = tail.groups()
         handler = CALLS.get(name)
         if handler is None:
             self.idle[name] += 1
         elif result == "?" or result[0] == "-":
             self.log.without["calls that failed"] += 1
         else:
-            took = int(seconds + micros) * 1000 if micros else None
+            took = nanoseconds(seconds, digits) if digits else None
             return handler(self, Call(process, args[:at], int(result, 0), time, took)) is not False
         return True
 

@@ -119,7 +119,7 @@ def words():
     imported(found)
     of_volume(found)
 
-    found = part("strace", "the trace of a log of `strace -f -ttt -T`", of_log(strace.read), COST_HELP)
+    found = part("strace", "the trace of a log of `strace -f -ttt -T -o LOG`", of_log(strace.read), COST_HELP)
     found.add_argument("log", metavar="LOG", help="the log; `-` is standard input")
     found.add_argument("--under", metavar="DIRECTORY", help="take only files in this directory or below it")
     found.add_argument("--cwd", metavar="DIRECTORY", help="where the first process was started, for names that begin there")
