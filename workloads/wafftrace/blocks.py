@@ -2,13 +2,16 @@
 
 import re
 
-from .logs import Data, Lines, Meta, Refusal, read_lines
+from .logs import Data, Lines, Meta, Refusal, is_number, read_lines
 from .model import Devices
 
 SECTOR = 512
 
 # Device, processor, sequence, seconds, process, action, kind; then the sector and the sectors where it has some.
-EVENT = re.compile(r"\s*(\d+),(\d+)\s+\d+\s+\d+\s+(\d+)\.(\d{9})\s+\d+\s+([A-Z]+)\s+([A-Z]+)(?:\s+(\d+) \+ (\d+))?(?:\s|$)")
+EVENT = re.compile(
+    r"\s*(\d{1,6}),(\d{1,7})\s+\d+\s+\d+\s+(\d{1,12})\.(\d{9})\s+\d+\s+([A-Z]+)\s+([A-Z]+)(?:\s+(\d{1,18}) \+ (\d{1,18}))?(?:\s|$)",
+    re.ASCII,
+)
 SUMMARY = re.compile(r"(CPU ?\d+|Total) \(.*\):")
 SUMMARY_LINE = re.compile(r"Input file |\s*$|\s+(Reads?|Read|Writes?|PC|IO|Timer|Merge|Allocations|Discard)\b|Throughput |Events |Skips: ")
 
@@ -120,7 +123,7 @@ def read_msr(asked):
             log.without["blank lines"] += 1
             continue
         kind = fields[3].strip().lower() if len(fields) == 7 else ""
-        if kind not in ("read", "write") or not all(fields[n].strip().isdecimal() for n in (0, 2, 4, 5, 6)):
+        if kind not in ("read", "write") or not all(is_number(fields[n].strip()) for n in (0, 2, 4, 5, 6)):
             log.not_understood(number, line)
             continue
         time, offset, length, took = int(fields[0]) * 100, int(fields[4]), int(fields[5]), int(fields[6]) * 100

@@ -6,7 +6,7 @@ The times of version 3 are in microseconds, as fio 3.33 writes them; latencies a
 import collections
 import re
 
-from .logs import Data, Lines, Meta, Refusal, read_lines, shown
+from .logs import Data, Lines, Meta, Refusal, is_number, read_lines, shown
 from .model import VOLUME, Volume
 
 HEADER = re.compile(r"fio version ([23]) iolog")
@@ -24,7 +24,7 @@ class Latencies:
         self.lines = Lines(name, len(lines))
         for number, line in enumerate(lines, 1):
             fields = line.replace(" ", "").split(",")
-            if len(fields) < 4 or not all(it.isdecimal() for it in fields[:4]):
+            if len(fields) < 4 or not all(is_number(it) for it in fields[:4]):
                 self.lines.not_understood(number, line)
                 continue
             # Time, latency, direction, size; then the offset (with log_offset=1), and the priority.
@@ -72,12 +72,12 @@ class Reader:
         for number, line in enumerate(lines[1:], 2):
             words = line.split()
             if has_times:
-                if not words or not words[0].isdecimal():
+                if not words or not is_number(words[0]):
                     log.not_understood(number, line)
                     continue
                 now = int(words.pop(0)) * 1000
                 log.at(now)
-            if len(words) == 4 and words[2].isdecimal() and words[3].isdecimal():
+            if len(words) == 4 and is_number(words[2]) and is_number(words[3]):
                 if words[1] == "wait" and not has_times:
                     now += int(words[2]) * 1000
                     log.without["wait"] += 1

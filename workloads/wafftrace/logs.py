@@ -26,6 +26,11 @@ def read_text(name):
         raise Refusal(4, f"{shown(name)}: {fault.strerror}") from None
 
 
+def is_number(word):
+    """Whether a word is a number that a log may have: up to 18 digits."""
+    return word.isascii() and word.isdecimal() and len(word) <= 18
+
+
 def read_lines(name):
     """The lines of a file, which end with LF or CR LF."""
     lines = [line.removesuffix("\r") for line in read_text(name).split("\n")]

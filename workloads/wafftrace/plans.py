@@ -4,7 +4,7 @@ import csv
 import io
 import tomllib
 
-from .logs import Refusal, read_text, shown
+from .logs import Refusal, is_number, read_text, shown
 from .traces import cells, read_trace
 
 MOST_WORKERS = 64
@@ -72,7 +72,7 @@ def read_starts(name, count):
             if number == 1 and record[0] == "message":
                 continue
             width = width or len(record)
-            if len(record) != width or width not in (2, 3) or not all(it.isascii() and it.isdecimal() for it in record):
+            if len(record) != width or width not in (2, 3) or not all(is_number(it) for it in record):
                 raise Refusal(3, f"{called}: record {number} is not a message's number, its start and (if all have one) its worker")
             message = int(record[0])
             if not 1 <= message <= count or starts[message - 1] is not None:

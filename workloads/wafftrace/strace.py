@@ -4,15 +4,15 @@ import collections
 import posixpath
 import re
 
-from .logs import Data, Lines, Meta, read_lines
+from .logs import Data, Lines, Meta, is_number, read_lines
 from .model import VOLUME, Volume
 
-HEAD = re.compile(r"(?:\[pid +(\d+)\] +|(\d+) +)?(\d+)\.(\d{6}|\d{9}) (.*)")
-TAIL = re.compile(r"(-?\d+|\?|0x[0-9a-f]+)(?:<.*?>)?([^<]*?)(?: <(\d+)\.(\d{6}|\d{9})>)?$")
-DESCRIPTOR = re.compile(r"(\d+)(?:<([^>]*)>)?")
+HEAD = re.compile(r"(?:\[pid +(\d{1,9})\] +|(\d{1,9}) +)?(\d{1,12})\.(\d{6}|\d{9}) (.*)", re.ASCII)
+TAIL = re.compile(r"(-?\d{1,18}|\?|0x[0-9a-f]{1,16})(?:<.*?>)?([^<]*?)(?: <(\d{1,9})\.(\d{6}|\d{9})>)?$", re.ASCII)
+DESCRIPTOR = re.compile(r"(\d{1,9})(?:<([^>]*)>)?", re.ASCII)
 TEXT = r'"((?:[^"\\]|\\.)*)"'
-PATH = re.compile(r"(?:(AT_FDCWD|\d+)(?:<[^>]*>)?, )?" + TEXT)
-SIZE = re.compile(r"st_size=(\d+)")
+PATH = re.compile(r"(?:(AT_FDCWD|\d{1,9})(?:<[^>]*>)?, )?" + TEXT, re.ASCII)
+SIZE = re.compile(r"st_size=(\d{1,18})", re.ASCII)
 
 UNFINISHED = "<unfinished ...>"
 RESUMED = " resumed>"
@@ -72,7 +72,7 @@ class Call:
     def last(self, place=1):
         """The last argument as a number, or the one before it (2); None where it is none."""
         words = self.args.rstrip(") ").rsplit(", ", place)
-        return int(words[1]) if len(words) > place and words[1].isdecimal() else None
+        return int(words[1]) if len(words) > place and is_number(words[1]) else None
 
 
 class Reader:
@@ -164,7 +164,8 @@ class Reader:
             self.log.without["calls that failed"] += 1
         else:
             took = nanoseconds(seconds, digits) if digits else None
-            return handler(self, Call(process, args[:at], int(result, 0), time, took)) is not False
+            answer = int(result, 16 if result.startswith("0x") else 10)
+            return handler(self, Call(process, args[:at], answer, time, took)) is not False
         return True
 
     # Paths and descriptors
@@ -296,7 +297,7 @@ class Reader:
         words = call.args.split(", ")
         if len(words) < 6:
             return False
-        offsets = [int(it.strip("[]")) if it.strip("[]").isdecimal() else None for it in (words[1], words[3])]
+        offsets = [int(it.strip("[]")) if is_number(it.strip("[]")) else None for it in (words[1], words[3])]
         self.copied(call, self.opened(call), offsets[0], self.opened(call, words[2]), offsets[1])
         return True
 
@@ -305,7 +306,7 @@ class Reader:
         if len(words) < 4:
             return False
         first = words[2].strip("[]").split(" ")[0]
-        offset = int(first) if first.isdecimal() else None
+        offset = int(first) if is_number(first) else None
         self.copied(call, self.opened(call, words[1]), offset, self.opened(call), None)
         return True
 
@@ -356,7 +357,7 @@ class Reader:
     def close_range(self, call):
         self.idle["close_range"] += 1
         words = call.args.rstrip(")").split(", ")
-        first, last = (int(it, 0) if it[:1].isdecimal() else 1 << 32 for it in words[:2])
+        first, last = (int(it) if is_number(it) else 1 << 32 for it in (words * 2)[:2])
         if "CLOSE_RANGE_CLOEXEC" in call.args:
             call.process.closing.update(it for it in call.process.files if first <= it <= last)
             return
@@ -436,7 +437,7 @@ class Reader:
 
     def allocate(self, call):
         words = call.args.rstrip(")").rsplit(", ", 3)
-        if len(words) < 4 or not (words[2].isdecimal() and words[3].isdecimal()):
+        if len(words) < 4 or not (is_number(words[2]) and is_number(words[3])):
             return False
         found, first, end = self.opened(call), int(words[2]), int(words[2]) + int(words[3])
         if found:
@@ -469,7 +470,7 @@ class Reader:
         return True
 
     def make_symbolic_link(self, call):
-        texts = list(re.finditer(r"(?:, (AT_FDCWD|\d+)(?:<[^>]*>)?)?(?:, )?" + TEXT, call.args))
+        texts = list(PATH.finditer(call.args))
         if len(texts) < 2:
             return False
         path = self.path(call, texts[1])
@@ -501,7 +502,7 @@ class Reader:
             self.meta(call, "rmdir", ("add", "dir", parent), ("set", "inode", self.gone(path)[0].inode))
 
     def rename(self, call):
-        texts = list(re.finditer(r"(?:(AT_FDCWD|\d+)(?:<[^>]*>)?, )?" + TEXT, call.args))
+        texts = list(PATH.finditer(call.args))
         if len(texts) < 2:
             return False
         old, new = self.path(call, texts[0]), self.path(call, texts[1])
@@ -540,7 +541,8 @@ class Reader:
 
     def change_to_open(self, call):
         self.idle["fchdir"] += 1
-        found = call.process.files.get(int(DESCRIPTOR.match(call.args)[1]))
+        match = DESCRIPTOR.match(call.args)
+        found = call.process.files.get(int(match[1])) if match else None
         call.process.directory[0] = found.path if found else None
 
     def tell_directory(self, call):

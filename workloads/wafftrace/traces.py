@@ -4,9 +4,8 @@ import collections
 import csv
 import io
 import os
-from fractions import Fraction
 
-from .logs import Refusal, read_text, shown, tell
+from .logs import Refusal, is_number, read_text, shown, tell
 from .model import COST, MESSAGES, OPERATIONS, RELEASE
 
 HEADERS = {"message,cost,ops": False, "message,cost,release,ops": True}
@@ -53,7 +52,7 @@ def read_trace(name):
         fields = 4 if has_releases else 3
         messages = []
         for number, record in enumerate(records, 2):
-            if len(record) != fields or not all(it.isascii() and it.isdecimal() for it in record[1:-1]):
+            if len(record) != fields or not all(is_number(it) for it in record[1:-1]):
                 raise Refusal(3, f"{called}: record {number} is no message of {fields} fields")
             release = int(record[2]) if has_releases else 0
             messages.append(Message(record[0], int(record[1]), release, record[-1]))
@@ -71,7 +70,7 @@ def cells(called, number, ops):
         if len(words) - 1 != count:
             raise Refusal(3, f"{called}: record {number}: no operation: {shown(op)}")
         for cell in words[1:2] if has_value else words[1:]:
-            if not cell.rpartition(":")[2].isdecimal() or ":" not in cell:
+            if ":" not in cell or not is_number(cell.rpartition(":")[2]):
                 raise Refusal(3, f"{called}: record {number}: no cell: {shown(cell)}")
             found.append(cell)
     return found
@@ -176,9 +175,3 @@ def write_file(name, text):
         raise Refusal(4, f"{shown(os.fspath(name))}: {fault.strerror}") from None
 
 
-def speed(word):
-    """A speed as it is written: a whole number, or one with a point."""
-    found = Fraction(word)
-    if found <= 0:
-        raise ValueError
-    return found

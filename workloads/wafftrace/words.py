@@ -3,12 +3,13 @@
 import argparse
 import errno
 import os
+import re
 import signal
 import sys
 from fractions import Fraction
 
 from . import blocks, fio, model, plans, strace, traces
-from .logs import Refusal, tell
+from .logs import Refusal, is_number, tell
 
 COST_HELP = """\
 What a cost is: the time for which a message holds its affinity and a worker. `--cost latency` takes the latency of the log, which
@@ -27,7 +28,7 @@ class Words(argparse.ArgumentParser):
 
 def number(least, most, what):
     def read(word):
-        if not (word.isascii() and word.isdecimal()) or not least <= int(word) <= most:
+        if not is_number(word) or not least <= int(word) <= most:
             raise argparse.ArgumentTypeError(f"{word!r} is no {what} from {least} to {most}")
         return int(word)
 
@@ -36,13 +37,9 @@ def number(least, most, what):
 
 def nanoseconds(word):
     """Microseconds, with a point where they are no whole number, in nanoseconds."""
-    try:
-        found = Fraction(word) * 1000
-    except (ValueError, ZeroDivisionError):
-        found = Fraction(-1)
-    if found.denominator != 1 or found < 0:
+    if re.fullmatch(r"[0-9]{1,9}(\.[0-9]{1,3})?", word) is None:
         raise argparse.ArgumentTypeError(f"{word!r} is no number of microseconds with at most three digits after the point")
-    return int(found)
+    return int(Fraction(word) * 1000)
 
 
 def tick(word):
@@ -53,10 +50,9 @@ def tick(word):
 
 
 def speed(word):
-    try:
-        return traces.speed(word)
-    except (ValueError, ZeroDivisionError):
-        raise argparse.ArgumentTypeError(f"{word!r} is no speed above 0") from None
+    if re.fullmatch(r"[0-9]{1,9}(\.[0-9]{1,9})?", word) is None or Fraction(word) == 0:
+        raise argparse.ArgumentTypeError(f"{word!r} is no speed above 0")
+    return Fraction(word)
 
 
 def imported(part):
