@@ -276,7 +276,8 @@ write,9,35,set Vol.data:8 3
 alloc,3,35,add Vol.map:1 1
 """,
     ),
-    # Sector 8 is byte 4,096. The second issue is taken back and comes again; one completion has no issue, one issue no completion.
+    # Sector 8 is byte 4,096. The second issue is taken back and comes again; one completion has no issue, one issue no
+    # completion.
     Worked(
         "blkparse: issue to completion",
         "blkparse -",

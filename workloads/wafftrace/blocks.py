@@ -9,11 +9,14 @@ SECTOR = 512
 
 # Device, processor, sequence, seconds, process, action, kind; then the sector and the sectors where it has some.
 EVENT = re.compile(
-    r"\s*(\d{1,6}),(\d{1,7})\s+\d+\s+\d+\s+(\d{1,12})\.(\d{9})\s+\d+\s+([A-Z]+)\s+([A-Z]+)(?:\s+(\d{1,18}) \+ (\d{1,18}))?(?:\s|$)",
+    r"\s*(\d{1,6}),(\d{1,7})\s+\d+\s+\d+\s+(\d{1,12})\.(\d{9})\s+\d+\s+([A-Z]+)\s+([A-Z]+)"
+    r"(?:\s+(\d{1,18}) \+ (\d{1,18}))?(?:\s|$)",
     re.ASCII,
 )
 SUMMARY = re.compile(r"(CPU ?\d+|Total) \(.*\):")
-SUMMARY_LINE = re.compile(r"Input file |\s*$|\s+(Reads?|Read|Writes?|PC|IO|Timer|Merge|Allocations|Discard)\b|Throughput |Events |Skips: ")
+SUMMARY_LINE = re.compile(
+    r"Input file |\s*$|\s+(Reads?|Writes?|PC|IO|Timer|Merge|Allocations|Discard)\b|Throughput |Events |Skips: "
+)
 
 
 def kind_of(flags):

@@ -85,8 +85,12 @@ class Lines:
             raise Refusal(3, f"{shown(self.name)}: no line of it is understood")
 
 
+# The program that tells something on standard error.
+told_by = "waff-trace"
+
+
 def tell(text):
-    print("waff-trace: " + text, file=sys.stderr)
+    print(f"{told_by}: {text}", file=sys.stderr)
 
 
 class Data:

@@ -305,7 +305,7 @@ def tree_text(store, shape, stripes):
     """The hierarchy that accepts the trace."""
     affinities, maps = store.tree(shape.spaces, stripes, shape.unit)
     if len(affinities) > AFFINITIES or len(maps) > SPACES:
-        raise Refusal(3, f"{len(affinities)} affinities and {len(maps)} spaces are more than a hierarchy has; fewer --stripes may do")
+        raise Refusal(3, f"{len(affinities)} affinities, {len(maps)} spaces: more than a hierarchy has (fewer --stripes may do)")
     lines = [f"# Made by waff-trace. A cell of data is {shape.cell} bytes.", 'model = "hierarchical"', "", "affinity = ["]
     for name, parent in affinities:
         lines.append(f'    {{ name = "{name}"' + (f', parent = "{parent}"' if parent else "") + " },")

@@ -73,7 +73,7 @@ def read_starts(name, count):
                 continue
             width = width or len(record)
             if len(record) != width or width not in (2, 3) or not all(is_number(it) for it in record):
-                raise Refusal(3, f"{called}: record {number} is not a message's number, its start and (if all have one) its worker")
+                raise Refusal(3, f"{called}: record {number} is no message's number, start and (if all have one) worker")
             message = int(record[0])
             if not 1 <= message <= count or starts[message - 1] is not None:
                 raise Refusal(3, f"{called}: record {number}: message {message} is none of the trace, or had its start before")

@@ -17,6 +17,7 @@ SIZE = re.compile(r"st_size=(\d{1,18})", re.ASCII)
 UNFINISHED = "<unfinished ...>"
 RESUMED = " resumed>"
 NO_FILES = ("/dev/", "/proc/", "/sys/")
+NOT_OPENED = "calls on descriptors that are no file which the log opens (pipes, sockets, what was open before)"
 
 
 def nanoseconds(seconds, digits):
@@ -218,7 +219,7 @@ class Reader:
             found = self.new_open(path, "")
             call.process.files[int(match[1])] = found
         if found is None:
-            self.log.without["calls on descriptors that are no file which the log opens (pipes, sockets, what was open before)"] += 1
+            self.log.without[NOT_OPENED] += 1
         elif found.file is None:
             self.log.without["calls on files elsewhere"] += 1
             return None

@@ -8,14 +8,14 @@ import signal
 import sys
 from fractions import Fraction
 
-from . import blocks, fio, model, plans, strace, traces
+from . import blocks, fio, logs, model, plans, strace, traces
 from .logs import Refusal, is_number, tell
 
 COST_HELP = """\
-What a cost is: the time for which a message holds its affinity and a worker. `--cost latency` takes the latency of the log, which
-is that only where the request did not wait: in a queue, for a lock, for the disk. A latency that includes waiting is no cost, since
-the plan adds the waits of its own tree and workers, and then they count twice. Where requests were in flight together, take
-`--cost size`: `--base` microseconds and `--per-kib` for each KiB begun.
+What a cost is: the time for which a message holds its affinity and a worker. `--cost latency` takes the latency of the log,
+which is that only where the request did not wait: in a queue, for a lock, for the disk. A latency that includes waiting is no
+cost, since the plan adds the waits of its own tree and workers, and then they count twice. Where requests were in flight
+together, take `--cost size`: `--base` microseconds and `--per-kib` for each KiB begun.
 
 What is left out: a trace has no order but that of what excludes each other. Two messages of one client run side by side in a plan
 where they did not in the log, unless their releases keep them apart."""
@@ -90,8 +90,8 @@ def of_volume(part):
         "--blocks",
         choices=["new", "all", "none"],
         default="new",
-        help="which writes take blocks, as messages `alloc` over the map of free blocks: those that make a file longer (new), all,"
-        " or none; with none nothing gives back blocks either",
+        help="which writes take blocks, as messages `alloc` over the map of free blocks: those that make a file longer (new),"
+        " all, or none; with none nothing gives back blocks either",
     )
 
 
@@ -182,14 +182,17 @@ def of_log(read):
     return run
 
 
-def main(given):
+def run_words(given, parser, run):
+    """Runs what words ask for, and answers the exit status: 0, or 2 for words, 3 for a bad file, 4 for one that cannot be read
+    or written. What is refused is told in one line."""
     signal.signal(signal.SIGPIPE, signal.SIG_DFL)
     sys.stderr.reconfigure(errors="backslashreplace")
+    logs.told_by = parser().prog
     try:
-        asked = words().parse_args(given)
+        asked = parser().parse_args(given)
         if sum(it == "-" for it in given) > 1:
             raise Refusal(2, "two files from standard input")
-        text = asked.run(asked)
+        text = run(asked)
         sys.stdout.buffer.write(text.encode("utf-8", "surrogateescape"))
         sys.stdout.buffer.flush()
     except Refusal as refusal:
@@ -201,3 +204,7 @@ def main(given):
         os.dup2(os.open(os.devnull, os.O_WRONLY), 1)
         return 4
     return 0
+
+
+def main(given):
+    return run_words(given, words, lambda asked: asked.run(asked))
