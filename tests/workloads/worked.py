@@ -151,6 +151,29 @@ alloc,1,30,add Vol.map:0 1
 """,
         ("calls that failed: 1", "calls on files elsewhere: 2", "was open before): 1", "not modelled (mmap 1): 1"),
     ),
+    # A copy is a read and a write, which have a half of the time each: 10.5 microseconds, rounded up. At the end of the file there
+    # is nothing to write. The first file has 4,196 bytes, so it lies in cells 0 and 1; the second one has 8,292, in three cells, and
+    # lies where a row of four begins.
+    Worked(
+        "strace: copies",
+        "strace - --blocks none",
+        """
+1 9.000000 openat(AT_FDCWD, "/v/a", O_RDONLY) = 3 <0.000001>
+1 9.000010 openat(AT_FDCWD, "/v/b", O_WRONLY|O_CREAT|O_TRUNC, 0644) = 4 <0.000001>
+1 9.000020 sendfile(4, 3, NULL, 16777216) = 4096 <0.000021>
+1 9.000050 copy_file_range(3, NULL, 4, [8192], 9223372035781033984, 0) = 100 <0.000004>
+1 9.000060 sendfile(4, 3, NULL, 16777216) = 0 <0.000002>
+""",
+        """
+open,1,0,read Vol.inode:0
+create,1,10,add Vol.dir:0 1;set Vol.inode:1 2
+read,11,20,read Vol.data:0
+write,11,20,set Vol.data:4 4
+read,2,50,read Vol.data:1
+write,2,50,set Vol.data:6 6
+read,2,60,read Vol.inode:0
+""",
+    ),
     # Cells 5 to 44 are 40, so there are two messages, up to cell 31 and from 32: 27 and 13 parts of 80 ticks.
     Worked(
         "strace: a request of more cells than a message has room for",

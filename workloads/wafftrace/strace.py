@@ -286,8 +286,11 @@ class Reader:
         return True
 
     def copied(self, call, source, at_source, target, at_target):
-        """A call that reads from one file and writes to another, at offsets or where these are."""
+        """A call that reads from one file and writes to another, at offsets or where these are. At the end of the one nothing is
+        written to the other."""
         halves = (None, None) if call.took is None else (call.took - call.took // 2, call.took // 2)
+        if call.result == 0:
+            target, halves = None, (call.took, None)
         for found, at, kind, took in ((source, at_source, "read", halves[0]), (target, at_target, "write", halves[1])):
             if found and at is None:
                 self.sequential(call, kind, call.result, took, found)
