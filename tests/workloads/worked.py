@@ -83,6 +83,28 @@ read,5,21,read Vol.data:0;read Vol.data:1
 """,
         ("first parts of calls, which are told with their second parts: 2",),
     ),
+    # A log on standard error: the first process has no number as long as it is alone, and what strace says of a new process cuts a
+    # line in two. The thread shares the table, so process 4 reads what 5 opened.
+    Worked(
+        "strace: a log on standard error",
+        "strace -",
+        """
+3.000000 openat(AT_FDCWD, "/v/a", O_RDONLY) = 3 <0.000001>
+3.000010 clone(child_stack=0x1, flags=CLONE_VM|CLONE_FILESstrace: Process 5 attached
+ <unfinished ...>
+[pid     5] 3.000020 openat(AT_FDCWD, "/v/b", O_RDONLY) = 4 <0.000001>
+[pid     4] 3.000030 <... clone resumed>) = 5 <0.000021>
+[pid     4] 3.000040 read(4, "b"..., 10) = 10 <0.000002>
+[pid     5] 3.000050 read(3, "a"..., 10) = 10 <0.000002>
+""",
+        """
+open,1,0,read Vol.inode:0
+open,1,20,read Vol.inode:1
+read,2,40,read Vol.data:1
+read,2,50,read Vol.data:0
+""",
+        ("attached processes: 1", "with their second parts: 1"),
+    ),
     # dup2 shares the offset; exec closes 3, which was opened to be closed then, so that the last read is of no file of the log.
     Worked(
         "strace: dup2, and a new program",

@@ -6,7 +6,7 @@ The times of version 3 are in microseconds, as fio 3.33 writes them; latencies a
 import collections
 import re
 
-from .logs import Data, Lines, Meta, Refusal, is_number, read_lines, shown
+from .logs import Data, Lines, Meta, Refusal, is_number, read_lines, shown, tell
 from .model import VOLUME, Volume
 
 HEADER = re.compile(r"fio version ([23]) iolog")
@@ -65,7 +65,7 @@ class Reader:
         log.report()
         left = sum(len(it) for it in latencies.waiting.values()) if latencies else 0
         if left:
-            raise Refusal(3, f"{shown(latencies.lines.name)}: {left} of its latencies are of no request of {shown(log.name)}")
+            tell(f"{latencies.lines.name}: latencies of no request: {left}")
 
     def actions(self, log, lines, has_times, latencies):
         now = 0

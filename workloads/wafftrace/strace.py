@@ -14,6 +14,9 @@ TEXT = r'"((?:[^"\\]|\\.)*)"'
 PATH = re.compile(r"(?:(AT_FDCWD|\d{1,9})(?:<[^>]*>)?, )?" + TEXT, re.ASCII)
 SIZE = re.compile(r"st_size=(\d{1,18})", re.ASCII)
 
+# What strace says on standard error, which may come in the middle of a line of a log that goes there too.
+ATTACHED = re.compile(r"strace: Process (\d{1,9}) attached", re.ASCII)
+
 UNFINISHED = "<unfinished ...>"
 RESUMED = " resumed>"
 NO_FILES = ("/dev/", "/proc/", "/sys/")
@@ -87,18 +90,25 @@ class Reader:
         self.folders = set()
         self.processes = {}
         self.forking = []
+        self.attached = set()
         self.idle = collections.Counter()
 
     # Lines
 
     def read(self, lines):
+        begun = ""
         for number, line in enumerate(lines, 1):
+            line, begun = begun + line, ""
             head = HEAD.match(line)
-            if head is None:
-                if line.startswith("strace: Process "):
+            if "strace: Process " in line:
+                attached = ATTACHED.search(line)
+                if attached:
+                    self.attached.add(attached[1])
                     self.log.without["attached processes"] += 1
-                else:
-                    self.log.not_understood(number, line)
+                    begun = line[: attached.start()]
+                    continue
+            if head is None:
+                self.log.not_understood(number, line)
                 continue
             attached, first, seconds, digits, rest = head.groups()
             time = nanoseconds(seconds, digits)
@@ -119,7 +129,7 @@ class Reader:
         """Takes what a line tells of a process. False where it is not understood."""
         process = self.processes.get(pid)
         if process is None:
-            process = self.processes[pid] = self.newcomer()
+            process = self.processes[pid] = self.newcomer(pid)
         if rest.endswith(UNFINISHED):
             name = rest.partition("(")[0]
             process.pending = time, rest[: -len(UNFINISHED)]
@@ -144,11 +154,14 @@ class Reader:
             return True
         return self.call(process, time, rest)
 
-    def newcomer(self):
-        """A process that was not seen: the child of a call that is not finished, or else one from before the log."""
-        if self.forking:
+    def newcomer(self, pid):
+        """A process that was not seen: the child of a call that is not finished; the first one, which a log on standard error
+        gives no number as long as it is alone; or else one from before the log."""
+        if self.forking and (pid in self.attached or not self.attached):
             parent = self.forking.pop(0)
             return parent.child(parent.pending[1])
+        if "" in self.processes and pid not in self.attached:
+            return self.processes[""]
         return Process({}, set(), [self.directory])
 
     def call(self, process, time, rest):
@@ -510,7 +523,10 @@ class Reader:
         if len(texts) < 2:
             return False
         old, new = self.path(call, texts[0]), self.path(call, texts[1])
-        if self.elsewhere(old) or self.elsewhere(new) or old == new:
+        if self.elsewhere(old) or self.elsewhere(new):
+            return True
+        if old == new:
+            self.log.without["renames to the same name"] += 1
             return True
         file = self.file(old)
         blocks = self.gone(new)[1] if new in self.paths else None

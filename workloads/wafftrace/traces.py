@@ -8,6 +8,9 @@ import os
 from .logs import Refusal, is_number, read_text, shown, tell
 from .model import COST, MESSAGES, OPERATIONS, RELEASE
 
+# How many messages the windows of a trace may have in all.
+MOST_IN_WINDOWS = 20000000
+
 HEADERS = {"message,cost,ops": False, "message,cost,release,ops": True}
 WORDS = {"set": (2, True), "add": (2, True), "read": (1, False), "copy": (2, False), "swap": (2, False)}
 
@@ -121,6 +124,8 @@ def window(asked):
     every = asked.every or width
     if asked.ticks and not trace.has_releases:
         raise Refusal(3, f"{shown(asked.trace)}: it has no releases")
+    if len(trace.messages) * max(1, width // every) > MOST_IN_WINDOWS:
+        raise Refusal(2, f"--every {every}: more than {MOST_IN_WINDOWS} messages in all windows")
     parts = windows_of_messages if asked.messages else windows_of_ticks
     lines = ["file,messages,from"]
     for number, (start, messages) in enumerate(parts(trace.messages, width, every), 1):
