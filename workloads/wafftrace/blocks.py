@@ -73,7 +73,7 @@ class BlkReader(Reader):
         self.log.at(time)
         device = f"dev{major}-{minor}"
         # A flush has no sector, and another letter at its issue than at its completion in some kernels.
-        key = device, sector if sectors and sectors != "0" else "flush"
+        key = device, sector if int(sectors or 0) else "flush"
         if action == "D":
             if key in self.issued:
                 self.log.without["requests that were issued again"] += 1
@@ -92,7 +92,7 @@ class BlkReader(Reader):
     def complete(self, device, start, took, flags, sector, sectors):
         found = kind_of(flags)
         self.log.without["issues, which are told with their completions"] += 1
-        if not sectors or sectors == "0":
+        if not int(sectors or 0):
             if "F" in flags:
                 self.flush(start, took, device)
             else:

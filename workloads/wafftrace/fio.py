@@ -100,7 +100,7 @@ class Reader:
             return True
         if action not in KINDS:
             return False
-        if length == "0":
+        if int(length) == 0:
             log.without["a length of 0"] += 1
             return True
         took = latencies.take(action, offset, length) if latencies else None
