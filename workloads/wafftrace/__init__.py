@@ -1,0 +1,1 @@
+"""Logs of real systems as traces of waff."""

@@ -1,0 +1,142 @@
+"""Logs of block devices: the default text of blkparse, and block traces in the form of SNIA's MSR Cambridge set."""
+
+import re
+
+from .logs import Data, Lines, Meta, Refusal, is_number, read_lines
+from .model import Devices
+
+SECTOR = 512
+
+# Device, processor, sequence, seconds, process, action, kind; then the sector and the sectors where it has some.
+EVENT = re.compile(
+    r"\s*(\d{1,6}),(\d{1,7})\s+\d+\s+\d+\s+(\d{1,12})\.(\d{9})\s+\d+\s+([A-Z]+)\s+([A-Z]+)"
+    r"(?:\s+(\d{1,18}) \+ (\d{1,18}))?(?:\s|$)",
+    re.ASCII,
+)
+SUMMARY = re.compile(r"(CPU ?\d+|Total) \(.*\):")
+SUMMARY_LINE = re.compile(
+    r"Input file |\s*$|\s+(Reads?|Writes?|PC|IO|Timer|Merge|Allocations|Discard)\b|Throughput |Events |Skips: "
+)
+
+
+def kind_of(flags):
+    """The name and the kind of a request, by the letters that blkparse prints; None where it is none of data."""
+    for letter, name, kind in (("D", "discard", "free"), ("W", "write", "write"), ("R", "read", "read")):
+        if letter in flags:
+            return name, kind
+    return None
+
+
+class Reader:
+    def __init__(self):
+        self.store = Devices()
+        self.requests = []
+
+    def data(self, time, took, name, kind, device, offset, length):
+        file = self.store.device(device)
+        file.end = max(file.end, offset + length)
+        self.requests.append(Data(time, took, name, kind, file, offset, length))
+
+    def flush(self, time, took, device):
+        self.store.device(device)
+        self.requests.append(Meta(time, took, "flush", [("read", device, "dev", 0)]))
+
+
+class BlkReader(Reader):
+    """Each request is one from its issue (D) to its completion (C)."""
+
+    def __init__(self, log):
+        super().__init__()
+        self.log = log
+        self.issued = {}
+
+    def read(self, lines):
+        summary = False
+        for number, line in enumerate(lines, 1):
+            event = EVENT.match(line)
+            if event is None:
+                summary = summary or SUMMARY.match(line) is not None
+                if SUMMARY.match(line) or (SUMMARY_LINE.match(line) and (summary or line.startswith("Input file "))):
+                    self.log.without["the summary"] += 1
+                elif not line.strip():
+                    self.log.without["blank lines"] += 1
+                else:
+                    self.log.not_understood(number, line)
+                continue
+            self.event(event)
+        if self.issued:
+            self.log.without["requests that were not completed"] += len(self.issued)
+
+    def event(self, event):
+        major, minor, seconds, nanoseconds, action, flags, sector, sectors = event.groups()
+        time = int(seconds) * 10**9 + int(nanoseconds)
+        self.log.at(time)
+        device = f"dev{major}-{minor}"
+        # A flush has no sector, and another letter at its issue than at its completion in some kernels.
+        key = device, sector if int(sectors or 0) else "flush"
+        if action == "D":
+            if key in self.issued:
+                self.log.without["requests that were issued again"] += 1
+            self.issued[key] = time, flags, sectors
+            return
+        if action == "R" and key in self.issued:
+            del self.issued[key]
+        if action != "C":
+            self.log.without["actions but issue and completion"] += 1
+        elif key not in self.issued:
+            self.log.without["completions of what was not issued"] += 1
+        else:
+            start, flags, sectors = self.issued.pop(key)
+            self.complete(device, start, time - start, flags, sector, sectors)
+
+    def complete(self, device, start, took, flags, sector, sectors):
+        found = kind_of(flags)
+        self.log.without["issues, which are told with their completions"] += 1
+        if not int(sectors or 0):
+            if "F" in flags:
+                self.flush(start, took, device)
+            else:
+                self.log.without["requests without sectors"] += 1
+        elif found is None:
+            self.log.without["requests of other kinds"] += 1
+        else:
+            self.data(start, took, *found, device, int(sector) * SECTOR, int(sectors) * SECTOR)
+
+
+def read_blkparse(asked):
+    lines = read_lines(asked.log)
+    log = Lines(asked.log, len(lines))
+    reader = BlkReader(log)
+    reader.read(lines)
+    log.report()
+    return reader.store, reader.requests
+
+
+def read_msr(asked):
+    """Lines of Timestamp, Hostname, DiskNumber, Type, Offset, Size, ResponseTime; both times are in 100 nanoseconds."""
+    lines = read_lines(asked.log)
+    log = Lines(asked.log, len(lines))
+    reader = Reader()
+    for number, line in enumerate(lines, 1):
+        fields = line.strip().split(",")
+        if number == 1 and fields[0].strip().lower() == "timestamp":
+            log.without["the header"] += 1
+            continue
+        if not line.strip():
+            log.without["blank lines"] += 1
+            continue
+        kind = fields[3].strip().lower() if len(fields) == 7 else ""
+        if kind not in ("read", "write") or not all(is_number(fields[n].strip()) for n in (0, 2, 4, 5, 6)):
+            log.not_understood(number, line)
+            continue
+        time, offset, length, took = int(fields[0]) * 100, int(fields[4]), int(fields[5]), int(fields[6]) * 100
+        device = re.sub(r"[^A-Za-z0-9_-]", "_", fields[1].strip())[:16] + "-" + fields[2].strip()
+        log.at(time)
+        if length == 0:
+            log.without["a length of 0"] += 1
+        elif len(device) > 20:
+            raise Refusal(3, f"{log.name}:{number}: the number of the disk is too long")
+        else:
+            reader.data(time, took, kind, kind, device, offset, length)
+    log.report()
+    return reader.store, reader.requests

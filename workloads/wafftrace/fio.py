@@ -1,0 +1,120 @@
+"""Logs of fio: iologs of version 2 and 3 (`write_iolog`), and logs of latencies (`write_lat_log`).
+
+The times of version 3 are in microseconds, as fio 3.33 writes them; latencies are in nanoseconds, as all of fio 3 does.
+"""
+
+import collections
+import re
+
+from .logs import Data, Lines, Meta, Refusal, is_number, read_lines, shown, tell
+from .model import VOLUME, Volume
+
+HEADER = re.compile(r"fio version ([23]) iolog")
+KINDS = {"read": "read", "write": "write", "trim": "free"}
+DIRECTIONS = {"read": "0", "write": "1", "trim": "2"}
+FLUSHES = {"sync": "sync", "datasync": "sync", "sync_file_range": "sync"}
+
+
+class Latencies:
+    """The latencies of a log, by direction and size, and by offset where the log has it, in the order of the log."""
+
+    def __init__(self, name):
+        self.waiting = collections.defaultdict(collections.deque)
+        lines = read_lines(name)
+        self.lines = Lines(name, len(lines))
+        for number, line in enumerate(lines, 1):
+            fields = line.replace(" ", "").split(",")
+            if len(fields) < 4 or not all(is_number(it) for it in fields[:4]):
+                self.lines.not_understood(number, line)
+                continue
+            # Time, latency, direction, size; then the offset (with log_offset=1), and the priority.
+            offset = fields[4] if len(fields) >= 6 else None
+            self.waiting[fields[2], fields[3], offset].append(int(fields[1]))
+        self.lines.report()
+
+    def take(self, action, offset, length):
+        """The latency of the next such request, in nanoseconds; None where there is none."""
+        direction = DIRECTIONS.get(action)
+        queue = self.waiting.get((direction, length, offset)) or self.waiting.get((direction, length, None))
+        return queue.popleft() if queue else None
+
+
+class Reader:
+    """What is read of iologs. Several logs of jobs that ran together have one clock, which begins at 0 in each."""
+
+    def __init__(self):
+        self.store = Volume()
+        self.requests = []
+        self.known = {}
+
+    def file(self, name):
+        file = self.known.get(name)
+        if file is None:
+            file = self.known[name] = self.store.new_file(name)
+        return file
+
+    def read(self, name, latencies):
+        lines = read_lines(name)
+        log = Lines(name, len(lines))
+        if lines:
+            header = HEADER.fullmatch(lines[0].strip())
+            if header is None:
+                raise Refusal(3, f"{shown(log.name)}: no iolog: its first line is not `fio version 2 iolog` or `.. 3 ..`")
+            self.actions(log, lines, header[1] == "3", latencies)
+            log.without["the header"] = 1
+        log.report()
+        left = sum(len(it) for it in latencies.waiting.values()) if latencies else 0
+        if left:
+            tell(f"{latencies.lines.name}: latencies of no request: {left}")
+
+    def actions(self, log, lines, has_times, latencies):
+        now = 0
+        for number, line in enumerate(lines[1:], 2):
+            words = line.split()
+            if has_times:
+                if not words or not is_number(words[0]):
+                    log.not_understood(number, line)
+                    continue
+                now = int(words.pop(0)) * 1000
+                log.at(now)
+            if len(words) == 4 and is_number(words[2]) and is_number(words[3]):
+                if words[1] == "wait" and not has_times:
+                    now += int(words[2]) * 1000
+                    log.without["wait"] += 1
+                elif not self.request(log, now, words, latencies):
+                    log.not_understood(number, line)
+            elif len(words) == 2 and words[1] in ("add", "close"):
+                self.file(words[0])
+                log.without[words[1]] += 1
+            elif len(words) == 2 and words[1] == "open":
+                self.requests.append(Meta(now, None, "open", [("read", VOLUME, "inode", self.file(words[0]).inode)]))
+            else:
+                log.not_understood(number, line)
+
+    def request(self, log, now, words, latencies):
+        """Adds what an action with an offset and a length asks for. False where it is no such action."""
+        name, action, offset, length = words
+        file = self.file(name)
+        if action in FLUSHES:
+            self.requests.append(Meta(now, None, FLUSHES[action], [("read", VOLUME, "inode", file.inode)]))
+            return True
+        if action not in KINDS:
+            return False
+        if int(length) == 0:
+            log.without["a length of 0"] += 1
+            return True
+        took = latencies.take(action, offset, length) if latencies else None
+        start, size = int(offset), int(length)
+        file.end = max(file.end, start + size)
+        self.requests.append(Data(now, took, action, KINDS[action], file, start, size))
+        return True
+
+
+def read(asked):
+    """The volume and the requests of the logs. `asked.latencies` has as many files as there are logs, or none."""
+    if asked.latencies and len(asked.latencies) != len(asked.logs):
+        raise Refusal(2, f"fio: {len(asked.logs)} logs and {len(asked.latencies)} logs of latencies: one is wanted for each")
+    reader = Reader()
+    for place, name in enumerate(asked.logs):
+        reader.read(name, Latencies(asked.latencies[place]) if asked.latencies else None)
+    return reader.store, reader.requests

@@ -1,0 +1,145 @@
+"""What all readers of logs share: refusals, files, the lines that were read, and the requests that they tell of."""
+
+import collections
+import sys
+
+SHOWN = 3
+SHOWN_CHARACTERS = 100
+
+
+class Refusal(Exception):
+    """What ends the program with one line on standard error: a status of 2 (words), 3 (a bad file) or 4 (a file not read)."""
+
+    def __init__(self, status, text):
+        super().__init__(text)
+        self.status = status
+
+
+def read_text(name):
+    """The text of a file, or of standard input for `-`. Bytes that are no UTF-8 are kept as they are."""
+    try:
+        if name == "-":
+            return sys.stdin.buffer.read().decode("utf-8", "surrogateescape")
+        with open(name, "rb") as file:
+            return file.read().decode("utf-8", "surrogateescape")
+    except OSError as fault:
+        raise Refusal(4, f"{shown(name)}: {fault.strerror}") from None
+
+
+def is_number(word):
+    """Whether a word is a number that a log may have: up to 18 digits."""
+    return word.isascii() and word.isdecimal() and len(word) <= 18
+
+
+def read_lines(name):
+    """The lines of a file, which end with LF or CR LF."""
+    lines = [line.removesuffix("\r") for line in read_text(name).split("\n")]
+    if lines[-1] == "":
+        lines.pop()
+    return lines
+
+
+def shown(text):
+    """A text on one line, cut where it is long; bytes that are no printable ASCII as `\\xHH`."""
+    bytes_shown = text[:SHOWN_CHARACTERS].encode("utf-8", "surrogateescape")
+    plain = "".join(chr(byte) if 32 <= byte < 127 else f"\\x{byte:02x}" for byte in bytes_shown)
+    return plain + ("..." if len(text) > SHOWN_CHARACTERS else "")
+
+
+class Lines:
+    """The lines of one log: how many there are, and what became of those that no message comes of."""
+
+    def __init__(self, name, count):
+        self.name = "standard input" if name == "-" else name
+        self.count = count
+        self.strange = []
+        self.strange_count = 0
+        self.without = collections.Counter()
+        self.backwards = 0
+        self.latest = None
+
+    def not_understood(self, number, line):
+        self.strange_count += 1
+        if len(self.strange) < SHOWN:
+            self.strange.append((number, line))
+
+    def at(self, time):
+        """Notes the time of the next line, so that a clock that goes backwards is told."""
+        if self.latest is not None and time < self.latest:
+            self.backwards += 1
+        else:
+            self.latest = time
+
+    def report(self):
+        """Tells on standard error what became of the lines. A log of which no line was understood is refused."""
+        tell(f"{self.name}: {self.count} lines")
+        for why, count in sorted((+self.without).items(), key=lambda item: (-item[1], item[0])):
+            tell(f"{self.name}: no message comes of {why}: {count}")
+        if self.backwards:
+            tell(f"{self.name}: lines at an earlier time than one before them: {self.backwards}; the trace is sorted by time")
+        if self.strange_count:
+            tell(f"{self.name}: lines that are not understood: {self.strange_count}")
+            for number, line in self.strange:
+                tell(f"{self.name}:{number}: {shown(line)}")
+        if self.strange_count and self.strange_count + self.without["blank lines"] == self.count:
+            raise Refusal(3, f"{shown(self.name)}: no line of it is understood")
+
+
+# The program that tells something on standard error.
+told_by = "waff-trace"
+
+
+def tell(text):
+    print(f"{told_by}: {text}", file=sys.stderr)
+
+
+class Data:
+    """A request for bytes of a file or a device, in the order of the log. Times are in nanoseconds.
+
+    `took` is None where the log has no latency; `kind` is read, write or free; `fresh` is the number of the first byte that the
+    request is known to be the first to write, None where there is none.
+    """
+
+    __slots__ = ("fresh", "kind", "length", "name", "offset", "place", "time", "took")
+
+    def __init__(self, time, took, name, kind, place, offset, length, fresh=None):
+        self.time = time
+        self.took = took
+        self.name = name
+        self.kind = kind
+        self.place = place
+        self.offset = offset
+        self.length = length
+        self.fresh = fresh
+
+
+class Meta:
+    """A request for what is no data: operations, each a word (read, set or add), a volume or device, one of its spaces, and the
+    number of the directory or inode.
+
+    `blocks` tells of data that is given back or taken: the file, its first byte, the one behind its last, and free or alloc.
+    """
+
+    __slots__ = ("blocks", "name", "ops", "time", "took")
+
+    def __init__(self, time, took, name, ops, blocks=None):
+        self.time = time
+        self.took = took
+        self.name = name
+        self.ops = ops
+        self.blocks = blocks
+
+
+class File:
+    """A file or directory of a volume, or a device: where its bytes lie is decided when the whole log is read."""
+
+    __slots__ = ("base", "directory", "end", "inode", "links", "name", "size")
+
+    def __init__(self, name, inode):
+        self.name = name
+        self.inode = inode
+        self.directory = None
+        self.links = 1
+        self.size = None
+        self.end = 0
+        self.base = 0

@@ -1,0 +1,637 @@
+"""Logs of `strace -f -ttt -T`: processes, their descriptors, the files and directories behind these, and offsets in them."""
+
+import collections
+import posixpath
+import re
+
+from .logs import Data, Lines, Meta, is_number, read_lines
+from .model import VOLUME, Volume
+
+HEAD = re.compile(r"(?:\[pid +(\d{1,9})\] +|(\d{1,9}) +)?(\d{1,12})\.(\d{6}|\d{9}) (.*)", re.ASCII)
+TAIL = re.compile(r"(-?\d{1,18}|\?|0x[0-9a-f]{1,16})(?:<.*?>)?([^<]*?)(?: <(\d{1,9})\.(\d{6}|\d{9})>)?$", re.ASCII)
+DESCRIPTOR = re.compile(r"(\d{1,9})(?:<([^>]*)>)?", re.ASCII)
+TEXT = r'"((?:[^"\\]|\\.)*)"'
+PATH = re.compile(r"(?:(AT_FDCWD|\d{1,9})(?:<[^>]*>)?, )?" + TEXT, re.ASCII)
+SIZE = re.compile(r"st_size=(\d{1,18})", re.ASCII)
+
+# What strace says on standard error, which may come in the middle of a line of a log that goes there too.
+ATTACHED = re.compile(r"strace: Process (\d{1,9}) attached", re.ASCII)
+
+UNFINISHED = "<unfinished ...>"
+RESUMED = " resumed>"
+NO_FILES = ("/dev/", "/proc/", "/sys/")
+NOT_OPENED = "calls on descriptors that are no file which the log opens (pipes, sockets, what was open before)"
+
+
+def nanoseconds(seconds, digits):
+    """Seconds with six or nine digits after the point, in nanoseconds."""
+    return int(seconds + digits) * (1000 if len(digits) == 6 else 1)
+
+
+class Open:
+    """An open file with its offset, which descriptors share; `file` is None where it is not of the volume."""
+
+    __slots__ = ("append", "file", "offset", "path")
+
+    def __init__(self, path, file, append):
+        self.path = path
+        self.file = file
+        self.append = append
+        self.offset = 0
+
+
+class Process:
+    """What a process has: descriptors (a table that threads share), those that a new program does not get, a directory (a list of
+    one, which threads share), and a call that is not finished."""
+
+    __slots__ = ("closing", "directory", "files", "pending")
+
+    def __init__(self, files, closing, directory):
+        self.files = files
+        self.closing = closing
+        self.directory = directory
+        self.pending = None
+
+    def child(self, flags):
+        shares_files = "CLONE_FILES" in flags
+        return Process(
+            self.files if shares_files else dict(self.files),
+            self.closing if shares_files else set(self.closing),
+            self.directory if "CLONE_FS" in flags else list(self.directory),
+        )
+
+
+class Call:
+    """A call that has returned: times are in nanoseconds."""
+
+    __slots__ = ("args", "process", "result", "time", "took")
+
+    def __init__(self, process, args, result, time, took):
+        self.process = process
+        self.args = args
+        self.result = result
+        self.time = time
+        self.took = took
+
+    def last(self, place=1):
+        """The last argument as a number, or the one before it (2); None where it is none."""
+        words = self.args.rstrip(") ").rsplit(", ", place)
+        return int(words[1]) if len(words) > place and is_number(words[1]) else None
+
+
+class Reader:
+    def __init__(self, log, under, directory):
+        self.log = log
+        self.under = under
+        self.directory = directory
+        self.store = Volume()
+        self.requests = []
+        self.paths = {}
+        self.folders = set()
+        self.processes = {}
+        self.forking = []
+        self.attached = set()
+        self.idle = collections.Counter()
+
+    # Lines
+
+    def read(self, lines):
+        begun = ""
+        for number, line in enumerate(lines, 1):
+            line, begun = begun + line, ""
+            head = HEAD.match(line)
+            if "strace: Process " in line:
+                attached = ATTACHED.search(line)
+                if attached:
+                    self.attached.add(attached[1])
+                    self.log.without["attached processes"] += 1
+                    begun = line[: attached.start()]
+                    continue
+            if head is None:
+                self.log.not_understood(number, line)
+                continue
+            attached, first, seconds, digits, rest = head.groups()
+            time = nanoseconds(seconds, digits)
+            self.log.at(time)
+            if not self.event(attached or first or "", time, rest):
+                self.log.not_understood(number, line)
+        pending = sum(it.pending is not None for it in self.processes.values())
+        if pending:
+            self.log.without["calls that were not finished"] += pending
+        if self.idle:
+            most = ", ".join(f"{name} {count}" for name, count in self.idle.most_common(6))
+            others = len(self.idle) - 6
+            self.log.without[f"calls that are not modelled ({most}{f' and {others} others' if others > 0 else ''})"] = sum(
+                self.idle.values()
+            )
+
+    def event(self, pid, time, rest):
+        """Takes what a line tells of a process. False where it is not understood."""
+        process = self.processes.get(pid)
+        if process is None:
+            process = self.processes[pid] = self.newcomer(pid)
+        if rest.endswith(UNFINISHED):
+            name = rest.partition("(")[0]
+            process.pending = time, rest[: -len(UNFINISHED)]
+            self.log.without["first parts of calls, which are told with their second parts"] += 1
+            if name in FORKS:
+                self.forking.append(process)
+            return "(" in rest
+        if rest.startswith("<... "):
+            if process.pending is None:
+                return False
+            time, begun = process.pending
+            process.pending = None
+            if process in self.forking:
+                self.forking.remove(process)
+            rest = begun + rest[rest.find(RESUMED) + len(RESUMED) :]
+        elif rest.startswith(("+++ ", "--- ")):
+            self.log.without["signals and ends of processes"] += 1
+            if rest.startswith("+++ "):
+                if process.pending is not None:
+                    self.log.without["calls that were not finished"] += 1
+                del self.processes[pid]
+            return True
+        return self.call(process, time, rest)
+
+    def newcomer(self, pid):
+        """A process that was not seen: the child of a call that is not finished; the first one, which a log on standard error
+        gives no number as long as it is alone; or else one from before the log."""
+        if self.forking and (pid in self.attached or not self.attached):
+            parent = self.forking.pop(0)
+            return parent.child(parent.pending[1])
+        if "" in self.processes and pid not in self.attached:
+            return self.processes[""]
+        return Process({}, set(), [self.directory])
+
+    def call(self, process, time, rest):
+        name, bracket, args = rest.partition("(")
+        at = args.rfind(" = ")
+        tail = TAIL.match(args, at + 3) if bracket and at >= 0 else None
+        if tail is None:
+            return False
+        result, _, seconds, digits = tail.groups()
+        handler = CALLS.get(name)
+        if handler is None:
+            self.idle[name] += 1
+        elif result == "?" or result[0] == "-":
+            self.log.without["calls that failed"] += 1
+        else:
+            took = nanoseconds(seconds, digits) if digits else None
+            answer = int(result, 16 if result.startswith("0x") else 10)
+            return handler(self, Call(process, args[:at], answer, time, took)) is not False
+        return True
+
+    # Paths and descriptors
+
+    def is_outside(self, path):
+        if path.startswith(NO_FILES):
+            return True
+        return bool(self.under) and path != self.under and not path.startswith(self.under + "/")
+
+    def full(self, process, start, text):
+        """A path from the root, or from a directory that is not known."""
+        if not text.startswith("/"):
+            base = process.directory[0]
+            if start not in (None, "AT_FDCWD"):
+                found = process.files.get(int(start))
+                base = found.path if found else None
+            text = f"{base}/{text}" if base else text
+        path = posixpath.normpath(text)
+        return path[1:] if path.startswith("//") else path
+
+    def path(self, call, text=None):
+        """The path that a call names first, None where it names none."""
+        match = text or PATH.match(call.args)
+        if match is None:
+            return None
+        if match[2] == "" and match[1] not in (None, "AT_FDCWD"):
+            found = call.process.files.get(int(match[1]))
+            return found.path if found else None
+        return self.full(call.process, match[1], match[2])
+
+    def file(self, path):
+        file = self.paths.get(path)
+        if file is None:
+            file = self.paths[path] = self.store.new_file(path)
+            self.folders.add(posixpath.dirname(path))
+        return file
+
+    def parent(self, path):
+        """The number of the directory that a path lies in."""
+        return self.store.directory(self.file(posixpath.dirname(path) or "."))
+
+    def opened(self, call, args=None):
+        """What is open under the descriptor that stands first, None where it is no file of the volume."""
+        match = DESCRIPTOR.match(call.args if args is None else args)
+        if match is None:
+            return None
+        found = call.process.files.get(int(match[1]))
+        if found is None and match[2] and match[2].startswith("/"):
+            path = match[2].removesuffix(" (deleted)")
+            found = self.new_open(path, "")
+            call.process.files[int(match[1])] = found
+        if found is None:
+            self.log.without[NOT_OPENED] += 1
+        elif found.file is None:
+            self.log.without["calls on files elsewhere"] += 1
+            return None
+        return found
+
+    def new_open(self, path, flags):
+        return Open(path, None if self.is_outside(path) else self.file(path), "O_APPEND" in flags)
+
+    def put(self, call, descriptor, found, closes):
+        call.process.files[descriptor] = found
+        if closes:
+            call.process.closing.add(descriptor)
+        else:
+            call.process.closing.discard(descriptor)
+
+    def meta(self, call, name, *ops, blocks=None):
+        found = [(word, VOLUME, space, number) for word, space, number in ops]
+        self.requests.append(Meta(call.time, call.took, name, found, blocks))
+
+    def elsewhere(self, path):
+        """Whether a path is not of the volume; it is counted then."""
+        if path is None or self.is_outside(path):
+            self.log.without["calls on files elsewhere"] += 1
+            return True
+        return False
+
+    # Data
+
+    def moved(self, call, found, kind, at, length, took):
+        """A request for bytes that a call has read or written."""
+        file = found.file
+        if length == 0:
+            self.requests.append(Meta(call.time, took, kind, [("read", VOLUME, "inode", file.inode)]))
+            return
+        end, fresh = at + length, None
+        if kind == "write" and file.size is not None and end > file.size:
+            fresh, file.size = max(at, file.size), end
+        file.end = max(file.end, end)
+        self.requests.append(Data(call.time, took, kind, kind, file, at, length, fresh))
+
+    def sequential(self, call, kind, length, took, found):
+        if kind == "write" and found.append:
+            found.offset = found.file.end if found.file.size is None else found.file.size
+        self.moved(call, found, kind, found.offset, length, took)
+        found.offset += length
+
+    def read_next(self, call):
+        found = self.opened(call)
+        if found:
+            self.sequential(call, "read", call.result, call.took, found)
+
+    def write_next(self, call):
+        found = self.opened(call)
+        if found:
+            self.sequential(call, "write", call.result, call.took, found)
+
+    def at_offset(self, call, kind, place):
+        at = call.last(place)
+        if at is None:
+            return False
+        found = self.opened(call)
+        if found:
+            self.moved(call, found, kind, at, call.result, call.took)
+        return True
+
+    def copied(self, call, source, at_source, target, at_target):
+        """A call that reads from one file and writes to another, at offsets or where these are. At the end of the one nothing is
+        written to the other."""
+        halves = (None, None) if call.took is None else (call.took - call.took // 2, call.took // 2)
+        if call.result == 0:
+            target, halves = None, (call.took, None)
+        for found, at, kind, took in ((source, at_source, "read", halves[0]), (target, at_target, "write", halves[1])):
+            if found and at is None:
+                self.sequential(call, kind, call.result, took, found)
+            elif found:
+                self.moved(call, found, kind, at, call.result, took)
+
+    def copy_range(self, call):
+        words = call.args.split(", ")
+        if len(words) < 6:
+            return False
+        offsets = [int(it.strip("[]")) if is_number(it.strip("[]")) else None for it in (words[1], words[3])]
+        self.copied(call, self.opened(call), offsets[0], self.opened(call, words[2]), offsets[1])
+        return True
+
+    def send_file(self, call):
+        words = call.args.split(", ")
+        if len(words) < 4:
+            return False
+        first = words[2].strip("[]").split(" ")[0]
+        offset = int(first) if is_number(first) else None
+        self.copied(call, self.opened(call, words[1]), offset, self.opened(call), None)
+        return True
+
+    def seek(self, call):
+        self.idle["lseek"] += 1
+        match = DESCRIPTOR.match(call.args)
+        found = call.process.files.get(int(match[1])) if match else None
+        if found:
+            found.offset = call.result
+            if found.file and ", 0, SEEK_END" in call.args:
+                found.file.size = call.result
+
+    # Descriptors
+
+    def open(self, call, flags=None):
+        match = PATH.match(call.args)
+        path = self.path(call, match)
+        if path is None:
+            return False
+        flags = call.args[match.end() :] if flags is None else flags
+        if "O_TMPFILE" in flags:
+            path = f"{path}/#{call.time}"
+        found = self.new_open(path, flags) if path not in self.paths or self.is_outside(path) else None
+        is_made = found is not None and ("O_CREAT" in flags or "O_TMPFILE" in flags)
+        found = found or self.new_open(path, flags)
+        self.put(call, call.result, found, "O_CLOEXEC" in flags)
+        file = found.file
+        if file is None:
+            self.log.without["calls on files elsewhere"] += 1
+        elif is_made:
+            file.size = 0
+            self.meta(call, "create", ("add", "dir", self.parent(path)), ("set", "inode", file.inode))
+        elif "O_TRUNC" in flags:
+            self.truncated(call, "open", file, 0)
+        else:
+            self.meta(call, "open", ("read", "inode", file.inode))
+        return True
+
+    def create(self, call):
+        return self.open(call, "O_CREAT|O_WRONLY|O_TRUNC")
+
+    def close(self, call):
+        self.idle["close"] += 1
+        match = DESCRIPTOR.match(call.args)
+        if match:
+            call.process.files.pop(int(match[1]), None)
+
+    def close_range(self, call):
+        self.idle["close_range"] += 1
+        words = call.args.rstrip(")").split(", ")
+        first, last = (int(it) if is_number(it) else 1 << 32 for it in (words * 2)[:2])
+        if "CLOSE_RANGE_CLOEXEC" in call.args:
+            call.process.closing.update(it for it in call.process.files if first <= it <= last)
+            return
+        for descriptor in [it for it in call.process.files if first <= it <= last]:
+            del call.process.files[descriptor]
+
+    def duplicate(self, call):
+        self.idle["dup"] += 1
+        self.duplicated(call, "O_CLOEXEC" in call.args)
+
+    def control(self, call):
+        self.idle["fcntl"] += 1
+        if "F_DUPFD" in call.args:
+            self.duplicated(call, "F_DUPFD_CLOEXEC" in call.args)
+        elif "F_SETFD" in call.args:
+            match = DESCRIPTOR.match(call.args)
+            if match and int(match[1]) in call.process.files:
+                self.put(call, int(match[1]), call.process.files[int(match[1])], "FD_CLOEXEC" in call.args)
+
+    def duplicated(self, call, closes):
+        match = DESCRIPTOR.match(call.args)
+        found = call.process.files.get(int(match[1])) if match else None
+        if found:
+            self.put(call, call.result, found, closes)
+        else:
+            call.process.files.pop(call.result, None)
+
+    # Names and inodes
+
+    def named(self, call):
+        """The file that a call names by a path or by a descriptor; None where it is none of the volume."""
+        match = PATH.match(call.args)
+        if match is None or (match[2] == "" and match[1] is not None and match[1] != "AT_FDCWD"):
+            found = self.opened(call)
+            return found.file if found else None
+        path = self.path(call, match)
+        return None if self.elsewhere(path) else self.file(path)
+
+    def status(self, call):
+        file = self.named(call)
+        if file:
+            size = SIZE.search(call.args)
+            if size and file.size is None:
+                file.size = int(size[1])
+            self.meta(call, "stat", ("read", "inode", file.inode))
+
+    def set_status(self, call):
+        file = self.named(call)
+        if file:
+            self.meta(call, "setattr", ("set", "inode", file.inode))
+
+    def list_names(self, call):
+        found = self.opened(call)
+        if found:
+            self.meta(call, "readdir", ("read", "dir", self.store.directory(found.file)))
+
+    def flush(self, call):
+        found = self.opened(call)
+        if found:
+            self.meta(call, "sync", ("read", "inode", found.file.inode))
+
+    def flush_all(self, call):
+        self.meta(call, "sync", ("read", "vol", 0))
+
+    def truncated(self, call, name, file, size):
+        end = file.end if file.size is None else file.size
+        file.size = size
+        blocks = (file, size, min(end, file.end), "free") if size < min(end, file.end) else None
+        self.meta(call, name, ("set", "inode", file.inode), blocks=blocks)
+
+    def truncate(self, call):
+        size = call.last()
+        file = self.named(call)
+        if file and size is not None:
+            self.truncated(call, "truncate", file, size)
+        return size is not None
+
+    def allocate(self, call):
+        words = call.args.rstrip(")").rsplit(", ", 3)
+        if len(words) < 4 or not (is_number(words[2]) and is_number(words[3])):
+            return False
+        found, first, end = self.opened(call), int(words[2]), int(words[2]) + int(words[3])
+        if found:
+            file = found.file
+            gives_back = "PUNCH_HOLE" in words[1]
+            blocks = (file, first, end, "free" if gives_back else "alloc") if first < end else None
+            if not gives_back and "KEEP_SIZE" not in words[1]:
+                file.size = max(file.size or 0, end)
+            file.end = max(file.end, end)
+            self.meta(call, "fallocate", ("set", "inode", file.inode), blocks=blocks)
+        return True
+
+    def make_directory(self, call):
+        path = self.path(call)
+        if not self.elsewhere(path):
+            parent, file = self.parent(path), self.file(path)
+            self.store.directory(file)
+            self.meta(call, "mkdir", ("add", "dir", parent), ("set", "inode", file.inode))
+
+    def make_link(self, call):
+        texts = list(PATH.finditer(call.args))
+        if len(texts) < 2:
+            return False
+        path, source = self.path(call, texts[1]), self.path(call, texts[0])
+        if not self.elsewhere(path):
+            file = self.file(source)
+            file.links += 1
+            self.paths[path] = file
+            self.meta(call, "link", ("add", "dir", self.parent(path)), ("set", "inode", file.inode))
+        return True
+
+    def make_symbolic_link(self, call):
+        texts = list(PATH.finditer(call.args))
+        if len(texts) < 2:
+            return False
+        path = self.path(call, texts[1])
+        if not self.elsewhere(path):
+            parent = self.parent(path)
+            self.meta(call, "create", ("add", "dir", parent), ("set", "inode", self.file(path).inode))
+        return True
+
+    def gone(self, path):
+        """Takes a name away. Answers the file and the blocks that it gives back, if that was its last name."""
+        file = self.file(path)
+        del self.paths[path]
+        file.links -= 1
+        end = file.end if file.size is None else min(file.end, file.size)
+        return file, (file, 0, end, "free") if file.links == 0 and end else None
+
+    def remove(self, call):
+        path = self.path(call)
+        if not self.elsewhere(path):
+            parent = self.parent(path)
+            file, blocks = self.gone(path)
+            name = "rmdir" if "AT_REMOVEDIR" in call.args else "unlink"
+            self.meta(call, name, ("add", "dir", parent), ("set", "inode", file.inode), blocks=blocks)
+
+    def remove_directory(self, call):
+        path = self.path(call)
+        if not self.elsewhere(path):
+            parent = self.parent(path)
+            self.meta(call, "rmdir", ("add", "dir", parent), ("set", "inode", self.gone(path)[0].inode))
+
+    def rename(self, call):
+        texts = list(PATH.finditer(call.args))
+        if len(texts) < 2:
+            return False
+        old, new = self.path(call, texts[0]), self.path(call, texts[1])
+        if self.elsewhere(old) or self.elsewhere(new):
+            return True
+        if old == new:
+            self.log.without["renames to the same name"] += 1
+            return True
+        file = self.file(old)
+        blocks = self.gone(new)[1] if new in self.paths else None
+        self.paths[new] = self.paths.pop(old)
+        self.folders.add(posixpath.dirname(new))
+        if old in self.folders:
+            for path in [it for it in self.paths if it.startswith(old + "/")]:
+                self.paths[new + path[len(old) :]] = self.paths.pop(path)
+                self.folders.add(posixpath.dirname(new + path[len(old) :]))
+        places = dict.fromkeys([self.parent(old), self.parent(new)])
+        ops = [("add", "dir", number) for number in places]
+        self.meta(call, "rename", *ops, ("set", "inode", file.inode), blocks=blocks)
+        return True
+
+    # Processes
+
+    def fork(self, call):
+        self.idle["fork"] += 1
+        pid = str(call.result)
+        if call.result and pid not in self.processes:
+            self.processes[pid] = call.process.child(call.args)
+
+    def new_program(self, call):
+        self.idle["execve"] += 1
+        process = call.process
+        process.files = {it: found for it, found in process.files.items() if it not in process.closing}
+        process.closing = set()
+
+    def change_directory(self, call):
+        self.idle["chdir"] += 1
+        call.process.directory[0] = self.path(call)
+
+    def change_to_open(self, call):
+        self.idle["fchdir"] += 1
+        match = DESCRIPTOR.match(call.args)
+        found = call.process.files.get(int(match[1])) if match else None
+        call.process.directory[0] = found.path if found else None
+
+    def tell_directory(self, call):
+        self.idle["getcwd"] += 1
+        path = self.path(call)
+        if call.process.directory[0] is None and path:
+            call.process.directory[0] = path
+
+
+FORKS = ("clone", "clone3", "fork", "vfork")
+
+
+def calls():
+    """What is done at each call that is modelled, or that tells of descriptors, directories or processes."""
+    table = {
+        Reader.open: "open openat openat2",
+        Reader.create: "creat",
+        Reader.close: "close",
+        Reader.close_range: "close_range",
+        Reader.duplicate: "dup dup2 dup3",
+        Reader.control: "fcntl",
+        Reader.read_next: "read readv",
+        Reader.write_next: "write writev",
+        Reader.copy_range: "copy_file_range",
+        Reader.send_file: "sendfile",
+        Reader.seek: "lseek",
+        Reader.status: "stat lstat fstat newfstatat statx access faccessat faccessat2 readlink readlinkat"
+        " getxattr lgetxattr fgetxattr listxattr llistxattr flistxattr",
+        Reader.set_status: "chmod fchmod fchmodat chown lchown fchown fchownat utime utimes utimensat futimesat"
+        " setxattr lsetxattr fsetxattr removexattr lremovexattr fremovexattr",
+        Reader.list_names: "getdents getdents64",
+        Reader.flush: "fsync fdatasync sync_file_range",
+        Reader.flush_all: "sync syncfs",
+        Reader.truncate: "truncate ftruncate",
+        Reader.allocate: "fallocate",
+        Reader.make_directory: "mkdir mkdirat",
+        Reader.make_link: "link linkat",
+        Reader.make_symbolic_link: "symlink symlinkat",
+        Reader.remove: "unlink unlinkat",
+        Reader.remove_directory: "rmdir",
+        Reader.rename: "rename renameat renameat2",
+        Reader.fork: " ".join(FORKS),
+        Reader.new_program: "execve execveat",
+        Reader.change_directory: "chdir",
+        Reader.change_to_open: "fchdir",
+        Reader.tell_directory: "getcwd",
+    }
+    found = {name: handler for handler, names in table.items() for name in names.split()}
+    for name, kind, place in (
+        ("pread64", "read", 1),
+        ("preadv", "read", 1),
+        ("preadv2", "read", 2),
+        ("pwrite64", "write", 1),
+        ("pwritev", "write", 1),
+        ("pwritev2", "write", 2),
+    ):
+        found[name] = lambda reader, call, kind=kind, place=place: reader.at_offset(call, kind, place)
+    return found
+
+
+CALLS = calls()
+
+
+def read(asked):
+    """The volume and the requests of the log."""
+    lines = read_lines(asked.log)
+    log = Lines(asked.log, len(lines))
+    under = posixpath.normpath(asked.under) if asked.under else None
+    reader = Reader(log, under, asked.cwd)
+    reader.read(lines)
+    log.report()
+    return reader.store, reader.requests

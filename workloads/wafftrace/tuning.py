@@ -1,0 +1,186 @@
+"""Trees with other numbers of stripes and other units, and how the proved program plans a trace under each."""
+
+import itertools
+import os
+import re
+import subprocess
+import tempfile
+import tomllib
+
+from .logs import Refusal, read_text, shown, tell
+from .traces import read_trace, write_file
+from .words import Words, number, run_words
+
+ROOT = os.path.dirname(os.path.dirname(os.path.dirname(os.path.realpath(__file__))))
+STRIPES = (1, 2, 4, 8, 16, 32)
+UNITS = tuple(1 << n for n in range(11))
+MOST_TREES = 1000
+MOST_OWNERS = 256
+
+
+class Tree:
+    """A hierarchy as its tables: pairs of affinity and parent, pairs of space and size, and maps by space."""
+
+    def __init__(self, model, affinities, spaces, maps):
+        self.model = model
+        self.affinities = affinities
+        self.spaces = spaces
+        self.maps = maps
+
+    def text(self):
+        lines = [f'model = "{self.model}"', "", "affinity = ["]
+        for name, parent in self.affinities:
+            lines.append(f'    {{ name = "{name}"' + (f', parent = "{parent}"' if parent else "") + " },")
+        lines += ["]", "", "space = ["]
+        lines += [f'    {{ name = "{name}", size = {size} }},' for name, size in self.spaces]
+        lines += ["]", "", "map = ["]
+        for space, (unit, owners) in self.maps.items():
+            names = ", ".join(f'"{name}"' for name in owners)
+            lines.append(f'    {{ space = "{space}", unit = {unit}, to = [{names}] }},')
+        return "\n".join([*lines, "]"]) + "\n"
+
+    def with_stripes(self, spaces, count, unit):
+        """The tree in which these spaces have so many stripes, each in a unit of so many cells; the same affinities stay where
+        their number is the same. Where other spaces have the same list of stripes, they get the new list too."""
+        affinities, maps = self.affinities, dict(self.maps)
+        for old in dict.fromkeys(tuple(self.maps[space][1]) for space in spaces):
+            new = list(old)
+            if len(new) != count:
+                affinities, new = striped(affinities, new, count)
+            maps = {space: (width, new if tuple(to) == old else to) for space, (width, to) in maps.items()}
+        for space in spaces:
+            maps[space] = unit, maps[space][1]
+        return Tree(self.model, affinities, self.spaces, maps)
+
+
+def striped(affinities, owners, count):
+    """The affinities, and the names of the stripes, if there are so many of these: leaves below one parent, named alike."""
+    parents = dict(affinities)
+    above = {parents[it] for it in owners}
+    if len(above) != 1 or None in above or len(set(owners)) != len(owners) or set(owners) & set(parents.values()):
+        raise Refusal(3, f"{', '.join(owners[:4])}: no stripes, which are leaves below one affinity")
+    stem = re.sub(r"[0-9]+$", "", owners[0])
+    new = [f"{stem}{n}" for n in range(count)]
+    kept = [pair for pair in affinities if pair[0] not in owners]
+    if any(name in new for name, _ in kept) or any(len(name) > 32 for name in new):
+        raise Refusal(3, f"{owners[0]}: no names for {count} stripes like it")
+    at = min(n for n, pair in enumerate(affinities) if pair[0] in owners)
+    return [*kept[:at], *((name, above.copy().pop()) for name in new), *kept[at:]], new
+
+
+def read_tree(name):
+    try:
+        table = tomllib.loads(read_text(name).removeprefix("\ufeff"))
+        affinities = [(it["name"], it.get("parent")) for it in table["affinity"]]
+        spaces = [(it["name"], it["size"]) for it in table["space"]]
+        maps = {it["space"]: (it["unit"], it["to"]) for it in table["map"]}
+        parents = dict(affinities)
+        if any(owner not in parents for _, owners in maps.values() for owner in owners) or set(maps) != set(dict(spaces)):
+            raise ValueError("maps of other affinities or spaces")
+        return Tree(table["model"], affinities, spaces, maps)
+    except (tomllib.TOMLDecodeError, UnicodeError, KeyError, TypeError, ValueError, AttributeError) as fault:
+        raise Refusal(3, f"{shown(name)}: no hierarchy, `waff explain` tells why ({fault})") from None
+
+
+def largest(tree):
+    """The spaces that are tuned where none is named: the largest of those that have stripes, and those as large."""
+    sizes = {space: size for space, size in tree.spaces if len(tree.maps[space][1]) > 1}
+    if not sizes:
+        raise Refusal(3, "no space has stripes: name one with --space")
+    return [space for space, size in sizes.items() if size == max(sizes.values())]
+
+
+class Figures:
+    """How long the list plan is, and the latencies of its messages: their sum, and how many messages there are."""
+
+    def __init__(self, length, latencies, messages):
+        self.length = length
+        self.latencies = latencies
+        self.messages = messages
+
+    def mean(self):
+        if self.messages == 0:
+            return "-"
+        hundredths = 100 * self.latencies // self.messages
+        return f"{hundredths // 100}.{hundredths % 100:02}"
+
+
+def rank(program, trees, trace, releases, workers):
+    """The figures of the trees' list plans, in order. This is the one place that knows which command tells them: the length is that
+    of `waff plan`, the latencies are the finishes there less the releases of the trace."""
+    figures = []
+    with tempfile.NamedTemporaryFile("w", suffix=".toml") as file:
+        for tree in trees:
+            file.seek(0)
+            file.truncate()
+            file.write(tree.text())
+            file.flush()
+            try:
+                done = subprocess.run(
+                    [*program, "plan", file.name, trace, "--workers", str(workers)],
+                    capture_output=True, text=True, check=False, stdin=subprocess.DEVNULL,
+                )
+            except OSError as fault:
+                raise Refusal(4, f"{shown(program[0])}: {fault.strerror}") from None
+            if done.returncode != 0:
+                raise Refusal(3, f"the program refuses: {shown(done.stderr.strip())}")
+            rows = [line.split(",") for line in done.stdout.splitlines()[1:]]
+            finishes = [int(row[3]) for row in rows if len(row) == 5]
+            length = next(int(row[1]) for row in rows if row[0] == "length")
+            figures.append(Figures(length, sum(finishes) - sum(releases), len(finishes)))
+    return figures
+
+
+def numbers(word):
+    return [number(1, 1 << 18, "number")(it) for it in word.split(",")]
+
+
+def words():
+    top = Words(
+        prog="waff-tune",
+        description="Tries other numbers of stripes and other units for spaces of a tree, and tells for each how the proved program"
+        " plans the trace for K workers: its length, and the mean latency of its messages. The best comes first: by the length, then"
+        " by the mean, then by fewer stripes. The first line is the tree as it is. Tested, not proved; its numbers are the program's.",
+    )
+    top.add_argument("hier", metavar="HIER")
+    top.add_argument("trace", metavar="TRACE")
+    top.add_argument("--workers", type=number(1, 64, "number"), metavar="K", required=True)
+    top.add_argument(
+        "--space", nargs="+", metavar="NAME", help="spaces that are tuned together; without it the largest of those with stripes"
+    )
+    top.add_argument("--stripes", type=numbers, metavar="N,N..", default=list(STRIPES), help="numbers of stripes (1,2,4 .. 32)")
+    top.add_argument("--unit", type=numbers, metavar="N,N..", help="units (1,2,4 .. 1024, up to the size of the space)")
+    top.add_argument("--write", metavar="FILE", help="write the best tree to this file")
+    top.add_argument(
+        "--program", metavar="FILE", default=os.environ.get("WAFF", os.path.join(ROOT, "waff")), help="the proved program"
+    )
+    return top
+
+
+def tune(asked):
+    if asked.trace == "-":
+        raise Refusal(2, "the trace is read once for each tree, so it is a file")
+    tree = read_tree(asked.hier)
+    releases = [it.release for it in read_trace(asked.trace).messages]
+    spaces = list(dict.fromkeys(asked.space or largest(tree)))
+    for space in spaces:
+        if space not in tree.maps:
+            raise Refusal(2, f"--space {shown(space)}: {shown(asked.hier)} has no such space")
+    most = max(size for space, size in tree.spaces if space in spaces)
+    units = asked.unit or [unit for unit in UNITS if unit <= most]
+    tries = list(dict.fromkeys(itertools.product(asked.stripes, units)))
+    if len(tries) > MOST_TREES or max(asked.stripes) > MOST_OWNERS:
+        raise Refusal(2, f"{len(tries)} trees of up to {max(asked.stripes)} stripes: at most {MOST_TREES} of {MOST_OWNERS}")
+    trees = [tree.with_stripes(spaces, *it) for it in tries]
+    tell(f"{len(trees)} trees with other stripes or units for {', '.join(spaces)}")
+    first, *others = rank([asked.program], [tree, *trees], asked.trace, releases, asked.workers)
+    found = sorted(zip(others, tries, trees, strict=True), key=lambda it: (it[0].length, it[0].latencies, it[1]))
+    lines = ["stripes,unit,length,mean", f"-,-,{first.length},{first.mean()}"]
+    lines += [f"{stripes},{unit},{it.length},{it.mean()}" for it, (stripes, unit), _ in found]
+    if asked.write:
+        write_file(asked.write, found[0][2].text())
+    return "\n".join(lines) + "\n"
+
+
+def main(given):
+    return run_words(given, words, tune)

@@ -1,0 +1,210 @@
+"""The words of the command line, and what is done for them."""
+
+import argparse
+import errno
+import os
+import re
+import signal
+import sys
+from fractions import Fraction
+
+from . import blocks, fio, logs, model, plans, strace, traces
+from .logs import Refusal, is_number, tell
+
+COST_HELP = """\
+What a cost is: the time for which a message holds its affinity and a worker. `--cost latency` takes the latency of the log,
+which is that only where the request did not wait: in a queue, for a lock, for the disk. A latency that includes waiting is no
+cost, since the plan adds the waits of its own tree and workers, and then they count twice. Where requests were in flight
+together, take `--cost size`: `--base` microseconds and `--per-kib` for each KiB begun.
+
+What is left out: a trace has no order but that of what excludes each other. Two messages of one client run side by side in a plan
+where they did not in the log, unless their releases keep them apart."""
+
+
+class Words(argparse.ArgumentParser):
+    def error(self, message):
+        raise Refusal(2, f"{message} (`{self.prog} --help` tells the words)")
+
+
+def number(least, most, what):
+    def read(word):
+        if not is_number(word) or not least <= int(word) <= most:
+            raise argparse.ArgumentTypeError(f"{word!r} is no {what} from {least} to {most}")
+        return int(word)
+
+    return read
+
+
+def nanoseconds(word):
+    """Microseconds, with a point where they are no whole number, in nanoseconds."""
+    if re.fullmatch(r"[0-9]{1,9}(\.[0-9]{1,3})?", word) is None:
+        raise argparse.ArgumentTypeError(f"{word!r} is no number of microseconds with at most three digits after the point")
+    return int(Fraction(word) * 1000)
+
+
+def tick(word):
+    found = nanoseconds(word)
+    if found == 0:
+        raise argparse.ArgumentTypeError("a tick is longer than 0")
+    return found
+
+
+def speed(word):
+    if re.fullmatch(r"[0-9]{1,9}(\.[0-9]{1,9})?", word) is None or Fraction(word) == 0:
+        raise argparse.ArgumentTypeError(f"{word!r} is no speed above 0")
+    return Fraction(word)
+
+
+def imported(part):
+    """The words that all kinds of logs take."""
+    part.add_argument("--tree", metavar="FILE", help="write a hierarchy that accepts the trace to this file")
+    part.add_argument(
+        "--cell",
+        type=number(1, 1 << 50, "number of bytes"),
+        metavar="BYTES",
+        help="bytes of a cell; without it the least power of two from 4096 on with which all cells fit a hierarchy",
+    )
+    part.add_argument(
+        "--stripes", type=number(1, 256, "number"), metavar="N", default=4, help="stripes of the volume or of each device (4)"
+    )
+    part.add_argument(
+        "--unit",
+        type=number(1, model.CELLS, "number"),
+        metavar="N",
+        help="cells in a row in one stripe; without it the least power of two from 8 to 32 that holds the largest request",
+    )
+    part.add_argument("--tick", type=tick, metavar="MICROSECONDS", default=1000, help="microseconds in a tick (1)")
+    part.add_argument(
+        "--cost", choices=["latency", "size"], default="latency", help="cost by the latency in the log (latency), or by the size"
+    )
+    part.add_argument(
+        "--base", type=nanoseconds, metavar="MICROSECONDS", default=10000, help="cost by size: of each request (10)"
+    )
+    part.add_argument(
+        "--per-kib", type=nanoseconds, metavar="MICROSECONDS", default=1000, help="cost by size: of each KiB begun (1)"
+    )
+
+
+def of_volume(part):
+    part.add_argument(
+        "--blocks",
+        choices=["new", "all", "none"],
+        default="new",
+        help="which writes take blocks, as messages `alloc` over the map of free blocks: those that make a file longer (new),"
+        " all, or none; with none nothing gives back blocks either",
+    )
+
+
+def words():
+    top = Words(prog="waff-trace", description="Makes traces of waff out of logs of real systems. Tested, not proved.")
+    parts = top.add_subparsers(dest="command", metavar="COMMAND", required=True, parser_class=Words)
+
+    def part(name, what, run, epilog=None):
+        found = parts.add_parser(
+            name, help=what, description=what[0].upper() + what[1:] + ".", epilog=epilog,
+            formatter_class=argparse.RawDescriptionHelpFormatter,
+        )
+        found.set_defaults(run=run)
+        return found
+
+    found = part("fio", "the trace of iologs of fio (version 2 or 3), one for each job", of_log(fio.read), COST_HELP)
+    found.add_argument("logs", nargs="+", metavar="LOG", help="an iolog; `-` is standard input")
+    found.add_argument(
+        "--latencies", nargs="+", metavar="FILE", help="the logs of latencies of these jobs (write_lat_log), in the order of LOG"
+    )
+    imported(found)
+    of_volume(found)
+
+    found = part("strace", "the trace of a log of `strace -f -ttt -T -o LOG`", of_log(strace.read), COST_HELP)
+    found.add_argument("log", metavar="LOG", help="the log; `-` is standard input")
+    found.add_argument("--under", metavar="DIRECTORY", help="take only files in this directory or below it")
+    found.add_argument("--cwd", metavar="DIRECTORY", help="where the first process was started, for names that begin there")
+    imported(found)
+    of_volume(found)
+
+    found = part("blkparse", "the trace of the default text of blkparse", of_log(blocks.read_blkparse), COST_HELP)
+    found.add_argument("log", metavar="LOG", help="the text; `-` is standard input")
+    imported(found)
+
+    found = part("msr", "the trace of a log in the form of SNIA's MSR Cambridge set", of_log(blocks.read_msr), COST_HELP)
+    found.add_argument("log", metavar="CSV", help="the log; `-` is standard input")
+    imported(found)
+
+    found = part("pace", "the trace with its releases divided, or without them", traces.pace)
+    found.add_argument("trace", metavar="TRACE")
+    either = found.add_mutually_exclusive_group(required=True)
+    either.add_argument("--speed", type=speed, metavar="N", help="divide each release by N (2, 0.5), rounded down")
+    either.add_argument("--at-once", action="store_true", help="leave the releases out")
+
+    found = part("window", "a file for each window of a trace, with its releases from 0; prints their names", traces.window)
+    found.add_argument("trace", metavar="TRACE")
+    either = found.add_mutually_exclusive_group(required=True)
+    either.add_argument("--messages", type=number(1, 1 << 50, "number"), metavar="N", help="windows of N messages")
+    either.add_argument("--ticks", type=number(1, 1 << 50, "number"), metavar="T", help="windows of T ticks, by releases")
+    found.add_argument(
+        "--every", type=number(1, 1 << 50, "number"), metavar="N", help="a window begins at each N messages or ticks (its width)"
+    )
+    found.add_argument("--out", metavar="PREFIX", default="window-", help="how the files' names begin (window-)")
+
+    found = part("sort", "the trace in the order of its releases", traces.sort)
+    found.add_argument("trace", metavar="TRACE")
+
+    found = part("stats", "what a trace has, and how much of it is over the limits of waff", traces.stats)
+    found.add_argument("trace", metavar="TRACE")
+
+    found = part("plan", "the text of a plan that another scheduler made, for `waff check` and `waff draw`", plans.plan)
+    found.add_argument("hier", metavar="HIER")
+    found.add_argument("trace", metavar="TRACE")
+    found.add_argument("starts", metavar="STARTS", help="lines of a message's number, its start, and its worker if it has one")
+    found.add_argument(
+        "--workers", type=number(1, 64, "number"), metavar="K", help="how many workers it is for; without it the greatest worker"
+    )
+    return top
+
+
+def of_log(read):
+    """What is done for a log: the tree is written where one is wanted, and the answer is the trace."""
+
+    def run(asked):
+        store, requests = read(asked)
+        if requests and asked.cost == "latency" and all(it.took is None for it in requests):
+            tell("the log has no latencies: costs are those of sizes")
+            asked.cost = "size"
+        shape = model.Shape(store, requests, asked)
+        messages = model.Messages(store, shape, asked)
+        messages.add(requests)
+        text = model.tree_text(store, shape, asked.stripes)
+        model.warn(messages)
+        if asked.tree:
+            traces.write_file(asked.tree, text)
+        return model.trace_text(messages)
+
+    return run
+
+
+def run_words(given, parser, run):
+    """Runs what words ask for, and answers the exit status: 0, or 2 for words, 3 for a bad file, 4 for one that cannot be read
+    or written. What is refused is told in one line."""
+    signal.signal(signal.SIGPIPE, signal.SIG_DFL)
+    sys.stderr.reconfigure(errors="backslashreplace")
+    logs.told_by = parser().prog
+    try:
+        asked = parser().parse_args(given)
+        if sum(it == "-" for it in given) > 1:
+            raise Refusal(2, "two files from standard input")
+        text = run(asked)
+        sys.stdout.buffer.write(text.encode("utf-8", "surrogateescape"))
+        sys.stdout.buffer.flush()
+    except Refusal as refusal:
+        tell(str(refusal))
+        return refusal.status
+    except OSError as fault:
+        tell(f"standard output: {os.strerror(fault.errno or errno.EIO)}")
+        # What was not written is not tried again.
+        os.dup2(os.open(os.devnull, os.O_WRONLY), 1)
+        return 4
+    return 0
+
+
+def main(given):
+    return run_words(given, words, lambda asked: asked.run(asked))
