@@ -4,3 +4,4 @@ pub mod WalkLemmas
 pub mod KindLemmas
 pub mod OnceLemmas
 pub mod RowLemmas
+mod PreorderLemmas

@@ -118,7 +118,7 @@ times_walk tree k d r a low =
     = get_or-map-range_with_len (children_of tree) 0 (length tree) r r [] low (omega arith) in
     ap (λ cs. mark a r + times a (flat_map w cs)) read ∙ ap (λ n. mark a r + n) (times_flat a w (children_of tree r))
 
-parent_is : (r : ℕ) (o : Option ℕ) → is_parent r o ≡ true → o ≡ Some r
+pub parent_is : (r : ℕ) (o : Option ℕ) → is_parent r o ≡ true → o ≡ Some r
 parent_is r None h = absurd (false≢true h)
 parent_is r (Some p) h = ap (λ x. Some x) (grind (arith, nat_tests, h))
 

@@ -3,7 +3,8 @@
 
 ghost use Rattle.std.specs.Prelude.{ℕ, List};
 ghost use Rattle.waff_model.specs.Tree.{IsTree, Node};
-ghost use Rattle.waff_draw.specs.Laws.{LaneIsOne, RowIsOfLane};
+ghost use Rattle.waff_draw.specs.Lanes.{lanes_of};
+ghost use Rattle.waff_draw.specs.Laws.{DepthIsSteps, IsPreorder, LaneIsOne, RowIsOfLane};
 
 /// An affinity that has a message has one lane, and no other affinity has any.
 pub fn lane_is_one()
@@ -13,4 +14,17 @@ pub fn lane_is_one()
 /// The row in which the messages of an affinity are drawn is that of its lane.
 pub fn row_is_of_lane()
     ensures row { (tree : List Node) (assigned : List ℕ) → IsTree tree → RowIsOfLane tree assigned }
+{}
+
+/// A lane is set in by the number of steps from its affinity to the root.
+pub fn depth_is_steps()
+    ensures { (tree : List Node) (assigned : List ℕ)
+        → IsTree tree → DepthIsSteps tree assigned }
+{}
+
+/// The lanes stand in preorder: what is below an affinity follows right behind it, and children in
+/// their order.
+pub fn lanes_in_preorder()
+    ensures { (tree : List Node) (assigned : List ℕ)
+        → IsTree tree → IsPreorder tree (lanes_of tree assigned) }
 {}

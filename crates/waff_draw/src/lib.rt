@@ -2,7 +2,7 @@
 //! message.
 //!
 //! - `lanes`: the affinities that have a message, in preorder; `marks`: which numbers a list has;
-//!   `laws`: each has one lane, where its bars are.
+//!   `laws`: each has one lane, where its bars are, and the lanes are in preorder.
 //! - `chart`: what a picture shows, made ready for drawing.
 //! - `axis`: round numbers of ticks; `xml`: names in a document of markup.
 //! - `svg`: the text of the picture; `bars`: its bars; `pieces`: what both are made of.
@@ -21,5 +21,5 @@ mod svg;
 mod xml;
 
 pub use events::events_text;
-pub use laws::{lane_is_one, row_is_of_lane};
+pub use laws::{depth_is_steps, lane_is_one, lanes_in_preorder, row_is_of_lane};
 pub use svg::svg_text;

@@ -1,15 +1,16 @@
 -- The costs of the affinities add up; costs below an affinity, by messages and by affinities.
-use Rattle.std.proofs.Common.{◌≡◌, ℕ, ◌-◌, ◌<◌, inl, inr, true, cond, List, All, length, get_or, sum_by, arith, sym, ◌∙◌, ap, subst}
+use Rattle.std.proofs.Common.{◌≡◌, ℕ, zero, suc, ◌+◌, ◌-◌, ◌<◌, inl, inr, true, cond, List, All, length, get_or, sum_by, arith, refl, sym, ◌∙◌, ap, subst}
 use Rattle.std.specs.List.{range_with_len}
 use Rattle.std.proofs.lemmas.Bool.{cases_lt}
 use Rattle.std.proofs.lemmas.Bool.Decides.{same_from_decides}
 use Rattle.std.proofs.lemmas.List.{get_or_past}
+use Rattle.std.proofs.lemmas.List.Sums.{sum_by-cons}
 use Rattle.waff_model.specs.Tree.{Node}
 use Rattle.waff_assign.specs.Order.{affinity_of}
 use Rattle.waff_plan.specs.Work.{Work, IsNumber, numbers}
 use Rattle.waff_figures.specs.Below.{IsSumBelow}
 use Rattle.waff_figures.specs.ByAffinity.{IsCostBelow, runs_in}
-use Rattle.waff_figures.specs.Laws.{ChainAddsUp, CostsAddUp}
+use Rattle.waff_figures.specs.Laws.{ChainAddsUp, CostsAddUp, MessagesAddUp}
 use Rattle.waff_figures.specs.Tally.{cost_among}
 use Rattle.waff_figures.proofs.SumLemmas.{sum_of_parts, sum_same}
 
@@ -42,6 +43,16 @@ module _ (tree : List Node) (assigned : List ℕ) (work : Work) (some : 0 < leng
         (λ c from to. ap (λ x. cond (below.is_below c) x 0) (are c (omega (arith, to))))
         ∙ sum_of_parts (affinity_of assigned) work.cost below.is_below (length tree) (affinity_within tree assigned some known) (numbers work);
   }
+
+pub sum_of_ones : (a n : ℕ) → sum_by (λ m. 1) (range_with_len a n) ≡ n
+sum_of_ones a zero = refl
+sum_of_ones a (suc n) = omega (arith, sum_of_ones (a + 1) n, sum_by-cons (λ m. 1) a (range_with_len (a + 1) n))
+
+pub messages_add_up : (tree : List Node) (assigned : List ℕ) (work : Work) (chain : List ℕ) → 0 < length tree
+    → All (λ a. a < length tree) assigned → MessagesAddUp tree assigned work chain
+messages_add_up tree assigned work chain some known =
+    sum_of_parts (affinity_of assigned) (λ m. 1) (λ c. true) (length tree) (affinity_within tree assigned some known) (numbers work)
+    ∙ sum_of_ones 1 work.count
 
 pub costs_add_up : (tree : List Node) (assigned : List ℕ) (work : Work) (chain : List ℕ) → 0 < length tree
     → All (λ a. a < length tree) assigned → CostsAddUp tree assigned work chain

@@ -5,3 +5,4 @@ mod NameLemmas
 mod LineLemmas
 pub mod AddingUp
 pub mod RowLemmas
+mod NameLaws

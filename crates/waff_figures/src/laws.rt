@@ -1,9 +1,19 @@
-//! That the columns add up. Each law is a function that does nothing and whose contract is the law.
+//! That the columns add up, and that each name has one line. Each law is a function that does
+//! nothing and whose contract is the law.
 
-ghost use Rattle.std.specs.Prelude.{◌<◌, ℕ, List, All, length};
+ghost use Rattle.std.specs.Prelude.{◌≡◌, ◌<◌, ℕ, List, All, length};
 ghost use Rattle.waff_model.specs.Tree.{Node};
+ghost use Rattle.waff_plan.specs.Chain.{IsMessage};
 ghost use Rattle.waff_plan.specs.Work.{Work};
-ghost use Rattle.waff_figures.specs.Laws.{ChainAddsUp, CostsAddUp};
+ghost use Rattle.waff_figures.specs.Laws.{ChainAddsUp, CostsAddUp, MessagesAddUp, NameIsOnce};
+ghost use Rattle.waff_figures.specs.Laws.{NamesAddUp, NamesInOrder};
+
+/// The messages of the affinities add up to all messages.
+pub fn messages_add_up()
+    ensures { (tree : List Node) (assigned : List ℕ) (work : Work) (chain : List ℕ)
+        → 0 < length tree
+        → All (λ a. a < length tree) assigned → MessagesAddUp tree assigned work chain }
+{}
 
 /// The costs of the affinities add up to the total.
 pub fn costs_add_up()
@@ -17,4 +27,22 @@ pub fn chain_adds_up()
     ensures { (tree : List Node) (assigned : List ℕ) (work : Work) (chain : List ℕ)
         → 0 < length tree
         → All (λ a. a < length tree) assigned → ChainAddsUp tree assigned work chain }
+{}
+
+/// What is told of the names of messages adds up: how many have each, their costs, and their costs
+/// on a chain.
+pub fn names_add_up()
+    ensures { (names : List (List ℕ)) (work : Work) (chain : List ℕ)
+        → length names ≡ work.count
+        → All (IsMessage work.count) chain → NamesAddUp names work chain }
+{}
+
+/// Each name that a message has has one line, and no other name has any.
+pub fn name_is_once()
+    ensures { (names : List (List ℕ)) → NameIsOnce names }
+{}
+
+/// The lines of the names stand in the order of the names' first messages.
+pub fn names_in_order()
+    ensures { (names : List (List ℕ)) → NamesInOrder names }
 {}
