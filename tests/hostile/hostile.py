@@ -10,7 +10,9 @@ import tempfile
 import time
 
 ROOT = os.path.normpath(os.path.join(os.path.dirname(os.path.realpath(__file__)), "..", ".."))
-PROGRAM = os.path.join(ROOT, "crates", "waff", "out", "waff")
+
+# The program that is run. A script names it or has it found.
+PROGRAM = ""
 
 # The seconds of processor time that a run on small files may take, and the seconds after which a run counts as one that hangs.
 SECONDS = 1.0
@@ -269,7 +271,7 @@ def words_given(about, *options):
 
 
 def arguments(about, *options):
-    """The arguments of a script. The program is built where that is needed, if no other one is named."""
+    """The arguments of a script. The program is the one of these sources, if no other one is named."""
     global PROGRAM
     parser = words_parser(about, options)
     parser.add_argument("--program", help="another build of the program")
@@ -277,11 +279,13 @@ def arguments(about, *options):
     if given.program:
         PROGRAM = os.path.realpath(given.program)
     else:
-        build()
+        PROGRAM = program_of_sources()
     return given
 
 
-def build():
-    words = [os.path.join(ROOT, "waff"), "--help"]
-    if subprocess.run(words, stdin=subprocess.DEVNULL, stdout=subprocess.DEVNULL).returncode != 0:
+def program_of_sources():
+    """The program of these sources, which is built where that is needed."""
+    found = subprocess.run([os.path.join(ROOT, "dist", "program")], stdin=subprocess.DEVNULL, stdout=subprocess.PIPE, text=True)
+    if found.returncode != 0:
         sys.exit("hostile: no program")
+    return found.stdout.strip()
