@@ -7,6 +7,7 @@ pub mod Timing
 pub mod Timetable
 pub mod Latest
 pub mod LatestLaws
+pub mod Found
 pub mod Table
 pub mod Links
 pub mod CostedChain

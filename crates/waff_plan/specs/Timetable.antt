@@ -15,9 +15,9 @@ pub record Timetable : Type 0 where
 abbrev pub work_in : Timetable → Work
 work_in plan = work_of plan.timings
 
--- the start of message n of a plan
+-- the starts of a plan's messages
 abbrev pub starts_in : Timetable → ℕ → ℕ
-starts_in plan n = start_of plan.starts n
+starts_in plan = start_of plan.starts
 
 -- each message has a start, and no start is too late to be printed
 pub record IsTimetable (table : Timetable) : Type 0 where

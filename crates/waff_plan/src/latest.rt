@@ -1,10 +1,11 @@
 //! The latest of some messages.
 
-ghost use Rattle.std.specs.Prelude.{◌≡◌, Some};
+ghost use Rattle.std.specs.Prelude.{◌≡◌, ◌≤◌, Some};
 ghost use Rattle.waff_plan.specs.Latest.{is_later, latest_order};
 ghost use Rattle.waff_plan.specs.LatestLaws.{latest_laws};
 
 use std::marker::Model;
+use waff_model::limits::MAX_MESSAGES;
 use waff_model::spans::Later;
 
 /// A message with its finish.
@@ -21,38 +22,48 @@ pub(crate) fn is_later(one: Latest, other: Latest) -> bool
     one.finish < other.finish || (one.finish == other.finish && other.number < one.number)
 }
 
-/// The latest of some messages, where there is one.
+/// The latest of some messages, where there is one. All messages are later than the one that stands
+/// for none, so that two are compared without looking whether they are there.
 #[derive(Clone, Copy)]
 pub(crate) struct Found {
-    message: Option<Latest>,
+    message: Latest,
 }
 
 impl Model for Found {
     ghost use Rattle.std.specs.Prelude.{Option};
+    ghost use Rattle.std.proofs.Common.{ap};
     ghost use Rattle.waff_plan.specs.declared.latest.Latest.{Latest};
+    ghost use Rattle.waff_plan.specs.Found.{some_of, kept_for, IsKept};
 
     ghost Value = { Option Latest };
 
-    ghost view = { λ f. f.message };
+    ghost view = { λ f. some_of f.message };
 
-    ghost inverse = { λ message. record { message = message } };
+    ghost invariant = { λ f. IsKept f.message };
+
+    ghost inverse = { λ found. record { message = kept_for found } };
+
+    ghost inverse_ok = { λ f kept. ap (λ m. record { message = m }) kept };
 }
 
 impl Found {
     /// The latest of one message.
     pub fn one(message: Latest) -> Found
+        requires { message.number ≤ MAX_MESSAGES }
         ensures { result ≡ Some message }
     {
-        Found {
-            message: Some(message),
-        }
+        Found { message }
     }
 
     /// The message, where there is one.
     pub fn message(self) -> Option<Latest>
         ensures { result ≡ self }
     {
-        self.message
+        if self.message.number == u32::MAX {
+            None
+        } else {
+            Some(self.message)
+        }
     }
 }
 
@@ -63,15 +74,20 @@ impl Later for Found {
 
     #[inline]
     fn none() -> Found {
-        Found { message: None }
+        Found {
+            message: Latest {
+                finish: 0,
+                number: u32::MAX,
+            },
+        }
     }
 
     #[inline]
     fn later(self, other: Found) -> Found {
-        match (self.message, other.message) {
-            (Some(first), Some(second)) => if is_later(first, second) { other } else { self },
-            (None, _) => other,
-            (_, None) => self,
+        if is_later(self.message, other.message) {
+            other
+        } else {
+            self
         }
     }
 

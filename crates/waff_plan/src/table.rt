@@ -9,6 +9,7 @@ use crate::latest::{Found, Latest};
 use std::alloc::{AllocError, Global};
 use std::marker::Model;
 use waff_model::Place;
+use waff_model::limits::MAX_MESSAGES;
 use waff_model::spans::{Later, Spread, Standing};
 
 /// The messages so far. One whose affinity is at or above another's is noted at the place of that
@@ -79,6 +80,7 @@ impl Table {
     pub fn note(&mut self, place: Place, message: Latest)
         requires forward { place.first < place.end }
         requires within { place.end ≤ length self.old.own }
+        requires few { message.number ≤ MAX_MESSAGES }
         ensures count { length self.new.own ≡ length self.old.own }
         ensures table { (places : List Place) (assigned : List ℕ) (finish : ℕ → ℕ) (n : ℕ)
             → IsTable places assigned finish n self.old
