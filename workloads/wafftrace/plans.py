@@ -2,7 +2,6 @@
 
 import csv
 import io
-import tomllib
 
 from .logs import Refusal, is_number, read_text, shown
 from .traces import cells, read_trace
@@ -14,6 +13,8 @@ class Tree:
     """The affinities of a hierarchy by their names, and the owners of its cells."""
 
     def __init__(self, name):
+        import tomllib  # since Python 3.11; all that reads no hierarchy does without it
+
         called = shown(name)
         try:
             table = tomllib.loads(read_text(name).removeprefix("\ufeff"))
