@@ -6,13 +6,13 @@ use Rattle.std.proofs.lemmas.List.{get_or-set_same, get_or-set_other, get_or_pas
 use Rattle.waff_model.specs.Tree.{Node, parent_of, AtOrAbove, IsRooted}
 use Rattle.waff_model.specs.declared.tree.AffinityId.{AffinityId}
 use Rattle.waff_model.proofs.TreeLemmas.{reflexive, comparable, above_child, above_parent, above_root}
-use Rattle.waff_order.specs.Lowests.{IsLowestOf, IsNoted, IsLower, IsApart, IsNotedAbove, above_of, Agree}
+use Rattle.waff_order.specs.Lowests.{IsLowestOf, IsLowestNoted, IsLower, IsApart, IsNotedAbove, above_of, Agree}
 use Rattle.waff_order.proofs.LowestLemmas.{excludes_back, noted_same, noted_is, noted_some, noted_either}
 
 -- at the affinities before n the lowest of what was noted there and above is noted, and at the
 -- others what was
 pub record IsCarried (tree coarse_tree : List Node) (old : List (Option AffinityId)) (n : ℕ) (new : List (Option AffinityId)) : Type 0 where
-  pub before : (b : ℕ) → b < n → IsNoted coarse_tree (IsNotedAbove tree old b) (get_or new b None)
+  pub before : (b : ℕ) → b < n → IsLowestNoted coarse_tree (IsNotedAbove tree old b) (get_or new b None)
   pub after : (b : ℕ) → n ≤ b → get_or new b None ≡ get_or old b None
 
 module _ (tree coarse_tree : List Node) (old : List (Option AffinityId)) where
@@ -42,7 +42,7 @@ module _ (tree coarse_tree : List Node) (old : List (Option AffinityId)) where
       (λ (up : IsNotedUp n x). noted_up n x up)
       either
 
-  own_noted : (o : Option AffinityId) → IsNoted coarse_tree (λ x. o ≡ Some x) o
+  own_noted : (o : Option AffinityId) → IsLowestNoted coarse_tree (λ x. o ≡ Some x) o
   own_noted None = λ x is. absurd (cc)
   own_noted (Some y) = record {
     one = refl;
@@ -50,7 +50,7 @@ module _ (tree coarse_tree : List Node) (old : List (Option AffinityId)) where
   }
 
   up_noted_by : IsRooted tree → (n : ℕ) (new : List (Option AffinityId)) → IsCarried tree coarse_tree old n new
-      → (o : Option ℕ) → parent_of tree n ≡ o → IsNoted coarse_tree (IsNotedUp n) (option_and_then (λ p. get_or new p None) o)
+      → (o : Option ℕ) → parent_of tree n ≡ o → IsLowestNoted coarse_tree (IsNotedUp n) (option_and_then (λ p. get_or new p None) o)
   up_noted_by rooted n new h None is = λ x up. let some : parent_of tree n ≡ Some up.0 = up.1 in absurd (cc)
   up_noted_by rooted n new h (Some p) is =
       noted_same coarse_tree (IsNotedAbove tree old p) (IsNotedUp n) (get_or new p None)
@@ -60,7 +60,7 @@ module _ (tree coarse_tree : List Node) (old : List (Option AffinityId)) where
 
   -- what is noted at the parent is the lowest of what was noted above
   pub up_noted : IsRooted tree → (n : ℕ) (new : List (Option AffinityId)) → IsCarried tree coarse_tree old n new
-      → IsNoted coarse_tree (IsNotedUp n) (above_of tree new n)
+      → IsLowestNoted coarse_tree (IsNotedUp n) (above_of tree new n)
   up_noted rooted n new h = up_noted_by rooted n new h (parent_of tree n) refl
 
   pub carried_none : (new : List (Option AffinityId)) → new ≡ old → IsCarried tree coarse_tree old 0 new
@@ -73,13 +73,13 @@ module _ (tree coarse_tree : List Node) (old : List (Option AffinityId)) where
   pub carried_alone : IsRooted tree → (n : ℕ) (new : List (Option AffinityId)) → above_of tree new n ≡ None
       → IsCarried tree coarse_tree old n new → IsCarried tree coarse_tree old (n + 1) new
   carried_alone rooted n new none h =
-      let no_up : IsNoted coarse_tree (IsNotedUp n) None = subst (λ x. IsNoted coarse_tree (IsNotedUp n) x) none (up_noted rooted n new h) in
+      let no_up : IsLowestNoted coarse_tree (IsNotedUp n) None = subst (λ x. IsLowestNoted coarse_tree (IsNotedUp n) x) none (up_noted rooted n new h) in
       record {
         before = λ b below.
-            ⊎_elim {C = IsNoted coarse_tree (IsNotedAbove tree old b) (get_or new b None)}
+            ⊎_elim {C = IsLowestNoted coarse_tree (IsNotedAbove tree old b) (get_or new b None)}
             (λ (last : b ≡ n).
-            subst (λ u. IsNoted coarse_tree (IsNotedAbove tree old u) (get_or new u None)) (sym last)
-            (subst (λ u. IsNoted coarse_tree (IsNotedAbove tree old n) u) (sym (h.after n (omega arith)))
+            subst (λ u. IsLowestNoted coarse_tree (IsNotedAbove tree old u) (get_or new u None)) (sym last)
+            (subst (λ u. IsLowestNoted coarse_tree (IsNotedAbove tree old n) u) (sym (h.after n (omega arith)))
             (noted_same coarse_tree (λ x. get_or old n None ≡ Some x) (IsNotedAbove tree old n) (get_or old n None)
             (λ x own. noted_join n x (inl own))
             (λ x above. ⊎_elim {C = get_or old n None ≡ Some x} (λ own. own) (λ up. absurd (no_up x up)) (noted_split n x above))
@@ -97,19 +97,19 @@ module _ (tree coarse_tree : List Node) (old : List (Option AffinityId)) where
       let Own : AffinityId → Type 0 = λ x. get_or old n None ≡ Some x in
       let kept : get_or new n None ≡ get_or old n None = h.after n (omega arith) in
       let up : IsLowestOf coarse_tree (IsNotedUp n) above = noted_is coarse_tree (IsNotedUp n) (above_of tree new n) above is (up_noted rooted n new h) in
-      let both : IsNoted coarse_tree (λ x. Own x ⊎ IsNotedUp n x) (Some low)
+      let both : IsLowestNoted coarse_tree (λ x. Own x ⊎ IsNotedUp n x) (Some low)
       = noted_either coarse_tree Own (IsNotedUp n) (get_or old n None) above low (own_noted (get_or old n None)) up
       (subst (λ x. IsLower coarse_tree x above low) kept lower) in
       record {
         before = λ b below.
-            ⊎_elim {C = IsNoted coarse_tree (IsNotedAbove tree old b) (get_or (set new n (Some low)) b None)}
+            ⊎_elim {C = IsLowestNoted coarse_tree (IsNotedAbove tree old b) (get_or (set new n (Some low)) b None)}
             (λ (last : b ≡ n).
-            subst (λ u. IsNoted coarse_tree (IsNotedAbove tree old u) (get_or (set new n (Some low)) u None)) (sym last)
-            (subst (λ u. IsNoted coarse_tree (IsNotedAbove tree old n) u) (sym (get_or-set_same new n (Some low) None within))
+            subst (λ u. IsLowestNoted coarse_tree (IsNotedAbove tree old u) (get_or (set new n (Some low)) u None)) (sym last)
+            (subst (λ u. IsLowestNoted coarse_tree (IsNotedAbove tree old n) u) (sym (get_or-set_same new n (Some low) None within))
             (noted_same coarse_tree (λ x. Own x ⊎ IsNotedUp n x) (IsNotedAbove tree old n) (Some low)
             (λ x either. noted_join n x either) (λ x all. noted_split n x all) both)))
             (λ (other : b ≢ n).
-            subst (λ u. IsNoted coarse_tree (IsNotedAbove tree old b) u) (sym (get_or-set_other new n b (Some low) None other))
+            subst (λ u. IsLowestNoted coarse_tree (IsNotedAbove tree old b) u) (sym (get_or-set_other new n b (Some low) None other))
             (h.before b (omega arith)))
             (cases_eq b n);
         after = λ b later. get_or-set_other new n b (Some low) None (omega arith) ∙ h.after b (omega arith);

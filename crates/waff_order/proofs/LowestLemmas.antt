@@ -7,7 +7,7 @@ use Rattle.waff_model.specs.Tree.{Node, AtOrAbove, Excludes}
 use Rattle.waff_model.specs.declared.tree.AffinityId.{AffinityId}
 use Rattle.waff_model.proofs.TreeLemmas.{reflexive, transitive, comparable}
 use Rattle.waff_assign.specs.Order.{affinity_of, Refines}
-use Rattle.waff_order.specs.Lowests.{IsLowestOf, IsNoted, IsLower, IsCoarseOf, AreLowests, Agree}
+use Rattle.waff_order.specs.Lowests.{IsLowestOf, IsLowestNoted, IsLower, IsCoarseOf, AreLowests, Agree}
 
 -- a table of nothing has nothing at each place
 pub none_noted : (none : Option AffinityId) (count n a : ℕ) → get_or (take count (replicate n none)) a none ≡ none
@@ -26,29 +26,29 @@ excludes_back tree a b h = ⊎_elim {C = Excludes tree b a} (λ up. inr up) (λ 
 module _ (tree : List Node) where
   -- sets of the same affinities have the same lowest
   pub noted_same : (P Q : AffinityId → Type 0) (noted : Option AffinityId) → ((b : AffinityId) → P b → Q b) → ((b : AffinityId) → Q b → P b)
-      → IsNoted tree P noted → IsNoted tree Q noted
+      → IsLowestNoted tree P noted → IsLowestNoted tree Q noted
   noted_same P Q None to from h = λ b q. h b (from b q)
   noted_same P Q (Some low) to from h = record { one = to low h.one; each = λ b q. h.each b (from b q) }
 
   -- what is noted is the lowest
-  pub noted_is : (P : AffinityId → Type 0) (noted : Option AffinityId) (low : AffinityId) → noted ≡ Some low → IsNoted tree P noted
+  pub noted_is : (P : AffinityId → Type 0) (noted : Option AffinityId) (low : AffinityId) → noted ≡ Some low → IsLowestNoted tree P noted
       → IsLowestOf tree P low
-  noted_is P noted low is h = subst (λ x. IsNoted tree P x) is h
+  noted_is P noted low is h = subst (λ x. IsLowestNoted tree P x) is h
 
   -- where a set has an affinity, one is noted
-  pub noted_some : (P : AffinityId → Type 0) (noted : Option AffinityId) (b : AffinityId) → P b → IsNoted tree P noted
+  pub noted_some : (P : AffinityId → Type 0) (noted : Option AffinityId) (b : AffinityId) → P b → IsLowestNoted tree P noted
       → (low : AffinityId) × (noted ≡ Some low) × IsLowestOf tree P low
   noted_some P None b has h = absurd (h b has)
   noted_some P (Some low) b has h = (low, refl, h)
 
-  below_noted : (P : AffinityId → Type 0) (noted : Option AffinityId) (low b : AffinityId) → IsNoted tree P noted
+  below_noted : (P : AffinityId → Type 0) (noted : Option AffinityId) (low b : AffinityId) → IsLowestNoted tree P noted
       → IfSome noted (λ a. AtOrAbove tree a.0 low.0) → P b → AtOrAbove tree b.0 low.0
   below_noted P None low b h above has = absurd (h b has)
   below_noted P (Some a) low b h above has = transitive tree b.0 a.0 low.0 (h.each b has) above
 
   -- the lower of the lowest of two sets is the lowest of both
-  pub noted_either : (P Q : AffinityId → Type 0) (noted : Option AffinityId) (a low : AffinityId) → IsNoted tree P noted → IsLowestOf tree Q a
-      → IsLower tree noted a low → IsNoted tree (λ b. P b ⊎ Q b) (Some low)
+  pub noted_either : (P Q : AffinityId → Type 0) (noted : Option AffinityId) (a low : AffinityId) → IsLowestNoted tree P noted → IsLowestOf tree Q a
+      → IsLower tree noted a low → IsLowestNoted tree (λ b. P b ⊎ Q b) (Some low)
   noted_either P Q noted a low h g lower = record {
     one = ⊎_elim {C = P low ⊎ Q low}
         (λ (new : low ≡ a). inr (subst Q (sym new) g.one))
@@ -66,7 +66,7 @@ module _ (assigned : List ℕ) (coarse_tree : List Node) (coarse_assigned : List
   pub lowests_none : (lowests : List (Option AffinityId)) → ((a : ℕ) → get_or lowests a None ≡ None)
       → AreLowests assigned coarse_tree coarse_assigned 1 lowests
   lowests_none lowests none a =
-      subst (λ x. IsNoted coarse_tree (IsCoarseOf assigned coarse_assigned 1 a) x) (sym (none a))
+      subst (λ x. IsLowestNoted coarse_tree (IsCoarseOf assigned coarse_assigned 1 a) x) (sym (none a))
       (λ b h. let from : 1 ≤ h.message = h.from in let before : h.message < 1 = h.before in absurd (omega arith))
 
   pub coarse_later : (n m a : ℕ) (b : AffinityId) → n ≤ m → IsCoarseOf assigned coarse_assigned n a b → IsCoarseOf assigned coarse_assigned m a b
@@ -104,7 +104,7 @@ module _ (assigned : List ℕ) (coarse_tree : List Node) (coarse_assigned : List
       let place = affinity_of assigned n in
       let New : AffinityId → Type 0 = IsCoarseOf assigned coarse_assigned (n + 1) a in
       let Old : AffinityId → Type 0 = IsCoarseOf assigned coarse_assigned n a in
-      ⊎_elim {C = IsNoted coarse_tree New (get_or (set lowests place (Some low)) a None)}
+      ⊎_elim {C = IsLowestNoted coarse_tree New (get_or (set lowests place (Some low)) a None)}
       (λ (same : a ≡ place).
       let Last : AffinityId → Type 0 = λ x. x.0 ≡ b.0 in
       let last : IsLowestOf coarse_tree Last b = record {
@@ -115,7 +115,7 @@ module _ (assigned : List ℕ) (coarse_tree : List Node) (coarse_assigned : List
       = subst (λ x. get_or (set lowests place (Some low)) x None ≡ Some low) (sym same) (get_or-set_same lowests place (Some low) None within) in
       let lower_here : IsLower coarse_tree (get_or lowests a None) b low
       = subst (λ x. IsLower coarse_tree (get_or lowests x None) b low) (sym same) lower in
-      subst (λ x. IsNoted coarse_tree New x) (sym entry)
+      subst (λ x. IsLowestNoted coarse_tree New x) (sym entry)
       (noted_same coarse_tree (λ x. Old x ⊎ Last x) New (Some low)
       (λ x either.
       ⊎_elim {C = New x}
@@ -129,7 +129,7 @@ module _ (assigned : List ℕ) (coarse_tree : List Node) (coarse_assigned : List
       (coarse_cases n a x new))
       (noted_either coarse_tree Old Last (get_or lowests a None) b low (h a) last lower_here)))
       (λ (other : a ≢ place).
-      subst (λ x. IsNoted coarse_tree New x) (sym (get_or-set_other lowests place a (Some low) None other))
+      subst (λ x. IsLowestNoted coarse_tree New x) (sym (get_or-set_other lowests place a (Some low) None other))
       (noted_same coarse_tree Old New (get_or lowests a None)
       (λ x old. coarse_later n (n + 1) a x (omega arith) old)
       (λ x new.

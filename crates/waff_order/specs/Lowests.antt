@@ -12,9 +12,9 @@ pub record IsLowestOf (tree : List Node)
   pub each : (b : AffinityId) → Has b → AtOrAbove tree b.0 low.0
 
 -- the lowest of a set of affinities, or that it has none
-abbrev pub IsNoted : List Node → (AffinityId → Type 0) → Option AffinityId → Type 0
-IsNoted tree Has None = (b : AffinityId) → Has b → ⊥
-IsNoted tree Has (Some low) = IsLowestOf tree Has low
+abbrev pub IsLowestNoted : List Node → (AffinityId → Type 0) → Option AffinityId → Type 0
+IsLowestNoted tree Has None = (b : AffinityId) → Has b → ⊥
+IsLowestNoted tree Has (Some low) = IsLowestOf tree Has low
 
 -- the lower of an affinity and the one that is noted, if one is
 pub record IsLower (tree : List Node) (noted : Option AffinityId)
@@ -39,7 +39,7 @@ pub record IsCoarseOf (assigned coarse_assigned : List ℕ) (n a : ℕ) (b : Aff
 -- coarse tree is noted
 abbrev pub AreLowests : List ℕ → List Node → List ℕ → ℕ → List (Option AffinityId) → Type 0
 AreLowests assigned coarse_tree coarse_assigned n lowests =
-    (a : ℕ) → IsNoted coarse_tree (IsCoarseOf assigned coarse_assigned n a)
+    (a : ℕ) → IsLowestNoted coarse_tree (IsCoarseOf assigned coarse_assigned n a)
     (slice_index_or lowests a None)
 
 -- b is noted at a or above it

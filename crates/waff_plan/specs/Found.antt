@@ -1,4 +1,4 @@
--- A message that may be none, kept as one: all messages are later than the one that stands for none.
+-- A message that may be none, kept as one: all are later than the one that stands for none.
 use Rattle.std.specs.Prelude.{◌≡◌, ℕ, ◌==◌, Option, Some, None, if◌then◌else◌}
 use Rattle.waff_plan.specs.declared.latest.Latest.{Latest}
 

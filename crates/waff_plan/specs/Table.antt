@@ -1,5 +1,5 @@
--- Tables of the latest messages, by the places of affinities in preorder: the affinities at or below
--- one stand at one run of places.
+-- Tables of the latest messages, by the places of affinities in preorder: the affinities at or
+-- below one stand at one run of places.
 use Rattle.std.specs.Prelude.{◌≡◌, ℕ, ◌<◌, ◌≤◌, ◌⊎◌, List, Option, None}
 use Rattle.std.specs.Prelude.{slice_index_or, option_map, IfSome}
 use Rattle.waff_model.specs.Tree.{Node, Excludes}
