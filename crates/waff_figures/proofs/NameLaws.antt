@@ -14,7 +14,7 @@ use Rattle.waff_plan.specs.Chain.{IsMessage}
 use Rattle.waff_plan.specs.Work.{Work, numbers}
 use Rattle.waff_figures.specs.ByName.{distinct_names, is_named, with_name}
 use Rattle.waff_figures.proofs.AddingUp.{sum_of_ones}
-use Rattle.waff_figures.specs.Laws.{AreInOrder, IsFirstOf, NameIsOnce, NamesAddUp, NamesInOrder}
+use Rattle.waff_figures.specs.Laws.{IsFirstOf, NameIsOnce, NamesAddUp, NamesInOrder}
 
 -- a name is among the others once, or not at all
 abbrev IsOnce : List ℕ → List (List ℕ) → Type 0

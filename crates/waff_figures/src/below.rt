@@ -3,7 +3,7 @@
 ghost use Rattle.std.specs.Prelude.{◌≡◌, ◌^◌, ◌<◌, ℕ, IfOk, length, map, slice_index, sum_by};
 ghost use Rattle.waff_figures.specs.Below.{IsSumBelow};
 
-use crate::Tally;
+use crate::tally::Tally;
 use std::alloc::{AllocError, Global};
 use waff_model::{AffinityId, Tree};
 

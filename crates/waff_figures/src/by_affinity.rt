@@ -11,9 +11,8 @@ ghost use Rattle.waff_figures.specs.ByAffinity.{AreCostsBelow, affinities_lines,
 ghost use Rattle.waff_figures.specs.ByAffinity.{tally_row, tallied_row};
 ghost use Rattle.waff_figures.specs.Tally.{no_tally};
 
-use crate::Tally;
 use crate::below::costs_below;
-use crate::tally::tallies;
+use crate::tally::{Tally, tallies};
 use std::alloc::{AllocError, Global};
 use waff_assign::Assigned;
 use waff_model::{AffinityId, Tree};

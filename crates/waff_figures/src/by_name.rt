@@ -9,9 +9,8 @@ ghost use Rattle.waff_plan_text.specs.Lines.{line_text, text_of};
 ghost use Rattle.waff_figures.specs.ByName.{message_names, named_row, names_lines};
 ghost use Rattle.waff_figures.specs.ByName.{tallied_name_row};
 
-use crate::Tally;
 use crate::names::names_of;
-use crate::tally::tallies;
+use crate::tally::{Tally, tallies};
 use indexmap::IndexSet;
 use std::alloc::{AllocError, Global};
 use waff_model::Trace;

@@ -9,7 +9,7 @@ ghost use Rattle.waff_figures.specs.Figures.{figures_of, latency_of, least_of, w
 use waff_plan::Plan;
 
 /// What a sweep tells of a plan, in ticks.
-#[derive(Clone, Copy, Debug, PartialEq, Eq)]
+#[derive(Clone, Copy)]
 pub struct Figures {
     /// The number of workers, none in a plan without a limit on them.
     pub workers: Option<u32>,

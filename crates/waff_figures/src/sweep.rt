@@ -15,8 +15,7 @@ ghost use Rattle.waff_order.specs.Needs.{AreNeeds};
 ghost use Rattle.waff_figures.specs.Figures.{figures_of};
 ghost use Rattle.waff_figures.specs.Sweep.{AreListed, IsListed, busy_field, sweep_lines, sweep_row};
 
-use crate::Figures;
-use crate::figures::told_of;
+use crate::figures::{Figures, told_of};
 use crate::ratio::Ratio;
 use std::alloc::{AllocError, Global};
 use std::fmt;

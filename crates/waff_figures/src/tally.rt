@@ -12,7 +12,7 @@ use waff_plan::Plan;
 
 /// What is told of some of the messages: how many there are, the sum of their costs, and that of
 /// those on a chain, in ticks.
-#[derive(Clone, Copy, Debug, PartialEq, Eq)]
+#[derive(Clone, Copy)]
 pub struct Tally {
     pub messages: u32,
     pub cost: u64,
