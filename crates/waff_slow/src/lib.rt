@@ -1,0 +1,27 @@
+//! Plain slow programs, each written from a definition alone, and comparisons with what plans and
+//! runs fast, on random traces.
+//! - `dice`, `traces`: random traces, the same in each run, and the hierarchies.
+//! - `pairs`: for each message the earlier ones that exclude it, by all pairs; paths.
+//! - `plans`: the least plan and the printed chain; `lists`: the list plan.
+//! - `machine`: the core machine; `cells`: what operations do.
+//! - `compared_plans`, `compared_machines`: the comparisons.
+#![tactic(auto)]
+
+#[cfg(test)]
+mod cells;
+#[cfg(test)]
+mod compared_machines;
+#[cfg(test)]
+mod compared_plans;
+#[cfg(test)]
+mod dice;
+#[cfg(test)]
+mod lists;
+#[cfg(test)]
+mod machine;
+#[cfg(test)]
+mod pairs;
+#[cfg(test)]
+mod plans;
+#[cfg(test)]
+mod traces;
