@@ -12,7 +12,7 @@ use Rattle.waff_core.specs.Job.{JobValue}
 use Rattle.waff_core.specs.Machine.{opening, phase_of}
 use Rattle.waff_core.specs.declared.phase.Phase.TheVariants.{Free, Running}
 use Rattle.waff_core.proofs.Phases.{phase_opening}
-use Rattle.waff_model.specs.Parcel.{parcel_size, place_of}
+use Rattle.waff_model.specs.Parcel.{parcel_size, offset_of}
 use Rattle.waff_cells.specs.Parcel.{IsParcel}
 use Rattle.waff_board.specs.Shows.{Words, Slots}
 use Rattle.waff_board.specs.Seats.{Seats, Shown, first}
@@ -63,7 +63,7 @@ there items (x ∷ xs) (suc a) numbers is = there items xs a numbers is
 zero_parcel : (spaces : List Space) (a : ℕ) → IsParcel spaces a zeros (replicate (parcel_size spaces a) 0)
 zero_parcel spaces a = record {
   count = length-replicate (parcel_size spaces a) 0;
-  each = λ cell is_cell owned. zero_at (parcel_size spaces a) (place_of spaces cell) (subst (λ b. place_of spaces cell < parcel_size spaces b) owned (place_within spaces cell is_cell));
+  each = λ cell is_cell owned. zero_at (parcel_size spaces a) (offset_of spaces cell) (subst (λ b. offset_of spaces cell < parcel_size spaces b) owned (place_within spaces cell is_cell));
 }
   where
     zero_at : (n k : ℕ) → k < n → slice_get {X = ℕ} (replicate n 0) k ≡ Some 0

@@ -6,7 +6,7 @@ use mathlib.Core.Option.{some, some-injective, some-ne-none}
 use lib.ListN.{get_elem?}
 use Rattle.atomic_table.specs.Table.{Final, Seen}
 use Rattle.waff_model.specs.Layout.{IsCell, IsLayout, owner_of}
-use Rattle.waff_model.specs.Parcel.{place_of, parcel_size}
+use Rattle.waff_model.specs.Parcel.{offset_of, parcel_size}
 use Rattle.waff_model.specs.declared.cell.Cell.{Cell}
 use Rattle.waff_model.proofs.ParcelLemmas.{place_within}
 use Rattle.waff_model.proofs.ParcelTableLemmas.{owner_is_affinity}
@@ -64,7 +64,7 @@ module _ (job : JobValue) (is : IsLayout job.layout) (cells : Cells) (vecs : Lis
   pub parcels_tell : (cell : Cell) → IsCell job.layout.spaces cell → cells_of_parcels job.layout.spaces (rows_of vecs) cell ≡ cells cell
   parcels_tell cell is_cell =
       let a = owner_of job.layout.spaces cell in
-      let place = place_of job.layout.spaces cell in
+      let place = offset_of job.layout.spaces cell in
       let slot = are.each a (owned cell is_cell) in
       ap (λ xs. get_or xs place 0) (row_there vecs a slot.0 slot.1)
       ∙ get_or_from_slice_get slot.0.items place (cells cell) 0 (slot.2.each cell is_cell refl)

@@ -6,7 +6,7 @@ use Rattle.std.proofs.lemmas.Grind.{same_number_lists, get_or_default_zero}
 use Rattle.std.proofs.lemmas.List.{get_or-take, get_or-drop, length-drop, length-take-le, map-append}
 use Rattle.std.proofs.lemmas.List.FromFn.{length-map-range_with_len, get_or-map-range_with_len}
 use Rattle.waff_model.specs.Layout.{Space, IsCell, size_at, owner_of}
-use Rattle.waff_model.specs.Parcel.{IsRun, place_of}
+use Rattle.waff_model.specs.Parcel.{IsRun, offset_of}
 use Rattle.waff_model.specs.declared.cell.Cell.{Cell}
 use Rattle.waff_cells.specs.Held.{rows_of}
 use Rattle.waff_cells.specs.Gathered.{LieIn, cells_of_parcels}
@@ -26,14 +26,14 @@ cell_on first k = record { space = first.space; index = first.index + k }
 -- the numbers of a run
 module _ (spaces : List Space) (first : Cell) where
   module _ (vecs : List (Vec ℕ Global)) (lie : LieIn spaces (rows_of vecs)) (count : ℕ) (some : 1 ≤ count) (cells : first.index + count ≤ size_at spaces first.space) (run : IsRun spaces first count)
-      (owner at : ℕ) (owned : owner ≡ owner_of spaces first) (placed : at ≡ place_of spaces first) where
+      (owner at : ℕ) (owned : owner ≡ owner_of spaces first) (placed : at ≡ offset_of spaces first) where
     is_cell : (k : ℕ) → k < count → IsCell spaces (cell_on first k)
     is_cell k below = omega (arith, cells, below)
 
     owned_on : (k : ℕ) → k < count → owner ≡ owner_of spaces (cell_on first k)
     owned_on k below = owned ∙ sym (run k below).0
 
-    placed_on : (k : ℕ) → k < count → at + k ≡ place_of spaces (cell_on first k)
+    placed_on : (k : ℕ) → k < count → at + k ≡ offset_of spaces (cell_on first k)
     placed_on k below = ap (λ n. n + k) placed ∙ sym (run k below).1
 
     pub run_owner : owner < length vecs

@@ -5,7 +5,7 @@ use Rattle.std.proofs.lemmas.Bool.{cases_lt}
 use Rattle.std.proofs.lemmas.List.{length-map, length-take-le, map_push, take_more, get_or_push, get_or_append_left, get_or_read, get_or_past}
 use Rattle.std.proofs.lemmas.List.FromFn.{length-map-range_with_len, get_or-map-range_with_len}
 use Rattle.waff_model.specs.Layout.{Space, IsCell, size_at, owner_of}
-use Rattle.waff_model.specs.Parcel.{place_of}
+use Rattle.waff_model.specs.Parcel.{offset_of}
 use Rattle.waff_model.specs.Messages.{sizes_of}
 use Rattle.waff_model.specs.declared.cell.Cell.{Cell}
 use Rattle.waff_cells.specs.Grid.{cells_in}
@@ -16,7 +16,7 @@ use Rattle.waff_cells.proofs.Writes.{IsInside, inside, row_of, count_of}
 use Rattle.waff_cells.proofs.Zeros.{size_is}
 
 module _ (spaces : List Space) (vecs : List (Vec ℕ Global)) (lie : LieIn spaces (rows_of vecs)) (cell : Cell) (is : IsCell spaces cell)
-    (owner at : ℕ) (owned : owner ≡ owner_of spaces cell) (placed : at ≡ place_of spaces cell) where
+    (owner at : ℕ) (owned : owner ≡ owner_of spaces cell) (placed : at ≡ offset_of spaces cell) where
   place_is : (owner, at) ≡ lies_at spaces cell
   place_is = let pair : ℕ → ℕ → Address = λ i j. (i, j) in ap₂ pair owned placed
 

@@ -5,7 +5,7 @@ use Rattle.std.proofs.lemmas.List.{ext_get_or, get_or-map, get_or_past}
 use Rattle.std.proofs.lemmas.Option.{slice_get-get_or, get_or_from_slice_get}
 use Rattle.waff_model.specs.declared.cell.Cell.{Cell}
 use Rattle.waff_model.specs.Layout.{Space, owner_of}
-use Rattle.waff_model.specs.Parcel.{parcel_size, place_of}
+use Rattle.waff_model.specs.Parcel.{parcel_size, offset_of}
 use Rattle.waff_model.proofs.ParcelLemmas.{place_within, place_filled, same_place}
 use Rattle.waff_cells.specs.Meaning.{Cells}
 use Rattle.waff_cells.specs.Held.{IsWithin}
@@ -31,7 +31,7 @@ module _ (spaces : List Space) (owners : List ℕ) where
   pub parcel_address : (rows : List (List ℕ)) → HaveParcelSizes spaces owners rows → (cell : Cell) → IsOwned spaces owners cell
       → IsWithin (map length rows) (lies_at spaces cell)
   parcel_address rows sized cell has =
-      in_row rows (owner_of spaces cell) (place_of spaces cell)
+      in_row rows (owner_of spaces cell) (offset_of spaces cell)
       (omega (arith, place_within spaces cell has.there, sized (owner_of spaces cell) has.owned))
 
   -- parcels have their sizes
@@ -43,7 +43,7 @@ module _ (spaces : List Space) (owners : List ℕ) where
       → Hold (IsOwned spaces owners) (lies_at spaces) rows cells
   hold_parcels cells rows parcels cell has =
       let a = owner_of spaces cell in
-      get_or_from_slice_get (get_or rows a []) (place_of spaces cell) (cells cell) 0
+      get_or_from_slice_get (get_or rows a []) (offset_of spaces cell) (cells cell) 0
       ((parcels a has.owned).each cell has.there refl)
 
   -- rows of the parcels' sizes that hold the cells are the parcels
@@ -54,10 +54,10 @@ module _ (spaces : List Space) (owners : List ℕ) where
     each = λ cell is_cell is_owner.
         let has : Contains owners (owner_of spaces cell) = subst (Contains owners) (sym is_owner) owned in
         let row : get_or rows (owner_of spaces cell) [] ≡ get_or rows a [] = ap (λ i. get_or rows i []) is_owner in
-        let inside : place_of spaces cell < length (get_or rows a [])
+        let inside : offset_of spaces cell < length (get_or rows a [])
         = omega (arith, place_within spaces cell is_cell, sized a owned, ap (parcel_size spaces) is_owner) in
-        slice_get-get_or (get_or rows a []) (place_of spaces cell) 0 inside
-        ∙ ap (λ xs. Some (get_or xs (place_of spaces cell) 0)) (sym row)
+        slice_get-get_or (get_or rows a []) (offset_of spaces cell) 0 inside
+        ∙ ap (λ xs. Some (get_or xs (offset_of spaces cell) 0)) (sym row)
         ∙ ap Some (hold cell (record { there = is_cell; owned = has }));
   }
 
@@ -67,8 +67,8 @@ parcels_are_one spaces a cells one other is_one is_other =
     ext_get_or 0 one other (is_one.count ∙ sym is_other.count) (λ i within.
     let filled = place_filled spaces a i (omega (arith, is_one.count, within)) in
     let cell = filled.0 in
-    let at_one : get_or one (place_of spaces cell) 0 ≡ cells cell
-    = get_or_from_slice_get one (place_of spaces cell) (cells cell) 0 (is_one.each cell filled.1 filled.2) in
-    let at_other : get_or other (place_of spaces cell) 0 ≡ cells cell
-    = get_or_from_slice_get other (place_of spaces cell) (cells cell) 0 (is_other.each cell filled.1 filled.2) in
+    let at_one : get_or one (offset_of spaces cell) 0 ≡ cells cell
+    = get_or_from_slice_get one (offset_of spaces cell) (cells cell) 0 (is_one.each cell filled.1 filled.2) in
+    let at_other : get_or other (offset_of spaces cell) 0 ≡ cells cell
+    = get_or_from_slice_get other (offset_of spaces cell) (cells cell) 0 (is_other.each cell filled.1 filled.2) in
     ap (λ k. get_or one k 0) (sym filled.3) ∙ at_one ∙ sym at_other ∙ ap (λ k. get_or other k 0) filled.3)

@@ -4,7 +4,7 @@ use Rattle.std.specs.Prelude.{◌≡◌, ℕ, List, [], Some, Contains, length, 
 use Rattle.std.specs.Prelude.{slice_index_or}
 use Rattle.waff_model.specs.declared.cell.Cell.{Cell}
 use Rattle.waff_model.specs.Layout.{Space, IsCell, owner_of}
-use Rattle.waff_model.specs.Parcel.{parcel_size, place_of}
+use Rattle.waff_model.specs.Parcel.{parcel_size, offset_of}
 use Rattle.waff_cells.specs.Meaning.{Cells}
 use Rattle.waff_cells.specs.Held.{Address, IsWithin}
 
@@ -12,7 +12,7 @@ use Rattle.waff_cells.specs.Held.{Address, IsWithin}
 pub record IsParcel (spaces : List Space) (a : ℕ) (cells : Cells) (numbers : List ℕ) : Type 0 where
   pub count : length numbers ≡ parcel_size spaces a
   pub each : (cell : Cell) → IsCell spaces cell → owner_of spaces cell ≡ a
-      → slice_get numbers (place_of spaces cell) ≡ Some (cells cell)
+      → slice_get numbers (offset_of spaces cell) ≡ Some (cells cell)
 
 -- the rows of these affinities are their parcels
 abbrev pub AreParcels : List Space → List ℕ → Cells → List (List ℕ) → Type 0
@@ -31,7 +31,7 @@ pub record IsOwned (spaces : List Space) (owners : List ℕ) (cell : Cell) : Typ
 
 -- where a cell lies: in the parcel of its owner, at its place
 abbrev pub lies_at : List Space → Cell → Address
-lies_at spaces cell = (owner_of spaces cell, place_of spaces cell)
+lies_at spaces cell = (owner_of spaces cell, offset_of spaces cell)
 
 -- the cell is there, and lies in the rows
 pub record IsHeld (spaces : List Space) (rows : List (List ℕ)) (cell : Cell) : Type 0 where

@@ -5,7 +5,7 @@ use Rattle.waff_model.specs.Tree.{AtOrAbove, Excludes}
 use Rattle.waff_assign.specs.Order.{IsOrdered, affinity_of}
 use Rattle.waff_core.specs.Job.{JobValue, IsJob}
 use Rattle.waff_core.specs.Machine.{Core, Steps, Runs, IsClear, opening, phase_of, drawn_by, begun_by, ended_by}
-use Rattle.waff_core.specs.Refused.{IsBusy, HasNothing, IsLeastUndone, IsRefused, FailsFirst, actor_of}
+use Rattle.waff_core.specs.Refused.{IsBusy, HasNothing, IsLeastUndone, IsRefusedEvent, FailsFirst, actor_of}
 use Rattle.waff_core.specs.Laws.{RunsOrFails}
 use Rattle.waff_core.specs.declared.event.Event.{Event}
 use Rattle.waff_core.specs.declared.event.Event.TheVariants.{Draw, Begin, End}
@@ -23,7 +23,7 @@ record FailsFrom (job : JobValue) (s : Core) (at : ℕ) (events : List Event) : 
   runs : Runs job s (take before events) state
   event : Event
   is : slice_get events before ≡ Some event
-  refused : IsRefused job state (at + before + 1) event error
+  refused : IsRefusedEvent job state (at + before + 1) event error
 
 module _ (job : JobValue) (is : IsJob job) where
   decide_excludes : (a b : ℕ) → Excludes job.layout.tree a b ⊎ ¬ Excludes job.layout.tree a b
@@ -107,7 +107,7 @@ module _ (job : JobValue) (is : IsJob job) where
 
   -- an event leads on, or is refused
   step_or_refused : (s : Core) (place : ℕ) (event : Event) (phase : Option Phase) → phase_of s.phases (actor_of event) ≡ phase
-      → ((t : Core) × Steps job s event t) ⊎ ((error : CoreError) × IsRefused job s place event error)
+      → ((t : Core) × Steps job s event t) ⊎ ((error : CoreError) × IsRefusedEvent job s place event error)
   step_or_refused s place (Draw x) None at = inr (Nothing place, (refl, subst (λ o. HasNothing (Draw x) o) (sym at) tt))
   step_or_refused s place (Draw x) (Some Free) at = inl (drawn_by job s x, (at, refl))
   step_or_refused s place (Draw x) (Some (Drawn m)) at = inr (Busy place, (refl, subst (λ o. IsBusy (Draw x) o) (sym at) tt))
@@ -116,7 +116,7 @@ module _ (job : JobValue) (is : IsJob job) where
   step_or_refused s place (Begin x) None at = inr (Nothing place, (refl, subst (λ o. HasNothing (Begin x) o) (sym at) tt))
   step_or_refused s place (Begin x) (Some Free) at = inr (Nothing place, (refl, subst (λ o. HasNothing (Begin x) o) (sym at) tt))
   step_or_refused s place (Begin x) (Some (Drawn m)) at =
-      ⊎_elim {C = ((t : Core) × Steps job s (Begin x) t) ⊎ ((error : CoreError) × IsRefused job s place (Begin x) error)}
+      ⊎_elim {C = ((t : Core) × Steps job s (Begin x) t) ⊎ ((error : CoreError) × IsRefusedEvent job s place (Begin x) error)}
       (λ (clear : IsClear job s m). inl (begun_by s x m, (m, at, clear, refl)))
       (λ (found : (i : ℕ) × IsLeastUndone job s m i). inr (NotYet place found.0, (refl, (m, at, found.1))))
       (decide_clear s m)
@@ -145,10 +145,10 @@ module _ (job : JobValue) (is : IsJob job) where
         runs = (step.0, step.1, fails.runs);
         event = fails.event;
         is = fails.is;
-        refused = subst (λ place. IsRefused job fails.state place fails.event fails.error) shifted fails.refused;
+        refused = subst (λ place. IsRefusedEvent job fails.state place fails.event fails.error) shifted fails.refused;
       }))
       (runs_or_fails_from step.0 (at + 1) events))
-      (λ (refused : (error : CoreError) × IsRefused job s (at + 1) event error).
+      (λ (refused : (error : CoreError) × IsRefusedEvent job s (at + 1) event error).
       let here : at + 1 ≡ at + 0 + 1 = omega arith in
       inr
       (record {
@@ -158,7 +158,7 @@ module _ (job : JobValue) (is : IsJob job) where
         runs = refl;
         event = event;
         is = refl;
-        refused = subst (λ place. IsRefused job s place event refused.0) here refused.1;
+        refused = subst (λ place. IsRefusedEvent job s place event refused.0) here refused.1;
       }))
       (step_or_refused s (at + 1) event (phase_of s.phases (actor_of event)) refl)
 
@@ -176,7 +176,7 @@ module _ (job : JobValue) (is : IsJob job) where
           runs = fails.runs;
           event = fails.event;
           is = fails.is;
-          refused = subst (λ place. IsRefused job fails.state place fails.event fails.error) first fails.refused;
+          refused = subst (λ place. IsRefusedEvent job fails.state place fails.event fails.error) first fails.refused;
         },
       ))
       (runs_or_fails_from (opening seats) 0 events)

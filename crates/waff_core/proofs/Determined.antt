@@ -5,7 +5,7 @@ use Rattle.std.proofs.Math.Seq.{take-length}
 use Rattle.std.proofs.lemmas.Option.{none-some, same_Some, slice_get_within}
 use Rattle.waff_core.specs.Job.{JobValue}
 use Rattle.waff_core.specs.Machine.{Core, Steps, Runs, opening, phase_of, begun_by, ended_by}
-use Rattle.waff_core.specs.Refused.{IsBusy, HasNothing, IsNotYet, IsLeastUndone, IsRefused, FailsFirst, actor_of}
+use Rattle.waff_core.specs.Refused.{IsBusy, HasNothing, IsNotYet, IsLeastUndone, IsRefusedEvent, FailsFirst, actor_of}
 use Rattle.waff_core.specs.Settled.{IsLast}
 use Rattle.waff_core.specs.Laws.{RunsOnce, FailsOnce, NeverBoth, StaysAccepted, LastIsOne}
 use Rattle.waff_core.specs.declared.event.Event.{Event}
@@ -45,7 +45,7 @@ stays_accepted job s (event ∷ events) t (suc n) (u, step, rest) =
 
 -- an event that the machine allows is not refused
 pub step_is_allowed : (job : JobValue) (s : Core) (event : Event) (t : Core) (place : ℕ) (error : CoreError)
-    → Steps job s event t → IsRefused job s place event error → ⊥
+    → Steps job s event t → IsRefusedEvent job s place event error → ⊥
 step_is_allowed job s (Draw x) t place (Busy at) step refused = subst (λ phase. IsBusy (Draw x) phase) step.0 refused.1
 step_is_allowed job s (Draw x) t place (Nothing at) step refused = subst (λ phase. HasNothing (Draw x) phase) step.0 refused.1
 step_is_allowed job s (Draw x) t place (NotYet at i) step refused = refused.1
@@ -119,7 +119,7 @@ early_is_one job s (Begin x) i other one two =
 early_is_one job s (End x) i other one two = absurd one
 
 refused_once : (job : JobValue) (s : Core) (place : ℕ) (event : Event) (one other : CoreError)
-    → IsRefused job s place event one → IsRefused job s place event other → one ≡ other
+    → IsRefusedEvent job s place event one → IsRefusedEvent job s place event other → one ≡ other
 refused_once job s place event (Busy at) (Busy to) h k = ap (λ x. Busy x) (h.0 ∙ sym k.0)
 refused_once job s place event (Busy at) (Nothing to) h k = absurd (busy_has_something event (phase_of s.phases (actor_of event)) h.1 k.1)
 refused_once job s place event (Busy at) (NotYet to i) h k = absurd (early_is_not_busy job s event (phase_of s.phases (actor_of event)) i h.1 k.1)
@@ -142,9 +142,9 @@ fails_once job seats events one other first second =
     let event : first.event ≡ second.event
     = same_Some first.event second.event (sym first.is ∙ ap (λ k. slice_get events k) same ∙ second.is) in
     refused_once job first.state (first.before + 1) first.event one other first.refused
-    (subst (λ e. IsRefused job first.state (first.before + 1) e other) (sym event)
-    (subst (λ u. IsRefused job u (first.before + 1) second.event other) (sym state)
-    (subst (λ k. IsRefused job second.state (k + 1) second.event other) (sym same) second.refused))))
+    (subst (λ e. IsRefusedEvent job first.state (first.before + 1) e other) (sym event)
+    (subst (λ u. IsRefusedEvent job u (first.before + 1) second.event other) (sym state)
+    (subst (λ k. IsRefusedEvent job second.state (k + 1) second.event other) (sym same) second.refused))))
     (⊎_elim {C = one ≡ other}
     (λ (before : first.before < second.before). absurd (fault_is_past job seats events second.state second.before one second.runs first before))
     (λ (after : second.before < first.before). absurd (fault_is_past job seats events first.state first.before other first.runs second after)))

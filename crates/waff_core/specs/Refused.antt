@@ -47,13 +47,13 @@ IsNotYet job s (Begin x) i =
 IsNotYet job s _ i = ⊥
 
 -- the machine does not allow the event, which stands at this place, and the error names why
-abbrev pub IsRefused : JobValue → Core → ℕ → Event → CoreError → Type 0
-IsRefused job s place event (Busy at) =
+abbrev pub IsRefusedEvent : JobValue → Core → ℕ → Event → CoreError → Type 0
+IsRefusedEvent job s place event (Busy at) =
     (at ≡ place) × IsBusy event (phase_of s.phases (actor_of event))
-IsRefused job s place event (Nothing at) =
+IsRefusedEvent job s place event (Nothing at) =
     (at ≡ place) × HasNothing event (phase_of s.phases (actor_of event))
-IsRefused job s place event (NotYet at i) = (at ≡ place) × IsNotYet job s event i
-IsRefused job s place event Memory = ⊥
+IsRefusedEvent job s place event (NotYet at i) = (at ≡ place) × IsNotYet job s event i
+IsRefusedEvent job s place event Memory = ⊥
 
 -- the first event that the machine does not allow, and why
 pub record FailsFirst (job : JobValue) (seats : ℕ) (events : List Event) (error : CoreError)
@@ -63,4 +63,4 @@ pub record FailsFirst (job : JobValue) (seats : ℕ) (events : List Event) (erro
   pub runs : Runs job (opening seats) (take before events) state
   pub event : Event
   pub is : slice_get events before ≡ Some event
-  pub refused : IsRefused job state (before + 1) event error
+  pub refused : IsRefusedEvent job state (before + 1) event error

@@ -9,7 +9,7 @@ ghost use Rattle.waff_cells.specs.Meaning.{meaning};
 ghost use Rattle.waff_cells.specs.Serial.{ops_of};
 ghost use Rattle.waff_core.specs.Job.{IsIn, IsJob};
 ghost use Rattle.waff_core.specs.Machine.{IsClear, Steps, opening, phase_drawn, phase_of};
-ghost use Rattle.waff_core.specs.Refused.{IsLeastUndone, IsRefused};
+ghost use Rattle.waff_core.specs.Refused.{IsLeastUndone, IsRefusedEvent};
 ghost use Rattle.waff_core.specs.Shown.{Fits, IsSteady, core_in};
 
 use crate::{CoreError, Event, Job, Phase};
@@ -51,7 +51,7 @@ impl Machine {
         ensures fits { Fits job.now self.new }
         ensures stepped { IfOk result
             (λ _. Steps job.now (core_in self.old) event (core_in self.new)) }
-        ensures refused { IfErr result (IsRefused job.now (core_in self.old) place event) }
+        ensures refused { IfErr result (IsRefusedEvent job.now (core_in self.old) place event) }
     {
         match event {
             Event::Draw(actor) => self.draw(job, place, actor),
@@ -67,7 +67,7 @@ impl Machine {
         ensures stepped { IfOk result
             (λ _. Steps job.now (core_in self.old) (Event.Draw actor) (core_in self.new)) }
         ensures refused { IfErr result
-            (IsRefused job.now (core_in self.old) place (Event.Draw actor)) }
+            (IsRefusedEvent job.now (core_in self.old) place (Event.Draw actor)) }
     {
         match self.phase(actor) {
             Some(Phase::Free) => {
@@ -87,7 +87,7 @@ impl Machine {
         ensures stepped { IfOk result
             (λ _. Steps job.now (core_in self.old) (Event.Begin actor) (core_in self.new)) }
         ensures refused { IfErr result
-            (IsRefused job.now (core_in self.old) place (Event.Begin actor)) }
+            (IsRefusedEvent job.now (core_in self.old) place (Event.Begin actor)) }
     {
         let m = match self.phase(actor) {
             Some(Phase::Drawn(m)) => m,
@@ -111,7 +111,7 @@ impl Machine {
         ensures stepped { IfOk result
             (λ _. Steps job.now (core_in self.old) (Event.End actor) (core_in self.new)) }
         ensures refused { IfErr result
-            (IsRefused job.now (core_in self.old) place (Event.End actor)) }
+            (IsRefusedEvent job.now (core_in self.old) place (Event.End actor)) }
     {
         let m = match self.phase(actor) {
             Some(Phase::Running(m)) => m,

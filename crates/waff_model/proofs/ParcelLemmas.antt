@@ -6,7 +6,7 @@ use Rattle.std.proofs.lemmas.List.Sums.{sum_by-cons, sum_by-take-le, count_by_mo
 use Rattle.std.proofs.lemmas.List.FromFn.{length-map-range_with_len, get_or-map-range_with_len}
 use Rattle.waff_model.specs.declared.cell.Cell.{Cell}
 use Rattle.waff_model.specs.Layout.{Space, IsCell, size_at, owner_at, owner_of}
-use Rattle.waff_model.specs.Parcel.{IsRun, owners_across, owners_in, cells_ahead, cells_before, count_of, parcel_size, place_of}
+use Rattle.waff_model.specs.Parcel.{IsRun, owners_across, owners_in, cells_ahead, cells_before, count_of, parcel_size, offset_of}
 
 length-owners_across : (space : Space) → length (owners_across space) ≡ space.size
 length-owners_across space = length-map-range_with_len (owner_at space) 0 space.size
@@ -121,16 +121,16 @@ module _ (spaces : List Space) where
   owner_of_number cell is_cell = owner_stands spaces cell.space cell.index is_cell
 
   -- a cell's place is below the size of its owner's parcel
-  pub place_within : (cell : Cell) → IsCell spaces cell → place_of spaces cell < parcel_size spaces (owner_of spaces cell)
+  pub place_within : (cell : Cell) → IsCell spaces cell → offset_of spaces cell < parcel_size spaces (owner_of spaces cell)
   place_within cell is_cell = count_whole (owners_in spaces) (cells_before spaces cell) (owner_of spaces cell) (cells_before-all cell is_cell) (owner_of_number cell is_cell)
 
-  earlier_place : (one other : Cell) → IsCell spaces one → owner_of spaces one ≡ owner_of spaces other → cells_before spaces one < cells_before spaces other → place_of spaces one < place_of spaces other
+  earlier_place : (one other : Cell) → IsCell spaces one → owner_of spaces one ≡ owner_of spaces other → cells_before spaces one < cells_before spaces other → offset_of spaces one < offset_of spaces other
   earlier_place one other is_one same before =
-      subst (λ a. place_of spaces one < count_of a (take (cells_before spaces other) (owners_in spaces))) same
+      subst (λ a. offset_of spaces one < count_of a (take (cells_before spaces other) (owners_in spaces))) same
       (count_less (owners_in spaces) (cells_before spaces one) (cells_before spaces other) (owner_of spaces one) before (cells_before-all one is_one) (owner_of_number one is_one))
 
   -- two cells of one owner with one place are the same
-  pub same_place : (one other : Cell) → IsCell spaces one → IsCell spaces other → owner_of spaces one ≡ owner_of spaces other → place_of spaces one ≡ place_of spaces other → one ≡ other
+  pub same_place : (one other : Cell) → IsCell spaces one → IsCell spaces other → owner_of spaces one ≡ owner_of spaces other → offset_of spaces one ≡ offset_of spaces other → one ≡ other
   same_place one other is_one is_other owner place =
       elim (cases_order (cells_before spaces one) (cells_before spaces other)) [
         | inl same ↦
@@ -142,12 +142,12 @@ module _ (spaces : List Space) where
       ]
 
   -- each number below the size of a parcel is the place of one of its cells
-  pub place_filled : (a n : ℕ) → n < parcel_size spaces a → (cell : Cell) × IsCell spaces cell × (owner_of spaces cell ≡ a) × (place_of spaces cell ≡ n)
+  pub place_filled : (a n : ℕ) → n < parcel_size spaces a → (cell : Cell) × IsCell spaces cell × (owner_of spaces cell ≡ a) × (offset_of spaces cell ≡ n)
   place_filled a n below =
       let (k, within, owned, count) = count_reached (owners_in spaces) a n below in
       let (cell, is_cell, number) = cell_numbered spaces k (omega (arith, length-owners_in spaces)) in
       let owner : owner_of spaces cell ≡ a = sym (owner_of_number cell is_cell) ∙ ap (λ n. get_or (owners_in spaces) n 0) number ∙ owned in
-      let place : place_of spaces cell ≡ n = ap (λ a. count_of a (take (cells_before spaces cell) (owners_in spaces))) owner ∙ ap (λ k. count_of a (take k (owners_in spaces))) number ∙ count in
+      let place : offset_of spaces cell ≡ n = ap (λ a. count_of a (take (cells_before spaces cell) (owners_in spaces))) owner ∙ ap (λ k. count_of a (take k (owners_in spaces))) number ∙ count in
       (cell, is_cell, owner, place)
 
 -- cells from one on that have its owner are a run

@@ -10,8 +10,8 @@ use Rattle.waff_model.specs.declared.cell.Cell.{Cell}
 use Rattle.waff_model.specs.declared.parcels.Parcels.{Parcels}
 use Rattle.waff_model.specs.Tree.{Node}
 use Rattle.waff_model.specs.Layout.{Space, Hierarchy, IsSpace, IsCell, size_at, owner_at, owner_of}
-use Rattle.waff_model.specs.Parcel.{owners_in, cells_ahead, cells_before, count_of, parcel_size, place_of}
-use Rattle.waff_model.specs.ParcelTable.{IsMapped, place_at, sizes_of, AreParcels}
+use Rattle.waff_model.specs.Parcel.{owners_in, cells_ahead, cells_before, count_of, parcel_size, offset_of}
+use Rattle.waff_model.specs.ParcelTable.{IsMapped, offset_at, parcel_sizes, AreParcels}
 use Rattle.waff_model.proofs.ParcelLemmas.{count_more, cell_numbered, length-owners_in, owner_of_number, cells_before-all}
 
 space_below : (spaces : List Space) (s i : ℕ) → i < size_at spaces s → s < length spaces
@@ -80,7 +80,7 @@ counts_more owners counts k a within owned inside counted b below =
     ]
 
 -- counts of all cells' owners are the sizes of the parcels
-pub counts_all : (owners counts : List ℕ) (n k : ℕ) → length counts ≡ n → length owners ≤ k → AreCounts owners k counts → counts ≡ sizes_of n owners
+pub counts_all : (owners counts : List ℕ) (n k : ℕ) → length counts ≡ n → length owners ≤ k → AreCounts owners k counts → counts ≡ parcel_sizes n owners
 counts_all owners counts n k long past counted =
     fill_by_all (λ a. count_of a owners) counts n 0 long (λ a below. counted a (omega arith) ∙ ap (count_of a) (take_all k owners past))
 
@@ -120,7 +120,7 @@ module _ (layout : Hierarchy) (parcels : Parcels) (are : AreParcels layout.tree 
       owner_within = omega (arith, number_within, ap length are.owners)
 
       pub place_within : number < length parcels.places.items
-      place_within = omega (arith, number_within, ap length are.places, length-map-range_with_len (place_at (owners_in layout.spaces)) 0 (length (owners_in layout.spaces)))
+      place_within = omega (arith, number_within, ap length are.places, length-map-range_with_len (offset_at (owners_in layout.spaces)) 0 (length (owners_in layout.spaces)))
 
       owner_there : get_or (owners_in layout.spaces) number 0 ≡ owner_of layout.spaces cell
       owner_there = ap (λ k. get_or (owners_in layout.spaces) k 0) is ∙ owner_of_number layout.spaces cell is_cell
@@ -131,10 +131,10 @@ module _ (layout : Hierarchy) (parcels : Parcels) (are : AreParcels layout.tree 
           ∙ ap (λ xs. get_or xs number 0) are.owners
           ∙ owner_there
 
-      pub place_is : (place : ℕ) → place ≡ get_or parcels.places.items number place → place ≡ place_of layout.spaces cell
+      pub place_is : (place : ℕ) → place ≡ get_or parcels.places.items number place → place ≡ offset_of layout.spaces cell
       place_is place read =
           get_or_read parcels.places.items number place place_within read 0
           ∙ ap (λ xs. get_or xs number 0) are.places
-          ∙ get_or-map-range_with_len (place_at (owners_in layout.spaces)) 0 (length (owners_in layout.spaces)) number number 0 number_within (zero-add number)
+          ∙ get_or-map-range_with_len (offset_at (owners_in layout.spaces)) 0 (length (owners_in layout.spaces)) number number 0 number_within (zero-add number)
           ∙ ap (λ a. count_of a (take number (owners_in layout.spaces))) owner_there
           ∙ ap (λ k. count_of (owner_of layout.spaces cell) (take k (owners_in layout.spaces))) is

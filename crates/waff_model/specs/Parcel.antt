@@ -29,8 +29,8 @@ abbrev pub parcel_size : List Space → ℕ → ℕ
 parcel_size spaces a = count_of a (owners_in spaces)
 
 -- the place of a cell in its owner's parcel: how many of the cells before it have its owner
-abbrev pub place_of : List Space → Cell → ℕ
-place_of spaces cell =
+abbrev pub offset_of : List Space → Cell → ℕ
+offset_of spaces cell =
     count_of (owner_of spaces cell) (take (cells_before spaces cell) (owners_in spaces))
 
 -- so many cells of a space, from this one on, are a run: one affinity owns them, and they stand one
@@ -39,4 +39,4 @@ abbrev pub IsRun : List Space → Cell → ℕ → Type 0
 IsRun spaces first count = (k : ℕ) → k < count
     → let cell : Cell = record { space = first.space; index = first.index + k } in
     (owner_of spaces cell ≡ owner_of spaces first)
-    × (place_of spaces cell ≡ place_of spaces first + k)
+    × (offset_of spaces cell ≡ offset_of spaces first + k)

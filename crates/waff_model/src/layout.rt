@@ -8,7 +8,7 @@ ghost use Rattle.waff_model.specs.Tree.{number_of};
 ghost use Rattle.waff_model.specs.Layout.{IsLayout, IsCell, SameSpaces, name_at, size_at};
 ghost use Rattle.waff_model.specs.Layout.{space_named, owner_of};
 ghost use Rattle.waff_model.specs.LayoutOf.{owners_of, map_of, space_of, hierarchy_of};
-ghost use Rattle.waff_model.specs.Parcel.{IsRun, parcel_size, place_of};
+ghost use Rattle.waff_model.specs.Parcel.{IsRun, parcel_size, offset_of};
 ghost use Rattle.waff_model.specs.LayoutRefusal.{layout_refusal};
 
 use crate::cell::Cell;
@@ -163,7 +163,7 @@ impl Layout {
         requires { IsCell self.now.spaces cell }
         ensures owner { result.0.0 ≡ owner_of self.now.spaces cell }
         ensures affinity { result.0.0 < length self.now.tree }
-        ensures place { result.1 ≡ place_of self.now.spaces cell }
+        ensures place { result.1 ≡ offset_of self.now.spaces cell }
         ensures within { result.1 < parcel_size self.now.spaces result.0.0 }
     {
         let parcels = &self.parcels;

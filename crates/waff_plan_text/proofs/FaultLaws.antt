@@ -12,7 +12,7 @@ use Rattle.waff_parse.specs.Rows.{Record, is_text, records_of}
 use Rattle.waff_plan_text.specs.Given.{Given, SummaryLines}
 use Rattle.waff_plan_text.specs.PlanTexts.{header_of, plan_after, plan_of_end, plan_of_records, plan_of_rows, plan_of_summary, put, rows_in}
 use Rattle.waff_plan_text.specs.Refusals.{at_record}
-use Rattle.waff_plan_text.specs.Refused.{FirstFaultDecides, HasRow, HasSmallNumbers, Holds, HoldsAtEnd, HoldsOf, IsFirstFault, IsMissing, IsNotLine, IsRefused, IsRowOf, IsTooLargeLine, IsTooLargeRow, Line, lines_of, next_of, number, number_behind, refusal_of, summary_in}
+use Rattle.waff_plan_text.specs.Refused.{FirstFaultDecides, HasRow, HasSmallNumbers, HasFault, HoldsAtEnd, HoldsOf, IsFirstFault, IsMissing, IsNotLine, IsRefusedPlan, IsRowOf, IsTooLargeLine, IsTooLargeRow, Line, lines_of, next_of, number, number_behind, refusal_of, summary_in}
 use Rattle.waff_plan_text.specs.Rows.{Slots, row_of, slot_of}
 use Rattle.waff_plan_text.specs.Summaries.{begins_summary, summary_of}
 use Rattle.waff_plan_text.specs.declared.refusal.PlanTextError.{PlanTextError}
@@ -217,7 +217,7 @@ module _ (version : Version) (messages : ℕ) (before : List Record) (row : Reco
 
 module _ (version : Version) (messages : ℕ) (rows : List Record) where
   abbrev pub HoldsAt : ℕ → PlanTextError → Type 0
-  HoldsAt k e = Holds version messages (take k rows) (slice_get rows k) e
+  HoldsAt k e = HasFault version messages (take k rows) (slice_get rows k) e
 
   -- no check holds before a place
   abbrev pub Clean : ℕ → Type 0
@@ -247,13 +247,13 @@ module _ (version : Version) (messages : ℕ) (rows : List Record) where
       record {
         there = within;
         holds = rw there holds;
-        least = λ other h. least other (subst (λ o. Holds version messages (take k rows) o other) there h);
+        least = λ other h. least other (subst (λ o. HasFault version messages (take k rows) o other) there h);
         before = clean;
       },
     )
 
     clean_of : (row : Record) → slice_get rows k ≡ Some row → ((e : PlanTextError) → HoldsOf version messages (take k rows) row e → ⊥) → Clean (suc k)
-    clean_of row there none = clean_more k clean (λ e h. none e (subst (λ o. Holds version messages (take k rows) o e) there h))
+    clean_of row there none = clean_more k clean (λ e h. none e (subst (λ o. HasFault version messages (take k rows) o e) there h))
 
     fault_at_end : (e : PlanTextError) → slice_get rows k ≡ None → HoldsAtEnd version messages (take k rows) e
         → ((other : PlanTextError) → HoldsAtEnd version messages (take k rows) other → number e ≤ number other) → Decides (Some e)
@@ -262,7 +262,7 @@ module _ (version : Version) (messages : ℕ) (rows : List Record) where
       record {
         there = within;
         holds = rw there holds;
-        least = λ other h. least other (subst (λ o. Holds version messages (take k rows) o other) there h);
+        least = λ other h. least other (subst (λ o. HasFault version messages (take k rows) o other) there h);
         before = clean;
       },
     )
@@ -270,7 +270,7 @@ module _ (version : Version) (messages : ℕ) (rows : List Record) where
     clean_at_end : length rows ≤ k → slice_get rows k ≡ None → ((e : PlanTextError) → HoldsAtEnd version messages (take k rows) e → ⊥) → Clean (suc (length rows))
     clean_at_end past there none =
         let same : k ≡ length rows = omega (arith, past, within) in
-        subst (λ n. Clean (suc n)) same (clean_more k clean (λ e h. none e (subst (λ o. Holds version messages (take k rows) o e) there h)))
+        subst (λ n. Clean (suc n)) same (clean_more k clean (λ e h. none e (subst (λ o. HasFault version messages (take k rows) o e) there h)))
 
     csv_decides : (row : Record) → slice_get rows k ≡ Some row → is_text row ≡ false → Decides (Some (error.Csv (k + 2)))
     csv_decides row there bad = fault_of row (error.Csv (k + 2)) there (number_is, bad) (λ other h. any_least other)
@@ -530,11 +530,11 @@ module _ (version : Version) (messages : ℕ) (before : List Record) where
   named_at_end (error.TooLarge at) h differs = absurd h
   named_at_end error.Memory h differs = absurd h
 
-  named_here : (entry : Option Record) (e : PlanTextError) → Holds version messages before entry e → (number e ≡ 4 → ⊥) → e ≡ named (number e) (number_behind before)
+  named_here : (entry : Option Record) (e : PlanTextError) → HasFault version messages before entry e → (number e ≡ 4 → ⊥) → e ≡ named (number e) (number_behind before)
   named_here None e h differs = named_at_end e h differs
   named_here (Some row) e h differs = named_of row e h differs
 
-  missing_here : (entry : Option Record) (message : ℕ) → Holds version messages before entry (error.Missing message) → IsMissing messages before message
+  missing_here : (entry : Option Record) (message : ℕ) → HasFault version messages before entry (error.Missing message) → IsMissing messages before message
   missing_here None message h = h.1
   missing_here (Some row) message h = h.2
 
@@ -556,7 +556,7 @@ module _ (version : Version) (messages : ℕ) (before : List Record) where
   is_missing (error.TooLarge at) h = absurd (omega (arith, h))
   is_missing error.Memory h = absurd (omega (arith, h))
 
-  same_error : (entry : Option Record) (e other : PlanTextError) → Holds version messages before entry e → Holds version messages before entry other
+  same_error : (entry : Option Record) (e other : PlanTextError) → HasFault version messages before entry e → HasFault version messages before entry other
       → number e ≡ number other → e ≡ other
   same_error entry e other h k same = by (cases_eq (number e) 4)
     where
@@ -564,8 +564,8 @@ module _ (version : Version) (messages : ℕ) (before : List Record) where
       by (inl four) =
           let a = is_missing e four in
           let b = is_missing other (sym same ∙ four) in
-          let first = missing_here entry a.0 (subst (Holds version messages before entry) a.1 h) in
-          let second = missing_here entry b.0 (subst (Holds version messages before entry) b.1 k) in
+          let first = missing_here entry a.0 (subst (HasFault version messages before entry) a.1 h) in
+          let second = missing_here entry b.0 (subst (HasFault version messages before entry) b.1 k) in
           a.1 ∙ ap error.Missing (one_missing a.0 b.0 first second) ∙ sym b.1
       by (inr differs) =
           named_here entry e h differs ∙ ap (λ n. named n (number_behind before)) same
@@ -596,16 +596,16 @@ module _ (version : Version) (messages : ℕ) (records : List Record) (e : PlanT
   body : (plan_of_rows version messages (drop 1 records) ≡ Err e) ↔ ((place : ℕ) × IsFirstFault version messages (drop 1 records) place e)
   body = decided version messages (drop 1 records) (plan_of_rows version messages (drop 1 records)) (rows_decided version messages (drop 1 records)) e
 
-  refused : plan_of_records version messages records ≡ Err e → IsRefused version messages records e
+  refused : plan_of_records version messages records ≡ Err e → IsRefusedPlan version messages records e
   unfolding plan_of_records
   refused h = by (header_of records) refl h
     where
       by : (r : Result (Unit {0}) PlanTextError) → header_of records ≡ r → (r >>= (λ _. plan_of_rows version messages (drop 1 records))) ≡ Err e
-          → IsRefused version messages records e
+          → IsRefusedPlan version messages records e
       by (Ok done) is same = inr (is, body.0 same)
       by (Err d) is same = inl (is ∙ cc)
 
-  refuse : IsRefused version messages records e → plan_of_records version messages records ≡ Err e
+  refuse : IsRefusedPlan version messages records e → plan_of_records version messages records ≡ Err e
   unfolding plan_of_records
   refuse (inl bad) = rw bad refl
   refuse (inr (is, first)) = rw is (body.1 first)

@@ -163,9 +163,9 @@ HoldsAtEnd version messages before (error.TooLarge at) = ⊥
 HoldsAtEnd version messages before error.Memory = ⊥
 
 -- the check of this error holds of what is behind these records: one more, or the end
-abbrev pub Holds : Version → ℕ → List Record → Option Record → PlanTextError → Type 0
-Holds version messages before (Some fields) e = HoldsOf version messages before fields e
-Holds version messages before None e = HoldsAtEnd version messages before e
+abbrev pub HasFault : Version → ℕ → List Record → Option Record → PlanTextError → Type 0
+HasFault version messages before (Some fields) e = HoldsOf version messages before fields e
+HasFault version messages before None e = HoldsAtEnd version messages before e
 
 -- the numbers of the checks
 abbrev pub number : PlanTextError → ℕ
@@ -183,17 +183,17 @@ number error.Memory = 8
 pub record IsFirstFault (version : Version)
     (messages : ℕ) (records : List Record) (place : ℕ) (e : PlanTextError) : Type 0 where
   pub there : place ≤ length records
-  pub holds : Holds version messages (take place records) (slice_get records place) e
+  pub holds : HasFault version messages (take place records) (slice_get records place) e
   pub least : (other : PlanTextError)
-      → Holds version messages (take place records) (slice_get records place) other
+      → HasFault version messages (take place records) (slice_get records place) other
       → number e ≤ number other
   pub before : (k : ℕ) (other : PlanTextError)
-      → k < place → Holds version messages (take k records) (slice_get records k) other → ⊥
+      → k < place → HasFault version messages (take k records) (slice_get records k) other → ⊥
 
 -- the header is refused with this error, or it is one and the first record behind it with a fault
 -- is refused for its least
-abbrev pub IsRefused : Version → ℕ → List Record → PlanTextError → Type 0
-IsRefused version messages records e =
+abbrev pub IsRefusedPlan : Version → ℕ → List Record → PlanTextError → Type 0
+IsRefusedPlan version messages records e =
     (header_of records ≡ Err e)
     ⊎ ((header_of records ≡ Ok tt)
     × ((place : ℕ) × IsFirstFault version messages (drop 1 records) place e))
@@ -201,4 +201,4 @@ IsRefused version messages records e =
 -- the first record with a fault decides, and of its faults the one of least number
 abbrev pub FirstFaultDecides : Version → ℕ → List ℕ → Type 0
 FirstFaultDecides version messages bytes = (e : PlanTextError)
-    → (plan_of version messages bytes ≡ Err e) ↔ IsRefused version messages (records_of bytes) e
+    → (plan_of version messages bytes ≡ Err e) ↔ IsRefusedPlan version messages (records_of bytes) e

@@ -19,7 +19,7 @@ use Rattle.waff_model.proofs.RefusalLemmas.{none_holds}
 use Rattle.waff_read.specs.Affinities.{name_at, node_in, place_of, tree_from, tree_of}
 use Rattle.waff_read.specs.Checks.{passed}
 use Rattle.waff_read.specs.Documents.{text_at}
-use Rattle.waff_read.specs.Refused.{IsParent, IsAffinity, AreAffinities, TreeIsExact, Holds, number, FirstAffinityDecides}
+use Rattle.waff_read.specs.Refused.{IsParent, IsAffinity, AreAffinities, TreeIsExact, HasTreeFault, number, FirstAffinityDecides}
 use Rattle.waff_read.proofs.NameLemmas.{position_map}
 
 none_of : {A : Type 0} (o : Option A) → is_some o ≡ false → o ≡ None
@@ -219,7 +219,7 @@ module _ (before : List Node) (row : Data) where
   flag_of = flag (not (is_name (name_at row))) (is_some (number_of before (name_at row))) (is_none (node_in before row).parent && nat_le 1 (length before))
       (is_unknown before (node_in before row).parent) (nat_le MAX_AFFINITIES (length before))
 
-  flag_holds : (e : TreeError) → flag_of e ≡ true → Holds before row e
+  flag_holds : (e : TreeError) → flag_of e ≡ true → HasTreeFault before row e
   flag_holds refusal.Name h = not-true (is_name (name_at row)) h
   flag_holds refusal.Twice h = h
   flag_holds refusal.SecondRoot h = second_root before text h
@@ -228,7 +228,7 @@ module _ (before : List Node) (row : Data) where
   flag_holds refusal.NoRoot h = absurd (cc)
   flag_holds refusal.Memory h = absurd (cc)
 
-  holds_flag : length before ≤ MAX_AFFINITIES → (e : TreeError) → Holds before row e → flag_of e ≡ true
+  holds_flag : length before ≤ MAX_AFFINITIES → (e : TreeError) → HasTreeFault before row e → flag_of e ≡ true
   holds_flag few refusal.Name h = ap not h
   holds_flag few refusal.Twice h = h
   holds_flag few refusal.SecondRoot (none, some) = root_second before text none some
@@ -238,7 +238,7 @@ module _ (before : List Node) (row : Data) where
   holds_flag few refusal.Memory h = absurd h
 
   refused : length before ≤ MAX_AFFINITIES → (e : TreeError) → refusal_of before (node_in before row) ≡ Some e
-      → Holds before row e × ((other : TreeError) → Holds before row other → number e ≤ number other)
+      → HasTreeFault before row e × ((other : TreeError) → HasTreeFault before row other → number e ≤ number other)
   refused few e some =
       let first = decides (not (is_name (name_at row))) (is_some (number_of before (name_at row))) (is_none (node_in before row).parent && nat_le 1 (length before))
       (is_unknown before (node_in before row).parent) (nat_le MAX_AFFINITIES (length before)) e some in
@@ -312,8 +312,8 @@ adds_read before (row ∷ more) (node ∷ made) adds =
 record StopsAt (before : List Node) (rows : List Data) (made : List Node) (row : Data) (e : TreeError) : Type 0 where
   there : slice_get rows (length made) ≡ Some row
   adds : Adds before (take (length made) rows) made
-  holds : Holds (before ++ made) row e
-  least : (other : TreeError) → Holds (before ++ made) row other → number e ≤ number other
+  holds : HasTreeFault (before ++ made) row e
+  least : (other : TreeError) → HasTreeFault (before ++ made) row other → number e ≤ number other
 
 read_stops : (before : List Node) (rows : List Data) (e : TreeError) → length before ≤ MAX_AFFINITIES → tree_from before rows ≡ Err e
     → (made : List Node) × (row : Data) × StopsAt before rows made row e
@@ -339,8 +339,8 @@ read_stops before (row ∷ more) e few stops =
           record {
             there = s.there;
             adds = adds_one before row (node_in before row) (take (length made) more) made is s.adds;
-            holds = subst (λ nodes. Holds nodes found.1 e) joined s.holds;
-            least = λ other h. s.least other (subst (λ nodes. Holds nodes found.1 other) (sym joined) h);
+            holds = subst (λ nodes. HasTreeFault nodes found.1 e) joined s.holds;
+            least = λ other h. s.least other (subst (λ nodes. HasTreeFault nodes found.1 other) (sym joined) h);
           },
         )
     by (Some d) some read rest =
@@ -352,8 +352,8 @@ read_stops before (row ∷ more) e few stops =
           record {
             there = refl;
             adds = adds_none before;
-            holds = subst (λ nodes. Holds nodes row e) (sym joined) why.0;
-            least = λ other h. why.1 other (subst (λ nodes. Holds nodes row other) joined h);
+            holds = subst (λ nodes. HasTreeFault nodes row e) (sym joined) why.0;
+            least = λ other h. why.1 other (subst (λ nodes. HasTreeFault nodes row other) joined h);
           },
         )
 

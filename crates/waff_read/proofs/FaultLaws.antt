@@ -7,7 +7,7 @@ use Rattle.waff_model.specs.declared.message.Version.{Version}
 use Rattle.waff_parse.specs.Refusals.{◌>>=◌}
 use Rattle.waff_parse.specs.Rows.{Record, records_of}
 use Rattle.waff_parse.specs.Walks.{walk}
-use Rattle.waff_read.specs.Laws.{IsFirstFault, IsRefused, FirstFaultDecides, IsReadAs, TraceIsExact}
+use Rattle.waff_read.specs.Laws.{IsFirstFault, IsRefusedTrace, FirstFaultDecides, IsReadAs, TraceIsExact}
 use Rattle.waff_read.specs.Traces.{header_of, message_at, messages_at, trace_of_records, trace_of_rows}
 use Rattle.waff_read.specs.declared.trace_fault.TraceError.{TraceError}
 
@@ -132,7 +132,7 @@ module _ {F A B : Type 0} (f : ℕ → A → Result B F) where
 
 module _ (spaces : List Space) (rows : List Record) (e : TraceError) where
   -- the first fault of the records after the header
-  rows-stopped : (version : Version) → header_of rows ≡ Ok version → trace_of_rows version spaces (drop 1 rows) ≡ Err e → IsRefused spaces rows e
+  rows-stopped : (version : Version) → header_of rows ≡ Ok version → trace_of_rows version spaces (drop 1 rows) ≡ Err e → IsRefusedTrace spaces rows e
   rows-stopped version is h =
       let found = walk_stopped (message_at version spaces) 2 (drop 1 rows) e (by (messages_at version spaces 2 (drop 1 rows)) h) in
       let stops = found.2 in
@@ -151,15 +151,15 @@ module _ (spaces : List Space) (rows : List Record) (e : TraceError) where
       (record { there = fault.there; refused = fault.refused; before = fault.before }) in
       rw stopped refl
 
-  refused-read : trace_of_records spaces rows ≡ Err e → IsRefused spaces rows e
+  refused-read : trace_of_records spaces rows ≡ Err e → IsRefusedTrace spaces rows e
   unfolding trace_of_records
   refused-read h = by (header_of rows) refl h
     where
-      by : (r : Result Version TraceError) → header_of rows ≡ r → (r >>= (λ version. trace_of_rows version spaces (drop 1 rows))) ≡ Err e → IsRefused spaces rows e
+      by : (r : Result Version TraceError) → header_of rows ≡ r → (r >>= (λ version. trace_of_rows version spaces (drop 1 rows))) ≡ Err e → IsRefusedTrace spaces rows e
       by (Ok version) is same = rows-stopped version is same
       by (Err d) is same = inl (is ∙ cc)
 
-  read-refused : IsRefused spaces rows e → trace_of_records spaces rows ≡ Err e
+  read-refused : IsRefusedTrace spaces rows e → trace_of_records spaces rows ≡ Err e
   unfolding trace_of_records
   read-refused (inl none) = rw none refl
   read-refused (inr (version, place, row, is, fault)) = rw is (stopped-rows version place row fault)

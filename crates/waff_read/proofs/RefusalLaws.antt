@@ -15,7 +15,7 @@ use Rattle.waff_parse.specs.Refusals.{◌>>=◌, both, one, pair}
 use Rattle.waff_parse.specs.Texts.{number_of, number_within, parts, small}
 use Rattle.waff_parse.specs.Walks.{gather}
 use Rattle.waff_parse.proofs.Laws.{gather-length}
-use Rattle.waff_read.specs.Laws.{HasPiece, Holds, IsLeastCheck, LeastCheckDecides}
+use Rattle.waff_read.specs.Laws.{HasPiece, HasTraceFault, IsLeastCheck, LeastCheckDecides}
 use Rattle.waff_read.specs.Messages.{cost_of, counted, message_of_fields, name_of, release_of}
 use Rattle.waff_read.specs.Ops.{cell_in, cell_of, cell_of_parts, op_of, op_of_one, op_of_parts, op_of_two, op_of_words, ops_of, pieces_of, value_of, with_cell, with_value}
 use Rattle.waff_read.specs.TraceFaults.{number}
@@ -312,7 +312,7 @@ module _ (spaces : List Space) (at : ℕ) (name cost : Field) (release : Option 
   at_least : (n : ℕ) → (4 < n → is_name name ≡ true) → (5 < n → number_within 1 MAX_COST cost ≢ None) → (6 < n → ops ≢ [])
       → ((piece : List ℕ) (d : TraceFault) → Contains (parts 59 ops) piece → op_of spaces piece ≡ Err d → n ≤ number d)
       → (10 < n → length (parts 59 ops) ≤ MAX_OPS) → (11 < n → at ≤ MAX_MESSAGES + 1) → n ≤ 13
-      → (other : TraceFault) → Holds spaces at name cost release ops other → n ≤ number other
+      → (other : TraceFault) → HasTraceFault spaces at name cost release ops other → n ≤ number other
   at_least n named costs some pieces few counts top fault.Csv h = absurd h
   at_least n named costs some pieces few counts top fault.Header h = absurd h
   at_least n named costs some pieces few counts top fault.Fields h = absurd h
@@ -330,7 +330,7 @@ module _ (spaces : List Space) (at : ℕ) (name cost : Field) (release : Option 
   pieces_late : (n : ℕ) → n ≤ 7 → (piece : List ℕ) (d : TraceFault) → Contains (parts 59 ops) piece → op_of spaces piece ≡ Err d → n ≤ number d
   pieces_late n early piece d there refused = omega (arith, (piece_number d (refused_piece spaces piece d refused)).0)
 
-  piece_holds : (d : TraceFault) → IsOfPiece d → HasPiece spaces ops d → Holds spaces at name cost release ops d
+  piece_holds : (d : TraceFault) → IsOfPiece d → HasPiece spaces ops d → HasTraceFault spaces at name cost release ops d
   piece_holds d (inl same) h = rw same (rw same at h)
   piece_holds d (inr (inl same)) h = rw same (rw same at h)
   piece_holds d (inr (inr same)) h = rw same (rw same at h)

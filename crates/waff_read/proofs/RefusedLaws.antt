@@ -18,58 +18,58 @@ use Rattle.waff_read.specs.Shapes.{shape_refusal}
 use Rattle.waff_read.specs.declared.hier_error.HierError.{HierError}
 use Rattle.waff_read.specs.declared.hier_error.HierError.TheVariants as error
 use Rattle.waff_read.specs.declared.hier_error.Key.{Key}
-use Rattle.waff_read.specs.Refused.{IsShaped, HasTree, IsRefused, FirstCheckDecides}
+use Rattle.waff_read.specs.Refused.{IsShaped, HasTree, IsRefusedHierarchy, FirstCheckDecides}
 use Rattle.waff_read.proofs.HierarchyLemmas.{after_document, after_kind, after_shape, after_tree, after_level, at_document}
 
 module _ (bytes : List ℕ) (e : HierError) where
   layout_refused : (document : Data) (kind : Kind) (tree : List Node) → HasTree bytes document kind tree → kind_refusal kind tree ≡ None
-      → (r : Result Hierarchy LayoutError) → layout_at kind tree document ≡ r → told layout_error r ≡ Err e → IsRefused bytes e
+      → (r : Result Hierarchy LayoutError) → layout_at kind tree document ≡ r → told layout_error r ≡ Err e → IsRefusedHierarchy bytes e
   layout_refused document kind tree has fits (Ok layout) is same = absurd (cc)
   layout_refused document kind tree has fits (Err d) is same =
       let named : error.Layout d ≡ e = cc in
-      subst (IsRefused bytes) named (document, kind, tree, has, fits, is)
+      subst (IsRefusedHierarchy bytes) named (document, kind, tree, has, fits, is)
 
   level_refused : (document : Data) (kind : Kind) (tree : List Node) → HasTree bytes document kind tree → (third : Option ℕ)
       → kind_refusal kind tree ≡ option_map level_error third
-      → (passed (option_map level_error third) >>= (λ _. after_level document kind tree)) ≡ Err e → IsRefused bytes e
+      → (passed (option_map level_error third) >>= (λ _. after_level document kind tree)) ≡ Err e → IsRefusedHierarchy bytes e
   level_refused document kind tree has None is same = layout_refused document kind tree has is (layout_at kind tree document) refl same
   level_refused document kind tree has (Some a) is same =
       let named : level_error a ≡ e = cc in
-      subst (IsRefused bytes) named (document, kind, tree, has, is)
+      subst (IsRefusedHierarchy bytes) named (document, kind, tree, has, is)
 
-  kind_refused : (document : Data) (kind : Kind) (tree : List Node) → HasTree bytes document kind tree → after_tree document kind tree ≡ Err e → IsRefused bytes e
+  kind_refused : (document : Data) (kind : Kind) (tree : List Node) → HasTree bytes document kind tree → after_tree document kind tree ≡ Err e → IsRefusedHierarchy bytes e
   kind_refused document Classical tree has same = level_refused document Classical tree has (third_level_of tree) refl same
   kind_refused document Hierarchical tree has same = level_refused document Hierarchical tree has None refl same
 
   tree_refused : (document : Data) (kind : Kind) → IsShaped bytes document kind → (r : Result (List Node) TreeError)
-      → tree_of (rows_at (codes "affinity") document) ≡ r → (told tree_error r >>= after_tree document kind) ≡ Err e → IsRefused bytes e
+      → tree_of (rows_at (codes "affinity") document) ≡ r → (told tree_error r >>= after_tree document kind) ≡ Err e → IsRefusedHierarchy bytes e
   tree_refused document kind shaped (Ok tree) is same = kind_refused document kind tree (record { shaped = shaped; is_tree = is }) same
   tree_refused document kind shaped (Err d) is same =
       let named : error.Tree d ≡ e = cc in
-      subst (IsRefused bytes) named (document, kind, shaped, is)
+      subst (IsRefusedHierarchy bytes) named (document, kind, shaped, is)
 
   shape_refused : (document : Data) (kind : Kind) → document_of bytes ≡ Some document → kind_of document ≡ Some kind → (o : Option Key)
-      → shape_refusal document ≡ o → (passed (option_map shape_error o) >>= (λ _. after_shape document kind)) ≡ Err e → IsRefused bytes e
+      → shape_refusal document ≡ o → (passed (option_map shape_error o) >>= (λ _. after_shape document kind)) ≡ Err e → IsRefusedHierarchy bytes e
   shape_refused document kind is_document is_kind None is same =
       tree_refused document kind (record { is_document = is_document; is_kind = is_kind; is_shaped = is }) (tree_of (rows_at (codes "affinity") document)) refl same
   shape_refused document kind is_document is_kind (Some key) is same =
       let named : shape_error key ≡ e = cc in
-      subst (IsRefused bytes) named (document, kind, is_document, is_kind, is)
+      subst (IsRefusedHierarchy bytes) named (document, kind, is_document, is_kind, is)
 
   model_refused : (document : Data) → document_of bytes ≡ Some document → (o : Option Kind) → kind_of document ≡ o
-      → (ok_or o error.Model >>= after_kind document) ≡ Err e → IsRefused bytes e
+      → (ok_or o error.Model >>= after_kind document) ≡ Err e → IsRefusedHierarchy bytes e
   model_refused document is_document (Some kind) is same = shape_refused document kind is_document is (shape_refusal document) refl same
   model_refused document is_document None is same =
       let named : error.Model ≡ e = cc in
-      subst (IsRefused bytes) named (document, is_document, is)
+      subst (IsRefusedHierarchy bytes) named (document, is_document, is)
 
-  document_refused : (o : Option Data) → document_of bytes ≡ o → (ok_or o error.Toml >>= after_document) ≡ Err e → IsRefused bytes e
+  document_refused : (o : Option Data) → document_of bytes ≡ o → (ok_or o error.Toml >>= after_document) ≡ Err e → IsRefusedHierarchy bytes e
   document_refused (Some document) is same = model_refused document is (kind_of document) refl same
   document_refused None is same =
       let named : error.Toml ≡ e = cc in
-      subst (IsRefused bytes) named is
+      subst (IsRefusedHierarchy bytes) named is
 
-refused_is : (bytes : List ℕ) (e : HierError) → IsRefused bytes e → hierarchy_of bytes ≡ Err e
+refused_is : (bytes : List ℕ) (e : HierError) → IsRefusedHierarchy bytes e → hierarchy_of bytes ≡ Err e
 refused_is bytes error.Toml none = at_document bytes ∙ rw none refl
 refused_is bytes error.Model (document, is, none) = at_document bytes ∙ rw (is, none) refl
 refused_is bytes (error.Shape key) (document, kind, is, named, some) = at_document bytes ∙ rw (is, named, some) refl

@@ -79,26 +79,26 @@ HasPiece spaces ops e =
     (piece : List ℕ) × Contains (parts 59 ops) piece × (op_of spaces piece ≡ Err e)
 
 -- the check of this fault holds of the fields of the record of this number
-abbrev pub Holds : List Space → ℕ → Field → Field → Option Field → Field → TraceFault → Type 0
-Holds spaces at name cost release ops fault.Csv = ⊥
-Holds spaces at name cost release ops fault.Header = ⊥
-Holds spaces at name cost release ops fault.Fields = ⊥
-Holds spaces at name cost release ops fault.Name = is_name name ≡ false
-Holds spaces at name cost release ops fault.Cost = number_within 1 MAX_COST cost ≡ None
-Holds spaces at name cost release ops fault.NoOps = ops ≡ []
-Holds spaces at name cost release ops fault.Op = HasPiece spaces ops fault.Op
-Holds spaces at name cost release ops fault.SpaceUnknown = HasPiece spaces ops fault.SpaceUnknown
-Holds spaces at name cost release ops fault.IndexTooLarge = HasPiece spaces ops fault.IndexTooLarge
-Holds spaces at name cost release ops fault.TooManyOps = MAX_OPS < length (parts 59 ops)
-Holds spaces at name cost release ops fault.TooManyMessages = MAX_MESSAGES + 1 < at
-Holds spaces at name cost release ops fault.Release =
+abbrev pub HasTraceFault : List Space → ℕ → Field → Field → Option Field → Field → TraceFault → Type 0
+HasTraceFault spaces at name cost release ops fault.Csv = ⊥
+HasTraceFault spaces at name cost release ops fault.Header = ⊥
+HasTraceFault spaces at name cost release ops fault.Fields = ⊥
+HasTraceFault spaces at name cost release ops fault.Name = is_name name ≡ false
+HasTraceFault spaces at name cost release ops fault.Cost = number_within 1 MAX_COST cost ≡ None
+HasTraceFault spaces at name cost release ops fault.NoOps = ops ≡ []
+HasTraceFault spaces at name cost release ops fault.Op = HasPiece spaces ops fault.Op
+HasTraceFault spaces at name cost release ops fault.SpaceUnknown = HasPiece spaces ops fault.SpaceUnknown
+HasTraceFault spaces at name cost release ops fault.IndexTooLarge = HasPiece spaces ops fault.IndexTooLarge
+HasTraceFault spaces at name cost release ops fault.TooManyOps = MAX_OPS < length (parts 59 ops)
+HasTraceFault spaces at name cost release ops fault.TooManyMessages = MAX_MESSAGES + 1 < at
+HasTraceFault spaces at name cost release ops fault.Release =
     (text : Field) × (release ≡ Some text) × (number_within 0 MAX_RELEASE text ≡ None)
 
 -- of the checks that hold of the fields this one has the least number
 pub record IsLeastCheck (spaces : List Space) (at : ℕ)
     (name cost : Field) (release : Option Field) (ops : Field) (e : TraceFault) : Type 0 where
-  pub holds : Holds spaces at name cost release ops e
-  pub least : (other : TraceFault) → Holds spaces at name cost release ops other
+  pub holds : HasTraceFault spaces at name cost release ops e
+  pub least : (other : TraceFault) → HasTraceFault spaces at name cost release ops other
       → number e ≤ number other
 
 -- three fields that are refused are refused for the check of least number that holds, and so are
@@ -138,8 +138,8 @@ pub record IsFirstFault (version : Version) (spaces : List Space)
 
 -- the header is refused with this error, or the header is one and the first faulty record after it
 -- is refused with this error
-abbrev pub IsRefused : List Space → List Record → TraceError → Type 0
-IsRefused spaces rows e =
+abbrev pub IsRefusedTrace : List Space → List Record → TraceError → Type 0
+IsRefusedTrace spaces rows e =
     (header_of rows ≡ Err e)
     ⊎ ((version : Version) × (place : ℕ) × (row : Record) × (header_of rows ≡ Ok version)
     × IsFirstFault version spaces (drop 1 rows) place row e)
@@ -147,7 +147,7 @@ IsRefused spaces rows e =
 -- the first faulty record decides
 abbrev pub FirstFaultDecides : List Space → List ℕ → Type 0
 FirstFaultDecides spaces bytes =
-    (e : TraceError) → (trace_of spaces bytes ≡ Err e) ↔ IsRefused spaces (records_of bytes) e
+    (e : TraceError) → (trace_of spaces bytes ≡ Err e) ↔ IsRefusedTrace spaces (records_of bytes) e
 
 -- the header tells the version of this trace, and of the records after it each is the message at
 -- its place

@@ -43,15 +43,15 @@ TreeIsExact rows =
     (tree : List Node) → (tree_of rows ≡ Ok tree) ↔ ((1 ≤ length rows) × AreAffinities rows tree)
 
 -- the check of this error holds of a row behind the rows of these affinities
-abbrev pub Holds : List Node → Data → TreeError → Type 0
-Holds before row refusal.Name = is_name (name_at row) ≡ false
-Holds before row refusal.Twice = IsSome (number_of before (name_at row))
-Holds before row refusal.SecondRoot = (text_at (codes "parent") row ≡ None) × (1 ≤ length before)
-Holds before row refusal.ParentUnknown =
+abbrev pub HasTreeFault : List Node → Data → TreeError → Type 0
+HasTreeFault before row refusal.Name = is_name (name_at row) ≡ false
+HasTreeFault before row refusal.Twice = IsSome (number_of before (name_at row))
+HasTreeFault before row refusal.SecondRoot = (text_at (codes "parent") row ≡ None) × (1 ≤ length before)
+HasTreeFault before row refusal.ParentUnknown =
     (name : List ℕ) × (text_at (codes "parent") row ≡ Some name) × (number_of before name ≡ None)
-Holds before row refusal.TooMany = MAX_AFFINITIES ≤ length before
-Holds before row refusal.NoRoot = ⊥
-Holds before row refusal.Memory = ⊥
+HasTreeFault before row refusal.TooMany = MAX_AFFINITIES ≤ length before
+HasTreeFault before row refusal.NoRoot = ⊥
+HasTreeFault before row refusal.Memory = ⊥
 
 -- the numbers of the checks
 abbrev pub number : TreeError → ℕ
@@ -69,8 +69,8 @@ pub record IsFirstRefused (rows : List Data)
     (tree : List Node) (row : Data) (e : TreeError) : Type 0 where
   pub there : slice_get rows (length tree) ≡ Some row
   pub before : AreAffinities (take (length tree) rows) tree
-  pub holds : Holds tree row e
-  pub least : (other : TreeError) → Holds tree row other → number e ≤ number other
+  pub holds : HasTreeFault tree row e
+  pub least : (other : TreeError) → HasTreeFault tree row other → number e ≤ number other
 
 -- rows that are no tree are none, or the first row that is no affinity decides
 abbrev pub FirstAffinityDecides : List Data → Type 0
@@ -92,25 +92,25 @@ pub record HasTree (bytes : List ℕ) (document : Data)
   pub is_tree : tree_of (rows_at (codes "affinity") document) ≡ Ok tree
 
 -- the check of this error holds of the bytes, and none before it
-abbrev pub IsRefused : List ℕ → HierError → Type 0
-IsRefused bytes error.Toml = document_of bytes ≡ None
-IsRefused bytes error.Model =
+abbrev pub IsRefusedHierarchy : List ℕ → HierError → Type 0
+IsRefusedHierarchy bytes error.Toml = document_of bytes ≡ None
+IsRefusedHierarchy bytes error.Model =
     (document : Data) × (document_of bytes ≡ Some document) × (kind_of document ≡ None)
-IsRefused bytes (error.Shape key) =
+IsRefusedHierarchy bytes (error.Shape key) =
     (document : Data) × (kind : Kind) × (document_of bytes ≡ Some document)
     × (kind_of document ≡ Some kind) × (shape_refusal document ≡ Some key)
-IsRefused bytes (error.Tree e) =
+IsRefusedHierarchy bytes (error.Tree e) =
     (document : Data) × (kind : Kind) × IsShaped bytes document kind
     × (tree_of (rows_at (codes "affinity") document) ≡ Err e)
-IsRefused bytes (error.NotClassical affinity) =
+IsRefusedHierarchy bytes (error.NotClassical affinity) =
     (document : Data) × (kind : Kind) × (tree : List Node) × HasTree bytes document kind tree
     × (kind_refusal kind tree ≡ Some (error.NotClassical affinity))
-IsRefused bytes (error.Layout e) =
+IsRefusedHierarchy bytes (error.Layout e) =
     (document : Data) × (kind : Kind) × (tree : List Node)
     × HasTree bytes document kind tree × (kind_refusal kind tree ≡ None)
     × (layout_at kind tree document ≡ Err e)
-IsRefused bytes error.Memory = ⊥
+IsRefusedHierarchy bytes error.Memory = ⊥
 
 -- bytes are refused for an error exactly where its check is the first that holds
 abbrev pub FirstCheckDecides : List ℕ → Type 0
-FirstCheckDecides bytes = (e : HierError) → (hierarchy_of bytes ≡ Err e) ↔ IsRefused bytes e
+FirstCheckDecides bytes = (e : HierError) → (hierarchy_of bytes ≡ Err e) ↔ IsRefusedHierarchy bytes e

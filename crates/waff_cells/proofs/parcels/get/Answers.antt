@@ -1,6 +1,6 @@
 use Rattle.std.proofs.Common.{◌≡◌, ℕ, List, length, map, refl, sym, subst, ◌∙◌, ap, ap₂}
 use Rattle.waff_model.specs.Layout.{Space, owner_of}
-use Rattle.waff_model.specs.Parcel.{place_of}
+use Rattle.waff_model.specs.Parcel.{offset_of}
 use Rattle.waff_model.specs.declared.cell.Cell.{Cell}
 use Rattle.waff_cells.specs.Held.{rows_of, Address, number_at, IsWithin}
 use Rattle.waff_cells.specs.Parcel.{IsOwned, lies_at}
@@ -8,7 +8,7 @@ use Rattle.waff_cells.proofs.Holdings.{parcel_address, hold_parcels}
 use Rattle.waff_cells.proofs.parcels.get.Goals as goal
 
 -- the address that is found for the cell
-address_is : (spaces : List Space) (cell : Cell) (place owner : ℕ) → owner ≡ owner_of spaces cell → place ≡ place_of spaces cell
+address_is : (spaces : List Space) (cell : Cell) (place owner : ℕ) → owner ≡ owner_of spaces cell → place ≡ offset_of spaces cell
     → lies_at spaces cell ≡ (owner, place)
 address_is spaces cell place owner is_owner is_place = ap₂ {C = Address} (λ i j. (i, j)) (sym is_owner) (sym is_place)
 

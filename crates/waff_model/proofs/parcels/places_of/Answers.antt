@@ -1,7 +1,7 @@
 use Rattle.std.proofs.Common.{◌≡◌, ◌<◌, ◌++◌, ◌∷◌, [], length, map, get_or, refl, ap, sym, ◌∙◌, arith}
 use Rattle.std.specs.List.{range_with_len}
 use Rattle.std.proofs.lemmas.List.FromFn.{map-range_with_len_more}
-use Rattle.waff_model.specs.ParcelTable.{place_at}
+use Rattle.waff_model.specs.ParcelTable.{offset_at}
 use Rattle.waff_model.proofs.ParcelTableLemmas.{counts_more, counts_all}
 use Rattle.waff_model.proofs.parcels.places_of.Goals as goal
 
@@ -13,12 +13,12 @@ loop-owner-preserved c =
     let a = get_or owners k 0 in
     let within : k < length owners = omega arith in
     let inside : a < length counts = omega (arith, c.requires.owners k 0 within, c.loop-owner.auto.sizes) in
-    let size : get_or counts a 0 ≡ place_at owners k = c.loop-owner.invariant.counts a inside in
+    let size : get_or counts a 0 ≡ offset_at owners k = c.loop-owner.invariant.counts a inside in
     record {
       places = c.in_ok-push.ensures.items
           ∙ ap (λ xs. xs ++ get_or counts a 0 ∷ []) c.loop-owner.invariant.places
-          ∙ ap (λ n. map (place_at owners) (range_with_len 0 k) ++ n ∷ []) size
-          ∙ sym (map-range_with_len_more (place_at owners) 0 k k (omega arith));
+          ∙ ap (λ n. map (offset_at owners) (range_with_len 0 k) ++ n ∷ []) size
+          ∙ sym (map-range_with_len_more (offset_at owners) 0 k k (omega arith));
       counts = counts_more owners counts k a within refl inside c.loop-owner.invariant.counts;
     }
 

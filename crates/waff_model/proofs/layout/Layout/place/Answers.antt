@@ -1,6 +1,6 @@
 use Rattle.std.proofs.Common.{◌+◌, ◌<◌, length, subst, sym, arith}
 use Rattle.waff_model.specs.Layout.{Hierarchy, IsLayout}
-use Rattle.waff_model.specs.Parcel.{parcel_size, place_of}
+use Rattle.waff_model.specs.Parcel.{parcel_size, offset_of}
 use Rattle.waff_model.specs.ParcelTable.{AreParcels}
 use Rattle.waff_model.proofs.ParcelLemmas as parcel
 use Rattle.waff_model.proofs.ParcelTableLemmas.{start_within, number_is, number_below, owner_within, place_within, owner_is, place_is, owner_is_affinity}
@@ -56,5 +56,5 @@ returns c =
       affinity = subst (λ a. a < length layout.tree) (sym owner) (owner_is_affinity layout.tree layout.spaces is_layout.each cell c.requires);
       place = place;
       within = subst (λ n. n < parcel_size layout.spaces c.index-2.result.now) (sym place)
-          (subst (λ a. place_of layout.spaces cell < parcel_size layout.spaces a) (sym owner) (parcel.place_within layout.spaces cell c.requires));
+          (subst (λ a. offset_of layout.spaces cell < parcel_size layout.spaces a) (sym owner) (parcel.place_within layout.spaces cell c.requires));
     }
