@@ -6,16 +6,16 @@ ghost use Rattle.waff_model.specs.Layout.{Space};
 ghost use Rattle.waff_model.specs.ParcelLaws.{PlacesAreWithin, PlacesAreApart, PlacesAreFilled};
 
 /// The place of a cell is below the size of its owner's parcel.
-pub fn places_are_within()
+pub fn offsets_are_within()
     ensures { (spaces : List Space) → PlacesAreWithin spaces }
 {}
 
 /// No two cells share a place.
-pub fn places_are_apart()
+pub fn offsets_are_apart()
     ensures { (spaces : List Space) → PlacesAreApart spaces }
 {}
 
 /// Every number below the size of a parcel is the place of one of its cells.
-pub fn places_are_filled()
+pub fn offsets_are_filled()
     ensures { (spaces : List Space) → PlacesAreFilled spaces }
 {}

@@ -70,18 +70,21 @@ impl Layout {
         }
     }
 
+    /// Whether the hierarchy is a classical or a hierarchical one.
     pub fn kind(&self) -> Kind
         ensures { result ≡ self.now.kind }
     {
         self.kind
     }
 
+    /// The tree of affinities.
     pub fn tree(&self) -> &Tree
         ensures { result.now ≡ self.now.tree }
     {
         &self.tree
     }
 
+    /// How many spaces there are.
     pub fn space_count(&self) -> u32
         ensures count { result ≡ length self.now.spaces }
         ensures layout { IsLayout self.now }
@@ -89,6 +92,7 @@ impl Layout {
         self.spaces.len() as u32
     }
 
+    /// The name of the space, from 0.
     pub fn space_name(&self, s: u32) -> &str
         requires { s < length self.now.spaces }
         ensures { name_at self.now.spaces s ≡ Some result.now }

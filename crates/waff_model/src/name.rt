@@ -63,6 +63,7 @@ impl Text {
         Ok(Text { kept })
     }
 
+    /// The text.
     pub fn as_str(&self) -> &str
         ensures { result.now ≡ self.now }
     {

@@ -27,6 +27,7 @@ impl Model for Ops {
 }
 
 impl Ops {
+    /// No operation.
     pub fn new(alloc: Global) -> Self
         ensures { result ≡ [] }
     {
@@ -68,6 +69,7 @@ impl Ops {
         self.packed.len() + self.plain.len()
     }
 
+    /// Whether there is no operation.
     pub fn is_empty(&self) -> bool
         ensures { IsTrue result ↔ (self.now ≡ []) }
     {

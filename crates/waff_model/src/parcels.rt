@@ -3,7 +3,7 @@
 ghost use Rattle.std.specs.Prelude.{◌≡◌, ◌<◌, ◌≤◌, ◌^◌, ◌++◌, length, replicate, sum_by, All, IfOk};
 ghost use Rattle.std.specs.Prelude.{OnOk};
 ghost use Rattle.waff_model.specs.Parcel.{owners_in};
-ghost use Rattle.waff_model.specs.ParcelTable.{IsMapped, owners_by, starts_of, places_of, sizes_of};
+ghost use Rattle.waff_model.specs.ParcelTable.{IsMapped, owners_by, starts_of, places_of, parcel_sizes};
 ghost use Rattle.waff_model.specs.ParcelTable.{AreParcels};
 
 use crate::space::Space;
@@ -94,7 +94,7 @@ fn places_of(alloc: Global, owners: &[u16], sizes: &mut [u32]) -> Result<Vec<u32
     requires few { length owners.now < 2 ^ 32 }
     requires zeros { sizes.old ≡ replicate (length sizes.old) 0 }
     ensures places { IfOk result (λ v. v.items ≡ places_of owners.now) }
-    ensures sizes { OnOk result (sizes.new ≡ sizes_of (length sizes.old) owners.now) }
+    ensures sizes { OnOk result (sizes.new ≡ parcel_sizes (length sizes.old) owners.now) }
 {
     let mut places = Vec::with_capacity(alloc, owners.len())?;
     for owner in owners {

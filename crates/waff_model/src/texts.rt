@@ -21,6 +21,7 @@ impl Model for Texts {
 }
 
 impl Texts {
+    /// No text.
     pub fn new(alloc: Global) -> Self
         ensures { result ≡ [] }
     {
@@ -29,6 +30,7 @@ impl Texts {
         }
     }
 
+    /// Appends a text.
     pub fn push(&mut self, text: Text) -> Result<(), AllocError>
         ensures added { OnOk result (self.new ≡ self.old ++ text ∷ []) }
         ensures unchanged { OnErr result (self.new ≡ self.old) }
@@ -37,12 +39,14 @@ impl Texts {
         Ok(())
     }
 
+    /// How many texts there are.
     pub fn len(&self) -> usize
         ensures { result ≡ length self.now }
     {
         self.texts.len()
     }
 
+    /// The text at this index, from 0.
     pub fn get(&self, i: usize) -> &Text
         requires { i < length self.now }
         ensures { slice_get self.now i ≡ Some result.now }

@@ -74,6 +74,7 @@ impl Trace {
         have_sizes(layout.spaces(), &self.sizes)
     }
 
+    /// The version of the format: releases stand in the second alone.
     pub fn version(&self) -> Version
         ensures { result ≡ self.now.version }
     {
@@ -92,6 +93,7 @@ impl Trace {
         Ok(())
     }
 
+    /// How many messages there are.
     pub fn len(&self) -> u32
         ensures count { result ≡ length self.now.messages }
         ensures trace { IsTrace self.now }

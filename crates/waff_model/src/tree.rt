@@ -57,6 +57,7 @@ impl Model for TreeBuilder {
 }
 
 impl TreeBuilder {
+    /// A builder to which nothing was added.
     pub fn new(alloc: Global) -> Self
         ensures { result ≡ [] }
     {
@@ -143,6 +144,7 @@ impl Model for Tree {
 }
 
 impl Tree {
+    /// How many affinities there are.
     pub fn len(&self) -> u32
         ensures count { result ≡ length self.now }
         ensures tree { IsTree self.now }
@@ -150,6 +152,7 @@ impl Tree {
         self.nodes.len() as u32
     }
 
+    /// The affinity at or above all others.
     pub fn root(&self) -> AffinityId
         ensures number { result.0 ≡ 0 }
         ensures root { parent_of self.now result.0 ≡ None }
@@ -159,6 +162,7 @@ impl Tree {
         AffinityId(0)
     }
 
+    /// The parent of the affinity, None for the root.
     pub fn parent(&self, affinity: AffinityId) -> Option<AffinityId>
         requires { affinity.0 < length self.now }
         ensures { option_map (λ p. p.0) result ≡ parent_of self.now affinity.0 }
@@ -166,6 +170,7 @@ impl Tree {
         self.places[affinity.0 as usize].parent.map(AffinityId)
     }
 
+    /// The name of the affinity.
     pub fn name(&self, affinity: AffinityId) -> &str
         requires { affinity.0 < length self.now }
         ensures { result.now ≡ name_of self.now affinity.0 }
