@@ -1,6 +1,6 @@
 //! Why the program ends with another status than 0, and what it says then.
 use std::alloc::{AllocError, Global};
-use waff_args::{FAILED, REFUSED, Refusal};
+use waff_cli::{FAILED, REFUSED, Refusal};
 use waff_tool::{ReadFault, ToolError, fault_status, fault_text};
 
 /// Why the program did not do what it was asked for.

@@ -1,0 +1,112 @@
+//! What is printed for what the words ask for.
+ghost use Rattle.std.specs.Prelude.{◌≤◌, IfSome};
+ghost use Rattle.waff_cli.specs.Requests.{IsWithinLimits};
+
+use crate::failure::Failure;
+use std::alloc::Global;
+use std::io;
+use std::rt::Runtime;
+use std::sync::Wait;
+use std::thread::Threads;
+use waff_cli::{Asked, Drawing};
+use waff_tool::{
+    Picture, assign_text, check_text, compare_text, draw_text, explain_text, explained_status,
+    plan_text, replay_text, split_input, sweep_text, verdict_status, where_text,
+};
+
+/// Prints what is asked for of these files, and gives the exit status.
+pub fn answer<R: Runtime + Threads + Wait + Sync>(
+    rt: &R,
+    alloc: Global,
+    asked: Asked,
+    files: &[Vec<u8>],
+) -> Result<u8, Failure>
+    requires { IsWithinLimits asked }
+{
+    match (asked, files) {
+        (Asked::PlanOfInput, [input]) => print_plan_of_input(rt, alloc, input)?,
+        (Asked::Check, [hierarchy, trace, plan]) => {
+            return print_verdict(rt, alloc, hierarchy, trace, plan);
+        }
+        (Asked::Explain, [hierarchy, more @ ..]) => {
+            return print_explanation(rt, alloc, hierarchy, more);
+        }
+        (Asked::Compare(k), [first, second, trace]) => {
+            compare_text(alloc, first, second, trace, k, &mut io::writer(rt))?;
+        }
+        (Asked::Draw(drawing), [hierarchy, trace, plan]) => {
+            let picture = picture_of(drawing);
+            draw_text(alloc, hierarchy, trace, plan, picture, &mut io::writer(rt))?;
+        }
+        (_, [hierarchy, trace]) => print_of_trace(rt, alloc, asked, hierarchy, trace)?,
+        _ => return Err(Failure::NoWords),
+    }
+    Ok(0)
+}
+
+fn print_plan_of_input<R: Runtime>(rt: &R, alloc: Global, input: &[u8]) -> Result<(), Failure> {
+    let (hierarchy, trace) = split_input(input);
+    Ok(plan_text(alloc, hierarchy, trace, None, &mut io::writer(rt))?)
+}
+
+/// Prints what is asked for of a hierarchy and a trace alone.
+fn print_of_trace<R: Runtime + Threads + Wait + Sync>(
+    rt: &R,
+    alloc: Global,
+    asked: Asked,
+    hierarchy: &[u8],
+    trace: &[u8],
+) -> Result<(), Failure>
+    requires { IsWithinLimits asked }
+{
+    let mut out = io::writer(rt);
+    match asked {
+        Asked::Assign => assign_text(alloc, hierarchy, trace, &mut out)?,
+        Asked::Plan(workers) => plan_text(alloc, hierarchy, trace, workers, &mut out)?,
+        Asked::Sweep => sweep_text(alloc, hierarchy, trace, &mut out)?,
+        Asked::Where(by_name) => where_text(alloc, hierarchy, trace, by_name, &mut out)?,
+        Asked::Replay(workers) => replay_text(rt, alloc, hierarchy, trace, workers, &mut out)?,
+        _ => return Err(Failure::NoWords),
+    }
+    Ok(())
+}
+
+/// Prints the verdict on a plan, and gives its exit status.
+fn print_verdict<R: Runtime + Threads + Sync>(
+    rt: &R,
+    alloc: Global,
+    hierarchy: &[u8],
+    trace: &[u8],
+    plan: &[u8],
+) -> Result<u8, Failure> {
+    let verdict = check_text(rt, alloc, hierarchy, trace, plan, &mut io::writer(rt))?;
+    Ok(verdict_status(&verdict))
+}
+
+/// Prints the first fault or the verdict in plain words, and gives its exit status. After the
+/// hierarchy there are the trace and the plan, as far as they are given.
+fn print_explanation<R: Runtime + Threads + Sync>(
+    rt: &R,
+    alloc: Global,
+    hierarchy: &[u8],
+    more: &[Vec<u8>],
+) -> Result<u8, Failure> {
+    let (trace, plan) = (bytes_at(more, 0), bytes_at(more, 1));
+    let explained = explain_text(rt, alloc, hierarchy, trace, plan, &mut io::writer(rt))?;
+    Ok(explained_status(&explained))
+}
+
+/// The bytes of a file, where there is one.
+fn bytes_at(files: &[Vec<u8>], i: usize) -> Option<&[u8]> {
+    match files.get(i) {
+        Some(bytes) => Some(bytes.as_slice()),
+        None => None,
+    }
+}
+
+fn picture_of(drawing: Drawing) -> Picture {
+    match drawing {
+        Drawing::Svg => Picture::Svg,
+        Drawing::Events => Picture::TraceEvents,
+    }
+}

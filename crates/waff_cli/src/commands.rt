@@ -1,0 +1,153 @@
+//! The commands: their names, files and options.
+use crate::help;
+
+/// A command of the program.
+#[derive(Clone, Copy)]
+pub struct CommandWords {
+    pub name: &'static str,
+    pub about: &'static str,
+    pub files: &'static [FileWord],
+    pub options: &'static [OptionWord],
+    /// What its help ends with.
+    pub help: &'static str,
+}
+
+/// A word of a command for a file.
+#[derive(Clone, Copy)]
+pub struct FileWord {
+    pub id: &'static str,
+    pub name: &'static str,
+    pub required: bool,
+    pub help: &'static str,
+}
+
+/// An option of a command.
+#[derive(Clone, Copy)]
+pub enum OptionWord {
+    /// `--workers` for planners' workers, which has to be given or not.
+    PlanWorkers(bool),
+    /// `--workers` for threads of a replay.
+    Threads,
+    /// `--names`.
+    Names,
+    /// `--as`.
+    Picture,
+}
+
+/// The words for files of all commands, in the order in which each command has its own.
+pub static FILE_WORDS: [&str; 4] = ["HIER", "OTHER", "TRACE", "PLAN"];
+
+/// What a plan is drawn as.
+pub static PICTURES: [&str; 2] = ["svg", "events"];
+
+const HIERARCHY: FileWord = FileWord {
+    id: "HIER",
+    name: "HIER",
+    required: true,
+    help: "The hierarchy, a TOML file",
+};
+
+const TRACE: FileWord = FileWord {
+    id: "TRACE",
+    name: "TRACE",
+    required: true,
+    help: "The trace, a CSV file",
+};
+
+const PLAN: FileWord = FileWord {
+    id: "PLAN",
+    name: "PLAN",
+    required: true,
+    help: "The text of the plan, a CSV file",
+};
+
+const OTHER: FileWord = FileWord {
+    id: "OTHER",
+    name: "HIER",
+    required: true,
+    help: "The hierarchy of the other model, a TOML file",
+};
+
+/// The commands, in the order of the help.
+pub static COMMANDS: [CommandWords; 9] = [
+    CommandWords {
+        name: "assign",
+        about: "Prints the affinity in which each message runs",
+        files: &[HIERARCHY, TRACE],
+        options: &[],
+        help: help::ASSIGN,
+    },
+    CommandWords {
+        name: "plan",
+        about: "Prints a shortest plan, with no limit on the workers, or a plan for a number of workers",
+        files: &[HIERARCHY, TRACE],
+        options: &[OptionWord::PlanWorkers(false)],
+        help: help::PLAN,
+    },
+    CommandWords {
+        name: "check",
+        about: "Tells the first fault of a plan, or how good the plan is",
+        files: &[HIERARCHY, TRACE, PLAN],
+        options: &[],
+        help: help::CHECK,
+    },
+    CommandWords {
+        name: "explain",
+        about: "Tells the first fault of the files, or the verdict on the plan, in plain words",
+        files: &[
+            HIERARCHY,
+            FileWord {
+                required: false,
+                ..TRACE
+            },
+            FileWord {
+                required: false,
+                ..PLAN
+            },
+        ],
+        options: &[],
+        help: help::EXPLAIN,
+    },
+    CommandWords {
+        name: "sweep",
+        about: "Prints how long the trace takes for 1 to 64 workers, and how busy the workers are",
+        files: &[HIERARCHY, TRACE],
+        options: &[],
+        help: help::SWEEP,
+    },
+    CommandWords {
+        name: "where",
+        about: "Prints where the time goes, by affinity or by the names of messages",
+        files: &[HIERARCHY, TRACE],
+        options: &[OptionWord::Names],
+        help: help::WHERE,
+    },
+    CommandWords {
+        name: "draw",
+        about: "Prints a picture of a plan",
+        files: &[HIERARCHY, TRACE, PLAN],
+        options: &[OptionWord::Picture],
+        help: help::DRAW,
+    },
+    CommandWords {
+        name: "replay",
+        about: "Runs the messages in threads, and prints each cell that is not 0 then",
+        files: &[HIERARCHY, TRACE],
+        options: &[OptionWord::Threads],
+        help: help::REPLAY,
+    },
+    CommandWords {
+        name: "compare",
+        about: "Prints what a classical and a hierarchical tree make of one trace, side by side",
+        files: &[
+            FileWord {
+                help: "A hierarchy, a TOML file",
+                ..HIERARCHY
+            },
+            OTHER,
+            TRACE,
+        ],
+        options: &[OptionWord::PlanWorkers(true)],
+        help: help::COMPARE,
+    },
+];
