@@ -36,7 +36,7 @@ fn random_event(dice: &mut Dice, seats: u32) -> Event {
 }
 
 /// As many turns as are taken at most.
-const TURNS: u32 = 500;
+const TURNS: u32 = 2000;
 
 /// Takes up to `TURNS` turns at random: most events that are not allowed are passed over, and the
 /// first that is not ends the list.
@@ -52,7 +52,7 @@ fn play(
         match machine.step(trace, event) {
             Ok(()) => all.push(event)?,
             Err(fault) => {
-                if dice.below(100) == 0 {
+                if dice.below(400) == 0 {
                     all.push(event)?;
                     return Ok(Events {
                         all,

@@ -6,7 +6,7 @@ use std::alloc::Global;
 use std::process::Abort;
 use std::thread::Threads;
 use waff_samples::{H1, X1};
-use waff_tool::{assign_text, check_text};
+use waff_tool::check_text;
 
 /// A check of these texts has to be answered so, with so many bytes written.
 fn is_answered<R: Threads + Sync + Abort>(
@@ -47,25 +47,4 @@ fn are_checked_in_order(rt: HostRuntime) {
     for (texts, wanted, bytes) in CHECKS {
         is_answered(&rt, rt.alloc(), *texts, wanted, *bytes);
     }
-}
-
-/// Affinities of these texts have to be refused so, with nothing written.
-fn is_refused(rt: &impl Abort, alloc: Global, hierarchy: &str, trace: &str, wanted: &str) {
-    let mut written = Vec::new(alloc);
-    let answer = assign_text(alloc, hierarchy.as_bytes(), trace.as_bytes(), &mut written);
-    let told = format!(in alloc; "{answer:?}").expect(rt, "words");
-    is_same(rt, told.as_str(), wanted);
-    assert!(rt; written.is_empty(), "{wanted}: {} bytes", written.len());
-}
-
-#[test]
-fn refuse_the_hierarchy_before_the_trace(rt: HostRuntime) {
-    is_refused(
-        &rt,
-        rt.alloc(),
-        "",
-        "",
-        "Err(Hier { file: 1, fault: Model })",
-    );
-    is_refused(&rt, rt.alloc(), H1, "", "Err(Trace(Header { at: 1 }))");
 }

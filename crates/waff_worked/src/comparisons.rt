@@ -18,25 +18,26 @@ fn is_told(rt: &impl Abort, alloc: Global, hierarchies: (&str, &str), trace: &st
     are_same(rt, written.as_slice(), text.as_bytes());
 }
 
+/// Two messages, of which the classical sample with cells one by one orders none.
+const APART: &str = "message,cost,ops\nm1,1,read f:0\nm2,1,read f:1\n";
+
+/// The comparison of the samples on the second trace.
+const COMPARE_C1_H1_X2: &str = "workers,2\ntotal,15\n\
+    model,length,release,chain,list,listrelease,listchain,left,right\n\
+    classical,18,10,8,18,10,8,36,43\nhierarchical,13,10,3,13,10,3,26,38\nrefines,yes\n";
+
 #[test]
 fn stand_classical_first_in_either_order(rt: HostRuntime) {
-    is_told(&rt, rt.alloc(), (C1, H1), X1, COMPARE_C1_H1_X1);
-    is_told(&rt, rt.alloc(), (H1, C1), X1, COMPARE_C1_H1_X1);
-}
-
-#[test]
-fn tell_where_the_hierarchical_one_does_not_refine(rt: HostRuntime) {
     let finer = changed(&rt, rt.alloc(), C1, "unit = 2", "unit = 1");
-    let trace = "message,cost,ops\nm1,1,read f:0\nm2,1,read f:1\n";
-    is_told(&rt, rt.alloc(), (finer.as_str(), H1), trace, COMPARE_C2_H1);
-}
-
-#[test]
-fn tell_of_releases(rt: HostRuntime) {
-    let text = "workers,2\ntotal,15\n\
-        model,length,release,chain,list,listrelease,listchain,left,right\n\
-        classical,18,10,8,18,10,8,36,43\nhierarchical,13,10,3,13,10,3,26,38\nrefines,yes\n";
-    is_told(&rt, rt.alloc(), (C1, H1), X2, text);
+    let cases = [
+        ((C1, H1), X1, COMPARE_C1_H1_X1),
+        ((H1, C1), X1, COMPARE_C1_H1_X1),
+        ((finer.as_str(), H1), APART, COMPARE_C2_H1),
+        ((C1, H1), X2, COMPARE_C1_H1_X2),
+    ];
+    for (hierarchies, trace, text) in cases {
+        is_told(&rt, rt.alloc(), hierarchies, trace, text);
+    }
 }
 
 /// The hierarchies have to be refused so, before the trace is, and nothing is written.
@@ -48,33 +49,28 @@ fn are_refused(rt: &impl Abort, alloc: Global, first: &str, second: &str, error:
     assert!(rt; written.is_empty(), "{error:?}: {} bytes", written.len());
 }
 
-#[test]
-fn want_a_second_hierarchy(rt: HostRuntime) {
-    let fault = HierError::Model;
-    are_refused(&rt, rt.alloc(), C1, "", ToolError::Hier { file: 2, fault });
-}
-
 /// The name and the size of a space of the samples, and a smaller size.
 const SIZES: (&str, &str) = ("name = \"g\"\nsize = 8", "name = \"g\"\nsize = 4");
 
-#[test]
-fn want_equal_sizes_even_of_one_model(rt: HostRuntime) {
-    for hierarchy in [H1, C1] {
-        let smaller = changed(&rt, rt.alloc(), hierarchy, SIZES.0, SIZES.1);
-        are_refused(
-            &rt,
-            rt.alloc(),
-            C1,
-            smaller.as_str(),
-            ToolError::SpacesDiffer,
-        );
-    }
-}
+/// No second hierarchy.
+const NO_SECOND: ToolError = ToolError::Hier {
+    file: 2,
+    fault: HierError::Model,
+};
 
 #[test]
-fn want_two_models(rt: HostRuntime) {
-    are_refused(&rt, rt.alloc(), C1, C1, ToolError::ModelsSame);
-    are_refused(&rt, rt.alloc(), H1, H1, ToolError::ModelsSame);
+fn want_two_models_of_equal_sizes(rt: HostRuntime) {
+    let classical = changed(&rt, rt.alloc(), C1, SIZES.0, SIZES.1);
+    let hierarchical = changed(&rt, rt.alloc(), H1, SIZES.0, SIZES.1);
+    let cases = [
+        ("", NO_SECOND),
+        (classical.as_str(), ToolError::SpacesDiffer),
+        (hierarchical.as_str(), ToolError::SpacesDiffer),
+        (C1, ToolError::ModelsSame),
+    ];
+    for (second, error) in cases {
+        are_refused(&rt, rt.alloc(), C1, second, error);
+    }
 }
 
 /// Whether the first hierarchy refines the second on the first trace.

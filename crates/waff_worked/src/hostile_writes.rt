@@ -160,25 +160,14 @@ const TEXTS: &[(Call, &str)] = &[
     (Call::Check, "shortest\n"),
     (Call::Compare, COMPARE_C1_H1_X1),
     (Call::Replay, STATE_H1_X1),
-];
-
-#[test]
-fn leave_the_part_that_was_taken(rt: HostRuntime) {
-    for (call, text) in TEXTS {
-        is_given(&rt, rt.alloc(), *call, text.as_bytes());
-    }
-}
-
-/// The calls that tell of workers and of places, with their texts.
-const TABLES: &[(Call, &str)] = &[
     (Call::Sweep, SWEEP_H1_X1),
     (Call::Affinities, WHERE_H1_X1),
     (Call::Names, WHERE_H1_X1_NAMES),
 ];
 
 #[test]
-fn leave_the_part_of_a_table_that_was_taken(rt: HostRuntime) {
-    for (call, text) in TABLES {
+fn leave_the_part_that_was_taken(rt: HostRuntime) {
+    for (call, text) in TEXTS {
         is_given(&rt, rt.alloc(), *call, text.as_bytes());
     }
 }

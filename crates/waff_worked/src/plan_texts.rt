@@ -5,7 +5,7 @@ use crate::same::is_same;
 use std::alloc::Global;
 use std::process::Abort;
 use waff_model::Version;
-use waff_plan_text::{GivenPlan, read_plan};
+use waff_plan_text::read_plan;
 use waff_samples::{PLAN_H1_X1, PLAN_H1_X2};
 
 /// A plan text of so many messages has to be refused so.
@@ -61,14 +61,6 @@ const CHANGES: &[(&str, &str, &str)] = &[
     ),
 ];
 
-#[test]
-fn are_refused_for_one_change(rt: HostRuntime) {
-    for (part, other, wanted) in CHANGES {
-        let text = changed(&rt, rt.alloc(), PLAN_H1_X1, part, other);
-        is_refused(&rt, rt.alloc(), Version::V1, 6, text.as_bytes(), wanted);
-    }
-}
-
 /// A plan of one message in the second version.
 const ONE: &[u8] = b"message,affinity,start,finish,worker\n1,A0,10,14,64\nworkers,64\ntotal,4\n\
     length,14\nchain,\nrelease,0\ncost,9\nbound,9,9\n";
@@ -81,40 +73,16 @@ const PARTS: &[(Version, u32, &[u8], &str)] = &[
 ];
 
 #[test]
-fn are_refused_without_a_header_or_a_release(rt: HostRuntime) {
+fn are_refused(rt: HostRuntime) {
     let alloc = rt.alloc();
+    for (part, other, wanted) in CHANGES {
+        let text = changed(&rt, alloc, PLAN_H1_X1, part, other);
+        is_refused(&rt, alloc, Version::V1, 6, text.as_bytes(), wanted);
+    }
     for (version, messages, text, wanted) in PARTS {
         is_refused(&rt, alloc, *version, *messages, text, wanted);
     }
     let text = changed(&rt, alloc, PLAN_H1_X2, "release,10\n", "");
     let told = "Some(Summary { at: 11 })";
     is_refused(&rt, alloc, Version::V2, 5, text.as_bytes(), told);
-}
-
-#[test]
-fn are_of_the_version_that_is_asked_for(rt: HostRuntime) {
-    let given = read_plan(rt.alloc(), Version::V2, 1, ONE).expect(&rt, "a plan");
-    assert!(rt; given.workers() == Some(64));
-    assert!(rt; given.version() == Version::V2);
-    drop(given);
-}
-
-/// The message has to start and finish at these ticks.
-fn runs(rt: &impl Abort, given: &GivenPlan, message: u32, wanted: (u64, u64)) {
-    assert!(rt; 1 <= message && message <= given.len());
-    let found = (given.start(message), given.finish(message));
-    assert!(rt; found == wanted, "{message}: {found:?}");
-}
-
-#[test]
-fn give_their_rows_in_the_order_of_the_messages(rt: HostRuntime) {
-    let rows = ("1,A0,0,4,-\n2,B0,0,3,-\n", "2,B0,0,3,-\n1,A0,0,4,-\n");
-    let text = changed(&rt, rt.alloc(), PLAN_H1_X1, rows.0, rows.1);
-    let given = read_plan(rt.alloc(), Version::V1, 6, text.as_bytes()).expect(&rt, "a plan");
-    assert!(rt; given.len() == 6);
-    assert!(rt; given.workers().is_none());
-    runs(&rt, &given, 3, (4, 6));
-    runs(&rt, &given, 1, (0, 4));
-    runs(&rt, &given, 6, (7, 9));
-    drop(given);
 }

@@ -27,14 +27,19 @@ fn leaves<R: Threads + Wait + Sync + Abort>(
     are_same(rt, written.as_slice(), state.as_bytes());
 }
 
-#[test]
-fn are_those_of_the_first_trace(rt: HostRuntime) {
-    for workers in [1, 2, 16] {
-        leaves(&rt, rt.alloc(), X1, workers, STATE_H1_X1);
-    }
-}
+/// Traces, numbers of workers, and what is left. Releases change nothing.
+const STATES: &[(&str, u32, &str)] = &[
+    (X1, 1, STATE_H1_X1),
+    (X1, 2, STATE_H1_X1),
+    (X1, 16, STATE_H1_X1),
+    (X2, 3, STATE_H1_X2),
+];
 
 #[test]
-fn ignore_releases(rt: HostRuntime) {
-    leaves(&rt, rt.alloc(), X2, 3, STATE_H1_X2);
+fn are_those_of_the_samples(rt: HostRuntime) {
+    for (trace, workers, state) in STATES {
+        let workers = *workers;
+        assert!(rt; 1 <= workers && workers <= 16);
+        leaves(&rt, rt.alloc(), trace, workers, state);
+    }
 }
