@@ -172,6 +172,10 @@ Exit status:
 pub const DRAW: &str = "\
 Example: waff draw hier.toml trace.csv plan.csv >plan.svg
 
+The pictures:
+  svg     for a browser
+  events  for a viewer of traces
+
 Exit status:
   0  done
   2  the words are refused

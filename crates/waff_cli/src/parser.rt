@@ -72,9 +72,9 @@ fn option<'a>(alloc: Global, word: OptionWord) -> Arg<'a> {
             .value_name("K")
             .help("How many messages may run at once, from 1 to 64")
             .required(required),
-        OptionWord::Threads => workers_up_to(alloc, MAX_SEATS).value_name("W").help(
-            "How many threads run messages, from 1 to 16 [default: processors]",
-        ),
+        OptionWord::Threads => workers_up_to(alloc, MAX_SEATS)
+            .value_name("W")
+            .help("How many threads, from 1 to 16; else one a processor"),
         OptionWord::Names => Arg::new(alloc, "names")
             .long("names")
             .action(ArgAction::SetTrue)
@@ -84,7 +84,7 @@ fn option<'a>(alloc: Global, word: OptionWord) -> Arg<'a> {
             .value_name("PICTURE")
             .value_parser(PICTURES.as_slice())
             .default_value("svg")
-            .help("For a browser, or events for a viewer of traces"),
+            .help("The picture"),
     }
 }
 
