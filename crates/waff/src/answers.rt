@@ -7,8 +7,9 @@ use std::alloc::Global;
 use std::io;
 use std::rt::Runtime;
 use std::sync::Wait;
-use std::thread::Threads;
+use std::thread::{Threads, available_parallelism};
 use waff_cli::{Asked, Drawing};
+use waff_core::limits::MAX_SEATS;
 use waff_tool::{
     Picture, assign_text, check_text, compare_text, draw_text, explain_text, explained_status,
     plan_text, replay_text, split_input, sweep_text, verdict_status, where_text,
@@ -65,10 +66,35 @@ fn print_of_trace<R: Runtime + Threads + Wait + Sync>(
         Asked::Plan(workers) => plan_text(alloc, hierarchy, trace, workers, &mut out)?,
         Asked::Sweep => sweep_text(alloc, hierarchy, trace, &mut out)?,
         Asked::Where(by_name) => where_text(alloc, hierarchy, trace, by_name, &mut out)?,
-        Asked::Replay(workers) => replay_text(rt, alloc, hierarchy, trace, workers, &mut out)?,
+        Asked::Replay(workers) => {
+            let workers = threads(rt, workers);
+            replay_text(rt, alloc, hierarchy, trace, workers, &mut out)?;
+        }
         _ => return Err(Failure::NoWords),
     }
     Ok(())
+}
+
+/// The number of threads that is asked for, or as many as there are processors, 16 at most.
+fn threads(rt: &impl Threads, asked: Option<u32>) -> u32
+    requires some { IfSome asked (λ k. 1 ≤ k) }
+    requires few { IfSome asked (λ k. k ≤ MAX_SEATS) }
+    ensures { (1 ≤ result) × (result ≤ MAX_SEATS) }
+{
+    match asked {
+        Some(workers) => workers,
+        None => processors(rt),
+    }
+}
+
+/// As many as there are processors, 16 at most; one where nobody knows.
+fn processors(rt: &impl Threads) -> u32
+    ensures { (1 ≤ result) × (result ≤ MAX_SEATS) }
+{
+    match available_parallelism(rt) {
+        Ok(count) => count.get().min(MAX_SEATS as usize) as u32,
+        Err(_) => 1,
+    }
 }
 
 /// Prints the verdict on a plan, and gives its exit status.

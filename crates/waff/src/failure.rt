@@ -1,12 +1,13 @@
 //! Why the program ends with another status than 0, and what it says then.
 use std::alloc::{AllocError, Global};
 use waff_cli::{FAILED, REFUSED, Refusal};
-use waff_tool::{ReadFault, ToolError, fault_status, fault_text};
+use waff_tool::{ToolError, fault_status, fault_text};
 
 /// Why the program did not do what it was asked for.
 #[derive(Drop)]
 pub enum Failure {
-    /// The words were refused, or help was asked for; that was told, and this is the exit status.
+    /// The words were refused, help was asked for, or a file was not read; that was told, and this is
+    /// the exit status.
     Told(u8),
     /// A word is not text, or one is missing that was not refused.
     NoWords,
@@ -40,14 +41,6 @@ impl From<ToolError> for Failure {
 }
 
 impl Failure {
-    /// What a fault while the file of this place is read comes to.
-    pub fn of_read(place: u32, fault: ReadFault) -> Failure {
-        match fault {
-            ReadFault::Failed | ReadFault::TooLong => Failure::Read(place),
-            ReadFault::Memory => Failure::Memory,
-        }
-    }
-
     /// Says why on standard error, and gives the exit status.
     pub fn report(self, rt: &impl Eprint, alloc: Global) -> u8 {
         match self {

@@ -1,50 +1,102 @@
 //! Files and standard input, read whole.
 use crate::failure::Failure;
 use std::alloc::Global;
+use std::fmt::Display;
 use std::rt::{Files, Runtime};
 use std::{fs, io};
-use waff_tool::read_whole;
+use waff_cli::FAILED;
+use waff_tool::{ReadFault, read_whole};
 
 /// The most bytes of a file, and of standard input.
 const MAX_INPUT: u64 = 268_435_456;
 
+/// The name of standard input.
+const INPUT: &str = "-";
+
+/// A file that was not read.
+#[derive(Clone, Copy)]
+pub struct Unread<'a> {
+    name: &'a str,
+    /// Its place among the file words, from 1; 0 is standard input.
+    place: u32,
+    fault: Fault,
+}
+
+/// Why a file was not read.
+#[derive(Clone, Copy)]
+enum Fault {
+    /// It could not be opened.
+    Closed(io::Error),
+    Failed,
+    TooLong,
+    Memory,
+}
+
+impl From<ReadFault> for Fault {
+    fn from(fault: ReadFault) -> Fault {
+        match fault {
+            ReadFault::Failed => Fault::Failed,
+            ReadFault::TooLong => Fault::TooLong,
+            ReadFault::Memory => Fault::Memory,
+        }
+    }
+}
+
+impl Unread<'_> {
+    /// The failure that this comes to. Where it is to be told in words, those are printed here: the
+    /// name of the file, and what the system says.
+    pub fn failure(self, rt: &impl Eprint, in_words: bool) -> Failure {
+        match self.fault {
+            Fault::Memory => return Failure::Memory,
+            _ if !in_words => return Failure::Read(self.place),
+            Fault::Closed(error) => self.tell(rt, &error),
+            Fault::Failed => self.tell(rt, &"it could not be read"),
+            Fault::TooLong => self.tell(rt, &"it has more than 268435456 bytes"),
+        }
+        Failure::Told(FAILED)
+    }
+
+    /// A line on standard error. Where that fails, the exit status has to do.
+    fn tell(&self, rt: &impl Eprint, why: &impl Display) {
+        let _ = eprintln!(rt; "waff: {}: {why}", self.name);
+    }
+}
+
 /// The bytes of the files of these names, in their order.
-pub fn read_files<R: Runtime>(
+pub fn read_files<'a, R: Runtime>(
     rt: &R,
     alloc: Global,
-    names: &[&str],
-) -> Result<Vec<Vec<u8>>, Failure> {
+    names: &[&'a str],
+) -> Result<Vec<Vec<u8>>, Unread<'a>> {
     let mut files = Vec::new(alloc);
-    for (place, name) in (1u32..).zip(names) {
-        let file = read_named(rt, alloc, name, place)?;
-        files.push(file).map_err(|_| Failure::Memory)?;
+    for (at, name) in (1u32..).zip(names) {
+        let place = if *name == INPUT { 0 } else { at };
+        let file = read_named(rt, alloc, name).map_err(|fault| Unread {
+            name: *name,
+            place,
+            fault,
+        })?;
+        files.push(file).map_err(|_| Unread {
+            name: *name,
+            place,
+            fault: Fault::Memory,
+        })?;
     }
     Ok(files)
 }
 
-/// The bytes of the file that stands at this place among the file words, from 1; of standard input
-/// where its name is `-`.
-fn read_named<R: Runtime>(
-    rt: &R,
-    alloc: Global,
-    name: &str,
-    place: u32,
-) -> Result<Vec<u8>, Failure> {
-    match name {
-        "-" => read_input(rt, alloc),
-        _ => read_file(rt, alloc, name, place),
+/// The bytes of the file of this name, or of standard input.
+fn read_named<R: Runtime>(rt: &R, alloc: Global, name: &str) -> Result<Vec<u8>, Fault> {
+    if name == INPUT {
+        return Ok(read_whole(alloc, &mut rt.reader(), MAX_INPUT)?);
     }
+    read_file(rt, alloc, name)
 }
 
-fn read_file(rt: &impl Files, alloc: Global, name: &str, place: u32) -> Result<Vec<u8>, Failure> {
-    let mut file = match fs::open(rt, name) {
-        Ok(file) => file,
-        Err(error) if error.kind() == io::ErrorKind::OutOfMemory => return Err(Failure::Memory),
-        Err(_) => return Err(Failure::Read(place)),
-    };
-    read_whole(alloc, &mut file, MAX_INPUT).map_err(|fault| Failure::of_read(place, fault))
-}
-
-fn read_input(rt: &impl Input, alloc: Global) -> Result<Vec<u8>, Failure> {
-    read_whole(alloc, &mut rt.reader(), MAX_INPUT).map_err(|fault| Failure::of_read(0, fault))
+fn read_file(rt: &impl Files, alloc: Global, name: &str) -> Result<Vec<u8>, Fault> {
+    match fs::open(rt, name) {
+        Ok(mut file) => Ok(read_whole(alloc, &mut file, MAX_INPUT)?),
+        Err(error) if error.kind() == io::ErrorKind::OutOfMemory => Err(Fault::Memory),
+        Err(error) => Err(Fault::Closed(error)),
+    }
 }

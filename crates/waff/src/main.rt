@@ -13,15 +13,16 @@ mod files;
 use answers::answer;
 use failure::Failure;
 use files::read_files;
+use std::io::IsTerminal;
 use std::process::ExitCode;
 use std::rt::Runtime;
 use std::sync::Wait;
 use std::thread::Threads;
 use std::{env, io};
-use waff_cli::read_words;
+use waff_cli::{Asked, read_words};
 
 fn main(rt: HostRuntime) -> ExitCode {
-    let status = match run(&rt) {
+    let status = match run(&rt, rt.stdin().is_terminal()) {
         Ok(status) => status,
         Err(failure) => failure.report(&rt, rt.alloc()),
     };
@@ -29,10 +30,20 @@ fn main(rt: HostRuntime) -> ExitCode {
 }
 
 /// Does what the program's words ask for, and gives the exit status.
-fn run<R: Runtime + AllocGlobal + Threads + Wait + Sync>(rt: &R) -> Result<u8, Failure> {
+fn run<R: Runtime + AllocGlobal + Threads + Wait + Sync>(
+    rt: &R,
+    at_terminal: bool,
+) -> Result<u8, Failure> {
     let words = words_of(rt)?;
+    if at_terminal && words.len() == 1 {
+        let _ = rt.eprintln(WAITING);
+    }
     run_words(rt, words.as_slice())
 }
+
+/// What is said where the program has no words, and waits for what somebody types.
+const WAITING: &str = "\
+waff: reads a hierarchy, a line ---, and a trace from standard input; waff --help tells more";
 
 /// Does what these words ask for, and gives the exit status.
 fn run_words<R: Runtime + AllocGlobal + Threads + Wait + Sync>(
@@ -41,8 +52,11 @@ fn run_words<R: Runtime + AllocGlobal + Threads + Wait + Sync>(
 ) -> Result<u8, Failure> {
     let alloc = rt.alloc();
     let request = read_words(rt, alloc, words)?;
-    let files = read_files(rt, alloc, request.files.as_slice())?;
-    answer(rt, alloc, request.asked, files.as_slice())
+    let in_words = matches!(request.asked, Asked::Explain);
+    match read_files(rt, alloc, request.files.as_slice()) {
+        Ok(files) => answer(rt, alloc, request.asked, files.as_slice()),
+        Err(unread) => Err(unread.failure(rt, in_words)),
+    }
 }
 
 /// The words that the program was started with, its own name first.

@@ -13,7 +13,8 @@ IsWithinLimits (asked.Plan workers) =
 IsWithinLimits asked.PlanOfInput = Unit {0}
 IsWithinLimits asked.Assign = Unit {0}
 IsWithinLimits asked.Check = Unit {0}
-IsWithinLimits (asked.Replay workers) = (1 ≤ workers) × (workers ≤ MAX_SEATS)
+IsWithinLimits (asked.Replay workers) =
+    IfSome workers (λ w. 1 ≤ w) × IfSome workers (λ w. w ≤ MAX_SEATS)
 IsWithinLimits (asked.Compare k) = (1 ≤ k) × (k ≤ MAX_WORKERS)
 IsWithinLimits asked.Sweep = Unit {0}
 IsWithinLimits (asked.Where by_name) = Unit {0}

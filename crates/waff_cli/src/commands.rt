@@ -8,7 +8,7 @@ pub struct CommandWords {
     pub about: &'static str,
     pub files: &'static [FileWord],
     pub options: &'static [OptionWord],
-    /// What its help ends with.
+    /// What its long help ends with.
     pub help: &'static str,
 }
 
@@ -79,7 +79,7 @@ pub static COMMANDS: [CommandWords; 9] = [
     },
     CommandWords {
         name: "plan",
-        about: "Prints a shortest plan, with no limit on the workers, or a plan for a number of workers",
+        about: "Prints a shortest plan, or a plan for a number of workers",
         files: &[HIERARCHY, TRACE],
         options: &[OptionWord::PlanWorkers(false)],
         help: help::PLAN,
@@ -93,7 +93,7 @@ pub static COMMANDS: [CommandWords; 9] = [
     },
     CommandWords {
         name: "explain",
-        about: "Tells the first fault of the files, or the verdict on the plan, in plain words",
+        about: "Tells the first fault, or the verdict on the plan, in plain words",
         files: &[
             HIERARCHY,
             FileWord {
@@ -110,14 +110,14 @@ pub static COMMANDS: [CommandWords; 9] = [
     },
     CommandWords {
         name: "sweep",
-        about: "Prints how long the trace takes for 1 to 64 workers, and how busy the workers are",
+        about: "Prints how long the trace takes, by the number of workers",
         files: &[HIERARCHY, TRACE],
         options: &[],
         help: help::SWEEP,
     },
     CommandWords {
         name: "where",
-        about: "Prints where the time goes, by affinity or by the names of messages",
+        about: "Prints where the time goes, by affinity or by name of messages",
         files: &[HIERARCHY, TRACE],
         options: &[OptionWord::Names],
         help: help::WHERE,
@@ -131,14 +131,14 @@ pub static COMMANDS: [CommandWords; 9] = [
     },
     CommandWords {
         name: "replay",
-        about: "Runs the messages in threads, and prints each cell that is not 0 then",
+        about: "Runs the messages in threads, and prints the cells then",
         files: &[HIERARCHY, TRACE],
         options: &[OptionWord::Threads],
         help: help::REPLAY,
     },
     CommandWords {
         name: "compare",
-        about: "Prints what a classical and a hierarchical tree make of one trace, side by side",
+        about: "Prints what trees of both models make of one trace",
         files: &[
             FileWord {
                 help: "A hierarchy, a TOML file",

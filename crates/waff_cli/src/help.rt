@@ -1,61 +1,183 @@
-//! What the help of each command ends with: an example, and the exit statuses.
+//! What the long help of each command ends with: an example, what is printed, and the exit statuses.
 
-pub const ASSIGN: &str = "Example: waff assign hier.toml trace.csv
+/// What the long help of the program ends with.
+pub const WAFF: &str = "\
+Example: waff plan hier.toml trace.csv | waff check hier.toml trace.csv -
 
-A line for each message: its number, its name, and the name of its affinity: the lowest that is at or above the owners of
-all its cells.
+HIER is a hierarchy, a TOML file; TRACE a trace, a CSV file; PLAN what waff plan
+prints. One of them may be -, standard input.
 
-Exit status: 0 done, 2 words refused, 3 a file refused, 4 not read, not written or no memory.";
+Without words waff reads standard input, a hierarchy, a line ---, and a trace,
+and prints the plan of both.";
 
-pub const PLAN: &str = "Example: waff plan hier.toml trace.csv --workers 8
+pub const ASSIGN: &str = "\
+Example: waff assign hier.toml trace.csv
 
-A line for each message: its number, its affinity, its start and finish in ticks, and its worker (- without --workers). Then
-a line each: the workers; the total of all costs; the length, the last finish; a chain of messages of which each excludes
-the one before; its cost; and bound. Without --workers bound has the length, and what the chain takes, which no plan is
-below. With --workers K it has K times the length, and a sum that this is never above.
+A line for each message:
+  message   its number, from 1
+  name      its name
+  affinity  the lowest that is at or above the owners of all its cells
 
-Exit status: 0 done, 2 words refused, 3 a file refused, 4 not read, not written or no memory.";
+Exit status:
+  0  done
+  2  the words are refused
+  3  a file is refused
+  4  something could not be read or written, or memory was refused";
 
-pub const CHECK: &str = "Example: waff check hier.toml trace.csv plan.csv
+pub const PLAN: &str = "\
+Example: waff plan hier.toml trace.csv --workers 8
 
-One line. A fault: overlap, toomany, worker, affinity, finish, totals, notachain or early, with the messages, the tick or the
-place. No fault: shortest, withinbound (of what a plan for so many workers takes at the most) or obeys. waff explain tells
-the same in words.
+A line for each message:
+  message   its number, from 1
+  affinity  the affinity in which it runs
+  start     the tick at which it starts
+  finish    the tick at which it has finished
+  worker    its worker, from 1; - without --workers
 
-Exit status: 0 no fault in the plan, 1 a fault, 2 words refused, 3 a file refused, 4 not read, not written or no memory.";
+Then a line each:
+  workers   K, or -
+  total     the sum of all costs
+  length    the last finish
+  chain     messages of which each excludes the one before
+  release   of a trace with releases: that of the first of the chain
+  cost      the cost of the chain
+  bound     without --workers the length, and what the chain takes, which no
+            plan is below; with --workers K times the length, and a sum that
+            this is never above
 
-pub const EXPLAIN: &str = "Example: waff explain hier.toml trace.csv plan.csv
+Exit status:
+  0  done
+  2  the words are refused
+  3  a file is refused
+  4  something could not be read or written, or memory was refused";
 
-Exit status: that of the fault or the verdict: 0 nothing is wrong, 1 a fault in the plan, 2 words refused, 3 a file refused,
-4 not read, not written or no memory.";
+pub const CHECK: &str = "\
+Example: waff plan hier.toml trace.csv | waff check hier.toml trace.csv -
 
-pub const REPLAY: &str = "Example: waff replay hier.toml trace.csv --workers 4
+One line. A fault of the plan:
+  overlap      two messages that exclude each other run at one time
+  toomany      more messages than workers run at a tick
+  worker       a message has no worker, or a worker two messages at a tick
+  affinity     a message has another affinity than its own
+  finish       a finish is not the start plus the cost
+  totals       the summary has another sum
+  notachain    a message of the chain does not exclude the one before
+  early        a message starts before its release
+No fault:
+  shortest     no plan is shorter
+  withinbound  at most twice as long as any plan for so many workers
+  obeys        nothing more is known
+waff explain tells the same in words.
 
-Exit status: 0 done, 2 words refused, 3 a file refused, 4 not read, not written or no memory.";
+Exit status:
+  0  no fault in the plan
+  1  a fault in the plan
+  2  the words are refused
+  3  a file is refused
+  4  something could not be read or written, or memory was refused";
 
-pub const COMPARE: &str = "Example: waff compare classical.toml hier.toml trace.csv --workers 8
+pub const EXPLAIN: &str = "\
+Example: waff explain hier.toml trace.csv plan.csv
 
-A line for each hierarchy: the length of its shortest plan and the cost of its chain; the length of its plan for K workers and
-the cost of that chain; the two sides of that plan's bound. Last whether the hierarchical one refines the classical one:
-whether no two messages exclude each other under it alone.
+The line that the other commands print, then:
+  where    the file, and the place in it
+  found    what stands there
+  why      the way in the tree between two messages that exclude each other
+  wanted   what should stand there
 
-Exit status: 0 done, 2 words refused, 3 a file refused, 4 not read, not written or no memory.";
+Exit status, that of the fault or the verdict:
+  0  nothing is wrong
+  1  a fault in the plan
+  2  the words are refused
+  3  a file is refused
+  4  something could not be read or written, or memory was refused";
 
-pub const SWEEP: &str = "Example: waff sweep hier.toml trace.csv
+pub const REPLAY: &str = "\
+Example: waff replay hier.toml trace.csv --workers 4
 
-A line for each number of workers, and one for any number (-): the length of the plan in ticks; speedup, total cost / length;
-busy, the part of the workers' time that is work; least, a length that no such plan is below; over, length / least; waits,
-the ticks that messages wait in all; latency, the longest from a release to the finish.
+A line for each cell that is not 0 after all messages:
+  cell   its space and its index
+  value  the number that it holds
+The text is the same for every number of workers.
 
-Exit status: 0 done, 2 words refused, 3 a file refused, 4 not read, not written or no memory.";
+Exit status:
+  0  done
+  2  the words are refused
+  3  a file is refused
+  4  something could not be read or written, or memory was refused";
 
-pub const WHERE: &str = "Example: waff where hier.toml trace.csv --names
+pub const COMPARE: &str = "\
+Example: waff compare classical.toml hier.toml trace.csv --workers 8
 
-A line for each affinity: its parent; how many messages run in it, and their cost; below, the cost of those in it or below it;
-chain, the cost of those in it on the chain of the shortest plan. With --names a line for each name of messages.
+A line for each hierarchy:
+  model        classical or hierarchical
+  length       of its shortest plan
+  release      of a trace with releases: that of that plan's chain
+  chain        the cost of that plan's chain
+  list         the length of its plan for K workers
+  listrelease  of a trace with releases: that of that plan's chain
+  listchain    the cost of that plan's chain
+  left, right  the two sides of that plan's bound
+Then:
+  refines      yes where no two messages exclude each other under the
+               hierarchical one alone, else no
 
-Exit status: 0 done, 2 words refused, 3 a file refused, 4 not read, not written or no memory.";
+Exit status:
+  0  done
+  2  the words are refused
+  3  a file is refused
+  4  something could not be read or written, or memory was refused";
 
-pub const DRAW: &str = "Example: waff draw hier.toml trace.csv plan.csv >plan.svg
+pub const SWEEP: &str = "\
+Example: waff sweep hier.toml trace.csv
 
-Exit status: 0 done, 2 words refused, 3 a file refused, 4 not read, not written or no memory.";
+A line for each number of workers:
+  workers  how many; - for any number
+  length   the length of the plan in ticks
+  speedup  the total cost / length
+  busy     the part of the workers' time that is work
+  least    a length that no such plan is below
+  over     length / least
+  waits    the ticks that messages wait in all
+  latency  the longest time from a release to the finish
+
+Exit status:
+  0  done
+  2  the words are refused
+  3  a file is refused
+  4  something could not be read or written, or memory was refused";
+
+pub const WHERE: &str = "\
+Example: waff where hier.toml trace.csv --names
+
+A line for each affinity:
+  affinity  its name
+  parent    its parent's name; - for the root
+  messages  how many messages run in it
+  cost      their cost
+  below     the cost of those in it or below it
+  chain     the cost of those in it on the chain of the shortest plan
+With --names a line for each name of messages:
+  name      the name
+  messages  how many have it
+  cost      their cost
+  chain     the cost of those on the chain of the shortest plan
+
+Exit status:
+  0  done
+  2  the words are refused
+  3  a file is refused
+  4  something could not be read or written, or memory was refused";
+
+pub const DRAW: &str = "\
+Example: waff draw hier.toml trace.csv plan.csv >plan.svg
+
+The pictures:
+  svg     for a browser
+  events  for a viewer of traces
+
+Exit status:
+  0  done
+  2  the words are refused
+  3  a file is refused
+  4  something could not be read or written, or memory was refused";

@@ -1,5 +1,6 @@
 //! The parser of the table of commands.
 use crate::commands::{COMMANDS, CommandWords, FileWord, OptionWord, PICTURES};
+use crate::help;
 use clap::{Arg, ArgAction, Command, value_parser};
 use std::alloc::{AllocError, Global};
 use waff_core::limits::MAX_SEATS;
@@ -18,15 +19,14 @@ fn waff<'a>(alloc: Global) -> Command<'a> {
     Command::new(alloc, "waff")
         .version("0.1.0")
         .about("How much parallelism a tree of affinities allows a trace of messages")
-        .after_help(
-            "With no words: the plan of the hierarchy and the trace on standard input, a line --- between them.",
-        )
+        .after_help("Without words: the plan of what standard input holds.")
+        .after_long_help(help::WAFF)
 }
 
 fn command<'a>(alloc: Global, words: &'static CommandWords) -> Result<Command<'a>, AllocError> {
     let command = Command::new(alloc, words.name)
         .about(words.about)
-        .after_help(words.help);
+        .after_long_help(words.help);
     with_options(
         alloc,
         with_files(alloc, command, words.files)?,
@@ -68,23 +68,23 @@ fn file<'a>(alloc: Global, word: &'static FileWord) -> Arg<'a> {
 fn option<'a>(alloc: Global, word: OptionWord) -> Arg<'a> {
     match word {
         OptionWord::PlanWorkers(required) => workers_up_to(alloc, MAX_WORKERS)
+            .short('k')
             .value_name("K")
             .help("How many messages may run at once, from 1 to 64")
             .required(required),
         OptionWord::Threads => workers_up_to(alloc, MAX_SEATS)
             .value_name("W")
-            .help("How many threads run messages, from 1 to 16")
-            .required(true),
+            .help("How many threads, from 1 to 16; else one a processor"),
         OptionWord::Names => Arg::new(alloc, "names")
             .long("names")
             .action(ArgAction::SetTrue)
-            .help("A line for each name of messages in place of each affinity"),
+            .help("A line for each name of messages"),
         OptionWord::Picture => Arg::new(alloc, "as")
             .long("as")
             .value_name("PICTURE")
             .value_parser(PICTURES.as_slice())
             .default_value("svg")
-            .help("A picture for a browser, or events for a viewer of traces"),
+            .help("The picture"),
     }
 }
 

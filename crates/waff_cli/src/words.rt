@@ -4,7 +4,7 @@ ghost use Rattle.waff_cli.specs.Requests.{IsWithinLimits};
 
 use crate::commands::FILE_WORDS;
 use crate::parser::parser;
-use crate::refusal::Refusal;
+use crate::refusal::{REFUSED, Refusal};
 use clap::ArgMatches;
 use std::alloc::{AllocError, Global};
 use waff_core::limits::MAX_SEATS;
@@ -28,8 +28,9 @@ pub enum Asked {
     Plan(Option<u32>),
     /// The verdict on the plan.
     Check,
-    /// The state that the trace leaves, replayed by this number of workers.
-    Replay(u32),
+    /// The state that the trace leaves, replayed by this number of workers, or by as many as there
+    /// are processors where there is no number.
+    Replay(Option<u32>),
     /// Two hierarchies compared, for this number of workers.
     Compare(u32),
     /// How long the trace takes, by the number of workers.
@@ -61,20 +62,26 @@ pub fn read_words<'a, R: Print + Eprint>(
     ensures { IfOk result (λ request. IsWithinLimits request.asked) }
 {
     match parser(alloc)?.try_get_matches_from(words) {
-        Ok(matches) => request_of(alloc, &matches),
+        Ok(matches) => request_of(rt, alloc, &matches),
         Err(error) => Err(Refusal::of(rt, &error)),
     }
 }
 
 /// What the words ask for that were found.
-fn request_of<'a>(alloc: Global, matches: &ArgMatches<'a>) -> Result<Request<'a>, Refusal>
+fn request_of<'a>(
+    rt: &impl Eprint,
+    alloc: Global,
+    matches: &ArgMatches<'a>,
+) -> Result<Request<'a>, Refusal>
     ensures { IfOk result (λ request. IsWithinLimits request.asked) }
 {
     match matches.subcommand() {
-        Some((command, matches)) => Ok(Request {
-            asked: asked_of(command, matches)?,
-            files: file_names(alloc, matches)?,
-        }),
+        Some((command, matches)) => {
+            let asked = asked_of(command, matches)?;
+            let files = file_names(alloc, matches)?;
+            refuse_two_inputs(rt, files.as_slice())?;
+            Ok(Request { asked, files })
+        }
         None => Ok(Request {
             asked: Asked::PlanOfInput,
             files: input_alone(alloc)?,
@@ -82,9 +89,26 @@ fn request_of<'a>(alloc: Global, matches: &ArgMatches<'a>) -> Result<Request<'a>
     }
 }
 
-/// The name of standard input.
+/// The name of standard input among the names of files.
+const INPUT: &str = "-";
+
+/// What is said where it is there twice.
+const TWO_INPUTS: &str = "error: only one file can be '-', standard input
+
+For more information, try '--help'.";
+
+/// Refuses files of which more than one is standard input, and says so.
+fn refuse_two_inputs(rt: &impl Eprint, files: &[&str]) -> Result<(), Refusal> {
+    if files.iter().filter(|name| **name == INPUT).count() > 1 {
+        let _ = rt.eprintln(TWO_INPUTS);
+        return Err(Refusal::Told(REFUSED));
+    }
+    Ok(())
+}
+
+/// Standard input as the only file.
 fn input_alone<'a>(alloc: Global) -> Result<Vec<&'a str>, AllocError> {
-    Ok(vec![in alloc; "-"]?)
+    Ok(vec![in alloc; INPUT]?)
 }
 
 /// What the words of a command ask for.
@@ -95,7 +119,7 @@ fn asked_of(command: &str, matches: &ArgMatches<'_>) -> Result<Asked, Refusal>
         "assign" => Ok(Asked::Assign),
         "plan" => Ok(Asked::Plan(workers(matches, MAX_WORKERS)?)),
         "check" => Ok(Asked::Check),
-        "replay" => Ok(Asked::Replay(wanted_workers(matches, MAX_SEATS)?)),
+        "replay" => Ok(Asked::Replay(workers(matches, MAX_SEATS)?)),
         "compare" => Ok(Asked::Compare(wanted_workers(matches, MAX_WORKERS)?)),
         "sweep" => Ok(Asked::Sweep),
         "where" => Ok(Asked::Where(matches.get_flag("names"))),
