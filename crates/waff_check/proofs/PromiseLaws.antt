@@ -1,5 +1,5 @@
 -- What follows from a verdict without a fault.
-use Rattle.std.proofs.Common.{◌≡◌, ◌≢◌, ℕ, ◌+◌, ◌<◌, ◌≤◌, List, length, Option, Some, None, IfSome, arith, inl, inr, refl}
+use Rattle.std.proofs.Common.{◌≡◌, ℕ, ◌+◌, ◌<◌, ◌≤◌, List, length, Option, Some, None, IfSome, arith, inl, inr, refl}
 use Rattle.std.proofs.lemmas.Bool.{cases_lt}
 use Rattle.std.proofs.lemmas.List.{length-map}
 use Rattle.waff_model.specs.declared.message.Message.{Message}
@@ -13,7 +13,7 @@ use Rattle.waff_plan.specs.Workers.{IsWorkerPlan, running}
 use Rattle.waff_plan.specs.declared.timing.Timing.{Timing}
 use Rattle.waff_check.specs.Faults.{IsCrowded, IsMisplaced, IsTaken, RunTogether}
 use Rattle.waff_plan_text.specs.Given.{IsGiven}
-use Rattle.waff_check.specs.Promises.{Accepts, IsWithin}
+use Rattle.waff_check.specs.Promises.{Accepts, AreOneAtATime, IsWithin}
 use Rattle.waff_check.specs.Verdicts.{Claim, IsBoundedFor, IsFaultless, IsVerdict, before_of, chain_in, start_in, work_in, worker_in, workers_in}
 use Rattle.waff_check.specs.declared.verdict.Verdict.{Verdict}
 use Rattle.waff_check.specs.declared.verdict.Verdict.TheVariants as verdict
@@ -63,12 +63,31 @@ module _ (claim : Claim) where
       let wrong : IsMisplaced (work_in claim) (start_in claim) (worker_in claim.plan) (workers_in claim) j (worker_in claim.plan j) = rw (e, wj) (inr (inr (i, taken))) in
       good.linked.summed.finished.named.manned.workers j (record { number = nj; wrong = wrong })
 
-  pub one-at-a-time : IsFaultless claim → (k : ℕ) → workers_in claim ≡ Some k → (i j w : ℕ) → IsNumber (work_in claim) i → IsNumber (work_in claim) j → i ≢ j
-      → worker_in claim.plan i ≡ Some w → worker_in claim.plan j ≡ Some w → RunTogether (work_in claim) (start_in claim) i j → ⊥
-  one-at-a-time good k e i j w ni nj other wi wj together = elim (cases_lt i j) [
-    | inl lt ↦ apart good k e i j w ni nj lt wi wj together
-    | inr ge ↦ (let ne : i ≡ j → ⊥ = other in apart good k e j i w nj ni (omega (arith, ne)) wj wi (together.0, together.2, together.1))
+  -- a worker that is not wrong is one of the k
+  seated : (k n : ℕ) (o : Option ℕ) → (IsMisplaced (work_in claim) (start_in claim) (worker_in claim.plan) (Some k) n o → ⊥)
+      → (w : ℕ) × (o ≡ Some w) × (1 ≤ w) × (w ≤ k)
+  seated k n None right = absurd (right tt)
+  seated k n (Some w) right = elim (cases_lt w 1) [
+    | inl low ↦ absurd (right (inl low))
+    | inr from ↦ elim (cases_lt k w) [
+      | inl high ↦ absurd (right (inr (inl high)))
+      | inr to ↦ (w, refl, from, to)
+    ]
   ]
+
+  pub one-at-a-time : IsFaultless claim → (k : ℕ) → workers_in claim ≡ Some k
+      → AreOneAtATime (work_in claim) (start_in claim) (worker_in claim.plan) k
+  one-at-a-time good k e = record {
+    seated = λ n number.
+        seated k n (worker_in claim.plan n)
+        (λ wrong.
+        let misplaced : IsMisplaced (work_in claim) (start_in claim) (worker_in claim.plan) (workers_in claim) n (worker_in claim.plan n) = rw e wrong in
+        good.linked.summed.finished.named.manned.workers n (record { number = number; wrong = misplaced }));
+    apart = λ i j w ni nj other wi wj together. elim (cases_lt i j) [
+      | inl lt ↦ apart good k e i j w ni nj lt wi wj together
+      | inr ge ↦ (let ne : i ≡ j → ⊥ = other in apart good k e j i w nj ni (omega (arith, ge, ne)) wj wi (together.0, together.2, together.1))
+    ];
+  }
 
   pub chain-of : IsGiven claim.plan → length claim.plan.rows ≡ length claim.messages → IsFaultless claim → IsChain (before_of claim) (work_in claim) (chain_in claim)
   chain-of given same good =

@@ -1,9 +1,9 @@
 -- What a verdict without a fault implies.
-use Rattle.std.specs.Prelude.{◌≡◌, ◌≢◌, ℕ, ◌-◌, ◌*◌, ◌≤◌, Some}
+use Rattle.std.specs.Prelude.{◌≡◌, ◌≢◌, ℕ, ◌-◌, ◌*◌, ◌≤◌, Option, Some}
 use Rattle.waff_plan.specs.Bound.{IsWithinBound}
 use Rattle.waff_plan.specs.Chain.{IsChain}
 use Rattle.waff_plan.specs.Obeys.{Obeys}
-use Rattle.waff_plan.specs.Work.{IsNumber, length_of}
+use Rattle.waff_plan.specs.Work.{IsNumber, Work, length_of}
 use Rattle.waff_plan.specs.Workers.{IsWorkerPlan}
 use Rattle.waff_check.specs.Faults.{RunTogether}
 use Rattle.waff_check.specs.Verdicts.{Claim, before_of, chain_in, start_in, work_in, worker_in}
@@ -34,14 +34,19 @@ abbrev pub PromisesWorkerPlan : Claim → Verdict → Type 0
 PromisesWorkerPlan claim v = Accepts v → (k : ℕ)
     → workers_in claim ≡ Some k → IsWorkerPlan (before_of claim) (work_in claim) k (start_in claim)
 
--- with k workers each message has one of them, and no two messages of one worker run at a common
--- tick
+-- each message has one of k workers, and no two messages of one worker run at a common tick
+pub record AreOneAtATime (work : Work) (start : ℕ → ℕ)
+    (worker : ℕ → Option ℕ) (k : ℕ) : Type 0 where
+  pub seated : (n : ℕ) → IsNumber work n
+      → (w : ℕ) × (worker n ≡ Some w) × (1 ≤ w) × (w ≤ k)
+  pub apart : (i j w : ℕ) → IsNumber work i → IsNumber work j → i ≢ j
+      → worker i ≡ Some w → worker j ≡ Some w → RunTogether work start i j → ⊥
+
+-- with k workers the messages run on them one at a time
 abbrev pub PromisesOneAtATime : Claim → Verdict → Type 0
 PromisesOneAtATime claim v =
     Accepts v → (k : ℕ) → workers_in claim ≡ Some k
-    → (i j w : ℕ) → IsNumber (work_in claim) i → IsNumber (work_in claim) j → i ≢ j
-    → worker_in claim.plan i ≡ Some w → worker_in claim.plan j ≡ Some w
-    → RunTogether (work_in claim) (start_in claim) i j → ⊥
+    → AreOneAtATime (work_in claim) (start_in claim) (worker_in claim.plan) k
 
 -- the chain of the text is a chain
 abbrev pub PromisesChain : Claim → Verdict → Type 0

@@ -1,5 +1,5 @@
 -- Lanes in preorder: how deep each is, and what stands behind what.
-use Rattle.std.proofs.Common.{◌≡◌, ◌≢◌, ℕ, zero, suc, ◌+◌, ◌<◌, ◌≤◌, ◌⊎◌, All, Bool, true, false, cond, inl, inr, List, [], ◌∷◌, ◌++◌, Some, flat_map, get_or, length, arith, refl, sym, ◌∙◌, ap, subst}
+use Rattle.std.proofs.Common.{◌≡◌, ◌≢◌, ℕ, zero, suc, ◌+◌, ◌<◌, ◌≤◌, ◌⊎◌, Bool, cond, inl, inr, List, [], ◌∷◌, ◌++◌, Some, flat_map, get_or, length, arith, refl, sym, ◌∙◌, ap, subst}
 use Rattle.std.specs.List.{filter, range_with_len}
 use Rattle.std.proofs.lemmas.Bool.{cases_Bool, cases_eq, cases_lt}
 use Rattle.std.proofs.lemmas.List.FromFn.{get_or-map-range_with_len}

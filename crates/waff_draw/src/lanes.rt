@@ -12,7 +12,7 @@ use waff_assign::Assigned;
 use waff_model::{AffinityId, Tree};
 
 /// A lane: an affinity, and how many steps below the root it is.
-#[derive(Clone, Copy, Debug, PartialEq, Eq)]
+#[derive(Clone, Copy)]
 pub struct Lane {
     pub affinity: u32,
     pub depth: u64,

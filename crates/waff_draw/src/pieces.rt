@@ -55,6 +55,7 @@ pub(crate) fn push_heading_start(
     )
 }
 
+/// Appends the end of what is told of the plan.
 pub(crate) fn push_heading_end(text: &mut String) -> Result<(), AllocError>
     ensures { OnOk result (string_bytes text.new ≡ string_bytes text.old ++ pieces.heading_end) }
 {
@@ -77,12 +78,14 @@ pub(crate) fn push_lane_start(
     )
 }
 
+/// Appends the end of a lane, behind its name.
 pub(crate) fn push_lane_end(text: &mut String) -> Result<(), AllocError>
     ensures { OnOk result (string_bytes text.new ≡ string_bytes text.old ++ pieces.lane_end) }
 {
     write!(text, "</text></g>\n")
 }
 
+/// Appends the name of a worker's lane.
 pub(crate) fn push_worker_name(text: &mut String, worker: u32) -> Result<(), AllocError>
     ensures { OnOk result (string_bytes text.new ≡ string_bytes text.old
         ++ pieces.worker_name worker) }
@@ -148,12 +151,14 @@ pub(crate) fn push_bar_start(
     )
 }
 
+/// Appends what stands between the names of a message and of its affinity.
 pub(crate) fn push_bar_middle(text: &mut String) -> Result<(), AllocError>
     ensures { OnOk result (string_bytes text.new ≡ string_bytes text.old ++ pieces.bar_middle) }
 {
     write!(text, " in ")
 }
 
+/// Appends the end of a bar, behind the name of the affinity.
 pub(crate) fn push_bar_end(text: &mut String, start: u64, finish: u64) -> Result<(), AllocError>
     ensures { OnOk result (string_bytes text.new ≡ string_bytes text.old
         ++ pieces.bar_end start finish) }
@@ -161,6 +166,7 @@ pub(crate) fn push_bar_end(text: &mut String, start: u64, finish: u64) -> Result
     writeln!(text, ": {start} to {finish}</title></rect>")
 }
 
+/// Appends the end of the document.
 pub(crate) fn push_document_end(text: &mut String) -> Result<(), AllocError>
     ensures { OnOk result (string_bytes text.new ≡ string_bytes text.old ++ pieces.document_end) }
 {

@@ -40,13 +40,13 @@ fn push_refusal(words: &mut Words, layout: &Layout, trace: &[u8], fault: TraceEr
     let mut walk = Walk::new(words.alloc(), trace);
     walk.next();
     let fields = walk.len();
-    walk.push_record(words, "trace", u64::from(record_of(fault)));
+    walk.push_record(words, "trace", record_of(fault));
     push_fault(words, layout, &walk, fields, fault);
     walk.end(words);
 }
 
 /// The number of the record that a fault tells.
-fn record_of(fault: TraceError) -> u32 {
+fn record_of(fault: TraceError) -> u64 {
     match fault {
         TraceError::Csv { at }
         | TraceError::Header { at }
@@ -98,8 +98,8 @@ fn push_fields(words: &mut Words, found: usize, fields: usize) {
 }
 
 /// Appends which message is one too many.
-fn push_last(words: &mut Words, message: u32) {
-    words.message("found: ", message);
+fn push_last(words: &mut Words, message: u64) {
+    words.number("found: message ", message);
     words.count("\nwanted: ", MAX_MESSAGES);
     words.text(" messages or fewer\n");
 }

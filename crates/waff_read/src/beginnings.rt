@@ -4,18 +4,10 @@ ghost use Rattle.std.specs.Prelude.{◌≡◌, option_map};
 ghost use Rattle.waff_read.specs.Beginnings as beginnings;
 
 use crate::parts::{Parts, Verb};
+use crate::prefix::behind;
 use crate::space_table::SpaceTable;
 use waff_model::Cell;
 use waff_parse::first_number;
-
-/// The text behind its first bytes, where it begins with these.
-#[inline(always)]
-#[tactic(auto, unfolding(crate::specs::Beginnings::behind))]
-pub(crate) fn behind<'t>(text: &'t [u8], first: &[u8]) -> Option<&'t [u8]>
-    ensures { option_map (λ rest. rest.now) result ≡ beginnings.behind first.now text.now }
-{
-    text.strip_prefix(first)
-}
 
 // The cell that a text begins with; the space that is guessed is looked for first.
 #[inline(always)]

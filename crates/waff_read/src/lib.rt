@@ -5,8 +5,8 @@
 //!   and `names` (affinities and spaces by name); `hier_error` has what it refuses.
 //! - `trace`: the reader of traces, over `message` (one record), `ops` (the operations of a
 //!   message), `op` (one operation), `beginnings` (what a text without a fault begins with),
-//!   `parts` (what an operation is made of) and `space_table` (the spaces by name); `trace_fault`
-//!   has what it refuses.
+//!   `prefix` (what stands behind that), `parts` (what an operation is made of) and `space_table`
+//!   (the spaces by name); `trace_fault` has what it refuses.
 //! - `laws`: what holds of all files that are accepted or refused; `limit_laws`: that what is read
 //!   is within the limits.
 //!
@@ -28,6 +28,7 @@ mod names;
 mod op;
 mod ops;
 mod parts;
+mod prefix;
 mod shape;
 mod space_table;
 mod spaces;

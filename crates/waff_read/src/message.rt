@@ -78,7 +78,7 @@ fn read_release(text: Option<&str>) -> Result<u32, TraceFault>
 fn message_of_fields(
     alloc: Global,
     spaces: &SpaceTable<'_>,
-    at: u32,
+    at: u64,
     name: &str,
     cost: &str,
     release: Option<&str>,
@@ -95,7 +95,7 @@ fn message_of_fields(
         Err(fault) => return Err(Stop::Fault(fault)),
     };
     let ops = read_ops(alloc, spaces, ops)?;
-    if MAX_MESSAGES as u32 + 1 < at {
+    if MAX_MESSAGES as u64 + 1 < at {
         return Err(Stop::Fault(TraceFault::TooManyMessages));
     }
     let release = match read_release(release) {
@@ -115,7 +115,7 @@ pub(crate) fn read_message(
     alloc: Global,
     spaces: &SpaceTable<'_>,
     version: Version,
-    at: u32,
+    at: u64,
     row: &StringRecord,
 ) -> Result<Message, Stop<TraceFault>>
     ensures { Gives (λ m.

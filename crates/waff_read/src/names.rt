@@ -7,6 +7,7 @@ use indexmap::IndexSet;
 use std::alloc::{AllocError, Global};
 use std::marker::Model;
 
+/// Names, no two of them equal.
 #[derive(Drop)]
 pub(crate) struct Names {
     names: IndexSet<String>,
@@ -21,6 +22,7 @@ impl Model for Names {
 }
 
 impl Names {
+    /// No name.
     pub(crate) fn new(alloc: Global) -> Self
         ensures { result ≡ [] }
     {

@@ -9,8 +9,9 @@ ghost use Rattle.waff_parse.specs.Stopping.{Gives};
 ghost use Rattle.waff_read.specs.Ops as ops;
 ghost use Rattle.waff_read.specs.TraceFaults.{number};
 
-use crate::beginnings::{behind, first_parts};
+use crate::beginnings::first_parts;
 use crate::op::read_op;
+use crate::prefix::behind;
 use crate::space_table::SpaceTable;
 use crate::trace_fault::TraceFault;
 use std::alloc::{AllocError, Global};

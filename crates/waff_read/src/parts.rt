@@ -27,6 +27,7 @@ pub(crate) struct Parts {
 }
 
 impl Parts {
+    /// The parts of an operation with this verb, whatever it wants of the others.
     #[inline(always)]
     pub(crate) fn of(verb: Verb, cell: Cell, value: u64, other: Cell) -> Self
         ensures { beginnings.made result ≡ beginnings.op_of verb cell value other }

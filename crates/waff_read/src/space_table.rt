@@ -4,8 +4,8 @@ ghost use Rattle.std.specs.Prelude.{◌≡◌, ◌==◌, ◌<◌, length, positi
 ghost use Rattle.waff_model.specs.Layout.{IsLayout, names_of, size_at, space_named};
 ghost use Rattle.waff_read.specs.Beginnings as beginnings;
 
-use crate::beginnings::behind;
 use crate::names::Names;
+use crate::prefix::behind_name;
 use std::alloc::{AllocError, Global};
 use std::marker::Model;
 use std::str;
@@ -30,6 +30,7 @@ impl<'a> Model for SpaceTable<'a> {
 }
 
 impl<'a> SpaceTable<'a> {
+    /// The table of a layout.
     pub(crate) fn new(alloc: Global, layout: &'a Layout) -> Result<Self, AllocError>
         ensures { IfOk result (λ table. table ≡ layout.now.spaces) }
     {
@@ -37,6 +38,7 @@ impl<'a> SpaceTable<'a> {
         Ok(SpaceTable { layout, names })
     }
 
+    /// The layout that it is of.
     pub(crate) fn layout(&self) -> &Layout
         ensures { result.now.spaces ≡ self.now }
     {
@@ -112,32 +114,6 @@ fn first_colon(text: &[u8]) -> Option<usize>
     ensures within { IfSome result (λ place. place < length text.now) }
 {
     text.iter().position(|byte| *byte == b':')
-}
-
-// The text behind its first bytes, where it begins with these. They are few, so they are compared
-// one after another, without a call.
-#[inline(always)]
-#[tactic(auto, unfolding(crate::specs::Beginnings::behind))]
-fn behind_few<'t>(text: &'t [u8], first: &[u8]) -> Option<&'t [u8]>
-    ensures { option_map (λ rest. rest.now) result ≡ beginnings.behind first.now text.now }
-{
-    if text.len() < first.len() {
-        return None;
-    }
-    for place in 0..first.len() {
-        if text[place] != first[place] {
-            return None;
-        }
-    }
-    Some(&text[first.len()..])
-}
-
-// The text behind a name and a `:`, where it begins with these.
-#[inline(always)]
-fn behind_name<'t>(text: &'t [u8], name: &str) -> Option<&'t [u8]>
-    ensures { option_map (λ rest. rest.now) result ≡ beginnings.behind_name name.now text.now }
-{
-    behind(behind_few(text, name.as_bytes())?, b":")
 }
 
 /// The names of the spaces, in their order.

@@ -37,7 +37,7 @@ fn next_message(
     alloc: Global,
     spaces: &SpaceTable<'_>,
     version: Version,
-    at: u32,
+    at: u64,
     rdr: &mut Reader<&[u8]>,
     row: &mut StringRecord,
 ) -> Result<Option<Message>, Stop<TraceError>>

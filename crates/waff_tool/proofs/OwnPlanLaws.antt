@@ -342,7 +342,7 @@ module _ (hierarchy_file trace_file : List ℕ) (layout : Hierarchy) (trace : Ar
           verdict = is;
           obeys = λ a. promise.obeys claim (good a);
           worker_plan = λ a k e. promise.worker-plan claim (good a) k e;
-          one_at_a_time = λ a k e i j w ni nj other wi wj together. promise.one-at-a-time claim (good a) k e i j w ni nj other wi wj together;
+          one_at_a_time = λ a. promise.one-at-a-time claim (good a);
           chain = λ a. promise.chain-of claim given rows (good a);
           shortest = λ same. promise.shortest claim (chains_are_within_length before (work_in trace)) given rows (subst (IsVerdict claim) same is);
           bound = λ same. promise.bound claim (bound_is_within_twice before (work_in trace)) (bound_is_within_ratio before (work_in trace)) given rows

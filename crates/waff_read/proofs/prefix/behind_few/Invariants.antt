@@ -1,5 +1,5 @@
 use Rattle.std.proofs.Common.{◌≡◌, take}
-use Rattle.waff_read.proofs.space_table.behind_few.Given as goal
+use Rattle.waff_read.proofs.prefix.behind_few.Given as goal
 
 -- the bytes so far are those of the text
 abbrev pub invariant-loop-place : goal.invariant-loop-place

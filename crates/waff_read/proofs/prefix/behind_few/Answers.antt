@@ -2,7 +2,7 @@
 use Rattle.std.proofs.Common.{◌≡◌, ◌-◌, ◌∙◌, arith, length, take, drop}
 use Rattle.std.proofs.lemmas.List.{length-drop, take_all}
 use Rattle.waff_read.proofs.BeginningLemmas.{behind-other, behind-same}
-use Rattle.waff_read.proofs.space_table.behind_few.Goals as goal
+use Rattle.waff_read.proofs.prefix.behind_few.Goals as goal
 
 pub returns-then-text-place : goal.returns-then-text-place
 returns-then-text-place c =
