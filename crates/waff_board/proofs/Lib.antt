@@ -1,5 +1,6 @@
 mod Phases
 mod Known
+mod Listed
 mod Moves
 mod Seen
 mod Draws

@@ -37,6 +37,7 @@ impl Board {
         requires some { 1 ≤ seats }
         requires few { seats ≤ MAX_SEATS }
         ensures job { IfOk result (λ made. made.0.setup.job ≡ job) }
+        ensures seats { IfOk result (λ made. made.0.setup.seats ≡ seats) }
         ensures count { IfOk result (λ made. length made.1.items ≡ seats) }
         ensures of { IfOk result (λ made. All (λ seat. IsOf made.0 seat.hand) made.1.items) }
         ensures fresh { IfOk result (λ made. AreFresh 1 made.1.items) }
