@@ -1,5 +1,5 @@
 -- The parcels of a message: how many they are, and what its operations do to them.
-use Rattle.std.proofs.Common.{◌≡◌, ℕ, zero, suc, ◌-◌, ◌*◌, ◌<◌, ◌≤◌, ◌||◌, Bool, true, false, List, [], Contains, length, map, set, slice_index_or, eqb, eqb-true, eq-eqb, ne_eqb, refl, sym, ap, ◌∙◌, subst, arith}
+use Rattle.std.proofs.Common.{◌≡◌, ◌↔◌, IsSome, Option, ℕ, zero, suc, ◌-◌, ◌*◌, ◌<◌, ◌≤◌, ◌||◌, Bool, true, false, List, [], Contains, length, map, set, slice_index_or, eqb, eqb-true, eq-eqb, ne_eqb, refl, sym, ap, ◌∙◌, subst, arith}
 use mathlib.Core.Logic.{dite}
 use native.Mathlib.Decide.{ℕ_discrete}
 use Rattle.std.specs.Cmp.{IsEquivalence}
@@ -17,7 +17,7 @@ use Rattle.waff_model.specs.declared.limits.TheConstants.{MAX_OPS}
 use Rattle.waff_model.specs.declared.op.Op.{Op}
 use Rattle.waff_cells.specs.Meaning.{Cells, meaning}
 use Rattle.waff_cells.specs.Serial.{ops_of, serial}
-use Rattle.waff_cells.specs.Parcel.{AreParcels}
+use Rattle.waff_cells.specs.Parcel.{AreParcels, IsOwned}
 use Rattle.waff_core.specs.Job.{JobValue, IsJob, IsIn, IsOwner, owners_of}
 use Rattle.waff_core.specs.Owners.{owners_in}
 use Rattle.waff_core.proofs.Listing.{few_owners}
@@ -91,3 +91,12 @@ parcels_in job known layout owners m cells rows same is_layout is_owners h =
     subst (λ (l : Hierarchy). AreParcels l.spaces owners cells rows) (sym is_layout)
     (subst (λ names. AreParcels known.layout.spaces names cells rows) (sym is_owners)
     (subst (λ (j : JobValue). AreParcels j.layout.spaces (owners_of j.owners m) cells rows) (sym same) h))
+
+-- the same cells of the owners
+pub owned_in : (job known : JobValue) (layout : Hierarchy) (owners : List ℕ) (m : ℕ) (cell : Cell) (found : Option ℕ) → known ≡ job
+    → layout ≡ known.layout → owners ≡ owners_of known.owners m
+    → IsSome found ↔ IsOwned layout.spaces owners cell → IsSome found ↔ IsOwned job.layout.spaces (owners_of job.owners m) cell
+owned_in job known layout owners m cell found same is_layout is_owners h =
+    subst (λ (j : JobValue). IsSome found ↔ IsOwned j.layout.spaces (owners_of j.owners m) cell) same
+    (subst (λ names. IsSome found ↔ IsOwned known.layout.spaces names cell) is_owners
+    (subst (λ (l : Hierarchy). IsSome found ↔ IsOwned l.spaces owners cell) is_layout h))

@@ -12,6 +12,7 @@ use Rattle.waff_board.specs.Rule.{Holds}
 use Rattle.waff_board.specs.Seats.{HasSeen, IsListed}
 use Rattle.waff_board.specs.declared.view.Setup.{Setup}
 use Rattle.waff_board.specs.declared.view.View.{View}
+use Rattle.waff_board.specs.declared.view.TheConstants.{DONE}
 
 -- the words, the slots at home and the views between two steps
 abbrev pub IsBetween : Setup → State (Vec ℕ) View → Type 0
@@ -75,7 +76,7 @@ abbrev pub DoneIsRun : Setup → Type 0
 DoneIsRun setup =
     (s : State (Vec ℕ) View) → IsBetween setup s
     → (m : ℕ) → IsIn setup.job m
-    → (slice_index s.words m ≡ 2) ↔ IsListed (λ v. v.ran) s.views m
+    → (slice_index s.words m ≡ DONE) ↔ IsListed (λ v. v.ran) s.views m
 
 -- where no seat has drawn, the state is the one in which the machine opens: nothing is drawn or
 -- done, and every cell is 0
@@ -90,7 +91,7 @@ abbrev pub SeenIsDone : Setup → Type 0
 SeenIsDone setup =
     (s : State (Vec ℕ) View) → IsBetween setup s
     → (seat : ℕ) (v : View) → Knows s seat v
-    → (m : ℕ) → IsIn setup.job m → HasSeen v m → slice_index s.words m ≡ 2
+    → (m : ℕ) → IsIn setup.job m → HasSeen v m → slice_index s.words m ≡ DONE
 
 -- there are no more draws than messages and seats
 abbrev pub DrawsAreFew : Setup → Type 0

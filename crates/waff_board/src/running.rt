@@ -1,32 +1,25 @@
 //! Running a message.
 
-ghost use Rattle.std.specs.Prelude.{◌≡◌, ◌-◌, ◌≤◌, ℕ, [], length, map, vec_capacity};
-ghost use Rattle.waff_cells.specs.Serial.{serial};
-ghost use Rattle.waff_cells.specs.Parcel.{AreParcels};
-ghost use Rattle.waff_core.specs.Job.{IsJob, owners_of};
-ghost use Rattle.waff_board.specs.Calls.{IsOf};
+ghost use Rattle.std.specs.Prelude.{◌≡◌, ◌≤◌, [], length, map, vec_capacity};
 ghost use Rattle.waff_board.specs.Plays.{begun_view, finished_view};
+ghost use Rattle.waff_board.specs.Tokens.{IsOf, HoldsBefore, HoldsAfter};
 
 use crate::board::Board;
 use crate::hand::Hand;
 use crate::plays::{BeginStep, FinishStep};
 use crate::tokens::{Cleared, Finished, Grant, Seat};
-use crate::view::View;
+use crate::view::{DONE, RUNNING, View};
 use std::mem;
 use waff_cells::parcels;
-use waff_core::Job;
 
 impl Board {
     /// Begins the message: the parcels of its footprint's owners leave home.
     pub fn begin(&self, cleared: Cleared) -> Grant<'_>
-        requires { IsOf self.now cleared.hand }
+        requires { IsOf self.now cleared }
         ensures message { result.message ≡ cleared.message }
-        ensures view { result.hand.chair.me.0 ≡ begun_view cleared.hand.chair.me.0 cleared.message }
-        ensures parcels { AreParcels cleared.hand.chair.me.0.job.layout.spaces
-            (owners_of cleared.hand.chair.me.0.job.owners cleared.message)
-            (serial cleared.hand.chair.me.0.job.ops (cleared.message - 1))
-            (map (λ row. row.items) result.hand.places.items) }
-        ensures of { IsOf self.now result.hand }
+        ensures view { result.view ≡ begun_view cleared.view cleared.message }
+        ensures parcels { HoldsBefore result }
+        ensures of { IsOf self.now result }
     {
         let Cleared { hand, message } = cleared;
         let Hand {
@@ -34,11 +27,11 @@ impl Board {
             seen,
             mut places,
         } = hand;
-        let job = self.job();
+        let job = &self.setup.job;
         places.clear();
         self.table
             .shared
-            .store::<BeginStep>(&mut chair, message as usize, 1);
+            .store::<BeginStep>(&mut chair, message as usize, RUNNING);
         self.take_out(&mut chair, job.owners(message), &mut places);
         let hand = Hand {
             chair,
@@ -55,7 +48,7 @@ impl Board {
         owners: &[u16],
         places: &mut Vec<Vec<u64>>,
     )
-        requires table { chair.old.table_id ≡ self.now.table.shared.table_id }
+        requires table { chair.old.table_id ≡ self.now.table }
         requires held { map (λ slot. slot.0) chair.old.me.1 ≡ owners.now }
         requires empty { places.old.items ≡ [] }
         requires room { length owners.now ≤ vec_capacity places.old }
@@ -78,10 +71,9 @@ impl Board {
 
     /// Finishes the message: the parcels come home.
     pub fn finish(&self, finished: Finished<'_>) -> Seat
-        requires { IsOf self.now finished.hand }
-        ensures view { result.hand.chair.me.0
-            ≡ finished_view finished.entry.hand.chair.me.0 finished.entry.message }
-        ensures of { IsOf self.now result.hand }
+        requires { IsOf self.now finished }
+        ensures view { result.view ≡ finished_view finished.entry.view finished.entry.message }
+        ensures of { IsOf self.now result }
     {
         let Finished {
             hand,
@@ -93,10 +85,10 @@ impl Board {
             mut seen,
             mut places,
         } = hand;
-        self.put_in(&mut chair, self.job().owners(message), &mut places);
+        self.put_in(&mut chair, self.setup.job.owners(message), &mut places);
         self.table
             .shared
-            .store::<FinishStep>(&mut chair, message as usize, 2);
+            .store::<FinishStep>(&mut chair, message as usize, DONE);
         seen[message as usize] = true;
         let hand = Hand {
             chair,
@@ -113,7 +105,7 @@ impl Board {
         owners: &[u16],
         places: &mut Vec<Vec<u64>>,
     )
-        requires table { chair.old.table_id ≡ self.now.table.shared.table_id }
+        requires table { chair.old.table_id ≡ self.now.table }
         requires held { map (λ slot. slot.0) chair.old.me.1 ≡ owners.now }
         requires count { length places.old.items ≡ length owners.now }
         ensures table { chair.new.table_id ≡ chair.old.table_id }
@@ -145,15 +137,11 @@ impl<'a> Grant<'a> {
     #[inline(always)]
     pub fn run(self) -> Finished<'a>
         ensures message { result.message ≡ self.entry.message }
-        ensures table { result.hand.chair.table_id ≡ self.entry.hand.chair.table_id }
-        ensures view { result.hand.chair.me.0 ≡ self.entry.hand.chair.me.0 }
-        ensures parcels { AreParcels self.entry.hand.chair.me.0.job.layout.spaces
-            (owners_of self.entry.hand.chair.me.0.job.owners self.entry.message)
-            (serial self.entry.hand.chair.me.0.job.ops self.entry.message)
-            (map (λ row. row.items) result.hand.places.items) }
+        ensures table { result.table ≡ self.entry.table }
+        ensures view { result.view ≡ self.entry.view }
+        ensures parcels { HoldsAfter result }
     {
         let Grant { hand, message, job } = self;
-        let job = known(job);
         let Hand {
             chair,
             seen,
@@ -167,14 +155,4 @@ impl<'a> Grant<'a> {
         };
         Finished { hand, message, job }
     }
-}
-
-/// The job.
-fn known(job: &Job) -> &Job
-    ensures same { result.now ≡ job.now }
-    ensures job { IsJob result.now }
-{
-    // Its contract tells `IsJob`.
-    let _ = job.len();
-    job
 }

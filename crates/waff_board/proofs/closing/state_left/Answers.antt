@@ -11,7 +11,7 @@ pub returns-in-Ok-clause-cells : goal.returns-in-Ok-clause-cells
 returns-in-Ok-clause-cells c =
     let job = c.args.job.now in
     let state = c.in-Ok.state in
-    everywhere job c.len.ensures.job state (length job.ops)
+    everywhere job c.requires.job state (length job.ops)
     (subst (λ (h : Hierarchy). HasSizes state (sizes_of h.spaces)) c.layout.ensures c.in-Ok.ensures.sizes)
     (λ cell is_cell.
     c.in-Ok.ensures.cells cell (subst (λ (h : Hierarchy). IsCell h.spaces cell) (sym c.layout.ensures) is_cell)

@@ -5,6 +5,7 @@ use Rattle.waff_cells.specs.Parcel.{AreParcels}
 use Rattle.waff_core.specs.Job.{JobValue, owners_of}
 use Rattle.waff_board.specs.Plays.{finished_view}
 use Rattle.waff_board.specs.Seats.{has_seen}
+use Rattle.waff_board.specs.Tokens.{BoardValue, Token}
 use Rattle.waff_board.specs.declared.view.View.{View}
 use Rattle.waff_board.proofs.Finishes.{finishes_at}
 use Rattle.waff_board.proofs.Carrying.{parcels_from}
@@ -13,21 +14,24 @@ use Rattle.waff_board.proofs.board.Board.finish.Goals as goal
 
 pub store-requires : goal.store-requires
 store-requires c =
-    let words = c.args.self.now.words in
-    let finished = c.args.finished in
+    let table = c.self.inside.table.shared in
+    let words = c.self.inside.words in
+    let finished = c.finished.inside in
     let v = finished.hand.chair.me.0 in
     let W = c.put_in.new.chair.me.0 in
     let m = finished.message in
     let view : W ≡ v = c.put_in.ensures.view in
-    let ops : length v.job.ops ≡ length c.args.self.now.setup.job.ops = ap (λ (j : JobValue). length j.ops) c.requires.1 in
+    let job : v.job ≡ c.self.inside.setup.job
+    = ap (λ (t : Token). t.view.job) c.finished.view_is ∙ c.requires.1 ∙ sym (ap (λ (b : BoardValue). b.job) c.self.view_is) in
+    let ops : length v.job.ops ≡ length c.self.inside.setup.job.ops = ap (λ (j : JobValue). length j.ops) job in
     let to = finished.to in
     let same : c.owners.result.now ≡ owners_of W.job.owners m
-    = c.owners.ensures.owners ∙ ap (λ (j : JobValue). owners_of j.owners m) (c.job.ensures.same ∙ sym c.requires.1 ∙ sym (ap (λ (u : View). u.job) view)) in
+    = c.owners.ensures.owners ∙ ap (λ (j : JobValue). owners_of j.owners m) (sym job ∙ sym (ap (λ (u : View). u.job) view)) in
     let rows : AreParcels v.job.layout.spaces (owners_of v.job.owners m) (serial v.job.ops m) (map (λ (slot : ℕ × Vec ℕ Global). slot.1.items) c.put_in.new.chair.me.1)
     = subst (λ rows. AreParcels v.job.layout.spaces (owners_of v.job.owners m) (serial v.job.ops m) rows) (sym c.put_in.ensures.values) finished.after in (
-      c.put_in.ensures.table ∙ c.requires.0,
+      c.put_in.ensures.table ∙ ap (λ (t : Token). t.table) c.finished.view_is ∙ c.requires.0 ∙ sym (ap (λ (b : BoardValue). b.table) c.self.view_is),
       omega (arith, words, ops, to),
-      finishes_at (λ (parcel : Vec ℕ Global). parcel.items) c.args.self.now.table.shared.key c.args.self.now.table.shared.table_id.slots
+      finishes_at (λ (parcel : Vec ℕ Global). parcel.items) table.key table.table_id.slots
           c.put_in.new.chair.id m W c.put_in.new.chair.me.1 (ap (λ (u : View). u.phase) view ∙ finished.running)
           (parcels_from (λ (parcel : Vec ℕ Global). parcel.items) W.job.layout.spaces (serial W.job.ops m) (owners_of W.job.owners m) c.put_in.new.chair.me.1
           (c.put_in.ensures.held ∙ same)
@@ -37,7 +41,7 @@ store-requires c =
 
 pub invariant_of-hand : goal.invariant_of-hand
 invariant_of-hand c =
-    let finished = c.args.finished in
+    let finished = c.finished.inside in
     let v = finished.hand.chair.me.0 in
     let m = finished.message in
     let X = c.store.new.seat.me.0 in
@@ -57,3 +61,17 @@ invariant_of-hand c =
           ∙ ap (λ (u : View). has_seen u n) (sym view);
       room = omega (arith, room, kept);
     }
+
+pub put_in-requires-clause-held : goal.put_in-requires-clause-held
+put_in-requires-clause-held c =
+    let v = c.finished.inside.hand.chair.me.0 in
+    let m = c.finished.inside.message in
+    let job : v.job ≡ c.self.inside.setup.job
+    = ap (λ (t : Token). t.view.job) c.finished.view_is ∙ c.requires.1 ∙ sym (ap (λ (b : BoardValue). b.job) c.self.view_is) in
+    c.finished.inside.taken ∙ ap (λ (j : JobValue). owners_of j.owners m) job ∙ sym c.owners.ensures.owners
+
+pub returns-clause-view : goal.returns-clause-view
+returns-clause-view c =
+    ap (λ (me : Me (Vec ℕ Global) View). me.0) c.store.ensures.2
+    ∙ ap (λ (u : View). finished_view u c.finished.inside.message) c.put_in.ensures.view
+    ∙ ap (λ (t : Token). finished_view t.view t.message) c.finished.view_is

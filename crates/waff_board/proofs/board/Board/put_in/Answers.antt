@@ -1,6 +1,7 @@
-use Rattle.std.proofs.Common.{◌≡◌, ℕ, ◌+◌, ◌<◌, ◌≤◌, List, [], ◌∷◌, Vec, Global, map, length, get_or, drop, length-set, arith, ap, ◌∙◌}
+use Rattle.std.proofs.Common.{◌≡◌, ℕ, ◌+◌, ◌<◌, ◌≤◌, List, [], ◌∷◌, Vec, Global, map, length, get_or, drop, length-set, arith, sym, ap, ◌∙◌}
 use Rattle.std.proofs.lemmas.List.{map-set, drop-set-lt, length-map}
 use Rattle.atomic_table.specs.Table.{Me, turned, rest}
+use Rattle.waff_board.specs.Tokens.{BoardValue}
 use Rattle.waff_board.specs.declared.view.View.{View}
 use Rattle.waff_board.proofs.Carrying.{puts_next, putting_next, row_there, same_there, same_after, put_all}
 use Rattle.waff_board.proofs.board.Board.put_in.Goals as goal
@@ -9,7 +10,7 @@ pub exchange-requires : goal.exchange-requires
 exchange-requires c =
     let inv = c.loop-k.invariant in
     let was = c.args.chair.now.me in (
-      inv.0 ∙ c.requires.table,
+      inv.0 ∙ c.requires.table ∙ sym (ap (λ (b : BoardValue). b.table) c.self.view_is),
       puts_next (λ (parcel : Vec ℕ Global). parcel.items) was.0 c.args.owners.now (map (λ (row : Vec ℕ Global). row.items) c.args.places.now.items)
           c.loop-k.k c.loop-k.chair.me c.loop-k-test.true inv.1,
     )

@@ -2,6 +2,7 @@ use Rattle.std.proofs.Common.{◌≡◌, ℕ, ◌+◌, List, [], ◌∷◌, ◌+
 use mathlib.Core.List.{map-append}
 use Rattle.std.proofs.lemmas.List.{length_push}
 use Rattle.atomic_table.specs.Table.{Me, turned, rest}
+use Rattle.waff_board.specs.Tokens.{BoardValue}
 use Rattle.waff_board.specs.declared.view.View.{View}
 use Rattle.waff_board.proofs.Carrying.{IsTaking, takes_next, taking_next}
 use Rattle.waff_board.proofs.board.Board.take_out.Goals as goal
@@ -10,7 +11,7 @@ pub exchange-parcel-requires : goal.exchange-parcel-requires
 exchange-parcel-requires c =
     let inv = c.loop-a.invariant in
     let was = c.args.chair.now.me in (
-      inv.0 ∙ c.requires.table,
+      inv.0 ∙ c.requires.table ∙ sym (ap (λ (b : BoardValue). b.table) c.self.view_is),
       takes_next (λ (parcel : Vec ℕ Global). parcel.items) was.0 c.args.owners.now (map (λ (slot : ℕ × Vec ℕ Global). slot.1.items) was.1)
           c.loop-a.a-index c.loop-a.chair.me c.loop-a-test.true (map (λ (row : Vec ℕ Global). row.items) c.loop-a.places.items) inv.1,
     )
