@@ -32,7 +32,7 @@ cells_of_some (op ∷ ops) some =
     omega (arith, length-append (cells_of_op op) (cells_of ops))
 
 -- the size of a space, from the list of the sizes
-size_is : (spaces : List Space) (s : ℕ) → get_or (sizes_of spaces) s 0 ≡ size_at spaces s
+pub size_is : (spaces : List Space) (s : ℕ) → get_or (sizes_of spaces) s 0 ≡ size_at spaces s
 size_is spaces s =
     sym (unwrap_or-slice_get (sizes_of spaces) s 0) ∙ ap (λ o. unwrap_or o 0) (slice_get-map (λ (space : Space). space.size) spaces s)
 

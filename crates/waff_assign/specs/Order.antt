@@ -19,13 +19,17 @@ pub record IsOrdered (tree : List Node) (assigned : List ℕ) (i j : ℕ) : Type
   pub to : j ≤ length assigned
   pub excludes : Excludes tree (affinity_of assigned i) (affinity_of assigned j)
 
+-- a relation of messages, by number
+abbrev pub Relation : Type 1
+Relation = ℕ → ℕ → Type 0
+
 -- from i to j by this many pairs and one more
-abbrev pub PathBy : (ℕ → ℕ → Type 0) → ℕ → ℕ → ℕ → Type 0
+abbrev pub PathBy : Relation → ℕ → ℕ → ℕ → Type 0
 PathBy before zero i j = before i j
 PathBy before (suc n) i j = (m : ℕ) × before i m × PathBy before n m j
 
 -- a path pair: one in the transitive closure of the pairs
-abbrev pub Path : (ℕ → ℕ → Type 0) → ℕ → ℕ → Type 0
+abbrev pub Path : Relation → Relation
 Path before i j = (n : ℕ) × PathBy before n i j
 
 -- one hierarchy refines another on a trace when each ordered pair under the one is an ordered pair

@@ -10,7 +10,8 @@ use Rattle.waff_model.specs.Messages.{sizes_of}
 use Rattle.waff_model.specs.declared.cell.Cell.{Cell}
 use Rattle.waff_cells.specs.Grid.{cells_in}
 use Rattle.waff_cells.specs.Held.{rows_of, Address, number_at}
-use Rattle.waff_cells.specs.Gathered.{LieIn, lies_at, cells_of_parcels}
+use Rattle.waff_cells.specs.Gathered.{LieIn, cells_of_parcels}
+use Rattle.waff_cells.specs.Parcel.{lies_at}
 use Rattle.waff_cells.proofs.Writes.{IsInside, inside, row_of, count_of}
 use Rattle.waff_cells.proofs.Zeros.{size_is}
 

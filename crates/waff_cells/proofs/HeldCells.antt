@@ -1,12 +1,8 @@
 -- Cells that lie in rows, each at an address of its own.
-use Rattle.std.specs.Prelude.{◌≡◌, ℕ, List, All}
+use Rattle.std.specs.Prelude.{◌≡◌, ℕ, List}
 use Rattle.waff_model.specs.declared.cell.Cell.{Cell}
 use Rattle.waff_cells.specs.Meaning.{Cells}
-use Rattle.waff_cells.specs.Held.{Address, number_at, IsWithin}
-
--- the addresses of these cells do
-abbrev pub AreWithin : List ℕ → (Cell → Address) → List Cell → Type 0
-AreWithin sizes at cells = All (λ cell. IsWithin sizes (at cell)) cells
+use Rattle.waff_cells.specs.Held.{Address, number_at}
 
 -- no two of the cells that there are share an address
 abbrev pub AreApart : (Cell → Type 0) → (Cell → Address) → Type 0

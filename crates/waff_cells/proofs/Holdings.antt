@@ -1,130 +1,65 @@
--- Parcels as rows that hold cells, each in the row of its owner's slot, at its place.
-use Rattle.std.proofs.Common.{◌≡◌, ℕ, ◌<◌, ◌≤◌, Bool, true, false, List, [], length, map, get_or, Contains, Some, None, slice_get, unwrap_or, nat_lt, eqb, refl, sym, ◌∙◌, ap, subst, arith, ⊎_elim}
-use Rattle.std.specs.List.{position_or_len}
-use Rattle.std.specs.List.Sorted.{IsStrictlyIncreasing}
-use Rattle.std.proofs.lemmas.Bool.{cases_lt, cases_order, eqb-true, eq-eqb, lt-ltb, cond-true, false≢true}
-use Rattle.std.proofs.lemmas.List.{ext_get_or, get_or-map, length-map}
-use Rattle.std.proofs.lemmas.List.Kept.{AllPairs-from_increasing}
-use Rattle.std.proofs.lemmas.List.Sums.{passes_at_first, fails_before_first}
-use Rattle.std.proofs.lemmas.Option.{slice_get-get_or, get_or_from_slice_get, slice_get_past}
+-- Parcels as rows that hold cells, each in the row of its owner, at its place.
+use Rattle.std.proofs.Common.{◌≡◌, ℕ, ◌<◌, ◌≤◌, List, [], length, map, get_or, Contains, Some, refl, sym, ◌∙◌, ap, subst, arith, ⊎_elim}
+use Rattle.std.proofs.lemmas.Bool.{cases_lt}
+use Rattle.std.proofs.lemmas.List.{ext_get_or, get_or-map, get_or_past}
+use Rattle.std.proofs.lemmas.Option.{slice_get-get_or, get_or_from_slice_get}
 use Rattle.waff_model.specs.declared.cell.Cell.{Cell}
 use Rattle.waff_model.specs.Layout.{Space, owner_of}
 use Rattle.waff_model.specs.Parcel.{parcel_size, place_of}
 use Rattle.waff_model.proofs.ParcelLemmas.{place_within, place_filled, same_place}
 use Rattle.waff_cells.specs.Meaning.{Cells}
-use Rattle.waff_cells.specs.Held.{Address, IsWithin}
+use Rattle.waff_cells.specs.Held.{IsWithin}
 use Rattle.waff_cells.proofs.HeldCells.{AreApart, Hold}
 use Rattle.waff_cells.specs.Laws.{ParcelIsOne}
-use Rattle.waff_cells.specs.Parcel.{AreParcels, HaveParcelSizes, IsOwned, slot_of, address_in}
+use Rattle.waff_cells.specs.Parcel.{AreParcels, HaveParcelSizes, IsOwned, lies_at}
 
--- the test of an affinity
-abbrev is_affinity : ℕ → ℕ → Bool
-is_affinity a owner = eqb owner a
-
--- an affinity of the list stands at its slot
-first_within : (owners : List ℕ) (a : ℕ) → Contains owners a → position_or_len (is_affinity a) owners < length owners
-first_within owners a has =
-    let first = position_or_len (is_affinity a) owners in
-    ⊎_elim {C = first < length owners}
-    (λ (short : first < length owners). short)
-    (λ (past : length owners ≤ first).
-    let fails : eqb (get_or owners has.0 a) a ≡ false
-    = fails_before_first (is_affinity a) owners has.0 a (omega (arith, has.1)) in
-    let passes : eqb (get_or owners has.0 a) a ≡ true = eq-eqb (get_or owners has.0 a) a has.2 in
-    absurd (false≢true (sym fails ∙ passes)))
-    (cases_lt first (length owners))
-
-slot_is_first : (owners : List ℕ) (a : ℕ) → Contains owners a → slot_of owners a ≡ position_or_len (is_affinity a) owners
-slot_is_first owners a has =
-    let first = position_or_len (is_affinity a) owners in
-    ap (λ o. unwrap_or o 0) (cond-true (nat_lt first (length owners)) (Some first) None (lt-ltb first (length owners) (first_within owners a has)))
-
-pub slot_within : (owners : List ℕ) (a : ℕ) → Contains owners a → slot_of owners a < length owners
-slot_within owners a has = subst (λ i. i < length owners) (sym (slot_is_first owners a has)) (first_within owners a has)
-
-pub slot_is : (owners : List ℕ) (a d : ℕ) → Contains owners a → get_or owners (slot_of owners a) d ≡ a
-slot_is owners a d has =
-    ap (λ i. get_or owners i d) (slot_is_first owners a has)
-    ∙ eqb-true (get_or owners (position_or_len (is_affinity a) owners) d) a
-    (passes_at_first (is_affinity a) owners d (first_within owners a has))
-
--- in a list that rises, each affinity stands at one place
-one_place : (owners : List ℕ) (i j : ℕ) → IsStrictlyIncreasing owners → i < length owners → j < length owners
-    → get_or owners i 0 ≡ get_or owners j 0 → i ≡ j
-one_place owners i j rising short within same =
-    ⊎_elim {C = i ≡ j}
-    (λ (is : i ≡ j). is)
-    (λ other. ⊎_elim {C = i ≡ j}
-    (λ (before : i < j). absurd (omega (arith, AllPairs-from_increasing owners rising i j 0 before within, same)))
-    (λ (after : j < i). absurd (omega (arith, AllPairs-from_increasing owners rising j i 0 after short, same)))
-    other)
-    (cases_order i j)
+-- a column of a row is one of the sizes of rows
+in_row : (rows : List (List ℕ)) (a place : ℕ) → place < length (get_or rows a []) → IsWithin (map length rows) (a, place)
+in_row rows a place inside =
+    ⊎_elim {C = IsWithin (map length rows) (a, place)}
+    (λ (short : a < length rows). subst (λ n. place < n) (sym (get_or-map length rows a [] 0 short)) inside)
+    (λ (past : length rows ≤ a). absurd (omega (arith, inside, ap length (get_or_past rows a [] past))))
+    (cases_lt a (length rows))
 
 module _ (spaces : List Space) (owners : List ℕ) where
   -- no two cells share an address
-  pub parcels_apart : AreApart (IsOwned spaces owners) (address_in spaces owners)
+  pub parcels_apart : AreApart (IsOwned spaces owners) (lies_at spaces)
   parcels_apart one other has_one has_other same =
-      let slots : slot_of owners (owner_of spaces one) ≡ slot_of owners (owner_of spaces other) = ap (λ (a : Address). a.0) same in
-      let places : place_of spaces one ≡ place_of spaces other = ap (λ (a : Address). a.1) same in
-      let same_owner : owner_of spaces one ≡ owner_of spaces other
-      = sym (slot_is owners (owner_of spaces one) 0 has_one.owned) ∙ ap (λ i. get_or owners i 0) slots
-      ∙ slot_is owners (owner_of spaces other) 0 has_other.owned in
-      same_place spaces one other has_one.there has_other.there same_owner places
+      same_place spaces one other has_one.there has_other.there (ap (λ at. at.0) same) (ap (λ at. at.1) same)
 
   -- the address of a cell lies in rows of the parcels' sizes
-  pub parcel_address : (cell : Cell) → IsOwned spaces owners cell
-      → IsWithin (map (parcel_size spaces) owners) (address_in spaces owners cell)
-  parcel_address cell has =
-      let a = owner_of spaces cell in
-      let size : get_or (map (parcel_size spaces) owners) (slot_of owners a) 0 ≡ parcel_size spaces a
-      = get_or-map (parcel_size spaces) owners (slot_of owners a) 0 0 (slot_within owners a has.owned)
-      ∙ ap (parcel_size spaces) (slot_is owners a 0 has.owned) in
-      subst (λ n. place_of spaces cell < n) (sym size) (place_within spaces cell has.there)
+  pub parcel_address : (rows : List (List ℕ)) → HaveParcelSizes spaces owners rows → (cell : Cell) → IsOwned spaces owners cell
+      → IsWithin (map length rows) (lies_at spaces cell)
+  parcel_address rows sized cell has =
+      in_row rows (owner_of spaces cell) (place_of spaces cell)
+      (omega (arith, place_within spaces cell has.there, sized (owner_of spaces cell) has.owned))
+
+  -- parcels have their sizes
+  pub parcel_sizes : (cells : Cells) (rows : List (List ℕ)) → AreParcels spaces owners cells rows → HaveParcelSizes spaces owners rows
+  parcel_sizes cells rows parcels a owned = (parcels a owned).count
 
   -- parcels hold their cells
   pub hold_parcels : (cells : Cells) (rows : List (List ℕ)) → AreParcels spaces owners cells rows
-      → Hold (IsOwned spaces owners) (address_in spaces owners) rows cells
+      → Hold (IsOwned spaces owners) (lies_at spaces) rows cells
   hold_parcels cells rows parcels cell has =
       let a = owner_of spaces cell in
-      let slot = slot_of owners a in
-      let there : slice_get owners slot ≡ Some a
-      = slice_get-get_or owners slot 0 (slot_within owners a has.owned) ∙ ap Some (slot_is owners a 0 has.owned) in
-      get_or_from_slice_get (get_or rows slot []) (place_of spaces cell) (cells cell) 0
-      ((parcels.each slot a there).each cell has.there refl)
+      get_or_from_slice_get (get_or rows a []) (place_of spaces cell) (cells cell) 0
+      ((parcels a has.owned).each cell has.there refl)
 
   -- rows of the parcels' sizes that hold the cells are the parcels
-  pub part_parcels : (cells : Cells) (rows : List (List ℕ)) → IsStrictlyIncreasing owners → HaveParcelSizes spaces owners rows
-      → Hold (IsOwned spaces owners) (address_in spaces owners) rows cells → AreParcels spaces owners cells rows
-  part_parcels cells rows rising sized hold =
-      let count : length rows ≡ length owners
-      = sym (length-map rows length) ∙ ap length sized ∙ length-map owners (parcel_size spaces) in
-      record {
-        count = count;
-        each = λ slot a there.
-            let short : slot < length owners
-            = ⊎_elim {C = slot < length owners} (λ (h : slot < length owners). h)
-            (λ (past : length owners ≤ slot).
-            let none = slice_get_past owners slot past in absurd (cc))
-            (cases_lt slot (length owners)) in
-            let is : get_or owners slot 0 ≡ a = get_or_from_slice_get owners slot a 0 there in
-            let size : length (get_or rows slot []) ≡ parcel_size spaces a
-            = sym (get_or-map length rows slot [] 0 (omega (arith, count))) ∙ ap (λ xs. get_or xs slot 0) sized
-            ∙ get_or-map (parcel_size spaces) owners slot 0 0 short ∙ ap (parcel_size spaces) is in
-            record {
-              count = size;
-              each = λ cell is_cell owned.
-                  let has : Contains owners (owner_of spaces cell)
-                  = (slot, short, get_or_from_slice_get owners slot a (owner_of spaces cell) there ∙ sym owned) in
-                  let same : slot_of owners (owner_of spaces cell) ≡ slot
-                  = one_place owners _ slot rising (slot_within owners (owner_of spaces cell) has) short
-                  (slot_is owners (owner_of spaces cell) 0 has ∙ owned ∙ sym is) in
-                  let inside : place_of spaces cell < length (get_or rows slot [])
-                  = omega (arith, place_within spaces cell is_cell, size, ap (parcel_size spaces) owned) in
-                  slice_get-get_or (get_or rows slot []) (place_of spaces cell) 0 inside
-                  ∙ ap (λ i. Some (get_or (get_or rows i []) (place_of spaces cell) 0)) (sym same)
-                  ∙ ap Some (hold cell (record { there = is_cell; owned = has }));
-            };
-      }
+  pub part_parcels : (cells : Cells) (rows : List (List ℕ)) → HaveParcelSizes spaces owners rows
+      → Hold (IsOwned spaces owners) (lies_at spaces) rows cells → AreParcels spaces owners cells rows
+  part_parcels cells rows sized hold a owned = record {
+    count = sized a owned;
+    each = λ cell is_cell is_owner.
+        let has : Contains owners (owner_of spaces cell) = subst (Contains owners) (sym is_owner) owned in
+        let row : get_or rows (owner_of spaces cell) [] ≡ get_or rows a [] = ap (λ i. get_or rows i []) is_owner in
+        let inside : place_of spaces cell < length (get_or rows a [])
+        = omega (arith, place_within spaces cell is_cell, sized a owned, ap (parcel_size spaces) is_owner) in
+        slice_get-get_or (get_or rows a []) (place_of spaces cell) 0 inside
+        ∙ ap (λ xs. Some (get_or xs (place_of spaces cell) 0)) (sym row)
+        ∙ ap Some (hold cell (record { there = is_cell; owned = has }));
+  }
 
 -- numbers that are the parcel of one map of cells are the same
 pub parcels_are_one : (spaces : List Space) (a : ℕ) (cells : Cells) → ParcelIsOne spaces a cells

@@ -1,6 +1,7 @@
 -- The meaning of operations, one operation after another.
-use Rattle.std.proofs.Common.{◌≡◌, ℕ, zero, suc, ◌+◌, ◌<◌, List, [], ◌∷◌, ◌++◌, length, All, get_or, take, refl, ◌∙◌, ap, subst, arith, length-append}
+use Rattle.std.proofs.Common.{◌≡◌, ℕ, zero, suc, ◌+◌, ◌<◌, List, [], ◌∷◌, ◌++◌, length, All, Some, slice_get, get_or, take, refl, ◌∙◌, ap, subst, arith, length-append}
 use Rattle.std.proofs.lemmas.List.{take_more, get_or_append_left, get_or-append-add}
+use Rattle.std.proofs.lemmas.Option.{slice_get_within, get_or_from_slice_get}
 use Rattle.waff_model.specs.Cells.{cells_of_op, cells_of}
 use Rattle.waff_model.specs.declared.cell.Cell.{Cell}
 use Rattle.waff_model.specs.declared.op.Op.{Op}
@@ -31,3 +32,7 @@ module _ (P : Cell → Type 0) where
   cells_at [] i d within all = absurd (omega arith)
   cells_at (op ∷ ops) zero d within all = all_left (cells_of_op op) (cells_of ops) all
   cells_at (op ∷ ops) (suc i) d within all = cells_at ops i d (omega arith) (all_right (cells_of_op op) (cells_of ops) all)
+
+  pub op_at : (ops : List Op) (i : ℕ) (op : Op) → slice_get ops i ≡ Some op → All P (cells_of ops) → All P (cells_of_op op)
+  op_at ops i op is all =
+      subst (λ op. All P (cells_of_op op)) (get_or_from_slice_get ops i op op is) (cells_at ops i op (slice_get_within ops i op is) all)

@@ -8,7 +8,7 @@ use Rattle.waff_assign.proofs.CellOrder.{cell_eq_same}
 use Rattle.waff_cells.specs.Meaning.{Cells, is_same, with_number}
 use Rattle.waff_cells.specs.Held.{rows_of, Address, number_at, IsWithin}
 use Rattle.waff_cells.proofs.HeldCells.{AreApart, Hold}
-use Rattle.waff_cells.specs.RowOps.{with_number_at}
+use Rattle.waff_cells.specs.RowEffects.{with_number_at}
 
 -- the address is one of a row and of a column in it
 pub record IsInside (rows : List (List ℕ)) (address : Address) : Type 0 where

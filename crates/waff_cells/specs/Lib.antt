@@ -3,9 +3,7 @@ pub mod Serial
 pub mod Grid
 pub mod Held
 pub mod Parcel
-pub mod RowOps
-pub mod ShortOps
+pub mod RowEffects
 pub mod Gathered
 pub mod Laws
 pub mod InOrder
-pub mod Named

@@ -1,18 +1,18 @@
 //! The state of all cells of a layout.
 
 ghost use Rattle.std.specs.Prelude.{◌≡◌, ◌<◌, ◌≤◌, ◌^◌, length, map, All, IfOk};
-ghost use Rattle.waff_model.specs.Cells.{cells_of, cells_of_op, LiesIn};
+ghost use Rattle.waff_model.specs.Cells.{cells_of, LiesIn};
 ghost use Rattle.waff_model.specs.Messages.{sizes_of};
 ghost use Rattle.waff_model.specs.declared.cell.Cell.{Cell};
-ghost use Rattle.waff_cells.specs.Meaning.{effect, meaning};
+ghost use Rattle.waff_cells.specs.Meaning.{meaning};
 ghost use Rattle.waff_cells.specs.Grid.{cells_in, HasSizes};
 ghost use Rattle.waff_cells.specs.Held.{rows_of};
 
-use crate::addresses::{Addresses, row_op};
+use crate::addresses::Addresses;
 use crate::rows;
 use std::alloc::{AllocError, Global};
 use std::marker::Model;
-use waff_model::{Cell, Layout, Message, Op, Ops};
+use waff_model::{Cell, Layout, Message, Ops};
 
 /// The number that each cell of a layout holds: a row for each space.
 #[derive(Drop)]
@@ -21,14 +21,11 @@ pub struct State {
 }
 
 impl Model for State {
-    ghost use Rattle.std.specs.Prelude.{ℕ, List, ◌≤◌, length, map};
-    ghost use Rattle.waff_model.specs.declared.limits.TheConstants.{MAX_SPACES};
+    ghost use Rattle.std.specs.Prelude.{ℕ, List, map};
 
     ghost Value = { List (List ℕ) };
 
     ghost view = { λ s. map (λ row. row.items) s.rows.items };
-
-    ghost invariant = { λ s. length s.rows.items ≤ MAX_SPACES };
 }
 
 impl State {
@@ -54,16 +51,6 @@ impl State {
         run(&mut self.rows, &message.ops);
     }
 
-    /// Runs the operation, whose cells are the state's.
-    pub fn apply_op(&mut self, op: Op)
-        requires { All (LiesIn (map length self.old)) (cells_of_op op) }
-        ensures sizes { HasSizes self.new (map length self.old) }
-        ensures cells { (cell : Cell)
-            → cells_in self.new cell ≡ effect op (cells_in self.old) cell }
-    {
-        run_op(&mut self.rows, op);
-    }
-
     /// The number that the cell, which is the state's, holds.
     pub fn get(&self, cell: Cell) -> u64
         requires { LiesIn (map length self.now) cell }
@@ -75,40 +62,25 @@ impl State {
 
 /// Runs the operations on the rows of a state.
 fn run(spaces: &mut [Vec<u64>], ops: &Ops)
-    requires few { length spaces.old ≤ 2 ^ 16 }
-    requires within { All (LiesIn (map length (rows_of spaces.old))) (cells_of ops.now) }
+    requires { All (LiesIn (map length (rows_of spaces.old))) (cells_of ops.now) }
     ensures sizes { HasSizes (rows_of spaces.new) (map length (rows_of spaces.old)) }
     ensures cells { (cell : Cell) → cells_in (rows_of spaces.new) cell
         ≡ meaning ops.now (cells_in (rows_of spaces.old)) cell }
 {
-    for at in 0..ops.len() {
-        run_op(spaces, ops.get(at));
-    }
-}
-
-/// Runs the operation on the rows of a state.
-#[inline(always)]
-fn run_op(spaces: &mut [Vec<u64>], op: Op)
-    requires few { length spaces.old ≤ 2 ^ 16 }
-    requires within { All (LiesIn (map length (rows_of spaces.old))) (cells_of_op op) }
-    ensures sizes { HasSizes (rows_of spaces.new) (map length (rows_of spaces.old)) }
-    ensures cells { (cell : Cell) → cells_in (rows_of spaces.new) cell
-        ≡ effect op (cells_in (rows_of spaces.old)) cell }
-{
-    rows::run_op(spaces, row_op(&InSpaces, op));
+    rows::run(spaces, &InSpaces, ops);
 }
 
 /// Where a state holds each cell: in the row of its space, at its index.
 struct InSpaces;
 
 impl Addresses for InSpaces {
-    ghost use Rattle.std.specs.Prelude.{◌<◌, ◌^◌};
+    ghost use Rattle.std.specs.Prelude.{⊤};
 
-    ghost has = { λ _ cell. cell.space < 2 ^ 16 };
+    ghost has = { λ _ _. ⊤ };
 
     ghost at = { λ _ cell. (cell.space, cell.index) };
 
-    fn address(&self, cell: Cell) -> (u16, u32) {
-        (cell.space as u16, cell.index)
+    fn address(&self, cell: Cell) -> (usize, usize) {
+        (cell.space as usize, cell.index as usize)
     }
 }

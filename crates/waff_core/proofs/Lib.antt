@@ -12,9 +12,8 @@ mod StatusLaws
 pub mod Listing
 mod Ordering
 mod Making
-mod Addressing
 mod Reading
+pub mod Owning
 mod Pace
 mod StatusLemmas
 mod Lending
-mod Naming

@@ -5,7 +5,5 @@ pub mod Refused
 pub mod Settled
 pub mod Laws
 pub mod Owners
-pub mod Addressed
 pub mod Orders
 pub mod Shown
-pub mod Named

@@ -4,7 +4,6 @@ use Rattle.std.specs.Prelude.{slice_index_or}
 use Rattle.waff_model.specs.Messages.{sizes_of}
 use Rattle.waff_order.specs.Needs.{needs_of}
 use Rattle.waff_cells.specs.Grid.{HasSizes, cells_in}
-use Rattle.waff_cells.specs.Named.{ArePlaces, places_in}
 use Rattle.waff_core.specs.Job.{JobValue, IsIn}
 use Rattle.waff_core.specs.Machine.{Core, IsClear, IsAway, phase_of}
 use Rattle.waff_core.specs.declared.phase.Phase.{Phase}
@@ -24,12 +23,10 @@ shown drawn phases done rows =
 abbrev pub core_in : Machine → Core
 core_in machine = shown machine.drawn machine.phases.items machine.done.items machine.state
 
--- the marks and the rows of a machine have the sizes of the job, and its places are those of the
--- job's cells
+-- the marks and the rows of a machine have the sizes of the job
 pub record Fits (job : JobValue) (machine : Machine) : Type 0 where
   pub marks : length machine.done.items ≡ length job.ops + 1
   pub rows : HasSizes machine.state (sizes_of job.layout.spaces)
-  pub places : ArePlaces job.layout.spaces (places_in machine.places)
 
 -- what the steps rest on: what actors hold or run are messages of the job, and a message whose
 -- needs are done is clear

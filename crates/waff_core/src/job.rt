@@ -1,31 +1,26 @@
 //! Jobs.
 
 ghost use Rattle.std.specs.Prelude.{◌≡◌, ◌↔◌, ◌<◌, ◌≤◌, length, All, IsTrue, IfOk, IfErr};
-ghost use Rattle.std.specs.Prelude.{map, slice_get};
-ghost use Rattle.waff_model.specs.Layout.{IsLayout};
+ghost use Rattle.std.specs.Prelude.{slice_get};
+ghost use Rattle.waff_model.specs.Cells.{cells_of};
+ghost use Rattle.waff_model.specs.Layout.{IsCell, IsLayout};
 ghost use Rattle.waff_model.specs.Messages.{IsTrace, sizes_of};
-ghost use Rattle.waff_model.specs.Parcel.{parcel_size};
 ghost use Rattle.waff_model.specs.declared.limits.TheConstants.{MAX_MESSAGES};
 ghost use Rattle.waff_assign.specs.Lowest.{IsAssignment};
 ghost use Rattle.waff_assign.specs.Order.{IsOrdered};
 ghost use Rattle.waff_order.specs.Needs.{AreNeeds, needs_of};
 ghost use Rattle.waff_cells.specs.Serial.{operations, ops_of};
-ghost use Rattle.waff_cells.specs.RowOps.{AreRowOps, IsOn};
-ghost use Rattle.waff_core.specs.Addressed.{AreAddressed};
 ghost use Rattle.waff_core.specs.Job.{IsJob, IsJobOf, IsOrder, owners_of};
 ghost use Rattle.waff_core.specs.Owners.{AreOwners};
 
-use crate::lists::{Lists, OpLists};
 use crate::order::is_order;
 use crate::owners::list_owners;
 use crate::refusal::JobError;
-use crate::row_ops::list_row_ops;
 use std::alloc::{AllocError, Global};
 use std::marker::Model;
 use waff_assign::{Assigned, is_ordered};
-use waff_cells::OpSlice;
-use waff_model::{Layout, Trace};
-use waff_order::Needs;
+use waff_model::{Layout, Message, Trace};
+use waff_order::{Lists, Needs};
 
 /// What is replayed: the messages of a trace under a layout, with their affinities, their needs and
 /// the owners of their footprints, in the order in which they are handed out. Messages are numbered
@@ -33,24 +28,22 @@ use waff_order::Needs;
 #[derive(Drop)]
 pub struct Job {
     layout: Layout,
+    trace: Trace,
     assigned: Assigned,
     needs: Needs,
     owners: Lists<u16>,
-    row_ops: OpLists,
     order: Vec<u32>,
 }
 
 impl Model for Job {
-    ghost use Rattle.waff_cells.specs.Named.{cell_at};
-    ghost use Rattle.waff_core.specs.Addressed.{AreAddressed};
+    ghost use Rattle.waff_cells.specs.Serial.{operations};
     ghost use Rattle.waff_core.specs.Job.{JobValue, IsJob};
-    ghost use Rattle.waff_core.specs.Named.{ops_named};
 
     ghost Value = { JobValue };
 
     ghost view = { λ j. record {
       layout = j.layout;
-      ops = ops_named (cell_at j.layout.spaces) j.owners j.row_ops;
+      ops = operations j.trace.messages;
       assigned = j.assigned;
       needs = j.needs;
       owners = j.owners;
@@ -59,13 +52,12 @@ impl Model for Job {
 
     ghost invariant = { λ j. IsJob (record {
       layout = j.layout;
-      ops = ops_named (cell_at j.layout.spaces) j.owners j.row_ops;
+      ops = operations j.trace.messages;
       assigned = j.assigned;
       needs = j.needs;
       owners = j.owners;
       order = j.order.items;
-    }) × AreAddressed j.layout.spaces
-        (ops_named (cell_at j.layout.spaces) j.owners j.row_ops) j.owners j.row_ops };
+    }) };
 }
 
 impl Job {
@@ -88,19 +80,17 @@ impl Job {
         ensures job { IfOk result IsJob }
         ensures refused { IfErr result (λ e. e ≡ JobError.Order → ¬ IsOrder needs order.now) }
     {
-        let lists = lists_of(alloc, &layout, &trace, &needs, order);
-        drop(trace);
-        match lists {
-            Ok((owners, row_ops, order)) => Ok(Job {
+        match lists_of(alloc, &layout, &trace, &needs, order) {
+            Ok((owners, order)) => Ok(Job {
                 layout,
+                trace,
                 assigned,
                 needs,
                 owners,
-                row_ops,
                 order,
             }),
             Err(e) => {
-                drop((layout, assigned, needs));
+                drop((layout, trace, assigned, needs));
                 Err(e)
             }
         }
@@ -115,8 +105,10 @@ impl Job {
         self.assigned.len()
     }
 
+    /// The layout under which the messages run.
     pub fn layout(&self) -> &Layout
-        ensures { result.now ≡ self.now.layout }
+        ensures layout { result.now ≡ self.now.layout }
+        ensures job { IsJob self.now }
     {
         &self.layout
     }
@@ -142,16 +134,14 @@ impl Job {
         self.owners.of(n)
     }
 
-    /// The operations of message `n` on the parcels of its footprint's owners.
-    pub fn row_ops(&self, n: u32) -> OpSlice<'_>
+    /// Message `n`.
+    pub fn message(&self, n: u32) -> &Message
         requires from { 1 ≤ n }
         requires to { n ≤ length self.now.ops }
-        ensures row_ops { AreRowOps self.now.layout.spaces
-            (owners_of self.now.owners n) (ops_of self.now.ops n) result }
-        ensures within { All (IsOn (map (parcel_size self.now.layout.spaces)
-            (owners_of self.now.owners n))) result }
+        ensures ops { result.now.ops ≡ ops_of self.now.ops n }
+        ensures cells { All (IsCell self.now.layout.spaces) (cells_of result.now.ops) }
     {
-        self.row_ops.of(n)
+        self.trace.message(n)
     }
 
     /// The message at this place of the order, from 0.
@@ -173,23 +163,20 @@ impl Job {
     }
 }
 
-/// The lists of a job: the owners of the messages, the operations on their parcels, and the order,
-/// if it is one.
+/// The lists of a job: the owners of the messages, and the order, if it is one.
 fn lists_of(
     alloc: Global,
     layout: &Layout,
     trace: &Trace,
     needs: &Needs,
     order: &[u32],
-) -> Result<(Lists<u16>, OpLists, Vec<u32>), JobError>
+) -> Result<(Lists<u16>, Vec<u32>), JobError>
     requires fits { trace.now.sizes ≡ sizes_of layout.now.spaces }
     ensures layout { IfOk result (λ lists. IsLayout layout.now) }
     ensures trace { IfOk result (λ lists. IsTrace trace.now) }
     ensures owners { IfOk result
         (λ lists. AreOwners layout.now.spaces (operations trace.now.messages) lists.0) }
-    ensures row_ops { IfOk result (λ lists. AreAddressed layout.now.spaces
-        (operations trace.now.messages) lists.0 lists.1) }
-    ensures order { IfOk result (λ lists. lists.2.items ≡ order.now) }
+    ensures order { IfOk result (λ lists. lists.1.items ≡ order.now) }
     ensures is_order { IfOk result (λ lists. IsOrder needs.now order.now) }
     ensures refused { IfErr result (λ e. e ≡ JobError.Order → ¬ IsOrder needs.now order.now) }
 {
@@ -204,26 +191,23 @@ fn lists_of(
     }
 }
 
-/// The owners of the messages, the operations on their parcels, and the order.
+/// The owners of the messages, and the order.
 fn copy_lists(
     alloc: Global,
     layout: &Layout,
     trace: &Trace,
     order: &[u32],
-) -> Result<(Lists<u16>, OpLists, Vec<u32>), AllocError>
+) -> Result<(Lists<u16>, Vec<u32>), AllocError>
     requires fits { trace.now.sizes ≡ sizes_of layout.now.spaces }
     ensures layout { IfOk result (λ lists. IsLayout layout.now) }
     ensures trace { IfOk result (λ lists. IsTrace trace.now) }
     ensures owners { IfOk result
         (λ lists. AreOwners layout.now.spaces (operations trace.now.messages) lists.0) }
-    ensures row_ops { IfOk result (λ lists. AreAddressed layout.now.spaces
-        (operations trace.now.messages) lists.0 lists.1) }
-    ensures order { IfOk result (λ lists. lists.2.items ≡ order.now) }
+    ensures order { IfOk result (λ lists. lists.1.items ≡ order.now) }
 {
     // Its contract tells `IsLayout`.
     let _ = layout.space_count();
     let owners = list_owners(alloc, layout, trace)?;
-    let row_ops = list_row_ops(alloc, layout, trace, &owners)?;
     let order = Vec::from_slice(alloc, order)?;
-    Ok((owners, row_ops, order))
+    Ok((owners, order))
 }

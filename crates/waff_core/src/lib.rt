@@ -4,8 +4,8 @@
 //! actor draws the next message, begins it when all earlier messages that exclude it are done, and
 //! ends it. The machine is pure: no thread is in it. What the crates above rest on: whatever list
 //! of events it accepts, each cell has the value that the order of arrival gives it.
-//! - `job`, `order`, `refusal`: jobs, and why they are refused; `operations`, `lists`, `owners`,
-//!   `row_ops`: what a step reads, kept flat.
+//! - `job`, `order`, `refusal`: jobs, and why they are refused; `owners`, over `operations`: the owners
+//!   of footprints.
 //! - `event`, `phase`, `status`, `homes`: the parts of a state; `core_state`: the whole.
 //! - `steps`, `run`: one event, and lists of them.
 //! - `laws`: what holds of the machine, whoever runs it.
@@ -19,13 +19,11 @@ mod homes;
 mod job;
 pub mod laws;
 pub mod limits;
-mod lists;
 mod operations;
 mod order;
 mod owners;
 mod phase;
 mod refusal;
-mod row_ops;
 mod run;
 mod status;
 mod steps;

@@ -7,11 +7,10 @@ ghost use Rattle.waff_model.specs.Messages.{IsTrace, sizes_of};
 ghost use Rattle.waff_cells.specs.Serial.{operations};
 ghost use Rattle.waff_core.specs.Owners.{AreOwners, owners_in};
 
-use crate::lists::Lists;
 use crate::operations::ops_of;
 use std::alloc::{AllocError, Global};
 use waff_model::{Layout, Op, Ops, Trace};
-use waff_order::room_for_ends;
+use waff_order::Lists;
 
 /// The owners of the footprint of each message, each once, in rising order.
 pub(crate) fn list_owners(
@@ -25,7 +24,7 @@ pub(crate) fn list_owners(
         (AreOwners layout.now.spaces (operations trace.now.messages)) }
 {
     let mut all = Vec::new(alloc);
-    let mut ends = room_for_ends(alloc, trace.len())?;
+    let mut ends = Vec::with_capacity(alloc, trace.len() as usize)?;
     let mut owners: Vec<u16> = Vec::new(alloc);
     for n in 1..trace.len() + 1 {
         let named = ops_of(trace, n);

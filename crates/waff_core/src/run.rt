@@ -60,7 +60,7 @@ fn run(machine: &mut Machine, job: &Job, seats: u32, events: &[Event]) -> Result
     ensures refused { IfErr result (FailsFirst job.now seats events.now) }
 {
     for at in 0..events.len() {
-        match machine.step(job, at as u32 + 1, events[at]) {
+        match machine.step(job, at as u64 + 1, events[at]) {
             Ok(()) => {}
             Err(e) => return Err(e),
         }

@@ -6,7 +6,6 @@ ghost use Rattle.waff_model.specs.Messages.{sizes_of};
 ghost use Rattle.waff_model.specs.declared.limits.TheConstants.{MAX_MESSAGES};
 ghost use Rattle.waff_cells.specs.Grid.{HasSizes, cells_in};
 ghost use Rattle.waff_cells.specs.Meaning.{meaning};
-ghost use Rattle.waff_cells.specs.Named.{ArePlaces, places_in};
 ghost use Rattle.waff_cells.specs.Serial.{ops_of};
 ghost use Rattle.waff_core.specs.Job.{IsIn, IsJob};
 ghost use Rattle.waff_core.specs.Machine.{IsClear, Steps, opening, phase_drawn, phase_of};
@@ -15,17 +14,16 @@ ghost use Rattle.waff_core.specs.Shown.{Fits, IsSteady, core_in};
 
 use crate::{CoreError, Event, Job, Phase};
 use std::alloc::{AllocError, Global};
-use waff_cells::{Places, State};
+use waff_cells::State;
 
 /// The machine: how many draws there were, the phases of the actors, which messages are done, by
-/// number, the cells, and where they stand in parcels.
+/// number, and the cells.
 #[derive(Drop)]
 pub(crate) struct Machine {
     pub drawn: u32,
     pub phases: Vec<Phase>,
     pub done: Vec<bool>,
     pub state: State,
-    pub places: Places,
 }
 
 impl Machine {
@@ -42,12 +40,11 @@ impl Machine {
             phases: vec![in alloc; Phase::Free; seats as usize]?,
             done: vec![in alloc; false; count + 1]?,
             state: State::zero(alloc, job.layout())?,
-            places: Places::new(alloc, job.layout())?,
         })
     }
 
     /// The event, which stands at this place.
-    pub fn step(&mut self, job: &Job, place: u32, event: Event) -> Result<(), CoreError>
+    pub fn step(&mut self, job: &Job, place: u64, event: Event) -> Result<(), CoreError>
         requires fits { Fits job.now self.old }
         requires steady { IsSteady job.now (core_in self.old) }
         requires room { self.old.drawn + 1 < 2 ^ 32 }
@@ -63,7 +60,7 @@ impl Machine {
         }
     }
 
-    fn draw(&mut self, job: &Job, place: u32, actor: u32) -> Result<(), CoreError>
+    fn draw(&mut self, job: &Job, place: u64, actor: u32) -> Result<(), CoreError>
         requires fits { Fits job.now self.old }
         requires room { self.old.drawn + 1 < 2 ^ 32 }
         ensures fits { Fits job.now self.new }
@@ -83,7 +80,7 @@ impl Machine {
         }
     }
 
-    fn begin(&mut self, job: &Job, place: u32, actor: u32) -> Result<(), CoreError>
+    fn begin(&mut self, job: &Job, place: u64, actor: u32) -> Result<(), CoreError>
         requires fits { Fits job.now self.old }
         requires steady { IsSteady job.now (core_in self.old) }
         ensures fits { Fits job.now self.new }
@@ -107,7 +104,7 @@ impl Machine {
         }
     }
 
-    fn end(&mut self, job: &Job, place: u32, actor: u32) -> Result<(), CoreError>
+    fn end(&mut self, job: &Job, place: u64, actor: u32) -> Result<(), CoreError>
         requires fits { Fits job.now self.old }
         requires steady { IsSteady job.now (core_in self.old) }
         ensures fits { Fits job.now self.new }
@@ -122,7 +119,7 @@ impl Machine {
                 return Err(CoreError::Nothing { place });
             }
         };
-        apply(&mut self.state, &self.places, job, m);
+        apply(&mut self.state, job, m);
         self.done[m as usize] = true;
         self.phases[actor as usize - 1] = Phase::Free;
         Ok(())
@@ -172,21 +169,14 @@ impl Machine {
     }
 }
 
-/// Runs the operations of message `m` on the state, as the places name them.
-fn apply(state: &mut State, places: &Places, job: &Job, m: u32)
+/// Runs the operations of message `m` on the state.
+fn apply(state: &mut State, job: &Job, m: u32)
     requires message { IsIn job.now m }
-    requires places { ArePlaces job.now.layout.spaces (places_in places.now) }
     requires rows { HasSizes state.old (sizes_of job.now.layout.spaces) }
     ensures sizes { HasSizes state.new (map length state.old) }
     ensures cells { cells_in state.new ≡ meaning (ops_of job.now.ops m) (cells_in state.old) }
 {
-    // Its contract tells `IsJob`.
-    let _ = job.len();
-    let owners = job.owners(m);
-    let row_ops = job.row_ops(m);
-    for at in 0..row_ops.len() {
-        state.apply_op(places.op(owners, row_ops.at(at)));
-    }
+    state.apply(job.message(m));
 }
 
 /// The phase of an actor that has drawn this message, or none.

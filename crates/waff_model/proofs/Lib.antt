@@ -10,3 +10,6 @@ pub mod ParcelLemmas
 pub mod ParcelTableLemmas
 mod RunLemmas
 pub mod TraceLemmas
+pub mod LaterLemmas
+mod BlockLemmas
+pub mod TakeLemmas

@@ -14,3 +14,7 @@ pub mod Parcel
 pub mod ParcelTable
 pub mod ParcelLaws
 pub mod Messages
+pub mod Later
+pub mod LaterLaws
+pub mod Blocks
+pub mod Taken

@@ -2,7 +2,7 @@
 //!
 //! What all other crates speak of, with its limits; nothing is read, planned or run here.
 //! - `tree`, over `nodes` (found by number and by name) and `places` (in preorder): affinities,
-//!   each below its parent.
+//!   each below its parent. `spans`: tables by those places, for the crates that plan and order.
 //! - `layout`, over `layout_rows` (what it is made of, and why that is refused) and `space`: which
 //!   affinity owns each cell; `parcels`: where a cell stands among the cells of its owner.
 //! - `trace`, `message`, `op`, `ops` over `packed_op`: messages with their costs, releases (in
@@ -30,6 +30,7 @@ mod packed_op;
 mod parcels;
 mod places;
 mod space;
+pub mod spans;
 mod texts;
 mod trace;
 mod tree;

@@ -1,11 +1,12 @@
 -- The tables by places hold the open messages, and the latest message at or above each affinity.
-use Rattle.std.proofs.Common.{◌≡◌, ◌≢◌, ℕ, ◌+◌, ◌<◌, ◌≤◌, ◌⊎◌, ◌↔◌, inl, inr, List, length, get_or, set, replicate, Contains, arith, sym, ◌∙◌, ap, subst}
+use Rattle.std.proofs.Common.{◌≡◌, ◌≢◌, ℕ, ◌+◌, ◌<◌, ◌≤◌, ◌⊎◌, ◌↔◌, max, inl, inr, List, length, get_or, set, replicate, Contains, arith, sym, ◌∙◌, ap, subst}
 use Rattle.std.proofs.lemmas.Bool.{cases_eq, cases_lt}
 use Rattle.std.proofs.lemmas.List.{get_or-set_same, get_or-set_other}
 use Rattle.std.proofs.lemmas.List.Elements.{Contains-get_or}
 use Rattle.waff_order.specs.Open.{IsOpen, AreTaken, IsLatest}
-use Rattle.waff_order.specs.Runs.{AreGathered, IsNoted, noted_at}
-use Rattle.waff_order.proofs.Taking.{none_at}
+use Rattle.waff_model.specs.Later.{IsNoted, by_number}
+use Rattle.waff_model.proofs.TakeLemmas.{none_at}
+use Rattle.waff_order.specs.Runs.{AreGathered}
 
 -- each open message stands at its place in the table, and nothing else
 pub record AreHeld (Above : ℕ → ℕ → Type 0) (first : ℕ → ℕ) (n : ℕ) (messages : List ℕ) : Type 0 where
@@ -163,20 +164,27 @@ module _ (Above : ℕ → ℕ → Type 0) where
         ]
 
     -- what is noted after it
-    pub latest_next : (places blocks new_places new_blocks : List ℕ) → AreLatest Above first count n (noted_at places blocks)
-        → IsNoted (first (n + 1)) (end (n + 1)) (n + 1) places blocks new_places new_blocks
-        → AreLatest Above first count (n + 1) (noted_at new_places new_blocks)
-    latest_next places blocks new_places new_blocks h notes m from to =
+    pub latest_next : (old new : List ℕ) → AreLatest Above first count n (λ p. get_or old p 0)
+        → IsNoted by_number (first (n + 1)) (end (n + 1)) (n + 1) old new
+        → AreLatest Above first count (n + 1) (λ p. get_or new p 0)
+    latest_next old new h notes m from to =
         let law = spans (n + 1) m (omega arith) room from to in
         let before = h m from to in
+        let above = get_or old (first m) 0 in
         elim (cases_lt (first m) (first (n + 1))) [
           | inl early ↦
               subst (λ x. IsLatest Above (n + 1) m x) (sym (notes.before (first m) early))
-              (latest_more n m (noted_at places blocks (first m)) (λ is. let low : first (n + 1) ≤ first m = (law.1 is).0 in omega arith) before)
+              (latest_more n m above (λ is. let low : first (n + 1) ≤ first m = (law.1 is).0 in omega arith) before)
           | inr low ↦ elim (cases_lt (first m) (end (n + 1))) [
-            | inl high ↦ subst (λ x. IsLatest Above (n + 1) m x) (sym (notes.noted (first m) low high)) (latest_last n m (law.0 (low, high)))
+            | inl high ↦
+                let short : above ≤ n = elim (cases_lt 0 above) [
+                  | inl some ↦ (before.some some).0
+                  | inr none ↦ omega arith
+                ] in
+                let larger : max above (n + 1) ≡ n + 1 = omega arith in
+                subst (λ x. IsLatest Above (n + 1) m x) (sym (notes.noted (first m) low high ∙ larger)) (latest_last n m (law.0 (low, high)))
             | inr past ↦
                 subst (λ x. IsLatest Above (n + 1) m x) (sym (notes.after (first m) past))
-                (latest_more n m (noted_at places blocks (first m)) (λ is. let high : first m < end (n + 1) = (law.1 is).1 in omega arith) before)
+                (latest_more n m above (λ is. let high : first m < end (n + 1) = (law.1 is).1 in omega arith) before)
           ]
         ]

@@ -1,7 +1,6 @@
 pub mod Parts
 pub mod NeedLemmas
 mod Taking
-mod Noting
 mod Holding
 mod Closure
 mod UpTo

@@ -1,17 +1,18 @@
 -- What the tables and the lists hold after the first messages, and after one more.
-use Rattle.std.proofs.Common.{◌≡◌, ℕ, ◌+◌, ◌-◌, ◌*◌, ◌<◌, ◌≤◌, ◌↔◌, List, All, [], ◌∷◌, ◌++◌, length, set, replicate, arith, refl, ◌∙◌}
+use Rattle.std.proofs.Common.{◌≡◌, ℕ, ◌+◌, ◌-◌, ◌*◌, ◌<◌, ◌≤◌, ◌↔◌, List, All, [], ◌∷◌, ◌++◌, length, get_or, set, replicate, arith, refl, ◌∙◌}
 use Rattle.std.proofs.lemmas.List.{length-append, length-set, length-replicate}
 use Rattle.waff_model.specs.Tree.{Node, IsTree}
 use Rattle.waff_model.specs.Places.{place_at, AreNested}
+use Rattle.waff_model.specs.Later.{IsNoted, by_number}
+use Rattle.waff_model.specs.Taken.{held}
 use Rattle.waff_model.specs.declared.places.Place.{Place}
+use Rattle.waff_model.proofs.TakeLemmas.{held-put, held-none, none_at}
 use Rattle.waff_assign.specs.Order.{affinity_of}
 use Rattle.waff_order.specs.Needs.{IsWithinDepth}
 use Rattle.waff_order.specs.Cuts.{parts, AreCuts}
 use Rattle.waff_order.specs.Open.{IsAbove, AreTaken, IsLatest, chosen}
-use Rattle.waff_order.specs.Runs.{held, noted_at, AreGathered, AreNotes, IsNoted}
+use Rattle.waff_order.specs.Runs.{AreGathered}
 use Rattle.waff_order.proofs.Parts.{parts_push, cuts_push}
-use Rattle.waff_order.proofs.Taking.{held-put, held-none}
-use Rattle.waff_order.proofs.Noting.{noted_nothing}
 use Rattle.waff_order.proofs.Holding.{AreHeld, AreLatest, held_none, latest_none, taken, held_more, latest_next}
 use Rattle.waff_order.proofs.Closure.{length-chosen, length-chosen_all}
 use Rattle.waff_order.proofs.UpTo.{AreNeedsUpTo, up_to_none, up_to_more, all_above}
@@ -27,13 +28,13 @@ abbrev pub end_of : List Place → List ℕ → ℕ → ℕ
 end_of places assigned i = (message_place places assigned i).end
 
 -- what is known after n messages
-pub record IsReached (tree : List Node) (assigned : List ℕ) (places : List Place) (all ends messages noted noted_blocks : List ℕ) (n : ℕ) : Type 0 where
+pub record IsReached (tree : List Node) (assigned : List ℕ) (places : List Place) (all ends messages noted : List ℕ) (n : ℕ) : Type 0 where
   pub cuts : AreCuts all 0 ends
   pub needs : AreNeedsUpTo tree assigned (parts all 0 ends) n
   pub count : length messages ≡ length tree
   pub holds : AreHeld (IsAbove tree assigned) (first_of places assigned) n messages
-  pub notes : AreNotes (length tree) n noted noted_blocks
-  pub latest : AreLatest (IsAbove tree assigned) (first_of places assigned) (length assigned) n (noted_at noted noted_blocks)
+  pub noted_count : length noted ≡ length tree
+  pub latest : AreLatest (IsAbove tree assigned) (first_of places assigned) (length assigned) n (λ p. get_or noted p 0)
   pub total : length all + held messages ≤ 2 * n
   pub flat : IsWithinDepth tree 0 → length all + held messages ≤ n
 
@@ -50,27 +51,26 @@ module _ (tree : List Node) (assigned : List ℕ) (places : List Place) (is_tree
   filled : (i : ℕ) → 1 ≤ i → i ≤ length assigned → first_of places assigned i < end_of places assigned i
   filled i from to = nested.filled (affinity_of assigned i) (known_affinity i from to)
 
-  pub reached_none : (noted noted_blocks : List ℕ) → AreNotes (length tree) 0 noted noted_blocks
-      → IsReached tree assigned places [] [] (replicate (length tree) 0) noted noted_blocks 0
-  reached_none noted noted_blocks notes =
+  pub reached_none : IsReached tree assigned places [] [] (replicate (length tree) 0) (replicate (length tree) 0) 0
+  reached_none =
       let none = held-none (length tree) in
       record {
         cuts = refl;
         needs = up_to_none tree assigned;
         count = length-replicate (length tree) 0;
         holds = held_none (IsAbove tree assigned) (first_of places assigned) (length tree);
-        notes = notes;
-        latest = latest_none (IsAbove tree assigned) (first_of places assigned) (length assigned) (noted_at noted noted_blocks)
-            (λ p. noted_nothing (length tree) p noted noted_blocks notes);
+        noted_count = length-replicate (length tree) 0;
+        latest = latest_none (IsAbove tree assigned) (first_of places assigned) (length assigned) (λ p. get_or (replicate (length tree) 0) p 0)
+            (λ p. none_at (length tree) p);
         total = omega (arith, none);
         flat = λ depth. omega (arith, none);
       }
 
-  module _ (all ends messages noted noted_blocks : List ℕ) (n : ℕ) (room : n + 1 ≤ length assigned)
-      (h : IsReached tree assigned places all ends messages noted noted_blocks n) (left gathered : List ℕ)
+  module _ (all ends messages noted : List ℕ) (n : ℕ) (room : n + 1 ≤ length assigned)
+      (h : IsReached tree assigned places all ends messages noted n) (left gathered : List ℕ)
       (gathers : AreGathered (first_of places assigned (n + 1)) (end_of places assigned (n + 1)) messages left gathered) where
     abbrev pub above : ℕ
-    above = noted_at noted noted_blocks (first_of places assigned (n + 1))
+    above = get_or noted (first_of places assigned (n + 1)) 0
 
     takes : AreTaken (IsAbove tree assigned) n gathered
     takes = taken (IsAbove tree assigned) (first_of places assigned) (end_of places assigned) (length assigned) spans filled n room messages left gathered h.holds gathers
@@ -97,11 +97,11 @@ module _ (tree : List Node) (assigned : List ℕ) (places : List Place) (is_tree
         let put = held-put left (first_of places assigned (n + 1)) (n + 1) in
         omega (arith, few, put, gathers.sum, h.flat depth)
 
-    pub reached_more : (new_noted new_blocks : List ℕ) → AreNotes (length tree) (n + 1) new_noted new_blocks
-        → IsNoted (first_of places assigned (n + 1)) (end_of places assigned (n + 1)) (n + 1) noted noted_blocks new_noted new_blocks
+    pub reached_more : (new_noted : List ℕ)
+        → IsNoted by_number (first_of places assigned (n + 1)) (end_of places assigned (n + 1)) (n + 1) noted new_noted
         → IsReached tree assigned places (all ++ chosen gathered above) (ends ++ length (all ++ chosen gathered above) ∷ [])
-        (set left (first_of places assigned (n + 1)) (n + 1)) new_noted new_blocks (n + 1)
-    reached_more new_noted new_blocks notes notes_more =
+        (set left (first_of places assigned (n + 1)) (n + 1)) new_noted (n + 1)
+    reached_more new_noted notes =
         let more = chosen gathered above in
         let at = first_of places assigned (n + 1) in
         let within : affinity_of assigned (n + 1) < length tree = known_affinity (n + 1) (omega arith) room in
@@ -114,9 +114,9 @@ module _ (tree : List Node) (assigned : List ℕ) (places : List Place) (is_tree
           count = length-set left at (n + 1) ∙ gathers.clears.count ∙ h.count;
           holds = held_more (IsAbove tree assigned) (first_of places assigned) (end_of places assigned) (length assigned) spans filled n room messages left gathered
               (omega (arith, h.count)) h.holds gathers;
-          notes = notes;
-          latest = latest_next (IsAbove tree assigned) (first_of places assigned) (end_of places assigned) (length assigned) spans filled n room noted noted_blocks new_noted new_blocks
-              h.latest notes_more;
+          noted_count = notes.count ∙ h.noted_count;
+          latest = latest_next (IsAbove tree assigned) (first_of places assigned) (end_of places assigned) (length assigned) spans filled n room noted new_noted
+              h.latest notes;
           total = let bound = needs_count in omega (arith, bound, long);
           flat = λ depth. let bound = flat_count depth in omega (arith, bound, long);
         }

@@ -6,8 +6,8 @@ use Rattle.waff_model.specs.declared.tree.AffinityId.{AffinityId}
 use Rattle.waff_assign.specs.Order.{affinity_of}
 
 -- the lowest of a set of affinities: one of them that all of them are at or above
-pub record IsLowestOf (tree : List Node) (Has : AffinityId
-    → Type 0) (low : AffinityId) : Type 0 where
+pub record IsLowestOf (tree : List Node)
+    (Has : AffinityId → Type 0) (low : AffinityId) : Type 0 where
   pub one : Has low
   pub each : (b : AffinityId) → Has b → AtOrAbove tree b.0 low.0
 

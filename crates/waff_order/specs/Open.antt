@@ -4,26 +4,26 @@
 use Rattle.std.specs.Prelude.{ℕ, zero, suc, ◌+◌, ◌<◌, ◌≤◌, ◌⊎◌, List, [], ◌∷◌, All, Contains}
 use Rattle.std.specs.List.Sorted.{IsStrictlyIncreasing}
 use Rattle.waff_model.specs.Tree.{Node, AtOrAbove}
-use Rattle.waff_assign.specs.Order.{affinity_of}
+use Rattle.waff_assign.specs.Order.{affinity_of, Relation}
 
 -- the affinity of message i is at or above that of message j
 abbrev pub IsAbove : List Node → List ℕ → ℕ → ℕ → Type 0
 IsAbove tree assigned i j = AtOrAbove tree (affinity_of assigned i) (affinity_of assigned j)
 
 -- after n messages message i is open: none that came after it is at or above it
-pub record IsOpen (Above : ℕ → ℕ → Type 0) (n i : ℕ) : Type 0 where
+pub record IsOpen (Above : Relation) (n i : ℕ) : Type 0 where
   pub from : 1 ≤ i
   pub to : i ≤ n
   pub free : (j : ℕ) → i < j → j ≤ n → ¬ Above j i
 
 -- the open messages that message n + 1 takes: those at or below it
-pub record AreTaken (Above : ℕ → ℕ → Type 0) (n : ℕ) (taken : List ℕ) : Type 0 where
+pub record AreTaken (Above : Relation) (n : ℕ) (taken : List ℕ) : Type 0 where
   pub takes : All (λ i. IsOpen Above n i × Above (n + 1) i) taken
   pub each : (i : ℕ) → IsOpen Above n i → Contains taken i ⊎ ¬ Above (n + 1) i
   pub rising : IsStrictlyIncreasing taken
 
 -- the latest of the first n messages that is at or above message m, 0 where there is none
-pub record IsLatest (Above : ℕ → ℕ → Type 0) (n m above : ℕ) : Type 0 where
+pub record IsLatest (Above : Relation) (n m above : ℕ) : Type 0 where
   pub some : 0 < above → (above ≤ n) × Above above m
   pub latest : (i : ℕ) → 1 ≤ i → i ≤ n → Above i m → i ≤ above
 

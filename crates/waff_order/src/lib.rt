@@ -3,21 +3,16 @@
 //! The needs of a message are earlier messages that exclude it, chosen so that the paths through
 //! them lead to all earlier messages that exclude it: whoever waits for the needs waits for all,
 //! and there are few of them.
-//! - `predecessors`: the needs, found with `opened` and `latest`, tables by the places of
-//!   affinities in preorder; `lists`: their lists, and room for such lists.
+//! - `predecessors`: the needs, found with tables by the places of affinities in preorder; `lists`:
+//!   lists of lists, as needs are.
 //! - `refinement`: whether all pairs that one hierarchy orders are ordered by another one, with
 //!   `lowests`.
 #![tactic(auto)]
 
-mod latest;
 mod lists;
 mod lowests;
-mod opened;
 pub mod predecessors;
 mod refinement;
 
-pub use lists::{Needs, room_for_ends};
+pub use lists::{Lists, Needs};
 pub use refinement::refines;
-
-/// Tables by places are cut into blocks of so many places.
-const BLOCK: usize = 64;

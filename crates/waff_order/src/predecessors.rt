@@ -1,16 +1,15 @@
 //! The needs of each message, found from the messages that are open.
 
 ghost use Rattle.std.specs.Prelude.{◌≡◌, ◌+◌, ◌*◌, ◌<◌, ◌≤◌, List, ℕ, [], length, All, IfOk, OnOk};
-ghost use Rattle.std.specs.Prelude.{sum_by};
+ghost use Rattle.std.specs.Prelude.{slice_index, sum_by};
 ghost use Rattle.waff_order.specs.Needs.{AreNeeds, IsWithinDepth};
 ghost use Rattle.waff_order.specs.Open.{chosen};
-ghost use Rattle.waff_order.specs.Runs.{noted_at, AreFilled, AreGathered};
+ghost use Rattle.waff_order.specs.Runs.{AreGathered};
 
-use crate::latest::Latest;
-use crate::lists::{Needs, room_for_ends};
-use crate::opened::Opened;
+use crate::lists::{Lists, Needs};
 use std::alloc::{AllocError, Global};
 use waff_assign::Assigned;
+use waff_model::spans::{Opened, Spread};
 use waff_model::{Place, Tree};
 
 /// The needs of each message: earlier messages that exclude it, so many that every other such
@@ -25,9 +24,9 @@ pub fn needs(alloc: Global, tree: &Tree, assigned: &Assigned) -> Result<Needs, A
     let count = tree.len() as usize;
     let places = tree.places();
     let mut opened = Opened::none(alloc, count)?;
-    let mut latest = Latest::none(alloc, count)?;
+    let mut latest: Spread<u32> = Spread::none(alloc, count)?;
     let mut all = Vec::new(alloc);
-    let mut ends = room_for_ends(alloc, assigned.len())?;
+    let mut ends = Vec::with_capacity(alloc, assigned.len() as usize)?;
     let mut needs = Vec::new(alloc);
     for m in 1..assigned.len() + 1 {
         let place = places[assigned.of(m).0 as usize];
@@ -38,28 +37,23 @@ pub fn needs(alloc: Global, tree: &Tree, assigned: &Assigned) -> Result<Needs, A
         all.extend_from_slice(needs.as_slice())?;
         ends.push(all.len() as u32)?;
     }
-    Ok(Needs::new(all, ends))
+    Ok(Needs::new(Lists::new(all, ends)))
 }
 
 /// Lists the needs of a message at this place, and closes the messages that it takes.
 fn take_needs(
     opened: &mut Opened,
-    latest: &Latest,
+    latest: &Spread<u32>,
     place: Place,
     needs: &mut Vec<u32>,
 ) -> Result<(), AllocError>
     requires forward { place.first < place.end }
-    requires within { place.end ≤ length opened.old.messages.items }
-    requires filled { AreFilled opened.old.messages.items opened.old.filled.items }
-    requires noted { place.end ≤ length latest.now.places.items }
-    requires room { length latest.now.places.items ≤ 64 * length latest.now.blocks.items }
+    requires within { place.end ≤ length opened.old }
+    requires noted { place.end ≤ length latest.now }
     requires empty { needs.old.items ≡ [] }
-    ensures filled { OnOk result (AreFilled opened.new.messages.items opened.new.filled.items) }
-    ensures needs { OnOk result ((gathered : List ℕ)
-        × AreGathered place.first place.end opened.old.messages.items
-        opened.new.messages.items gathered
-        × (needs.new.items ≡ chosen gathered
-        (noted_at latest.now.places.items latest.now.blocks.items place.first))) }
+    ensures { OnOk result ((gathered : List ℕ)
+        × AreGathered place.first place.end opened.old opened.new gathered
+        × (needs.new.items ≡ chosen gathered (slice_index latest.now place.first))) }
 {
     opened.take(place.first as usize, place.end as usize, needs)?;
     needs.sort_unstable();

@@ -7,7 +7,6 @@ mod Latests
 mod Tables
 mod Planned
 mod OrderKept
-mod Later
 pub mod Linkings
 pub mod Ratios
 pub mod Uniqueness

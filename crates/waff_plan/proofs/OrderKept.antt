@@ -7,9 +7,8 @@ use Rattle.waff_model.specs.declared.places.Place.{Place}
 use Rattle.waff_assign.specs.Order.{affinity_of, IsOrdered}
 use Rattle.waff_plan.specs.Work.{Work, finish_of}
 use Rattle.waff_plan.specs.Obeys.{IsAmong, KeepsOrder}
-use Rattle.waff_plan.specs.Table.{IsLatestExcluding, IsLatestMeeting, IsTable}
+use Rattle.waff_plan.specs.Table.{IsLatestExcluding, IsLatestMeeting, IsTable, LatestTable}
 use Rattle.waff_plan.specs.declared.latest.Latest.{Latest}
-use Rattle.waff_plan.specs.declared.table.Table.{Table}
 use Rattle.waff_plan.proofs.Tables.{meeting_excludes}
 
 -- so many messages are noted before message m, of the first `count`
@@ -17,7 +16,7 @@ abbrev pub noted_before : ℕ → ℕ → ℕ
 noted_before count m = min (m - 1) count
 
 -- the latest of the first n messages that message m waits for
-pub found_among : (tree : List Node) (places : List Place) (assigned : List ℕ) (finish : ℕ → ℕ) (n m a : ℕ) (table : Table) (latest : Option Latest)
+pub found_among : (tree : List Node) (places : List Place) (assigned : List ℕ) (finish : ℕ → ℕ) (n m a : ℕ) (table : LatestTable) (latest : Option Latest)
     → AreNested tree places → All (λ a. a < length tree) assigned → n < m → m ≤ length assigned
     → a ≡ affinity_of assigned m → IsTable places assigned finish n table
     → ((others : List Place) (assigned : List ℕ) (finish : ℕ → ℕ) (n : ℕ) → IsTable others assigned finish n table

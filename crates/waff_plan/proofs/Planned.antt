@@ -1,18 +1,17 @@
 -- The starts of the least plan, one message after another, by the table of the latest messages.
-use Rattle.std.proofs.Common.{◌≡◌, ◌≢◌, ℕ, ◌+◌, ◌-◌, ◌*◌, ◌/◌, ◌^◌, ◌<◌, ◌≤◌, max, List, [], ◌∷◌, ◌++◌, length, get_or, Option, Some, None, option_map, MatchOption, All, arith, sym, ◌∙◌, ap, subst, ⊎_elim}
+use Rattle.std.proofs.Common.{◌≡◌, ◌≢◌, ℕ, ◌+◌, ◌-◌, ◌*◌, ◌^◌, ◌<◌, ◌≤◌, max, List, [], ◌∷◌, ◌++◌, length, get_or, Option, Some, None, option_map, MatchOption, All, arith, sym, ◌∙◌, ap, subst, ⊎_elim}
 use Rattle.std.proofs.lemmas.Bool.{cases_eq}
 use Rattle.std.proofs.lemmas.List.{get_or_append_left, get_or_push, get_or_default, length_push}
 use Rattle.waff_model.specs.Tree.{Node}
 use Rattle.waff_model.specs.Places.{place_at, AreNested}
 use Rattle.waff_model.specs.declared.places.Place.{Place}
 use Rattle.waff_assign.specs.Order.{affinity_of, IsOrdered}
-use Rattle.waff_plan.specs.Work.{Work, finish_of}
+use Rattle.waff_plan.specs.Work.{Work, finish_of, IsMessage}
 use Rattle.waff_plan.specs.Obeys.{IsForward}
-use Rattle.waff_plan.specs.Table.{IsUpTo, noted_at, message_place, IsTable, IsLatestMeeting, IsLatestExcluding}
+use Rattle.waff_plan.specs.Table.{LatestTable, message_place, IsTable, IsLatestMeeting, IsLatestExcluding}
 use Rattle.waff_plan.specs.Timing.{start_of}
 use Rattle.waff_plan.specs.declared.last.Placed.{Placed}
 use Rattle.waff_plan.specs.declared.latest.Latest.{Latest}
-use Rattle.waff_plan.specs.declared.table.Table.{Table}
 use Rattle.waff_model.specs.declared.limits.TheConstants.{MAX_TICK}
 use Rattle.waff_plan.proofs.Forward.{IsOrdered_forward}
 use Rattle.waff_plan.proofs.Latests.{found_again}
@@ -20,25 +19,20 @@ use Rattle.waff_plan.proofs.Tables.{meeting_excludes}
 use Rattle.waff_plan.proofs.Steps.{IsEarliest, IsLeastUpTo, up_to_none, up_to_more}
 
 -- with the same finishes the table is the same
-pub table_again : (places : List Place) (assigned : List ℕ) (finish again : ℕ → ℕ) (n : ℕ) (table : Table)
+pub table_again : (places : List Place) (assigned : List ℕ) (finish again : ℕ → ℕ) (n : ℕ) (table : LatestTable)
     → ((i : ℕ) → 1 ≤ i → i ≤ n → again i ≡ finish i) → IsTable places assigned finish n table → IsTable places assigned again n table
 table_again places assigned finish again n table same h =
     let place : ℕ → Place = λ i. message_place places assigned i in
     record {
-      own = record {
-        places_each = λ p.
-            found_again (λ i. IsUpTo n i × ((place i).first ≡ p)) finish again (get_or table.own.places.items p None)
-            (λ i is. same i is.0.from is.0.to) (h.own.places_each p);
-        blocks_each = λ b.
-            found_again (λ i. IsUpTo n i × ((place i).first / 64 ≡ b)) finish again (get_or table.own.blocks.items b None)
-            (λ i is. same i is.0.from is.0.to) (h.own.blocks_each b);
-      };
+      own = λ p.
+          found_again (λ i. IsMessage n i × ((place i).first ≡ p)) finish again (get_or table.own p None)
+          (λ i is. same i is.0.from is.0.to) (h.own p);
       over = λ p.
-          found_again (λ i. IsUpTo n i × (((place i).first ≤ p) × (p < (place i).end))) finish again
-          (noted_at table.over.places.items table.over.blocks.items p) (λ i is. same i is.0.from is.0.to) (h.over p);
+          found_again (λ i. IsMessage n i × (((place i).first ≤ p) × (p < (place i).end))) finish again
+          (get_or table.over p None) (λ i is. same i is.0.from is.0.to) (h.over p);
       last = record {
         latest =
-            found_again (IsUpTo n) finish again (option_map (λ (x : Placed). x.message) table.last)
+            found_again (IsMessage n) finish again (option_map (λ (x : Placed). x.message) table.last)
             (λ i is. same i is.from is.to) h.last.latest;
         place = h.last.place;
       };
@@ -74,14 +68,14 @@ earliest_after tree assigned work start n s (Some latest) room found is =
     }
 
 -- what is known of the first n starts
-pub record IsPlanned (tree : List Node) (places : List Place) (assigned : List ℕ) (work : Work) (starts : List ℕ) (n : ℕ) (so_far : Table) : Type 0 where
+pub record IsPlanned (tree : List Node) (places : List Place) (assigned : List ℕ) (work : Work) (starts : List ℕ) (n : ℕ) (so_far : LatestTable) : Type 0 where
   pub count : length starts ≡ n
   pub least : IsLeastUpTo (IsOrdered tree assigned) work (start_of starts) n
   pub table : IsTable places assigned (finish_of work (start_of starts)) n so_far
   pub early : (i : ℕ) → 1 ≤ i → i ≤ n → finish_of work (start_of starts) i ≤ 2 ^ 32 * (i + 1)
 
 -- before the first message
-pub planned_none : (tree : List Node) (places : List Place) (assigned : List ℕ) (work : Work) (starts : List ℕ) (table : Table) → length assigned ≡ work.count
+pub planned_none : (tree : List Node) (places : List Place) (assigned : List ℕ) (work : Work) (starts : List ℕ) (table : LatestTable) → length assigned ≡ work.count
     → length starts ≡ 0 → ((finish : ℕ → ℕ) → IsTable places assigned finish 0 table) → IsPlanned tree places assigned work starts 0 table
 planned_none tree places assigned work starts table same none empty = record {
   count = none;
@@ -91,7 +85,7 @@ planned_none tree places assigned work starts table same none empty = record {
 }
 
 -- the latest message that message m waits for
-pub found_at : (tree : List Node) (places : List Place) (assigned : List ℕ) (finish : ℕ → ℕ) (m a : ℕ) (table : Table) (latest : Option Latest)
+pub found_at : (tree : List Node) (places : List Place) (assigned : List ℕ) (finish : ℕ → ℕ) (m a : ℕ) (table : LatestTable) (latest : Option Latest)
     → AreNested tree places → All (λ a. a < length tree) assigned → 1 ≤ m → m ≤ length assigned
     → a ≡ affinity_of assigned m → IsTable places assigned finish (m - 1) table
     → ((others : List Place) (assigned : List ℕ) (finish : ℕ → ℕ) (n : ℕ) → IsTable others assigned finish n table
@@ -103,7 +97,7 @@ found_at tree places assigned finish m a table latest nested known from to is h 
     (meeting_excludes tree places assigned finish m a latest nested known to (subst (λ x. x < length tree) (sym is) within) (answer places assigned finish (m - 1) h))
 
 -- the start of the next message is early
-pub start_early : (tree : List Node) (places : List Place) (assigned : List ℕ) (work : Work) (starts : List ℕ) (m s : ℕ) (table : Table) (latest : Option Latest)
+pub start_early : (tree : List Node) (places : List Place) (assigned : List ℕ) (work : Work) (starts : List ℕ) (m s : ℕ) (table : LatestTable) (latest : Option Latest)
     → 1 ≤ m → IsPlanned tree places assigned work starts (m - 1) table → work.release m < 2 ^ 32
     → IsLatestExcluding tree assigned (finish_of work (start_of starts)) (m - 1) (affinity_of assigned m) latest
     → MatchOption latest (s ≡ work.release m) (λ l. s ≡ max (work.release m) l.finish)
@@ -121,7 +115,7 @@ kept : (starts : List ℕ) (n s i : ℕ) → length starts ≡ n → 1 ≤ i →
 kept starts n s i count from to = get_or_append_left starts (s ∷ []) 0 (i - 1) (omega arith)
 
 -- one more start
-pub planned_more : (tree : List Node) (places : List Place) (assigned : List ℕ) (work : Work) (starts : List ℕ) (n s : ℕ) (table more : Table)
+pub planned_more : (tree : List Node) (places : List Place) (assigned : List ℕ) (work : Work) (starts : List ℕ) (n s : ℕ) (table more : LatestTable)
     → IsForward (IsOrdered tree assigned) work → n + 1 ≤ work.count → work.cost (n + 1) < 2 ^ 32 → s ≤ 2 ^ 32 * (n + 1)
     → IsPlanned tree places assigned work starts n table → IsEarliest (IsOrdered tree assigned) work (start_of starts) (n + 1) s
     → ((finish : ℕ → ℕ) → IsTable places assigned finish n table → finish (n + 1) ≡ s + work.cost (n + 1) → IsTable places assigned finish (n + 1) more)
@@ -153,7 +147,7 @@ planned_more tree places assigned work starts n s table more forward room small 
     }
 
 -- the same by the number of the message
-pub planned_next : (tree : List Node) (places : List Place) (assigned : List ℕ) (work : Work) (starts : List ℕ) (m s : ℕ) (table more : Table)
+pub planned_next : (tree : List Node) (places : List Place) (assigned : List ℕ) (work : Work) (starts : List ℕ) (m s : ℕ) (table more : LatestTable)
     (latest : Option Latest) → length assigned ≡ work.count → 1 ≤ m → m ≤ work.count → work.cost m < 2 ^ 32 → s ≤ 2 ^ 32 * m
     → IsPlanned tree places assigned work starts (m - 1) table
     → IsLatestExcluding tree assigned (finish_of work (start_of starts)) (m - 1) (affinity_of assigned m) latest
@@ -175,7 +169,7 @@ planned_next tree places assigned work starts m s table more latest same from to
     (subst (λ x. (finish : ℕ → ℕ) → IsTable places assigned finish n table → finish x ≡ s + work.cost x → IsTable places assigned finish x more) this note))
 
 -- early starts of few messages are printable
-pub early_is_printable : (tree : List Node) (places : List Place) (assigned : List ℕ) (work : Work) (starts : List ℕ) (n : ℕ) (table : Table) → n ≤ 65536
+pub early_is_printable : (tree : List Node) (places : List Place) (assigned : List ℕ) (work : Work) (starts : List ℕ) (n : ℕ) (table : LatestTable) → n ≤ 65536
     → IsPlanned tree places assigned work starts n table → All (λ start. start ≤ MAX_TICK) starts
 early_is_printable tree places assigned work starts n table few planned k d within =
     let same : get_or starts k d ≡ get_or starts k 0 = get_or_default starts k d 0 within in

@@ -1,8 +1,11 @@
 -- The least plan is one, and so is the printed chain of a plan.
-use Rattle.std.proofs.Common.{◌≡◌, ℕ, ◌+◌, ◌<◌, ◌≤◌, ◌⊎◌, inl, inr, List, [], ◌∷◌, arith, refl, sym, ap, subst}
-use Rattle.waff_plan.specs.Work.{Work, IsNumber, finish_of, length_of}
+use Rattle.std.proofs.Common.{◌≡◌, ℕ, ◌+◌, ◌*◌, ◌<◌, ◌≤◌, ◌⊎◌, inl, inr, List, [], ◌∷◌, Option, Some, None, arith, refl, sym, ap, subst}
+use Rattle.waff_plan.specs.Work.{Work, IsNumber, finish_of, length_of, total_of}
+use Rattle.waff_plan.specs.Bound.{right_side}
 use Rattle.waff_plan.specs.Obeys.{IsForward}
-use Rattle.waff_plan.specs.Chain.{IsLatest, LeadsToEnd, IsPrinted}
+use Rattle.waff_plan.specs.Chain.{IsLatest, LeadsToEnd, IsPrinted, chain_cost, chain_release}
+use Rattle.waff_plan.specs.Totals.{totals_of}
+use Rattle.waff_plan.specs.declared.totals.Totals.{Totals}
 use Rattle.waff_plan.specs.Unique.{AreSame, LeastIsOne, PrintedIsOne}
 use Rattle.waff_plan.proofs.Longest.{finish_of-le-length_of, length_of-le}
 
@@ -29,6 +32,30 @@ same_length work start other same =
     let below = no_longer work start other same in
     let above = no_longer work other start (same_back work start other same) in
     omega (arith, below, above)
+
+-- the totals of plans with the same starts are equal
+pub totals_same : (workers : Option ℕ) (work : Work) (start other : ℕ → ℕ) (chain : List ℕ) → AreSame work start other
+    → totals_of workers work start chain ≡ totals_of workers work other chain
+totals_same None work start other chain same =
+    let totals : ℕ → Totals = λ n. record {
+      total = total_of work;
+      length = n;
+      release = chain_release work chain;
+      cost = chain_cost work chain;
+      left = n;
+      right = chain_release work chain + chain_cost work chain;
+    } in
+    ap totals (same_length work start other same)
+totals_same (Some k) work start other chain same =
+    let totals : ℕ → Totals = λ n. record {
+      total = total_of work;
+      length = n;
+      release = chain_release work chain;
+      cost = chain_cost work chain;
+      left = k * n;
+      right = right_side work k chain;
+    } in
+    ap totals (same_length work start other same)
 
 -- what is before a message is a message
 number_before : (before : ℕ → ℕ → Type 0) (work : Work) → IsForward before work → (i j : ℕ) → before i j → IsNumber work i

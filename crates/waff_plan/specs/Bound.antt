@@ -2,6 +2,7 @@
 -- what follows from it.
 use Rattle.std.specs.Prelude.{◌≡◌, ℕ, ◌+◌, ◌-◌, ◌*◌, ◌≤◌, List}
 use Rattle.waff_model.specs.declared.limits.TheConstants.{MAX_WORKERS}
+use Rattle.waff_assign.specs.Order.{Relation}
 use Rattle.waff_plan.specs.Work.{Work, IsNumber, length_of, total_of}
 use Rattle.waff_plan.specs.Chain.{IsChain, chain_cost, chain_release}
 use Rattle.waff_plan.specs.Workers.{IsWorkerPlan}
@@ -25,14 +26,14 @@ abbrev pub IsWithinBound : Work → ℕ → (ℕ → ℕ) → List ℕ → Type 
 IsWithinBound work k start chain = left_side work k start ≤ right_side work k chain
 
 -- what is within the bound of some chain is at most twice as long as any worker plan
-abbrev pub BoundIsWithinTwice : (ℕ → ℕ → Type 0) → Work → Type 0
+abbrev pub BoundIsWithinTwice : Relation → Work → Type 0
 BoundIsWithinTwice before work =
     (k : ℕ) (start other : ℕ → ℕ) (chain : List ℕ)
     → IsChain before work chain → IsWithinBound work k start chain
     → IsWorkerPlan before work k other → k * length_of work start ≤ 2 * k * length_of work other
 
 -- and at most 2 - 1/k times as long where no message has a release
-abbrev pub BoundIsWithinRatio : (ℕ → ℕ → Type 0) → Work → Type 0
+abbrev pub BoundIsWithinRatio : Relation → Work → Type 0
 BoundIsWithinRatio before work =
     (k : ℕ) (start other : ℕ → ℕ) (chain : List ℕ)
     → 1 ≤ k → ((m : ℕ) → IsNumber work m → work.release m ≡ 0)

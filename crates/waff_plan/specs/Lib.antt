@@ -6,6 +6,7 @@ pub mod Laws
 pub mod Timing
 pub mod Timetable
 pub mod Latest
+pub mod LatestLaws
 pub mod Table
 pub mod Links
 pub mod CostedChain

@@ -1,12 +1,13 @@
 -- The links of a plan: for each message the one that its start waited for.
 use Rattle.std.specs.Prelude.{ℕ, ◌-◌, ◌<◌, ◌≤◌, List, Option, Some, None, MatchOption, nat_lt}
 use Rattle.std.specs.Prelude.{slice_index_or, if◌then◌else◌}
+use Rattle.waff_assign.specs.Order.{Relation}
 use Rattle.waff_plan.specs.Work.{Work, finish_of}
 use Rattle.waff_plan.specs.Chain.{IsLatest}
 use Rattle.waff_plan.specs.declared.latest.Latest.{Latest}
 
 -- the message that m waited for: the latest before m, where it finishes after the release of m
-abbrev pub IsLink : (ℕ → ℕ → Type 0) → Work → (ℕ → ℕ) → ℕ → Option ℕ → Type 0
+abbrev pub IsLink : Relation → Work → (ℕ → ℕ) → ℕ → Option ℕ → Type 0
 IsLink before work start m link =
     MatchOption link
     ((i : ℕ) → before i m → finish_of work start i ≤ work.release m)
@@ -14,7 +15,7 @@ IsLink before work start m link =
     × (work.release m < finish_of work start i))
 
 -- the links of the first n messages
-abbrev pub AreLinks : (ℕ → ℕ → Type 0) → Work → (ℕ → ℕ) → ℕ → List (Option ℕ) → Type 0
+abbrev pub AreLinks : Relation → Work → (ℕ → ℕ) → ℕ → List (Option ℕ) → Type 0
 AreLinks before work start n links =
     (m : ℕ) → 1 ≤ m → m ≤ n → IsLink before work start m (slice_index_or links (m - 1) None)
 

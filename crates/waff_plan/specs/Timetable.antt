@@ -2,12 +2,22 @@
 use Rattle.std.specs.Prelude.{◌≡◌, ℕ, ◌≤◌, List, length, map, All}
 use Rattle.waff_model.specs.declared.limits.TheConstants.{MAX_MESSAGES}
 use Rattle.waff_model.specs.declared.message.Message.{Message}
-use Rattle.waff_plan.specs.declared.timing.Timing.{Timing}
 use Rattle.waff_model.specs.declared.limits.TheConstants.{MAX_TICK}
+use Rattle.waff_plan.specs.Work.{Work}
+use Rattle.waff_plan.specs.Timing.{work_of, start_of}
+use Rattle.waff_plan.specs.declared.timing.Timing.{Timing}
 
 pub record Timetable : Type 0 where
   pub timings : List Timing
   pub starts : List ℕ
+
+-- the work of a plan's messages
+abbrev pub work_in : Timetable → Work
+work_in plan = work_of plan.timings
+
+-- the start of message n of a plan
+abbrev pub starts_in : Timetable → ℕ → ℕ
+starts_in plan n = start_of plan.starts n
 
 -- each message has a start, and no start is too late to be printed
 pub record IsTimetable (table : Timetable) : Type 0 where

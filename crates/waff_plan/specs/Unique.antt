@@ -1,5 +1,6 @@
 -- One thing each: the least plan, and the printed chain of a plan.
 use Rattle.std.specs.Prelude.{◌≡◌, ℕ, List}
+use Rattle.waff_assign.specs.Order.{Relation}
 use Rattle.waff_plan.specs.Work.{Work, IsNumber}
 use Rattle.waff_plan.specs.Obeys.{IsLeast}
 use Rattle.waff_plan.specs.Chain.{IsPrinted}
@@ -9,13 +10,13 @@ abbrev pub AreSame : Work → (ℕ → ℕ) → (ℕ → ℕ) → Type 0
 AreSame work one other = (m : ℕ) → IsNumber work m → one m ≡ other m
 
 -- two least plans start each message at the same tick
-abbrev pub LeastIsOne : (ℕ → ℕ → Type 0) → Work → Type 0
+abbrev pub LeastIsOne : Relation → Work → Type 0
 LeastIsOne before work =
     (start other : ℕ → ℕ) → IsLeast before work start
     → IsLeast before work other → AreSame work start other
 
 -- where two plans start each message at the same tick, their printed chains are equal
-abbrev pub PrintedIsOne : (ℕ → ℕ → Type 0) → Work → Type 0
+abbrev pub PrintedIsOne : Relation → Work → Type 0
 PrintedIsOne before work =
     (start other : ℕ → ℕ) (chain other_chain : List ℕ) → AreSame work start other
     → IsPrinted before work start chain → IsPrinted before work other other_chain

@@ -6,8 +6,7 @@
 //! wait for one another, whose first release and costs add up to the length.
 //! - `timing`, `timetable`: costs and releases; plans.
 //! - `unlimited`, over `least` and `latest`: the unlimited plan.
-//! - `table`, over `last`, `spread` and `standing`: the latest message that excludes another, by
-//!   places in preorder.
+//! - `table`, over `last`: the latest message that excludes another, by places in preorder.
 //! - `printed`, over `links` and `linked`: the printed chain; `totals`: what the summary of a plan
 //!   tells.
 //! - `ordered`: whether a plan keeps the order of the messages.
@@ -22,8 +21,6 @@ mod linked;
 mod links;
 pub mod ordered;
 pub mod printed;
-mod spread;
-mod standing;
 mod table;
 mod timetable;
 mod timing;
@@ -35,6 +32,3 @@ pub use linked::Chain;
 pub use timetable::Plan;
 pub use timing::Timing;
 pub use totals::Totals;
-
-/// Tables by places are cut into blocks of so many places.
-const BLOCK: usize = 64;

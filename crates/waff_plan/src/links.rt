@@ -4,16 +4,17 @@ ghost use Rattle.std.specs.Prelude.{◌≡◌, ◌<◌, ◌≤◌, length, All, 
 ghost use Rattle.waff_assign.specs.Order.{IsOrdered};
 ghost use Rattle.waff_plan.specs.Chain.{IsLatest};
 ghost use Rattle.waff_plan.specs.Links.{link_of, AreLinks};
-ghost use Rattle.waff_plan.specs.Timing.{work_of, start_of};
 ghost use Rattle.waff_plan.specs.Work.{IsNumber, finish_of};
+ghost use Rattle.waff_plan.specs.Timetable.{work_in, starts_in};
 
 use crate::Plan;
-use crate::latest::{Latest, later};
+use crate::latest::{Found, Latest};
 use crate::table::Table;
 use std::alloc::{AllocError, Global};
 use waff_assign::Assigned;
 use waff_model::Tree;
 use waff_model::limits::MAX_MESSAGES;
+use waff_model::spans::Later;
 
 /// For each message the latest of those that it waited for, where it did not wait for its release
 /// instead.
@@ -28,7 +29,7 @@ pub(crate) fn links(
     ensures count { IfOk result (λ links. length links.items ≡ length plan.now.timings) }
     ensures few { OnOk result (length plan.now.timings ≤ MAX_MESSAGES) }
     ensures links { IfOk result (λ links. AreLinks (IsOrdered tree.now assigned.now)
-        (work_of plan.now.timings) (start_of plan.now.starts)
+        (work_in plan.now) (starts_in plan.now)
         (length plan.now.timings) links.items) }
 {
     let places = tree.places();
@@ -57,15 +58,15 @@ fn waited_for(latest: Option<Latest>, release: u64) -> Option<u32>
 /// The latest message of the plan.
 pub(crate) fn last(plan: &Plan) -> Option<u32>
     ensures { MatchOption result (length plan.now.timings ≡ 0)
-        (IsLatest (IsNumber (work_of plan.now.timings))
-        (finish_of (work_of plan.now.timings) (start_of plan.now.starts))) }
+        (IsLatest (IsNumber (work_in plan.now))
+        (finish_of (work_in plan.now) (starts_in plan.now))) }
 {
-    let mut last = None;
+    let mut last = Found::none();
     for m in 1..plan.len() + 1 {
         let finish = plan.finish(m);
-        last = later(last, Some(Latest { finish, number: m }));
+        last = last.later(Found::one(Latest { finish, number: m }));
     }
-    match last {
+    match last.message() {
         Some(latest) => Some(latest.number),
         None => None,
     }

@@ -3,7 +3,7 @@
 ghost use Rattle.std.specs.Prelude.{◌≡◌, ◌<◌, ◌≤◌, ◌↔◌, length, All, IfOk, IfSome, IsTrue};
 ghost use Rattle.waff_assign.specs.Order.{IsOrdered};
 ghost use Rattle.waff_plan.specs.Obeys.{IsAmong, KeepsOrder};
-ghost use Rattle.waff_plan.specs.Timing.{work_of, start_of};
+ghost use Rattle.waff_plan.specs.Timetable.{work_in, starts_in};
 
 use crate::Plan;
 use crate::latest::Latest;
@@ -25,7 +25,7 @@ pub fn keeps_order(
     requires known { All (λ a. a < length tree.now) assigned.now }
     ensures { IfOk result (λ kept. IsTrue kept
         ↔ KeepsOrder (IsAmong count (IsOrdered tree.now assigned.now))
-        (work_of plan.now.timings) (start_of plan.now.starts)) }
+        (work_in plan.now) (starts_in plan.now)) }
 {
     let places = tree.places();
     let mut table = Table::new(alloc, tree.len() as usize)?;

@@ -4,8 +4,8 @@ ghost use Rattle.std.specs.Prelude.{◌≡◌, ◌+◌, ◌<◌, ◌≤◌, leng
 ghost use Rattle.waff_assign.specs.Order.{IsOrdered};
 ghost use Rattle.waff_plan.specs.Chain.{IsChain, IsListed, IsPrinted, chain_cost, chain_release};
 ghost use Rattle.waff_plan.specs.Obeys.{IsLeast};
-ghost use Rattle.waff_plan.specs.Timing.{work_of, start_of};
 ghost use Rattle.waff_plan.specs.Work.{length_of};
+ghost use Rattle.waff_plan.specs.Timetable.{work_in, starts_in};
 
 use crate::links::{last, links};
 use crate::totals::{cost_of, release_of};
@@ -27,22 +27,22 @@ pub fn chain(
     requires lengths { length plan.now.timings ≡ length assigned.now }
     requires known { All (λ a. a < length tree.now) assigned.now }
     ensures printed { IfOk result (λ chain. IsPrinted (IsOrdered tree.now assigned.now)
-        (work_of plan.now.timings) (start_of plan.now.starts) chain.messages) }
+        (work_in plan.now) (starts_in plan.now) chain.messages) }
     ensures chain { IfOk result (λ chain.
-        IsChain (IsOrdered tree.now assigned.now) (work_of plan.now.timings)
+        IsChain (IsOrdered tree.now assigned.now) (work_in plan.now)
         chain.messages) }
     ensures listed { IfOk result (λ chain. IsListed (length plan.now.timings) chain.messages) }
     ensures cost { IfOk result (λ chain.
-        chain.cost ≡ chain_cost (work_of plan.now.timings) chain.messages) }
+        chain.cost ≡ chain_cost (work_in plan.now) chain.messages) }
     ensures release { IfOk result (λ chain.
-        chain.release ≡ chain_release (work_of plan.now.timings) chain.messages) }
+        chain.release ≡ chain_release (work_in plan.now) chain.messages) }
 
     // The certificate of the unlimited plan.
     ensures as_long { IfOk result (λ chain.
         IsLeast (IsOrdered tree.now assigned.now)
-        (work_of plan.now.timings) (start_of plan.now.starts)
+        (work_in plan.now) (starts_in plan.now)
         → chain.release + chain.cost
-        ≡ length_of (work_of plan.now.timings) (start_of plan.now.starts)) }
+        ≡ length_of (work_in plan.now) (starts_in plan.now)) }
 {
     let messages = walk(alloc, tree, assigned, plan)?;
     let cost = cost_of(plan, messages.as_slice());
@@ -60,7 +60,7 @@ fn walk(
     requires lengths { length plan.now.timings ≡ length assigned.now }
     requires known { All (λ a. a < length tree.now) assigned.now }
     ensures printed { IfOk result (λ messages. IsPrinted (IsOrdered tree.now assigned.now)
-        (work_of plan.now.timings) (start_of plan.now.starts) messages.items) }
+        (work_in plan.now) (starts_in plan.now) messages.items) }
     ensures few { OnOk result (length plan.now.timings ≤ MAX_MESSAGES) }
 {
     let links = links(alloc, tree, assigned, plan)?;

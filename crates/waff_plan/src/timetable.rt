@@ -2,7 +2,8 @@
 
 ghost use Rattle.std.specs.Prelude.{◌≡◌, ◌+◌, ◌^◌, ◌<◌, ◌≤◌, length, All, IfOk};
 ghost use Rattle.waff_plan.specs.Work.{finish_of, length_of, total_of};
-ghost use Rattle.waff_plan.specs.Timing.{timing_of, work_of, start_of};
+ghost use Rattle.waff_plan.specs.Timing.{timing_of};
+ghost use Rattle.waff_plan.specs.Timetable.{work_in, starts_in};
 
 use crate::Timing;
 use crate::timing::timings;
@@ -65,7 +66,7 @@ impl Plan {
     pub fn start(&self, n: u32) -> u64
         requires from { 1 ≤ n }
         requires to { n ≤ length self.now.timings }
-        ensures start { result ≡ start_of self.now.starts n }
+        ensures start { result ≡ starts_in self.now n }
         ensures printable { result ≤ MAX_TICK }
     {
         self.starts[n as usize - 1]
@@ -76,7 +77,7 @@ impl Plan {
         requires from { 1 ≤ n }
         requires to { n ≤ length self.now.timings }
         ensures finish { result
-            ≡ finish_of (work_of self.now.timings) (start_of self.now.starts) n }
+            ≡ finish_of (work_in self.now) (starts_in self.now) n }
         ensures small { result < MAX_TICK + 2 ^ 32 }
     {
         self.start(n) + self.cost(n)
@@ -104,7 +105,7 @@ impl Plan {
 
     /// The tick at which every message has finished, 0 for no message.
     pub fn length(&self) -> u64
-        ensures length { result ≡ length_of (work_of self.now.timings) (start_of self.now.starts) }
+        ensures length { result ≡ length_of (work_in self.now) (starts_in self.now) }
         ensures small { result < MAX_TICK + 2 ^ 32 }
     {
         let mut length = 0;
@@ -116,7 +117,7 @@ impl Plan {
 
     /// The sum of all running times.
     pub fn total(&self) -> u64
-        ensures total { result ≡ total_of (work_of self.now.timings) }
+        ensures total { result ≡ total_of (work_in self.now) }
         ensures small { result ≤ 2 ^ 48 }
     {
         let mut total = 0;

@@ -8,7 +8,7 @@ use waff_model::Trace;
 use waff_model::limits::MAX_MESSAGES;
 
 /// How long a message runs, and when it may start.
-#[derive(Clone, Copy, Debug, PartialEq, Eq)]
+#[derive(Clone, Copy)]
 pub struct Timing {
     /// The running time, in ticks.
     pub cost: u32,

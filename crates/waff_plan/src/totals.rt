@@ -3,16 +3,18 @@
 ghost use Rattle.std.specs.Prelude.{◌≡◌, ◌+◌, ◌^◌, ◌<◌, ◌≤◌, IfSome, length};
 ghost use Rattle.waff_plan.specs.Bound.{IsWorkers};
 ghost use Rattle.waff_plan.specs.Chain.{IsListed, chain_cost, chain_release};
-ghost use Rattle.waff_plan.specs.Timing.{start_of, timing_of, work_of};
+ghost use Rattle.waff_plan.specs.Timing.{timing_of};
 ghost use Rattle.waff_plan.specs.Totals.{totals_of};
+ghost use Rattle.waff_plan.specs.Timetable.{work_in, starts_in};
 
 use crate::Plan;
 
 /// What the summary of a plan tells of it and of a chain of its messages, in ticks.
-#[derive(Clone, Copy, Debug, PartialEq, Eq)]
+#[derive(Clone, Copy, PartialEq)]
 pub struct Totals {
     /// The sum of all costs.
     pub total: u64,
+    /// The length of the plan.
     pub length: u64,
     /// The release of the chain.
     pub release: u64,
@@ -20,6 +22,7 @@ pub struct Totals {
     pub cost: u64,
     /// Of a list plan and its printed chain this is at most `right`: the bound.
     pub left: u64,
+    /// What `left` is compared with.
     pub right: u64,
 }
 
@@ -29,7 +32,7 @@ impl Plan {
         requires workers { IfSome workers IsWorkers }
         requires listed { IsListed (length self.now.timings) chain.now }
         ensures totals { result
-            ≡ totals_of workers (work_of self.now.timings) (start_of self.now.starts) chain.now }
+            ≡ totals_of workers (work_in self.now) (starts_in self.now) chain.now }
         ensures small { result.release + result.cost < 2 ^ 49 }
     {
         let total = self.total();
@@ -57,7 +60,7 @@ impl Plan {
 /// The sum of the running times of the messages.
 pub(crate) fn cost_of(plan: &Plan, chain: &[u32]) -> u64
     requires { IsListed (length plan.now.timings) chain.now }
-    ensures cost { result ≡ chain_cost (work_of plan.now.timings) chain.now }
+    ensures cost { result ≡ chain_cost (work_in plan.now) chain.now }
     ensures small { result ≤ 2 ^ 48 }
 {
     let _messages = plan.len();
@@ -71,7 +74,7 @@ pub(crate) fn cost_of(plan: &Plan, chain: &[u32]) -> u64
 /// The release of the first message, 0 where there is none.
 pub(crate) fn release_of(plan: &Plan, chain: &[u32]) -> u64
     requires { IsListed (length plan.now.timings) chain.now }
-    ensures release { result ≡ chain_release (work_of plan.now.timings) chain.now }
+    ensures release { result ≡ chain_release (work_in plan.now) chain.now }
     ensures small { result < 2 ^ 32 }
 {
     match chain {

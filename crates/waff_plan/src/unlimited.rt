@@ -4,8 +4,7 @@
 ghost use Rattle.std.specs.Prelude.{◌≡◌, ◌<◌, length, All, IfOk};
 ghost use Rattle.waff_assign.specs.Order.{IsOrdered};
 ghost use Rattle.waff_plan.specs.Obeys.{IsLeast};
-ghost use Rattle.waff_plan.specs.Timetable.{timings_of};
-ghost use Rattle.waff_plan.specs.Timing.{work_of, start_of};
+ghost use Rattle.waff_plan.specs.Timetable.{timings_of, work_in, starts_in};
 
 use crate::Plan;
 use crate::least::least_starts;
@@ -25,7 +24,7 @@ pub fn plan(
     requires known { All (λ a. a < length tree.now) assigned.now }
     ensures timings { IfOk result (λ plan. plan.timings ≡ timings_of trace.now.messages) }
     ensures least { IfOk result (λ plan. IsLeast (IsOrdered tree.now assigned.now)
-        (work_of plan.timings) (start_of plan.starts)) }
+        (work_in plan) (starts_in plan)) }
 {
     let timings = timings(alloc, trace)?;
     let starts = least_starts(alloc, tree, assigned, timings.as_slice())?;

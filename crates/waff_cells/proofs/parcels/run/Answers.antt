@@ -6,6 +6,7 @@ use Rattle.waff_cells.proofs.RowRuns.{parcels_run}
 use Rattle.waff_cells.proofs.parcels.run.Goals as goal
 
 pub returns-clause-parcels : goal.returns-clause-parcels
-returns-clause-parcels c = λ spaces owners named cells are parcels.
-    subst (λ (rows : List (List ℕ)). AreParcels spaces owners (meaning named cells) rows) (sym c.run.ensures.rows)
-    (parcels_run spaces owners named c.args.ops are cells (rows_of c.args.parcels.now) parcels)
+returns-clause-parcels c = λ owners cells owned parcels.
+    let spaces = c.args.layout.now.spaces in
+    subst (λ (rows : List (List ℕ)). AreParcels spaces owners (meaning c.args.ops.now cells) rows) (sym c.run.ensures.rows)
+    (parcels_run spaces owners c.args.ops.now owned cells (rows_of c.args.parcels.now) parcels)

@@ -1,25 +1,31 @@
 use Rattle.std.proofs.Common.{length, map, sym, ◌∙◌, ap, subst}
-use Rattle.waff_cells.specs.Held.{rows_of}
-use Rattle.waff_cells.specs.RowOps.{row_effect, IsOn}
+use Rattle.std.proofs.lemmas.Option.{slice_get_within, get_or_from_slice_get}
+use Rattle.waff_model.specs.Cells.{cells_of_op}
+use Rattle.waff_cells.specs.Held.{rows_of, AreWithin, IsWithin}
+use Rattle.waff_cells.specs.RowEffects.{row_effect}
+use Rattle.waff_cells.proofs.Meanings.{op_at}
 use Rattle.waff_cells.proofs.RowRuns.{run_more}
-use Rattle.waff_cells.proofs.ShortOps.{for_at}
 use Rattle.waff_cells.proofs.rows.run.Goals as goal
 
-pub run_op-requires : goal.run_op-requires
-run_op-requires c =
-    let ops = c.ops.inside in
-    let at = for_at ops.long.now ops.short.now c.args.ops c.ops.view_is c.loop-op.op-index _ c.row_op.result c.loop-op-test.true in
-    let is = c.row_op.ensures ∙ at.1 in
-    subst (λ sizes. IsOn sizes c.row_op.result) (sym c.loop-op.invariant.sizes)
-    (subst (IsOn (map length (rows_of c.args.rows.now))) (sym is) (c.requires c.loop-op.op-index c.row_op.result at.0))
+pub run_op-requires-clause-has : goal.run_op-requires-clause-has
+run_op-requires-clause-has g c =
+    op_at (g.A.Addresses.has c.args.addresses.now) c.args.ops.now c.loop-at.at c.get.result c.get.ensures c.requires.has
 
-pub loop-op-preserved : goal.loop-op-preserved
-loop-op-preserved c =
-    let ops = c.ops.inside in
-    let at = for_at ops.long.now ops.short.now c.args.ops c.ops.view_is c.loop-op.op-index _ c.row_op.result c.loop-op-test.true in
-    let is = c.row_op.ensures ∙ at.1 in
+pub run_op-requires-clause-within : goal.run_op-requires-clause-within
+run_op-requires-clause-within g c =
+    let at = g.A.Addresses.at c.args.addresses.now in
+    subst (λ sizes. AreWithin sizes at (cells_of_op c.get.result)) (sym c.loop-at.invariant.sizes)
+    (op_at (λ cell. IsWithin (map length (rows_of c.args.rows.now)) (at cell)) c.args.ops.now c.loop-at.at c.get.result c.get.ensures c.requires.within)
+
+pub loop-at-preserved : goal.loop-at-preserved
+loop-at-preserved g c =
+    let at = g.A.Addresses.at c.args.addresses.now in
+    let ops = c.args.ops.now in
+    let i = c.loop-at.at in
+    let op = c.get.result in
     record {
-      sizes = c.run_op.ensures.sizes ∙ c.loop-op.invariant.sizes;
-      rows = run_more c.args.ops c.loop-op.op-index c.row_op.result (rows_of c.args.rows.now) (rows_of c.loop-op.rows) (rows_of c.run_op.new.rows)
-          at.0 c.loop-op.invariant.rows (c.run_op.ensures.effect ∙ ap (λ op. row_effect op (rows_of c.loop-op.rows)) is);
+      sizes = c.run_op.ensures.sizes ∙ c.loop-at.invariant.sizes;
+      rows = run_more at ops i op (rows_of c.args.rows.now) (rows_of c.loop-at.rows) (rows_of c.run_op.new.rows)
+          (slice_get_within ops i op c.get.ensures) c.loop-at.invariant.rows
+          (c.run_op.ensures.effect ∙ ap (λ op. row_effect at op (rows_of c.loop-at.rows)) (sym (get_or_from_slice_get ops i op op c.get.ensures)));
     }

@@ -25,8 +25,8 @@ pub push_owners-requires : goal.push_owners-requires
 push_owners-requires c =
     cells_of_layout c.args.trace.now.sizes c.args.layout.now.spaces (cells_of c.ops_of-named.result.now) c.requires.fits c.ops_of-named.ensures.cells
 
-pub overflow_cast-len : goal.overflow_cast-len
-overflow_cast-len c =
+pub overflow_cast-len-in-loop-n : goal.overflow_cast-len-in-loop-n
+overflow_cast-len-in-loop-n c =
     let ops = c.ops_of-named.result.now in
     let found : c.push_owners.new.owners.items ≡ owners_in c.args.layout.now.spaces (cells_of ops)
     = c.in_ok-push_owners.ensures ∙ ap (λ xs. xs ++ owners_in c.args.layout.now.spaces (cells_of ops)) c.clear.ensures.items in

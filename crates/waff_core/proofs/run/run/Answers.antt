@@ -1,4 +1,4 @@
-use Rattle.std.proofs.Common.{◌≤◌, take, get_or, arith, rules, sym, subst}
+use Rattle.std.proofs.Common.{take, get_or, arith, sym, subst}
 use Rattle.std.proofs.lemmas.Option.{slice_get-get_or}
 use Rattle.waff_core.specs.Machine.{opening}
 use Rattle.waff_core.specs.Shown.{core_in}
@@ -13,20 +13,6 @@ loop-at-init c = record {
   runs = sym c.requires.opens;
   paced = subst (IsPaced 0) (sym c.requires.opens) (paced_opening c.args.seats);
 }
-
-pub overflow_cast-at : goal.overflow_cast-at
-overflow_cast-at c =
-    let few = events_few c.args.job.now c.requires.job c.requires.messages c.args.seats c.requires.few (take c.loop-at.at c.args.events.now) (core_in c.loop-at.machine)
-    c.loop-at.invariant.runs c.loop-at.at c.loop-at.invariant.paced in
-    let short : c.loop-at.at ≤ 196656 = few.0 in
-    search rules
-
-pub overflow_add-at : goal.overflow_add-at
-overflow_add-at c =
-    let few = events_few c.args.job.now c.requires.job c.requires.messages c.args.seats c.requires.few (take c.loop-at.at c.args.events.now) (core_in c.loop-at.machine)
-    c.loop-at.invariant.runs c.loop-at.at c.loop-at.invariant.paced in
-    let short : c.loop-at.at ≤ 196656 = few.0 in
-    search rules
 
 pub step-requires-clause-steady : goal.step-requires-clause-steady
 step-requires-clause-steady c =

@@ -1,13 +1,13 @@
-use Rattle.std.proofs.Common.{◌≡◌, ℕ, ◌+◌, ◌-◌, ◌≤◌, List, [], ◌∷◌, ◌++◌, length, set, replicate, sum_by, arith, rules, sym, ◌∙◌, ap, subst}
+use Rattle.std.proofs.Common.{◌≡◌, ℕ, ◌+◌, ◌-◌, ◌≤◌, List, [], ◌∷◌, ◌++◌, length, get_or, set, replicate, sum_by, arith, rules, sym, ◌∙◌, ap, subst}
 use Rattle.std.proofs.lemmas.List.{length-append}
 use Rattle.waff_model.specs.Places.{place_at}
 use Rattle.waff_model.specs.declared.places.Place.{Place}
-use Rattle.waff_order.specs.Needs.{AreNeeds, IsWithinDepth}
+use Rattle.waff_order.specs.Needs.{AreLists, AreNeeds, IsWithinDepth}
 use Rattle.waff_order.specs.Cuts.{parts, AreCuts}
 use Rattle.waff_assign.specs.Order.{affinity_of}
 use Rattle.waff_order.specs.Open.{chosen}
-use Rattle.waff_order.specs.Runs.{noted_at, AreGathered, AreNotes, IsNoted}
-use Rattle.waff_order.proofs.Noting.{notes_later}
+use Rattle.waff_model.specs.Later.{IsNoted, by_number}
+use Rattle.waff_order.specs.Runs.{AreGathered}
 use Rattle.waff_order.proofs.Parts.{sum_by-parts}
 use Rattle.waff_order.proofs.UpTo.{needs_by_depth, up_to_all, up_to_lists}
 use Rattle.waff_order.proofs.Reaching.{message_place, first_of, end_of, reached_none, needs_count, reached_more}
@@ -20,45 +20,35 @@ sum all ends cuts = let whole = sum_by-parts all 0 ends cuts in omega (arith, wh
 pub loop-m-init : goal.loop-m-init
 loop-m-init c =
     let tree = c.args.tree.now in
-    let notes = subst (λ n. AreNotes n 0 c.in_ok-latest.latest.places.items c.in_ok-latest.latest.blocks.items) c.len-count.ensures.count c.in_ok-latest.ensures.notes in
-    let messages : c.in_ok-opened.opened.messages.items ≡ replicate (length tree) 0
-    = c.in_ok-opened.ensures.messages ∙ ap (λ n. replicate n 0) c.len-count.ensures.count in
+    let opened : c.in_ok-opened.opened ≡ replicate (length tree) 0 = c.in_ok-opened.ensures ∙ ap (λ n. replicate n 0) c.len-count.ensures.count in
+    let latest : c.in_ok-latest.latest ≡ replicate (length tree) 0 = c.in_ok-latest.ensures ∙ ap (λ n. replicate n 0) c.len-count.ensures.count in
     record {
-      reached = rw (c.new-all.ensures.items, c.in_ok-ends.ensures.items, messages)
-          (reached_none tree c.args.assigned.now c.places-places.result.now c.len-count.ensures.tree c.places-places.ensures c.requires
-          c.in_ok-latest.latest.places.items c.in_ok-latest.latest.blocks.items notes);
-      filled = c.in_ok-opened.ensures.filled;
+      reached = rw (c.new-all.ensures.items, c.in_ok-ends.ensures.items, opened, latest)
+          (reached_none tree c.args.assigned.now c.places-places.result.now c.len-count.ensures.tree c.places-places.ensures c.requires);
     }
 
-pub note-requires-clause-notes : goal.note-requires-clause-notes
-note-requires-clause-notes c =
-    let notes = c.loop-m.invariant.reached.notes in
-    subst (λ n. AreNotes n c.loop-m.m c.loop-m.latest.places.items c.loop-m.latest.blocks.items) (sym notes.count)
-    (notes_later (length c.args.tree.now) (c.loop-m.m - 1) c.loop-m.m c.loop-m.latest.places.items c.loop-m.latest.blocks.items (omega arith) notes)
-
-pub overflow_cast-len : goal.overflow_cast-len
-overflow_cast-len c =
+pub overflow_cast-len-in-loop-m : goal.overflow_cast-len-in-loop-m
+overflow_cast-len-in-loop-m c =
     let assigned = c.args.assigned.now in
     let places = c.places-places.result.now in
     let all = c.loop-m.all.items in
-    let messages = c.loop-m.opened.messages.items in
-    let noted = c.loop-m.latest.places.items in
-    let blocks = c.loop-m.latest.blocks.items in
-    let left = c.take_needs.new.opened.messages.items in
+    let messages = c.loop-m.opened in
+    let noted = c.loop-m.latest in
+    let left = c.take_needs.new.opened in
     let n = c.loop-m.m - 1 in
     let next : c.loop-m.m ≡ n + 1 = omega arith in
-    let gathered = c.in_ok-take_needs.ensures.needs.0 in
+    let gathered = c.in_ok-take_needs.ensures.0 in
     let same : place_at places c.of.result.0 ≡ message_place places assigned (n + 1)
     = ap (λ a. place_at places a) (c.of.ensures ∙ ap (λ i. affinity_of assigned i) next) in
-    let gathers = subst (λ (p : Place). AreGathered p.first p.end messages left gathered) same c.in_ok-take_needs.ensures.needs.1 in
-    let more : c.take_needs.new.needs.items ≡ chosen gathered (noted_at noted blocks (first_of places assigned (n + 1)))
-    = c.in_ok-take_needs.ensures.needs.2 ∙ ap (λ (p : Place). chosen gathered (noted_at noted blocks p.first)) same in
-    let items : c.extend_from_slice.new.self.items ≡ all ++ chosen gathered (noted_at noted blocks (first_of places assigned (n + 1)))
+    let gathers = subst (λ (p : Place). AreGathered p.first p.end messages left gathered) same c.in_ok-take_needs.ensures.1 in
+    let more : c.take_needs.new.needs.items ≡ chosen gathered (get_or noted (first_of places assigned (n + 1)) 0)
+    = c.in_ok-take_needs.ensures.2 ∙ ap (λ (p : Place). chosen gathered (get_or noted p.first 0)) same in
+    let items : c.extend_from_slice.new.self.items ≡ all ++ chosen gathered (get_or noted (first_of places assigned (n + 1)) 0)
     = c.in_ok-extend_from_slice.ensures.items ∙ ap (λ xs. all ++ xs) (c.as_slice.ensures.value ∙ more) in
-    let bound = needs_count c.args.tree.now assigned places c.len-count.ensures.tree c.places-places.ensures c.requires all c.loop-m.ends.items messages noted blocks n
+    let bound = needs_count c.args.tree.now assigned places c.len-count.ensures.tree c.places-places.ensures c.requires all c.loop-m.ends.items messages noted n
     (omega arith) c.loop-m.invariant.reached left gathered gathers in
-    let long : length c.extend_from_slice.new.self.items ≡ length all + length (chosen gathered (noted_at noted blocks (first_of places assigned (n + 1))))
-    = ap length items ∙ length-append all (chosen gathered (noted_at noted blocks (first_of places assigned (n + 1)))) in
+    let long : length c.extend_from_slice.new.self.items ≡ length all + length (chosen gathered (get_or noted (first_of places assigned (n + 1)) 0))
+    = ap length items ∙ length-append all (chosen gathered (get_or noted (first_of places assigned (n + 1)) 0)) in
     let few : length assigned ≤ 65536 = c.len.ensures.few in
     let short : length c.extend_from_slice.new.self.items ≤ 131072 = omega (arith, bound, long, few) in
     search rules
@@ -70,66 +60,62 @@ loop-m-preserved c =
     let places = c.places-places.result.now in
     let all = c.loop-m.all.items in
     let ends = c.loop-m.ends.items in
-    let messages = c.loop-m.opened.messages.items in
-    let noted = c.loop-m.latest.places.items in
-    let blocks = c.loop-m.latest.blocks.items in
-    let left = c.take_needs.new.opened.messages.items in
-    let new_noted = c.note.new.self.places.items in
-    let new_blocks = c.note.new.self.blocks.items in
+    let messages = c.loop-m.opened in
+    let noted = c.loop-m.latest in
+    let left = c.take_needs.new.opened in
+    let new_noted = c.note.new.self in
     let n = c.loop-m.m - 1 in
     let next : c.loop-m.m ≡ n + 1 = omega arith in
     let reached = c.loop-m.invariant.reached in
-    let gathered = c.in_ok-take_needs.ensures.needs.0 in
+    let gathered = c.in_ok-take_needs.ensures.0 in
     let same : place_at places c.of.result.0 ≡ message_place places assigned (n + 1)
     = ap (λ a. place_at places a) (c.of.ensures ∙ ap (λ i. affinity_of assigned i) next) in
-    let gathers = subst (λ (p : Place). AreGathered p.first p.end messages left gathered) same c.in_ok-take_needs.ensures.needs.1 in
-    let needs = chosen gathered (noted_at noted blocks (first_of places assigned (n + 1))) in
+    let gathers = subst (λ (p : Place). AreGathered p.first p.end messages left gathered) same c.in_ok-take_needs.ensures.1 in
+    let needs = chosen gathered (get_or noted (first_of places assigned (n + 1)) 0) in
     let more : c.take_needs.new.needs.items ≡ needs
-    = c.in_ok-take_needs.ensures.needs.2 ∙ ap (λ (p : Place). chosen gathered (noted_at noted blocks p.first)) same in
+    = c.in_ok-take_needs.ensures.2 ∙ ap (λ (p : Place). chosen gathered (get_or noted p.first 0)) same in
     let items : c.extend_from_slice.new.self.items ≡ all ++ needs
     = c.in_ok-extend_from_slice.ensures.items ∙ ap (λ xs. all ++ xs) (c.as_slice.ensures.value ∙ more) in
     let last : c.len-in-loop-m.result ≡ length (all ++ needs) = search (rules, ap length items) in
     let pushed : c.push.new.self.items ≡ ends ++ length (all ++ needs) ∷ [] = c.in_ok-push.ensures.items ∙ ap (λ x. ends ++ x ∷ []) last in
-    let put : c.put.new.self.messages.items ≡ set left (first_of places assigned (n + 1)) (n + 1)
-    = c.put.ensures.messages ∙ ap (λ (p : Place). set left p.first c.loop-m.m) same ∙ ap (λ m. set left (first_of places assigned (n + 1)) m) next in
-    let notes = subst (λ m. AreNotes (length tree) m new_noted new_blocks) next
-    (subst (λ size. AreNotes size c.loop-m.m new_noted new_blocks) reached.notes.count c.note.ensures.notes) in
-    let notes_more = subst (λ m. IsNoted (first_of places assigned (n + 1)) (end_of places assigned (n + 1)) m noted blocks new_noted new_blocks) next
-    (subst (λ (p : Place). IsNoted p.first p.end c.loop-m.m noted blocks new_noted new_blocks) same c.note.ensures.noted) in
+    let put : c.put.new.self ≡ set left (first_of places assigned (n + 1)) (n + 1)
+    = c.put.ensures ∙ ap (λ (p : Place). set left p.first c.loop-m.m) same ∙ ap (λ m. set left (first_of places assigned (n + 1)) m) next in
+    let notes = subst (λ m. IsNoted by_number (first_of places assigned (n + 1)) (end_of places assigned (n + 1)) m noted new_noted) next
+    (subst (λ (p : Place). IsNoted by_number p.first p.end c.loop-m.m noted new_noted) same c.note.ensures) in
     let one_more : c.loop-m.m + 1 - 1 ≡ n + 1 = omega arith in
     record {
       reached = rw (items, pushed, put, one_more)
-          (reached_more tree assigned places c.len-count.ensures.tree c.places-places.ensures c.requires all ends messages noted blocks n (omega arith) reached
-          left gathered gathers new_noted new_blocks notes notes_more);
-      filled = c.put.ensures.filled;
+          (reached_more tree assigned places c.len-count.ensures.tree c.places-places.ensures c.requires all ends messages noted n (omega arith) reached
+          left gathered gathers new_noted notes);
     }
 
-pub new-requires-clause-cuts : goal.new-requires-clause-cuts
-new-requires-clause-cuts c = c.loop-m.invariant.reached.cuts
+pub new-requires : goal.new-requires
+new-requires c = c.loop-m.invariant.reached.cuts
 
-pub new-requires-clause-lists : goal.new-requires-clause-lists
-new-requires-clause-lists c =
+pub new-requires-2 : goal.new-requires-2
+new-requires-2 c =
     let few : length c.args.assigned.now ≤ 65536 = c.len.ensures.few in
-    up_to_lists c.args.tree.now c.args.assigned.now (parts c.loop-m.all.items 0 c.loop-m.ends.items) (c.loop-m.m - 1)
-    (omega arith) c.loop-m.invariant.reached.needs
+    subst AreLists (sym c.new.ensures)
+    (up_to_lists c.args.tree.now c.args.assigned.now (parts c.loop-m.all.items 0 c.loop-m.ends.items) (c.loop-m.m - 1)
+    (omega arith) c.loop-m.invariant.reached.needs)
 
 pub returns-clause-needs : goal.returns-clause-needs
 returns-clause-needs c =
-    subst (AreNeeds c.args.tree.now c.args.assigned.now) (sym c.new.ensures)
+    subst (AreNeeds c.args.tree.now c.args.assigned.now) (sym (c.new-2.ensures ∙ c.new.ensures))
     (up_to_all c.args.tree.now c.args.assigned.now (parts c.loop-m.all.items 0 c.loop-m.ends.items) (c.loop-m.m - 1)
     (omega arith) c.loop-m.invariant.reached.needs)
 
 pub returns-clause-few : goal.returns-clause-few
 returns-clause-few c = λ depth within.
     let reached = c.loop-m.invariant.reached in
-    let all : sum_by length c.new.result ≡ length c.loop-m.all.items
-    = ap (λ xs. sum_by length xs) c.new.ensures ∙ sum c.loop-m.all.items c.loop-m.ends.items reached.cuts in
-    needs_by_depth (length c.args.assigned.now) (sum_by length c.new.result) depth (omega (arith, all, reached.total))
+    let all : sum_by length c.new-2.result ≡ length c.loop-m.all.items
+    = ap (λ xs. sum_by length xs) (c.new-2.ensures ∙ c.new.ensures) ∙ sum c.loop-m.all.items c.loop-m.ends.items reached.cuts in
+    needs_by_depth (length c.args.assigned.now) (sum_by length c.new-2.result) depth (omega (arith, all, reached.total))
     (λ none. let flat = reached.flat (subst (λ d. IsWithinDepth c.args.tree.now d) none within) in omega (arith, all, flat))
 
 pub returns-clause-twice : goal.returns-clause-twice
 returns-clause-twice c =
     let reached = c.loop-m.invariant.reached in
-    let all : sum_by length c.new.result ≡ length c.loop-m.all.items
-    = ap (λ xs. sum_by length xs) c.new.ensures ∙ sum c.loop-m.all.items c.loop-m.ends.items reached.cuts in
+    let all : sum_by length c.new-2.result ≡ length c.loop-m.all.items
+    = ap (λ xs. sum_by length xs) (c.new-2.ensures ∙ c.new.ensures) ∙ sum c.loop-m.all.items c.loop-m.ends.items reached.cuts in
     omega (arith, all, reached.total)

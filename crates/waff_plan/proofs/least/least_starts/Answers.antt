@@ -3,7 +3,7 @@ use Rattle.waff_model.specs.Places.{place_at}
 use Rattle.waff_assign.specs.Order.{IsOrdered}
 use Rattle.waff_plan.specs.Work.{finish_of}
 use Rattle.waff_plan.specs.Timing.{work_of, start_of}
-use Rattle.waff_plan.specs.Table.{message_place, HasPlaces, IsTable}
+use Rattle.waff_plan.specs.Table.{message_place, IsTable}
 use Rattle.waff_plan.proofs.Forward.{IsOrdered_forward}
 use Rattle.waff_plan.proofs.Steps.{IsLeastUpTo, up_to_all}
 use Rattle.waff_plan.proofs.Planned.{planned_none, found_at, start_early, planned_next, early_is_printable}
@@ -30,7 +30,7 @@ pub loop-m-init : goal.loop-m-init
 loop-m-init c = record {
   planned = planned_none c.args.tree.now c.places-places.result.now c.args.assigned.now (work_of c.args.timings.now) c.in_ok-starts.starts.items c.in_ok-table.table (sym c.requires.lengths)
       (ap length c.in_ok-starts.ensures.items) (c.in_ok-table.ensures.table c.places-places.result.now c.args.assigned.now);
-  places = subst (λ x. HasPlaces x c.in_ok-table.table) c.len.ensures.count c.in_ok-table.ensures.places;
+  places = c.in_ok-table.ensures.count ∙ c.len.ensures.count;
 }
 
 pub loop-m-preserved : goal.loop-m-preserved
@@ -62,7 +62,7 @@ loop-m-preserved c =
     c.start_after-start.ensures.cost early planned found is note in
     record {
       planned = rw c.in_ok-push.ensures.items more;
-      places = subst (λ x. HasPlaces x next) c.loop-m.invariant.places.own.count c.note.ensures.places;
+      places = c.note.ensures.count ∙ c.loop-m.invariant.places;
     }
 
 pub returns-clause-least : goal.returns-clause-least

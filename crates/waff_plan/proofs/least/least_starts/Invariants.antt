@@ -1,5 +1,4 @@
-use Rattle.std.proofs.Common.{◌-◌, length}
-use Rattle.waff_plan.specs.Table.{HasPlaces}
+use Rattle.std.proofs.Common.{◌≡◌, ◌-◌, length}
 use Rattle.waff_plan.specs.Timing.{work_of}
 use Rattle.waff_plan.proofs.Planned.{IsPlanned}
 use Rattle.waff_plan.proofs.least.least_starts.Given as goal
@@ -7,5 +6,5 @@ use Rattle.waff_plan.proofs.least.least_starts.Given as goal
 abbrev pub invariant-loop-m : goal.invariant-loop-m
 invariant-loop-m l = record {
   planned : IsPlanned l.tree l.places l.assigned (work_of l.timings) l.starts.items (l.m - 1) l.table;
-  places : HasPlaces (length l.tree) l.table;
+  places : length l.table.own ≡ length l.tree;
 }

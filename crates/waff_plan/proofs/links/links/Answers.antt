@@ -3,9 +3,9 @@ use Rattle.std.proofs.lemmas.List.{length_push}
 use Rattle.waff_model.specs.Places.{place_at}
 use Rattle.waff_assign.specs.Order.{IsOrdered}
 use Rattle.waff_plan.specs.Work.{finish_of}
-use Rattle.waff_plan.specs.Timing.{work_of, start_of}
-use Rattle.waff_plan.specs.Table.{message_place, HasPlaces, IsTable}
+use Rattle.waff_plan.specs.Table.{message_place, IsTable}
 use Rattle.waff_plan.specs.Links.{IsLink, link_of}
+use Rattle.waff_plan.specs.Timetable.{work_in, starts_in}
 use Rattle.waff_plan.proofs.Linkings.{is_link, links_more}
 use Rattle.waff_plan.proofs.Planned.{found_at}
 use Rattle.waff_plan.proofs.links.links.Goals as goal
@@ -15,15 +15,15 @@ loop-m-init c = record {
   count = ap length c.in_ok-links.ensures.items;
   links = λ m from to. absurd (omega arith);
   table = c.in_ok-table.ensures.table c.places-places.result.now c.args.assigned.now _;
-  places = subst (λ x. HasPlaces x c.in_ok-table.table) c.len.ensures.count c.in_ok-table.ensures.places;
+  places = c.in_ok-table.ensures.count ∙ c.len.ensures.count;
 }
 
 pub loop-m-preserved : goal.loop-m-preserved
 loop-m-preserved c =
     let tree = c.args.tree.now in
     let assigned = c.args.assigned.now in
-    let work = work_of c.args.plan.now.timings in
-    let start = start_of c.args.plan.now.starts in
+    let work = work_in c.args.plan.now in
+    let start = starts_in c.args.plan.now in
     let finish = finish_of work start in
     let links = c.loop-m.links.items in
     let places = c.places-places.result.now in
@@ -47,5 +47,5 @@ loop-m-preserved c =
       count = rw items (let long = length_push links link in omega (arith, long, c.loop-m.invariant.count));
       links = rw items more;
       table = subst (λ x. IsTable places assigned finish x c.note.new.self) (this ∙ next) noted;
-      places = subst (λ x. HasPlaces x c.note.new.self) c.loop-m.invariant.places.own.count c.note.ensures.places;
+      places = c.note.ensures.count ∙ c.loop-m.invariant.places;
     }

@@ -1,15 +1,15 @@
 use Rattle.std.proofs.Common.{◌≡◌, ◌-◌, length}
 use Rattle.waff_assign.specs.Order.{IsOrdered}
 use Rattle.waff_plan.specs.Work.{finish_of}
-use Rattle.waff_plan.specs.Timing.{work_of, start_of}
-use Rattle.waff_plan.specs.Table.{HasPlaces, IsTable}
+use Rattle.waff_plan.specs.Table.{IsTable}
 use Rattle.waff_plan.specs.Links.{AreLinks}
+use Rattle.waff_plan.specs.Timetable.{work_in, starts_in}
 use Rattle.waff_plan.proofs.links.links.Given as goal
 
 abbrev pub invariant-loop-m : goal.invariant-loop-m
 invariant-loop-m l = record {
   count : length l.links.items ≡ l.m - 1;
-  links : AreLinks (IsOrdered l.tree l.assigned) (work_of l.plan.timings) (start_of l.plan.starts) (l.m - 1) l.links.items;
-  table : IsTable l.places l.assigned (finish_of (work_of l.plan.timings) (start_of l.plan.starts)) (l.m - 1) l.table;
-  places : HasPlaces (length l.tree) l.table;
+  links : AreLinks (IsOrdered l.tree l.assigned) (work_in l.plan) (starts_in l.plan) (l.m - 1) l.links.items;
+  table : IsTable l.places l.assigned (finish_of (work_in l.plan) (starts_in l.plan)) (l.m - 1) l.table;
+  places : length l.table.own ≡ length l.tree;
 }

@@ -2,8 +2,8 @@
 use Rattle.std.proofs.Common.{◌≡◌, ◌+◌, ◌-◌, ◌<◌, ◌≤◌, length, IfSome, arith, sym, ◌∙◌, ap, subst}
 use Rattle.waff_model.specs.Places.{place_at}
 use Rattle.waff_plan.specs.Work.{finish_of}
-use Rattle.waff_plan.specs.Timing.{work_of, start_of}
-use Rattle.waff_plan.specs.Table.{message_place, HasPlaces, IsTable}
+use Rattle.waff_plan.specs.Table.{message_place, IsTable}
+use Rattle.waff_plan.specs.Timetable.{work_in, starts_in}
 use Rattle.waff_plan.proofs.OrderKept.{after_latest, found_among, keeps_more, noted_before, starts_after}
 use Rattle.waff_plan.proofs.ordered.keeps_order.Goals as goal
 use Rattle.waff_plan.proofs.ordered.keeps_order.Goals.{then-m-count, else-m-count}
@@ -13,17 +13,17 @@ loop-m-init c = record {
   kept = λ i j o early. let from : 1 ≤ i = o.ordered.from in let earlier : i < j = o.ordered.earlier in absurd (omega arith);
   table =
       let none : 0 ≡ noted_before c.args.count 1 = omega arith in
-      subst (λ x. IsTable c.places-places.result.now c.args.assigned.now (finish_of (work_of c.args.plan.now.timings) (start_of c.args.plan.now.starts)) x c.in_ok-table.table)
+      subst (λ x. IsTable c.places-places.result.now c.args.assigned.now (finish_of (work_in c.args.plan.now) (starts_in c.args.plan.now)) x c.in_ok-table.table)
       none (c.in_ok-table.ensures.table c.places-places.result.now c.args.assigned.now _);
-  places = subst (λ x. HasPlaces x c.in_ok-table.table) c.len.ensures.count c.in_ok-table.ensures.places;
+  places = c.in_ok-table.ensures.count ∙ c.len.ensures.count;
 }
 
 pub returns-then-not-is_finished_by : goal.returns-then-not-is_finished_by
 returns-then-not-is_finished_by c =
     let tree = c.args.tree.now in
     let assigned = c.args.assigned.now in
-    let work = work_of c.args.plan.now.timings in
-    let start = start_of c.args.plan.now.starts in
+    let work = work_in c.args.plan.now in
+    let start = starts_in c.args.plan.now in
     let places = c.places-places.result.now in
     let count = c.args.count in
     let m = c.loop-m.m in
@@ -43,8 +43,8 @@ pub loop-m-preserved : goal.loop-m-preserved
 loop-m-preserved c =
     let tree = c.args.tree.now in
     let assigned = c.args.assigned.now in
-    let work = work_of c.args.plan.now.timings in
-    let start = start_of c.args.plan.now.starts in
+    let work = work_in c.args.plan.now in
+    let start = starts_in c.args.plan.now in
     let places = c.places-places.result.now in
     let count = c.args.count in
     let m = c.loop-m.m in
@@ -68,7 +68,7 @@ loop-m-preserved c =
           rw w.table-is (record {
             kept = more;
             table = subst (λ x. IsTable places assigned (finish_of work start) x w.note.new.self) after noted;
-            places = subst (λ x. HasPlaces x w.note.new.self) kept.places.own.count w.note.ensures.places;
+            places = w.note.ensures.count ∙ kept.places;
           })
           )
       | else-m-count w ↦ (

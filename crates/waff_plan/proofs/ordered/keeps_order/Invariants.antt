@@ -1,13 +1,13 @@
-use Rattle.std.proofs.Common.{length}
+use Rattle.std.proofs.Common.{◌≡◌, length}
 use Rattle.waff_plan.specs.Work.{finish_of}
-use Rattle.waff_plan.specs.Table.{HasPlaces, IsTable}
-use Rattle.waff_plan.specs.Timing.{work_of, start_of}
+use Rattle.waff_plan.specs.Table.{IsTable}
+use Rattle.waff_plan.specs.Timetable.{work_in, starts_in}
 use Rattle.waff_plan.proofs.OrderKept.{KeepsOrderBelow, noted_before}
 use Rattle.waff_plan.proofs.ordered.keeps_order.Given as goal
 
 abbrev pub invariant-loop-m : goal.invariant-loop-m
 invariant-loop-m l = record {
-  kept : KeepsOrderBelow l.tree l.assigned (work_of l.plan.timings) (start_of l.plan.starts) l.count l.m;
-  table : IsTable l.places l.assigned (finish_of (work_of l.plan.timings) (start_of l.plan.starts)) (noted_before l.count l.m) l.table;
-  places : HasPlaces (length l.tree) l.table;
+  kept : KeepsOrderBelow l.tree l.assigned (work_in l.plan) (starts_in l.plan) l.count l.m;
+  table : IsTable l.places l.assigned (finish_of (work_in l.plan) (starts_in l.plan)) (noted_before l.count l.m) l.table;
+  places : length l.table.own ≡ length l.tree;
 }

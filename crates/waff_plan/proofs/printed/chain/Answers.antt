@@ -3,8 +3,7 @@ use Rattle.waff_model.specs.Tree.{Node}
 use Rattle.waff_assign.specs.Order.{IsOrdered}
 use Rattle.waff_plan.specs.Work.{length_of}
 use Rattle.waff_plan.specs.Chain.{IsChain, IsListed, IsPrinted, chain_cost, chain_release}
-use Rattle.waff_plan.specs.Timing.{work_of, start_of}
-use Rattle.waff_plan.specs.Timetable.{Timetable}
+use Rattle.waff_plan.specs.Timetable.{Timetable, work_in, starts_in}
 use Rattle.waff_plan.proofs.Chains.{printed_is_chain, printed_is_as_long}
 use Rattle.waff_plan.proofs.Forward.{IsOrdered_forward}
 use Rattle.waff_plan.proofs.Linkings.{chain_is_numbers, chain_is_few}
@@ -12,19 +11,19 @@ use Rattle.waff_plan.proofs.printed.chain.Goals as goal
 
 -- a printed chain is a chain
 chain_from : (tree : List Node) (assigned : List ℕ) (plan : Timetable) (messages : List ℕ) → length plan.timings ≡ length assigned
-    → IsPrinted (IsOrdered tree assigned) (work_of plan.timings) (start_of plan.starts) messages
-    → IsChain (IsOrdered tree assigned) (work_of plan.timings) messages
+    → IsPrinted (IsOrdered tree assigned) (work_in plan) (starts_in plan) messages
+    → IsChain (IsOrdered tree assigned) (work_in plan) messages
 chain_from tree assigned plan messages same h =
-    printed_is_chain (IsOrdered tree assigned) (work_of plan.timings) (IsOrdered_forward tree assigned (work_of plan.timings) (sym same))
-    (start_of plan.starts) messages h
+    printed_is_chain (IsOrdered tree assigned) (work_in plan) (IsOrdered_forward tree assigned (work_in plan) (sym same))
+    (starts_in plan) messages h
 
 -- its messages are messages, at most as many as there are
 listed_from : (tree : List Node) (assigned : List ℕ) (plan : Timetable) (messages : List ℕ) → length plan.timings ≡ length assigned
-    → IsPrinted (IsOrdered tree assigned) (work_of plan.timings) (start_of plan.starts) messages
+    → IsPrinted (IsOrdered tree assigned) (work_in plan) (starts_in plan) messages
     → IsListed (length plan.timings) messages
 listed_from tree assigned plan messages same h =
     let before = IsOrdered tree assigned in
-    let work = work_of plan.timings in
+    let work = work_in plan in
     let linked = chain_from tree assigned plan messages same h in
     let numbers = chain_is_numbers before work messages linked in
     record {
@@ -49,7 +48,7 @@ returns-clause-listed c =
 
 pub returns-clause-chain : goal.returns-clause-chain
 returns-clause-chain c =
-    subst (λ x. IsChain (IsOrdered c.args.tree.now c.args.assigned.now) (work_of c.args.plan.now.timings) x)
+    subst (λ x. IsChain (IsOrdered c.args.tree.now c.args.assigned.now) (work_in c.args.plan.now) x)
     (sym (ap (λ chain. chain.messages) c.new.ensures))
     (chain_from c.args.tree.now c.args.assigned.now c.args.plan.now c.in_ok-messages.messages.items c.requires.lengths c.in_ok-messages.ensures.printed)
 
@@ -57,8 +56,8 @@ pub returns-clause-as_long : goal.returns-clause-as_long
 returns-clause-as_long c = λ least.
     let tree = c.args.tree.now in
     let assigned = c.args.assigned.now in
-    let work = work_of c.args.plan.now.timings in
-    let start = start_of c.args.plan.now.starts in
+    let work = work_in c.args.plan.now in
+    let start = starts_in c.args.plan.now in
     let messages = c.in_ok-messages.messages.items in
     let long : chain_release work messages + chain_cost work messages ≡ length_of work start
     = printed_is_as_long (IsOrdered tree assigned) work (IsOrdered_forward tree assigned work (sym c.requires.lengths)) start messages least

@@ -1,6 +1,9 @@
-use Rattle.std.proofs.Common.{◌≡◌, ◌≤◌, List, length, arith, ◌∙◌, ap}
+use Rattle.std.proofs.Common.{◌≡◌, ◌≤◌, List, length, arith, sym, ◌∙◌, ap, subst}
 use Rattle.std.proofs.lemmas.List.{length-map}
 use Rattle.waff_model.specs.declared.message.Message.{Message}
+use Rattle.waff_assign.specs.Order.{IsOrdered}
+use Rattle.waff_plan.specs.Obeys.{IsLeast}
+use Rattle.waff_plan.specs.Timing.{work_of, start_of}
 use Rattle.waff_plan.specs.Timetable.{timings_of}
 use Rattle.waff_plan.proofs.unlimited.plan.Goals as goal
 
@@ -19,3 +22,9 @@ new-requires c =
       few = omega arith;
       printable = c.in_ok-starts.ensures.printable;
     }
+
+pub returns-clause-least : goal.returns-clause-least
+returns-clause-least c =
+    let before = IsOrdered c.args.tree.now c.args.assigned.now in
+    subst (λ timings. IsLeast before (work_of timings) (start_of c.new.result.starts)) (c.as_slice.ensures.value ∙ sym c.new.ensures.timings)
+    (subst (λ starts. IsLeast before (work_of c.as_slice.result.now) (start_of starts)) (sym c.new.ensures.starts) c.in_ok-starts.ensures.least)

@@ -1,13 +1,13 @@
 use Rattle.std.proofs.Common.{◌≡◌, ◌+◌, ◌-◌, map, arith, sym, ◌∙◌, ap}
 use Rattle.std.specs.List.{range_with_len}
 use Rattle.waff_plan.specs.Work.{finish_of, greatest}
-use Rattle.waff_plan.specs.Timing.{work_of, start_of}
+use Rattle.waff_plan.specs.Timetable.{work_in, starts_in}
 use Rattle.waff_plan.proofs.Longest.{greatest_more}
 use Rattle.waff_plan.proofs.timetable.Plan.length.Goals as goal
 
 pub loop-n-preserved : goal.loop-n-preserved
 loop-n-preserved c =
-    let finish = finish_of (work_of c.args.self.now.timings) (start_of c.args.self.now.starts) in
+    let finish = finish_of (work_in c.args.self.now) (starts_in c.args.self.now) in
     let n = c.loop-n.n - 1 in
     let this : n + 1 ≡ c.loop-n.n = omega arith in
     let next : n + 1 ≡ c.loop-n.n + 1 - 1 = omega arith in

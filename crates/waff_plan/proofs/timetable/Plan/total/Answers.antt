@@ -1,12 +1,12 @@
 use Rattle.std.proofs.Common.{◌≡◌, ◌+◌, ◌-◌, sum_by, arith, sym, ◌∙◌, ap}
 use Rattle.std.specs.List.{range_with_len}
-use Rattle.waff_plan.specs.Timing.{work_of}
 use Rattle.waff_plan.proofs.Longest.{sum_more}
 use Rattle.waff_plan.proofs.timetable.Plan.total.Goals as goal
+use Rattle.waff_plan.specs.Timetable.{work_in}
 
 pub loop-n-preserved : goal.loop-n-preserved
 loop-n-preserved c =
-    let cost = (work_of c.args.self.now.timings).cost in
+    let cost = (work_in c.args.self.now).cost in
     let n = c.loop-n.n - 1 in
     let this : n + 1 ≡ c.loop-n.n = omega arith in
     let next : n + 1 ≡ c.loop-n.n + 1 - 1 = omega arith in

@@ -1,0 +1,77 @@
+use Rattle.std.proofs.Common.{◌≡◌, ℕ, ◌+◌, ◌-◌, ◌*◌, ◌/◌, ◌<◌, ◌≤◌, true, false, length, get_or, set, nat_lt, min, arith, refl, sym, ap, ◌∙◌, subst}
+use Rattle.std.proofs.lemmas.Bool.Decides.{nat_tests}
+use Rattle.std.proofs.lemmas.List.{get_or_read, with_items_is}
+use Rattle.waff_model.specs.Blocks.{AreFilled}
+use Rattle.waff_model.specs.Taken.{IsThinned, Takes}
+use Rattle.waff_model.proofs.TakeLemmas.{takes_join, takes_empty, filled_taken, filled_thinned}
+use Rattle.waff_model.proofs.spans.Opened.take.Goals as goal
+
+-- a run that is not less than a block is one
+whole_block : (at end to : ℕ) → end ≡ min to ((at / 64 + 1) * 64) → at < to → nat_lt (end - at) 64 ≡ false
+    → (at ≡ 64 * (at / 64)) × (end ≡ 64 * (at / 64) + 64)
+whole_block at end to is more long =
+    let all : 64 ≤ end - at = grind (arith, nat_tests) in
+    (omega arith, omega arith)
+
+pub invariant_of-self-in_err-take_each : goal.invariant_of-self-in_err-take_each
+invariant_of-self-in_err-take_each c =
+    let mid = c.loop-at.self-inside.places in
+    let new = c.take_each.new.places in
+    let thinned = subst (λ xs. IsThinned xs new) c.deref_mut.ensures.value c.take_each.ensures.thinned in
+    let kept = with_items_is mid new (thinned.count ∙ sym mid.ok.0) in
+    subst (λ xs. AreFilled xs c.loop-at.self-inside.blocks.items) (sym kept)
+    (filled_thinned mid.items new c.loop-at.self-inside.blocks.items thinned c.loop-at.invariant.filled)
+
+pub loop-at-preserved-in_ok-take_each : goal.loop-at-preserved-in_ok-take_each
+loop-at-preserved-in_ok-take_each c =
+    let old = c.self.inside.places.items in
+    let mid = c.loop-at.self-inside.places in
+    let new = c.take_each.new.places in
+    let filled = c.loop-at.self-inside.blocks.items in
+    let before = c.args.list.now.items in
+    let list = c.loop-at.list.items in
+    let more_list = c.take_each.new.list.items in
+    let at = c.loop-at.at in
+    let end = c.min-end.result in
+    let h = c.loop-at.invariant in
+    let is : end ≡ min c.args.to ((at / 64 + 1) * 64) = c.min-end.ensures in
+    let more : at < c.args.to = c.loop-at-test.true in
+    let same = ap length c.self.view_is in
+    let thinned = subst (λ xs. IsThinned xs new) c.deref_mut.ensures.value c.take_each.ensures.thinned in
+    let kept = with_items_is mid new (thinned.count ∙ sym mid.ok.0) in
+    let takes = subst (λ xs. Takes at end xs new list more_list) c.deref_mut.ensures.value c.in_ok-take_each.ensures.takes in
+    let flag = nat_lt (end - at) 64 in
+    record {
+      forward = omega (arith, h.forward);
+      within = omega arith;
+      filled = subst (λ xs. AreFilled xs (set filled (at / 64) flag)) (sym kept)
+          (filled_taken mid.items new filled at end (at / 64) flag takes.clears refl (omega arith)
+          (omega (arith, h.filled.room, h.takes.clears.count, more, same, c.requires.within)) (λ long. whole_block at end c.args.to is more long) h.filled);
+      takes = subst (λ xs. Takes c.args.from end old xs before more_list) (sym kept)
+          (takes_join c.args.from at end old mid.items new before list more_list h.forward (omega arith) h.takes takes);
+    }
+
+pub loop-at-preserved : goal.loop-at-preserved
+loop-at-preserved c =
+    let old = c.self.inside.places.items in
+    let mid = c.loop-at.self-inside.places.items in
+    let filled = c.loop-at.self-inside.blocks.items in
+    let list = c.loop-at.list.items in
+    let at = c.loop-at.at in
+    let end = c.min-end.result in
+    let h = c.loop-at.invariant in
+    let is : end ≡ min c.args.to ((at / 64 + 1) * 64) = c.min-end.ensures in
+    let more : at < c.args.to = c.loop-at-test.true in
+    let same = ap length c.self.view_is in
+    let block : at / 64 < length filled = omega (arith, h.filled.room, h.takes.clears.count, more, same, c.requires.within) in
+    let read : c.index.result.now ≡ get_or filled (at / 64) true = get_or_read filled (at / 64) c.index.result.now block c.index.ensures true in
+    let none : get_or filled (at / 64) true ≡ false = sym read ∙ c.if-index.false in
+    record {
+      forward = omega (arith, h.forward);
+      within = omega arith;
+      filled = h.filled;
+      takes = takes_join c.args.from at end old mid mid c.args.list.now.items list list h.forward (omega arith) h.takes
+          (takes_empty at end mid list (λ q late early.
+          let same : at / 64 ≡ q / 64 = omega arith in
+          h.filled.none q (subst (λ b. get_or filled b true ≡ false) same none)));
+    }

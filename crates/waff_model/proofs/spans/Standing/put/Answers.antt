@@ -1,0 +1,22 @@
+use Rattle.std.proofs.Common.{◌≡◌, ◌/◌, ◌<◌, length, set, arith, sym, ◌∙◌, ap, subst₂}
+use Rattle.std.proofs.lemmas.List.{get_or_read}
+use Rattle.waff_model.specs.Later.{value_at}
+use Rattle.waff_model.specs.Blocks.{AreSummed}
+use Rattle.waff_model.proofs.BlockLemmas.{summed_put}
+use Rattle.waff_model.proofs.spans.Standing.put.Goals as goal
+
+pub invariant_of-self : goal.invariant_of-self
+invariant_of-self g c =
+    let order = g.T.Later.order in
+    let places = c.self.inside.places.items in
+    let blocks = c.self.inside.blocks.items in
+    let p = c.args.place in
+    let same = ap length c.self.view_is in
+    let within : p < length places = omega (arith, same, c.requires) in
+    let block : p / 64 < length blocks = omega (arith, within, c.self.invariant.room) in
+    let one : c.later.result ≡ order.later (value_at order places p) c.args.value
+    = c.later.ensures ∙ ap (λ x. order.later x c.args.value) (get_or_read places p c.index.result.now within c.index.ensures order.none) in
+    let two : c.later-2.result ≡ order.later (value_at order blocks (p / 64)) c.args.value
+    = c.later-2.ensures ∙ ap (λ x. order.later x c.args.value) (get_or_read blocks (p / 64) c.index-2.result.now block c.index-2.ensures order.none) in
+    subst₂ (λ x y. AreSummed order (set places p x) (set blocks (p / 64) y)) (sym one) (sym two)
+    (summed_put order g.met.T.Later.laws places blocks p c.args.value within c.self.invariant)

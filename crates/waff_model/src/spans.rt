@@ -1,0 +1,282 @@
+//! Tables by the places of affinities in preorder, where those at or below one stand at one span of
+//! places.
+//!
+//! The places are cut into blocks, so that a long span is passed block by block.
+
+ghost use Rattle.std.specs.Prelude.{◌≡◌, ◌<◌, ◌≤◌, length, replicate, IfOk, OnOk, slice_set};
+ghost use Rattle.std.specs.Prelude.{slice_index_or};
+ghost use Rattle.waff_model.specs.Later.{Order, IsOrder, IsNoted, by_number};
+ghost use Rattle.waff_model.specs.Later.{latest_of, latest_in, value_at};
+ghost use Rattle.waff_model.specs.Taken.{IsThinned, Takes};
+ghost use Rattle.waff_model.specs.LaterLaws.{number_laws};
+
+use std::alloc::{AllocError, Global};
+use std::marker::Model;
+
+/// Each block is of so many places.
+const BLOCK: usize = 64;
+
+/// Values of which the later one counts, with one that stands for nothing and counts for nothing.
+pub trait Later: Copy + Drop {
+    ghost order: { Order Self };
+
+    /// What stands where there is no value.
+    fn none() -> Self
+        ensures { result ≡ order.none };
+
+    /// The later of the two.
+    fn later(self, other: Self) -> Self
+        ensures { result ≡ order.later self other };
+
+    ghost laws: { IsOrder order };
+}
+
+/// The number of a message, 0 for none.
+impl Later for u32 {
+    ghost order = { by_number };
+
+    #[inline]
+    fn none() -> u32 {
+        0
+    }
+
+    #[inline]
+    fn later(self, other: u32) -> u32 {
+        self.max(other)
+    }
+
+    ghost laws = { number_laws };
+}
+
+/// Values noted at spans of places: what counts at a place is the latest that was noted there.
+#[derive(Drop)]
+pub struct Spread<T: Later> {
+    /// What was noted at each place alone.
+    places: Vec<T>,
+    /// What was noted at all places of a block.
+    blocks: Vec<T>,
+}
+
+impl<T: Later> Model for Spread<T> {
+    ghost use Rattle.std.specs.Prelude.{List};
+    ghost use Rattle.waff_model.specs.Blocks.{spread_from, AreCut};
+
+    ghost Value = { List T };
+
+    ghost view = { λ s. spread_from T.order s.blocks.items 0 s.places.items };
+
+    ghost invariant = { λ s. AreCut s.places.items s.blocks.items };
+}
+
+impl<T: Later> Spread<T> {
+    /// Nothing is noted at these many places.
+    pub fn none(alloc: Global, count: usize) -> Result<Self, AllocError>
+        ensures { IfOk result (λ spread. spread ≡ replicate count T.order.none) }
+    {
+        Ok(Spread {
+            places: filled(alloc, count)?,
+            blocks: filled(alloc, count / BLOCK + 1)?,
+        })
+    }
+
+    /// What counts at this place.
+    #[inline]
+    pub fn at(&self, place: usize) -> T
+        requires { place < length self.now }
+        ensures { result ≡ value_at T.order self.now place }
+    {
+        self.places[place].later(self.blocks[place / BLOCK])
+    }
+
+    /// Notes a value at the places from `from` up to `to`.
+    pub fn note(&mut self, from: usize, to: usize, value: T)
+        requires forward { from ≤ to }
+        requires within { to ≤ length self.old }
+        ensures { IsNoted T.order from to value self.old self.new }
+    {
+        let (first, last) = (from.div_ceil(BLOCK), to / BLOCK);
+        if last <= first {
+            note_each(&mut self.places, from, to, value);
+            return;
+        }
+        note_each(&mut self.places, from, first * BLOCK, value);
+        note_each(&mut self.blocks, first, last, value);
+        note_each(&mut self.places, last * BLOCK, to, value);
+    }
+}
+
+/// Values that stand at places: what is asked for is the latest in a span.
+#[derive(Drop)]
+pub struct Standing<T: Later> {
+    /// What stands at each place.
+    places: Vec<T>,
+    /// The latest value in each block.
+    blocks: Vec<T>,
+}
+
+impl<T: Later> Model for Standing<T> {
+    ghost use Rattle.std.specs.Prelude.{List};
+    ghost use Rattle.waff_model.specs.Blocks.{AreSummed};
+
+    ghost Value = { List T };
+
+    ghost view = { λ s. s.places.items };
+
+    ghost invariant = { λ s. AreSummed T.order s.places.items s.blocks.items };
+}
+
+impl<T: Later> Standing<T> {
+    /// Nothing stands at these many places.
+    pub fn none(alloc: Global, count: usize) -> Result<Self, AllocError>
+        ensures { IfOk result (λ standing. standing ≡ replicate count T.order.none) }
+    {
+        Ok(Standing {
+            places: filled(alloc, count)?,
+            blocks: filled(alloc, count / BLOCK + 1)?,
+        })
+    }
+
+    /// The value stands at this place, where a later one does not.
+    #[inline]
+    pub fn put(&mut self, place: usize, value: T)
+        requires { place < length self.old }
+        ensures { self.new ≡ slice_set self.old place
+            (T.order.later (value_at T.order self.old place) value) }
+    {
+        let block = place / BLOCK;
+        self.places[place] = self.places[place].later(value);
+        self.blocks[block] = self.blocks[block].later(value);
+    }
+
+    /// The latest value at the places from `from` up to `to`.
+    pub fn latest(&self, from: usize, to: usize) -> T
+        requires forward { from ≤ to }
+        requires within { to ≤ length self.now }
+        ensures { result ≡ latest_in T.order self.now from to }
+    {
+        let (first, last) = (from.div_ceil(BLOCK), to / BLOCK);
+        if last <= first {
+            return latest(&self.places[from..to]);
+        }
+        let before = latest(&self.places[from..first * BLOCK]);
+        let whole = latest(&self.blocks[first..last]);
+        let behind = latest(&self.places[last * BLOCK..to]);
+        before.later(whole).later(behind)
+    }
+}
+
+/// Messages that are open at places, by number: those of a span are taken together.
+#[derive(Drop)]
+pub struct Opened {
+    /// The open message at each place, 0 where there is none.
+    places: Vec<u32>,
+    /// For each block whether a message may be open in it.
+    blocks: Vec<bool>,
+}
+
+impl Model for Opened {
+    ghost use Rattle.std.specs.Prelude.{List, ℕ};
+    ghost use Rattle.waff_model.specs.Blocks.{AreFilled};
+
+    ghost Value = { List ℕ };
+
+    ghost view = { λ o. o.places.items };
+
+    ghost invariant = { λ o. AreFilled o.places.items o.blocks.items };
+}
+
+impl Opened {
+    /// No message is open at these many places.
+    pub fn none(alloc: Global, count: usize) -> Result<Self, AllocError>
+        ensures { IfOk result (λ opened. opened ≡ replicate count 0) }
+    {
+        Ok(Opened {
+            places: vec![in alloc; 0; count]?,
+            blocks: vec![in alloc; false; count / BLOCK + 1]?,
+        })
+    }
+
+    /// Message `m` is open at this place.
+    #[inline]
+    pub fn put(&mut self, place: usize, m: u32)
+        requires { place < length self.old }
+        ensures { self.new ≡ slice_set self.old place m }
+    {
+        self.places[place] = m;
+        self.blocks[place / BLOCK] = true;
+    }
+
+    /// Appends the messages that are open at the places from `from` up to `to`, which are then
+    /// closed.
+    pub fn take(&mut self, from: usize, to: usize, list: &mut Vec<u32>) -> Result<(), AllocError>
+        requires forward { from ≤ to }
+        requires within { to ≤ length self.old }
+        ensures { OnOk result (Takes from to self.old self.new list.old.items list.new.items) }
+    {
+        let mut at = from;
+        while at < to {
+            let block = at / BLOCK;
+            let end = to.min((block + 1) * BLOCK);
+            if self.blocks[block] {
+                take_each(&mut self.places, at, end, list)?;
+                self.blocks[block] = end - at < BLOCK;
+            }
+            at = end;
+        }
+        Ok(())
+    }
+}
+
+/// So many values that stand for nothing.
+fn filled<T: Later>(alloc: Global, count: usize) -> Result<Vec<T>, AllocError>
+    ensures { IfOk result (λ values. values.items ≡ replicate count T.order.none) }
+{
+    let mut values = Vec::new(alloc);
+    values.resize(count, T::none())?;
+    Ok(values)
+}
+
+/// Notes a value at each place from `from` up to `to`.
+fn note_each<T: Later>(values: &mut [T], from: usize, to: usize, value: T)
+    requires forward { from ≤ to }
+    requires within { to ≤ length values.old }
+    ensures { IsNoted T.order from to value values.old values.new }
+{
+    for place in from..to {
+        values[place] = values[place].later(value);
+    }
+}
+
+/// The latest of the values.
+fn latest<T: Later>(values: &[T]) -> T
+    ensures { result ≡ latest_of T.order values.now }
+{
+    let mut latest = T::none();
+    for value in values {
+        latest = latest.later(*value);
+    }
+    latest
+}
+
+/// Takes the messages at the places from `from` up to `to`, looked at one by one.
+fn take_each(
+    places: &mut [u32],
+    from: usize,
+    to: usize,
+    list: &mut Vec<u32>,
+) -> Result<(), AllocError>
+    requires forward { from ≤ to }
+    requires within { to ≤ length places.old }
+    ensures thinned { IsThinned places.old places.new }
+    ensures takes { OnOk result
+        (Takes from to places.old places.new list.old.items list.new.items) }
+{
+    for place in from..to {
+        let m = places[place];
+        if m > 0 {
+            list.push(m)?;
+            places[place] = 0;
+        }
+    }
+    Ok(())
+}
