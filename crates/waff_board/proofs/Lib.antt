@@ -7,6 +7,7 @@ mod Draws
 mod Numbers
 mod Lookings
 mod Carrying
+mod Rows
 mod Between
 mod Grants
 mod Owners

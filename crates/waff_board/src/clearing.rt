@@ -68,7 +68,7 @@ impl Board {
         let Hand {
             mut chair,
             mut seen,
-            places,
+            parcels,
         } = hand;
         let word = self.table.shared.load::<LookStep>(&mut chair, n as usize);
         if word == DONE {
@@ -77,7 +77,7 @@ impl Board {
         Hand {
             chair,
             seen,
-            places,
+            parcels,
         }
     }
 }

@@ -22,18 +22,15 @@ use crate::tokens::EndSeat;
 use crate::view::{DONE, Setup, View};
 use atomic_table::{Closed, Seat, Table};
 use std::alloc::Global;
-use thiserror::Error;
 use waff_cells::State;
 use waff_core::Job;
 
 /// Why a closed board gives no state.
-#[derive(Clone, Copy, Debug, PartialEq, Eq, Error)]
+#[derive(Clone, Copy, Debug, PartialEq, Eq)]
 pub enum CloseError {
     /// The message is not done. It is the least such message.
-    #[error("message {message} is not done")]
     Unfinished { message: u32 },
     /// A growth of memory was refused.
-    #[error("out of memory")]
     Memory,
 }
 

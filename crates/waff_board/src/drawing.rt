@@ -28,13 +28,13 @@ impl Board {
         let Hand {
             mut chair,
             seen,
-            places,
+            parcels,
         } = hand;
         let number = self.table.shared.fetch_add::<DrawStep>(&mut chair, 0, 1);
         let hand = Hand {
             chair,
             seen,
-            places,
+            parcels,
         };
         match self.message_at(number) {
             Some(message) => Draw::Got(Drawn { hand, message }),

@@ -15,19 +15,13 @@ use crate::tokens::Seat;
 use crate::view::{Setup, View};
 use atomic_table::Table;
 use std::alloc::{AllocError, Global};
-use thiserror::Error;
 use waff_core::Job;
 use waff_model::{AffinityId, Layout};
 
-/// As many parcels as a seat has places for: a message has at most 32 operations, each of at most
-/// two cells.
-const PARCELS: usize = 64;
-
 /// Why no board is made.
-#[derive(Clone, Copy, Debug, PartialEq, Eq, Error)]
+#[derive(Clone, Copy, Debug, PartialEq, Eq)]
 pub enum BoardError {
     /// A growth of memory was refused.
-    #[error("out of memory")]
     Memory,
 }
 
@@ -81,7 +75,7 @@ impl Board {
         Ok(seats)
     }
 
-    /// The seat on this chair, with its marks and its places.
+    /// The seat on this chair, with its marks and its rows.
     fn seat(&self, chair: atomic_table::Seat<Vec<u64>, View>) -> Result<Seat, AllocError>
         requires job { chair.me.0.job ≡ self.now.job }
         requires fresh { IsFresh chair.me.0.actor chair.me.0 }
@@ -90,12 +84,12 @@ impl Board {
         ensures view { IfOk result (λ seat. seat.view ≡ chair.me.0) }
     {
         let seen = vec![in self.heap; false; self.setup.job.len() as usize + 1]?;
-        let places = Vec::with_capacity(self.heap, PARCELS)?;
+        let parcels = empty_rows(self.heap, self.setup.job.layout().tree().len())?;
         Ok(Seat {
             hand: Hand {
                 chair,
                 seen,
-                places,
+                parcels,
             },
         })
     }
@@ -143,4 +137,15 @@ fn zero_parcels(alloc: Global, layout: &Layout) -> Result<Vec<Vec<u64>>, AllocEr
         parcels.push(vec![in alloc; 0; size as usize]?)?;
     }
     Ok(parcels)
+}
+
+/// As many rows, each empty.
+fn empty_rows(alloc: Global, count: u32) -> Result<Vec<Vec<u64>>, AllocError>
+    ensures { IfOk result (λ rows. length rows.items ≡ count) }
+{
+    let mut rows = Vec::with_capacity(alloc, count as usize)?;
+    for _row in 0..count {
+        rows.push(Vec::new(alloc))?;
+    }
+    Ok(rows)
 }

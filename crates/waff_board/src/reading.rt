@@ -34,7 +34,7 @@ impl<'a> Grant<'a> {
             number ≡ serial self.now.view.job.ops (self.now.message - 1) cell) }
     {
         parcels::get(
-            self.hand.places.as_slice(),
+            self.hand.parcels.as_slice(),
             self.job.layout(),
             self.job.owners(self.message),
             cell,
@@ -57,6 +57,11 @@ impl<'a> Finished<'a> {
             number ≡ serial self.now.view.job.ops self.now.message cell) }
     {
         let owners = self.job.owners(self.message);
-        parcels::get(self.hand.places.as_slice(), self.job.layout(), owners, cell)
+        parcels::get(
+            self.hand.parcels.as_slice(),
+            self.job.layout(),
+            owners,
+            cell,
+        )
     }
 }

@@ -1,6 +1,9 @@
 //! Running a message.
 
-ghost use Rattle.std.specs.Prelude.{◌≡◌, ◌≤◌, [], length, map, vec_capacity};
+ghost use Rattle.std.specs.Prelude.{◌≡◌, ◌<◌, All, length, map};
+ghost use Rattle.std.specs.List.Sorted.{IsStrictlyIncreasing};
+ghost use Rattle.waff_cells.specs.Held.{rows_of};
+ghost use Rattle.waff_board.specs.Hands.{rows_at};
 ghost use Rattle.waff_board.specs.Plays.{begun_view, finished_view};
 ghost use Rattle.waff_board.specs.Tokens.{IsOf, HoldsBefore, HoldsAfter};
 
@@ -25,18 +28,17 @@ impl Board {
         let Hand {
             mut chair,
             seen,
-            mut places,
+            mut parcels,
         } = hand;
         let job = &self.setup.job;
-        places.clear();
         self.table
             .shared
             .store::<BeginStep>(&mut chair, message as usize, RUNNING);
-        self.take_out(&mut chair, job.owners(message), &mut places);
+        self.take_out(&mut chair, job.owners(message), &mut parcels);
         let hand = Hand {
             chair,
             seen,
-            places,
+            parcels,
         };
         Grant { hand, message, job }
     }
@@ -46,25 +48,24 @@ impl Board {
         &self,
         chair: &mut atomic_table::Seat<Vec<u64>, View>,
         owners: &[u16],
-        places: &mut Vec<Vec<u64>>,
+        parcels: &mut Vec<Vec<u64>>,
     )
         requires table { chair.old.table_id ≡ self.now.table }
         requires held { map (λ slot. slot.0) chair.old.me.1 ≡ owners.now }
-        requires empty { places.old.items ≡ [] }
-        requires room { length owners.now ≤ vec_capacity places.old }
+        requires rows { All (λ a. a < length parcels.old.items) owners.now }
+        requires rising { IsStrictlyIncreasing owners.now }
         ensures table { chair.new.table_id ≡ chair.old.table_id }
         ensures view { chair.new.me.0 ≡ chair.old.me.0 }
         ensures held { map (λ slot. slot.0) chair.new.me.1 ≡ owners.now }
-        ensures values { map (λ row. row.items) places.new.items
+        ensures values { rows_at (rows_of parcels.new.items) owners.now
             ≡ map (λ slot. slot.1.items) chair.old.me.1 }
-        ensures room { vec_capacity places.new ≡ vec_capacity places.old }
+        ensures rows { length parcels.new.items ≡ length parcels.old.items }
     {
         for a in owners {
-            let parcel = self
+            parcels[*a as usize] = self
                 .table
                 .shared
                 .exchange(chair, *a as usize, Vec::new(self.heap));
-            places.push_reserved(parcel);
             chair.turn();
         }
     }
@@ -83,9 +84,9 @@ impl Board {
         let Hand {
             mut chair,
             mut seen,
-            mut places,
+            mut parcels,
         } = hand;
-        self.put_in(&mut chair, self.setup.job.owners(message), &mut places);
+        self.put_in(&mut chair, self.setup.job.owners(message), &mut parcels);
         self.table
             .shared
             .store::<FinishStep>(&mut chair, message as usize, DONE);
@@ -93,7 +94,7 @@ impl Board {
         let hand = Hand {
             chair,
             seen,
-            places,
+            parcels,
         };
         Seat { hand }
     }
@@ -103,23 +104,22 @@ impl Board {
         &self,
         chair: &mut atomic_table::Seat<Vec<u64>, View>,
         owners: &[u16],
-        places: &mut Vec<Vec<u64>>,
+        parcels: &mut Vec<Vec<u64>>,
     )
         requires table { chair.old.table_id ≡ self.now.table }
         requires held { map (λ slot. slot.0) chair.old.me.1 ≡ owners.now }
-        requires count { length places.old.items ≡ length owners.now }
+        requires rows { All (λ a. a < length parcels.old.items) owners.now }
+        requires rising { IsStrictlyIncreasing owners.now }
         ensures table { chair.new.table_id ≡ chair.old.table_id }
         ensures view { chair.new.me.0 ≡ chair.old.me.0 }
         ensures held { map (λ slot. slot.0) chair.new.me.1 ≡ owners.now }
         ensures values { map (λ slot. slot.1.items) chair.new.me.1
-            ≡ map (λ row. row.items) places.old.items }
-        ensures room { vec_capacity places.new ≡ vec_capacity places.old }
+            ≡ rows_at (rows_of parcels.old.items) owners.now }
+        ensures rows { length parcels.new.items ≡ length parcels.old.items }
     {
-        for k in 0..owners.len() {
-            let parcel = mem::replace(&mut places[k], Vec::new(self.heap));
-            self.table
-                .shared
-                .exchange(chair, owners[k] as usize, parcel);
+        for a in owners {
+            let parcel = mem::replace(&mut parcels[*a as usize], Vec::new(self.heap));
+            self.table.shared.exchange(chair, *a as usize, parcel);
             chair.turn();
         }
     }
@@ -145,13 +145,17 @@ impl<'a> Grant<'a> {
         let Hand {
             chair,
             seen,
-            mut places,
+            mut parcels,
         } = hand;
-        parcels::run(places.as_mut_slice(), job.row_ops(message));
+        parcels::run(
+            parcels.as_mut_slice(),
+            job.layout(),
+            &job.message(message).ops,
+        );
         let hand = Hand {
             chair,
             seen,
-            places,
+            parcels,
         };
         Finished { hand, message, job }
     }

@@ -100,7 +100,7 @@ pub struct Grant<'a> {
         ≡ owners_of hand.chair.me.0.job.owners message },
     ghost before: { AreParcels hand.chair.me.0.job.layout.spaces
         (owners_of hand.chair.me.0.job.owners message)
-        (serial hand.chair.me.0.job.ops (message - 1)) (map (λ row. row.items) hand.places.items) },
+        (serial hand.chair.me.0.job.ops (message - 1)) (map (λ row. row.items) hand.parcels.items) },
 }
 
 impl<'a> Model for Grant<'a> {
@@ -113,7 +113,7 @@ impl<'a> Model for Grant<'a> {
       table = a.hand.chair.table_id;
       view = a.hand.chair.me.0;
       message = a.message;
-      parcels = map (λ row. row.items) a.hand.places.items;
+      parcels = map (λ row. row.items) a.hand.parcels.items;
     } };
 }
 
@@ -131,7 +131,7 @@ pub struct Finished<'a> {
         ≡ owners_of hand.chair.me.0.job.owners message },
     ghost after: { AreParcels hand.chair.me.0.job.layout.spaces
         (owners_of hand.chair.me.0.job.owners message)
-        (serial hand.chair.me.0.job.ops message) (map (λ row. row.items) hand.places.items) },
+        (serial hand.chair.me.0.job.ops message) (map (λ row. row.items) hand.parcels.items) },
 }
 
 impl<'a> Model for Finished<'a> {
@@ -144,7 +144,7 @@ impl<'a> Model for Finished<'a> {
       table = a.hand.chair.table_id;
       view = a.hand.chair.me.0;
       message = a.message;
-      parcels = map (λ row. row.items) a.hand.places.items;
+      parcels = map (λ row. row.items) a.hand.parcels.items;
     } };
 }
 
