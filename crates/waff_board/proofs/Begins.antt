@@ -23,7 +23,7 @@ use Rattle.waff_board.specs.Plays.{Parcels, begun_view}
 use Rattle.waff_board.specs.declared.view.Setup.{Setup}
 use Rattle.waff_board.specs.declared.view.View.{View}
 use Rattle.waff_board.proofs.Known.{Known, known, runs_more}
-use Rattle.waff_board.proofs.Moves.{Moves, seats_moved}
+use Rattle.waff_board.proofs.Moves.{Moves, draws_stay, ran_stays, seats_moved}
 use Rattle.waff_board.proofs.Owners.{AreApart, rising_apart}
 use Rattle.waff_board.proofs.Phases.{IsStill, runs_after}
 use Rattle.waff_board.proofs.Handing.{IsHome, Taken, take_all}
@@ -173,7 +173,6 @@ module _ (job : JobValue) (is : IsJob job) (seats : ℕ) (core : Core) (known : 
   moves_begun : Moves core x (begun_by core x m)
   moves_begun = record {
     others = λ y other. phase_other core.phases x y (Drawn m) (Running m) holds other;
-    drawn = omega arith;
     done = λ n done. done;
   }
 
@@ -181,8 +180,6 @@ module _ (job : JobValue) (is : IsJob job) (seats : ℕ) (core : Core) (known : 
   shown_begun v actor h = record {
     same = h.same;
     phase = subst (λ y. phase_of (begun_by core x m).phases y ≡ Some (Running m)) (sym actor) run_here;
-    below = h.below;
-    different = h.different;
     seen = h.seen;
   }
 
@@ -214,7 +211,8 @@ begins {S} items setup slots id m v is_drawn seen s h sized at small =
         words = words_begun job is setup.seats core facts x m holds clear s.words h.words;
         slots = slots_begun job is setup.seats core facts x m holds clear items s.homes h.slots r;
         seats = seats_moved setup core next s.views id v (begun_view v m) at (moves_begun job is setup.seats core facts x m holds clear) h.seats refl refl
-            (shown_begun job is setup.seats core facts x m holds clear v refl mine) (λ p there. inl there);
+            (shown_begun job is setup.seats core facts x m holds clear v refl mine)
+            (draws_stay setup core s.views id v at h.seats) (ran_stays setup core s.views id v at h.seats);
       },
       (refl, r.parcels),
     )

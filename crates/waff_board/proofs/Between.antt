@@ -1,17 +1,17 @@
 -- What follows from the rule.
-use Rattle.std.proofs.Common.{◌≡◌, ◌≢◌, inl, inr, ⊎_elim, ℕ, ◌+◌, ◌<◌, List, Some, AllPairs, Contains, slice_get, sym, ap, ◌∙◌, subst, arith}
-use Rattle.std.proofs.lemmas.Bool.{cases_order}
-use Rattle.std.proofs.lemmas.List.Elements.{All-contains}
+use Rattle.std.proofs.Common.{◌≡◌, ◌≢◌, inl, inr, ⊎_elim, ℕ, ◌+◌, ◌<◌, ◌≤◌, true, List, Some, AllPairs, Contains, length, slice_get, sym, ap, ◌∙◌, subst, arith}
+use Rattle.std.proofs.lemmas.Bool.{cases_order, cases_lt}
 use Rattle.std.proofs.lemmas.Option.{slice_get_within, get_or_from_slice_get}
 use mathlib.Core.Option.{some, some-injective}
 use lib.ListN.{get_elem?}
 use Rattle.waff_core.specs.Machine.{Core}
 use Rattle.waff_core.proofs.Phases.{Has}
-use Rattle.waff_board.specs.Laws.{ActorsDiffer, NumbersDiffer, HandedOutOnce, IsAt, RunByOne, SeenIsDone, DrawsAreFew}
-use Rattle.waff_board.specs.Seats.{Shown}
+use Rattle.waff_board.specs.Laws.{ActorsDiffer, NumbersDiffer, NumbersAreDrawn, HandedOutOnce, IsAt, RunByOne, RunOnce, DoneIsRun, SeenIsDone, DrawsAreFew, OpensUntouched}
+use Rattle.waff_board.specs.Seats.{Shown, IsListed, AreListedOnce}
 use Rattle.waff_board.specs.declared.view.Setup.{Setup}
 use Rattle.waff_board.specs.declared.view.View.{View}
 use Rattle.waff_board.proofs.Known.{Known, known}
+use Rattle.waff_board.proofs.Opens.{undrawn_opening}
 
 listed : (xs : List ℕ) (i p : ℕ) → slice_get xs i ≡ Some p → Contains xs p
 listed xs i p at = (i, slice_get_within xs i p at, get_or_from_slice_get xs i p p at)
@@ -33,20 +33,49 @@ actors_are_apart setup s h seat other v w at_v at_w same =
     let two : w.actor ≡ other + 1 = h.seats.actors other w at_w in
     omega (arith, one, two, same)
 
-pub numbers_are_apart : (setup : Setup) → NumbersDiffer setup
-numbers_are_apart setup s h seat other v w at_v at_w i j p in_v in_w =
-    let same : seat ≡ other = h.seats.draws seat other v w at_v at_w p (listed v.draws i p in_v) (listed w.draws j p in_w) in
-    let view : v ≡ w = same_view (sym at_v ∙ ap (λ k. get_elem? s.views k) same ∙ at_w) in
-    let mine : Shown setup.job h.core v = h.seats.each seat v at_v in
-    let below : p < h.core.drawn = All-contains (λ q. q < h.core.drawn) v.draws p mine.below (listed v.draws i p in_v) in
-    let drawn = h.words.draws in (
+-- a number that stands in lists of the views stands in one, and once
+listed_once : (list : View → List ℕ) (such : ℕ → Type 0) (views : List View) → AreListedOnce list such views
+    → (seat other : ℕ) (v w : View) → get_elem? views seat ≡ some v → get_elem? views other ≡ some w
+    → (i j n : ℕ) → slice_get (list v) i ≡ Some n → slice_get (list w) j ≡ Some n → (seat ≡ other) × (i ≡ j)
+listed_once list such views h seat other v w at_v at_w i j n in_v in_w =
+    let same : seat ≡ other = h.apart seat other v w at_v at_w n (listed (list v) i n in_v) (listed (list w) j n in_w) in
+    let view : v ≡ w = same_view (sym at_v ∙ ap (λ k. get_elem? views k) same ∙ at_w) in (
       same,
-      one_place v.draws i j p mine.different in_v (subst (λ (u : View). slice_get u.draws j ≡ Some p) (sym view) in_w),
-      omega (arith, below, drawn),
+      one_place (list v) i j n (h.once seat v at_v) in_v (subst (λ (u : View). slice_get (list u) j ≡ Some n) (sym view) in_w),
     )
   where
     same_view : some v ≡ some w → v ≡ w
     same_view is = some-injective v w is
+
+pub numbers_are_apart : (setup : Setup) → NumbersDiffer setup
+numbers_are_apart setup s h seat other v w at_v at_w i j p in_v in_w =
+    let apart : (seat ≡ other) × (i ≡ j)
+    = listed_once (λ (u : View). u.draws) (λ p. p < h.core.drawn) s.views h.seats.draws seat other v w at_v at_w i j p in_v in_w in
+    let below : p < h.core.drawn = h.seats.draws.only seat v at_v p (listed v.draws i p in_v) in
+    let drawn = h.words.draws in
+    (apart.0, apart.1, omega (arith, below, drawn))
+
+pub numbers_are_drawn : (setup : Setup) → NumbersAreDrawn setup
+numbers_are_drawn setup s h p below = h.seats.draws.each p (let drawn = h.words.draws in omega (arith, below, drawn))
+
+pub run_once : (setup : Setup) → RunOnce setup
+run_once setup s h = listed_once (λ (u : View). u.ran) (λ m. h.core.done m ≡ true) s.views h.seats.ran
+
+pub done_is_run : (setup : Setup) → DoneIsRun setup
+done_is_run setup s h m within = (
+  (λ two. h.seats.ran.each m ((h.words.statuses m within).done.0 two)),
+  (λ ran. (h.words.statuses m within).done.1 (h.seats.ran.only ran.seat ran.view ran.at m ran.has)),
+)
+
+pub opens_untouched : (setup : Setup) → OpensUntouched setup
+opens_untouched setup s h none = undrawn_opening setup.job setup.seats h.events h.core h.reached
+    (⊎_elim {C = h.core.drawn ≡ 0}
+    (λ (drawn : 0 < h.core.drawn).
+    let first : IsListed (λ v. v.draws) s.views 0 = h.seats.draws.each 0 drawn in
+    let few : length first.view.draws ≡ 0 = ap length (none first.seat first.view first.at) in
+    let has = first.has.1 in absurd (omega (arith, few, has)))
+    (λ (none : h.core.drawn ≤ 0). omega (arith, none))
+    (cases_lt 0 h.core.drawn))
 
 pub handed_out_once : (setup : Setup) → HandedOutOnce setup
 handed_out_once setup s h seat other v w at_v at_w i j p q m in_v in_w at_p at_q =

@@ -1,13 +1,12 @@
 -- Taking parcels out of the slots that a seat holds, one after another, and putting them in.
-use Rattle.std.proofs.Common.{add-one, get_or-drop, drop-drop, drop_of_length-le, take_all, ◌≡◌, ℕ, zero, suc, ◌+◌, ◌<◌, ◌≤◌, List, [], ◌∷◌, ◌++◌, Some, map, length, get_or, take, drop, slice_get, slice_index_or, append_assoc, refl, sym, ap, ◌∙◌, subst, arith}
-use mathlib.Core.List.{map-append}
+use Rattle.std.proofs.Common.{add-one, drop_of_length-le, take_all, ◌≡◌, ℕ, zero, suc, ◌+◌, ◌<◌, ◌≤◌, List, [], ◌∷◌, ◌++◌, map, length, get_or, take, drop, append_assoc, refl, sym, ap, ◌∙◌, subst, arith}
+use mathlib.Core.List.{append-nil, map-append}
 use Rattle.std.proofs.Math.Seq.{drop-cons}
 use Rattle.std.proofs.lemmas.List.{take_more}
-use Rattle.std.proofs.lemmas.Option.{none-some, same_Some}
 use Rattle.atomic_table.specs.Table.{Me, rest as rest_of, turned}
 use Rattle.waff_model.specs.Layout.{Space}
 use Rattle.waff_cells.specs.Meaning.{Cells}
-use Rattle.waff_cells.specs.Parcel.{IsParcel, AreParcels}
+use Rattle.waff_board.specs.Hands.{rows_at}
 use Rattle.waff_board.specs.Plays.{Parcels}
 use Rattle.waff_board.specs.declared.view.View.{View}
 
@@ -30,7 +29,7 @@ pub record IsPutting {S : Type 0} (items : S → List ℕ) (v : View) (owners : 
   pub over : map (λ slot. slot.0) gone ≡ take k owners
   pub filled : map (λ slot. items slot.1) gone ≡ take k values
 
-drop_next : (xs : List ℕ) (k : ℕ) → k < length xs → drop k xs ≡ get_or xs k 0 ∷ drop (k + 1) xs
+pub drop_next : (xs : List ℕ) (k : ℕ) → k < length xs → drop k xs ≡ get_or xs k 0 ∷ drop (k + 1) xs
 drop_next xs k within = rw (add-one, drop-cons xs k 0) refl
 
 -- the first slot that a seat holds is the next of these affinities
@@ -118,24 +117,6 @@ module _ {S : Type 0} (items : S → List ℕ) (v : View) (owners : List ℕ) (v
             ∙ sym (take_more values k [] there);
       }
 
--- slots with the parcels of these affinities, and the rows of their numbers
-pub parcels_from : {S : Type 0} (items : S → List ℕ) (spaces : List Space) (cells : Cells) (owners : List ℕ) (held : List (ℕ × S))
-    → map (λ slot. slot.0) held ≡ owners → AreParcels spaces owners cells (map (λ slot. items slot.1) held)
-    → Parcels items spaces cells owners held
-parcels_from items spaces cells [] [] names rows = tt
-parcels_from items spaces cells [] (slot ∷ held) names rows = absurd (cc)
-parcels_from items spaces cells (a ∷ owners) [] names rows = absurd (cc)
-parcels_from items spaces cells (a ∷ owners) (slot ∷ held) names rows =
-    let name : slot.0 ≡ a = cc in
-    let later : map (λ slot. slot.0) held ≡ owners = cc in
-    let count = rows.count in (
-      (name, rows.each 0 a refl),
-      parcels_from items spaces cells owners held later (record {
-        count = omega (arith, count);
-        each = λ k b at. rows.each (suc k) b at;
-      }),
-    )
-
 pub names_of : {S : Type 0} (items : S → List ℕ) (spaces : List Space) (cells : Cells) (owners : List ℕ) (held : List (ℕ × S))
     → Parcels items spaces cells owners held → map (λ slot. slot.0) held ≡ owners
 names_of items spaces cells [] [] parcels = refl
@@ -143,32 +124,6 @@ names_of items spaces cells [] (slot ∷ held) parcels = absurd parcels
 names_of items spaces cells (a ∷ owners) [] parcels = absurd parcels
 names_of items spaces cells (a ∷ owners) (slot ∷ held) parcels =
     ap (λ b. b ∷ map (λ slot. slot.0) held) parcels.0.0 ∙ ap (λ names. a ∷ names) (names_of items spaces cells owners held parcels.1)
-
-pub rows_of : {S : Type 0} (items : S → List ℕ) (spaces : List Space) (cells : Cells) (owners : List ℕ) (held : List (ℕ × S))
-    → Parcels items spaces cells owners held → AreParcels spaces owners cells (map (λ slot. items slot.1) held)
-rows_of items spaces cells [] [] parcels = record { count = refl; each = λ k a at. absurd (none-some a at) }
-rows_of items spaces cells [] (slot ∷ held) parcels = absurd parcels
-rows_of items spaces cells (a ∷ owners) [] parcels = absurd parcels
-rows_of {S = S} items spaces cells (a ∷ owners) (slot ∷ held) parcels =
-    let rest = rows_of items spaces cells owners held parcels.1 in
-    record { count = ap suc rest.count; each = each rest parcels.0.1 }
-  where
-    each : AreParcels spaces owners cells (map (λ slot. items slot.1) held) → IsParcel spaces a cells (items slot.1)
-        → (k b : ℕ) → slice_get (a ∷ owners) k ≡ Some b
-        → IsParcel spaces b cells (slice_index_or (map (λ (slot : ℕ × S). items slot.1) (slot ∷ held)) k [])
-    each rest first zero b at = subst (λ b. IsParcel spaces b cells (items slot.1)) (same_Some a b at) first
-    each rest first (suc k) b at = rest.each k b at
-
--- what two lists have at a place, where they are the same from there on
-pub same_there : (rows others : List (List ℕ)) (k : ℕ) → drop k rows ≡ drop k others → get_or rows k [] ≡ get_or others k []
-same_there rows others k same =
-    let at : k + 0 ≡ k = omega arith in
-    subst (λ n. get_or rows n [] ≡ get_or others n []) at
-    (sym (get_or-drop k rows 0 []) ∙ ap (λ (xs : List (List ℕ)). get_or xs 0 []) same ∙ get_or-drop k others 0 [])
-
-pub same_after : (rows others : List (List ℕ)) (k : ℕ) → drop k rows ≡ drop k others → drop (k + 1) rows ≡ drop (k + 1) others
-same_after rows others k same =
-    sym (drop-drop 1 k rows) ∙ ap (λ (xs : List (List ℕ)). drop 1 xs) same ∙ drop-drop 1 k others
 
 -- the numbers of what is read at a place
 pub row_there : {S : Type 0} (items : S → List ℕ) (xs : List S) (k : ℕ) (x : S) → k < length xs → x ≡ get_or xs k x
@@ -181,6 +136,28 @@ row_there items (y ∷ ys) (suc k) x within is = row_there items ys k x (omega (
 nothing_left : {S : Type 0} (coming : List (ℕ × S)) → map (λ slot. slot.0) coming ≡ [] → coming ≡ []
 nothing_left [] names = refl
 nothing_left (x ∷ coming) names = absurd (cc)
+
+-- before any is taken out
+pub taking_start : {S : Type 0} (items : S → List ℕ) (me : Me S View) (owners : List ℕ) → map (λ slot. slot.0) me.1 ≡ owners
+    → IsTaking items me.0 owners (map (λ slot. items slot.1) me.1) 0 me []
+taking_start items me owners names = record {
+  coming = me.1;
+  gone = [];
+  is = ap (λ xs. (me.0, xs)) (sym (append-nil me.1));
+  to_come = names;
+  over = refl;
+  whole = refl;
+}
+
+-- once all are taken out
+pub taken_all : {S : Type 0} (items : S → List ℕ) (v : View) (owners : List ℕ) (values : List (List ℕ)) (k : ℕ) (me : Me S View) (rows : List (List ℕ))
+    → length owners ≤ k → IsTaking items v owners values k me (rows_at rows (take k owners)) → rows_at rows owners ≡ values
+taken_all {S = S} items v owners values k me rows past h =
+    let left : h.coming ≡ [] = nothing_left h.coming (h.to_come ∙ drop_of_length-le owners past) in
+    ap (λ names. rows_at rows names) (sym (take_all k owners past))
+    ∙ sym (append-nil (rows_at rows (take k owners)))
+    ∙ sym (ap (λ (xs : List (ℕ × S)). rows_at rows (take k owners) ++ map (λ slot. items slot.1) xs) left)
+    ∙ h.whole
 
 pub put_all : {S : Type 0} (items : S → List ℕ) (v : View) (owners : List ℕ) (values : List (List ℕ)) (k : ℕ) (me : Me S View)
     → IsPutting items v owners values k me → length owners ≤ k → length values ≤ k → map (λ slot. items slot.1) me.1 ≡ values

@@ -1,10 +1,8 @@
 -- A draw keeps the rule.
-use Rattle.std.proofs.Common.{◌≡◌, ◌≢◌, ◌⊎◌, inl, inr, ℕ, ◌+◌, ◌%◌, ◌^◌, ◌<◌, ◌≤◌, List, [], ◌∷◌, ◌++◌, Option, Some, None, Contains, length, set, slice_get, slice_index, refl, sym, ◌∙◌, subst, ⊎_elim, arith, length-set}
+use Rattle.std.proofs.Common.{◌≡◌, ◌≢◌, ◌⊎◌, inl, inr, ℕ, ◌+◌, ◌%◌, ◌^◌, ◌<◌, ◌≤◌, List, [], ◌∷◌, ◌++◌, Option, Some, None, AllPairs, Contains, length, set, slice_get, slice_index, refl, sym, ◌∙◌, subst, ⊎_elim, arith, length-set}
 use Rattle.std.proofs.Math.Nat.{mod-eq_of_lt}
 use Rattle.std.proofs.lemmas.List.{get_or-set_same, get_or-set_other}
-use Rattle.std.proofs.lemmas.List.Elements.{All-weaker, All-push, Contains-push_cases}
-use Rattle.std.proofs.lemmas.List.Quantifiers.{all_pairs_push}
-use mathlib.Core.Option.{some}
+use Rattle.std.proofs.lemmas.Bool.{cases_lt}
 use Rattle.atomic_table.specs.Table.{Allows, keeps}
 use Rattle.waff_core.specs.Job.{JobValue}
 use Rattle.waff_core.specs.Machine.{Core, IsAway, Runs, opening, phase_of, phase_drawn, drawn_by}
@@ -20,7 +18,8 @@ use Rattle.waff_board.specs.declared.view.View.{View}
 use Rattle.waff_board.proofs.Known.{known, runs_more}
 use Rattle.waff_core.proofs.Phases.{phase_same, phase_other}
 use Rattle.waff_board.proofs.Phases.{IsStill, runs_before, runs_after}
-use Rattle.waff_board.proofs.Moves.{Moves, seats_moved}
+use Rattle.waff_board.proofs.Listed.{Adds, adds_one}
+use Rattle.waff_board.proofs.Moves.{Moves, ran_stays, seats_moved}
 
 free_still : IsStill Free
 free_still n same = cc
@@ -81,7 +80,6 @@ module _ (job : JobValue) (core : Core) (x : ℕ) (free : phase_of core.phases x
   moves_drawn : Moves core x (drawn_by job core x)
   moves_drawn = record {
     others = λ y other. phase_other core.phases x y Free (phase_drawn (slice_get job.order core.drawn)) free other;
-    drawn = omega arith;
     done = λ n done. done;
   }
 
@@ -91,12 +89,18 @@ module _ (job : JobValue) (core : Core) (x : ℕ) (free : phase_of core.phases x
     phase = subst (λ (j : JobValue). phase_of (drawn_by job core x).phases v.actor ≡ Some (phase_drawn (slice_get j.order core.drawn))) (sym h.same)
         (subst (λ y. phase_of (drawn_by job core x).phases y ≡ Some (phase_drawn (slice_get job.order core.drawn))) (sym actor)
         (phase_same core.phases x Free (phase_drawn (slice_get job.order core.drawn)) free));
-    below = All-push (λ p. p < core.drawn + 1) v.draws core.drawn
-        (All-weaker (λ p. p < core.drawn) (λ p. p < core.drawn + 1) (λ p before. omega (arith, before)) v.draws h.below) (omega arith);
-    different = all_pairs_push (λ p q. p ≢ q) v.draws core.drawn h.different
-        (λ k d within same. let before = h.below k d within in absurd (omega (arith, before, same)));
     seen = h.seen;
   }
+
+-- the number of draws comes to the numbers drawn
+draws_more : (drawn : ℕ) (xs : List ℕ) → ((p : ℕ) → Contains xs p → p < drawn) → AllPairs (λ p q. p ≢ q) xs
+    → Adds (λ p. p < drawn) (λ p. p < drawn + 1) xs (xs ++ drawn ∷ [])
+draws_more drawn xs below once = adds_one (λ p. p < drawn) (λ p. p < drawn + 1) xs drawn below once
+    (λ is. omega (arith, is)) (omega arith) (λ p is. omega (arith, is)) more
+  where
+    more : (p : ℕ) → p < drawn + 1 → (p < drawn) ⊎ (drawn ≡ p)
+    more p is = ⊎_elim {C = (p < drawn) ⊎ (drawn ≡ p)}
+        (λ (before : p < drawn). inl before) (λ (past : drawn ≤ p). inr (omega (arith, past, is))) (cases_lt p drawn)
 
 module _ (setup : Setup) where
   -- a free seat may draw
@@ -131,9 +135,8 @@ module _ (setup : Setup) where
           seats = subst (λ p. Seats setup next (set s.views id (drawn_view v p))) (sym drawn)
               (seats_moved setup core next s.views id v (drawn_view v core.drawn) at (moves_drawn job core x free) h.seats refl refl
               (shown_drawn job core x free v refl mine)
-              (λ p there. ⊎_elim {C = Contains v.draws p ⊎ (p ≡ core.drawn)}
-              (λ (old : Contains v.draws p). inl old) (λ (new : core.drawn ≡ p). inr (sym new))
-              (Contains-push_cases v.draws core.drawn p there)));
+              (draws_more core.drawn v.draws (h.seats.draws.only id v at) (h.seats.draws.once id v at))
+              (ran_stays setup core s.views id v at h.seats));
         },
         refl,
       )

@@ -1,5 +1,5 @@
 -- A finish keeps the rule.
-use Rattle.std.proofs.Common.{◌≡◌, ◌≢◌, inl, inr, ⊎_elim, ℕ, ◌==◌, ◌||◌, true, List, [], ◌∷◌, ◌++◌, Some, Contains, set, slice_index, refl, ap, sym, ◌∙◌, subst, arith, length-set}
+use Rattle.std.proofs.Common.{◌≡◌, ◌≢◌, ◌⊎◌, inl, inr, ⊎_elim, ℕ, ◌==◌, ◌||◌, true, true≢false, List, [], ◌∷◌, ◌++◌, Some, AllPairs, Contains, set, slice_index, refl, ap, sym, ◌∙◌, subst, arith, length-set}
 use Rattle.std.proofs.lemmas.List.{get_or-set_same, get_or-set_other}
 use Rattle.std.proofs.lemmas.Option.{same_Some}
 use mathlib.Core.Option.{Option, none}
@@ -23,7 +23,8 @@ use Rattle.waff_board.specs.declared.view.Setup.{Setup}
 use Rattle.waff_board.specs.declared.view.View.{View}
 use Rattle.waff_board.proofs.Known.{Known, known, runs_more}
 use Rattle.waff_board.proofs.Seen.{finish_cases}
-use Rattle.waff_board.proofs.Moves.{Moves, at_within, seats_moved}
+use Rattle.waff_board.proofs.Listed.{Adds, adds_one, at_within}
+use Rattle.waff_board.proofs.Moves.{Moves, draws_stay, seats_moved}
 use Rattle.waff_board.proofs.Owners.{decide_in}
 use Rattle.waff_board.proofs.Phases.{IsStill, runs_before}
 use Rattle.waff_board.proofs.Handing.{IsHome, Given, give_all, given}
@@ -160,9 +161,18 @@ module _ (job : JobValue) (is : IsJob job) (seats : ℕ) (core : Core) (known : 
   moves_finished : Moves core x (ended_by job core x m)
   moves_finished = record {
     others = λ y other. phase_other core.phases x y (Running m) Free runs other;
-    drawn = omega arith;
     done = λ n done. done_kept core m n done;
   }
+
+  -- the message comes to those that the seat has run
+  ran_more : (xs : List ℕ) → ((n : ℕ) → Contains xs n → core.done n ≡ true) → AllPairs (λ i j. i ≢ j) xs
+      → Adds (λ n. core.done n ≡ true) (λ n. (n == m || core.done n) ≡ true) xs (xs ++ m ∷ [])
+  ran_more xs done once = adds_one (λ n. core.done n ≡ true) (λ n. (n == m || core.done n) ≡ true) xs m done once
+      (λ is. true≢false (sym is ∙ known.undone x m (inr runs)))
+      (done_this core m)
+      (λ n is. done_kept core m n is)
+      (λ n is. ⊎_elim {C = (core.done n ≡ true) ⊎ (m ≡ n)}
+      (λ (same : n ≡ m). inr (sym same)) (λ (was : core.done n ≡ true). inl was) (done_cases core m n is))
 
   seen_finished : (v : View) → Shown job core v → (n : ℕ) → HasSeen (finished_view v m) n → (n == m || core.done n) ≡ true
   seen_finished v h n seen = ⊎_elim {C = (n == m || core.done n) ≡ true}
@@ -174,8 +184,6 @@ module _ (job : JobValue) (is : IsJob job) (seats : ℕ) (core : Core) (known : 
   shown_finished v actor h = record {
     same = h.same;
     phase = subst (λ y. phase_of (ended_by job core x m).phases y ≡ Some Free) (sym actor) free_here;
-    below = h.below;
-    different = h.different;
     seen = seen_finished v h;
   }
 
@@ -205,7 +213,9 @@ finishes {S} items setup slots id m v held is_running parcels s h sized at small
         words = words_finished job is setup.seats core facts x m runs s.words h.words;
         slots = slots_finished job is setup.seats core facts x m runs items s.homes h.slots held r;
         seats = seats_moved setup core next s.views id v (finished_view v m) at (moves_finished job is setup.seats core facts x m runs) h.seats refl refl
-            (shown_finished job is setup.seats core facts x m runs v refl mine) (λ p there. inl there);
+            (shown_finished job is setup.seats core facts x m runs v refl mine)
+            (draws_stay setup core s.views id v at h.seats)
+            (ran_more job is setup.seats core facts x m runs v.ran (h.seats.ran.only id v at) (h.seats.ran.once id v at));
       },
       ap (λ (left : List (ℕ × S)). (finished_view v m, left)) r.none,
     )

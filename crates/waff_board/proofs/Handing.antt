@@ -11,7 +11,7 @@ use Rattle.waff_cells.specs.Meaning.{Cells}
 use Rattle.waff_cells.specs.Parcel.{IsParcel}
 use Rattle.waff_board.specs.Plays.{Parcels}
 use Rattle.waff_board.proofs.Owners.{AreApart, in_cases, in_rest, in_first, in_none}
-use Rattle.waff_board.proofs.Moves.{at_within}
+use Rattle.waff_board.proofs.Listed.{at_within}
 
 -- the slot of a is at home with its parcel of the cells
 abbrev pub IsHome : {S : Type 0} → (S → List ℕ) → List Space → Cells → List (Option S) → ℕ → Type 0

@@ -1,11 +1,13 @@
 mod Phases
 mod Known
+mod Listed
 mod Moves
 mod Seen
 mod Draws
 mod Numbers
 mod Lookings
 mod Carrying
+mod Rows
 mod Between
 mod Grants
 mod Owners

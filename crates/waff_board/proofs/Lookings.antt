@@ -3,7 +3,7 @@ use Rattle.std.proofs.Common.{◌≡◌, ⊎_elim, ℕ, ◌+◌, ◌<◌, ◌≤
 use Rattle.std.proofs.lemmas.List.{take_more, get_or_read}
 use Rattle.std.proofs.lemmas.List.Elements.{Contains-get_or, All-head, All-tail}
 use Rattle.std.proofs.lemmas.Option.{none-some}
-use Rattle.waff_order.specs.Needs.{needs_of}
+use Rattle.waff_order.specs.Needs.{IsNeed, needs_of}
 use Rattle.waff_core.specs.Job.{JobValue, IsJob}
 use Rattle.waff_board.specs.Calls.{Looked, LooksOver}
 use Rattle.waff_board.specs.Seats.{has_seen, HasSeen}
@@ -82,3 +82,20 @@ pub none_unseen : (v : View) (marks : List Bool) (count : ℕ) (messages : List 
     → find (λ n. not (slice_index_or marks n false)) messages ≡ None → (n : ℕ) → Contains messages n → HasSeen v n
 none_unseen v marks count messages marked within none =
     none_fails (has_seen v) messages (first_agrees v marks count messages marked within ∙ none)
+
+-- the needs of message m, by the marks of a seat
+module _ (job : JobValue) (is : IsJob job) (m : ℕ) (from : 1 ≤ m) (w : View) (same : w.job ≡ job) (marks : List Bool)
+    (marked : (n : ℕ) → n < length w.job.ops + 1 → slice_index_or marks n false ≡ has_seen w n) where
+  pub needs_marked : All (λ n. n < length w.job.ops + 1) (needs_of job.needs m)
+  needs_marked k d there =
+      let to = (needs_known job is m from k d there).1 in
+      let ops : length w.job.ops ≡ length job.ops = ap (λ (j : JobValue). length j.ops) same in
+      omega (arith, to, ops)
+
+  pub first_is : find (λ n. not (has_seen w n)) (needs_of job.needs m) ≡ find (λ n. not (slice_index_or marks n false)) (needs_of job.needs m)
+  first_is = first_agrees w marks (length w.job.ops + 1) (needs_of job.needs m) marked needs_marked
+
+  pub all_seen : find (λ n. not (slice_index_or marks n false)) (needs_of job.needs m) ≡ None → (i : ℕ) → IsNeed w.job.needs i m → HasSeen w i
+  all_seen none i need =
+      none_unseen w marks (length w.job.ops + 1) (needs_of job.needs m) marked needs_marked none i
+      (subst (λ (j : JobValue). Contains (needs_of j.needs m) i) same need.listed)

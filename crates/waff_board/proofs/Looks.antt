@@ -1,5 +1,5 @@
 -- A look keeps the rule.
-use Rattle.std.proofs.Common.{◌≡◌, inl, ℕ, true, List, set, slice_index, refl, sym, subst, ⊎_elim, arith}
+use Rattle.std.proofs.Common.{◌≡◌, ℕ, true, List, set, slice_index, refl, sym, subst, ⊎_elim}
 use Rattle.std.proofs.lemmas.List.{set-get_or}
 use Rattle.atomic_table.specs.Table.{Allows, keeps}
 use Rattle.waff_core.specs.Job.{JobValue, IsIn}
@@ -11,7 +11,7 @@ use Rattle.waff_board.specs.Plays.{looked_view}
 use Rattle.waff_board.specs.declared.view.Setup.{Setup}
 use Rattle.waff_board.specs.declared.view.View.{View}
 use Rattle.waff_board.proofs.Seen.{look_cases}
-use Rattle.waff_board.proofs.Moves.{seats_moved}
+use Rattle.waff_board.proofs.Moves.{draws_stay, ran_stays, seats_moved}
 
 -- what is seen after a look at a status word of the state is done
 seen_looked : (job : JobValue) (core : Core) (v : View) (m word : ℕ) → Shown job core v → IsStatus core m word
@@ -26,8 +26,6 @@ shown_looked : (job : JobValue) (core : Core) (v : View) (m word : ℕ) → Show
 shown_looked job core v m word h status = record {
   same = h.same;
   phase = h.phase;
-  below = h.below;
-  different = h.different;
   seen = seen_looked job core v m word h status;
 }
 
@@ -49,8 +47,9 @@ looks {S} items setup slots id m v held is_in s h sized at small =
         words = subst (Words setup.job h.core) (sym same) h.words;
         slots = h.slots;
         seats = seats_moved setup h.core h.core s.views id v (looked_view v m word) at
-            (record { others = λ y other. refl; drawn = omega arith; done = λ n done. done }) h.seats refl refl
-            (shown_looked setup.job h.core v m word mine (h.words.statuses m is_in)) (λ p there. inl there);
+            (record { others = λ y other. refl; done = λ n done. done }) h.seats refl refl
+            (shown_looked setup.job h.core v m word mine (h.words.statuses m is_in))
+            (draws_stay setup h.core s.views id v at h.seats) (ran_stays setup h.core s.views id v at h.seats);
       },
       refl,
     )

@@ -11,10 +11,10 @@ use Rattle.waff_board.specs.declared.view.View.{View}
 use Rattle.waff_board.proofs.Opens.{AreZeros}
 
 -- one more seat
-pub fresh_more : (x n : ℕ) (seats : List Seat) (seat : Seat) → x + length seats ≡ n → AreFresh x seats → IsFresh n seat.hand.chair.me.0
+pub fresh_more : (x n : ℕ) (seats : List Seat) (seat : Seat) → x + length seats ≡ n → AreFresh x seats → IsFresh n seat.view
     → AreFresh x (seats ++ seat ∷ [])
 fresh_more x n [] seat is before here =
-    let same : n ≡ x = omega (arith, is) in (subst (λ k. IsFresh k seat.hand.chair.me.0) same here, tt)
+    let same : n ≡ x = omega (arith, is) in (subst (λ k. IsFresh k seat.view) same here, tt)
 fresh_more x n (first ∷ seats) seat is (one, rest) here = (one, fresh_more (x + 1) n seats seat (omega (arith, is)) rest here)
 
 -- a view that is fresh

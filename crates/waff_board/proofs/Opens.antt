@@ -1,5 +1,5 @@
 -- A board opens with the rule.
-use Rattle.std.proofs.Common.{◌≡◌, ℕ, zero, suc, ◌+◌, ◌<◌, ◌≤◌, true≢false, List, [], ◌∷◌, Some, length, map, replicate, slice_get, slice_index, refl, ap, sym, ◌∙◌, subst, arith}
+use Rattle.std.proofs.Common.{◌≡◌, ℕ, zero, suc, ◌+◌, ◌<◌, ◌≤◌, true, false, true≢false, List, [], ◌∷◌, Some, length, map, replicate, slice_get, slice_index, refl, ap, sym, ◌∙◌, subst, arith}
 use Rattle.std.proofs.lemmas.List.{length-replicate}
 use Rattle.std.proofs.lemmas.Option.{none-some, same_Some}
 use mathlib.Core.Option.{some, some-injective, some-ne-none}
@@ -9,8 +9,10 @@ use Rattle.waff_model.specs.Layout.{Space}
 use Rattle.waff_model.proofs.ParcelLemmas.{place_within}
 use Rattle.waff_cells.specs.Serial.{zeros}
 use Rattle.waff_core.specs.Job.{JobValue}
-use Rattle.waff_core.specs.Machine.{opening, phase_of}
-use Rattle.waff_core.specs.declared.phase.Phase.TheVariants.{Free, Running}
+use Rattle.waff_core.specs.Machine.{Core, Runs, opening, phase_of}
+use Rattle.waff_core.specs.declared.event.Event.{Event}
+use Rattle.waff_core.specs.declared.event.Event.TheVariants.{Draw, Begin, End}
+use Rattle.waff_core.specs.declared.phase.Phase.TheVariants.{Free, Drawn, Running}
 use Rattle.waff_core.proofs.Phases.{phase_opening}
 use Rattle.waff_model.specs.Parcel.{parcel_size, offset_of}
 use Rattle.waff_cells.specs.Parcel.{IsParcel}
@@ -19,6 +21,7 @@ use Rattle.waff_board.specs.Seats.{Seats, Shown, first}
 use Rattle.waff_board.specs.Rule.{Holds, IsSetup}
 use Rattle.waff_board.specs.declared.view.Setup.{Setup}
 use Rattle.waff_board.specs.declared.view.View.{View}
+use Rattle.waff_board.proofs.Listed.{listed_first}
 use Rattle.waff_board.proofs.Splits.{shown_fresh}
 
 none_run : (seats y n : ℕ) → phase_of (opening seats).phases y ≡ Some (Running n) → ⊥
@@ -89,7 +92,8 @@ module _ (setup : Setup) (told : IsSetup setup) (some_seat : 1 ≤ setup.seats) 
         let place = (only id v at).0 in
         let actor : 1 ≡ v.actor = ap (λ (v : View). v.actor) (only id v at).1 in
         omega (arith, place, actor);
-    draws = λ id other v w at_id at_other p in_v in_w. (only id v at_id).0 ∙ sym (only other w at_other).0;
+    draws = listed_first (λ (u : View). u.draws) (λ p. p < 0) (first setup) refl (λ p is. omega (arith, is));
+    ran = listed_first (λ (u : View). u.ran) (λ m. false ≡ true) (first setup) refl (λ m is. true≢false (sym is));
     made = λ v at. sym (ap (λ (v : View). v.made) (only 0 v at).1);
     few = omega (arith, some_seat);
     free = λ x past to. free_opening setup.seats x (omega (arith, past)) to;
@@ -124,3 +128,28 @@ module _ (setup : Setup) (told : IsSetup setup) (some_seat : 1 ≤ setup.seats) 
     slots = slots_opening items xs empty;
     seats = seats_opening;
   }
+
+-- events draw no number back
+drawn_grows : (job : JobValue) (s t : Core) (events : List Event) → Runs job s events t → s.drawn ≤ t.drawn
+drawn_grows job s t [] runs = let same : s.drawn ≡ t.drawn = ap (λ (u : Core). u.drawn) runs in omega (arith, same)
+drawn_grows job s t (Draw x ∷ events) (u, step, rest) =
+    let more : u.drawn ≡ s.drawn + 1 = ap (λ (r : Core). r.drawn) step.1 in
+    let grows = drawn_grows job u t events rest in omega (arith, more, grows)
+drawn_grows job s t (Begin x ∷ events) (u, (m, holds, clear, is), rest) =
+    let same : u.drawn ≡ s.drawn = ap (λ (r : Core). r.drawn) is in
+    let grows = drawn_grows job u t events rest in omega (arith, same, grows)
+drawn_grows job s t (End x ∷ events) (u, (m, running, is), rest) =
+    let same : u.drawn ≡ s.drawn = ap (λ (r : Core). r.drawn) is in
+    let grows = drawn_grows job u t events rest in omega (arith, same, grows)
+
+-- a state that is reached without a draw is the one at the opening
+pub undrawn_opening : (job : JobValue) (seats : ℕ) (events : List Event) (core : Core) → Runs job (opening seats) events core
+    → core.drawn ≡ 0 → core ≡ opening seats
+undrawn_opening job seats [] core runs none = sym runs
+undrawn_opening job seats (Draw x ∷ events) core (u, step, rest) none =
+    let more : u.drawn ≡ 1 = ap (λ (r : Core). r.drawn) step.1 in
+    let grows = drawn_grows job u core events rest in absurd (omega (arith, more, grows, none))
+undrawn_opening job seats (Begin x ∷ events) core (u, (m, holds, clear, is), rest) none =
+    let free : Drawn m ≡ Free = phase_opening seats x (Drawn m) holds in absurd (cc)
+undrawn_opening job seats (End x ∷ events) core (u, (m, running, is), rest) none =
+    let free : Running m ≡ Free = phase_opening seats x (Running m) running in absurd (cc)

@@ -1,8 +1,7 @@
 -- Making the next seat keeps the rule.
-use Rattle.std.proofs.Common.{◌≡◌, ◌≢◌, ◌⊎◌, inl, inr, ⊎_elim, ℕ, zero, suc, ◌+◌, ◌<◌, true≢false, List, [], ◌∷◌, ◌++◌, Some, Contains, length, set, refl, ap, sym, ◌∙◌, subst, arith, length-set}
+use Rattle.std.proofs.Common.{◌≡◌, ◌≢◌, ⊎_elim, ℕ, ◌+◌, ◌<◌, true, true≢false, List, [], ◌∷◌, ◌++◌, Some, length, set, refl, ap, sym, ◌∙◌, subst, arith, length-set}
 use Rattle.std.proofs.lemmas.List.{length_push}
-use Rattle.std.proofs.lemmas.List.Elements.{All-nil}
-use mathlib.Core.Option.{some, some-injective, some-ne-none}
+use mathlib.Core.Option.{some}
 use lib.ListN.{get_elem?}
 use Rattle.atomic_table.specs.Table.{Splits}
 use Rattle.atomic_table.proofs.Lists.{at_set}
@@ -14,26 +13,14 @@ use Rattle.waff_board.specs.Rule.{Holds}
 use Rattle.waff_board.specs.Plays.{made_view, next_view}
 use Rattle.waff_board.specs.declared.view.Setup.{Setup}
 use Rattle.waff_board.specs.declared.view.View.{View}
-use Rattle.waff_board.proofs.Moves.{Moves, each_moved, actors_moved, draws_moved, at_within}
-
--- what stands in a list with one more at its end
-pub at_end : {A : Type 0} (xs : List A) (x y : A) (i : ℕ) → get_elem? (xs ++ x ∷ []) i ≡ some y
-    → (get_elem? xs i ≡ some y) ⊎ ((i ≡ length xs) × (x ≡ y))
-at_end [] x y zero there = inr (refl, some-injective x y there)
-at_end [] x y (suc i) there = absurd (some-ne-none y (sym there))
-at_end (first ∷ xs) x y zero there = inl there
-at_end (first ∷ xs) x y (suc i) there = ⊎_elim {C = (get_elem? xs i ≡ some y) ⊎ ((suc i ≡ length (first ∷ xs)) × (x ≡ y))}
-    (λ (before : get_elem? xs i ≡ some y). inl before)
-    (λ (last : (i ≡ length xs) × (x ≡ y)). inr (ap suc last.0, last.1))
-    (at_end xs x y i there)
+use Rattle.waff_board.proofs.Listed.{at_within, at_end, listed_moved, listed_longer}
+use Rattle.waff_board.proofs.Moves.{Moves, each_moved, actors_moved, draws_stay, ran_stays}
 
 -- the view of an actor that is free shows the state
 pub shown_fresh : (job : JobValue) (core : Core) (x made : ℕ) → phase_of core.phases x ≡ Some Free → Shown job core (fresh job x made)
 shown_fresh job core x made free = record {
   same = refl;
   phase = free;
-  below = All-nil _;
-  different = λ i j d before within. absurd (omega (arith, within));
   seen = λ n sees. absurd (true≢false (sym sees));
 }
 
@@ -41,8 +28,6 @@ shown_made : (job : JobValue) (core : Core) (v : View) → Shown job core v → 
 shown_made job core v h = record {
   same = h.same;
   phase = h.phase;
-  below = h.below;
-  different = h.different;
   seen = h.seen;
 }
 
@@ -55,7 +40,7 @@ module _ (setup : Setup) (core : Core) (views : List View) (id : ℕ) (v : View)
   all_made = h.made v (subst (λ i. get_elem? views i ≡ some v) (sym first_id) at)
 
   none_moves : Moves core v.actor core
-  none_moves = record { others = λ y other. refl; drawn = omega arith; done = λ n done. done }
+  none_moves = record { others = λ y other. refl; done = λ n done. done }
 
   mine : Shown setup.job core v
   mine = h.each id v at
@@ -65,9 +50,6 @@ module _ (setup : Setup) (core : Core) (views : List View) (id : ℕ) (v : View)
 
   last_place : length (set views id (made_view v)) ≡ v.made
   last_place = length-set views id (made_view v) ∙ sym all_made
-
-  no_draws : (p : ℕ) → ¬ Contains (next_view v).draws p
-  no_draws p (k, within, is) = omega (arith, within)
 
   pub seats_split : Seats setup core (set views id (made_view v) ++ next_view v ∷ [])
   seats_split = record {
@@ -88,16 +70,14 @@ module _ (setup : Setup) (core : Core) (views : List View) (id : ℕ) (v : View)
         let last = last_place in
         omega (arith, place, actor, last))
         (at_end (set views id (made_view v)) (next_view v) u j there);
-    draws = λ j k a b at_j at_k p in_a in_b. ⊎_elim {C = j ≡ k}
-        (λ (old : get_elem? (set views id (made_view v)) j ≡ some a). ⊎_elim {C = j ≡ k}
-        (λ (too : get_elem? (set views id (made_view v)) k ≡ some b).
-        draws_moved setup core core views id v (made_view v) at none_moves h refl (λ p there. inl there) j k a b old too p in_a in_b)
-        (λ (new : (k ≡ length (set views id (made_view v))) × (next_view v ≡ b)).
-        absurd (no_draws p (subst (λ (u : View). Contains u.draws p) (sym new.1) in_b)))
-        (at_end (set views id (made_view v)) (next_view v) b k at_k))
-        (λ (new : (j ≡ length (set views id (made_view v))) × (next_view v ≡ a)).
-        absurd (no_draws p (subst (λ (u : View). Contains u.draws p) (sym new.1) in_a)))
-        (at_end (set views id (made_view v)) (next_view v) a j at_j);
+    draws = listed_longer (λ (u : View). u.draws) (λ p. p < core.drawn) (set views id (made_view v)) (next_view v)
+        (listed_moved (λ (u : View). u.draws) (λ p. p < core.drawn) (λ p. p < core.drawn) views id v (made_view v) at h.draws
+        (draws_stay setup core views id v at h))
+        refl;
+    ran = listed_longer (λ (u : View). u.ran) (λ m. core.done m ≡ true) (set views id (made_view v)) (next_view v)
+        (listed_moved (λ (u : View). u.ran) (λ m. core.done m ≡ true) (λ m. core.done m ≡ true) views id v (made_view v) at h.ran
+        (ran_stays setup core views id v at h))
+        refl;
     made = λ u there.
         let long : length (set views id (made_view v) ++ next_view v ∷ []) ≡ length (set views id (made_view v)) + 1
         = length_push (set views id (made_view v)) (next_view v) in

@@ -23,15 +23,15 @@ pub over_start : (v : View) → LookedUpTo 0 v v
 over_start v = ([], refl, sym (ap (λ looks. record v { looks = looks }) (append-nil v.looks)))
 
 -- one more message
-pub over_more : (k n : ℕ) (v w u : View) → k + 1 ≡ n → LookedUpTo k v w → Looked w n u → LookedUpTo n v u
-over_more k n v w u next (answers, long, before) (word, after) = (
+pub over_more : (k next : ℕ) (v w u : View) (n : ℕ) → k + 1 ≡ n → n ≡ next → LookedUpTo k v w → Looked w n u → LookedUpTo next v u
+over_more k next v w u n is same (answers, long, before) (word, after) = (
   answers ++ (word == 2) ∷ [],
-  (let more = length_push answers (word == 2) in omega (arith, more, long, next)),
+  (let more = length_push answers (word == 2) in omega (arith, more, long, is, same)),
   after
       ∙ ap (λ (x : View). record x { looks = x.looks ++ (n, word == 2) ∷ [] }) before
       ∙ ap (λ looks. record v { looks = looks })
       (push_over v.looks (looks_from 1 answers) (n, word == 2)
-      ∙ ap (λ rest. v.looks ++ rest) (sym (looks_push 1 answers (word == 2) n (omega (arith, long, next))))),
+      ∙ ap (λ rest. v.looks ++ rest) (sym (looks_push 1 answers (word == 2) n (omega (arith, long, is))))),
 )
 
 -- nothing but the looks changes

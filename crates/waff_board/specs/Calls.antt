@@ -4,27 +4,21 @@ use Rattle.std.specs.Prelude.{not, slice_get}
 use Rattle.waff_order.specs.Needs.{needs_of}
 use Rattle.waff_board.specs.Plays.{drawn_view, looked_view}
 use Rattle.waff_board.specs.Seats.{has_seen}
-use Rattle.waff_board.specs.declared.board.Board.{Board}
+use Rattle.waff_board.specs.Tokens.{BoardValue, IsOf}
 use Rattle.waff_board.specs.declared.clearing.Clear.{Clear}
 use Rattle.waff_board.specs.declared.clearing.Clear.TheVariants.{Go, Wait}
 use Rattle.waff_board.specs.declared.drawing.Draw.{Draw}
 use Rattle.waff_board.specs.declared.drawing.Draw.TheVariants.{Got, Over}
-use Rattle.waff_board.specs.declared.hand.Hand.{Hand}
 use Rattle.waff_board.specs.declared.view.View.{View}
-
--- a hand of this board
-abbrev pub IsOf : Board → Hand → Type 0
-IsOf board hand =
-    (hand.chair.table_id ≡ board.table.shared.table_id) × (hand.chair.me.0.job ≡ board.setup.job)
 
 -- a draw: `draws` has one more number, which is the place of the message in the order, or past the
 -- end of the order
-abbrev pub DrawTells : Board → View → Draw → Type 0
+abbrev pub DrawTells : BoardValue → View → Draw → Type 0
 DrawTells board v (Got drawn) =
     (p : ℕ) × (p < length v.job.ops) × (slice_get v.job.order p ≡ Some drawn.message)
-    × (drawn.hand.chair.me.0 ≡ drawn_view v p) × IsOf board drawn.hand
+    × (drawn.view ≡ drawn_view v p) × IsOf board drawn
 DrawTells board v (Over seat) = (p : ℕ) × (length v.job.ops ≤ p)
-    × (seat.hand.chair.me.0 ≡ drawn_view v p) × IsOf board seat.hand
+    × (seat.view ≡ drawn_view v p) × IsOf board seat
 
 -- a look at message n: `looks` has one more
 abbrev pub Looked : View → ℕ → View → Type 0
@@ -38,12 +32,12 @@ LooksOver v (n ∷ messages) w =
     (u : View) × MatchBool (has_seen v n) (u ≡ v) (Looked v n u) × LooksOver u messages w
 
 -- a look at the needs of message m: go where all are then seen, else wait on the first that is not
-abbrev pub ClearTells : Board → View → ℕ → Clear → Type 0
+abbrev pub ClearTells : BoardValue → View → ℕ → Clear → Type 0
 ClearTells board v m (Go cleared) = (cleared.message ≡ m)
-    × LooksOver v (needs_of v.job.needs m) cleared.hand.chair.me.0
-    × (find (λ n. not (has_seen cleared.hand.chair.me.0 n)) (needs_of v.job.needs m) ≡ None)
-    × IsOf board cleared.hand
+    × LooksOver v (needs_of v.job.needs m) cleared.view
+    × (find (λ n. not (has_seen cleared.view n)) (needs_of v.job.needs m) ≡ None)
+    × IsOf board cleared
 ClearTells board v m (Wait drawn on) = (drawn.message ≡ m)
-    × LooksOver v (needs_of v.job.needs m) drawn.hand.chair.me.0
-    × (find (λ n. not (has_seen drawn.hand.chair.me.0 n)) (needs_of v.job.needs m) ≡ Some on)
-    × IsOf board drawn.hand
+    × LooksOver v (needs_of v.job.needs m) drawn.view
+    × (find (λ n. not (has_seen drawn.view n)) (needs_of v.job.needs m) ≡ Some on)
+    × IsOf board drawn

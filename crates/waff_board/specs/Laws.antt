@@ -1,15 +1,18 @@
 -- What holds between any two atomic steps of a board, whichever threads make them.
-use Rattle.std.specs.Prelude.{◌≡◌, ◌⊎◌, ℕ, ◌+◌, ◌<◌, ◌≤◌, Some, length, slice_get, slice_index}
+use Rattle.std.specs.Prelude.{◌≡◌, ◌⊎◌, ◌↔◌, ℕ, ◌+◌, ◌<◌, ◌≤◌, [], Some, length}
+use Rattle.std.specs.Prelude.{slice_get, slice_index}
 use Rattle.std.specs.Global.{Vec}
 use mathlib.Core.Option.{some}
 use lib.ListN.{get_elem?}
 use Rattle.atomic_table.specs.Table.{State}
 use Rattle.waff_core.specs.Job.{IsIn, StandsAt}
+use Rattle.waff_core.specs.Machine.{opening}
 use Rattle.waff_core.specs.declared.phase.Phase.TheVariants.{Drawn, Running}
 use Rattle.waff_board.specs.Rule.{Holds}
-use Rattle.waff_board.specs.Seats.{HasSeen}
+use Rattle.waff_board.specs.Seats.{HasSeen, IsListed}
 use Rattle.waff_board.specs.declared.view.Setup.{Setup}
 use Rattle.waff_board.specs.declared.view.View.{View}
+use Rattle.waff_board.specs.declared.view.TheConstants.{DONE}
 
 -- the words, the slots at home and the views between two steps
 abbrev pub IsBetween : Setup → State (Vec ℕ) View → Type 0
@@ -34,6 +37,12 @@ NumbersDiffer setup =
     → (i j p : ℕ) → slice_get v.draws i ≡ Some p → slice_get w.draws j ≡ Some p
     → (seat ≡ other) × (i ≡ j) × (p < slice_index s.words 0)
 
+-- each number below that of the draws was drawn by a seat
+abbrev pub NumbersAreDrawn : Setup → Type 0
+NumbersAreDrawn setup =
+    (s : State (Vec ℕ) View) → IsBetween setup s
+    → (p : ℕ) → p < slice_index s.words 0 → IsListed (λ v. v.draws) s.views p
+
 -- no message is handed out twice
 abbrev pub HandedOutOnce : Setup → Type 0
 HandedOutOnce setup =
@@ -54,12 +63,35 @@ RunByOne setup =
     → (seat other : ℕ) (v w : View) → Knows s seat v → Knows s other w
     → (m : ℕ) → IsAt v m → IsAt w m → seat ≡ other
 
+-- no message is run twice: it stands once in the lists of what the seats have run
+abbrev pub RunOnce : Setup → Type 0
+RunOnce setup =
+    (s : State (Vec ℕ) View) → IsBetween setup s
+    → (seat other : ℕ) (v w : View) → Knows s seat v → Knows s other w
+    → (i j m : ℕ) → slice_get v.ran i ≡ Some m → slice_get w.ran j ≡ Some m
+    → (seat ≡ other) × (i ≡ j)
+
+-- a message is done exactly where a seat has run it
+abbrev pub DoneIsRun : Setup → Type 0
+DoneIsRun setup =
+    (s : State (Vec ℕ) View) → IsBetween setup s
+    → (m : ℕ) → IsIn setup.job m
+    → (slice_index s.words m ≡ DONE) ↔ IsListed (λ v. v.ran) s.views m
+
+-- where no seat has drawn, the state is the one in which the machine opens: nothing is drawn or
+-- done, and every cell is 0
+abbrev pub OpensUntouched : Setup → Type 0
+OpensUntouched setup =
+    (s : State (Vec ℕ) View) (between : IsBetween setup s)
+    → ((seat : ℕ) (v : View) → Knows s seat v → v.draws ≡ [])
+    → between.core ≡ opening setup.seats
+
 -- what a seat has seen is done
 abbrev pub SeenIsDone : Setup → Type 0
 SeenIsDone setup =
     (s : State (Vec ℕ) View) → IsBetween setup s
     → (seat : ℕ) (v : View) → Knows s seat v
-    → (m : ℕ) → IsIn setup.job m → HasSeen v m → slice_index s.words m ≡ 2
+    → (m : ℕ) → IsIn setup.job m → HasSeen v m → slice_index s.words m ≡ DONE
 
 -- there are no more draws than messages and seats
 abbrev pub DrawsAreFew : Setup → Type 0

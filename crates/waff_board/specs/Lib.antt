@@ -1,6 +1,8 @@
 pub mod Shows
 pub mod Seats
 pub mod Rule
+pub mod Tokens
+pub mod Hands
 pub mod Plays
 pub mod Calls
 pub mod Laws

@@ -18,7 +18,7 @@ pub record IsFresh (x : ℕ) (v : View) : Type 0 where
 -- the seats are those of actors x, x + 1 and so on, which have done nothing
 abbrev pub AreFresh : ℕ → List Seat → Type 0
 AreFresh x [] = Unit {0}
-AreFresh x (seat ∷ seats) = IsFresh x seat.hand.chair.me.0 × AreFresh (x + 1) seats
+AreFresh x (seat ∷ seats) = IsFresh x seat.view × AreFresh (x + 1) seats
 
 -- the parcels of the first n affinities, with 0 in every cell
 abbrev pub zero_parcels_of : List Space → ℕ → List (List ℕ)

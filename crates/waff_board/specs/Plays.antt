@@ -11,6 +11,7 @@ use Rattle.waff_core.specs.declared.phase.Phase.TheVariants.{Free, Running}
 use Rattle.waff_cells.specs.Parcel.{IsParcel}
 use Rattle.waff_board.specs.Seats.{fresh}
 use Rattle.waff_board.specs.declared.view.View.{View}
+use Rattle.waff_board.specs.declared.view.TheConstants.{DONE}
 
 -- the view after a draw of number p
 abbrev pub drawn_view : View → ℕ → View
@@ -19,7 +20,7 @@ drawn_view v p =
 
 -- the view after a look at message n, which found this status word
 abbrev pub looked_view : View → ℕ → ℕ → View
-looked_view v n word = record v { looks = v.looks ++ (n, word == 2) ∷ [] }
+looked_view v n word = record v { looks = v.looks ++ (n, word == DONE) ∷ [] }
 
 -- the view after message m has begun
 abbrev pub begun_view : View → ℕ → View

@@ -1,6 +1,6 @@
 -- What the views of a board's seats show of a state of the core machine.
 use Rattle.std.specs.Prelude.{◌≡◌, ◌≢◌, ℕ, ◌+◌, ◌<◌, ◌≤◌, ◌==◌, ◌&&◌, ◌||◌, Bool, true, List, []}
-use Rattle.std.specs.Prelude.{Some, All, AllPairs, Contains, length}
+use Rattle.std.specs.Prelude.{Some, AllPairs, Contains, length}
 use Rattle.std.specs.List.{list_any}
 use mathlib.Core.Option.{some}
 use lib.ListN.{get_elem?}
@@ -31,18 +31,34 @@ HasSeen v n = has_seen v n ≡ true
 pub record Shown (job : JobValue) (core : Core) (v : View) : Type 0 where
   pub same : v.job ≡ job
   pub phase : phase_of core.phases v.actor ≡ Some v.phase
-  pub below : All (λ p. p < core.drawn) v.draws
-  pub different : AllPairs (λ p q. p ≢ q) v.draws
   pub seen : (n : ℕ) → HasSeen v n → core.done n ≡ true
 
--- the views show the state: those of actors 1, 2 and so on, no number drawn by two; an actor whose
+-- number n stands in the list of one of the views
+pub record IsListed (list : View → List ℕ) (views : List View) (n : ℕ) : Type 0 where
+  pub seat : ℕ
+  pub view : View
+  pub at : get_elem? views seat ≡ some view
+  pub has : Contains (list view) n
+
+-- the numbers that are such are those that stand in the lists of the views, each in one list, there
+-- once
+pub record AreListedOnce (list : View → List ℕ) (such : ℕ → Type 0) (views : List View) : Type 0 where
+  pub each : (n : ℕ) → such n → IsListed list views n
+  pub only : (seat : ℕ) (v : View) → get_elem? views seat ≡ some v
+      → (n : ℕ) → Contains (list v) n → such n
+  pub apart : (seat other : ℕ) (v w : View) → get_elem? views seat ≡ some v
+      → get_elem? views other ≡ some w
+      → (n : ℕ) → Contains (list v) n → Contains (list w) n → seat ≡ other
+  pub once : (seat : ℕ) (v : View) → get_elem? views seat ≡ some v → AllPairs (λ m n. m ≢ n) (list v)
+
+-- the views show the state: those of actors 1, 2 and so on; each number below that of the draws
+-- was drawn by one of them, once; each message that is done was run by one, once; an actor whose
 -- seat is not made yet is free
 pub record Seats (setup : Setup) (core : Core) (views : List View) : Type 0 where
   pub each : (id : ℕ) (v : View) → get_elem? views id ≡ some v → Shown setup.job core v
   pub actors : (id : ℕ) (v : View) → get_elem? views id ≡ some v → v.actor ≡ id + 1
-  pub draws : (id other : ℕ) (v w : View) → get_elem? views id ≡ some v
-      → get_elem? views other ≡ some w
-      → (p : ℕ) → Contains v.draws p → Contains w.draws p → id ≡ other
+  pub draws : AreListedOnce (λ v. v.draws) (λ p. p < core.drawn) views
+  pub ran : AreListedOnce (λ v. v.ran) (λ m. core.done m ≡ true) views
   pub made : (v : View) → get_elem? views 0 ≡ some v → v.made ≡ length views
   pub few : length views ≤ setup.seats
   pub free : (x : ℕ) → length views < x → x ≤ setup.seats → phase_of core.phases x ≡ Some Free

@@ -8,6 +8,7 @@ use Rattle.waff_core.specs.Job.{JobValue, IsIn}
 use Rattle.waff_core.specs.Machine.{Core, IsAway, phase_of}
 use Rattle.waff_core.specs.declared.phase.Phase.TheVariants.{Running}
 use Rattle.waff_cells.specs.Parcel.{IsParcel}
+use Rattle.waff_board.specs.declared.view.TheConstants.{RUNNING, DONE}
 
 -- an actor runs message n
 pub record IsRunning (core : Core) (n : ℕ) : Type 0 where
@@ -16,9 +17,9 @@ pub record IsRunning (core : Core) (n : ℕ) : Type 0 where
 
 -- the status word of message n: 2 where it is done, 1 where an actor runs it, else 0
 pub record IsStatus (core : Core) (n word : ℕ) : Type 0 where
-  pub done : (word ≡ 2) ↔ (core.done n ≡ true)
-  pub running : (word ≡ 1) ↔ IsRunning core n
-  pub known : word ≤ 2
+  pub done : (word ≡ DONE) ↔ (core.done n ≡ true)
+  pub running : (word ≡ RUNNING) ↔ IsRunning core n
+  pub known : word ≤ DONE
 
 -- the words show the state
 pub record Words (job : JobValue) (core : Core) (words : List ℕ) : Type 0 where

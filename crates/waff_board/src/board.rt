@@ -1,13 +1,12 @@
 //! The board.
 
-ghost use Rattle.std.specs.Prelude.{◌≡◌, ◌+◌, ◌<◌, ◌^◌, length};
-ghost use Rattle.waff_core.specs.Job.{IsJob};
+ghost use Rattle.std.specs.Prelude.{◌≡◌, ◌+◌, length};
 
 use crate::law::Law;
 use crate::view::{Setup, View};
 use atomic_table::Table;
 use std::alloc::Global;
-use waff_core::Job;
+use std::marker::Model;
 
 /// A job that threads replay together. Word 0 counts the draws, each message has a status word, and
 /// each affinity a slot for its parcel.
@@ -19,18 +18,15 @@ pub struct Board {
     ghost told: { table.shared.key ≡ setup },
     ghost words: { table.shared.table_id.words ≡ length setup.job.ops + 1 },
     ghost slots: { table.shared.table_id.slots ≡ length setup.job.layout.tree },
-    ghost short: { length setup.job.ops < 2 ^ 32 },
 }
 
-impl Board {
-    /// The job.
-    pub(crate) fn job(&self) -> &Job
-        ensures same { result.now ≡ self.now.setup.job }
-        ensures job { IsJob result.now }
-    {
-        let job = &self.setup.job;
-        // Its contract tells `IsJob`.
-        let _ = job.len();
-        job
-    }
+impl Model for Board {
+    ghost use Rattle.waff_board.specs.Rule.{IsSetup};
+    ghost use Rattle.waff_board.specs.Tokens.{BoardValue};
+
+    ghost Value = { BoardValue };
+
+    ghost view = { λ b. record { table = b.table.shared.table_id; job = b.setup.job; seats = b.setup.seats } };
+
+    ghost invariant = { λ b. IsSetup b.setup };
 }

@@ -3,12 +3,15 @@
 ghost use Rattle.std.specs.Prelude.{◌≡◌, ◌≤◌, ◌<◌, ℕ, All, Option, IfSome, find, false, length};
 ghost use Rattle.std.specs.Prelude.{not, slice_index_or};
 ghost use Rattle.waff_order.specs.Needs.{needs_of};
-ghost use Rattle.waff_board.specs.Calls.{IsOf, Looked, LooksOver, ClearTells};
+ghost use Rattle.waff_board.specs.Calls.{Looked, LooksOver, ClearTells};
+ghost use Rattle.waff_board.specs.Hands.{IsHandOf};
+ghost use Rattle.waff_board.specs.Tokens.{IsOf};
 
 use crate::board::Board;
 use crate::hand::Hand;
 use crate::plays::LookStep;
 use crate::tokens::{Cleared, Drawn};
+use crate::view::DONE;
 
 /// What a look at the needs gives.
 #[derive(Drop)]
@@ -22,11 +25,11 @@ pub enum Clear {
 impl Board {
     /// Looks once at each need of the message that the seat has not seen done.
     pub fn clear(&self, drawn: Drawn) -> Clear
-        requires { IsOf self.now drawn.hand }
-        ensures { ClearTells self.now drawn.hand.chair.me.0 drawn.message result }
+        requires { IsOf self.now drawn }
+        ensures { ClearTells self.now drawn.view drawn.message result }
     {
         let Drawn { hand, message } = drawn;
-        let needs = self.job().needs(message);
+        let needs = self.setup.job.needs(message);
         let hand = self.look_over(hand, needs);
         match first_unseen(hand.seen.as_slice(), needs) {
             Some(on) => Clear::Wait {
@@ -39,11 +42,11 @@ impl Board {
 
     /// Looks once at each of the messages that the seat has not seen done.
     fn look_over(&self, mut hand: Hand, messages: &[u32]) -> Hand
-        requires of { IsOf self.now hand }
-        requires known { All (λ n. (1 ≤ n) × (n ≤ length self.now.setup.job.ops)) messages.now }
+        requires of { IsHandOf self.now hand }
+        requires known { All (λ n. (1 ≤ n) × (n ≤ length self.now.job.ops)) messages.now }
         ensures looks { LooksOver hand.chair.me.0 messages.now result.chair.me.0 }
         ensures held { result.chair.me.1 ≡ hand.chair.me.1 }
-        ensures of { IsOf self.now result }
+        ensures of { IsHandOf self.now result }
     {
         for n in messages {
             if !hand.seen[*n as usize] {
@@ -55,26 +58,26 @@ impl Board {
 
     /// Looks at message `n`, and marks it where it is done.
     pub(crate) fn look(&self, hand: Hand, n: u32) -> Hand
-        requires of { IsOf self.now hand }
+        requires of { IsHandOf self.now hand }
         requires from { 1 ≤ n }
-        requires to { n ≤ length self.now.setup.job.ops }
+        requires to { n ≤ length self.now.job.ops }
         ensures view { Looked hand.chair.me.0 n result.chair.me.0 }
         ensures held { result.chair.me.1 ≡ hand.chair.me.1 }
-        ensures of { IsOf self.now result }
+        ensures of { IsHandOf self.now result }
     {
         let Hand {
             mut chair,
             mut seen,
-            places,
+            parcels,
         } = hand;
         let word = self.table.shared.load::<LookStep>(&mut chair, n as usize);
-        if word == 2 {
+        if word == DONE {
             seen[n as usize] = true;
         }
         Hand {
             chair,
             seen,
-            places,
+            parcels,
         }
     }
 }

@@ -1,6 +1,6 @@
 //! Closing a board.
 
-ghost use Rattle.std.specs.Prelude.{◌≡◌, ◌≢◌, ◌+◌, ◌<◌, ◌≤◌, ℕ, [], length, slice_index};
+ghost use Rattle.std.specs.Prelude.{◌≡◌, ◌≢◌, ◌+◌, ◌^◌, ◌<◌, ◌≤◌, ℕ, [], length, slice_index};
 ghost use Rattle.std.specs.Prelude.{vec_capacity, IfOk, IfErr, IfSome, IfNone};
 ghost use Rattle.std.specs.Slots.{slots_items, slots_len, IsFull};
 ghost use Rattle.waff_model.specs.Layout.{IsCell};
@@ -10,85 +10,66 @@ ghost use Rattle.waff_cells.specs.Gathered.{LieIn, cells_of_parcels};
 ghost use Rattle.waff_cells.specs.Grid.{cells_in, HasSizes};
 ghost use Rattle.waff_cells.specs.Held.{rows_of};
 ghost use Rattle.waff_cells.specs.Serial.{serial};
-ghost use Rattle.waff_board.specs.Calls.{IsOf};
+ghost use Rattle.waff_core.specs.Job.{IsJob};
 ghost use Rattle.waff_board.specs.Endings.{Refuses};
-ghost use Rattle.waff_board.specs.Seats.{HasSeen};
+ghost use Rattle.waff_board.specs.Tokens.{IsOf};
+ghost use Rattle.waff_board.specs.declared.view.TheConstants.{DONE};
 
 use crate::board::Board;
 use crate::hand::Hand;
 use crate::law::Law;
 use crate::tokens::EndSeat;
-use crate::view::{Setup, View};
+use crate::view::{DONE, Setup, View};
 use atomic_table::{Closed, Seat, Table};
 use std::alloc::Global;
-use thiserror::Error;
 use waff_cells::State;
 use waff_core::Job;
 
-/// The status word of a message that is done.
-const DONE: u64 = 2;
-
 /// Why a closed board gives no state.
-#[derive(Clone, Copy, Debug, PartialEq, Eq, Error)]
+#[derive(Clone, Copy, Debug, PartialEq, Eq)]
 pub enum CloseError {
     /// The message is not done. It is the least such message.
-    #[error("message {message} is not done")]
     Unfinished { message: u32 },
     /// A growth of memory was refused.
-    #[error("out of memory")]
     Memory,
 }
 
 impl Board {
     /// Ends the board. The state is the one that all messages leave.
     pub fn close(self, seat: EndSeat) -> Result<State, CloseError>
-        requires { IsOf self seat.hand }
-        ensures sizes { IfOk result (λ state. HasSizes state
-            (sizes_of self.setup.job.layout.spaces)) }
+        requires { IsOf self seat }
+        ensures sizes { IfOk result (λ state. HasSizes state (sizes_of self.job.layout.spaces)) }
         ensures cells { IfOk result (λ state. (cell : Cell)
-            → cells_in state cell ≡ serial self.setup.job.ops (length self.setup.job.ops) cell) }
-        ensures refused { IfErr result (Refuses seat.hand.chair.me.0) }
+            → cells_in state cell ≡ serial self.job.ops (length self.job.ops) cell) }
+        ensures refused { IfErr result (Refuses seat.view) }
     {
         let Board { table, setup, heap } = self;
-        let seen_to = seat.seen_to;
-        let chair = chair_of(seat);
-        let state = state_left(table, chair, seen_to, &setup.job, heap);
+        let EndSeat { hand } = seat;
+        let Hand { chair, .. } = hand;
+        let state = state_left(table, chair, &setup.job, heap);
         drop(setup);
         state
     }
-}
-
-/// The chair of the seat.
-fn chair_of(seat: EndSeat) -> Seat<Vec<u64>, View>
-    ensures { result ≡ seat.hand.chair }
-{
-    let EndSeat { hand, .. } = seat;
-    let Hand { chair, .. } = hand;
-    chair
 }
 
 /// The state that all messages of the job leave on the table.
 fn state_left(
     table: Table<Vec<u64>, View, Setup, Law, Global>,
     chair: Seat<Vec<u64>, View>,
-    seen_to: u32,
     job: &Job,
     heap: Global,
 ) -> Result<State, CloseError>
+    requires job { IsJob job.now }
     requires told { table.shared.key.job ≡ job.now }
     requires words { table.shared.table_id.words ≡ length job.now.ops + 1 }
     requires table { chair.table_id ≡ table.shared.table_id }
     requires of { chair.me.0.job ≡ job.now }
-    requires few { seen_to ≤ length job.now.ops }
-    requires seen { (n : ℕ) → 1 ≤ n → n ≤ seen_to → HasSeen chair.me.0 n }
     ensures sizes { IfOk result (λ state. HasSizes state (sizes_of job.now.layout.spaces)) }
     ensures cells { IfOk result (λ state. (cell : Cell)
         → cells_in state cell ≡ serial job.now.ops (length job.now.ops) cell) }
     ensures refused { IfErr result (Refuses chair.me.0) }
 {
-    let parcels = parcels_left(table, chair, seen_to, job, heap)?;
-    // Its contract tells `IsJob`.
-    let _ = job.len();
+    let parcels = parcels_left(table, chair, job, heap)?;
     match State::of_parcels(heap, job.layout(), &parcels) {
         Ok(state) => Ok(state),
         Err(_) => Err(CloseError::Memory),
@@ -99,16 +80,14 @@ fn state_left(
 fn parcels_left(
     table: Table<Vec<u64>, View, Setup, Law, Global>,
     chair: Seat<Vec<u64>, View>,
-    seen_to: u32,
     job: &Job,
     heap: Global,
 ) -> Result<Vec<Vec<u64>>, CloseError>
+    requires job { IsJob job.now }
     requires told { table.shared.key.job ≡ job.now }
     requires words { table.shared.table_id.words ≡ length job.now.ops + 1 }
     requires table { chair.table_id ≡ table.shared.table_id }
     requires of { chair.me.0.job ≡ job.now }
-    requires few { seen_to ≤ length job.now.ops }
-    requires seen { (n : ℕ) → 1 ≤ n → n ≤ seen_to → HasSeen chair.me.0 n }
     ensures lie { IfOk result (λ parcels. LieIn job.now.layout.spaces (rows_of parcels.items)) }
     ensures cells { IfOk result (λ parcels. (cell : Cell) → IsCell job.now.layout.spaces cell
         → cells_of_parcels job.now.layout.spaces (rows_of parcels.items) cell
@@ -120,7 +99,7 @@ fn parcels_left(
         return Err(CloseError::Memory);
     };
     let closed = table.close_with(chair);
-    let unfinished = first_unfinished(&closed, seen_to, job.len());
+    let unfinished = first_unfinished(&closed, job.len());
     let parcels = unload(closed, parcels);
     match unfinished {
         Some(message) => {
@@ -131,22 +110,19 @@ fn parcels_left(
     }
 }
 
-/// The least message that is not done, where each up to `seen_to` is.
-fn first_unfinished(closed: &Closed<Vec<u64>, Global>, seen_to: u32, messages: u32) -> Option<u32>
+/// The least message that is not done.
+fn first_unfinished(closed: &Closed<Vec<u64>, Global>, messages: u32) -> Option<u32>
     requires full { IsFull closed.now.words }
     requires count { slots_len closed.now.words ≡ messages + 1 }
-    requires few { seen_to ≤ messages }
-    requires seen { (n : ℕ) → 1 ≤ n → n ≤ seen_to
-        → slice_index (slots_items closed.now.words) n ≡ 2 }
+    requires short { messages + 1 < 2 ^ 32 }
     ensures some { IfSome result (λ m. (1 ≤ m) × (m ≤ messages)
-        × (slice_index (slots_items closed.now.words) m ≢ 2)) }
+        × (slice_index (slots_items closed.now.words) m ≢ DONE)) }
     ensures least { IfSome result (λ m. (n : ℕ) → 1 ≤ n → n < m
-        → slice_index (slots_items closed.now.words) n ≡ 2) }
+        → slice_index (slots_items closed.now.words) n ≡ DONE) }
     ensures none { IfNone result ((n : ℕ) → 1 ≤ n → n ≤ messages
-        → slice_index (slots_items closed.now.words) n ≡ 2) }
+        → slice_index (slots_items closed.now.words) n ≡ DONE) }
 {
-    for before in seen_to..messages {
-        let n = before + 1;
+    for n in 1..messages + 1 {
         if closed.word(n as usize) != DONE {
             return Some(n);
         }

@@ -1,7 +1,8 @@
 //! Drawing the next message.
 
 ghost use Rattle.std.specs.Prelude.{◌≡◌, ◌<◌, ◌≤◌, IfNone, IfSome, length, slice_get};
-ghost use Rattle.waff_board.specs.Calls.{IsOf, DrawTells};
+ghost use Rattle.waff_board.specs.Calls.{DrawTells};
+ghost use Rattle.waff_board.specs.Tokens.{IsOf};
 
 use crate::board::Board;
 use crate::hand::Hand;
@@ -20,33 +21,33 @@ pub enum Draw {
 impl Board {
     /// Draws the next number.
     pub fn draw(&self, seat: Seat) -> Draw
-        requires { IsOf self.now seat.hand }
-        ensures { DrawTells self.now seat.hand.chair.me.0 result }
+        requires { IsOf self.now seat }
+        ensures { DrawTells self.now seat.view result }
     {
         let Seat { hand } = seat;
         let Hand {
             mut chair,
             seen,
-            places,
+            parcels,
         } = hand;
         let number = self.table.shared.fetch_add::<DrawStep>(&mut chair, 0, 1);
         let hand = Hand {
             chair,
             seen,
-            places,
+            parcels,
         };
         match self.message_at(number) {
             Some(message) => Draw::Got(Drawn { hand, message }),
-            None => Draw::Over(EndSeat { hand, seen_to: 0 }),
+            None => Draw::Over(EndSeat { hand }),
         }
     }
 
     /// The message that this number draws.
     fn message_at(&self, number: u64) -> Option<u32>
-        ensures drawn { slice_get self.now.setup.job.order number ≡ result }
+        ensures drawn { slice_get self.now.job.order number ≡ result }
         ensures some { IfSome result (λ m. (1 ≤ m)
-            × (m ≤ length self.now.setup.job.ops) × (number < length self.now.setup.job.ops)) }
-        ensures none { IfNone result (length self.now.setup.job.ops ≤ number) }
+            × (m ≤ length self.now.job.ops) × (number < length self.now.job.ops)) }
+        ensures none { IfNone result (length self.now.job.ops ≤ number) }
     {
         let job = &self.setup.job;
         if number < job.len() as u64 {

@@ -1,11 +1,11 @@
 //! Making a board and its seats.
 
-ghost use Rattle.std.specs.Prelude.{◌≡◌, ◌+◌, ◌<◌, ◌≤◌, ◌^◌, [], length, map, replicate, All, IfOk};
+ghost use Rattle.std.specs.Prelude.{◌≡◌, ◌+◌, ◌≤◌, [], length, map, All, IfOk};
 ghost use Rattle.waff_core.specs.declared.limits.TheConstants.{MAX_SEATS};
-ghost use Rattle.waff_board.specs.Calls.{IsOf};
 ghost use Rattle.waff_board.specs.Openings.{IsFresh, AreFresh, zero_parcels_of};
 ghost use Rattle.waff_board.specs.Rule.{IsSetup};
-ghost use Rattle.waff_board.specs.Seats.{first};
+ghost use Rattle.waff_board.specs.Seats.{first, fresh};
+ghost use Rattle.waff_board.specs.Tokens.{IsOf};
 
 use crate::board::Board;
 use crate::hand::Hand;
@@ -15,19 +15,13 @@ use crate::tokens::Seat;
 use crate::view::{Setup, View};
 use atomic_table::Table;
 use std::alloc::{AllocError, Global};
-use thiserror::Error;
 use waff_core::Job;
 use waff_model::{AffinityId, Layout};
 
-/// As many parcels as a seat has places for: a message has at most 32 operations, each of at most
-/// two cells.
-const PARCELS: usize = 64;
-
 /// Why no board is made.
-#[derive(Clone, Copy, Debug, PartialEq, Eq, Error)]
+#[derive(Clone, Copy, Debug, PartialEq, Eq)]
 pub enum BoardError {
     /// A growth of memory was refused.
-    #[error("out of memory")]
     Memory,
 }
 
@@ -36,15 +30,27 @@ impl Board {
     pub fn new(alloc: Global, job: Job, seats: u32) -> Result<(Board, Vec<Seat>), BoardError>
         requires some { 1 ≤ seats }
         requires few { seats ≤ MAX_SEATS }
-        ensures job { IfOk result (λ made. made.0.setup.job ≡ job) }
+        ensures job { IfOk result (λ made. made.0.job ≡ job) }
+        ensures seats { IfOk result (λ made. made.0.seats ≡ seats) }
         ensures count { IfOk result (λ made. length made.1.items ≡ seats) }
-        ensures of { IfOk result (λ made. All (λ seat. IsOf made.0 seat.hand) made.1.items) }
+        ensures of { IfOk result (λ made. All (IsOf made.0) made.1.items) }
         ensures fresh { IfOk result (λ made. AreFresh 1 made.1.items) }
     {
-        match make(alloc, Setup { job, seats }) {
-            Ok(made) => Ok(made),
-            Err(_) => Err(BoardError::Memory),
-        }
+        let setup = Setup { job, seats };
+        let Ok((table, chair)) = table_of(alloc, &setup) else {
+            drop(setup);
+            return Err(BoardError::Memory);
+        };
+        let board = Board {
+            table,
+            setup,
+            heap: alloc,
+        };
+        let Ok(seats) = board.seat_all(chair) else {
+            drop(board);
+            return Err(BoardError::Memory);
+        };
+        Ok((board, seats))
     }
 
     /// The seats, the first of which sits on this chair.
@@ -52,11 +58,11 @@ impl Board {
         &self,
         mut chair: atomic_table::Seat<Vec<u64>, View>,
     ) -> Result<Vec<Seat>, AllocError>
-        requires some { 1 ≤ self.now.setup.seats }
-        requires table { chair.table_id ≡ self.now.table.shared.table_id }
-        requires me { chair.me ≡ (first self.now.setup, []) }
-        ensures count { IfOk result (λ seats. length seats.items ≡ self.now.setup.seats) }
-        ensures of { IfOk result (λ seats. All (λ seat. IsOf self.now seat.hand) seats.items) }
+        requires some { 1 ≤ self.now.seats }
+        requires table { chair.table_id ≡ self.now.table }
+        requires me { chair.me ≡ (fresh self.now.job 1 1, []) }
+        ensures count { IfOk result (λ seats. length seats.items ≡ self.now.seats) }
+        ensures of { IfOk result (λ seats. All (IsOf self.now) seats.items) }
         ensures fresh { IfOk result (λ seats. AreFresh 1 seats.items) }
     {
         let mut seats = Vec::with_capacity(self.heap, self.setup.seats as usize)?;
@@ -69,68 +75,23 @@ impl Board {
         Ok(seats)
     }
 
-    /// The seat on this chair, with its marks and its places.
+    /// The seat on this chair, with its marks and its rows.
     fn seat(&self, chair: atomic_table::Seat<Vec<u64>, View>) -> Result<Seat, AllocError>
-        requires job { chair.me.0.job ≡ self.now.setup.job }
+        requires job { chair.me.0.job ≡ self.now.job }
         requires fresh { IsFresh chair.me.0.actor chair.me.0 }
         requires empty { chair.me.1 ≡ [] }
-        ensures { IfOk result (λ seat. seat.hand.chair ≡ chair) }
+        ensures table { IfOk result (λ seat. seat.table ≡ chair.table_id) }
+        ensures view { IfOk result (λ seat. seat.view ≡ chair.me.0) }
     {
         let seen = vec![in self.heap; false; self.setup.job.len() as usize + 1]?;
-        let places = Vec::with_capacity(self.heap, PARCELS)?;
+        let parcels = empty_rows(self.heap, self.setup.job.layout().tree().len())?;
         Ok(Seat {
             hand: Hand {
                 chair,
                 seen,
-                places,
+                parcels,
             },
         })
-    }
-}
-
-/// The board that is told this, and its seats.
-fn make(alloc: Global, setup: Setup) -> Result<(Board, Vec<Seat>), AllocError>
-    requires some { 1 ≤ setup.seats }
-    requires few { setup.seats ≤ MAX_SEATS }
-    ensures setup { IfOk result (λ made. made.0.setup ≡ setup) }
-    ensures count { IfOk result (λ made. length made.1.items ≡ setup.seats) }
-    ensures of { IfOk result (λ made. All (λ seat. IsOf made.0 seat.hand) made.1.items) }
-    ensures fresh { IfOk result (λ made. AreFresh 1 made.1.items) }
-{
-    let (board, chair) = open(alloc, setup)?;
-    match board.seat_all(chair) {
-        Ok(seats) => Ok((board, seats)),
-        Err(e) => {
-            drop(board);
-            Err(e)
-        }
-    }
-}
-
-/// The board that is told this, and the chair of its first seat.
-fn open(
-    alloc: Global,
-    setup: Setup,
-) -> Result<(Board, atomic_table::Seat<Vec<u64>, View>), AllocError>
-    requires some { 1 ≤ setup.seats }
-    requires few { setup.seats ≤ MAX_SEATS }
-    ensures setup { IfOk result (λ made. made.0.setup ≡ setup) }
-    ensures table { IfOk result (λ made. made.1.table_id ≡ made.0.table.shared.table_id) }
-    ensures me { IfOk result (λ made. made.1.me ≡ (first setup, [])) }
-{
-    match table_of(alloc, &setup) {
-        Ok((table, chair)) => {
-            let board = Board {
-                table,
-                setup,
-                heap: alloc,
-            };
-            Ok((board, chair))
-        }
-        Err(e) => {
-            drop(setup);
-            Err(e)
-        }
     }
 }
 
@@ -147,44 +108,18 @@ fn table_of(
 >
     requires some { 1 ≤ setup.now.seats }
     requires few { setup.now.seats ≤ MAX_SEATS }
+    ensures setup { IfOk result (λ made. IsSetup setup.now) }
     ensures told { IfOk result (λ made. made.0.shared.key ≡ setup.now) }
     ensures words { IfOk result (λ made. made.0.shared.table_id.words
         ≡ length setup.now.job.ops + 1) }
     ensures slots { IfOk result (λ made. made.0.shared.table_id.slots
         ≡ length setup.now.job.layout.tree) }
-    ensures short { IfOk result (λ made. length setup.now.job.ops < 2 ^ 32) }
     ensures table { IfOk result (λ made. made.1.table_id ≡ made.0.shared.table_id) }
     ensures me { IfOk result (λ made. made.1.me ≡ (first setup.now, [])) }
 {
     let words = vec![in alloc; 0; setup.job.len() as usize + 1]?;
-    table_with(alloc, &words, setup)
-}
-
-/// The table of a board that is told this, with these words.
-fn table_with(
-    alloc: Global,
-    words: &[u64],
-    setup: &Setup,
-) -> Result<
-    (
-        Table<Vec<u64>, View, Setup, Law, Global>,
-        atomic_table::Seat<Vec<u64>, View>,
-    ),
-    AllocError,
->
-    requires some { 1 ≤ setup.now.seats }
-    requires setup { IsSetup setup.now }
-    requires words { words.now ≡ replicate (length setup.now.job.ops + 1) 0 }
-    ensures told { IfOk result (λ made. made.0.shared.key ≡ setup.now) }
-    ensures words { IfOk result (λ made. made.0.shared.table_id.words
-        ≡ length setup.now.job.ops + 1) }
-    ensures slots { IfOk result (λ made. made.0.shared.table_id.slots
-        ≡ length setup.now.job.layout.tree) }
-    ensures table { IfOk result (λ made. made.1.table_id ≡ made.0.shared.table_id) }
-    ensures me { IfOk result (λ made. made.1.me ≡ (first setup.now, [])) }
-{
     let parcels = zero_parcels(alloc, setup.job.layout())?;
-    match Table::new(alloc, words, parcels, setup) {
+    match Table::new(alloc, &words, parcels, setup) {
         Ok(made) => Ok(made),
         Err(_) => Err(AllocError),
     }
@@ -202,4 +137,15 @@ fn zero_parcels(alloc: Global, layout: &Layout) -> Result<Vec<Vec<u64>>, AllocEr
         parcels.push(vec![in alloc; 0; size as usize]?)?;
     }
     Ok(parcels)
+}
+
+/// As many rows, each empty.
+fn empty_rows(alloc: Global, count: u32) -> Result<Vec<Vec<u64>>, AllocError>
+    ensures { IfOk result (λ rows. length rows.items ≡ count) }
+{
+    let mut rows = Vec::with_capacity(alloc, count as usize)?;
+    for _row in 0..count {
+        rows.push(Vec::new(alloc))?;
+    }
+    Ok(rows)
 }

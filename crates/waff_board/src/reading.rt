@@ -1,9 +1,8 @@
 //! Reading the message of a token, and the cells that it holds; a grant's message stands with its run.
 
 ghost use Rattle.std.specs.Prelude.{◌≡◌, ◌-◌, ◌↔◌, IfSome, IsSome};
-ghost use Rattle.waff_cells.specs.Parcel.{IsOwned};
 ghost use Rattle.waff_cells.specs.Serial.{serial};
-ghost use Rattle.waff_core.specs.Job.{owners_of};
+ghost use Rattle.waff_board.specs.Tokens.{IsCellOf};
 
 use crate::tokens::{Cleared, Drawn, Finished, Grant};
 use waff_cells::parcels;
@@ -30,13 +29,12 @@ impl Cleared {
 impl<'a> Grant<'a> {
     /// The number of a cell of the parcels before the message, None for another cell.
     pub fn get(&self, cell: Cell) -> Option<u64>
-        ensures held { IsSome result ↔ IsOwned self.now.hand.chair.me.0.job.layout.spaces
-            (owners_of self.now.hand.chair.me.0.job.owners self.now.message) cell }
+        ensures held { IsSome result ↔ IsCellOf self.now cell }
         ensures number { IfSome result (λ number.
-            number ≡ serial self.now.hand.chair.me.0.job.ops (self.now.message - 1) cell) }
+            number ≡ serial self.now.view.job.ops (self.now.message - 1) cell) }
     {
         parcels::get(
-            self.hand.places.as_slice(),
+            self.hand.parcels.as_slice(),
             self.job.layout(),
             self.job.owners(self.message),
             cell,
@@ -54,12 +52,16 @@ impl<'a> Finished<'a> {
 
     /// The number of a cell of the parcels after the message, None for another cell.
     pub fn get(&self, cell: Cell) -> Option<u64>
-        ensures held { IsSome result ↔ IsOwned self.now.hand.chair.me.0.job.layout.spaces
-            (owners_of self.now.hand.chair.me.0.job.owners self.now.message) cell }
+        ensures held { IsSome result ↔ IsCellOf self.now cell }
         ensures number { IfSome result (λ number.
-            number ≡ serial self.now.hand.chair.me.0.job.ops self.now.message cell) }
+            number ≡ serial self.now.view.job.ops self.now.message cell) }
     {
         let owners = self.job.owners(self.message);
-        parcels::get(self.hand.places.as_slice(), self.job.layout(), owners, cell)
+        parcels::get(
+            self.hand.parcels.as_slice(),
+            self.job.layout(),
+            owners,
+            cell,
+        )
     }
 }

@@ -1,49 +1,44 @@
 //! Running a message.
 
-ghost use Rattle.std.specs.Prelude.{◌≡◌, ◌-◌, ◌≤◌, ℕ, [], length, map, vec_capacity};
-ghost use Rattle.waff_cells.specs.Serial.{serial};
-ghost use Rattle.waff_cells.specs.Parcel.{AreParcels};
-ghost use Rattle.waff_core.specs.Job.{IsJob, owners_of};
-ghost use Rattle.waff_board.specs.Calls.{IsOf};
+ghost use Rattle.std.specs.Prelude.{◌≡◌, ◌<◌, All, length, map};
+ghost use Rattle.std.specs.List.Sorted.{IsStrictlyIncreasing};
+ghost use Rattle.waff_cells.specs.Held.{rows_of};
+ghost use Rattle.waff_board.specs.Hands.{rows_at};
 ghost use Rattle.waff_board.specs.Plays.{begun_view, finished_view};
+ghost use Rattle.waff_board.specs.Tokens.{IsOf, HoldsBefore, HoldsAfter};
 
 use crate::board::Board;
 use crate::hand::Hand;
 use crate::plays::{BeginStep, FinishStep};
 use crate::tokens::{Cleared, Finished, Grant, Seat};
-use crate::view::View;
+use crate::view::{DONE, RUNNING, View};
 use std::mem;
 use waff_cells::parcels;
-use waff_core::Job;
 
 impl Board {
     /// Begins the message: the parcels of its footprint's owners leave home.
     pub fn begin(&self, cleared: Cleared) -> Grant<'_>
-        requires { IsOf self.now cleared.hand }
+        requires { IsOf self.now cleared }
         ensures message { result.message ≡ cleared.message }
-        ensures view { result.hand.chair.me.0 ≡ begun_view cleared.hand.chair.me.0 cleared.message }
-        ensures parcels { AreParcels cleared.hand.chair.me.0.job.layout.spaces
-            (owners_of cleared.hand.chair.me.0.job.owners cleared.message)
-            (serial cleared.hand.chair.me.0.job.ops (cleared.message - 1))
-            (map (λ row. row.items) result.hand.places.items) }
-        ensures of { IsOf self.now result.hand }
+        ensures view { result.view ≡ begun_view cleared.view cleared.message }
+        ensures parcels { HoldsBefore result }
+        ensures of { IsOf self.now result }
     {
         let Cleared { hand, message } = cleared;
         let Hand {
             mut chair,
             seen,
-            mut places,
+            mut parcels,
         } = hand;
-        let job = self.job();
-        places.clear();
+        let job = &self.setup.job;
         self.table
             .shared
-            .store::<BeginStep>(&mut chair, message as usize, 1);
-        self.take_out(&mut chair, job.owners(message), &mut places);
+            .store::<BeginStep>(&mut chair, message as usize, RUNNING);
+        self.take_out(&mut chair, job.owners(message), &mut parcels);
         let hand = Hand {
             chair,
             seen,
-            places,
+            parcels,
         };
         Grant { hand, message, job }
     }
@@ -53,35 +48,33 @@ impl Board {
         &self,
         chair: &mut atomic_table::Seat<Vec<u64>, View>,
         owners: &[u16],
-        places: &mut Vec<Vec<u64>>,
+        parcels: &mut Vec<Vec<u64>>,
     )
-        requires table { chair.old.table_id ≡ self.now.table.shared.table_id }
+        requires table { chair.old.table_id ≡ self.now.table }
         requires held { map (λ slot. slot.0) chair.old.me.1 ≡ owners.now }
-        requires empty { places.old.items ≡ [] }
-        requires room { length owners.now ≤ vec_capacity places.old }
+        requires rows { All (λ a. a < length parcels.old.items) owners.now }
+        requires rising { IsStrictlyIncreasing owners.now }
         ensures table { chair.new.table_id ≡ chair.old.table_id }
         ensures view { chair.new.me.0 ≡ chair.old.me.0 }
         ensures held { map (λ slot. slot.0) chair.new.me.1 ≡ owners.now }
-        ensures values { map (λ row. row.items) places.new.items
+        ensures values { rows_at (rows_of parcels.new.items) owners.now
             ≡ map (λ slot. slot.1.items) chair.old.me.1 }
-        ensures room { vec_capacity places.new ≡ vec_capacity places.old }
+        ensures rows { length parcels.new.items ≡ length parcels.old.items }
     {
         for a in owners {
-            let parcel = self
+            parcels[*a as usize] = self
                 .table
                 .shared
                 .exchange(chair, *a as usize, Vec::new(self.heap));
-            places.push_reserved(parcel);
             chair.turn();
         }
     }
 
     /// Finishes the message: the parcels come home.
     pub fn finish(&self, finished: Finished<'_>) -> Seat
-        requires { IsOf self.now finished.hand }
-        ensures view { result.hand.chair.me.0
-            ≡ finished_view finished.entry.hand.chair.me.0 finished.entry.message }
-        ensures of { IsOf self.now result.hand }
+        requires { IsOf self.now finished }
+        ensures view { result.view ≡ finished_view finished.entry.view finished.entry.message }
+        ensures of { IsOf self.now result }
     {
         let Finished {
             hand,
@@ -91,17 +84,17 @@ impl Board {
         let Hand {
             mut chair,
             mut seen,
-            mut places,
+            mut parcels,
         } = hand;
-        self.put_in(&mut chair, self.job().owners(message), &mut places);
+        self.put_in(&mut chair, self.setup.job.owners(message), &mut parcels);
         self.table
             .shared
-            .store::<FinishStep>(&mut chair, message as usize, 2);
+            .store::<FinishStep>(&mut chair, message as usize, DONE);
         seen[message as usize] = true;
         let hand = Hand {
             chair,
             seen,
-            places,
+            parcels,
         };
         Seat { hand }
     }
@@ -111,23 +104,22 @@ impl Board {
         &self,
         chair: &mut atomic_table::Seat<Vec<u64>, View>,
         owners: &[u16],
-        places: &mut Vec<Vec<u64>>,
+        parcels: &mut Vec<Vec<u64>>,
     )
-        requires table { chair.old.table_id ≡ self.now.table.shared.table_id }
+        requires table { chair.old.table_id ≡ self.now.table }
         requires held { map (λ slot. slot.0) chair.old.me.1 ≡ owners.now }
-        requires count { length places.old.items ≡ length owners.now }
+        requires rows { All (λ a. a < length parcels.old.items) owners.now }
+        requires rising { IsStrictlyIncreasing owners.now }
         ensures table { chair.new.table_id ≡ chair.old.table_id }
         ensures view { chair.new.me.0 ≡ chair.old.me.0 }
         ensures held { map (λ slot. slot.0) chair.new.me.1 ≡ owners.now }
         ensures values { map (λ slot. slot.1.items) chair.new.me.1
-            ≡ map (λ row. row.items) places.old.items }
-        ensures room { vec_capacity places.new ≡ vec_capacity places.old }
+            ≡ rows_at (rows_of parcels.old.items) owners.now }
+        ensures rows { length parcels.new.items ≡ length parcels.old.items }
     {
-        for k in 0..owners.len() {
-            let parcel = mem::replace(&mut places[k], Vec::new(self.heap));
-            self.table
-                .shared
-                .exchange(chair, owners[k] as usize, parcel);
+        for a in owners {
+            let parcel = mem::replace(&mut parcels[*a as usize], Vec::new(self.heap));
+            self.table.shared.exchange(chair, *a as usize, parcel);
             chair.turn();
         }
     }
@@ -145,36 +137,26 @@ impl<'a> Grant<'a> {
     #[inline(always)]
     pub fn run(self) -> Finished<'a>
         ensures message { result.message ≡ self.entry.message }
-        ensures table { result.hand.chair.table_id ≡ self.entry.hand.chair.table_id }
-        ensures view { result.hand.chair.me.0 ≡ self.entry.hand.chair.me.0 }
-        ensures parcels { AreParcels self.entry.hand.chair.me.0.job.layout.spaces
-            (owners_of self.entry.hand.chair.me.0.job.owners self.entry.message)
-            (serial self.entry.hand.chair.me.0.job.ops self.entry.message)
-            (map (λ row. row.items) result.hand.places.items) }
+        ensures table { result.table ≡ self.entry.table }
+        ensures view { result.view ≡ self.entry.view }
+        ensures parcels { HoldsAfter result }
     {
         let Grant { hand, message, job } = self;
-        let job = known(job);
         let Hand {
             chair,
             seen,
-            mut places,
+            mut parcels,
         } = hand;
-        parcels::run(places.as_mut_slice(), job.row_ops(message));
+        parcels::run(
+            parcels.as_mut_slice(),
+            job.layout(),
+            &job.message(message).ops,
+        );
         let hand = Hand {
             chair,
             seen,
-            places,
+            parcels,
         };
         Finished { hand, message, job }
     }
-}
-
-/// The job.
-fn known(job: &Job) -> &Job
-    ensures same { result.now ≡ job.now }
-    ensures job { IsJob result.now }
-{
-    // Its contract tells `IsJob`.
-    let _ = job.len();
-    job
 }

@@ -9,6 +9,7 @@ ghost use Rattle.waff_cells.specs.Parcel.{AreParcels};
 ghost use Rattle.waff_board.specs.Seats.{HasSeen};
 
 use crate::hand::Hand;
+use std::marker::Model;
 use waff_core::Job;
 
 /// A seat that may draw.
@@ -17,6 +18,20 @@ pub struct Seat {
     pub(crate) hand: Hand,
     ghost free: { hand.chair.me.0.phase ≡ Free },
     ghost empty: { hand.chair.me.1 ≡ [] },
+}
+
+impl Model for Seat {
+    ghost use Rattle.std.specs.Prelude.{[]};
+    ghost use Rattle.waff_board.specs.Tokens.{Token};
+
+    ghost Value = { Token };
+
+    ghost view = { λ a. record {
+      table = a.hand.chair.table_id;
+      view = a.hand.chair.me.0;
+      message = 0;
+      parcels = [];
+    } };
 }
 
 /// A seat that has drawn a message.
@@ -30,6 +45,20 @@ pub struct Drawn {
     ghost empty: { hand.chair.me.1 ≡ [] },
 }
 
+impl Model for Drawn {
+    ghost use Rattle.std.specs.Prelude.{[]};
+    ghost use Rattle.waff_board.specs.Tokens.{Token};
+
+    ghost Value = { Token };
+
+    ghost view = { λ a. record {
+      table = a.hand.chair.table_id;
+      view = a.hand.chair.me.0;
+      message = a.message;
+      parcels = [];
+    } };
+}
+
 /// A seat that has drawn a message and has seen all its needs done.
 #[derive(Drop)]
 pub struct Cleared {
@@ -41,6 +70,20 @@ pub struct Cleared {
     ghost empty: { hand.chair.me.1 ≡ [] },
     ghost clear: { (i : ℕ) → IsNeed hand.chair.me.0.job.needs i message
         → HasSeen hand.chair.me.0 i },
+}
+
+impl Model for Cleared {
+    ghost use Rattle.std.specs.Prelude.{[]};
+    ghost use Rattle.waff_board.specs.Tokens.{Token};
+
+    ghost Value = { Token };
+
+    ghost view = { λ a. record {
+      table = a.hand.chair.table_id;
+      view = a.hand.chair.me.0;
+      message = a.message;
+      parcels = [];
+    } };
 }
 
 /// A seat that runs a message, with the parcels of its footprint's owners.
@@ -57,7 +100,21 @@ pub struct Grant<'a> {
         ≡ owners_of hand.chair.me.0.job.owners message },
     ghost before: { AreParcels hand.chair.me.0.job.layout.spaces
         (owners_of hand.chair.me.0.job.owners message)
-        (serial hand.chair.me.0.job.ops (message - 1)) (map (λ row. row.items) hand.places.items) },
+        (serial hand.chair.me.0.job.ops (message - 1)) (map (λ row. row.items) hand.parcels.items) },
+}
+
+impl<'a> Model for Grant<'a> {
+    ghost use Rattle.std.specs.Prelude.{map};
+    ghost use Rattle.waff_board.specs.Tokens.{Token};
+
+    ghost Value = { Token };
+
+    ghost view = { λ a. record {
+      table = a.hand.chair.table_id;
+      view = a.hand.chair.me.0;
+      message = a.message;
+      parcels = map (λ row. row.items) a.hand.parcels.items;
+    } };
 }
 
 /// A seat that has run a message, with the parcels as the message left them.
@@ -74,18 +131,42 @@ pub struct Finished<'a> {
         ≡ owners_of hand.chair.me.0.job.owners message },
     ghost after: { AreParcels hand.chair.me.0.job.layout.spaces
         (owners_of hand.chair.me.0.job.owners message)
-        (serial hand.chair.me.0.job.ops message) (map (λ row. row.items) hand.places.items) },
+        (serial hand.chair.me.0.job.ops message) (map (λ row. row.items) hand.parcels.items) },
+}
+
+impl<'a> Model for Finished<'a> {
+    ghost use Rattle.std.specs.Prelude.{map};
+    ghost use Rattle.waff_board.specs.Tokens.{Token};
+
+    ghost Value = { Token };
+
+    ghost view = { λ a. record {
+      table = a.hand.chair.table_id;
+      view = a.hand.chair.me.0;
+      message = a.message;
+      parcels = map (λ row. row.items) a.hand.parcels.items;
+    } };
 }
 
 /// A seat that has drawn past the end of the order.
 #[derive(Drop)]
 pub struct EndSeat {
     pub(crate) hand: Hand,
-    /// Each message up to this one is seen done.
-    pub(crate) seen_to: u32,
     ghost ended: { hand.chair.me.0.phase ≡ Ended },
     ghost empty: { hand.chair.me.1 ≡ [] },
     ghost short: { length hand.chair.me.0.job.ops < 2 ^ 32 },
-    ghost few: { seen_to ≤ length hand.chair.me.0.job.ops },
-    ghost seen: { (n : ℕ) → 1 ≤ n → n ≤ seen_to → HasSeen hand.chair.me.0 n },
+}
+
+impl Model for EndSeat {
+    ghost use Rattle.std.specs.Prelude.{[]};
+    ghost use Rattle.waff_board.specs.Tokens.{Token};
+
+    ghost Value = { Token };
+
+    ghost view = { λ a. record {
+      table = a.hand.chair.table_id;
+      view = a.hand.chair.me.0;
+      message = 0;
+      parcels = [];
+    } };
 }

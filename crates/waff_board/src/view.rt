@@ -3,6 +3,12 @@
 use std::collections::LinkedList;
 use waff_core::{Job, Phase};
 
+/// The status word of a message that an actor runs.
+pub const RUNNING: u64 = 1;
+
+/// The status word of a message that is done.
+pub const DONE: u64 = 2;
+
 /// What a seat knows, which its own steps alone change. No value of it is made: it stands in the
 /// proofs.
 pub struct View {

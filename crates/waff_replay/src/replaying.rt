@@ -6,9 +6,9 @@ ghost use Rattle.waff_model.specs.Messages.{sizes_of};
 ghost use Rattle.waff_model.specs.declared.cell.Cell.{Cell};
 ghost use Rattle.waff_cells.specs.Grid.{cells_in, HasSizes};
 ghost use Rattle.waff_cells.specs.Serial.{serial};
-ghost use Rattle.waff_board.specs.Calls.{IsOf};
 ghost use Rattle.waff_board.specs.Endings.{SeesAll};
 ghost use Rattle.waff_board.specs.Rule.{MAX_SEATS};
+ghost use Rattle.waff_board.specs.Tokens.{IsOf};
 
 use crate::gate::Gate;
 use crate::work::work;
@@ -58,20 +58,20 @@ fn team<R: Threads + Wait + Sync, G: Gate>(
     mut others: Vec<Seat>,
     gate: &G,
 ) -> EndSeat
-    requires mine { IsOf board.now mine.hand }
-    requires others { All (λ seat. IsOf board.now seat.hand) others.items }
-    ensures { IsOf board.now result.hand }
+    requires mine { IsOf board.now mine }
+    requires others { All (IsOf board.now) others.items }
+    ensures { IsOf board.now result }
 {
     let Some(other) = others.pop() else {
         return work(rt, board, mine, gate);
     };
     let theirs = move || -> EndSeat
-        requires { IsSync R.row × IsSync G.row × IsOf board.now other.hand }
+        requires { IsSync R.row × IsSync G.row × IsOf board.now other }
     { work(rt, board, other, gate) };
     let ours = move || -> EndSeat
-        requires { IsSync R.row × IsSync G.row × IsOf board.now mine.hand
-            × All (λ seat. IsOf board.now seat.hand) others.items }
-        ensures { IsOf board.entry.now result.hand }
+        requires { IsSync R.row × IsSync G.row × IsOf board.now mine
+            × All (IsOf board.now) others.items }
+        ensures { IsOf board.entry.now result }
     { team(rt, board, mine, others, gate) };
     let (_, end) = thread::join(rt, theirs, ours);
     end
@@ -79,9 +79,9 @@ fn team<R: Threads + Wait + Sync, G: Gate>(
 
 /// Looks at all messages until all are seen done.
 fn settle<R: Wait>(rt: &R, board: &Board, mut end: EndSeat) -> EndSeat
-    requires { IsOf board.now end.hand }
-    ensures of { IsOf board.now result.hand }
-    ensures seen { SeesAll result.hand.chair.me.0 }
+    requires { IsOf board.now end }
+    ensures of { IsOf board.now result }
+    ensures seen { SeesAll result.view }
 {
     for _ in rt.forever() {
         end = board.end_looks(end);

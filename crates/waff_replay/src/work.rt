@@ -1,6 +1,6 @@
 //! What one worker does.
 
-ghost use Rattle.waff_board.specs.Calls.{IsOf};
+ghost use Rattle.waff_board.specs.Tokens.{IsOf};
 
 use crate::gate::Gate;
 use std::hint::spin_loop;
@@ -13,8 +13,8 @@ const LOOKS: u32 = 100;
 
 /// Runs messages until the order is used up.
 pub(crate) fn work<R: Wait, G: Gate>(rt: &R, board: &Board, mut seat: Seat, gate: &G) -> EndSeat
-    requires { IsOf board.now seat.hand }
-    ensures { IsOf board.now result.hand }
+    requires { IsOf board.now seat }
+    ensures { IsOf board.now result }
 {
     for _ in rt.forever() {
         match board.draw(seat) {
@@ -32,8 +32,8 @@ pub(crate) fn work<R: Wait, G: Gate>(rt: &R, board: &Board, mut seat: Seat, gate
 /// Looks at the needs of the message until all are done.
 #[inline(always)]
 fn wait_until_clear<R: Wait>(rt: &R, board: &Board, mut drawn: Drawn) -> Cleared
-    requires { IsOf board.now drawn.hand }
-    ensures { IsOf board.now result.hand }
+    requires { IsOf board.now drawn }
+    ensures { IsOf board.now result }
 {
     let mut looks = 0;
     for _ in rt.forever() {

@@ -3,16 +3,8 @@ use Rattle.std.specs.Slots.{slots_items}
 use Rattle.waff_cells.specs.Gathered.{LieIn, cells_of_parcels}
 use Rattle.waff_cells.specs.Held.{rows_of}
 use Rattle.waff_cells.specs.Serial.{serial}
-use Rattle.waff_board.proofs.Takings.{seen_done, undone_unseen, closed_serial, parcels_lie, parcels_tell}
+use Rattle.waff_board.proofs.Takings.{undone_unseen, closed_serial, parcels_lie, parcels_tell}
 use Rattle.waff_board.proofs.closing.parcels_left.Goals as goal
-
-pub first_unfinished-unfinished-requires-clause-seen : goal.first_unfinished-unfinished-requires-clause-seen
-first_unfinished-unfinished-requires-clause-seen c = λ n from to.
-    let chair = c.args.chair in
-    let closed = c.close_with-closed.result in
-    seen_done (λ (p : Vec ℕ Global). p.items) c.args.table.shared.key c.args.job.now chair.id chair.me.0
-    (slots_items closed.words) (slots_items closed.slots) c.close_with-closed.ensures.values.2 c.requires.told n
-    (record { from = from; to = omega (arith, to, c.requires.few) }) (c.requires.seen n from to)
 
 pub returns-in-Some-clause-refused : goal.returns-in-Some-clause-refused
 returns-in-Some-clause-refused c =
@@ -33,7 +25,7 @@ returns-in-None-clause-lie c =
     c.close_with-closed.ensures.values.2 c.requires.told
     (λ n from to. c.in-None.ensures.none n from (omega (arith, to, c.len.ensures.count))) in
     subst (λ (parcels : List (Vec ℕ Global)). LieIn job.layout.spaces (rows_of parcels)) (sym c.unload-parcels.ensures)
-    (parcels_lie job c.len.ensures.job.layout (serial job.ops (length job.ops)) slots are)
+    (parcels_lie job c.requires.job.layout (serial job.ops (length job.ops)) slots are)
 
 pub returns-in-None-clause-cells : goal.returns-in-None-clause-cells
 returns-in-None-clause-cells c = λ cell is_cell.
@@ -46,4 +38,4 @@ returns-in-None-clause-cells c = λ cell is_cell.
     (λ n from to. c.in-None.ensures.none n from (omega (arith, to, c.len.ensures.count))) in
     subst (λ (parcels : List (Vec ℕ Global)). cells_of_parcels job.layout.spaces (rows_of parcels) cell ≡ serial job.ops (length job.ops) cell)
     (sym c.unload-parcels.ensures)
-    (parcels_tell job c.len.ensures.job.layout (serial job.ops (length job.ops)) slots are cell is_cell)
+    (parcels_tell job c.requires.job.layout (serial job.ops (length job.ops)) slots are cell is_cell)

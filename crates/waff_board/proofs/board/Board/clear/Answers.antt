@@ -1,128 +1,110 @@
-use Rattle.std.proofs.Common.{◌≡◌, ◌+◌, ◌<◌, ◌≤◌, Bool, List, All, Some, None, Contains, find, not, length, slice_index_or, false, arith, refl, sym, ap, ◌∙◌, subst}
+use Rattle.std.proofs.Common.{◌≡◌, ◌+◌, ◌<◌, ◌≤◌, Bool, List, All, Some, None, find, not, length, slice_index_or, false, arith, sym, ap, ◌∙◌, subst}
 use Rattle.waff_order.specs.Needs.{needs_of}
-use Rattle.waff_core.specs.Job.{JobValue, IsJob}
+use Rattle.waff_core.specs.Job.{JobValue}
 use Rattle.waff_board.specs.Calls.{LooksOver}
 use Rattle.waff_board.specs.Seats.{has_seen}
+use Rattle.waff_board.specs.Tokens.{BoardValue, Token}
 use Rattle.waff_board.specs.declared.view.View.{View}
-use Rattle.waff_board.proofs.Lookings.{looks_alone, needs_known, first_agrees, none_unseen}
+use Rattle.waff_board.proofs.Lookings.{looks_alone, needs_known, needs_marked, first_is, all_seen}
 use Rattle.waff_board.proofs.board.Board.clear.Goals as goal
 
 pub look_over-hand-requires-clause-known : goal.look_over-hand-requires-clause-known
 look_over-hand-requires-clause-known c =
-    let J = c.args.self.now.setup.job in
-    let m = c.args.drawn.message in
-    let is_needs : c.needs-needs.result.now ≡ needs_of J.needs m
-    = c.needs-needs.ensures.needs ∙ ap (λ (j : JobValue). needs_of j.needs m) c.job.ensures.same in
-    subst (λ xs. All (λ n. (1 ≤ n) × (n ≤ length J.ops)) xs) (sym is_needs)
-    (needs_known J (subst IsJob c.job.ensures.same c.job.ensures.job) m c.args.drawn.from)
+    let J = c.self.inside.setup.job in
+    subst (λ (b : BoardValue). All (λ n. (1 ≤ n) × (n ≤ length b.job.ops)) c.needs-needs.result.now) c.self.view_is
+    (subst (λ xs. All (λ n. (1 ≤ n) × (n ≤ length J.ops)) xs) (sym c.needs-needs.ensures.needs)
+    (needs_known J c.self.invariant.job c.drawn.inside.message c.drawn.inside.from))
 
 pub first_unseen-requires : goal.first_unseen-requires
 first_unseen-requires c = λ k d within.
-    let J = c.args.self.now.setup.job in
-    let m = c.args.drawn.message in
-    let is_needs : c.needs-needs.result.now ≡ needs_of J.needs m
-    = c.needs-needs.ensures.needs ∙ ap (λ (j : JobValue). needs_of j.needs m) c.job.ensures.same in
-    let known : All (λ n. (1 ≤ n) × (n ≤ length J.ops)) c.needs-needs.result.now
-    = subst (λ xs. All (λ n. (1 ≤ n) × (n ≤ length J.ops)) xs) (sym is_needs)
-    (needs_known J (subst IsJob c.job.ensures.same c.job.ensures.job) m c.args.drawn.from) in
-    let to : slice_index_or c.needs-needs.result.now k d ≤ length J.ops = (known k d within).1 in
-    let ops : length c.look_over-hand.result.chair.me.0.job.ops ≡ length J.ops = ap (λ (j : JobValue). length j.ops) c.look_over-hand.ensures.of.1 in
+    let J = c.self.inside.setup.job in
+    let W = c.look_over-hand.result.chair.me.0 in
+    let job : W.job ≡ J = c.look_over-hand.ensures.of.1 ∙ sym (ap (λ (b : BoardValue). b.job) c.self.view_is) in
+    let known : All (λ n. n < length W.job.ops + 1) c.needs-needs.result.now
+    = subst (λ xs. All (λ n. n < length W.job.ops + 1) xs) (sym c.needs-needs.ensures.needs)
+    (needs_marked J c.self.invariant.job c.drawn.inside.message c.drawn.inside.from W job c.look_over-hand.result.seen.items c.look_over-hand.result.marks) in
+    let to : slice_index_or c.needs-needs.result.now k d < length W.job.ops + 1 = known k d within in
     let count = c.look_over-hand.result.count in
     let len = c.as_slice.ensures.len in
-    omega (arith, to, ops, count, len)
+    omega (arith, to, count, len)
 
 pub invariant_of-result : goal.invariant_of-result
 invariant_of-result c =
-    let V = c.args.drawn.hand.chair.me.0 in
+    let V = c.drawn.inside.hand.chair.me.0 in
     let W = c.look_over-hand.result.chair.me.0 in
-    let alone : W ≡ record V { looks = W.looks } = looks_alone V W c.needs-needs.result.now c.look_over-hand.ensures.looks in
-    record {
-      from = c.args.drawn.from;
-      to = subst (λ (j : JobValue). c.args.drawn.message ≤ length j.ops) (sym (ap (λ (u : View). u.job) alone)) c.args.drawn.to;
-      drawn = ap (λ (u : View). u.phase) alone ∙ c.args.drawn.drawn;
-      empty = c.look_over-hand.ensures.held ∙ c.args.drawn.empty;
-    }
+    let alone : W ≡ record V { looks = W.looks } = looks_alone V W c.needs-needs.result.now c.look_over-hand.ensures.looks in (
+      c.drawn.inside.from,
+      (
+        subst (λ (j : JobValue). c.drawn.inside.message ≤ length j.ops) (sym (ap (λ (u : View). u.job) alone)) c.drawn.inside.to,
+        (ap (λ (u : View). u.phase) alone ∙ c.drawn.inside.drawn, (c.look_over-hand.ensures.held ∙ c.drawn.inside.empty, tt)),
+      ),
+    )
 
 pub invariant_of-result-in-None : goal.invariant_of-result-in-None
 invariant_of-result-in-None c =
-    let J = c.args.self.now.setup.job in
-    let m = c.args.drawn.message in
-    let V = c.args.drawn.hand.chair.me.0 in
+    let J = c.self.inside.setup.job in
+    let m = c.drawn.inside.message in
+    let V = c.drawn.inside.hand.chair.me.0 in
     let W = c.look_over-hand.result.chair.me.0 in
     let seen = c.look_over-hand.result.seen.items in
-    let count = length W.job.ops + 1 in
+    let job : W.job ≡ J = c.look_over-hand.ensures.of.1 ∙ sym (ap (λ (b : BoardValue). b.job) c.self.view_is) in
     let alone : W ≡ record V { looks = W.looks } = looks_alone V W c.needs-needs.result.now c.look_over-hand.ensures.looks in
-    let is_needs : c.needs-needs.result.now ≡ needs_of W.job.needs m
-    = c.needs-needs.ensures.needs ∙ ap (λ (j : JobValue). needs_of j.needs m) (c.job.ensures.same ∙ sym c.look_over-hand.ensures.of.1) in
-    let within : All (λ n. n < count) c.needs-needs.result.now
-    = (λ k d there.
-    let known : All (λ n. (1 ≤ n) × (n ≤ length W.job.ops)) (needs_of W.job.needs m)
-    = needs_known W.job (subst IsJob (c.job.ensures.same ∙ sym c.look_over-hand.ensures.of.1) c.job.ensures.job) m c.args.drawn.from in
-    let all : All (λ n. (1 ≤ n) × (n ≤ length W.job.ops)) c.needs-needs.result.now
-    = subst (λ xs. All (λ n. (1 ≤ n) × (n ≤ length W.job.ops)) xs) (sym is_needs) known in
-    let to = (all k d there).1 in omega (arith, to)) in
-    let none : find (λ n. not (slice_index_or seen n false)) c.needs-needs.result.now ≡ None
-    = subst (λ (marks : List Bool). find (λ n. not (slice_index_or marks n false)) c.needs-needs.result.now ≡ None) c.as_slice.ensures.value (sym c.in-None.ensures) in
-    record {
-      from = c.args.drawn.from;
-      to = subst (λ (j : JobValue). m ≤ length j.ops) (sym (ap (λ (u : View). u.job) alone)) c.args.drawn.to;
-      drawn = ap (λ (u : View). u.phase) alone ∙ c.args.drawn.drawn;
-      empty = c.look_over-hand.ensures.held ∙ c.args.drawn.empty;
-      clear = λ i need.
-          none_unseen W seen count c.needs-needs.result.now c.look_over-hand.result.marks within none i
-          (subst (λ xs. Contains xs i) (sym is_needs) need.listed);
-    }
+    let none : find (λ n. not (slice_index_or seen n false)) (needs_of J.needs m) ≡ None
+    = subst (λ xs. find (λ n. not (slice_index_or seen n false)) xs ≡ None) c.needs-needs.ensures.needs
+    (subst (λ (marks : List Bool). find (λ n. not (slice_index_or marks n false)) c.needs-needs.result.now ≡ None) c.as_slice.ensures.value (sym c.in-None.ensures)) in (
+      c.drawn.inside.from,
+      (
+        subst (λ (j : JobValue). m ≤ length j.ops) (sym (ap (λ (u : View). u.job) alone)) c.drawn.inside.to,
+        (
+          ap (λ (u : View). u.phase) alone ∙ c.drawn.inside.drawn,
+          (
+            c.look_over-hand.ensures.held ∙ c.drawn.inside.empty,
+            (all_seen J c.self.invariant.job m c.drawn.inside.from W job seen c.look_over-hand.result.marks none, tt),
+          ),
+        ),
+      ),
+    )
 
 pub returns-in-Some : goal.returns-in-Some
 returns-in-Some c =
-    let m = c.args.drawn.message in
-    let V = c.args.drawn.hand.chair.me.0 in
+    let J = c.self.inside.setup.job in
+    let m = c.drawn.inside.message in
+    let V = c.drawn.inside.hand.chair.me.0 in
     let W = c.look_over-hand.result.chair.me.0 in
     let seen = c.look_over-hand.result.seen.items in
-    let count = length W.job.ops + 1 in
-    let is_needs : c.needs-needs.result.now ≡ needs_of W.job.needs m
-    = c.needs-needs.ensures.needs ∙ ap (λ (j : JobValue). needs_of j.needs m) (c.job.ensures.same ∙ sym c.look_over-hand.ensures.of.1) in
-    let was_needs : c.needs-needs.result.now ≡ needs_of V.job.needs m
-    = c.needs-needs.ensures.needs ∙ ap (λ (j : JobValue). needs_of j.needs m) (c.job.ensures.same ∙ sym c.requires.1) in
-    let within : All (λ n. n < count) c.needs-needs.result.now
-    = (λ k d there.
-    let known : All (λ n. (1 ≤ n) × (n ≤ length W.job.ops)) (needs_of W.job.needs m)
-    = needs_known W.job (subst IsJob (c.job.ensures.same ∙ sym c.look_over-hand.ensures.of.1) c.job.ensures.job) m c.args.drawn.from in
-    let all : All (λ n. (1 ≤ n) × (n ≤ length W.job.ops)) c.needs-needs.result.now
-    = subst (λ xs. All (λ n. (1 ≤ n) × (n ≤ length W.job.ops)) xs) (sym is_needs) known in
-    let to = (all k d there).1 in omega (arith, to)) in
-    let found : find (λ n. not (slice_index_or seen n false)) c.needs-needs.result.now ≡ Some c.in-Some.on
-    = subst (λ (marks : List Bool). find (λ n. not (slice_index_or marks n false)) c.needs-needs.result.now ≡ Some c.in-Some.on) c.as_slice.ensures.value (sym c.in-Some.ensures) in (
-      refl,
-      subst (λ xs. LooksOver V xs W) was_needs c.look_over-hand.ensures.looks,
-      subst (λ xs. find (λ n. not (has_seen W n)) xs ≡ Some c.in-Some.on) was_needs
-          (first_agrees W seen count c.needs-needs.result.now c.look_over-hand.result.marks within ∙ found),
+    let job : W.job ≡ J = c.look_over-hand.ensures.of.1 ∙ sym (ap (λ (b : BoardValue). b.job) c.self.view_is) in
+    let was : J ≡ V.job = ap (λ (b : BoardValue). b.job) c.self.view_is ∙ sym c.requires.1 ∙ sym (ap (λ (t : Token). t.view.job) c.drawn.view_is) in
+    let found : find (λ n. not (slice_index_or seen n false)) (needs_of J.needs m) ≡ Some c.in-Some.on
+    = subst (λ xs. find (λ n. not (slice_index_or seen n false)) xs ≡ Some c.in-Some.on) c.needs-needs.ensures.needs
+    (subst (λ (marks : List Bool). find (λ n. not (slice_index_or marks n false)) c.needs-needs.result.now ≡ Some c.in-Some.on) c.as_slice.ensures.value (sym c.in-Some.ensures)) in (
+      ap (λ (t : Token). t.message) c.drawn.view_is,
+      subst (λ (t : Token). LooksOver t.view (needs_of t.view.job.needs t.message) W) c.drawn.view_is
+          (subst (λ (j : JobValue). LooksOver V (needs_of j.needs m) W) was
+          (subst (λ xs. LooksOver V xs W) c.needs-needs.ensures.needs c.look_over-hand.ensures.looks)),
+      subst (λ (t : Token). find (λ n. not (has_seen W n)) (needs_of t.view.job.needs t.message) ≡ Some c.in-Some.on) c.drawn.view_is
+          (subst (λ (j : JobValue). find (λ n. not (has_seen W n)) (needs_of j.needs m) ≡ Some c.in-Some.on) was
+          (first_is J c.self.invariant.job m c.drawn.inside.from W job seen c.look_over-hand.result.marks ∙ found)),
       c.look_over-hand.ensures.of,
     )
 
 pub returns-in-None : goal.returns-in-None
 returns-in-None c =
-    let m = c.args.drawn.message in
-    let V = c.args.drawn.hand.chair.me.0 in
+    let J = c.self.inside.setup.job in
+    let m = c.drawn.inside.message in
+    let V = c.drawn.inside.hand.chair.me.0 in
     let W = c.look_over-hand.result.chair.me.0 in
     let seen = c.look_over-hand.result.seen.items in
-    let count = length W.job.ops + 1 in
-    let is_needs : c.needs-needs.result.now ≡ needs_of W.job.needs m
-    = c.needs-needs.ensures.needs ∙ ap (λ (j : JobValue). needs_of j.needs m) (c.job.ensures.same ∙ sym c.look_over-hand.ensures.of.1) in
-    let was_needs : c.needs-needs.result.now ≡ needs_of V.job.needs m
-    = c.needs-needs.ensures.needs ∙ ap (λ (j : JobValue). needs_of j.needs m) (c.job.ensures.same ∙ sym c.requires.1) in
-    let within : All (λ n. n < count) c.needs-needs.result.now
-    = (λ k d there.
-    let known : All (λ n. (1 ≤ n) × (n ≤ length W.job.ops)) (needs_of W.job.needs m)
-    = needs_known W.job (subst IsJob (c.job.ensures.same ∙ sym c.look_over-hand.ensures.of.1) c.job.ensures.job) m c.args.drawn.from in
-    let all : All (λ n. (1 ≤ n) × (n ≤ length W.job.ops)) c.needs-needs.result.now
-    = subst (λ xs. All (λ n. (1 ≤ n) × (n ≤ length W.job.ops)) xs) (sym is_needs) known in
-    let to = (all k d there).1 in omega (arith, to)) in
-    let none : find (λ n. not (slice_index_or seen n false)) c.needs-needs.result.now ≡ None
-    = subst (λ (marks : List Bool). find (λ n. not (slice_index_or marks n false)) c.needs-needs.result.now ≡ None) c.as_slice.ensures.value (sym c.in-None.ensures) in (
-      refl,
-      subst (λ xs. LooksOver V xs W) was_needs c.look_over-hand.ensures.looks,
-      subst (λ xs. find (λ n. not (has_seen W n)) xs ≡ None) was_needs
-          (first_agrees W seen count c.needs-needs.result.now c.look_over-hand.result.marks within ∙ none),
+    let job : W.job ≡ J = c.look_over-hand.ensures.of.1 ∙ sym (ap (λ (b : BoardValue). b.job) c.self.view_is) in
+    let was : J ≡ V.job = ap (λ (b : BoardValue). b.job) c.self.view_is ∙ sym c.requires.1 ∙ sym (ap (λ (t : Token). t.view.job) c.drawn.view_is) in
+    let none : find (λ n. not (slice_index_or seen n false)) (needs_of J.needs m) ≡ None
+    = subst (λ xs. find (λ n. not (slice_index_or seen n false)) xs ≡ None) c.needs-needs.ensures.needs
+    (subst (λ (marks : List Bool). find (λ n. not (slice_index_or marks n false)) c.needs-needs.result.now ≡ None) c.as_slice.ensures.value (sym c.in-None.ensures)) in (
+      ap (λ (t : Token). t.message) c.drawn.view_is,
+      subst (λ (t : Token). LooksOver t.view (needs_of t.view.job.needs t.message) W) c.drawn.view_is
+          (subst (λ (j : JobValue). LooksOver V (needs_of j.needs m) W) was
+          (subst (λ xs. LooksOver V xs W) c.needs-needs.ensures.needs c.look_over-hand.ensures.looks)),
+      subst (λ (t : Token). find (λ n. not (has_seen W n)) (needs_of t.view.job.needs t.message) ≡ None) c.drawn.view_is
+          (subst (λ (j : JobValue). find (λ n. not (has_seen W n)) (needs_of j.needs m) ≡ None) was
+          (first_is J c.self.invariant.job m c.drawn.inside.from W job seen c.look_over-hand.result.marks ∙ none)),
       c.look_over-hand.ensures.of,
     )

@@ -1,49 +1,50 @@
-use Rattle.std.proofs.Common.{◌≡◌, ℕ, ◌+◌, ◌<◌, ◌≤◌, length, arith, ap, sym, refl, ◌∙◌, subst}
+use Rattle.std.proofs.Common.{◌≡◌, ◌-◌, ◌+◌, ◌^◌, ◌<◌, length, arith, ap, sym, ◌∙◌, subst}
 use Rattle.waff_core.specs.Job.{JobValue}
 use Rattle.waff_board.specs.Endings.{LookedUpTo}
-use Rattle.waff_board.specs.Seats.{HasSeen}
-use Rattle.waff_board.proofs.Seen.{seen_still}
-use Rattle.waff_board.proofs.Lookings.{mark_tells}
-use Rattle.waff_board.proofs.Sweeps.{over_more, below_more}
+use Rattle.waff_board.specs.Tokens.{BoardValue, Token}
+use Rattle.waff_board.specs.declared.view.View.{View}
+use Rattle.waff_board.proofs.Sweeps.{over_start, over_more, over_alone}
 use Rattle.waff_board.proofs.board.Board.end_looks.Goals as goal
-use Rattle.waff_board.proofs.board.Board.end_looks.Goals.{then-seen_to-before+then-index, else-seen_to-before}
 
-pub loop-before-preserved : goal.loop-before-preserved
-loop-before-preserved c =
-    let v = c.args.seat.hand.chair.me.0 in
-    let w = c.loop-before.hand.chair.me.0 in
-    let u = c.look-hand.result.chair.me.0 in
-    let n = c.loop-before.before + 1 in
-    let inv = c.loop-before.invariant in
-    let looks : LookedUpTo n v u = over_more c.loop-before.before n v w u refl inv.0 c.look-hand.ensures.view in
-    let held = c.look-hand.ensures.held ∙ inv.1 in
-    let still : (m : ℕ) → HasSeen w m → HasSeen u m = (λ m seen. seen_still w u n m c.look-hand.ensures.view seen) in
-    elim c.if-seen_to-before.branch [
-      | then-seen_to-before+then-index b ↦
-          let hand = c.look-hand.result in
-          let jobs : u.job ≡ v.job = c.look-hand.ensures.of.1 ∙ sym c.requires.1 in
-          let count : n ≤ length v.job.ops
-          = omega (
-            arith,
-            c.loop-before-test.true,
-            c.len-before-end.ensures.count,
-            ap (λ (j : JobValue). length j.ops) (c.job.ensures.same ∙ sym c.requires.1),
-          ) in
-          let within : n < length u.job.ops + 1 = subst (λ (j : JobValue). n < length j.ops + 1) (sym jobs) (omega (arith, count)) in
-          let long : length hand.seen.items ≡ length u.job.ops + 1
-          = (let ok = hand.seen.ok in let count = hand.count in omega (arith, ok, count)) in
-          let here : HasSeen u n
-          = mark_tells u hand.seen.items (length u.job.ops + 1) n b.index.result.now long hand.marks within b.index.ensures ∙ b.if-index.true in
-          let below = below_more (HasSeen u) n (λ m from to. still m (inv.4 m from (omega (arith, to, b.if-seen_to-before.true)))) here in
-          (looks, held, c.look-hand.ensures.of, omega (arith, count, b.seen_to-is), λ m from to. below m from (omega (arith, to, b.seen_to-is)))
-      | else-seen_to-before b ↦
-          (looks, held, c.look-hand.ensures.of, omega (arith, inv.3, b.seen_to-is), λ m from to. still m (inv.4 m from (omega (arith, to, b.seen_to-is))))
-    ]
+pub loop-n-init : goal.loop-n-init
+loop-n-init c = (
+  subst (λ (t : Token). LookedUpTo 0 t.view c.seat.inside.hand.chair.me.0) c.seat.view_is (over_start c.seat.inside.hand.chair.me.0),
+  c.seat.inside.empty,
+  (ap (λ (t : Token). t.table) c.seat.view_is ∙ c.requires.0, ap (λ (t : Token). t.view.job) c.seat.view_is ∙ c.requires.1),
+)
+
+pub loop-n-preserved : goal.loop-n-preserved
+loop-n-preserved c =
+    let v = c.args.seat.view in
+    let n = c.loop-n.n in
+    let inv = c.loop-n.invariant in (
+      over_more (n - 1) (n + 1 - 1) v c.loop-n.hand.chair.me.0 c.look-hand.result.chair.me.0 n (omega arith) (omega arith) inv.0 c.look-hand.ensures.view,
+      c.look-hand.ensures.held ∙ inv.1,
+      c.look-hand.ensures.of,
+    )
+
+pub invariant_of-result : goal.invariant_of-result
+invariant_of-result c =
+    let v = c.args.seat.view in
+    let w = c.loop-n.hand.chair.me.0 in
+    let inv = c.loop-n.invariant in
+    let job : w.job ≡ v.job = inv.2.1 ∙ sym c.requires.1 in (
+      ap (λ (u : View). u.phase) (over_alone (c.loop-n.n - 1) v w inv.0)
+          ∙ sym (ap (λ (t : Token). t.view.phase) c.seat.view_is) ∙ c.seat.inside.ended,
+      (
+        inv.1,
+        (
+          subst (λ (j : JobValue). length j.ops < 2 ^ 32) (ap (λ (t : Token). t.view.job) c.seat.view_is ∙ sym job) c.seat.inside.short,
+          tt,
+        ),
+      ),
+    )
 
 pub returns-clause-looks : goal.returns-clause-looks
 returns-clause-looks c =
-    let v = c.args.seat.hand.chair.me.0 in
-    let count : c.loop-before.before ≡ length c.args.self.now.setup.job.ops
-    = omega (arith, c.loop-before-test.false, c.loop-before.auto, c.len-before-end.ensures.count, ap (λ (j : JobValue). length j.ops) c.job.ensures.same) in
-    subst (λ n. LookedUpTo n v c.loop-before.hand.chair.me.0)
-    (count ∙ sym (ap (λ (j : JobValue). length j.ops) c.requires.1)) c.loop-before.invariant.0
+    let v = c.args.seat.view in
+    let ops : length v.job.ops ≡ length c.self.inside.setup.job.ops
+    = ap (λ (j : JobValue). length j.ops) (c.requires.1 ∙ sym (ap (λ (b : BoardValue). b.job) c.self.view_is)) in
+    let count : c.loop-n.n - 1 ≡ length v.job.ops
+    = omega (arith, c.loop-n-test.false, c.loop-n.auto, c.len-n-end.ensures.count, ops) in
+    subst (λ k. LookedUpTo k v c.loop-n.hand.chair.me.0) count c.loop-n.invariant.0

@@ -1,5 +1,6 @@
 use Rattle.std.proofs.Common.{◌≡◌, ℕ, ◌+◌, ◌<◌, MatchBool, length, get_or, take, arith, sym, ◌∙◌, subst, refl}
-use Rattle.waff_board.specs.Calls.{IsOf, Looked, LooksOver}
+use Rattle.waff_board.specs.Calls.{Looked, LooksOver}
+use Rattle.waff_board.specs.Hands.{IsHandOf}
 use Rattle.waff_board.specs.Seats.{has_seen}
 use Rattle.waff_board.specs.declared.hand.Hand.{Hand}
 use Rattle.waff_board.proofs.Lookings.{looks_next, mark_tells}
@@ -24,7 +25,7 @@ loop-n-preserved c =
     = mark_tells before.chair.me.0 before.seen.items (length before.chair.me.0.job.ops + 1) n c.index.result.now long before.marks few c.index.ensures in
     elim c.if-not-index.branch [
       | then-not-index w ↦
-          subst (λ (h : Hand). LooksOver v (take (k + 1) messages) h.chair.me.0 × (h.chair.me.1 ≡ c.args.hand.chair.me.1) × IsOf c.args.self.now h)
+          subst (λ (h : Hand). LooksOver v (take (k + 1) messages) h.chair.me.0 × (h.chair.me.1 ≡ c.args.hand.chair.me.1) × IsHandOf c.args.self.now h)
           (sym w.hand-is) (
             looks_next v before.chair.me.0 w.look-hand.result.chair.me.0 messages k c.loop-n-test.true inv.0
                 (subst (λ b. MatchBool b (w.look-hand.result.chair.me.0 ≡ before.chair.me.0) (Looked before.chair.me.0 n w.look-hand.result.chair.me.0))
@@ -33,7 +34,7 @@ loop-n-preserved c =
             w.look-hand.ensures.of,
           )
       | else-not-index w ↦
-          subst (λ (h : Hand). LooksOver v (take (k + 1) messages) h.chair.me.0 × (h.chair.me.1 ≡ c.args.hand.chair.me.1) × IsOf c.args.self.now h)
+          subst (λ (h : Hand). LooksOver v (take (k + 1) messages) h.chair.me.0 × (h.chair.me.1 ≡ c.args.hand.chair.me.1) × IsHandOf c.args.self.now h)
           (sym w.hand-is) (
             looks_next v before.chair.me.0 before.chair.me.0 messages k c.loop-n-test.true inv.0
                 (subst (λ b. MatchBool b (before.chair.me.0 ≡ before.chair.me.0) (Looked before.chair.me.0 n before.chair.me.0))

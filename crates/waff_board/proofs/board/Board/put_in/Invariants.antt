@@ -1,11 +1,12 @@
-use Rattle.std.proofs.Common.{◌≡◌, length, map, drop, vec_capacity}
+use Rattle.std.proofs.Common.{◌≡◌, length, drop}
+use Rattle.waff_cells.specs.Held.{rows_of}
+use Rattle.waff_board.specs.Hands.{rows_at}
 use Rattle.waff_board.proofs.Carrying.{IsPutting}
 use Rattle.waff_board.proofs.board.Board.put_in.Given as goal
 
-abbrev pub invariant-loop-k : goal.invariant-loop-k
-invariant-loop-k l =
+abbrev pub invariant-loop-a : goal.invariant-loop-a
+invariant-loop-a l =
     (l.chair.table_id ≡ l.fn.chair.table_id)
-    × IsPutting (λ parcel. parcel.items) l.fn.chair.me.0 l.owners (map (λ row. row.items) l.fn.places.items) l.k l.chair.me
-    × (length l.places.items ≡ length l.owners)
-    × (drop l.k (map (λ row. row.items) l.places.items) ≡ drop l.k (map (λ row. row.items) l.fn.places.items))
-    × (vec_capacity l.places ≡ vec_capacity l.fn.places)
+    × IsPutting (λ parcel. parcel.items) l.fn.chair.me.0 l.owners (rows_at (rows_of l.fn.parcels.items) l.owners) l.a-index l.chair.me
+    × (length l.parcels.items ≡ length l.fn.parcels.items)
+    × (rows_at (rows_of l.parcels.items) (drop l.a-index l.owners) ≡ rows_at (rows_of l.fn.parcels.items) (drop l.a-index l.owners))

@@ -1,13 +1,13 @@
 use Rattle.std.proofs.Common.{◌≡◌, ◌+◌, [], length, All}
-use Rattle.waff_board.specs.Calls.{IsOf}
 use Rattle.waff_board.specs.Openings.{AreFresh}
 use Rattle.waff_board.specs.Seats.{fresh}
+use Rattle.waff_board.specs.Tokens.{IsOf}
 use Rattle.waff_board.proofs.board.Board.seat_all.Given as goal
 
 abbrev pub invariant-loop-made : goal.invariant-loop-made
 invariant-loop-made l =
     (length l.seats.items + 1 ≡ l._made)
-    × (l.chair.table_id ≡ l.self.table.shared.table_id)
-    × (l.chair.me ≡ (fresh l.self.setup.job 1 l._made, []))
-    × All (λ seat. IsOf l.self seat.hand) l.seats.items
+    × (l.chair.table_id ≡ l.self.table)
+    × (l.chair.me ≡ (fresh l.self.job 1 l._made, []))
+    × All (IsOf l.self) l.seats.items
     × AreFresh 2 l.seats.items

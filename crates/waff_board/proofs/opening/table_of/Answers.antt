@@ -1,19 +1,23 @@
-use Rattle.std.proofs.Common.{ℕ, length, map, Vec, Global, refl, sym, ap, ◌∙◌}
+use Rattle.std.proofs.Common.{◌≡◌, ℕ, ◌+◌, length, map, replicate, Vec, Global, arith, rules, refl, sym, ap, ◌∙◌}
 use Rattle.std.proofs.lemmas.List.{length-map}
 use Rattle.waff_model.specs.Layout.{Hierarchy}
 use Rattle.waff_board.specs.Openings.{zero_parcels_of}
+use Rattle.waff_board.specs.Rule.{IsSetup}
 use Rattle.waff_board.proofs.Makings.{zeros_are}
 use Rattle.waff_board.proofs.Opens.{opens, AreZeros}
-use Rattle.waff_board.proofs.opening.table_with.Goals as goal
+use Rattle.waff_board.proofs.opening.table_of.Goals as goal
 
 pub new-requires : goal.new-requires
 new-requires c =
     let setup = c.args.setup.now in
     let items = c.in_ok-parcels.parcels.items in
+    let few = c.len.ensures.few in
     let zeros : AreZeros setup.job (map (λ (p : Vec ℕ Global). p.items) items)
     = zeros_are setup.job (length setup.job.layout.tree) (map (λ (p : Vec ℕ Global). p.items) items)
-    (c.in_ok-parcels.ensures ∙ ap (λ (h : Hierarchy). zero_parcels_of h.spaces (length h.tree)) c.layout.ensures) refl in
-    opens setup c.requires.setup c.requires.some (λ (p : Vec ℕ Global). p.items) c.args.words.now items c.requires.words zeros
+    (c.in_ok-parcels.ensures ∙ ap (λ (h : Hierarchy). zero_parcels_of h.spaces (length h.tree)) c.layout.ensures.layout) refl in
+    let told : IsSetup setup = record { job = c.len.ensures.job; short = omega (arith, few); few = c.requires.few } in
+    let words : c.deref.result.now ≡ replicate (length setup.job.ops + 1) 0 = search rules in
+    opens setup told c.requires.some (λ (p : Vec ℕ Global). p.items) c.deref.result.now items words zeros
 
 pub returns-in-Ok-clause-slots : goal.returns-in-Ok-clause-slots
 returns-in-Ok-clause-slots c =
@@ -21,5 +25,5 @@ returns-in-Ok-clause-slots c =
     let items = c.in_ok-parcels.parcels.items in
     let zeros : AreZeros setup.job (map (λ (p : Vec ℕ Global). p.items) items)
     = zeros_are setup.job (length setup.job.layout.tree) (map (λ (p : Vec ℕ Global). p.items) items)
-    (c.in_ok-parcels.ensures ∙ ap (λ (h : Hierarchy). zero_parcels_of h.spaces (length h.tree)) c.layout.ensures) refl in
+    (c.in_ok-parcels.ensures ∙ ap (λ (h : Hierarchy). zero_parcels_of h.spaces (length h.tree)) c.layout.ensures.layout) refl in
     c.in-Ok.ensures.ok.1 ∙ sym (length-map items (λ (p : Vec ℕ Global). p.items)) ∙ zeros.0
