@@ -11,7 +11,7 @@ use Rattle.waff_plan_text.specs.Lines.{text_of}
 use Rattle.waff_figures.specs.ByAffinity.{AreCostsBelow, affinities_lines}
 use Rattle.waff_figures.specs.ByName.{message_names, names_lines}
 use Rattle.waff_figures.specs.Figures.{figures_of}
-use Rattle.waff_figures.specs.Laws.{ChainAddsUp, CostsAddUp}
+use Rattle.waff_figures.specs.Laws.{ChainAddsUp, CostsAddUp, NamesAddUp}
 use Rattle.waff_figures.specs.Sweep.{AreListed, sweep_lines}
 use Rattle.waff_figures.specs.declared.figures.Figures.{Figures}
 use Rattle.waff_tool.specs.Certificates.{IsCertified}
@@ -51,7 +51,8 @@ pub record IsAffinitiesText (hierarchy_file trace_file text : List ℕ) : Type 0
   pub chain_adds_up : ChainAddsUp layout.tree assigned (work_in trace) chain
   pub lines : text ≡ text_of (affinities_lines layout.tree assigned (work_in trace) chain below)
 
--- the text of where the time goes by the names of messages
+-- the text of where the time goes by the names of messages; its columns add up to the messages, the
+-- total and the cost of the chain
 pub record IsNamesText (hierarchy_file trace_file text : List ℕ) : Type 0 where
   pub layout : Hierarchy
   pub trace : Arrivals
@@ -61,6 +62,7 @@ pub record IsNamesText (hierarchy_file trace_file text : List ℕ) : Type 0 wher
   pub accepts : Accepts hierarchy_file trace_file layout trace assigned
   pub certified : IsCertified (IsOrdered layout.tree assigned)
       (work_in trace) (start_of starts) chain
+  pub names_add_up : NamesAddUp (message_names trace.messages) (work_in trace) chain
   pub lines : text ≡ text_of (names_lines (message_names trace.messages) (work_in trace) chain)
 
 -- the text of where the time goes, by affinity or by name

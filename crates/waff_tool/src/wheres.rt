@@ -10,7 +10,7 @@ ghost use Rattle.waff_io.specs.Writing.{AppendsPart};
 
 use std::alloc::{AllocError, Global};
 use std::io::Write;
-use waff_figures::laws::{chain_adds_up, costs_add_up};
+use waff_figures::laws::{chain_adds_up, costs_add_up, names_add_up};
 use waff_figures::{affinities_text, names_text};
 use waff_inputs::{Accepted, ToolError, accept, deliver};
 use waff_plan::printed::chain;
@@ -87,6 +87,7 @@ fn made_names_text(alloc: Global, accepted: &Accepted) -> Result<String, AllocEr
     let tree = accepted.layout.tree();
     let plan = plan(alloc, tree, &accepted.assigned, &accepted.trace)?;
     let chain = chain(alloc, tree, &accepted.assigned, &plan)?;
+    names_add_up();
     let text = names_text(alloc, &accepted.trace, &plan, chain.messages());
     drop(chain);
     drop(plan);
