@@ -3,7 +3,7 @@
 ghost use Rattle.std.specs.Prelude.{◌≤◌, All};
 ghost use Rattle.waff_model.specs.Messages.{sizes_of};
 ghost use Rattle.waff_cells.specs.Grid.{HasSizes};
-ghost use Rattle.waff_board.specs.Calls.{IsOf};
+ghost use Rattle.waff_board.specs.Tokens.{IsOf};
 
 use crate::jobs::job;
 use crate::states::is_left;
@@ -32,7 +32,7 @@ fn seated(
 ) -> (Board, Vec<Seat>)
     requires some { 1 ≤ seats }
     requires few { seats ≤ 16 }
-    ensures { All (λ seat. IsOf result.0 seat.hand) result.1.items }
+    ensures { All (IsOf result.0) result.1.items }
 {
     let job = job(rt, alloc, H1, trace, order).expect(rt, "a job");
     Board::new(alloc, job, seats).expect(rt, "a board")
@@ -40,9 +40,9 @@ fn seated(
 
 /// Takes the last of the seats.
 fn sit(rt: &impl Abort, board: &Board, seats: &mut Vec<Seat>) -> Seat
-    requires { All (λ seat. IsOf board.now seat.hand) seats.old.items }
-    ensures seat { IsOf board.now result.hand }
-    ensures others { All (λ seat. IsOf board.now seat.hand) seats.new.items }
+    requires { All (IsOf board.now) seats.old.items }
+    ensures seat { IsOf board.now result }
+    ensures others { All (IsOf board.now) seats.new.items }
 {
     match seats.pop() {
         Some(seat) => seat,
@@ -52,8 +52,8 @@ fn sit(rt: &impl Abort, board: &Board, seats: &mut Vec<Seat>) -> Seat
 
 /// Draws a message, which has to be there.
 fn draw(rt: &impl Abort, board: &Board, seat: Seat) -> Drawn
-    requires { IsOf board.now seat.hand }
-    ensures { IsOf board.now result.hand }
+    requires { IsOf board.now seat }
+    ensures { IsOf board.now result }
 {
     match board.draw(seat) {
         Draw::Got(drawn) => drawn,
@@ -63,8 +63,8 @@ fn draw(rt: &impl Abort, board: &Board, seat: Seat) -> Drawn
 
 /// Draws past the end of the order.
 fn draw_over(rt: &impl Abort, board: &Board, seat: Seat) -> EndSeat
-    requires { IsOf board.now seat.hand }
-    ensures { IsOf board.now result.hand }
+    requires { IsOf board.now seat }
+    ensures { IsOf board.now result }
 {
     match board.draw(seat) {
         Draw::Over(seat) => seat,
@@ -74,8 +74,8 @@ fn draw_over(rt: &impl Abort, board: &Board, seat: Seat) -> EndSeat
 
 /// Looks at the needs of a message, which have to be done.
 fn clear(rt: &impl Abort, board: &Board, drawn: Drawn) -> Cleared
-    requires { IsOf board.now drawn.hand }
-    ensures { IsOf board.now result.hand }
+    requires { IsOf board.now drawn }
+    ensures { IsOf board.now result }
 {
     match board.clear(drawn) {
         Clear::Go(cleared) => cleared,
@@ -85,8 +85,8 @@ fn clear(rt: &impl Abort, board: &Board, drawn: Drawn) -> Cleared
 
 /// Looks at the needs of a message, one of which is not done: which one.
 fn wait(rt: &impl Abort, board: &Board, drawn: Drawn) -> (Drawn, u32)
-    requires { IsOf board.now drawn.hand }
-    ensures { IsOf board.now result.0.hand }
+    requires { IsOf board.now drawn }
+    ensures { IsOf board.now result.0 }
 {
     match board.clear(drawn) {
         Clear::Wait { drawn, on } => (drawn, on),
@@ -96,8 +96,8 @@ fn wait(rt: &impl Abort, board: &Board, drawn: Drawn) -> (Drawn, u32)
 
 /// Runs the message that the seat has drawn.
 fn run(rt: &impl Abort, board: &Board, drawn: Drawn) -> Seat
-    requires { IsOf board.now drawn.hand }
-    ensures { IsOf board.now result.hand }
+    requires { IsOf board.now drawn }
+    ensures { IsOf board.now result }
 {
     let grant = board.begin(clear(rt, board, drawn));
     board.finish(grant.run())
@@ -105,8 +105,8 @@ fn run(rt: &impl Abort, board: &Board, drawn: Drawn) -> Seat
 
 /// Draws and runs so many messages.
 fn run_next(rt: &impl Abort, board: &Board, mut seat: Seat, count: u32) -> Seat
-    requires { IsOf board.now seat.hand }
-    ensures { IsOf board.now result.hand }
+    requires { IsOf board.now seat }
+    ensures { IsOf board.now result }
 {
     for _ in 0..count {
         let drawn = draw(rt, board, seat);

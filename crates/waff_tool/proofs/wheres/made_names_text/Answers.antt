@@ -1,9 +1,12 @@
-use Rattle.std.proofs.Common.{◌≡◌, ℕ, List, string_bytes, ◌∙◌, ap}
+use Rattle.std.proofs.Common.{◌≡◌, ℕ, List, length, string_bytes, sym, ◌∙◌, ap}
+use Rattle.std.proofs.lemmas.List.{length-map}
 use Rattle.std.proofs.lemmas.Result.{IfOk-weaker}
+use Rattle.waff_model.specs.declared.message.Message.{Message}
 use Rattle.waff_assign.specs.Order.{IsOrdered}
 use Rattle.waff_plan.specs.declared.timing.Timing.{Timing}
 use Rattle.waff_plan.specs.Timetable.{timings_of}
 use Rattle.waff_plan.specs.Timing.{work_of, start_of}
+use Rattle.waff_list.proofs.TraceWork.{count_is}
 use Rattle.waff_plan_text.specs.Lines.{text_of}
 use Rattle.waff_figures.specs.ByName.{message_names, names_lines}
 use Rattle.waff_inputs.specs.Inputs.{Accepts}
@@ -24,6 +27,9 @@ returns c =
     let forward = pairs_forward layout.tree assigned trace.messages c.args.accepted.now.lengths in
     let least = rw (tree, timings) at c.in_ok-plan.ensures.least in
     let printed = rw (tree, timings) at c.in_ok-chain.ensures.printed in
+    let named : length (message_names trace.messages) ≡ (work_in trace).count
+    = length-map trace.messages (λ (message : Message). message.name) ∙ sym (count_is trace.messages) in
+    let listed = rw timings at c.in_ok-chain.ensures.listed in
     let text_for : List Timing → List ℕ → List ℕ = λ timings chain. text_of (names_lines (message_names trace.messages) (work_of timings) chain) in
     IfOk-weaker c.names_text-text.result
     (λ text. string_bytes text ≡ text_for plan.timings c.messages.result.now)
@@ -36,6 +42,7 @@ returns c =
       chain = chain.messages;
       accepts = accepts;
       certified = certified (IsOrdered layout.tree assigned) (work_in trace) (start_of plan.starts) chain.messages forward least printed;
+      names_add_up = c.names_add_up.ensures (message_names trace.messages) (work_in trace) chain.messages named listed.each;
       lines = lines ∙ ap (λ ts. text_for ts c.messages.result.now) timings ∙ ap (λ ch. text_for (timings_of trace.messages) ch) c.messages.ensures;
     })
     c.names_text-text.ensures

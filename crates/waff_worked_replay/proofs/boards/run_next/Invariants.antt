@@ -1,5 +1,5 @@
-use Rattle.waff_board.specs.Calls.{IsOf}
+use Rattle.waff_board.specs.Tokens.{IsOf}
 use Rattle.waff_worked_replay.proofs.boards.run_next.Given as goal
 
 abbrev pub invariant-loop : goal.invariant-loop
-invariant-loop g l = IsOf l.board l.seat.hand
+invariant-loop g l = IsOf l.board l.seat
