@@ -11,14 +11,12 @@ use Rattle.waff_assign.specs.Order.{IsOrdered}
 use Rattle.waff_plan.specs.Bound.{right_side}
 use Rattle.waff_plan.specs.Chain.{IsChain, chain_cost, chain_release}
 use Rattle.waff_plan.specs.Obeys.{Obeys}
-use Rattle.waff_plan.specs.Totals.{totals_of}
 use Rattle.waff_plan.specs.Unique.{AreSame}
-use Rattle.waff_plan.specs.Work.{Work, IsNumber, finish_of, length_of, numbers, total_of}
+use Rattle.waff_plan.specs.Work.{Work, IsNumber, finish_of, length_of, numbers}
 use Rattle.waff_plan.specs.Workers.{running, runs_at}
 use Rattle.waff_plan.specs.declared.timing.Timing.{Timing}
-use Rattle.waff_plan.specs.declared.totals.Totals.{Totals}
 use Rattle.waff_plan.proofs.Ticks.{sum_by-numbers-le}
-use Rattle.waff_plan.proofs.Uniqueness.{same_length}
+use Rattle.waff_plan.proofs.Uniqueness.{same_length, totals_same}
 use Rattle.waff_plan_text.specs.Given.{no_row, row_at}
 use Rattle.waff_plan_text.specs.Laws.{row_told}
 use Rattle.waff_plan_text.specs.Spelling.{no_worker}
@@ -28,30 +26,6 @@ use Rattle.waff_check.specs.OwnPlans.{AreManned, OwnPlanIsShortest, OwnPlanIsWit
 use Rattle.waff_check.specs.Shifts.{IsOneOf}
 use Rattle.waff_check.specs.Verdicts.{Claim, IsFaultless, start_in, worker_in}
 use Rattle.waff_check.proofs.LinkLaws.{chain-linked}
-
--- the totals of plans with the same starts are equal
-pub totals_same : (workers : Option ℕ) (work : Work) (start other : ℕ → ℕ) (chain : List ℕ) → AreSame work start other
-    → totals_of workers work start chain ≡ totals_of workers work other chain
-totals_same None work start other chain same =
-    let totals : ℕ → Totals = λ n. record {
-      total = total_of work;
-      length = n;
-      release = chain_release work chain;
-      cost = chain_cost work chain;
-      left = n;
-      right = chain_release work chain + chain_cost work chain;
-    } in
-    ap totals (same_length work start other same)
-totals_same (Some k) work start other chain same =
-    let totals : ℕ → Totals = λ n. record {
-      total = total_of work;
-      length = n;
-      release = chain_release work chain;
-      cost = chain_cost work chain;
-      left = k * n;
-      right = right_side work k chain;
-    } in
-    ap totals (same_length work start other same)
 
 -- no more run at a tick under the same starts
 no_more_run : (work : Work) (start other : ℕ → ℕ) → AreSame work start other → (t : ℕ) → running work start t ≤ running work other t

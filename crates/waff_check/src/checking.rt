@@ -1,7 +1,7 @@
 //! The check of a plan that is given.
 
+ghost use Rattle.waff_plan.specs.Timetable.{starts_in, work_in};
 ghost use Rattle.std.specs.Prelude.{◌≡◌, ◌<◌, length, All, IfOk};
-ghost use Rattle.waff_plan.specs.Timing.{start_of, work_of};
 ghost use Rattle.waff_check.specs.Verdicts.{IsPraise, IsVerdict, claim_of};
 ghost use Rattle.waff_check.specs.Promises.{PromisesBound, PromisesChain, PromisesObeys};
 ghost use Rattle.waff_check.specs.Promises.{PromisesOneAtATime, PromisesShortest};
@@ -107,8 +107,8 @@ fn find<R: Threads + Sync>(
 // How good a plan without a fault is.
 fn praise(plan: &Plan, given: &GivenPlan) -> Verdict
     requires rows { length given.now.rows ≡ length plan.now.timings }
-    ensures { IsPraise (work_of plan.now.timings)
-        (start_of plan.now.starts) given.now.summary result }
+    ensures { IsPraise (work_in plan.now)
+        (starts_in plan.now) given.now.summary result }
 {
     let summary = given.summary();
     let totals = plan.totals(summary.workers, &summary.chain);

@@ -2,7 +2,7 @@
 
 ghost use Rattle.std.specs.Prelude.{◌≡◌, ℕ, Some, IfOk, MatchOption};
 ghost use Rattle.std.specs.List.Sorted.{IsNonDecreasing};
-ghost use Rattle.waff_plan.specs.Timing.{start_of, work_of};
+ghost use Rattle.waff_plan.specs.Timetable.{starts_in, work_in};
 ghost use Rattle.waff_plan.specs.Work.{Work};
 ghost use Rattle.waff_check.specs.Crowds as crowds;
 ghost use Rattle.waff_check.specs.Crowds.{AreTicks};
@@ -40,8 +40,8 @@ fn with_tick(ticks: &Ticks, k: u32, first: Option<u64>, tick: u64) -> Option<u64
 // The first tick at which more than `k` messages run: it is the start of a message.
 fn crowded_for(alloc: Global, plan: &Plan, k: u32) -> Result<Option<u64>, AllocError>
     ensures { IfOk result (λ found. MatchOption found
-        (NoneOf (IsCrowded (work_of plan.now.timings) (start_of plan.now.starts) (Some k)))
-        (IsLeastOf (IsCrowded (work_of plan.now.timings) (start_of plan.now.starts) (Some k)))) }
+        (NoneOf (IsCrowded (work_in plan.now) (starts_in plan.now) (Some k)))
+        (IsLeastOf (IsCrowded (work_in plan.now) (starts_in plan.now) (Some k)))) }
 {
     let ticks = Ticks::new(alloc, plan)?;
     let mut first = None;
@@ -58,8 +58,8 @@ pub(crate) fn crowded(
     workers: Option<u32>,
 ) -> Result<Option<u64>, AllocError>
     ensures { IfOk result (λ found. MatchOption found
-        (NoneOf (IsCrowded (work_of plan.now.timings) (start_of plan.now.starts) workers))
-        (IsLeastOf (IsCrowded (work_of plan.now.timings) (start_of plan.now.starts) workers))) }
+        (NoneOf (IsCrowded (work_in plan.now) (starts_in plan.now) workers))
+        (IsLeastOf (IsCrowded (work_in plan.now) (starts_in plan.now) workers))) }
 {
     match workers {
         None => Ok(None),

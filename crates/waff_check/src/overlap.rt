@@ -3,8 +3,8 @@
 ghost use Rattle.std.specs.Prelude.{◌≡◌, ◌+◌, ◌-◌, ◌<◌, ◌≤◌, ◌↔◌, ℕ, All, IfOk, IfSome, IsTrue};
 ghost use Rattle.std.specs.Prelude.{MatchOption, length};
 ghost use Rattle.waff_assign.specs.Order.{IsOrdered};
+ghost use Rattle.waff_plan.specs.Timetable.{starts_in, work_in};
 ghost use Rattle.waff_plan.specs.Obeys.{IsAmong, KeepsOrder};
-ghost use Rattle.waff_plan.specs.Timing.{start_of, work_of};
 ghost use Rattle.waff_check.specs.Searches.{HasOverlap, IsFirstPlace, IsSearchable};
 ghost use Rattle.waff_check.specs.Faults.{IsFirstOverlap, IsLeastOf, NoneOf, Overlaps};
 
@@ -25,7 +25,7 @@ fn overlaps(tree: &Tree, assigned: &Assigned, plan: &Plan, i: u32, j: u32) -> bo
     requires to { 1 ≤ j }
     requires second { j ≤ length assigned.now }
     ensures { IsTrue result ↔ Overlaps (IsOrdered tree.now assigned.now)
-        (work_of plan.now.timings) (start_of plan.now.starts) i j }
+        (work_in plan.now) (starts_in plan.now) i j }
 {
     plan.start(j) < plan.finish(i) && is_ordered(tree, assigned, i, j)
 }
@@ -38,9 +38,9 @@ fn second_of(tree: &Tree, assigned: &Assigned, plan: &Plan, i: u32) -> Option<u3
     requires to { i ≤ length assigned.now }
     ensures { MatchOption result
         (NoneOf (Overlaps (IsOrdered tree.now assigned.now)
-        (work_of plan.now.timings) (start_of plan.now.starts) i))
+        (work_in plan.now) (starts_in plan.now) i))
         (IsLeastOf (Overlaps (IsOrdered tree.now assigned.now)
-        (work_of plan.now.timings) (start_of plan.now.starts) i)) }
+        (work_in plan.now) (starts_in plan.now) i)) }
 {
     let messages = assigned.len();
     for j in i + 1..messages + 1 {
@@ -63,7 +63,7 @@ fn kept_ones(
     requires known { All (λ a. a < length tree.now) assigned.now }
     ensures many { IfOk result (λ kept. kept ≤ length assigned.now) }
     ensures kept { IfOk result (λ kept. KeepsOrder (IsAmong kept (IsOrdered tree.now assigned.now))
-        (work_of plan.now.timings) (start_of plan.now.starts)) }
+        (work_in plan.now) (starts_in plan.now)) }
 {
     let messages = assigned.len();
     if keeps_order(alloc, tree, assigned, plan, messages)? {
@@ -122,12 +122,12 @@ fn first_pair<R: Threads + Sync>(
     requires known { All (λ a. a < length tree.now) assigned.now }
     requires many { kept ≤ length assigned.now }
     requires kept { KeepsOrder (IsAmong kept (IsOrdered tree.now assigned.now))
-        (work_of plan.now.timings) (start_of plan.now.starts) }
+        (work_in plan.now) (starts_in plan.now) }
     ensures { MatchOption result
         ((i j : ℕ) → Overlaps (IsOrdered tree.now assigned.now)
-        (work_of plan.now.timings) (start_of plan.now.starts) i j → ⊥)
+        (work_in plan.now) (starts_in plan.now) i j → ⊥)
         (λ pair. IsFirstOverlap (IsOrdered tree.now assigned.now)
-        (work_of plan.now.timings) (start_of plan.now.starts) pair.0 pair.1) }
+        (work_in plan.now) (starts_in plan.now) pair.0 pair.1) }
 {
     let _messages = assigned.len();
     match first_place(rt, tree, assigned, plan, kept) {
@@ -155,9 +155,9 @@ pub(crate) fn first_overlap<R: Threads + Sync>(
     requires known { All (λ a. a < length tree.now) assigned.now }
     ensures { IfOk result (λ found. MatchOption found
         ((i j : ℕ) → Overlaps (IsOrdered tree.now assigned.now)
-        (work_of plan.now.timings) (start_of plan.now.starts) i j → ⊥)
+        (work_in plan.now) (starts_in plan.now) i j → ⊥)
         (λ pair. IsFirstOverlap (IsOrdered tree.now assigned.now)
-        (work_of plan.now.timings) (start_of plan.now.starts) pair.0 pair.1)) }
+        (work_in plan.now) (starts_in plan.now) pair.0 pair.1)) }
 {
     let kept = kept_ones(alloc, tree, assigned, plan)?;
     Ok(first_pair(rt, tree, assigned, plan, kept))

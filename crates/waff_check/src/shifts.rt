@@ -1,7 +1,7 @@
 //! Shifts: the messages that run, by worker and then by start.
 
 ghost use Rattle.std.specs.Prelude.{◌≡◌, ◌+◌, ◌<◌, ◌≤◌, ◌↔◌, ℕ, All, IfOk, IsTrue, Some, length};
-ghost use Rattle.waff_plan.specs.Timing.{start_of, work_of};
+ghost use Rattle.waff_plan.specs.Timetable.{starts_in, work_in};
 ghost use Rattle.waff_plan.specs.Work.{IsNumber};
 ghost use Rattle.waff_check.specs.Faults.{HasWrongWorker, NoneOf};
 ghost use Rattle.waff_check.specs.Shifts.{AreApart, AreShifts, Follows, IsOneOf, IsShiftOf};
@@ -16,7 +16,7 @@ use waff_plan_text::GivenPlan;
 fn are_seated(plan: &Plan, given: &GivenPlan, k: u32, many: u32) -> bool
     requires lengths { length given.now.rows ≡ length plan.now.timings }
     requires many { many ≤ length plan.now.timings }
-    ensures { IsTrue result ↔ ((n : ℕ) → IsNumber (first_of (work_of plan.now.timings) many) n
+    ensures { IsTrue result ↔ ((n : ℕ) → IsNumber (first_of (work_in plan.now) many) n
         → IsOneOf k (worker_in given.now n)) }
 {
     let _messages = plan.len();
@@ -43,8 +43,8 @@ fn shift(plan: &Plan, given: &GivenPlan, n: u32) -> Option<(u64, u64, u32)>
     requires lengths { length given.now.rows ≡ length plan.now.timings }
     requires from { 1 ≤ n }
     requires to { n ≤ length plan.now.timings }
-    ensures { (many : ℕ) → n ≤ many → IsShiftOf (first_of (work_of plan.now.timings) many)
-        (start_of plan.now.starts) (worker_in given.now) n result }
+    ensures { (many : ℕ) → n ≤ many → IsShiftOf (first_of (work_in plan.now) many)
+        (starts_in plan.now) (worker_in given.now) n result }
 {
     let start = plan.start(n);
     match given.row(n).worker {
@@ -62,8 +62,8 @@ fn shifts(
 ) -> Result<Vec<(u64, u64, u32)>, AllocError>
     requires lengths { length given.now.rows ≡ length plan.now.timings }
     requires many { many ≤ length plan.now.timings }
-    ensures { IfOk result (λ shifts. AreShifts (first_of (work_of plan.now.timings) many)
-        (start_of plan.now.starts) (worker_in given.now) shifts.items) }
+    ensures { IfOk result (λ shifts. AreShifts (first_of (work_in plan.now) many)
+        (starts_in plan.now) (worker_in given.now) shifts.items) }
 {
     let _messages = plan.len();
     let mut shifts = Vec::with_capacity(alloc, many as usize)?;
@@ -81,16 +81,16 @@ fn follows(plan: &Plan, one: (u64, u64, u32), next: (u64, u64, u32)) -> bool
     requires from { 1 ≤ one.2 }
     requires to { one.2 ≤ length plan.now.timings }
     ensures { IsTrue result
-        ↔ Follows (work_of plan.now.timings) (start_of plan.now.starts) one next }
+        ↔ Follows (work_in plan.now) (starts_in plan.now) one next }
 {
     one.0 != next.0 || plan.finish(one.2) <= next.1
 }
 
 // Whether each shift follows the one before it.
 fn are_apart(plan: &Plan, shifts: &[(u64, u64, u32)]) -> bool
-    requires { All (λ shift. IsNumber (work_of plan.now.timings) shift.2) shifts.now }
+    requires { All (λ shift. IsNumber (work_in plan.now) shift.2) shifts.now }
     ensures { IsTrue result
-        ↔ AreApart (work_of plan.now.timings) (start_of plan.now.starts) shifts.now }
+        ↔ AreApart (work_in plan.now) (starts_in plan.now) shifts.now }
 {
     for place in 1..shifts.len() {
         if !follows(plan, shifts[place - 1], shifts[place]) {
@@ -112,8 +112,8 @@ pub(crate) fn are_right(
     requires lengths { length given.now.rows ≡ length plan.now.timings }
     requires many { many ≤ length plan.now.timings }
     ensures { IfOk result (λ right. IsTrue right
-        ↔ NoneOf (HasWrongWorker (first_of (work_of plan.now.timings) many)
-        (start_of plan.now.starts) (worker_in given.now) (Some k))) }
+        ↔ NoneOf (HasWrongWorker (first_of (work_in plan.now) many)
+        (starts_in plan.now) (worker_in given.now) (Some k))) }
 {
     if !are_seated(plan, given, k, many) {
         return Ok(false);

@@ -2,7 +2,7 @@
 
 ghost use Rattle.std.specs.Prelude.{◌≡◌, ◌≤◌, ℕ, IfOk, count_by, length, nat_le, nat_lt};
 ghost use Rattle.std.specs.List.Sorted.{IsNonDecreasing};
-ghost use Rattle.waff_plan.specs.Timing.{start_of, work_of};
+ghost use Rattle.waff_plan.specs.Timetable.{starts_in, work_in};
 ghost use Rattle.waff_plan.specs.Work.{Work};
 ghost use Rattle.waff_plan.specs.Workers as workers;
 ghost use Rattle.waff_check.specs.Crowds.{AreTicks};
@@ -20,8 +20,8 @@ pub(crate) struct Ticks {
 impl Ticks {
     /// The ticks of a plan.
     pub fn new(alloc: Global, plan: &Plan) -> Result<Self, AllocError>
-        ensures ticks { IfOk result (λ ticks. AreTicks (work_of plan.now.timings)
-            (start_of plan.now.starts) ticks.starts.items ticks.finishes.items) }
+        ensures ticks { IfOk result (λ ticks. AreTicks (work_in plan.now)
+            (starts_in plan.now) ticks.starts.items ticks.finishes.items) }
         ensures starts { IfOk result (λ ticks. IsNonDecreasing ticks.starts.items) }
         ensures finishes { IfOk result (λ ticks. IsNonDecreasing ticks.finishes.items) }
     {

@@ -1,7 +1,7 @@
 //! Names, finishes and starts that rows tell.
 
+ghost use Rattle.waff_plan.specs.Timetable.{starts_in, work_in};
 ghost use Rattle.std.specs.Prelude.{◌≡◌, ◌<◌, ◌≤◌, All, MatchOption, length};
-ghost use Rattle.waff_plan.specs.Timing.{start_of, work_of};
 ghost use Rattle.waff_check.specs.Faults.{HasWrongFinish, HasWrongName, IsLeastOf, NoneOf};
 ghost use Rattle.waff_check.specs.Faults.{StartsEarly};
 ghost use Rattle.waff_check.specs.Verdicts.{name_in, told_finish, told_name};
@@ -22,8 +22,8 @@ pub(crate) fn wrong_name(
     requires rows { length given.now.rows ≡ length plan.now.timings }
     requires known { All (λ a. a < length tree.now) assigned.now }
     ensures { MatchOption result (NoneOf (HasWrongName
-        (work_of plan.now.timings) (told_name given.now) (name_in tree.now assigned.now)))
-        (IsLeastOf (HasWrongName (work_of plan.now.timings)
+        (work_in plan.now) (told_name given.now) (name_in tree.now assigned.now)))
+        (IsLeastOf (HasWrongName (work_in plan.now)
         (told_name given.now) (name_in tree.now assigned.now))) }
 {
     for n in 1..plan.len() + 1 {
@@ -38,9 +38,9 @@ pub(crate) fn wrong_name(
 pub(crate) fn wrong_finish(plan: &Plan, given: &GivenPlan) -> Option<u32>
     requires rows { length given.now.rows ≡ length plan.now.timings }
     ensures { MatchOption result (NoneOf (HasWrongFinish
-        (work_of plan.now.timings) (start_of plan.now.starts) (told_finish given.now)))
-        (IsLeastOf (HasWrongFinish (work_of plan.now.timings)
-        (start_of plan.now.starts) (told_finish given.now))) }
+        (work_in plan.now) (starts_in plan.now) (told_finish given.now)))
+        (IsLeastOf (HasWrongFinish (work_in plan.now)
+        (starts_in plan.now) (told_finish given.now))) }
 {
     for n in 1..plan.len() + 1 {
         if given.finish(n) != plan.finish(n) {
@@ -53,8 +53,8 @@ pub(crate) fn wrong_finish(plan: &Plan, given: &GivenPlan) -> Option<u32>
 /// The first message that starts before its release.
 pub(crate) fn early_start(plan: &Plan) -> Option<u32>
     ensures { MatchOption result
-        (NoneOf (StartsEarly (work_of plan.now.timings) (start_of plan.now.starts)))
-        (IsLeastOf (StartsEarly (work_of plan.now.timings) (start_of plan.now.starts))) }
+        (NoneOf (StartsEarly (work_in plan.now) (starts_in plan.now)))
+        (IsLeastOf (StartsEarly (work_in plan.now) (starts_in plan.now))) }
 {
     for n in 1..plan.len() + 1 {
         if plan.start(n) < plan.release(n) {

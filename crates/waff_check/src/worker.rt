@@ -1,7 +1,7 @@
 //! Workers that rows tell.
 
+ghost use Rattle.waff_plan.specs.Timetable.{starts_in, work_in};
 ghost use Rattle.std.specs.Prelude.{◌≡◌, ◌<◌, ◌≤◌, ◌↔◌, ℕ, IfOk, IsTrue, MatchOption, Some, length};
-ghost use Rattle.waff_plan.specs.Timing.{start_of, work_of};
 ghost use Rattle.waff_check.specs.Faults.{HasWrongWorker, IsLeastOf, IsMisplaced, IsTaken, NoneOf};
 ghost use Rattle.waff_check.specs.Faults.{RunTogether};
 ghost use Rattle.waff_check.specs.Shifts.{first_of};
@@ -19,7 +19,7 @@ fn run_together(plan: &Plan, i: u32, j: u32) -> bool
     requires to { 1 ≤ j }
     requires second { j ≤ length plan.now.timings }
     ensures { IsTrue result
-        ↔ RunTogether (work_of plan.now.timings) (start_of plan.now.starts) i j }
+        ↔ RunTogether (work_in plan.now) (starts_in plan.now) i j }
 {
     plan.start(i).max(plan.start(j)) < plan.finish(i).min(plan.finish(j))
 }
@@ -30,8 +30,8 @@ fn is_taken_by(plan: &Plan, given: &GivenPlan, worker: u64, n: u32, i: u32) -> b
     requires from { 1 ≤ i }
     requires earlier { i < n }
     requires to { n ≤ length plan.now.timings }
-    ensures { IsTrue result ↔ IsTaken (work_of plan.now.timings)
-        (start_of plan.now.starts) (worker_in given.now) worker n i }
+    ensures { IsTrue result ↔ IsTaken (work_in plan.now)
+        (starts_in plan.now) (worker_in given.now) worker n i }
 {
     given.row(i).worker == Some(worker) && run_together(plan, i, n)
 }
@@ -42,7 +42,7 @@ fn is_taken(plan: &Plan, given: &GivenPlan, worker: u64, n: u32) -> bool
     requires lengths { length given.now.rows ≡ length plan.now.timings }
     requires to { n ≤ length plan.now.timings }
     ensures { IsTrue result ↔ ((i : ℕ) × IsTaken
-        (work_of plan.now.timings) (start_of plan.now.starts) (worker_in given.now) worker n i) }
+        (work_in plan.now) (starts_in plan.now) (worker_in given.now) worker n i) }
 {
     for i in 1..n {
         if is_taken_by(plan, given, worker, n, i) {
@@ -57,8 +57,8 @@ fn is_misplaced(plan: &Plan, given: &GivenPlan, workers: Option<u32>, n: u32) ->
     requires lengths { length given.now.rows ≡ length plan.now.timings }
     requires from { 1 ≤ n }
     requires to { n ≤ length plan.now.timings }
-    ensures { IsTrue result ↔ IsMisplaced (work_of plan.now.timings)
-        (start_of plan.now.starts) (worker_in given.now) workers n (worker_in given.now n) }
+    ensures { IsTrue result ↔ IsMisplaced (work_in plan.now)
+        (starts_in plan.now) (worker_in given.now) workers n (worker_in given.now n) }
 {
     let worker = given.row(n).worker;
     match workers {
@@ -75,12 +75,12 @@ fn is_misplaced(plan: &Plan, given: &GivenPlan, workers: Option<u32>, n: u32) ->
 fn first_misplaced(plan: &Plan, given: &GivenPlan, workers: Option<u32>, right: u32) -> Option<u32>
     requires lengths { length given.now.rows ≡ length plan.now.timings }
     requires many { right ≤ length plan.now.timings }
-    requires right { NoneOf (HasWrongWorker (first_of (work_of plan.now.timings) right)
-        (start_of plan.now.starts) (worker_in given.now) workers) }
+    requires right { NoneOf (HasWrongWorker (first_of (work_in plan.now) right)
+        (starts_in plan.now) (worker_in given.now) workers) }
     ensures { MatchOption result (NoneOf (HasWrongWorker
-        (work_of plan.now.timings) (start_of plan.now.starts) (worker_in given.now) workers))
-        (IsLeastOf (HasWrongWorker (work_of plan.now.timings)
-        (start_of plan.now.starts) (worker_in given.now) workers)) }
+        (work_in plan.now) (starts_in plan.now) (worker_in given.now) workers))
+        (IsLeastOf (HasWrongWorker (work_in plan.now)
+        (starts_in plan.now) (worker_in given.now) workers)) }
 {
     let messages = plan.len();
     for n in right + 1..messages + 1 {
@@ -97,7 +97,7 @@ fn right_ones(alloc: Global, plan: &Plan, given: &GivenPlan, k: u32) -> Result<u
     requires lengths { length given.now.rows ≡ length plan.now.timings }
     ensures many { IfOk result (λ right. right ≤ length plan.now.timings) }
     ensures right { IfOk result (λ right. NoneOf
-        (HasWrongWorker (first_of (work_of plan.now.timings) right) (start_of plan.now.starts)
+        (HasWrongWorker (first_of (work_in plan.now) right) (starts_in plan.now)
         (worker_in given.now) (Some k))) }
 {
     let messages = plan.len();
@@ -126,10 +126,10 @@ pub(crate) fn wrong_worker(
 ) -> Result<Option<u32>, AllocError>
     requires lengths { length given.now.rows ≡ length plan.now.timings }
     ensures { IfOk result (λ found. MatchOption found
-        (NoneOf (HasWrongWorker (work_of plan.now.timings)
-        (start_of plan.now.starts) (worker_in given.now) workers))
-        (IsLeastOf (HasWrongWorker (work_of plan.now.timings)
-        (start_of plan.now.starts) (worker_in given.now) workers))) }
+        (NoneOf (HasWrongWorker (work_in plan.now)
+        (starts_in plan.now) (worker_in given.now) workers))
+        (IsLeastOf (HasWrongWorker (work_in plan.now)
+        (starts_in plan.now) (worker_in given.now) workers))) }
 {
     match workers {
         None => Ok(first_misplaced(plan, given, None, 0)),

@@ -4,8 +4,8 @@ ghost use Rattle.std.specs.Prelude.{◌≡◌, ◌<◌, ◌++◌, ℕ, List, All
 ghost use Rattle.std.specs.Prelude.{slice_index, slice_index_or, string_bytes};
 ghost use Rattle.std.specs.List.{range_with_len};
 ghost use Rattle.waff_model.specs.Tree.{name_of, parent_of};
+ghost use Rattle.waff_plan.specs.Timetable.{work_in};
 ghost use Rattle.waff_plan.specs.Chain.{IsListed};
-ghost use Rattle.waff_plan.specs.Timing.{work_of};
 ghost use Rattle.waff_plan_text.specs.Lines.{line_text, text_of};
 ghost use Rattle.waff_figures.specs.ByAffinity.{AreCostsBelow, affinities_lines, parent_field};
 ghost use Rattle.waff_figures.specs.ByAffinity.{tally_row, tallied_row};
@@ -30,9 +30,9 @@ pub fn affinities_text(
     requires known { All (λ a. a < length tree.now) assigned.now }
     requires chain { IsListed (length plan.now.timings) chain.now }
     ensures { IfOk result (λ text. (below : List ℕ)
-        × AreCostsBelow tree.now assigned.now (work_of plan.now.timings) below
+        × AreCostsBelow tree.now assigned.now (work_in plan.now) below
         × (string_bytes text ≡ text_of
-        (affinities_lines tree.now assigned.now (work_of plan.now.timings) chain.now below))) }
+        (affinities_lines tree.now assigned.now (work_in plan.now) chain.now below))) }
 {
     let _total = plan.total();
     let affinities = affinities_of(alloc, assigned)?;

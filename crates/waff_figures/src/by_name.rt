@@ -3,8 +3,7 @@
 ghost use Rattle.std.specs.Prelude.{◌≡◌, ◌<◌, ◌++◌, IfOk, OnOk, length, map, string_bytes};
 ghost use Rattle.std.specs.List.{range_with_len};
 ghost use Rattle.waff_plan.specs.Chain.{IsListed};
-ghost use Rattle.waff_plan.specs.Timetable.{timings_of};
-ghost use Rattle.waff_plan.specs.Timing.{work_of};
+ghost use Rattle.waff_plan.specs.Timetable.{timings_of, work_in};
 ghost use Rattle.waff_plan_text.specs.Lines.{line_text, text_of};
 ghost use Rattle.waff_figures.specs.ByName.{message_names, named_row, names_lines};
 ghost use Rattle.waff_figures.specs.ByName.{tallied_name_row};
@@ -27,7 +26,7 @@ pub fn names_text(
     requires chain { IsListed (length plan.now.timings) chain.now }
     ensures { IfOk result (λ text. string_bytes text
         ≡ text_of (names_lines (message_names trace.now.messages)
-        (work_of plan.now.timings) chain.now)) }
+        (work_in plan.now) chain.now)) }
 {
     let found = names_of(alloc, trace)?;
     let tallies = tallies(

@@ -1,9 +1,9 @@
 //! What is told of one plan.
 
 ghost use Rattle.std.specs.Prelude.{◌≡◌, ◌^◌, ◌≤◌, IfSome};
+ghost use Rattle.waff_plan.specs.Timetable.{starts_in, work_in};
 ghost use Rattle.waff_plan.specs.Bound.{IsWorkers};
 ghost use Rattle.waff_plan.specs.Laws.{least_for};
-ghost use Rattle.waff_plan.specs.Timing.{start_of, work_of};
 ghost use Rattle.waff_figures.specs.Figures.{figures_of, latency_of, least_of, waits_of};
 
 use waff_plan::Plan;
@@ -29,7 +29,7 @@ pub struct Figures {
 pub(crate) fn told_of(plan: &Plan, workers: Option<u32>, shortest: u64) -> Figures
     requires { IfSome workers IsWorkers }
     ensures { result
-        ≡ figures_of workers (work_of plan.now.timings) shortest (start_of plan.now.starts) }
+        ≡ figures_of workers (work_in plan.now) shortest (starts_in plan.now) }
 {
     let total = plan.total();
     Figures {
@@ -55,7 +55,7 @@ fn least(workers: Option<u32>, total: u64, shortest: u64) -> u64
 
 /// How long the messages wait in all, from their releases to their starts.
 fn waits(plan: &Plan) -> u128
-    ensures { result ≡ waits_of (work_of plan.now.timings) (start_of plan.now.starts) }
+    ensures { result ≡ waits_of (work_in plan.now) (starts_in plan.now) }
 {
     let mut waits = 0;
     for n in 1..plan.len() + 1 {
@@ -66,7 +66,7 @@ fn waits(plan: &Plan) -> u128
 
 /// The longest time from a release to its finish.
 fn latency(plan: &Plan) -> u64
-    ensures { result ≡ latency_of (work_of plan.now.timings) (start_of plan.now.starts) }
+    ensures { result ≡ latency_of (work_in plan.now) (starts_in plan.now) }
 {
     let mut latency = 0;
     for n in 1..plan.len() + 1 {

@@ -6,8 +6,7 @@ ghost use Rattle.waff_model.specs.Tree.{Node};
 ghost use Rattle.waff_assign.specs.Order.{IsOrdered};
 ghost use Rattle.waff_plan.specs.Bound.{IsWorkers};
 ghost use Rattle.waff_plan.specs.Obeys.{IsLeast};
-ghost use Rattle.waff_plan.specs.Timetable.{timings_of};
-ghost use Rattle.waff_plan.specs.Timing.{start_of, work_of};
+ghost use Rattle.waff_plan.specs.Timetable.{starts_in, timings_of, work_in};
 ghost use Rattle.waff_plan.specs.Work.{length_of};
 ghost use Rattle.waff_plan_text.specs.Lines.{line_text, text_of};
 ghost use Rattle.waff_plan_text.specs.Spelling.{worker_field};
@@ -43,10 +42,10 @@ pub fn list_figures(
     requires known { All (λ a. a < length tree.now) assigned.now }
     requires timings { unlimited.now.timings ≡ timings_of trace.now.messages }
     requires least { IsLeast (IsOrdered tree.now assigned.now)
-        (work_of unlimited.now.timings) (start_of unlimited.now.starts) }
+        (work_in unlimited.now) (starts_in unlimited.now) }
     ensures { IfOk result (λ listed.
-        AreListed (IsOrdered tree.now assigned.now) (work_of unlimited.now.timings)
-        (length_of (work_of unlimited.now.timings) (start_of unlimited.now.starts)) listed.items) }
+        AreListed (IsOrdered tree.now assigned.now) (work_in unlimited.now)
+        (length_of (work_in unlimited.now) (starts_in unlimited.now)) listed.items) }
 {
     let needs = needs(alloc, tree, assigned)?;
     list_figures_for(alloc, trace, unlimited, &needs, &WORKERS)
@@ -67,10 +66,10 @@ fn list_figures_for(
         map (λ figures. figures.workers) listed.items ≡ map Some workers.now) }
     ensures each { IfOk result (λ listed. (tree : List Node) (assigned : List ℕ)
         → AreNeeds tree assigned needs.now
-        → IsLeast (IsOrdered tree assigned) (work_of unlimited.now.timings)
-        (start_of unlimited.now.starts)
-        → All (IsListed (IsOrdered tree assigned) (work_of unlimited.now.timings)
-        (length_of (work_of unlimited.now.timings) (start_of unlimited.now.starts))) listed.items) }
+        → IsLeast (IsOrdered tree assigned) (work_in unlimited.now)
+        (starts_in unlimited.now)
+        → All (IsListed (IsOrdered tree assigned) (work_in unlimited.now)
+        (length_of (work_in unlimited.now) (starts_in unlimited.now))) listed.items) }
 {
     let mut listed = Vec::with_capacity(alloc, workers.len())?;
     for k in workers {
@@ -94,10 +93,10 @@ fn figures_for(
     ensures workers { IfOk result (λ figures. figures.workers ≡ Some k) }
     ensures listed { IfOk result (λ figures. (tree : List Node) (assigned : List ℕ)
         → AreNeeds tree assigned needs.now
-        → IsLeast (IsOrdered tree assigned) (work_of unlimited.now.timings)
-        (start_of unlimited.now.starts)
-        → IsListed (IsOrdered tree assigned) (work_of unlimited.now.timings)
-        (length_of (work_of unlimited.now.timings) (start_of unlimited.now.starts)) figures) }
+        → IsLeast (IsOrdered tree assigned) (work_in unlimited.now)
+        (starts_in unlimited.now)
+        → IsListed (IsOrdered tree assigned) (work_in unlimited.now)
+        (length_of (work_in unlimited.now) (starts_in unlimited.now)) figures) }
 {
     let made = list_plan(alloc, needs, trace, k)?;
     needs_make_the_same_plans();
@@ -112,9 +111,9 @@ pub fn figures_text(
     unlimited: &Plan,
 ) -> Result<String, AllocError>
     ensures { IfOk result (λ text. string_bytes text ≡ text_of (sweep_lines listed.now
-        (figures_of None (work_of unlimited.now.timings)
-        (length_of (work_of unlimited.now.timings) (start_of unlimited.now.starts))
-        (start_of unlimited.now.starts)))) }
+        (figures_of None (work_in unlimited.now)
+        (length_of (work_in unlimited.now) (starts_in unlimited.now))
+        (starts_in unlimited.now)))) }
 {
     let mut text = String::new(alloc);
     text.push_str("workers,length,speedup,busy,least,over,waits,latency\n")?;

@@ -2,8 +2,8 @@
 
 ghost use Rattle.std.specs.Prelude.{◌≡◌, ◌==◌, ◌-◌, ◌*◌, ◌^◌, ◌<◌, ◌≤◌, ℕ, [], All, IfOk, length};
 ghost use Rattle.std.specs.Prelude.{slice_index, slice_index_or};
+ghost use Rattle.waff_plan.specs.Timetable.{work_in};
 ghost use Rattle.waff_plan.specs.Chain.{IsListed};
-ghost use Rattle.waff_plan.specs.Timing.{work_of};
 ghost use Rattle.waff_plan.specs.Work.{numbers};
 ghost use Rattle.waff_figures.specs.Tally.{is_in, no_tally, tally_of, tally_over};
 
@@ -34,7 +34,7 @@ pub(crate) fn tallies(
     ensures count { IfOk result (λ tallies. length tallies.items ≡ count) }
     ensures each { IfOk result (λ tallies. (g : ℕ) → g < count
         → slice_index_or tallies.items g no_tally
-        ≡ tally_of (work_of plan.now.timings) chain.now (is_in groups.now g)) }
+        ≡ tally_of (work_in plan.now) chain.now (is_in groups.now g)) }
 {
     let nothing = Tally {
         messages: 0,
@@ -55,7 +55,7 @@ fn count_messages(tallies: &mut Vec<Tally>, groups: &[u32], plan: &Plan)
     ensures count { length tallies.new.items ≡ length tallies.old.items }
     ensures each { (g : ℕ) → g < length tallies.old.items
         → slice_index_or tallies.new.items g no_tally
-        ≡ tally_of (work_of plan.now.timings) [] (is_in groups.now g) }
+        ≡ tally_of (work_in plan.now) [] (is_in groups.now g) }
 {
     for n in 1..plan.len() + 1 {
         let place = groups[n as usize - 1] as usize;
@@ -79,11 +79,11 @@ fn count_chain(tallies: &mut Vec<Tally>, groups: &[u32], plan: &Plan, chain: &[u
     requires chain { IsListed (length plan.now.timings) chain.now }
     requires each { (g : ℕ) → g < length tallies.old.items
         → slice_index_or tallies.old.items g no_tally
-        ≡ tally_of (work_of plan.now.timings) [] (is_in groups.now g) }
+        ≡ tally_of (work_in plan.now) [] (is_in groups.now g) }
     ensures count { length tallies.new.items ≡ length tallies.old.items }
     ensures each { (g : ℕ) → g < length tallies.old.items
         → slice_index_or tallies.new.items g no_tally
-        ≡ tally_of (work_of plan.now.timings) chain.now (is_in groups.now g) }
+        ≡ tally_of (work_in plan.now) chain.now (is_in groups.now g) }
 {
     let _messages = plan.len();
     for message in chain {

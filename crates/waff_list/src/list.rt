@@ -1,16 +1,15 @@
 //! The list plan of a trace, and its printed chain.
 
-ghost use Rattle.std.specs.Prelude.{◌≡◌, ℕ, ◌+◌, ◌-◌, ◌*◌, ◌<◌, ◌≤◌, List, length, All, IfOk};
+ghost use Rattle.std.specs.Prelude.{◌≡◌, ◌<◌, ◌≤◌, length, All, IfOk};
 ghost use Rattle.waff_assign.specs.Order.{IsOrdered, Path};
 ghost use Rattle.waff_plan.specs.Chain.{IsChain, IsListed, IsPrinted, chain_cost, chain_release};
-ghost use Rattle.waff_plan.specs.Timetable.{timings_of};
-ghost use Rattle.waff_plan.specs.Timing.{work_of, start_of};
-ghost use Rattle.waff_plan.specs.Work.{IsNumber, length_of, total_of};
-ghost use Rattle.waff_plan.specs.Workers.{IsWorkerPlan};
-ghost use Rattle.waff_order.specs.Needs.{IsNeed, AreNeeds};
+ghost use Rattle.waff_plan.specs.Timetable.{starts_in, timings_of, work_in};
+ghost use Rattle.waff_order.specs.Needs.{IsNeed};
+ghost use Rattle.waff_list.specs.Bound.{ListBound, ListRatio, ListTwice};
 ghost use Rattle.waff_list.specs.ListRule.{IsListPlan};
-ghost use Rattle.waff_list.specs.Seats.{IsSeated, IsInOrder};
+ghost use Rattle.waff_list.specs.Seats.{IsInOrder};
 ghost use Rattle.waff_list.specs.Seating.{worker_of};
+ghost use Rattle.waff_list.specs.Unique.{AreSeated};
 
 use crate::WorkerPlan;
 use crate::planner::make;
@@ -36,12 +35,11 @@ pub fn list_plan(
     ensures timings { IfOk result (λ made. made.table.timings ≡ timings_of trace.now.messages) }
     ensures workers { IfOk result (λ made. made.workers ≡ k) }
     ensures follows { IfOk result (λ made. IsListPlan
-        (Path (IsNeed needs.now)) (work_of made.table.timings) k (start_of made.table.starts)) }
-    ensures seated { IfOk result (λ made. (m : ℕ) → IsNumber (work_of made.table.timings) m
-        → IsSeated (work_of made.table.timings) (start_of made.table.starts)
-        (worker_of made.seats) m) }
+        (Path (IsNeed needs.now)) (work_in made.table) k (starts_in made.table)) }
+    ensures seated { IfOk result (λ made. AreSeated
+        (work_in made.table) (starts_in made.table) (worker_of made.seats)) }
     ensures order { IfOk result (λ made.
-        IsInOrder (work_of made.table.timings) (start_of made.table.starts) made.order) }
+        IsInOrder (work_in made.table) (starts_in made.table) made.order) }
 {
     let made = make(alloc, needs, trace, k)?;
     let plan = Plan::of_starts(alloc, trace, made.starts.as_slice())?;
@@ -59,47 +57,19 @@ pub fn list_chain(
 ) -> Result<Chain, AllocError>
     requires lengths { length made.now.table.timings ≡ length assigned.now }
     requires known { All (λ a. a < length tree.now) assigned.now }
-    ensures printed { IfOk result (λ chain.
-        IsPrinted (IsOrdered tree.now assigned.now) (work_of made.now.table.timings)
-        (start_of made.now.table.starts) chain.messages) }
+    ensures printed { IfOk result (λ chain. IsPrinted (IsOrdered tree.now assigned.now)
+        (work_in made.now.table) (starts_in made.now.table) chain.messages) }
     ensures chain { IfOk result (λ chain.
-        IsChain (IsOrdered tree.now assigned.now) (work_of made.now.table.timings) chain.messages) }
+        IsChain (IsOrdered tree.now assigned.now) (work_in made.now.table) chain.messages) }
     ensures listed { IfOk result (λ chain.
         IsListed (length made.now.table.timings) chain.messages) }
     ensures cost { IfOk result (λ chain.
-        chain.cost ≡ chain_cost (work_of made.now.table.timings) chain.messages) }
+        chain.cost ≡ chain_cost (work_in made.now.table) chain.messages) }
     ensures release { IfOk result (λ chain.
-        chain.release ≡ chain_release (work_of made.now.table.timings) chain.messages) }
-
-    // The list bound, and what follows for the length of any worker plan.
-    ensures bound { IfOk result (λ chain. (needs : List (List ℕ))
-        → AreNeeds tree.now assigned.now needs
-        → IsListPlan (Path (IsNeed needs)) (work_of made.now.table.timings) made.now.workers
-        (start_of made.now.table.starts)
-        → made.now.workers * length_of (work_of made.now.table.timings)
-        (start_of made.now.table.starts)
-        ≤ total_of (work_of made.now.table.timings)
-        + made.now.workers * chain.release + (made.now.workers - 1) * chain.cost) }
-    ensures twice { IfOk result (λ chain. (needs : List (List ℕ)) (other : ℕ → ℕ)
-        → AreNeeds tree.now assigned.now needs
-        → IsListPlan (Path (IsNeed needs)) (work_of made.now.table.timings) made.now.workers
-        (start_of made.now.table.starts)
-        → IsWorkerPlan (IsOrdered tree.now assigned.now)
-        (work_of made.now.table.timings) made.now.workers other
-        → made.now.workers * length_of (work_of made.now.table.timings)
-        (start_of made.now.table.starts)
-        ≤ 2 * made.now.workers * length_of (work_of made.now.table.timings) other) }
-    ensures ratio { IfOk result (λ chain. (needs : List (List ℕ)) (other : ℕ → ℕ)
-        → AreNeeds tree.now assigned.now needs
-        → ((m : ℕ) → IsNumber (work_of made.now.table.timings) m
-        → (work_of made.now.table.timings).release m ≡ 0)
-        → IsListPlan (Path (IsNeed needs)) (work_of made.now.table.timings) made.now.workers
-        (start_of made.now.table.starts)
-        → IsWorkerPlan (IsOrdered tree.now assigned.now)
-        (work_of made.now.table.timings) made.now.workers other
-        → made.now.workers * length_of (work_of made.now.table.timings)
-        (start_of made.now.table.starts)
-        ≤ (2 * made.now.workers - 1) * length_of (work_of made.now.table.timings) other) }
+        chain.release ≡ chain_release (work_in made.now.table) chain.messages) }
+    ensures bound { IfOk result (ListBound tree.now assigned.now made.now) }
+    ensures twice { IfOk result (λ _. ListTwice tree.now assigned.now made.now) }
+    ensures ratio { IfOk result (λ _. ListRatio tree.now assigned.now made.now) }
 {
     chain(alloc, tree, assigned, made.plan())
 }

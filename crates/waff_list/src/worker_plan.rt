@@ -1,7 +1,7 @@
 //! Plans for k workers.
 
 ghost use Rattle.std.specs.Prelude.{◌≡◌, ◌≤◌, length, All};
-ghost use Rattle.waff_plan.specs.Timing.{work_of};
+ghost use Rattle.waff_plan.specs.Timetable.{work_in};
 ghost use Rattle.waff_plan.specs.Work.{IsNumber};
 ghost use Rattle.waff_list.specs.Seating.{worker_of};
 
@@ -101,7 +101,7 @@ impl WorkerPlan {
     /// The messages by start tick, then arrival.
     pub fn order(&self) -> &[u32]
         ensures order { result.now ≡ self.now.order }
-        ensures messages { All (IsNumber (work_of self.now.table.timings)) result.now }
+        ensures messages { All (IsNumber (work_in self.now.table)) result.now }
     {
         self.order.as_slice()
     }

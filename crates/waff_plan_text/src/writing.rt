@@ -2,10 +2,10 @@
 
 ghost use Rattle.std.specs.Prelude.{◌≡◌, ◌<◌, [], ◌∷◌, ◌++◌, All, IfOk, OnOk, Some, codes, length};
 ghost use Rattle.std.specs.Prelude.{map, string_bytes};
+ghost use Rattle.waff_plan.specs.Timetable.{starts_in, work_in};
 ghost use Rattle.waff_plan.specs.Bound.{IsWorkers};
 ghost use Rattle.waff_plan.specs.Chain.{IsListed};
 ghost use Rattle.waff_plan.specs.Work.{numbers};
-ghost use Rattle.waff_plan.specs.Timing.{start_of, work_of};
 ghost use Rattle.waff_plan_text.specs.Lines.{line_text, text_of};
 ghost use Rattle.waff_plan_text.specs.Spelling.{message_row, no_worker, numbers_field, plan_row};
 ghost use Rattle.waff_plan_text.specs.Spelling.{release_lines, seat_of, summary_lines};
@@ -31,7 +31,7 @@ pub fn unlimited_text(
     requires chain { IsListed (length plan.now.timings) chain.now }
     ensures { IfOk result (λ text. string_bytes text
         ≡ text_of (unlimited_lines version tree.now assigned.now
-        (work_of plan.now.timings) (start_of plan.now.starts)
+        (work_in plan.now) (starts_in plan.now)
         chain.now)) }
 {
     let mut text = String::new(alloc);
@@ -59,7 +59,7 @@ pub fn worker_text(
     requires chain { IsListed (length plan.now.timings) chain.now }
     ensures { IfOk result (λ text. string_bytes text
         ≡ text_of (worker_lines version tree.now assigned.now
-        (work_of plan.now.timings) workers (start_of plan.now.starts)
+        (work_in plan.now) workers (starts_in plan.now)
         seats.now chain.now)) }
 {
     let workers = Some(workers);
@@ -89,8 +89,8 @@ fn push_unlimited_rows(
     requires known { All (λ a. a < length tree.now) assigned.now }
     ensures { OnOk result (string_bytes text.new ≡ string_bytes text.old
         ++ text_of (map (message_row tree.now assigned.now
-        (work_of plan.now.timings) (start_of plan.now.starts) no_worker)
-        (numbers (work_of plan.now.timings)))) }
+        (work_in plan.now) (starts_in plan.now) no_worker)
+        (numbers (work_in plan.now)))) }
 {
     for n in 1..plan.len() + 1 {
         let affinity = tree.name(assigned.of(n));
@@ -112,8 +112,8 @@ fn push_worker_rows(
     requires seats { length seats.now ≡ length plan.now.timings }
     ensures { OnOk result (string_bytes text.new ≡ string_bytes text.old
         ++ text_of (map (message_row tree.now assigned.now
-        (work_of plan.now.timings) (start_of plan.now.starts) (seat_of seats.now))
-        (numbers (work_of plan.now.timings)))) }
+        (work_in plan.now) (starts_in plan.now) (seat_of seats.now))
+        (numbers (work_in plan.now)))) }
 {
     for n in 1..plan.len() + 1 {
         let affinity = tree.name(assigned.of(n));

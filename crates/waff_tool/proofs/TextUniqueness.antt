@@ -26,7 +26,7 @@ use Rattle.waff_list.proofs.TraceWork.{trace_is_small}
 use Rattle.waff_list.proofs.Uniqueness.{list_plan_is_one}
 use Rattle.waff_plan_text.specs.Lines.{text_of}
 use Rattle.waff_plan_text.specs.Spelling.{no_worker, seat_of, unlimited_lines, worker_lines}
-use Rattle.waff_check.proofs.OwnLaws.{totals_same}
+use Rattle.waff_plan.proofs.Uniqueness.{totals_same}
 use Rattle.waff_inputs.proofs.SameInput.{layout_tree, moved_back, same_input, same_ok, same_trace}
 use Rattle.waff_tool.specs.AssignText.{assign_lines}
 use Rattle.waff_tool.specs.PlanText.{IsPlanText, IsWorkerPlanText, work_in}
