@@ -8,7 +8,7 @@ use Rattle.waff_assign.specs.Order.{affinity_of}
 use Rattle.waff_plan.specs.Totals.{totals_of}
 use Rattle.waff_plan.specs.Unique.{AreSame}
 use Rattle.waff_plan.specs.Work.{Work, IsNumber, numbers}
-use Rattle.waff_check.proofs.OwnLaws.{totals_same}
+use Rattle.waff_plan.proofs.Uniqueness.{totals_same}
 use Rattle.waff_plan_text.specs.Spelling.{message_row, plan_header, plan_lines, plan_row, summary_lines, worker_field}
 
 -- lists by message that are the same at each message are equal
