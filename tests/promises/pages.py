@@ -1,0 +1,207 @@
+"""Reads the pages of this repository against its files.
+
+- A link leads to a file that is there, and to a heading of it where it names one.
+- A link to a source names what stands there: `call` and its clauses (.rt), a definition and its fields (.antt), an edit (.edit).
+- A code span that is a path of this repository is one that is there.
+- A block of code that is marked as `rust`, `antt` or `edit` stands in a source, but for blanks; `...` stands for lines left out.
+- docs/proof.md names nothing that the sources do not have.
+- docs/testing.md names each script, docs/architecture.md each crate with what its first lines say and what it stands on.
+- README.md has the line of the kit that `dist/waff` was proved with.
+"""
+import os
+import re
+
+from sources import DEFINITION, NAME, ROOT, TOKEN, TYPE, fields_of, functions_of
+
+ARCHITECTURE = ROOT / "docs" / "architecture.md"
+LINK = re.compile(r"\[((?:[^\[\]]|\[[^\[\]]*\]\([^()]*\))*)\]\(([^()\s]+)\)")
+FOLDERS = ("bench", "crates", "dist", "docs", "examples", "tests", "workloads")
+BLOCKS = {"rust": "*/src/*.rt", "antt": "*/specs/*.antt", "edit": "*/must-fail/*.edit"}
+HEADER = ["| Layer | Crate | What it is for | Stands on |", "|---|---|---|---|"]
+
+
+class Page:
+    """A page: its lines out of blocks of code, and the blocks."""
+
+    def __init__(self, path):
+        self.path = path
+        self.name = str(path.relative_to(ROOT))
+        self.lines = []
+        self.blocks = []
+        block = None
+        for number, line in enumerate(path.read_text().splitlines(), 1):
+            if line.lstrip().startswith("```"):
+                if block is None:
+                    block = (number, line.strip()[3:], [])
+                else:
+                    self.blocks.append(block)
+                    block = None
+            elif block is not None:
+                block[2].append(line)
+            else:
+                self.lines.append((number, line))
+
+    def headings(self):
+        return {anchor(line.lstrip("#")) for _, line in self.lines if line.startswith("#")}
+
+
+def anchor(heading):
+    """The name by which a link leads to a heading."""
+    return re.sub(r"[^\w\- ]", "", LINK.sub(r"\1", heading).strip().lower()).replace(" ", "-")
+
+
+class Reader:
+    """Reads pages, and counts what it finds and what it misses."""
+
+    def __init__(self, crates):
+        self.crates = crates
+        self.passed = 0
+        self.missing = []
+
+    def tell(self, is_there, where, what):
+        if is_there:
+            self.passed += 1
+        else:
+            self.missing.append(f"{where}: {what}")
+
+    def read_page(self, page):
+        for number, line in page.lines:
+            where = f"{page.name}:{number}"
+            for text, target in LINK.findall(line):
+                self.read_link(page, where, text, target)
+                for inner, image in LINK.findall(text):
+                    self.read_link(page, where, inner, image)
+            for span in TOKEN.findall(line):
+                self.read_path(where, span)
+        for number, language, lines in page.blocks:
+            if language in BLOCKS:
+                self.tell(is_quoted(lines, BLOCKS[language]), f"{page.name}:{number}", "no source has this block")
+
+    def read_link(self, page, where, text, target):
+        if re.match(r"https?://", target):
+            return
+        name, _, heading = target.partition("#")
+        path = (page.path.parent / name).resolve() if name else page.path
+        self.tell(path.exists(), where, f"no file {target}")
+        if not path.exists():
+            return
+        if heading:
+            self.tell(heading in Page(path).headings(), where, f"no heading {target}")
+        spans = TOKEN.findall(text)
+        if spans and path.is_file() and path.is_relative_to(ROOT / "crates"):
+            self.read_names(where, spans, path)
+
+    def read_names(self, where, spans, path):
+        """The first name is of something in the file, those behind it are its clauses or fields."""
+        first, *parts = spans
+        inside = path.relative_to(ROOT / "crates")
+        if path.suffix == ".edit":
+            self.tell(spans == [path.stem], where, f"{inside} is no {first}")
+        elif path.suffix == ".antt":
+            text = path.read_text()
+            self.tell(first in DEFINITION.findall(text), where, f"no definition {first} in {inside}")
+            known = fields_of(text).get(first, set())
+            for part in parts:
+                self.tell(part in known, where, f"no field {part} of {first} in {inside}")
+        elif path.suffix == ".rt":
+            text = path.read_text()
+            found = [f for f in functions_of(path.stem, text) if f.is_named(first)]
+            self.tell(found or first in TYPE.findall(text), where, f"no {first} in {inside}")
+            for part in parts:
+                self.tell(any(part in f.clauses for f in found), where, f"no clause {part} of {first} in {inside}")
+
+    def read_path(self, where, span):
+        path = span.split()[0].removeprefix("./").rstrip(",") if span.strip() else ""
+        if path.partition("/")[0] in FOLDERS and "/" in path and not re.search(r"NAME|CASE|THING|Thing", path):
+            self.tell(any(ROOT.glob(path.rstrip("/"))), where, f"no file {path}")
+
+    def read_proof(self, page):
+        """Each name in words stands somewhere in the sources."""
+        known = set().union(*(crate.names for crate in self.crates.values()), self.crates)
+        for number, line in page.lines:
+            for span in TOKEN.findall(LINK.sub("", line)):
+                if NAME.match(span):
+                    self.tell(span in known, f"{page.name}:{number}", f"no {span} in the sources")
+
+    def read_scripts(self, page):
+        """Each script of the repository stands on the page."""
+        named = {span.split()[0].removeprefix("./") for _, line in page.lines for span in TOKEN.findall(line) if span.strip()}
+        for path in scripts():
+            self.tell(path in named, page.name, f"the script {path} is not named")
+
+    def read_crates(self, page):
+        shown = [line for _, line in page.lines if line.startswith("|")]
+        for line in HEADER + crate_rows():
+            self.tell(line in shown, page.name, f"no line {line[:60]}.. (tests/promises/run write)")
+
+    def read_kit(self):
+        kit = (ROOT / "dist" / "waff.sums").read_text().splitlines()[0]
+        self.tell(kit in (ROOT / "README.md").read_text(), "README.md", f"no line of the kit: {kit}")
+
+
+def is_quoted(lines, sources):
+    """Whether one of the sources has each part of the block, but for blanks."""
+    parts = [" ".join(part.split()) for part in re.split(r"^ *\.\.\.$", "\n".join(lines), flags=re.M)]
+    for path in (ROOT / "crates").glob(sources):
+        text = " ".join(path.read_text().split())
+        if all(part in text for part in parts):
+            return True
+    return False
+
+
+def scripts():
+    """What can be run here, but for the built program."""
+    found = [ROOT / name for name in ("waff", "install", "test", ".ci/run")]
+    for folder in ("bench", "dist", "examples", "tests", "workloads"):
+        found += sorted(path for path in (ROOT / folder).rglob("*") if path.is_file() and os.access(path, os.X_OK))
+    return [str(path.relative_to(ROOT)) for path in found if path != ROOT / "dist" / "waff"]
+
+
+def first_sentence(crate):
+    """What a crate says of itself first."""
+    source = ROOT / "crates" / crate / "src"
+    path = source / "lib.rt" if (source / "lib.rt").exists() else source / "main.rt"
+    lines = []
+    for line in path.read_text().splitlines():
+        if not line.startswith("//! ") or line.startswith("//! - "):
+            break
+        lines.append(line[4:])
+    return " ".join(lines).split(". ")[0].rstrip(".")
+
+
+def crate_rows():
+    """The rows of the table of crates, in the order of crates.txt."""
+    rows, layer = [], ""
+    for line in (ROOT / "crates.txt").read_text().splitlines()[1:]:
+        if line.startswith("#"):
+            layer = line.lstrip("# ")
+        elif line:
+            head, _, below = line.partition(":")
+            name = head.split()[0]
+            rows.append(f"| {layer} | `{name}` | {first_sentence(name)} | {', '.join(f'`{b}`' for b in below.split())} |")
+            layer = ""
+    return rows
+
+
+def write_crates():
+    """Writes the table of crates anew."""
+    lines = ARCHITECTURE.read_text().splitlines()
+    start = lines.index(HEADER[0])
+    end = start
+    while end < len(lines) and lines[end].startswith("|"):
+        end += 1
+    ARCHITECTURE.write_text("\n".join(lines[:start] + HEADER + crate_rows() + lines[end:]) + "\n")
+
+
+def read(crates):
+    """Reads all pages, and answers how many names and links it found and what it missed."""
+    reader = Reader(crates)
+    paths = [*ROOT.glob("*.md"), *(path for folder in FOLDERS for path in (ROOT / folder).glob("*.md"))]
+    pages = {page.name: page for page in map(Page, sorted(paths))}
+    for page in pages.values():
+        reader.read_page(page)
+    reader.read_proof(pages["docs/proof.md"])
+    reader.read_scripts(pages["docs/testing.md"])
+    reader.read_crates(pages["docs/architecture.md"])
+    reader.read_kit()
+    return reader.passed, reader.missing

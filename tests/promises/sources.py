@@ -1,0 +1,92 @@
+"""What the sources of the crates have that a page can name."""
+import re
+from pathlib import Path
+
+ROOT = Path(__file__).resolve().parent.parent.parent
+
+TOKEN = re.compile(r"`([^`]+)`")
+NAME = re.compile(r"^[A-Za-z_]\w*$")
+
+FUNCTION = re.compile(r"^( *)(pub(?:\([a-z]+\))? )?(?:const |unsafe )*fn (\w+)(.*)")
+CLAUSE = re.compile(r"^ +ensures\*? (\w+) \{")
+IMPL = re.compile(r"^ *impl(?:<[^>]*>)? (?:.* for )?&?(\w+)")
+OUTPUT = re.compile(r"^ +ghost output\b")
+TYPE = re.compile(r"^ *(?:pub(?:\([a-z]+\))? )?(?:struct|enum|trait|type|union|const) (\w+)", re.M)
+DEFINITION = re.compile(r"^(?:abbrev |unfoldable |record |data )*(?:pub )?(?:abbrev |record |data )?(\w+)\b.*[:=]", re.M)
+RECORD = re.compile(r"^pub record (\w+)[^=]*? where\n((?: +[^\n]*\n?)*)", re.M)
+FIELD = re.compile(r"^  pub (\w+) :", re.M)
+
+
+class Function:
+    """A function of a crate, with the type or the module that it belongs to and the names of its clauses."""
+
+    def __init__(self, name, owner, module):
+        self.name = name
+        self.owner = owner
+        self.module = module
+        self.is_law = False
+        self.clauses = set()
+
+    def is_named(self, name):
+        """Whether a name stands for it: `call`, `Type::call` or `module::call`."""
+        owner, _, call = name.rpartition("::")
+        return self.name == call and owner in ("", self.owner, self.module)
+
+
+class Crate:
+    """A crate with its files, functions, definitions and wrong bodies."""
+
+    def __init__(self, folder):
+        self.name = folder.name
+        sources = sorted((folder / "src").glob("*.rt"))
+        specs = sorted((folder / "specs").glob("*.antt"))
+        texts = {path: path.read_text() for path in sources + specs}
+        self.files = {f"{path.parent.name}/{path.name}" for path in texts}
+        self.types = {name for path in sources for name in TYPE.findall(texts[path])}
+        self.words = {name for path in specs for name in DEFINITION.findall(texts[path])}
+        self.edits = {path.stem for path in (folder / "must-fail").glob("*.edit")}
+        self.names = {name for text in texts.values() for name in re.findall(r"\w+", text)}
+        self.functions = [f for path in sources for f in functions_of(path.stem, texts[path])]
+        self.laws = {f.name for f in self.functions if f.is_law}
+
+    def find(self, name):
+        """The functions that a name stands for."""
+        return [f for f in self.functions if f.is_named(name)]
+
+
+def functions_of(module, text):
+    """The functions of a file, as rt fmt lays them out."""
+    owner, has_output, found, head = None, False, [], None
+    for line in text.splitlines():
+        if line.startswith("impl"):
+            owner, has_output = IMPL.match(line).group(1), False
+        elif line == "}":
+            owner = None
+        has_output = has_output or bool(OUTPUT.match(line))
+        start = FUNCTION.match(line)
+        if start:
+            indent, visibility, name, head = start.groups()
+            found.append(Function(name, owner, module))
+            if has_output and owner:
+                found[-1].clauses.add("output")
+        if head is None:
+            continue
+        clause = CLAUSE.match(line)
+        if clause:
+            found[-1].clauses.add(clause.group(1))
+        if line.startswith(indent) and line[len(indent):][:1] != " " and line.endswith(("{", "{}")):
+            found[-1].is_law = visibility == "pub " and head == "()" and line == f"{indent}{{}}"
+            head = None
+    return found
+
+
+def fields_of(text):
+    """The fields of each record of a file of definitions."""
+    return {name: set(FIELD.findall(body)) for name, body in RECORD.findall(text)}
+
+
+def crates():
+    """All crates by name, in the order of crates.txt."""
+    lines = (ROOT / "crates.txt").read_text().splitlines()
+    names = [re.match(r"\w+", line).group() for line in lines if re.match(r"\w", line)]
+    return {name: Crate(ROOT / "crates" / name) for name in names}
