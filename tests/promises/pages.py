@@ -111,9 +111,14 @@ class Reader:
                 self.tell(any(part in f.clauses for f in found), where, f"no clause {part} of {first} in {inside}")
 
     def read_path(self, where, span):
-        path = span.split()[0].removeprefix("./").rstrip(",") if span.strip() else ""
-        if path.partition("/")[0] in FOLDERS and "/" in path and not re.search(r"NAME|CASE|THING|Thing", path):
-            self.tell(any(ROOT.glob(path.rstrip("/"))), where, f"no file {path}")
+        path = span.split()[0].removeprefix("./").rstrip(",/") if span.strip() else ""
+        folder = path.partition("/")[0]
+        if folder in self.crates:
+            path = f"crates/{path}"
+        elif folder not in FOLDERS:
+            return
+        if "/" in path and not re.search(r"NAME|THING|Thing", path):
+            self.tell(any(ROOT.glob(path)), where, f"no file {path}")
 
     def read_proof(self, page):
         """Each name in words stands somewhere in the sources."""
