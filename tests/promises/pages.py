@@ -3,8 +3,9 @@
 - A link leads to a file that is there, and to a heading of it where it names one.
 - A link to a source names what stands there: `call` and its clauses (.rt), a definition and its fields (.antt), an edit (.edit).
 - A code span that is a path of this repository is one that is there.
-- A block of code that is marked as `rust`, `antt` or `edit` stands in a source, but for blanks; `...` stands for lines left out.
-- docs/proof.md names nothing that the sources do not have.
+- A block of code that is marked as `rust`, `antt` or `edit` stands in a source, but for blanks; `...` stands for lines left out. The
+  first words of each line of a block marked `tree` are functions or types.
+- docs/proof.md names nothing that the sources do not have, and each crate of the kit that they stand on.
 - docs/testing.md names each script, docs/architecture.md each crate with what its first lines say and what it stands on.
 - README.md has the line of the kit that `dist/waff` was proved with.
 """
@@ -76,6 +77,8 @@ class Reader:
         for number, language, lines in page.blocks:
             if language in BLOCKS:
                 self.tell(is_quoted(lines, BLOCKS[language]), f"{page.name}:{number}", "no source has this block")
+            elif language == "tree":
+                self.read_tree(f"{page.name}:{number}", lines)
 
     def read_link(self, page, where, text, target):
         if re.match(r"https?://", target):
@@ -120,13 +123,23 @@ class Reader:
         if "/" in path and not re.search(r"NAME|THING|Thing", path):
             self.tell(any(ROOT.glob(path)), where, f"no file {path}")
 
+    def read_tree(self, where, lines):
+        crates = self.crates.values()
+        for line in filter(None, lines):
+            for name in line.lstrip("│├└─ ").partition("  ")[0].split(", "):
+                is_there = any(crate.find(name) or name in crate.types for crate in crates)
+                self.tell(is_there, where, f"no function {name}")
+
     def read_proof(self, page):
         """Each name in words stands somewhere in the sources."""
-        known = set().union(*(crate.names for crate in self.crates.values()), self.crates)
+        known = set().union(*(crate.names for crate in self.crates.values()), self.crates, kit_crates())
         for number, line in page.lines:
             for span in TOKEN.findall(LINK.sub("", line)):
                 if NAME.match(span):
                     self.tell(span in known, f"{page.name}:{number}", f"no {span} in the sources")
+        named = {span for _, line in page.lines for span in TOKEN.findall(line)}
+        for name in kit_crates():
+            self.tell(name in named, page.name, f"the crate {name} of the kit is not named")
 
     def read_scripts(self, page):
         """Each script of the repository stands on the page."""
@@ -186,6 +199,12 @@ def crate_rows():
             rows.append(f"| {layer} | `{name}` | {first_sentence(name)} | {', '.join(f'`{b}`' for b in below.split())} |")
             layer = ""
     return rows
+
+
+def kit_crates():
+    """The crates of the kit that the crates stand on."""
+    below = re.findall(r"^\w.*?:(.*)", (ROOT / "crates.txt").read_text(), re.M)
+    return sorted({name for line in below for name in line.split() if not name.startswith("waff")})
 
 
 def write_crates():
