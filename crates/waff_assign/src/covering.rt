@@ -22,8 +22,8 @@ pub fn lowest(layout: &Layout, cells: &[Cell]) -> AffinityId
     low
 }
 
-/// The lowest affinity that is at or above both: climbs from the first until it is at or above the
-/// second.
+/// The lowest affinity that is at or above both: the second, where it is above the first; else
+/// climbs from the first until it is at or above the second.
 fn lowest_above(tree: &Tree, first: AffinityId, second: AffinityId) -> AffinityId
     requires first { first.0 < length tree.now }
     requires second { second.0 < length tree.now }
@@ -33,6 +33,9 @@ fn lowest_above(tree: &Tree, first: AffinityId, second: AffinityId) -> AffinityI
         → AtOrAbove tree.now a result.0 }
     ensures within { result.0 < length tree.now }
 {
+    if tree.at_or_above(second, first) {
+        return second;
+    }
     let mut at = first;
     while !tree.at_or_above(at, second) {
         match tree.parent(at) {

@@ -10,7 +10,7 @@ use Rattle.std.proofs.lemmas.List.Elements.{All-append, All-cons, All-nil, All-t
 use Rattle.std.proofs.lemmas.List.Folds.{list_any-append, list_any_at}
 use Rattle.std.proofs.lemmas.List.FromFn.{get_or-range_with_len, length-range_with_len}
 use Rattle.std.proofs.lemmas.List.Sums.{fold_more, sum_by-cons, sum_by_push}
-use Rattle.waff_plan.specs.Chain.{IsMessage}
+use Rattle.waff_plan.specs.Chain.{IsAmongFirst}
 use Rattle.waff_plan.specs.Work.{Work, numbers}
 use Rattle.waff_figures.specs.ByName.{distinct_names, is_named, with_name}
 use Rattle.waff_figures.proofs.AddingUp.{sum_of_ones}
@@ -142,7 +142,7 @@ sum_nothing f none (x ∷ xs) = omega (arith, none x, sum_nothing f none xs, sum
 
 module _ (names : List (List ℕ)) where
   -- a message is of one name alone
-  of_one_name : (term : ℕ → ℕ) (m : ℕ) → IsMessage (length names) m
+  of_one_name : (term : ℕ → ℕ) (m : ℕ) → IsAmongFirst (length names) m
       → sum_by (λ name. cond (is_named names name m) (term m) 0) (distinct_names names) ≡ term m
   of_one_name term m is =
       let x = get_or names (m - 1) [] in
@@ -151,7 +151,7 @@ module _ (names : List (List ℕ)) where
       one_counts (bytes_eq x) (term m) (distinct_names names) (name_is_once names x ∙ ap (λ b. cond {A = ℕ} b 1 0) has)
 
   -- the terms of the messages, name by name
-  pub by_name : (term : ℕ → ℕ) (messages : List ℕ) → All (IsMessage (length names)) messages
+  pub by_name : (term : ℕ → ℕ) (messages : List ℕ) → All (IsAmongFirst (length names)) messages
       → sum_by (λ name. sum_by (λ m. cond (is_named names name m) (term m) 0) messages) (distinct_names names) ≡ sum_by term messages
   by_name term [] are =
       sum_nothing (λ name. sum_by (λ m. cond (is_named names name m) (term m) 0) []) (λ name. refl) (distinct_names names)
@@ -163,25 +163,25 @@ module _ (names : List (List ℕ)) where
         arith,
         parts,
         of_one_name term m (are 0 m (omega arith)),
-        by_name term ms (All-tail (IsMessage (length names)) m ms are),
+        by_name term ms (All-tail (IsAmongFirst (length names)) m ms are),
         sum_by-cons term m ms,
       )
 
-  all_messages : All (IsMessage (length names)) (range_with_len 1 (length names))
+  all_messages : All (IsAmongFirst (length names)) (range_with_len 1 (length names))
   all_messages i d low =
       let inside : i < length names = omega (arith, low, length-range_with_len 1 (length names)) in
       let at : get_or (range_with_len 1 (length names)) i d ≡ 1 + i = get_or-range_with_len 1 (length names) i d inside in
       record { from = omega (arith, at); to = omega (arith, at, inside) }
 
 pub names_add_up : (names : List (List ℕ)) (work : Work) (chain : List ℕ) → length names ≡ work.count
-    → All (IsMessage work.count) chain → NamesAddUp names work chain
+    → All (IsAmongFirst work.count) chain → NamesAddUp names work chain
 names_add_up names work chain long listed =
-    let all : All (IsMessage (length names)) (numbers work)
-    = subst (λ n. All (IsMessage (length names)) (range_with_len 1 n)) long (all_messages names) in
+    let all : All (IsAmongFirst (length names)) (numbers work)
+    = subst (λ n. All (IsAmongFirst (length names)) (range_with_len 1 n)) long (all_messages names) in
     record {
       messages = by_name names (λ m. 1) (numbers work) all ∙ sum_of_ones 1 work.count;
       costs = by_name names work.cost (numbers work) all;
-      links = by_name names work.cost chain (subst (λ n. All (IsMessage n) chain) (sym long) listed);
+      links = by_name names work.cost chain (subst (λ n. All (IsAmongFirst n) chain) (sym long) listed);
     }
 
 -- the first messages of the distinct ones of the first k names

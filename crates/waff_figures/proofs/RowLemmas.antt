@@ -6,7 +6,7 @@ use Rattle.std.proofs.lemmas.List.FromFn.{fill_by_all}
 use Rattle.std.proofs.lemmas.List.Sums.{sum-map, sum_by-cons}
 use Rattle.waff_model.specs.Tree.{Node}
 use Rattle.waff_plan.specs.Bound.{IsWorkers}
-use Rattle.waff_plan.specs.Chain.{IsMessage}
+use Rattle.waff_plan.specs.Chain.{IsAmongFirst}
 use Rattle.waff_plan.specs.Work.{Work, numbers, total_of}
 use Rattle.waff_figures.specs.Sweep.{sweep_workers}
 use Rattle.waff_figures.specs.Tally.{is_in, no_tally, tally_of}
@@ -44,7 +44,7 @@ sum_list_same f g (x ∷ xs) h =
     omega (arith, first, rest, sum_by-cons f x xs, sum_by-cons g x xs)
 
 -- tallies of the same messages
-pub tally_same : (work : Work) (chain : List ℕ) (one other : ℕ → Bool) → All (IsMessage work.count) chain
+pub tally_same : (work : Work) (chain : List ℕ) (one other : ℕ → Bool) → All (IsAmongFirst work.count) chain
     → ((m : ℕ) → 1 ≤ m → m ≤ work.count → one m ≡ other m) → tally_of work chain one ≡ tally_of work chain other
 tally_same work chain one other listed same =
     same_tally (tally_of work chain one) (tally_of work chain other)

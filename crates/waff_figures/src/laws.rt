@@ -3,7 +3,7 @@
 
 ghost use Rattle.std.specs.Prelude.{◌≡◌, ◌<◌, ℕ, List, All, length};
 ghost use Rattle.waff_model.specs.Tree.{Node};
-ghost use Rattle.waff_plan.specs.Chain.{IsMessage};
+ghost use Rattle.waff_plan.specs.Chain.{IsAmongFirst};
 ghost use Rattle.waff_plan.specs.Work.{Work};
 ghost use Rattle.waff_figures.specs.Laws.{ChainAddsUp, CostsAddUp, MessagesAddUp, NameIsOnce};
 ghost use Rattle.waff_figures.specs.Laws.{NamesAddUp, NamesInOrder};
@@ -34,7 +34,7 @@ pub fn chain_adds_up()
 pub fn names_add_up()
     ensures { (names : List (List ℕ)) (work : Work) (chain : List ℕ)
         → length names ≡ work.count
-        → All (IsMessage work.count) chain → NamesAddUp names work chain }
+        → All (IsAmongFirst work.count) chain → NamesAddUp names work chain }
 {}
 
 /// Each name that a message has has one line, and no other name has any.

@@ -3,27 +3,27 @@ use Rattle.std.proofs.Common.{◌≡◌, ℕ, ◌+◌, ◌<◌, ◌≤◌, inl, 
 use Rattle.std.proofs.lemmas.Bool.{cases_lt}
 use Rattle.std.proofs.lemmas.List.{get_or_push, get_or_append_left}
 use Rattle.waff_model.specs.Tree.{Node, parent_of, IsRooted}
-use Rattle.waff_model.specs.declared.places.Place.{Place}
-use Rattle.waff_model.specs.declared.places.Share.{Share}
-use Rattle.waff_model.specs.Places.{place_at, share_at, AreShares, ArePlaces}
+use Rattle.waff_model.specs.declared.preorder.Span.{Span}
+use Rattle.waff_model.specs.declared.preorder.Share.{Share}
+use Rattle.waff_model.specs.Preorder.{span_at, share_at, AreShares, AreSpans}
 
 -- the place of the affinity b follows from that of its parent
-pub record IsPlaced (tree : List Node) (shares : List Share) (places : List Place) (b : ℕ) (place : Place) : Type 0 where
-  pub parent : place.parent ≡ parent_of tree b
-  pub end : place.end ≡ place.first + (share_at shares b).size
-  pub few : place.end ≤ length tree
-  pub first : (p : ℕ) → parent_of tree b ≡ Some p → place.first ≡ (place_at places p).first + (share_at shares b).offset
+pub record IsPlaced (tree : List Node) (shares : List Share) (spans : List Span) (b : ℕ) (span : Span) : Type 0 where
+  pub parent : span.parent ≡ parent_of tree b
+  pub end : span.end ≡ span.first + (share_at shares b).size
+  pub few : span.end ≤ length tree
+  pub first : (p : ℕ) → parent_of tree b ≡ Some p → span.first ≡ (span_at spans p).first + (share_at shares b).offset
 
 -- the affinities before k have their places
-pub record ArePlacedBefore (tree : List Node) (shares : List Share) (places : List Place) (k : ℕ) : Type 0 where
-  pub count : length places ≡ k
-  pub each : (b : ℕ) → b < k → IsPlaced tree shares places b (place_at places b)
+pub record ArePlacedBefore (tree : List Node) (shares : List Share) (spans : List Span) (k : ℕ) : Type 0 where
+  pub count : length spans ≡ k
+  pub each : (b : ℕ) → b < k → IsPlaced tree shares spans b (span_at spans b)
 
-module _ (tree : List Node) (rooted : IsRooted tree) (shares : List Share) (places : List Place) (k : ℕ) (place : Place) (are : ArePlacedBefore tree shares places k) where
-  place_stays : (b : ℕ) → b < k → place_at (places ++ place ∷ []) b ≡ place_at places b
-  place_stays b before = get_or_append_left places (place ∷ []) _ b (omega (arith, are.count))
+module _ (tree : List Node) (rooted : IsRooted tree) (shares : List Share) (spans : List Span) (k : ℕ) (span : Span) (are : ArePlacedBefore tree shares spans k) where
+  place_stays : (b : ℕ) → b < k → span_at (spans ++ span ∷ []) b ≡ span_at spans b
+  place_stays b before = get_or_append_left spans (span ∷ []) _ b (omega (arith, are.count))
 
-  placed_still : (b : ℕ) (at : Place) → b < k + 1 → IsPlaced tree shares places b at → IsPlaced tree shares (places ++ place ∷ []) b at
+  placed_still : (b : ℕ) (at : Span) → b < k + 1 → IsPlaced tree shares spans b at → IsPlaced tree shares (spans ++ span ∷ []) b at
   placed_still b at before placed = record {
     parent = placed.parent;
     end = placed.end;
@@ -34,28 +34,28 @@ module _ (tree : List Node) (rooted : IsRooted tree) (shares : List Share) (plac
   }
 
   -- and so, with its place, the affinity k
-  pub placed_more : IsPlaced tree shares places k place → ArePlacedBefore tree shares (places ++ place ∷ []) (k + 1)
+  pub placed_more : IsPlaced tree shares spans k span → ArePlacedBefore tree shares (spans ++ span ∷ []) (k + 1)
   placed_more placed = record {
-    count = omega (arith, length-append places (place ∷ []), are.count);
+    count = omega (arith, length-append spans (span ∷ []), are.count);
     each = λ b before. elim (cases_lt b k) [
-      | inl earlier ↦ rw (place_stays b earlier) (placed_still b (place_at places b) before (are.each b earlier))
+      | inl earlier ↦ rw (place_stays b earlier) (placed_still b (span_at spans b) before (are.each b earlier))
       | inr at ↦
           let same : k ≡ b = omega arith in
-          let last : place_at (places ++ place ∷ []) b ≡ place = get_or_push places place _ b (are.count ∙ same) in
-          rw (last, ← same) (placed_still k place (omega arith) placed)
+          let last : span_at (spans ++ span ∷ []) b ≡ span = get_or_push spans span _ b (are.count ∙ same) in
+          rw (last, ← same) (placed_still k span (omega arith) placed)
     ];
   }
 
-module _ (tree : List Node) (rooted : IsRooted tree) (shares : List Share) (shared : AreShares tree shares) (places : List Place) where
+module _ (tree : List Node) (rooted : IsRooted tree) (shares : List Share) (shared : AreShares tree shares) (spans : List Span) where
   -- the places of a child and its share end among those of its parent
-  pub child_few : (b p : ℕ) → ArePlacedBefore tree shares places b → b < length tree → parent_of tree b ≡ Some p → (p < length places) × ((place_at places p).first + (share_at shares b).offset + (share_at shares b).size ≤ length tree)
+  pub child_few : (b p : ℕ) → ArePlacedBefore tree shares spans b → b < length tree → parent_of tree b ≡ Some p → (p < length spans) × ((span_at spans p).first + (share_at shares b).offset + (share_at shares b).size ≤ length tree)
   child_few b p are within parent =
       let up : p < b = rooted.earlier b p parent in
       let placed = are.each p up in
       (omega (arith, are.count), omega (arith, placed.end, placed.few, shared.within b p within parent))
 
   -- the place that follows from the parent's
-  pub parent_placed : (b p first : ℕ) → ArePlacedBefore tree shares places b → b < length tree → parent_of tree b ≡ Some p → first ≡ (place_at places p).first + (share_at shares b).offset → IsPlaced tree shares places b (record { parent = Some p; first = first; end = first + (share_at shares b).size })
+  pub parent_placed : (b p first : ℕ) → ArePlacedBefore tree shares spans b → b < length tree → parent_of tree b ≡ Some p → first ≡ (span_at spans p).first + (share_at shares b).offset → IsPlaced tree shares spans b (record { parent = Some p; first = first; end = first + (share_at shares b).size })
   parent_placed b p first are within parent below = record {
     parent = sym parent;
     end = refl;
@@ -64,7 +64,7 @@ module _ (tree : List Node) (rooted : IsRooted tree) (shares : List Share) (shar
   }
 
   -- the place of the root
-  pub root_placed : (b : ℕ) → b < length tree → parent_of tree b ≡ None → IsPlaced tree shares places b (record { parent = None; first = 0; end = 0 + (share_at shares b).size })
+  pub root_placed : (b : ℕ) → b < length tree → parent_of tree b ≡ None → IsPlaced tree shares spans b (record { parent = None; first = 0; end = 0 + (share_at shares b).size })
   root_placed b within none = record {
     parent = sym none;
     end = refl;
@@ -73,7 +73,7 @@ module _ (tree : List Node) (rooted : IsRooted tree) (shares : List Share) (shar
   }
 
   -- the places of all affinities nest as their shares do
-  pub all_placed : ArePlacedBefore tree shares places (length tree) → ArePlaces tree places
+  pub all_placed : ArePlacedBefore tree shares spans (length tree) → AreSpans tree spans
   all_placed are = record {
     count = are.count;
     parents = λ b within. (are.each b within).parent;

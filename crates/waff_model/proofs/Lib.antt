@@ -1,7 +1,7 @@
 mod NodeEntries
 pub mod RefusalLemmas
 pub mod TreeLemmas
-mod PlaceLemmas
+mod PreorderLemmas
 mod ShareLemmas
 mod ArrangeLemmas
 pub mod LayoutLemmas

@@ -7,8 +7,8 @@ use Rattle.std.proofs.lemmas.List.Folds.{sum_by-replicate}
 use Rattle.std.proofs.Math.Seq.{take-set-lt}
 use Rattle.std.specs.List.{sum_by}
 use Rattle.waff_model.specs.Tree.{Node, parent_of, IsRooted}
-use Rattle.waff_model.specs.declared.places.Share.{Share}
-use Rattle.waff_model.specs.Places.{leaf, share_at, AreShares}
+use Rattle.waff_model.specs.declared.preorder.Share.{Share}
+use Rattle.waff_model.specs.Preorder.{leaf, share_at, AreShares}
 
 -- the sizes of the affinities before k that are not yet part of another's
 abbrev pub sizes_before : List Share → ℕ → ℕ

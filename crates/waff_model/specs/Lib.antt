@@ -4,7 +4,7 @@ pub mod Refusals
 pub mod Tree
 pub mod TreeRefusal
 pub mod Nodes
-pub mod Places
+pub mod Preorder
 pub mod Cells
 pub mod Layout
 pub mod LayoutOf

@@ -1,8 +1,9 @@
 //! Trees of affinities, layouts of cells, and traces of messages.
 //!
 //! What all other crates speak of, with its limits; nothing is read, planned or run here.
-//! - `tree`, over `nodes` (found by number and by name) and `places` (in preorder): affinities,
-//!   each below its parent. `spans`: tables by those places, for the crates that plan and order.
+//! - `tree`, over `nodes` (found by number and by name) and `preorder` (the span of places of
+//!   each, with those below it): affinities, each below its parent. `spans`: tables by those places,
+//!   for the crates that plan and order.
 //! - `layout`, over `layout_rows` (what it is made of, and why that is refused) and `space`: which
 //!   affinity owns each cell; `parcels`: where a cell stands among the cells of its owner.
 //! - `trace`, `message`, `op`, `ops` over `packed_op`: messages with their costs, releases (in
@@ -28,7 +29,7 @@ mod op;
 mod ops;
 mod packed_op;
 mod parcels;
-mod places;
+mod preorder;
 mod space;
 pub mod spans;
 mod texts;
@@ -43,7 +44,7 @@ pub use message::{Message, Version};
 pub use name::{Text, is_name};
 pub use op::Op;
 pub use ops::Ops;
-pub use places::Place;
+pub use preorder::Span;
 pub use texts::Texts;
 pub use trace::Trace;
 pub use tree::{AffinityId, Tree, TreeBuilder, TreeError};

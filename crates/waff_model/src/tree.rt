@@ -4,13 +4,13 @@ ghost use Rattle.std.specs.Prelude.{◌≡◌, ◌+◌, ◌==◌, if◌then◌el
 ghost use Rattle.std.specs.Prelude.{option_map, unwrap_or, None, IsTrue, IfOk, IfErr, IfSome, OnOk};
 ghost use Rattle.std.specs.Prelude.{OnErr};
 ghost use Rattle.waff_model.specs.Tree.{parent_of, number_of, name_of, AtOrAbove, Excludes, IsTree};
-ghost use Rattle.waff_model.specs.Places.{AreNested};
+ghost use Rattle.waff_model.specs.Preorder.{AreNested};
 ghost use Rattle.waff_model.specs.TreeRefusal.{node_of, refusal_of};
 
 use crate::limits::MAX_AFFINITIES;
 use crate::name::is_name;
 use crate::nodes::Nodes;
-use crate::places::{Place, places_of};
+use crate::preorder::{Span, spans_of};
 use std::alloc::{AllocError, Global};
 use std::marker::Model;
 use thiserror::Error;
@@ -99,8 +99,8 @@ impl TreeBuilder {
             return Err(TreeError::NoRoot);
         }
         let TreeBuilder { nodes } = self;
-        let places = places_of(&nodes).map_err(|_| TreeError::Memory)?;
-        Ok(Tree { nodes, places })
+        let spans = spans_of(&nodes).map_err(|_| TreeError::Memory)?;
+        Ok(Tree { nodes, spans })
     }
 }
 
@@ -128,19 +128,19 @@ fn refusal(nodes: &Nodes, name: &str, parent: Option<u16>) -> Option<TreeError>
 #[derive(Drop)]
 pub struct Tree {
     nodes: Nodes,
-    places: Vec<Place>,
+    spans: Vec<Span>,
 }
 
 impl Model for Tree {
     ghost use Rattle.std.specs.Prelude.{List};
     ghost use Rattle.waff_model.specs.Tree.{Node, IsTree};
-    ghost use Rattle.waff_model.specs.Places.{ArePlaces};
+    ghost use Rattle.waff_model.specs.Preorder.{AreSpans};
 
     ghost Value = { List Node };
 
     ghost view = { λ t. t.nodes };
 
-    ghost invariant = { λ t. IsTree t.nodes × ArePlaces t.nodes t.places.items };
+    ghost invariant = { λ t. IsTree t.nodes × AreSpans t.nodes t.spans.items };
 }
 
 impl Tree {
@@ -167,7 +167,7 @@ impl Tree {
         requires { affinity.0 < length self.now }
         ensures { option_map (λ p. p.0) result ≡ parent_of self.now affinity.0 }
     {
-        self.places[affinity.0 as usize].parent.map(AffinityId)
+        self.spans[affinity.0 as usize].parent.map(AffinityId)
     }
 
     /// The name of the affinity.
@@ -196,15 +196,15 @@ impl Tree {
         ensures answer { IsTrue result ↔ AtOrAbove self.now above.0 below.0 }
         ensures tree { IsTree self.now }
     {
-        self.places[above.0 as usize].spans(&self.places[below.0 as usize])
+        self.spans[above.0 as usize].spans(&self.spans[below.0 as usize])
     }
 
-    /// The place of each affinity in preorder, by its number: the affinities at or below one stand
-    /// at the places from its `first` up to its `end`.
-    pub fn places(&self) -> &[Place]
+    /// The span of each affinity in preorder, by its number: the affinities at or below one stand at
+    /// the places from its `first` up to its `end`.
+    pub fn spans(&self) -> &[Span]
         ensures { AreNested self.now result.now }
     {
-        self.places.as_slice()
+        self.spans.as_slice()
     }
 
     /// Whether one of the two is at or above the other, so that their messages never run at the

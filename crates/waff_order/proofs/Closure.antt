@@ -4,7 +4,7 @@ use Rattle.std.specs.List.Sorted.{IsStrictlyIncreasing}
 use Rattle.std.proofs.lemmas.Bool.{cases_eq, cases_order}
 use Rattle.std.proofs.lemmas.List.Elements.{All-contains}
 use Rattle.waff_assign.specs.Order.{Path}
-use Rattle.waff_order.specs.Open.{IsOpen, AreTaken, IsLatest, chosen}
+use Rattle.waff_order.specs.Open.{IsOpen, AreTaken, IsLatestAbove, chosen}
 use Rattle.waff_order.proofs.NeedLemmas.{path_weaker, path_one, path_join}
 use Rattle.waff_order.proofs.Holding.{open_more, open_last}
 
@@ -53,7 +53,7 @@ module _ (Above : ℕ → ℕ → Type 0) where
 
   -- where message n + 1 is at or above all that are open, each need is taken
   pub length-chosen_all : (n : ℕ) (taken : List ℕ) (above : ℕ) → ((i : ℕ) → IsOpen Above n i → Above (n + 1) i)
-      → ((i : ℕ) → 1 ≤ i → i ≤ n → (o : ℕ) × IsOpen Above n o) → AreTaken Above n taken → IsLatest Above n (n + 1) above
+      → ((i : ℕ) → 1 ≤ i → i ≤ n → (o : ℕ) × IsOpen Above n o) → AreTaken Above n taken → IsLatestAbove Above n (n + 1) above
       → length (chosen taken above) ≤ length taken
   length-chosen_all n [] zero all some takes latest = omega arith
   length-chosen_all n [] (suc above) all some takes latest =
@@ -72,7 +72,7 @@ module _ (Above : ℕ → ℕ → Type 0) where
   chosen_rising n (one ∷ rest) above h = h.rising
 
   -- each chosen need is an earlier message that excludes message n + 1
-  pub chosen_excludes : (n : ℕ) (taken : List ℕ) (above i : ℕ) → AreTaken Above n taken → IsLatest Above n (n + 1) above
+  pub chosen_excludes : (n : ℕ) (taken : List ℕ) (above i : ℕ) → AreTaken Above n taken → IsLatestAbove Above n (n + 1) above
       → Contains (chosen taken above) i → (1 ≤ i) × (i ≤ n) × (Above i (n + 1) ⊎ Above (n + 1) i)
   chosen_excludes n taken above i h latest listed =
       ⊎_elim {C = (1 ≤ i) × (i ≤ n) × (Above i (n + 1) ⊎ Above (n + 1) i)}
@@ -109,7 +109,7 @@ module _ (Above : ℕ → ℕ → Type 0) (reflexive_above : (i : ℕ) → Above
   -- the needs of message n + 1 lead to it from each message before that excludes it, and it is open
   module _ (near more : ℕ → ℕ → Type 0) (n : ℕ) (taken : List ℕ) (above : ℕ) (weaker : (i j : ℕ) → near i j → more i j)
       (chosen_near : (i : ℕ) → Contains (chosen taken above) i → more i (n + 1)) (closed : IsClosed Above near n)
-      (takes : AreTaken Above n taken) (latest : IsLatest Above n (n + 1) above) where
+      (takes : AreTaken Above n taken) (latest : IsLatestAbove Above n (n + 1) above) where
     -- a message that leads to one with a path to n + 1 has a path to it
     through : (i o : ℕ) → (i ≡ o) ⊎ Path near i o → Path more o (n + 1) → Path more i (n + 1)
     through i o (inl same) path = subst (λ x. Path more x (n + 1)) (sym same) path

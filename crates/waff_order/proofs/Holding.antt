@@ -3,7 +3,7 @@ use Rattle.std.proofs.Common.{◌≡◌, ◌≢◌, ℕ, ◌+◌, ◌<◌, ◌�
 use Rattle.std.proofs.lemmas.Bool.{cases_eq, cases_lt}
 use Rattle.std.proofs.lemmas.List.{get_or-set_same, get_or-set_other}
 use Rattle.std.proofs.lemmas.List.Elements.{Contains-get_or}
-use Rattle.waff_order.specs.Open.{IsOpen, AreTaken, IsLatest}
+use Rattle.waff_order.specs.Open.{IsOpen, AreTaken, IsLatestAbove}
 use Rattle.waff_model.specs.Later.{IsNoted, by_number}
 use Rattle.waff_model.proofs.TakeLemmas.{none_at}
 use Rattle.waff_order.specs.Runs.{AreGathered}
@@ -15,7 +15,7 @@ pub record AreHeld (Above : ℕ → ℕ → Type 0) (first : ℕ → ℕ) (n : �
 
 -- at the place of each message the latest before that is at or above it is noted
 abbrev pub AreLatest : (ℕ → ℕ → Type 0) → (ℕ → ℕ) → ℕ → ℕ → (ℕ → ℕ) → Type 0
-AreLatest Above first count n at = (m : ℕ) → 1 ≤ m → m ≤ count → IsLatest Above n m (at (first m))
+AreLatest Above first count n at = (m : ℕ) → 1 ≤ m → m ≤ count → IsLatestAbove Above n m (at (first m))
 
 module _ (Above : ℕ → ℕ → Type 0) where
   pub open_more : (n i : ℕ) → IsOpen Above n i → ¬ Above (n + 1) i → IsOpen Above (n + 1) i
@@ -40,7 +40,7 @@ module _ (Above : ℕ → ℕ → Type 0) where
         h.free (n + 1) (omega arith) (omega arith),
       )
 
-  latest_more : (n m above : ℕ) → ¬ Above (n + 1) m → IsLatest Above n m above → IsLatest Above (n + 1) m above
+  latest_more : (n m above : ℕ) → ¬ Above (n + 1) m → IsLatestAbove Above n m above → IsLatestAbove Above (n + 1) m above
   latest_more n m above apart h = record {
     some = λ some. let there = h.some some in let before : above ≤ n = there.0 in (omega arith, there.1);
     latest = λ i from to is. elim (cases_eq i (n + 1)) [
@@ -49,7 +49,7 @@ module _ (Above : ℕ → ℕ → Type 0) where
     ];
   }
 
-  latest_last : (n m : ℕ) → Above (n + 1) m → IsLatest Above (n + 1) m (n + 1)
+  latest_last : (n m : ℕ) → Above (n + 1) m → IsLatestAbove Above (n + 1) m (n + 1)
   latest_last n m is = record { some = λ some. (omega arith, is); latest = λ i from to above. omega arith }
 
   pub held_none : (first : ℕ → ℕ) (size : ℕ) → AreHeld Above first 0 (replicate size 0)
@@ -173,7 +173,7 @@ module _ (Above : ℕ → ℕ → Type 0) where
         let above = get_or old (first m) 0 in
         elim (cases_lt (first m) (first (n + 1))) [
           | inl early ↦
-              subst (λ x. IsLatest Above (n + 1) m x) (sym (notes.before (first m) early))
+              subst (λ x. IsLatestAbove Above (n + 1) m x) (sym (notes.before (first m) early))
               (latest_more n m above (λ is. let low : first (n + 1) ≤ first m = (law.1 is).0 in omega arith) before)
           | inr low ↦ elim (cases_lt (first m) (end (n + 1))) [
             | inl high ↦
@@ -182,9 +182,9 @@ module _ (Above : ℕ → ℕ → Type 0) where
                   | inr none ↦ omega arith
                 ] in
                 let larger : max above (n + 1) ≡ n + 1 = omega arith in
-                subst (λ x. IsLatest Above (n + 1) m x) (sym (notes.noted (first m) low high ∙ larger)) (latest_last n m (law.0 (low, high)))
+                subst (λ x. IsLatestAbove Above (n + 1) m x) (sym (notes.noted (first m) low high ∙ larger)) (latest_last n m (law.0 (low, high)))
             | inr past ↦
-                subst (λ x. IsLatest Above (n + 1) m x) (sym (notes.after (first m) past))
+                subst (λ x. IsLatestAbove Above (n + 1) m x) (sym (notes.after (first m) past))
                 (latest_more n m above (λ is. let high : first m < end (n + 1) = (law.1 is).1 in omega arith) before)
           ]
         ]

@@ -2,90 +2,90 @@
 use Rattle.std.proofs.Common.{◌≡◌, ℕ, ◌+◌, ◌-◌, ◌*◌, ◌<◌, ◌≤◌, ◌↔◌, List, All, [], ◌∷◌, ◌++◌, length, get_or, set, replicate, arith, refl, ◌∙◌}
 use Rattle.std.proofs.lemmas.List.{length-append, length-set, length-replicate}
 use Rattle.waff_model.specs.Tree.{Node, IsTree}
-use Rattle.waff_model.specs.Places.{place_at, AreNested}
+use Rattle.waff_model.specs.Preorder.{span_at, AreNested}
 use Rattle.waff_model.specs.Later.{IsNoted, by_number}
 use Rattle.waff_model.specs.Taken.{held}
-use Rattle.waff_model.specs.declared.places.Place.{Place}
+use Rattle.waff_model.specs.declared.preorder.Span.{Span}
 use Rattle.waff_model.proofs.TakeLemmas.{held-put, held-none, none_at}
 use Rattle.waff_assign.specs.Order.{affinity_of}
 use Rattle.waff_order.specs.Needs.{IsWithinDepth}
 use Rattle.waff_order.specs.Cuts.{parts, AreCuts}
-use Rattle.waff_order.specs.Open.{IsAbove, AreTaken, IsLatest, chosen}
+use Rattle.waff_order.specs.Open.{IsAbove, AreTaken, IsLatestAbove, chosen}
 use Rattle.waff_order.specs.Runs.{AreGathered}
 use Rattle.waff_order.proofs.Parts.{parts_push, cuts_push}
 use Rattle.waff_order.proofs.Holding.{AreHeld, AreLatest, held_none, latest_none, taken, held_more, latest_next}
 use Rattle.waff_order.proofs.Closure.{length-chosen, length-chosen_all}
 use Rattle.waff_order.proofs.UpTo.{AreNeedsUpTo, up_to_none, up_to_more, all_above}
 
--- the place of the affinity of message i
-abbrev pub message_place : List Place → List ℕ → ℕ → Place
-message_place places assigned i = place_at places (affinity_of assigned i)
+-- the span of the affinity of message i
+abbrev pub message_span : List Span → List ℕ → ℕ → Span
+message_span spans assigned i = span_at spans (affinity_of assigned i)
 
-abbrev pub first_of : List Place → List ℕ → ℕ → ℕ
-first_of places assigned i = (message_place places assigned i).first
+abbrev pub first_of : List Span → List ℕ → ℕ → ℕ
+first_of spans assigned i = (message_span spans assigned i).first
 
-abbrev pub end_of : List Place → List ℕ → ℕ → ℕ
-end_of places assigned i = (message_place places assigned i).end
+abbrev pub end_of : List Span → List ℕ → ℕ → ℕ
+end_of spans assigned i = (message_span spans assigned i).end
 
 -- what is known after n messages
-pub record IsReached (tree : List Node) (assigned : List ℕ) (places : List Place) (all ends messages noted : List ℕ) (n : ℕ) : Type 0 where
+pub record IsReached (tree : List Node) (assigned : List ℕ) (spans : List Span) (all ends messages noted : List ℕ) (n : ℕ) : Type 0 where
   pub cuts : AreCuts all 0 ends
   pub needs : AreNeedsUpTo tree assigned (parts all 0 ends) n
   pub count : length messages ≡ length tree
-  pub holds : AreHeld (IsAbove tree assigned) (first_of places assigned) n messages
+  pub holds : AreHeld (IsAbove tree assigned) (first_of spans assigned) n messages
   pub noted_count : length noted ≡ length tree
-  pub latest : AreLatest (IsAbove tree assigned) (first_of places assigned) (length assigned) n (λ p. get_or noted p 0)
+  pub latest : AreLatest (IsAbove tree assigned) (first_of spans assigned) (length assigned) n (λ p. get_or noted p 0)
   pub total : length all + held messages ≤ 2 * n
   pub flat : IsWithinDepth tree 0 → length all + held messages ≤ n
 
-module _ (tree : List Node) (assigned : List ℕ) (places : List Place) (is_tree : IsTree tree) (nested : AreNested tree places)
+module _ (tree : List Node) (assigned : List ℕ) (spans : List Span) (is_tree : IsTree tree) (nested : AreNested tree spans)
     (known : All (λ a. a < length tree) assigned) where
   pub known_affinity : (i : ℕ) → 1 ≤ i → i ≤ length assigned → affinity_of assigned i < length tree
   known_affinity i from to = known (i - 1) 0 (omega arith)
 
-  spans : (i j : ℕ) → 1 ≤ i → i ≤ length assigned → 1 ≤ j → j ≤ length assigned
-      → ((first_of places assigned i ≤ first_of places assigned j) × (first_of places assigned j < end_of places assigned i)) ↔ IsAbove tree assigned i j
-  spans i j i_from i_to j_from j_to =
-      nested.spans (affinity_of assigned i) (affinity_of assigned j) (known_affinity i i_from i_to) (known_affinity j j_from j_to)
+  covers : (i j : ℕ) → 1 ≤ i → i ≤ length assigned → 1 ≤ j → j ≤ length assigned
+      → ((first_of spans assigned i ≤ first_of spans assigned j) × (first_of spans assigned j < end_of spans assigned i)) ↔ IsAbove tree assigned i j
+  covers i j i_from i_to j_from j_to =
+      nested.tells (affinity_of assigned i) (affinity_of assigned j) (known_affinity i i_from i_to) (known_affinity j j_from j_to)
 
-  filled : (i : ℕ) → 1 ≤ i → i ≤ length assigned → first_of places assigned i < end_of places assigned i
+  filled : (i : ℕ) → 1 ≤ i → i ≤ length assigned → first_of spans assigned i < end_of spans assigned i
   filled i from to = nested.filled (affinity_of assigned i) (known_affinity i from to)
 
-  pub reached_none : IsReached tree assigned places [] [] (replicate (length tree) 0) (replicate (length tree) 0) 0
+  pub reached_none : IsReached tree assigned spans [] [] (replicate (length tree) 0) (replicate (length tree) 0) 0
   reached_none =
       let none = held-none (length tree) in
       record {
         cuts = refl;
         needs = up_to_none tree assigned;
         count = length-replicate (length tree) 0;
-        holds = held_none (IsAbove tree assigned) (first_of places assigned) (length tree);
+        holds = held_none (IsAbove tree assigned) (first_of spans assigned) (length tree);
         noted_count = length-replicate (length tree) 0;
-        latest = latest_none (IsAbove tree assigned) (first_of places assigned) (length assigned) (λ p. get_or (replicate (length tree) 0) p 0)
+        latest = latest_none (IsAbove tree assigned) (first_of spans assigned) (length assigned) (λ p. get_or (replicate (length tree) 0) p 0)
             (λ p. none_at (length tree) p);
         total = omega (arith, none);
         flat = λ depth. omega (arith, none);
       }
 
   module _ (all ends messages noted : List ℕ) (n : ℕ) (room : n + 1 ≤ length assigned)
-      (h : IsReached tree assigned places all ends messages noted n) (left gathered : List ℕ)
-      (gathers : AreGathered (first_of places assigned (n + 1)) (end_of places assigned (n + 1)) messages left gathered) where
+      (h : IsReached tree assigned spans all ends messages noted n) (left gathered : List ℕ)
+      (gathers : AreGathered (first_of spans assigned (n + 1)) (end_of spans assigned (n + 1)) messages left gathered) where
     abbrev pub above : ℕ
-    above = get_or noted (first_of places assigned (n + 1)) 0
+    above = get_or noted (first_of spans assigned (n + 1)) 0
 
     takes : AreTaken (IsAbove tree assigned) n gathered
-    takes = taken (IsAbove tree assigned) (first_of places assigned) (end_of places assigned) (length assigned) spans filled n room messages left gathered h.holds gathers
+    takes = taken (IsAbove tree assigned) (first_of spans assigned) (end_of spans assigned) (length assigned) covers filled n room messages left gathered h.holds gathers
 
-    is_latest : IsLatest (IsAbove tree assigned) n (n + 1) above
+    is_latest : IsLatestAbove (IsAbove tree assigned) n (n + 1) above
     is_latest = h.latest (n + 1) (omega arith) room
 
     -- the needs of one message more
-    pub needs_count : length all + length (chosen gathered above) + held (set left (first_of places assigned (n + 1)) (n + 1)) ≤ 2 * (n + 1)
+    pub needs_count : length all + length (chosen gathered above) + held (set left (first_of spans assigned (n + 1)) (n + 1)) ≤ 2 * (n + 1)
     needs_count =
         let few = length-chosen (IsAbove tree assigned) gathered above in
-        let put = held-put left (first_of places assigned (n + 1)) (n + 1) in
+        let put = held-put left (first_of spans assigned (n + 1)) (n + 1) in
         omega (arith, few, put, gathers.sum, h.total)
 
-    flat_count : IsWithinDepth tree 0 → length all + length (chosen gathered above) + held (set left (first_of places assigned (n + 1)) (n + 1)) ≤ n + 1
+    flat_count : IsWithinDepth tree 0 → length all + length (chosen gathered above) + held (set left (first_of spans assigned (n + 1)) (n + 1)) ≤ n + 1
     flat_count depth =
         let few = length-chosen_all (IsAbove tree assigned) n gathered above
         (λ i is_open.
@@ -94,28 +94,28 @@ module _ (tree : List Node) (assigned : List ℕ) (places : List Place) (is_tree
         all_above tree assigned is_tree depth known (n + 1) i (omega arith) room from (omega arith))
         (λ i from to. let lead = h.needs.closed.leads i from to in (lead.0, lead.1))
         takes is_latest in
-        let put = held-put left (first_of places assigned (n + 1)) (n + 1) in
+        let put = held-put left (first_of spans assigned (n + 1)) (n + 1) in
         omega (arith, few, put, gathers.sum, h.flat depth)
 
     pub reached_more : (new_noted : List ℕ)
-        → IsNoted by_number (first_of places assigned (n + 1)) (end_of places assigned (n + 1)) (n + 1) noted new_noted
-        → IsReached tree assigned places (all ++ chosen gathered above) (ends ++ length (all ++ chosen gathered above) ∷ [])
-        (set left (first_of places assigned (n + 1)) (n + 1)) new_noted (n + 1)
+        → IsNoted by_number (first_of spans assigned (n + 1)) (end_of spans assigned (n + 1)) (n + 1) noted new_noted
+        → IsReached tree assigned spans (all ++ chosen gathered above) (ends ++ length (all ++ chosen gathered above) ∷ [])
+        (set left (first_of spans assigned (n + 1)) (n + 1)) new_noted (n + 1)
     reached_more new_noted notes =
         let more = chosen gathered above in
-        let at = first_of places assigned (n + 1) in
+        let at = first_of spans assigned (n + 1) in
         let within : affinity_of assigned (n + 1) < length tree = known_affinity (n + 1) (omega arith) room in
-        let short : end_of places assigned (n + 1) ≤ length tree = nested.few (affinity_of assigned (n + 1)) within in
-        let full : at < end_of places assigned (n + 1) = filled (n + 1) (omega arith) room in
+        let short : end_of spans assigned (n + 1) ≤ length tree = nested.few (affinity_of assigned (n + 1)) within in
+        let full : at < end_of spans assigned (n + 1) = filled (n + 1) (omega arith) room in
         let long : length (all ++ more) ≡ length all + length more = length-append all more in
         record {
           cuts = cuts_push all more 0 ends h.cuts;
           needs = rw (parts_push all more 0 ends h.cuts) (up_to_more tree assigned (parts all 0 ends) gathered above n room h.needs takes is_latest);
           count = length-set left at (n + 1) ∙ gathers.clears.count ∙ h.count;
-          holds = held_more (IsAbove tree assigned) (first_of places assigned) (end_of places assigned) (length assigned) spans filled n room messages left gathered
+          holds = held_more (IsAbove tree assigned) (first_of spans assigned) (end_of spans assigned) (length assigned) covers filled n room messages left gathered
               (omega (arith, h.count)) h.holds gathers;
           noted_count = notes.count ∙ h.noted_count;
-          latest = latest_next (IsAbove tree assigned) (first_of places assigned) (end_of places assigned) (length assigned) spans filled n room noted new_noted
+          latest = latest_next (IsAbove tree assigned) (first_of spans assigned) (end_of spans assigned) (length assigned) covers filled n room noted new_noted
               h.latest notes;
           total = let bound = needs_count in omega (arith, bound, long);
           flat = λ depth. let bound = flat_count depth in omega (arith, bound, long);

@@ -10,7 +10,7 @@ use Rattle.waff_model.specs.declared.limits.TheConstants.{MAX_MESSAGES}
 use Rattle.waff_model.proofs.TreeLemmas.{reflexive, transitive, comparable}
 use Rattle.waff_assign.specs.Order.{IsOrdered, affinity_of}
 use Rattle.waff_order.specs.Needs.{IsNeed, AreLists, AreNeeds, IsWithinDepth}
-use Rattle.waff_order.specs.Open.{IsAbove, AreTaken, IsLatest, chosen}
+use Rattle.waff_order.specs.Open.{IsAbove, AreTaken, IsLatestAbove, chosen}
 use Rattle.waff_order.proofs.NeedLemmas.{need_kept, need_new, need_cases, need_within}
 use Rattle.waff_order.proofs.Closure.{IsClosed, closed_none, closed_more, chosen_rising, chosen_excludes}
 
@@ -40,7 +40,7 @@ module _ (tree : List Node) (assigned : List ℕ) where
   }
 
   pub up_to_more : (needs : List (List ℕ)) (taken : List ℕ) (above n : ℕ) → n + 1 ≤ length assigned
-      → AreNeedsUpTo tree assigned needs n → AreTaken (IsAbove tree assigned) n taken → IsLatest (IsAbove tree assigned) n (n + 1) above
+      → AreNeedsUpTo tree assigned needs n → AreTaken (IsAbove tree assigned) n taken → IsLatestAbove (IsAbove tree assigned) n (n + 1) above
       → AreNeedsUpTo tree assigned (needs ++ chosen taken above ∷ []) (n + 1)
   up_to_more needs taken above n room h takes latest =
       let more = chosen taken above in

@@ -23,7 +23,7 @@ pub record AreTaken (Above : Relation) (n : ℕ) (taken : List ℕ) : Type 0 whe
   pub rising : IsStrictlyIncreasing taken
 
 -- the latest of the first n messages that is at or above message m, 0 where there is none
-pub record IsLatest (Above : Relation) (n m above : ℕ) : Type 0 where
+pub record IsLatestAbove (Above : Relation) (n m above : ℕ) : Type 0 where
   pub some : 0 < above → (above ≤ n) × Above above m
   pub latest : (i : ℕ) → 1 ≤ i → i ≤ n → Above i m → i ≤ above
 

@@ -3,7 +3,7 @@
 //! The needs of a message are earlier messages that exclude it, chosen so that the paths through
 //! them lead to all earlier messages that exclude it: whoever waits for the needs waits for all,
 //! and there are few of them.
-//! - `predecessors`: the needs, found with tables by the places of affinities in preorder; `lists`:
+//! - `predecessors`: the needs, found with tables by the spans of affinities in preorder; `lists`:
 //!   lists of lists, as needs are.
 //! - `refinement`: whether all pairs that one hierarchy orders are ordered by another one, with
 //!   `lowests`.

@@ -10,7 +10,7 @@ use crate::lists::{Lists, Needs};
 use std::alloc::{AllocError, Global};
 use waff_assign::Assigned;
 use waff_model::spans::{Opened, Spread};
-use waff_model::{Place, Tree};
+use waff_model::{Span, Tree};
 
 /// The needs of each message: earlier messages that exclude it, so many that every other such
 /// message is led to it by a path through needs.
@@ -22,18 +22,18 @@ pub fn needs(alloc: Global, tree: &Tree, assigned: &Assigned) -> Result<Needs, A
     ensures twice { IfOk result (λ needs. sum_by length needs ≤ 2 * length assigned.now) }
 {
     let count = tree.len() as usize;
-    let places = tree.places();
+    let spans = tree.spans();
     let mut opened = Opened::none(alloc, count)?;
     let mut latest: Spread<u32> = Spread::none(alloc, count)?;
     let mut all = Vec::new(alloc);
     let mut ends = Vec::with_capacity(alloc, assigned.len() as usize)?;
     let mut needs = Vec::new(alloc);
     for m in 1..assigned.len() + 1 {
-        let place = places[assigned.of(m).0 as usize];
+        let span = spans[assigned.of(m).0 as usize];
         needs.clear();
-        take_needs(&mut opened, &latest, place, &mut needs)?;
-        opened.put(place.first as usize, m);
-        latest.note(place.first as usize, place.end as usize, m);
+        take_needs(&mut opened, &latest, span, &mut needs)?;
+        opened.put(span.first as usize, m);
+        latest.note(span.first as usize, span.end as usize, m);
         all.extend_from_slice(needs.as_slice())?;
         ends.push(all.len() as u32)?;
     }
@@ -44,21 +44,21 @@ pub fn needs(alloc: Global, tree: &Tree, assigned: &Assigned) -> Result<Needs, A
 fn take_needs(
     opened: &mut Opened,
     latest: &Spread<u32>,
-    place: Place,
+    span: Span,
     needs: &mut Vec<u32>,
 ) -> Result<(), AllocError>
-    requires forward { place.first < place.end }
-    requires within { place.end ≤ length opened.old }
-    requires noted { place.end ≤ length latest.now }
+    requires forward { span.first < span.end }
+    requires within { span.end ≤ length opened.old }
+    requires noted { span.end ≤ length latest.now }
     requires empty { needs.old.items ≡ [] }
     ensures { OnOk result ((gathered : List ℕ)
-        × AreGathered place.first place.end opened.old opened.new gathered
-        × (needs.new.items ≡ chosen gathered (slice_index latest.now place.first))) }
+        × AreGathered span.first span.end opened.old opened.new gathered
+        × (needs.new.items ≡ chosen gathered (slice_index latest.now span.first))) }
 {
-    opened.take(place.first as usize, place.end as usize, needs)?;
+    opened.take(span.first as usize, span.end as usize, needs)?;
     needs.sort_unstable();
     needs.dedup();
-    let above = latest.at(place.first as usize);
+    let above = latest.at(span.first as usize);
     if needs.is_empty() && above > 0 {
         needs.push(above)?;
     }

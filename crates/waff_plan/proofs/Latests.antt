@@ -2,7 +2,7 @@
 use Rattle.std.proofs.Common.{◌≡◌, ◌≢◌, ◌⊎◌, ℕ, ◌+◌, ◌<◌, ◌≤◌, true, false, Option, Some, None, arith, sym, ◌∙◌, ap, subst, inl, inr, ⊎_elim}
 use Rattle.std.proofs.lemmas.Bool.{cond_both, cases_eq}
 use Rattle.std.proofs.lemmas.Bool.Decides.{nat_tests}
-use Rattle.waff_plan.specs.Work.{IsMessage}
+use Rattle.waff_plan.specs.Work.{IsAmongFirst}
 use Rattle.waff_plan.specs.Latest.{is_later, later_of, IsFound}
 use Rattle.waff_plan.specs.declared.latest.Latest.{Latest}
 
@@ -116,36 +116,36 @@ found_one finish message n number is = record {
 
 -- one more message of which P holds
 pub found_noted : (P : ℕ → Type 0) (finish : ℕ → ℕ) (n : ℕ) (latest : Option Latest) (message : Latest) → message.number ≡ n + 1
-    → finish (n + 1) ≡ message.finish → P (n + 1) → IsFound (λ i. IsMessage n i × P i) finish latest
-    → IsFound (λ i. IsMessage (n + 1) i × P i) finish (later_of latest (Some message))
+    → finish (n + 1) ≡ message.finish → P (n + 1) → IsFound (λ i. IsAmongFirst n i × P i) finish latest
+    → IsFound (λ i. IsAmongFirst (n + 1) i × P i) finish (later_of latest (Some message))
 found_noted P finish n latest message number is holds h =
-    found_same (λ i. (IsMessage n i × P i) ⊎ (i ≡ n + 1)) (λ i. IsMessage (n + 1) i × P i) finish (later_of latest (Some message))
+    found_same (λ i. (IsAmongFirst n i × P i) ⊎ (i ≡ n + 1)) (λ i. IsAmongFirst (n + 1) i × P i) finish (later_of latest (Some message))
     (λ i either.
-    ⊎_elim {C = IsMessage (n + 1) i × P i}
-    (λ (old : IsMessage n i × P i).
+    ⊎_elim {C = IsAmongFirst (n + 1) i × P i}
+    (λ (old : IsAmongFirst n i × P i).
     let from : 1 ≤ i = old.0.from in let to : i ≤ n = old.0.to in
     (record { from = from; to = omega arith }, old.1))
     (λ (last : i ≡ n + 1). (record { from = omega arith; to = omega arith }, subst P (sym last) holds))
     either)
     (λ i new.
     let from : 1 ≤ i = new.0.from in let to : i ≤ n + 1 = new.0.to in
-    ⊎_elim {C = (IsMessage n i × P i) ⊎ (i ≡ n + 1)}
+    ⊎_elim {C = (IsAmongFirst n i × P i) ⊎ (i ≡ n + 1)}
     (λ (last : i ≡ n + 1). inr last)
     (λ (other : i ≢ n + 1). inl (record { from = from; to = omega arith }, new.1))
     (cases_eq i (n + 1)))
-    (found_either (λ i. IsMessage n i × P i) (λ i. i ≡ n + 1) finish latest (Some message) h (found_one finish message (n + 1) number is))
+    (found_either (λ i. IsAmongFirst n i × P i) (λ i. i ≡ n + 1) finish latest (Some message) h (found_one finish message (n + 1) number is))
 
 -- one more message of which P does not hold
 pub found_passed : (P : ℕ → Type 0) (finish : ℕ → ℕ) (n : ℕ) (latest : Option Latest) → (P (n + 1) → ⊥)
-    → IsFound (λ i. IsMessage n i × P i) finish latest → IsFound (λ i. IsMessage (n + 1) i × P i) finish latest
+    → IsFound (λ i. IsAmongFirst n i × P i) finish latest → IsFound (λ i. IsAmongFirst (n + 1) i × P i) finish latest
 found_passed P finish n latest fails h =
-    found_same (λ i. IsMessage n i × P i) (λ i. IsMessage (n + 1) i × P i) finish latest
+    found_same (λ i. IsAmongFirst n i × P i) (λ i. IsAmongFirst (n + 1) i × P i) finish latest
     (λ i old.
     let from : 1 ≤ i = old.0.from in let to : i ≤ n = old.0.to in
     (record { from = from; to = omega arith }, old.1))
     (λ i new.
     let from : 1 ≤ i = new.0.from in let to : i ≤ n + 1 = new.0.to in
-    ⊎_elim {C = IsMessage n i × P i}
+    ⊎_elim {C = IsAmongFirst n i × P i}
     (λ (last : i ≡ n + 1). absurd (fails (subst P last new.1)))
     (λ (other : i ≢ n + 1). (record { from = from; to = omega arith }, new.1))
     (cases_eq i (n + 1)))

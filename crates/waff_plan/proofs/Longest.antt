@@ -13,10 +13,10 @@ finish_of-le-length_of work start m h =
     let to : m ≤ work.count = h.to in
     let below : m - 1 < work.count = omega arith in
     let finishes = map (finish_of work start) (numbers work) in
-    let place : m - 1 < length finishes = subst (λ n. m - 1 < n) (sym (length-map-range_with_len (finish_of work start) 1 work.count)) below in
+    let span : m - 1 < length finishes = subst (λ n. m - 1 < n) (sym (length-map-range_with_len (finish_of work start) 1 work.count)) below in
     let at : get_or finishes (m - 1) 0 ≡ finish_of work start m
     = get_or-map-range_with_len (finish_of work start) 1 work.count (m - 1) m 0 below (omega arith) in
-    subst (λ n. n ≤ length_of work start) at (max_bounds greatest (λ x. x) refl (λ _ _. refl) finishes (m - 1) 0 place)
+    subst (λ n. n ≤ length_of work start) at (max_bounds greatest (λ x. x) refl (λ _ _. refl) finishes (m - 1) 0 span)
 
 -- a bound on each finish bounds the length
 pub length_of-le : (work : Work) (start : ℕ → ℕ) (bound : ℕ) → ((m : ℕ) → IsNumber work m → finish_of work start m ≤ bound) → length_of work start ≤ bound

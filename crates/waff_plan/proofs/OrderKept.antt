@@ -2,8 +2,8 @@
 use Rattle.std.proofs.Common.{◌≡◌, ◌≢◌, ℕ, ◌+◌, ◌-◌, ◌<◌, ◌≤◌, min, List, length, Option, Some, None, IfSome, All, arith, sym, subst, ⊎_elim}
 use Rattle.std.proofs.lemmas.Bool.{cases_eq}
 use Rattle.waff_model.specs.Tree.{Node}
-use Rattle.waff_model.specs.Places.{place_at, AreNested}
-use Rattle.waff_model.specs.declared.places.Place.{Place}
+use Rattle.waff_model.specs.Preorder.{span_at, AreNested}
+use Rattle.waff_model.specs.declared.preorder.Span.{Span}
 use Rattle.waff_assign.specs.Order.{affinity_of, IsOrdered}
 use Rattle.waff_plan.specs.Work.{Work, finish_of}
 use Rattle.waff_plan.specs.Obeys.{IsAmong, KeepsOrder}
@@ -16,17 +16,17 @@ abbrev pub noted_before : ℕ → ℕ → ℕ
 noted_before count m = min (m - 1) count
 
 -- the latest of the first n messages that message m waits for
-pub found_among : (tree : List Node) (places : List Place) (assigned : List ℕ) (finish : ℕ → ℕ) (n m a : ℕ) (table : LatestTable) (latest : Option Latest)
-    → AreNested tree places → All (λ a. a < length tree) assigned → n < m → m ≤ length assigned
-    → a ≡ affinity_of assigned m → IsTable places assigned finish n table
-    → ((others : List Place) (assigned : List ℕ) (finish : ℕ → ℕ) (n : ℕ) → IsTable others assigned finish n table
-    → IsLatestMeeting others assigned finish n (place_at places a) latest)
+pub found_among : (tree : List Node) (spans : List Span) (assigned : List ℕ) (finish : ℕ → ℕ) (n m a : ℕ) (table : LatestTable) (latest : Option Latest)
+    → AreNested tree spans → All (λ a. a < length tree) assigned → n < m → m ≤ length assigned
+    → a ≡ affinity_of assigned m → IsTable spans assigned finish n table
+    → ((others : List Span) (assigned : List ℕ) (finish : ℕ → ℕ) (n : ℕ) → IsTable others assigned finish n table
+    → IsLatestMeeting others assigned finish n (span_at spans a) latest)
     → IsLatestExcluding tree assigned finish n (affinity_of assigned m) latest
-found_among tree places assigned finish n m a table latest nested known lt to is h answer =
+found_among tree spans assigned finish n m a table latest nested known lt to is h answer =
     let within : affinity_of assigned m < length tree = known (m - 1) 0 (omega arith) in
     let up : n + 1 - 1 ≡ n = omega arith in
-    let meeting = subst (λ x. IsLatestMeeting places assigned finish x (place_at places a) latest) (sym up) (answer places assigned finish n h) in
-    let found = meeting_excludes tree places assigned finish (n + 1) a latest nested known (omega arith) (subst (λ x. x < length tree) (sym is) within) meeting in
+    let meeting = subst (λ x. IsLatestMeeting spans assigned finish x (span_at spans a) latest) (sym up) (answer spans assigned finish n h) in
+    let found = meeting_excludes tree spans assigned finish (n + 1) a latest nested known (omega arith) (subst (λ x. x < length tree) (sym is) within) meeting in
     subst (λ x. IsLatestExcluding tree assigned finish n x latest) is (subst (λ x. IsLatestExcluding tree assigned finish x a latest) up found)
 
 module _ (tree : List Node) (assigned : List ℕ) (work : Work) (start : ℕ → ℕ) (count : ℕ) where

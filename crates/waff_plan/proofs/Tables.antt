@@ -4,35 +4,35 @@ use Rattle.std.specs.Prelude.{slice_range}
 use Rattle.std.proofs.lemmas.Bool.{cases_eq, cases_lt}
 use Rattle.std.proofs.lemmas.List.{get_or-set_same, get_or-set_other, get_or_past, get_or-replicate, get_or-take, get_or-drop, length-replicate, length-take-le, length-drop}
 use Rattle.waff_model.specs.Tree.{Node, Excludes}
-use Rattle.waff_model.specs.Places.{place_at, Spans, AreNested}
+use Rattle.waff_model.specs.Preorder.{span_at, Spans, AreNested}
 use Rattle.waff_model.specs.Later.{IsNoted, latest_of, latest_in}
-use Rattle.waff_model.specs.declared.places.Place.{Place}
+use Rattle.waff_model.specs.declared.preorder.Span.{Span}
 use Rattle.waff_assign.specs.Order.{affinity_of}
-use Rattle.waff_plan.specs.Work.{IsMessage}
+use Rattle.waff_plan.specs.Work.{IsAmongFirst}
 use Rattle.waff_plan.specs.Latest.{later_of, latest_order, IsFound}
-use Rattle.waff_plan.specs.Table.{IsLatestAt, AreStanding, LatestTable, IsTable, message_place, AreOver, IsLast, IsLatestMeeting, IsLatestExcluding}
+use Rattle.waff_plan.specs.Table.{IsLatestAt, AreStanding, LatestTable, IsTable, message_span, AreOver, IsLast, IsLatestMeeting, IsLatestExcluding}
 use Rattle.waff_plan.specs.declared.last.Placed.{Placed}
 use Rattle.waff_plan.specs.declared.latest.Latest.{Latest}
 use Rattle.waff_plan.proofs.Latests.{found_same, found_either, found_noted, found_passed}
 
 -- none of the first 0 messages is found
-pub found_none : (P : ℕ → Type 0) (finish : ℕ → ℕ) (latest : Option Latest) → latest ≡ None → IsFound (λ i. IsMessage 0 i × P i) finish latest
+pub found_none : (P : ℕ → Type 0) (finish : ℕ → ℕ) (latest : Option Latest) → latest ≡ None → IsFound (λ i. IsAmongFirst 0 i × P i) finish latest
 found_none P finish latest none =
-    subst (λ x. IsFound (λ i. IsMessage 0 i × P i) finish x) (sym none)
+    subst (λ x. IsFound (λ i. IsAmongFirst 0 i × P i) finish x) (sym none)
     (λ i h. let from : 1 ≤ i = h.0.from in let to : i ≤ 0 = h.0.to in absurd (omega arith))
 
 -- the table of no message
-pub table_none : (places : List Place) (assigned : List ℕ) (finish : ℕ → ℕ) (count : ℕ) (table : LatestTable)
-    → table.own ≡ replicate count None → table.over ≡ replicate count None → table.last ≡ None → IsTable places assigned finish 0 table
-table_none places assigned finish count table own over last = record {
-  own = λ p. found_none (λ i. (message_place places assigned i).first ≡ p) finish (get_or table.own p None) (ap (λ xs. get_or xs p None) own ∙ none_at p);
+pub table_none : (spans : List Span) (assigned : List ℕ) (finish : ℕ → ℕ) (count : ℕ) (table : LatestTable)
+    → table.own ≡ replicate count None → table.over ≡ replicate count None → table.last ≡ None → IsTable spans assigned finish 0 table
+table_none spans assigned finish count table own over last = record {
+  own = λ p. found_none (λ i. (message_span spans assigned i).first ≡ p) finish (get_or table.own p None) (ap (λ xs. get_or xs p None) own ∙ none_at p);
   over = λ p.
-      found_none (λ i. ((message_place places assigned i).first ≤ p) × (p < (message_place places assigned i).end)) finish
+      found_none (λ i. ((message_span spans assigned i).first ≤ p) × (p < (message_span spans assigned i).end)) finish
       (get_or table.over p None) (ap (λ xs. get_or xs p None) over ∙ none_at p);
   last = record {
-    latest = subst (λ x. IsFound (IsMessage 0) finish (option_map (λ (x : Placed). x.message) x)) (sym last)
+    latest = subst (λ x. IsFound (IsAmongFirst 0) finish (option_map (λ (x : Placed). x.message) x)) (sym last)
         (λ i h. let from : 1 ≤ i = h.from in let to : i ≤ 0 = h.to in absurd (omega arith));
-    place = subst (λ x. IfSome x (λ (l : Placed). message_place places assigned l.message.number ≡ l.place)) (sym last) tt;
+    span = subst (λ x. IfSome x (λ (l : Placed). message_span spans assigned l.message.number ≡ l.span)) (sym last) tt;
   };
 }
   where
@@ -53,10 +53,10 @@ standing_more stands finish n k own message within number is finish_is h q =
           let new : get_or (set own k entry) q None ≡ later_of (get_or own q None) (Some message)
           = ap (λ x. get_or (set own k entry) x None) same ∙ get_or-set_same own k entry None within
           ∙ ap (λ x. later_of (get_or own x None) (Some message)) (sym same) in
-          subst (λ x. IsFound (λ i. IsMessage (n + 1) i × (stands i ≡ q)) finish x) (sym new)
+          subst (λ x. IsFound (λ i. IsAmongFirst (n + 1) i × (stands i ≡ q)) finish x) (sym new)
           (found_noted (λ i. stands i ≡ q) finish n (get_or own q None) message number finish_is (is ∙ sym same) (h q))
       | inr other ↦
-          subst (λ x. IsFound (λ i. IsMessage (n + 1) i × (stands i ≡ q)) finish x) (sym (get_or-set_other own k q entry None other))
+          subst (λ x. IsFound (λ i. IsAmongFirst (n + 1) i × (stands i ≡ q)) finish x) (sym (get_or-set_other own k q entry None other))
           (found_passed (λ i. stands i ≡ q) finish n (get_or own q None) (λ here. other (sym here ∙ is)) (h q))
     ]
 
@@ -64,7 +64,7 @@ standing_more stands finish n k own message within number is finish_is h q =
 at_join : (n : ℕ) (stands finish : ℕ → ℕ) (from mid to : ℕ) (one other : Option Latest) → from ≤ mid → mid ≤ to
     → IsLatestAt n stands finish from mid one → IsLatestAt n stands finish mid to other → IsLatestAt n stands finish from to (later_of one other)
 at_join n stands finish from mid to one other low high first second =
-    let At : ℕ → ℕ → ℕ → Type 0 = λ a b i. IsMessage n i × ((a ≤ stands i) × (stands i < b)) in
+    let At : ℕ → ℕ → ℕ → Type 0 = λ a b i. IsAmongFirst n i × ((a ≤ stands i) × (stands i < b)) in
     found_same (λ i. At from mid i ⊎ At mid to i) (At from to) finish (later_of one other)
     (λ i either. elim either [
       | inl early ↦ let before : stands i < mid = early.1.1 in (early.0, (early.1.0, omega arith))
@@ -77,25 +77,25 @@ at_join n stands finish from mid to one other low high first second =
     (found_either (At from mid) (At mid to) finish one other first second)
 
 module _ (n : ℕ) (stands finish : ℕ → ℕ) where
-  at_place : (p : ℕ) (latest : Option Latest) → IsFound (λ i. IsMessage n i × (stands i ≡ p)) finish latest → IsLatestAt n stands finish p (p + 1) latest
+  at_place : (p : ℕ) (latest : Option Latest) → IsFound (λ i. IsAmongFirst n i × (stands i ≡ p)) finish latest → IsLatestAt n stands finish p (p + 1) latest
   at_place p latest h =
-      found_same (λ i. IsMessage n i × (stands i ≡ p)) (λ i. IsMessage n i × ((p ≤ stands i) × (stands i < p + 1))) finish latest
+      found_same (λ i. IsAmongFirst n i × (stands i ≡ p)) (λ i. IsAmongFirst n i × ((p ≤ stands i) × (stands i < p + 1))) finish latest
       (λ i h. let same : stands i ≡ p = h.1 in (h.0, (omega arith, omega arith)))
       (λ i h. let after : p ≤ stands i = h.1.0 in let before : stands i < p + 1 = h.1.1 in (h.0, omega arith))
       h
 
   at_each : (values : List (Option Latest)) (from to : ℕ) → to ≡ from + length values
-      → ((i : ℕ) → i < length values → IsFound (λ m. IsMessage n m × (stands m ≡ from + i)) finish (get_or values i None))
+      → ((i : ℕ) → i < length values → IsFound (λ m. IsAmongFirst n m × (stands m ≡ from + i)) finish (get_or values i None))
       → IsLatestAt n stands finish from to (latest_of latest_order values)
   at_each [] from to long each =
       λ i h. let after : from ≤ stands i = h.1.0 in let before : stands i < to = h.1.1 in absurd (omega arith)
   at_each (value ∷ values) from to long each =
       let here : from + 0 ≡ from = omega arith in
       at_join n stands finish from (from + 1) to value (latest_of latest_order values) (omega arith) (omega arith)
-      (at_place from value (subst (λ p. IsFound (λ m. IsMessage n m × (stands m ≡ p)) finish value) here (each 0 (omega arith))))
+      (at_place from value (subst (λ p. IsFound (λ m. IsAmongFirst n m × (stands m ≡ p)) finish value) here (each 0 (omega arith))))
       (at_each values (from + 1) to (omega arith) (λ i within.
       let there : from + suc i ≡ from + 1 + i = omega arith in
-      subst (λ p. IsFound (λ m. IsMessage n m × (stands m ≡ p)) finish (get_or values i None)) there (each (suc i) (omega arith))))
+      subst (λ p. IsFound (λ m. IsAmongFirst n m × (stands m ≡ p)) finish (get_or values i None)) there (each (suc i) (omega arith))))
 
   -- the latest at a run of places
   pub latest_at : (own : List (Option Latest)) (from to : ℕ) → from ≤ to → to ≤ length own → AreStanding n stands finish own
@@ -105,92 +105,92 @@ module _ (n : ℕ) (stands finish : ℕ → ℕ) where
       let long : length run ≡ to - from = length-take-le (to - from) (drop from own) (omega (arith, length-drop from own)) in
       at_each run from to (omega (arith, long)) (λ i short.
       let read : get_or run i None ≡ get_or own (from + i) None = get_or-take (to - from) (drop from own) i None (omega (arith, long)) ∙ get_or-drop from own i None in
-      subst (λ x. IsFound (λ m. IsMessage n m × (stands m ≡ from + i)) finish x) (sym read) (h (from + i)))
+      subst (λ x. IsFound (λ m. IsAmongFirst n m × (stands m ≡ from + i)) finish x) (sym read) (h (from + i)))
 
 -- the latest that is noted at a place, or stands at its run of places
-pub latest_meeting : (places : List Place) (assigned : List ℕ) (finish : ℕ → ℕ) (n : ℕ) (place : Place) (table : LatestTable) (latest : Option Latest)
-    → place.first < place.end → place.end ≤ length table.own → IsTable places assigned finish n table
-    → latest ≡ later_of (get_or table.over place.first None) (latest_in latest_order table.own place.first place.end)
-    → IsLatestMeeting places assigned finish n place latest
-latest_meeting places assigned finish n place table latest forward within h is =
-    let Over : ℕ → Type 0 = λ i. IsMessage n i × Spans (message_place places assigned i) place in
-    let Under : ℕ → Type 0 = λ i. IsMessage n i × Spans place (message_place places assigned i) in
-    let noted = get_or table.over place.first None in
-    let standing = latest_in latest_order table.own place.first place.end in
-    subst (IsLatestMeeting places assigned finish n place) (sym is)
-    (found_same (λ i. Over i ⊎ Under i) (λ i. IsMessage n i × (Spans (message_place places assigned i) place ⊎ Spans place (message_place places assigned i)))
+pub latest_meeting : (spans : List Span) (assigned : List ℕ) (finish : ℕ → ℕ) (n : ℕ) (span : Span) (table : LatestTable) (latest : Option Latest)
+    → span.first < span.end → span.end ≤ length table.own → IsTable spans assigned finish n table
+    → latest ≡ later_of (get_or table.over span.first None) (latest_in latest_order table.own span.first span.end)
+    → IsLatestMeeting spans assigned finish n span latest
+latest_meeting spans assigned finish n span table latest forward within h is =
+    let Over : ℕ → Type 0 = λ i. IsAmongFirst n i × Spans (message_span spans assigned i) span in
+    let Under : ℕ → Type 0 = λ i. IsAmongFirst n i × Spans span (message_span spans assigned i) in
+    let noted = get_or table.over span.first None in
+    let standing = latest_in latest_order table.own span.first span.end in
+    subst (IsLatestMeeting spans assigned finish n span) (sym is)
+    (found_same (λ i. Over i ⊎ Under i) (λ i. IsAmongFirst n i × (Spans (message_span spans assigned i) span ⊎ Spans span (message_span spans assigned i)))
     finish (later_of noted standing)
     (λ i either. elim either [ inl over ↦ (over.0, inl over.1) | inr under ↦ (under.0, inr under.1) ])
     (λ i both. elim both.1 [ inl over ↦ inl (both.0, over) | inr under ↦ inr (both.0, under) ])
-    (found_either Over Under finish noted standing (h.over place.first)
-    (latest_at n (λ i. (message_place places assigned i).first) finish table.own place.first place.end (omega arith) within h.own)))
+    (found_either Over Under finish noted standing (h.over span.first)
+    (latest_at n (λ i. (message_span spans assigned i).first) finish table.own span.first span.end (omega arith) within h.own)))
 
 -- one more message, noted at the places of its affinity
-pub over_more : (places : List Place) (assigned : List ℕ) (finish : ℕ → ℕ) (n : ℕ) (place : Place) (message : Latest)
-    (old new : List (Option Latest)) → message.number ≡ n + 1 → message_place places assigned (n + 1) ≡ place
-    → finish (n + 1) ≡ message.finish → IsNoted latest_order place.first place.end (Some message) old new
-    → AreOver places assigned finish n old → AreOver places assigned finish (n + 1) new
-over_more places assigned finish n place message old new number is finish_is noted h p =
-    let At : ℕ → Type 0 = λ i. ((message_place places assigned i).first ≤ p) × (p < (message_place places assigned i).end) in
-    let first : (message_place places assigned (n + 1)).first ≡ place.first = ap (λ (x : Place). x.first) is in
-    let end : (message_place places assigned (n + 1)).end ≡ place.end = ap (λ (x : Place). x.end) is in
+pub over_more : (spans : List Span) (assigned : List ℕ) (finish : ℕ → ℕ) (n : ℕ) (span : Span) (message : Latest)
+    (old new : List (Option Latest)) → message.number ≡ n + 1 → message_span spans assigned (n + 1) ≡ span
+    → finish (n + 1) ≡ message.finish → IsNoted latest_order span.first span.end (Some message) old new
+    → AreOver spans assigned finish n old → AreOver spans assigned finish (n + 1) new
+over_more spans assigned finish n span message old new number is finish_is noted h p =
+    let At : ℕ → Type 0 = λ i. ((message_span spans assigned i).first ≤ p) × (p < (message_span spans assigned i).end) in
+    let first : (message_span spans assigned (n + 1)).first ≡ span.first = ap (λ (x : Span). x.first) is in
+    let end : (message_span spans assigned (n + 1)).end ≡ span.end = ap (λ (x : Span). x.end) is in
     let found = h p in
-    elim (cases_lt p place.first) [
+    elim (cases_lt p span.first) [
       | inl early ↦
-          subst (λ x. IsFound (λ i. IsMessage (n + 1) i × At i) finish x) (sym (noted.before p early))
+          subst (λ x. IsFound (λ i. IsAmongFirst (n + 1) i × At i) finish x) (sym (noted.before p early))
           (found_passed At finish n (get_or old p None) (λ here. let low = here.0 in omega (arith, low)) found)
-      | inr low ↦ elim (cases_lt p place.end) [
+      | inr low ↦ elim (cases_lt p span.end) [
         | inl high ↦
-            subst (λ x. IsFound (λ i. IsMessage (n + 1) i × At i) finish x) (sym (noted.noted p low high))
+            subst (λ x. IsFound (λ i. IsAmongFirst (n + 1) i × At i) finish x) (sym (noted.noted p low high))
             (found_noted At finish n (get_or old p None) message number finish_is (omega arith, omega arith) found)
         | inr late ↦
-            subst (λ x. IsFound (λ i. IsMessage (n + 1) i × At i) finish x) (sym (noted.after p late))
+            subst (λ x. IsFound (λ i. IsAmongFirst (n + 1) i × At i) finish x) (sym (noted.after p late))
             (found_passed At finish n (get_or old p None) (λ here. let high = here.1 in omega (arith, high)) found)
       ]
     ]
 
 -- one more message, which may be the latest of all
-pub last_more : (places : List Place) (assigned : List ℕ) (finish : ℕ → ℕ) (n : ℕ) (old : Option Placed) (next new : Placed)
-    → next.message.number ≡ n + 1 → message_place places assigned (n + 1) ≡ next.place → finish (n + 1) ≡ next.message.finish
+pub last_more : (spans : List Span) (assigned : List ℕ) (finish : ℕ → ℕ) (n : ℕ) (old : Option Placed) (next new : Placed)
+    → next.message.number ≡ n + 1 → message_span spans assigned (n + 1) ≡ next.span → finish (n + 1) ≡ next.message.finish
     → Some new.message ≡ later_of (option_map (λ (x : Placed). x.message) old) (Some next.message) → (new ≡ next) ⊎ (old ≡ Some new)
-    → IsLast places assigned finish n old → IsLast places assigned finish (n + 1) (Some new)
-last_more places assigned finish n old next new number is finish_is later one_of_both h =
+    → IsLast spans assigned finish n old → IsLast spans assigned finish (n + 1) (Some new)
+last_more spans assigned finish n old next new number is finish_is later one_of_both h =
     let latest = option_map (λ (x : Placed). x.message) old in
     record {
-      latest = subst (λ x. IsFound (IsMessage (n + 1)) finish x) (sym later)
-          (found_same (λ i. IsMessage (n + 1) i × (i ≡ i)) (IsMessage (n + 1)) finish (later_of latest (Some next.message))
+      latest = subst (λ x. IsFound (IsAmongFirst (n + 1)) finish x) (sym later)
+          (found_same (λ i. IsAmongFirst (n + 1) i × (i ≡ i)) (IsAmongFirst (n + 1)) finish (later_of latest (Some next.message))
           (λ i both. both.0) (λ i up_to. (up_to, refl))
           (found_noted (λ i. i ≡ i) finish n latest next.message number finish_is refl
-          (found_same (IsMessage n) (λ i. IsMessage n i × (i ≡ i)) finish latest (λ i up_to. (up_to, refl)) (λ i both. both.0) h.latest)));
-      place = elim one_of_both [
+          (found_same (IsAmongFirst n) (λ i. IsAmongFirst n i × (i ≡ i)) finish latest (λ i up_to. (up_to, refl)) (λ i both. both.0) h.latest)));
+      span = elim one_of_both [
         | inl same ↦
-            subst (λ (x : Placed). message_place places assigned x.message.number ≡ x.place) (sym same)
-            (ap (λ x. message_place places assigned x) number ∙ is)
-        | inr same ↦ subst (λ x. IfSome x (λ (l : Placed). message_place places assigned l.message.number ≡ l.place)) same h.place
+            subst (λ (x : Placed). message_span spans assigned x.message.number ≡ x.span) (sym same)
+            (ap (λ x. message_span spans assigned x) number ∙ is)
+        | inr same ↦ subst (λ x. IfSome x (λ (l : Placed). message_span spans assigned l.message.number ≡ l.span)) same h.span
       ];
     }
 
 -- among places that nest, those meet whose affinities exclude each other
-pub meeting_excludes : (tree : List Node) (places : List Place) (assigned : List ℕ) (finish : ℕ → ℕ) (m a : ℕ) (latest : Option Latest)
-    → AreNested tree places → All (λ a. a < length tree) assigned → m ≤ length assigned → a < length tree
-    → IsLatestMeeting places assigned finish (m - 1) (place_at places a) latest → IsLatestExcluding tree assigned finish (m - 1) a latest
-meeting_excludes tree places assigned finish m a latest nested known to within found =
-    let known_at : (i : ℕ) → IsMessage (m - 1) i → affinity_of assigned i < length tree
+pub meeting_excludes : (tree : List Node) (spans : List Span) (assigned : List ℕ) (finish : ℕ → ℕ) (m a : ℕ) (latest : Option Latest)
+    → AreNested tree spans → All (λ a. a < length tree) assigned → m ≤ length assigned → a < length tree
+    → IsLatestMeeting spans assigned finish (m - 1) (span_at spans a) latest → IsLatestExcluding tree assigned finish (m - 1) a latest
+meeting_excludes tree spans assigned finish m a latest nested known to within found =
+    let known_at : (i : ℕ) → IsAmongFirst (m - 1) i → affinity_of assigned i < length tree
     = λ i h. let from : 1 ≤ i = h.from in let last : i ≤ m - 1 = h.to in known (i - 1) 0 (omega arith) in
-    found_same (λ i. IsMessage (m - 1) i × (Spans (message_place places assigned i) (place_at places a) ⊎ Spans (place_at places a) (message_place places assigned i)))
-    (λ i. IsMessage (m - 1) i × Excludes tree (affinity_of assigned i) a) finish latest
+    found_same (λ i. IsAmongFirst (m - 1) i × (Spans (message_span spans assigned i) (span_at spans a) ⊎ Spans (span_at spans a) (message_span spans assigned i)))
+    (λ i. IsAmongFirst (m - 1) i × Excludes tree (affinity_of assigned i) a) finish latest
     (λ i h. (
       h.0,
       elim h.1 [
-        | inl over ↦ inl ((nested.spans (affinity_of assigned i) a (known_at i h.0) within).0 over)
-        | inr under ↦ inr ((nested.spans a (affinity_of assigned i) within (known_at i h.0)).0 under)
+        | inl over ↦ inl ((nested.tells (affinity_of assigned i) a (known_at i h.0) within).0 over)
+        | inr under ↦ inr ((nested.tells a (affinity_of assigned i) within (known_at i h.0)).0 under)
       ],
     ))
     (λ i h. (
       h.0,
       elim h.1 [
-        | inl over ↦ inl ((nested.spans (affinity_of assigned i) a (known_at i h.0) within).1 over)
-        | inr under ↦ inr ((nested.spans a (affinity_of assigned i) within (known_at i h.0)).1 under)
+        | inl over ↦ inl ((nested.tells (affinity_of assigned i) a (known_at i h.0) within).1 over)
+        | inr under ↦ inr ((nested.tells a (affinity_of assigned i) within (known_at i h.0)).1 under)
       ],
     ))
     found

@@ -1,7 +1,7 @@
 -- Chains of messages, each before the next, and the chain that is printed with a plan.
 use Rattle.std.specs.Prelude.{◌≡◌, ℕ, ◌<◌, ◌≤◌, List, [], ◌∷◌, length, All, sum_by}
 use Rattle.waff_assign.specs.Order.{Relation}
-pub use Rattle.waff_plan.specs.Work.{IsMessage}
+pub use Rattle.waff_plan.specs.Work.{IsAmongFirst}
 use Rattle.waff_plan.specs.Work.{Work, IsNumber, finish_of}
 
 -- m is before the first message of the list, that one before the second, and so on
@@ -17,7 +17,7 @@ IsChain before work (m ∷ rest) = LinksOn before work m rest
 
 -- numbers of messages, of which there are this many, and at most as many numbers
 pub record IsListed (messages : ℕ) (chain : List ℕ) : Type 0 where
-  pub each : All (IsMessage messages) chain
+  pub each : All (IsAmongFirst messages) chain
   pub few : length chain ≤ messages
 
 -- the cost of a chain: the sum of its messages' costs

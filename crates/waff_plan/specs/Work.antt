@@ -9,14 +9,14 @@ pub record Work : Type 0 where
   pub cost : ℕ → ℕ
   pub release : ℕ → ℕ
 
--- n is one of this many messages
-pub record IsMessage (messages n : ℕ) : Type 0 where
+-- n is one of the first so many messages
+pub record IsAmongFirst (messages n : ℕ) : Type 0 where
   pub from : 1 ≤ n
   pub to : n ≤ messages
 
 -- m is the number of a message
 abbrev pub IsNumber : Work → ℕ → Type 0
-IsNumber work m = IsMessage work.count m
+IsNumber work m = IsAmongFirst work.count m
 
 -- the numbers of all messages, in the order of arrival
 abbrev pub numbers : Work → List ℕ

@@ -1,25 +1,25 @@
-//! The latest of all messages so far, with its place.
+//! The latest of all messages so far, with its span.
 
 ghost use Rattle.std.specs.Prelude.{◌≡◌, ◌↔◌, ◌⊎◌, Some, IsTrue, option_map};
-ghost use Rattle.waff_model.specs.Places.{Spans};
+ghost use Rattle.waff_model.specs.Preorder.{Spans};
 ghost use Rattle.waff_plan.specs.Latest.{is_later, later_of};
 
 use crate::latest::{Latest, is_later};
-use waff_model::Place;
+use waff_model::Span;
 
-/// A message with its finish and the place of its affinity.
+/// A message with its finish and the span of its affinity.
 #[derive(Clone, Copy)]
 pub(crate) struct Placed {
     pub message: Latest,
-    pub place: Place,
+    pub span: Span,
 }
 
 impl Placed {
-    /// Whether the message's affinity excludes the one that has this place.
-    pub fn meets(&self, place: Place) -> bool
-        ensures { IsTrue result ↔ Spans self.now.place place ⊎ Spans place self.now.place }
+    /// Whether the message's affinity excludes the one that has this span.
+    pub fn meets(&self, span: Span) -> bool
+        ensures { IsTrue result ↔ Spans self.now.span span ⊎ Spans span self.now.span }
     {
-        self.place.spans(&place) || place.spans(&self.place)
+        self.span.spans(&span) || span.spans(&self.span)
     }
 }
 

@@ -28,15 +28,15 @@ pub(crate) fn least_starts(
         (work_of timings.now) (start_of starts.items)) }
     ensures printable { IfOk result (λ starts. All (λ start. start ≤ MAX_TICK) starts.items) }
 {
-    let places = tree.places();
+    let spans = tree.spans();
     let mut table = Table::new(alloc, tree.len() as usize)?;
     let mut starts = Vec::with_capacity(alloc, timings.len())?;
     for m in 1..assigned.len() + 1 {
-        let place = places[assigned.of(m).0 as usize];
+        let span = spans[assigned.of(m).0 as usize];
         let timing = timings[m as usize - 1];
-        let start = start_after(table.latest(place), timing);
+        let start = start_after(table.latest(span), timing);
         let finish = start + u64::from(timing.cost);
-        table.note(place, Latest { finish, number: m });
+        table.note(span, Latest { finish, number: m });
         starts.push(start)?;
     }
     Ok(starts)

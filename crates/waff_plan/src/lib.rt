@@ -6,7 +6,7 @@
 //! wait for one another, whose first release and costs add up to the length.
 //! - `timing`, `timetable`: costs and releases; plans.
 //! - `unlimited`, over `least` and `latest`: the unlimited plan.
-//! - `table`, over `last`: the latest message that excludes another, by places in preorder.
+//! - `table`, over `last`: the latest message that excludes another, by spans in preorder.
 //! - `printed`, over `links` and `linked`: the printed chain; `totals`: what the summary of a plan
 //!   tells.
 //! - `ordered`: whether a plan keeps the order of the messages.

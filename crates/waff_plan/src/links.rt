@@ -32,14 +32,14 @@ pub(crate) fn links(
         (work_in plan.now) (starts_in plan.now)
         (length plan.now.timings) links.items) }
 {
-    let places = tree.places();
+    let spans = tree.spans();
     let mut table = Table::new(alloc, tree.len() as usize)?;
     let mut links = Vec::with_capacity(alloc, plan.len() as usize)?;
     for m in 1..plan.len() + 1 {
-        let place = places[assigned.of(m).0 as usize];
-        let link = waited_for(table.latest(place), plan.release(m));
+        let span = spans[assigned.of(m).0 as usize];
+        let link = waited_for(table.latest(span), plan.release(m));
         let finish = plan.finish(m);
-        table.note(place, Latest { finish, number: m });
+        table.note(span, Latest { finish, number: m });
         links.push(link)?;
     }
     Ok(links)

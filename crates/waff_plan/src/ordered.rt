@@ -13,7 +13,7 @@ use waff_assign::Assigned;
 use waff_model::Tree;
 
 /// Whether each message starts only when every earlier one of the first `count` that excludes it
-/// has finished. Each message is looked at once, by the place of its affinity.
+/// has finished. Each message is looked at once, by the span of its affinity.
 pub fn keeps_order(
     alloc: Global,
     tree: &Tree,
@@ -27,16 +27,16 @@ pub fn keeps_order(
         ↔ KeepsOrder (IsAmong count (IsOrdered tree.now assigned.now))
         (work_in plan.now) (starts_in plan.now)) }
 {
-    let places = tree.places();
+    let spans = tree.spans();
     let mut table = Table::new(alloc, tree.len() as usize)?;
     for m in 1..assigned.len() + 1 {
-        let place = places[assigned.of(m).0 as usize];
-        if !is_finished_by(table.latest(place), plan.start(m)) {
+        let span = spans[assigned.of(m).0 as usize];
+        if !is_finished_by(table.latest(span), plan.start(m)) {
             return Ok(false);
         }
         if m <= count {
             let finish = plan.finish(m);
-            table.note(place, Latest { finish, number: m });
+            table.note(span, Latest { finish, number: m });
         }
     }
     Ok(true)

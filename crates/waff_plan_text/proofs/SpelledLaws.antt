@@ -13,7 +13,7 @@ use Rattle.waff_parse.specs.Refusals.{◌>>=◌, told}
 use Rattle.waff_parse.specs.Rows.{Record, is_text}
 use Rattle.waff_parse.specs.Texts.{number_of, number_within, parts}
 use Rattle.waff_parse.specs.Walks.{walk}
-use Rattle.waff_plan.specs.Chain.{IsListed, IsMessage}
+use Rattle.waff_plan.specs.Chain.{IsListed, IsAmongFirst}
 use Rattle.waff_plan_text.specs.Fields.{is_dash, number_within_limit}
 use Rattle.waff_plan_text.specs.Given.{SummaryLines}
 use Rattle.waff_plan_text.specs.Refusals.{at_record}
@@ -135,24 +135,24 @@ no_bytes [] h = refl
 no_bytes (b ∷ bs) h = absurd (omega (arith, h))
 
 walk_ok : (messages : ℕ) (texts : List Field) (numbers : List ℕ) → walk link_of same messages texts ≡ Ok numbers
-    → (map number_of texts ≡ map Some numbers) × All (IsMessage messages) numbers
+    → (map number_of texts ≡ map Some numbers) × All (IsAmongFirst messages) numbers
 unfolding walk
-walk_ok messages [] numbers h = let none : [] ≡ numbers = cc in (rw (← none) refl, rw (← none) (All-nil (IsMessage messages)))
+walk_ok messages [] numbers h = let none : [] ≡ numbers = cc in (rw (← none) refl, rw (← none) (All-nil (IsAmongFirst messages)))
 walk_ok messages (text ∷ more) numbers h =
     by (number_within 1 messages text) (number_in 1 messages text) (walk link_of same messages more) (walk_ok messages more) h
   where
     by : (o : Option ℕ) → NumberIn 1 messages text o → (r : Result (List ℕ) Refusal)
-        → ((ns : List ℕ) → r ≡ Ok ns → (map number_of more ≡ map Some ns) × All (IsMessage messages) ns)
+        → ((ns : List ℕ) → r ≡ Ok ns → (map number_of more ≡ map Some ns) × All (IsAmongFirst messages) ns)
         → (ok_or o refusal.Summary >>= (λ n. r >>= (λ ns. Ok (n ∷ ns)))) ≡ Ok numbers
-        → (number_of text ∷ map number_of more ≡ map Some numbers) × All (IsMessage messages) numbers
+        → (number_of text ∷ map number_of more ≡ map Some numbers) × All (IsAmongFirst messages) numbers
     by None none r others same = absurd (cc)
     by (Some n) found (Err e) others same = absurd (cc)
     by (Some n) found (Ok ns) others same =
         let whole : n ∷ ns ≡ numbers = cc in
         let o = others ns refl in
-        (rw (← whole, found.0, o.0) refl, rw (← whole) (All-cons (IsMessage messages) n ns (record { from = found.1; to = found.2 }) o.1))
+        (rw (← whole, found.0, o.0) refl, rw (← whole) (All-cons (IsAmongFirst messages) n ns (record { from = found.1; to = found.2 }) o.1))
 
-ok_walk : (messages : ℕ) (texts : List Field) (numbers : List ℕ) → map number_of texts ≡ map Some numbers → All (IsMessage messages) numbers
+ok_walk : (messages : ℕ) (texts : List Field) (numbers : List ℕ) → map number_of texts ≡ map Some numbers → All (IsAmongFirst messages) numbers
     → walk link_of same messages texts ≡ Ok numbers
 unfolding walk
 ok_walk messages [] [] h each = refl
@@ -161,13 +161,13 @@ ok_walk messages (text ∷ more) [] h each = absurd (cc)
 ok_walk messages (text ∷ more) (n ∷ ns) h each =
     let first : number_of text ≡ Some n = cc in
     let others : map number_of more ≡ map Some ns = cc in
-    let is = All-head (IsMessage messages) n ns each in
-    rw (within_is 1 messages text n first is.from is.to, ok_walk messages more ns others (All-tail (IsMessage messages) n ns each)) refl
+    let is = All-head (IsAmongFirst messages) n ns each in
+    rw (within_is 1 messages text n first is.from is.to, ok_walk messages more ns others (All-tail (IsAmongFirst messages) n ns each)) refl
 
 chain_text_ok : (messages : ℕ) (text : Field) (chain : List ℕ) → chain_of messages text ≡ Ok chain → AreNumbers text chain × IsListed messages chain
 chain_text_ok messages text chain h = by (length text == 0) refl (walk link_of same messages (parts 32 text)) (walk_ok messages (parts 32 text)) h
   where
-    some : (ns : List ℕ) → text ≢ [] → (map number_of (parts 32 text) ≡ map Some ns) × All (IsMessage messages) ns → (t : Bool) → nat_le (length ns) messages ≡ t
+    some : (ns : List ℕ) → text ≢ [] → (map number_of (parts 32 text) ≡ map Some ns) × All (IsAmongFirst messages) ns → (t : Bool) → nat_le (length ns) messages ≡ t
         → (if t then Ok ns else Err refusal.Summary) ≡ Ok chain → AreNumbers text chain × IsListed messages chain
     some ns filled are false le same = absurd (cc)
     some ns filled are true le same =
@@ -175,11 +175,11 @@ chain_text_ok messages text chain h = by (length text == 0) refl (walk link_of s
         (inr (filled, rw (← whole) are.0), rw (← whole) (record { each = are.1; few = leb-true (length ns) messages le }))
 
     by : (t : Bool) → (length text == 0) ≡ t → (r : Result (List ℕ) Refusal)
-        → ((ns : List ℕ) → r ≡ Ok ns → (map number_of (parts 32 text) ≡ map Some ns) × All (IsMessage messages) ns)
+        → ((ns : List ℕ) → r ≡ Ok ns → (map number_of (parts 32 text) ≡ map Some ns) × All (IsAmongFirst messages) ns)
         → (if t then Ok [] else (r >>= few messages)) ≡ Ok chain → AreNumbers text chain × IsListed messages chain
     by true none r are same =
         let whole : [] ≡ chain = cc in
-        (inl (no_bytes text (eqb-true (length text) 0 none), sym whole), rw (← whole) (record { each = All-nil (IsMessage messages); few = omega arith }))
+        (inl (no_bytes text (eqb-true (length text) 0 none), sym whole), rw (← whole) (record { each = All-nil (IsAmongFirst messages); few = omega arith }))
     by false is (Err e) are same = absurd (cc)
     by false is (Ok ns) are same =
         some ns (λ none. eqb-false (length text) 0 is (ap length none)) (are ns refl) (nat_le (length ns) messages) refl same

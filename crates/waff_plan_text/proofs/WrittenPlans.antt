@@ -19,7 +19,7 @@ use Rattle.waff_model.specs.declared.message.Version.{Version}
 use Rattle.waff_model.specs.declared.message.Version.TheVariants.{V1, V2}
 use Rattle.waff_assign.specs.Order.{affinity_of}
 use Rattle.waff_plan.specs.Bound.{IsWorkers}
-use Rattle.waff_plan.specs.Chain.{IsListed, IsMessage}
+use Rattle.waff_plan.specs.Chain.{IsListed, IsAmongFirst}
 use Rattle.waff_plan.specs.Totals.{totals_of}
 use Rattle.waff_plan.specs.Work.{Work, IsNumber, finish_of, numbers}
 use Rattle.waff_plan.specs.declared.totals.Totals.{Totals}
@@ -249,17 +249,17 @@ workers_read (Some k) is =
     let small : k < 2 ^ 64 = omega arith in
     rw (decimal_differs (codes "-") refl k small, number_within-decimal 1 MAX_WORKERS k small is.from to) refl
 
-small_chain : (messages : ℕ) (chain : List ℕ) → messages ≤ MAX_MESSAGES → All (IsMessage messages) chain → All (λ m. m < 2 ^ 64) chain
+small_chain : (messages : ℕ) (chain : List ℕ) → messages ≤ MAX_MESSAGES → All (IsAmongFirst messages) chain → All (λ m. m < 2 ^ 64) chain
 small_chain messages chain few_messages each = λ k d within. let is = each k d within in let to = is.to in omega arith
 
-links_there : (messages : ℕ) (chain : List ℕ) → messages ≤ MAX_MESSAGES → All (IsMessage messages) chain
+links_there : (messages : ℕ) (chain : List ℕ) → messages ≤ MAX_MESSAGES → All (IsAmongFirst messages) chain
     → walk link_of same messages (map decimal chain) ≡ Ok chain
 unfolding walk
 links_there messages [] few_messages each = refl
 links_there messages (m ∷ more) few_messages each =
-    let is = All-head (IsMessage messages) m more each in
+    let is = All-head (IsAmongFirst messages) m more each in
     let to : m ≤ messages = is.to in
-    rw (number_within-decimal 1 messages m (omega arith) is.from to, links_there messages more few_messages (All-tail (IsMessage messages) m more each)) refl
+    rw (number_within-decimal 1 messages m (omega arith) is.from to, links_there messages more few_messages (All-tail (IsAmongFirst messages) m more each)) refl
 
 chain_read : (messages : ℕ) (chain : List ℕ) → messages ≤ MAX_MESSAGES → IsListed messages chain → chain_of messages (numbers_field chain) ≡ Ok chain
 chain_read messages [] few_messages listed = refl

@@ -401,3 +401,10 @@ value-there digits tail n e other = by (number_of digits) refl e
     by : (r : Option ℕ) → number_of digits ≡ r → ok_or (option_and_then small r) fault.Op ≡ Ok n → first_number (digits ++ tail) ≡ Some (n, tail)
     by None is h = absurd (cc h)
     by (Some m) is h = within m is (ltb_tells m 18446744073709551616) h
+
+-- the space of a name is the one that has it
+pub space_of_its_name : (layout : Hierarchy) → IsLayout layout → (name : List ℕ) (s : ℕ) → s < length layout.spaces → name_at layout.spaces s ≡ Some name
+    → space_of_name layout.spaces name ≡ Some s
+space_of_its_name layout is name s inside named =
+    let same : unwrap_or (name_at layout.spaces s) [] ≡ name = rw named refl in
+    rw (rw same at (space_has_name layout is s inside), rw same at (space_found layout is s inside)) refl

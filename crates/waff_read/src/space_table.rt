@@ -1,6 +1,7 @@
 //! The spaces of a layout, found by name in one step.
 
 ghost use Rattle.std.specs.Prelude.{◌≡◌, ◌==◌, ◌<◌, length, position, option_map, IfOk, IfSome};
+ghost use Rattle.std.specs.Prelude.{Some};
 ghost use Rattle.waff_model.specs.Layout.{IsLayout, names_of, size_at, space_named};
 ghost use Rattle.waff_read.specs.Beginnings as beginnings;
 
@@ -11,22 +12,29 @@ use std::marker::Model;
 use std::str;
 use waff_model::{Layout, is_name};
 
-/// A layout, with a table of the names of its spaces.
+/// How many shelves there are for guesses.
+const SHELVES: usize = 1024;
+
+/// A layout, with a table of the names of its spaces, and on each shelf a space whose name may end
+/// in the bytes of that shelf.
 #[derive(Drop)]
 pub(crate) struct SpaceTable<'a> {
     layout: &'a Layout,
     names: Names,
+    shelves: Vec<u32>,
 }
 
 impl<'a> Model for SpaceTable<'a> {
-    ghost use Rattle.std.specs.Prelude.{◌≡◌, List};
+    ghost use Rattle.std.specs.Prelude.{◌≡◌, List, length};
     ghost use Rattle.waff_model.specs.Layout.{IsLayout, Space, names_of};
+    ghost use Rattle.waff_read.specs.declared.space_table.TheConstants.{SHELVES};
 
     ghost Value = { List Space };
 
     ghost view = { λ t. t.layout.now.spaces };
 
-    ghost invariant = { λ t. IsLayout t.layout.now × (t.names ≡ names_of t.layout.now.spaces) };
+    ghost invariant = { λ t. IsLayout t.layout.now × (t.names ≡ names_of t.layout.now.spaces)
+        × (length t.shelves.items ≡ SHELVES) };
 }
 
 impl<'a> SpaceTable<'a> {
@@ -35,7 +43,12 @@ impl<'a> SpaceTable<'a> {
         ensures { IfOk result (λ table. table ≡ layout.now.spaces) }
     {
         let names = space_names(alloc, layout)?;
-        Ok(SpaceTable { layout, names })
+        let shelves = space_shelves(alloc, layout)?;
+        Ok(SpaceTable {
+            layout,
+            names,
+            shelves,
+        })
     }
 
     /// The layout that it is of.
@@ -56,11 +69,29 @@ impl<'a> SpaceTable<'a> {
         }
     }
 
+    // The space on the shelf of this name, where it has this name.
+    #[inline(always)]
+    fn guessed(&self, name: &[u8]) -> Option<u32>
+        ensures named { IfSome result (λ s.
+            beginnings.space_of_name self.now name.now ≡ Some s) }
+        ensures within { IfSome result (λ s. s < length self.now) }
+    {
+        let space = self.shelves[shelf_of(name)];
+        if space < self.layout.space_count() && self.layout.space_name(space).as_bytes() == name {
+            Some(space)
+        } else {
+            None
+        }
+    }
+
     // The number of the space with this name, if it is a name.
     fn named(&self, name: &[u8]) -> Option<u32>
         ensures named { result ≡ beginnings.space_of_name self.now name.now }
         ensures within { IfSome result (λ s. s < length self.now) }
     {
+        if let Some(space) = self.guessed(name) {
+            return Some(space);
+        }
         let name = str::from_utf8(name).ok()?;
         if !is_name(name) {
             return None;
@@ -114,6 +145,29 @@ fn first_colon(text: &[u8]) -> Option<usize>
     ensures within { IfSome result (λ place. place < length text.now) }
 {
     text.iter().position(|byte| *byte == b':')
+}
+
+/// The shelf of a name, by its last two bytes.
+#[inline(always)]
+fn shelf_of(name: &[u8]) -> usize
+    ensures { result < SHELVES }
+{
+    match name {
+        [.., second, last] => (usize::from(*second) * 37 + usize::from(*last)) % SHELVES,
+        [last] => usize::from(*last),
+        [] => 0,
+    }
+}
+
+/// The spaces on their shelves, the last one of each.
+fn space_shelves(alloc: Global, layout: &Layout) -> Result<Vec<u32>, AllocError>
+    ensures { IfOk result (λ shelves. length shelves.items ≡ SHELVES) }
+{
+    let mut shelves = vec![in alloc; 0; SHELVES]?;
+    for space in 0..layout.space_count() {
+        shelves[shelf_of(layout.space_name(space).as_bytes())] = space;
+    }
+    Ok(shelves)
 }
 
 /// The names of the spaces, in their order.

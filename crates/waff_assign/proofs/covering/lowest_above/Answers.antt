@@ -11,8 +11,8 @@ loop-second-preserved c =
     let at = c.loop-second.at.0 in
     let parent = c.in-Some.parent.0 in
     let is : parent_of tree at ≡ Some parent = sym c.in-Some.ensures in
-    let earlier : parent < at = c.at_or_above.ensures.tree.rooted.earlier at parent is in
-    let not_above = λ (h : AtOrAbove tree at c.args.second.0). false≢true (sym c.loop-second-test.true ∙ c.at_or_above.ensures.answer.1 h) in
+    let earlier : parent < at = c.at_or_above-in-loop-second.ensures.tree.rooted.earlier at parent is in
+    let not_above = λ (h : AtOrAbove tree at c.args.second.0). false≢true (sym c.loop-second-test.true ∙ c.at_or_above-in-loop-second.ensures.answer.1 h) in
     record {
       within = omega (arith, c.loop-second.invariant.within);
       above = transitive tree parent at c.args.first.0 (above_child tree parent at parent is (reflexive tree parent)) c.loop-second.invariant.above;
@@ -23,6 +23,6 @@ pub unreachable-requires : goal.unreachable-requires
 unreachable-requires c =
     let tree = c.args.tree.now in
     let at = c.loop-second.at.0 in
-    let top : at ≡ 0 = root_from_none tree c.at_or_above.ensures.tree at c.loop-second.invariant.within (sym c.in-None.ensures) in
-    let above = subst (λ x. AtOrAbove tree x c.args.second.0) (sym top) (root_above tree c.at_or_above.ensures.tree c.args.second.0 c.requires.second) in
-    false≢true (sym c.loop-second-test.true ∙ c.at_or_above.ensures.answer.1 above)
+    let top : at ≡ 0 = root_from_none tree c.at_or_above-in-loop-second.ensures.tree at c.loop-second.invariant.within (sym c.in-None.ensures) in
+    let above = subst (λ x. AtOrAbove tree x c.args.second.0) (sym top) (root_above tree c.at_or_above-in-loop-second.ensures.tree c.args.second.0 c.requires.second) in
+    false≢true (sym c.loop-second-test.true ∙ c.at_or_above-in-loop-second.ensures.answer.1 above)

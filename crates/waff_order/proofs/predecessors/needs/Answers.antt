@@ -1,7 +1,7 @@
 use Rattle.std.proofs.Common.{◌≡◌, ℕ, ◌+◌, ◌-◌, ◌≤◌, List, [], ◌∷◌, ◌++◌, length, get_or, set, replicate, sum_by, arith, rules, sym, ◌∙◌, ap, subst}
 use Rattle.std.proofs.lemmas.List.{length-append}
-use Rattle.waff_model.specs.Places.{place_at}
-use Rattle.waff_model.specs.declared.places.Place.{Place}
+use Rattle.waff_model.specs.Preorder.{span_at}
+use Rattle.waff_model.specs.declared.preorder.Span.{Span}
 use Rattle.waff_order.specs.Needs.{AreLists, AreNeeds, IsWithinDepth}
 use Rattle.waff_order.specs.Cuts.{parts, AreCuts}
 use Rattle.waff_assign.specs.Order.{affinity_of}
@@ -10,7 +10,7 @@ use Rattle.waff_model.specs.Later.{IsNoted, by_number}
 use Rattle.waff_order.specs.Runs.{AreGathered}
 use Rattle.waff_order.proofs.Parts.{sum_by-parts}
 use Rattle.waff_order.proofs.UpTo.{needs_by_depth, up_to_all, up_to_lists}
-use Rattle.waff_order.proofs.Reaching.{message_place, first_of, end_of, reached_none, needs_count, reached_more}
+use Rattle.waff_order.proofs.Reaching.{message_span, first_of, end_of, reached_none, needs_count, reached_more}
 use Rattle.waff_order.proofs.predecessors.needs.Goals as goal
 
 -- all parts together are as long as the list
@@ -24,13 +24,13 @@ loop-m-init c =
     let latest : c.in_ok-latest.latest ≡ replicate (length tree) 0 = c.in_ok-latest.ensures ∙ ap (λ n. replicate n 0) c.len-count.ensures.count in
     record {
       reached = rw (c.new-all.ensures.items, c.in_ok-ends.ensures.items, opened, latest)
-          (reached_none tree c.args.assigned.now c.places-places.result.now c.len-count.ensures.tree c.places-places.ensures c.requires);
+          (reached_none tree c.args.assigned.now c.spans-spans.result.now c.len-count.ensures.tree c.spans-spans.ensures c.requires);
     }
 
 pub overflow_cast-len-in-loop-m : goal.overflow_cast-len-in-loop-m
 overflow_cast-len-in-loop-m c =
     let assigned = c.args.assigned.now in
-    let places = c.places-places.result.now in
+    let spans = c.spans-spans.result.now in
     let all = c.loop-m.all.items in
     let messages = c.loop-m.opened in
     let noted = c.loop-m.latest in
@@ -38,17 +38,17 @@ overflow_cast-len-in-loop-m c =
     let n = c.loop-m.m - 1 in
     let next : c.loop-m.m ≡ n + 1 = omega arith in
     let gathered = c.in_ok-take_needs.ensures.0 in
-    let same : place_at places c.of.result.0 ≡ message_place places assigned (n + 1)
-    = ap (λ a. place_at places a) (c.of.ensures ∙ ap (λ i. affinity_of assigned i) next) in
-    let gathers = subst (λ (p : Place). AreGathered p.first p.end messages left gathered) same c.in_ok-take_needs.ensures.1 in
-    let more : c.take_needs.new.needs.items ≡ chosen gathered (get_or noted (first_of places assigned (n + 1)) 0)
-    = c.in_ok-take_needs.ensures.2 ∙ ap (λ (p : Place). chosen gathered (get_or noted p.first 0)) same in
-    let items : c.extend_from_slice.new.self.items ≡ all ++ chosen gathered (get_or noted (first_of places assigned (n + 1)) 0)
+    let same : span_at spans c.of.result.0 ≡ message_span spans assigned (n + 1)
+    = ap (λ a. span_at spans a) (c.of.ensures ∙ ap (λ i. affinity_of assigned i) next) in
+    let gathers = subst (λ (p : Span). AreGathered p.first p.end messages left gathered) same c.in_ok-take_needs.ensures.1 in
+    let more : c.take_needs.new.needs.items ≡ chosen gathered (get_or noted (first_of spans assigned (n + 1)) 0)
+    = c.in_ok-take_needs.ensures.2 ∙ ap (λ (p : Span). chosen gathered (get_or noted p.first 0)) same in
+    let items : c.extend_from_slice.new.self.items ≡ all ++ chosen gathered (get_or noted (first_of spans assigned (n + 1)) 0)
     = c.in_ok-extend_from_slice.ensures.items ∙ ap (λ xs. all ++ xs) (c.as_slice.ensures.value ∙ more) in
-    let bound = needs_count c.args.tree.now assigned places c.len-count.ensures.tree c.places-places.ensures c.requires all c.loop-m.ends.items messages noted n
+    let bound = needs_count c.args.tree.now assigned spans c.len-count.ensures.tree c.spans-spans.ensures c.requires all c.loop-m.ends.items messages noted n
     (omega arith) c.loop-m.invariant.reached left gathered gathers in
-    let long : length c.extend_from_slice.new.self.items ≡ length all + length (chosen gathered (get_or noted (first_of places assigned (n + 1)) 0))
-    = ap length items ∙ length-append all (chosen gathered (get_or noted (first_of places assigned (n + 1)) 0)) in
+    let long : length c.extend_from_slice.new.self.items ≡ length all + length (chosen gathered (get_or noted (first_of spans assigned (n + 1)) 0))
+    = ap length items ∙ length-append all (chosen gathered (get_or noted (first_of spans assigned (n + 1)) 0)) in
     let few : length assigned ≤ 65536 = c.len.ensures.few in
     let short : length c.extend_from_slice.new.self.items ≤ 131072 = omega (arith, bound, long, few) in
     search rules
@@ -57,7 +57,7 @@ pub loop-m-preserved : goal.loop-m-preserved
 loop-m-preserved c =
     let tree = c.args.tree.now in
     let assigned = c.args.assigned.now in
-    let places = c.places-places.result.now in
+    let spans = c.spans-spans.result.now in
     let all = c.loop-m.all.items in
     let ends = c.loop-m.ends.items in
     let messages = c.loop-m.opened in
@@ -68,24 +68,24 @@ loop-m-preserved c =
     let next : c.loop-m.m ≡ n + 1 = omega arith in
     let reached = c.loop-m.invariant.reached in
     let gathered = c.in_ok-take_needs.ensures.0 in
-    let same : place_at places c.of.result.0 ≡ message_place places assigned (n + 1)
-    = ap (λ a. place_at places a) (c.of.ensures ∙ ap (λ i. affinity_of assigned i) next) in
-    let gathers = subst (λ (p : Place). AreGathered p.first p.end messages left gathered) same c.in_ok-take_needs.ensures.1 in
-    let needs = chosen gathered (get_or noted (first_of places assigned (n + 1)) 0) in
+    let same : span_at spans c.of.result.0 ≡ message_span spans assigned (n + 1)
+    = ap (λ a. span_at spans a) (c.of.ensures ∙ ap (λ i. affinity_of assigned i) next) in
+    let gathers = subst (λ (p : Span). AreGathered p.first p.end messages left gathered) same c.in_ok-take_needs.ensures.1 in
+    let needs = chosen gathered (get_or noted (first_of spans assigned (n + 1)) 0) in
     let more : c.take_needs.new.needs.items ≡ needs
-    = c.in_ok-take_needs.ensures.2 ∙ ap (λ (p : Place). chosen gathered (get_or noted p.first 0)) same in
+    = c.in_ok-take_needs.ensures.2 ∙ ap (λ (p : Span). chosen gathered (get_or noted p.first 0)) same in
     let items : c.extend_from_slice.new.self.items ≡ all ++ needs
     = c.in_ok-extend_from_slice.ensures.items ∙ ap (λ xs. all ++ xs) (c.as_slice.ensures.value ∙ more) in
     let last : c.len-in-loop-m.result ≡ length (all ++ needs) = search (rules, ap length items) in
     let pushed : c.push.new.self.items ≡ ends ++ length (all ++ needs) ∷ [] = c.in_ok-push.ensures.items ∙ ap (λ x. ends ++ x ∷ []) last in
-    let put : c.put.new.self ≡ set left (first_of places assigned (n + 1)) (n + 1)
-    = c.put.ensures ∙ ap (λ (p : Place). set left p.first c.loop-m.m) same ∙ ap (λ m. set left (first_of places assigned (n + 1)) m) next in
-    let notes = subst (λ m. IsNoted by_number (first_of places assigned (n + 1)) (end_of places assigned (n + 1)) m noted new_noted) next
-    (subst (λ (p : Place). IsNoted by_number p.first p.end c.loop-m.m noted new_noted) same c.note.ensures) in
+    let put : c.put.new.self ≡ set left (first_of spans assigned (n + 1)) (n + 1)
+    = c.put.ensures ∙ ap (λ (p : Span). set left p.first c.loop-m.m) same ∙ ap (λ m. set left (first_of spans assigned (n + 1)) m) next in
+    let notes = subst (λ m. IsNoted by_number (first_of spans assigned (n + 1)) (end_of spans assigned (n + 1)) m noted new_noted) next
+    (subst (λ (p : Span). IsNoted by_number p.first p.end c.loop-m.m noted new_noted) same c.note.ensures) in
     let one_more : c.loop-m.m + 1 - 1 ≡ n + 1 = omega arith in
     record {
       reached = rw (items, pushed, put, one_more)
-          (reached_more tree assigned places c.len-count.ensures.tree c.places-places.ensures c.requires all ends messages noted n (omega arith) reached
+          (reached_more tree assigned spans c.len-count.ensures.tree c.spans-spans.ensures c.requires all ends messages noted n (omega arith) reached
           left gathered gathers new_noted notes);
     }
 

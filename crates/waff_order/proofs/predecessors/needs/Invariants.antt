@@ -4,5 +4,5 @@ use Rattle.waff_order.proofs.predecessors.needs.Given as goal
 
 abbrev pub invariant-loop-m : goal.invariant-loop-m
 invariant-loop-m l = record {
-  reached : IsReached l.tree l.assigned l.places l.all.items l.ends.items l.opened l.latest (l.m - 1);
+  reached : IsReached l.tree l.assigned l.spans l.all.items l.ends.items l.opened l.latest (l.m - 1);
 }

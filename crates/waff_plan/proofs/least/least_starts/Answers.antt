@@ -1,9 +1,9 @@
 use Rattle.std.proofs.Common.{◌≡◌, ℕ, ◌+◌, ◌-◌, ◌*◌, ◌^◌, ◌<◌, ◌≤◌, length, arith, sym, ◌∙◌, ap, subst}
-use Rattle.waff_model.specs.Places.{place_at}
+use Rattle.waff_model.specs.Preorder.{span_at}
 use Rattle.waff_assign.specs.Order.{IsOrdered}
 use Rattle.waff_plan.specs.Work.{finish_of}
 use Rattle.waff_plan.specs.Timing.{work_of, start_of}
-use Rattle.waff_plan.specs.Table.{message_place, IsTable}
+use Rattle.waff_plan.specs.Table.{message_span, IsTable}
 use Rattle.waff_plan.proofs.Forward.{IsOrdered_forward}
 use Rattle.waff_plan.proofs.Steps.{IsLeastUpTo, up_to_all}
 use Rattle.waff_plan.proofs.Planned.{planned_none, found_at, start_early, planned_next, early_is_printable}
@@ -18,25 +18,25 @@ overflow_add-finish c =
     let from : 1 ≤ m = c.loop-m.auto.m in
     let to : m ≤ 65536 = omega (arith, c.len-m-end.ensures.few, c.len-m-end.ensures.count, c.loop-m-test.true) in
     let early : c.start_after-start.result ≤ 2 ^ 32 * m
-    = start_early c.args.tree.now c.places-places.result.now assigned work starts m c.start_after-start.result c.loop-m.table c.latest.result
+    = start_early c.args.tree.now c.spans-spans.result.now assigned work starts m c.start_after-start.result c.loop-m.table c.latest.result
     from c.loop-m.invariant.planned c.start_after-start.ensures.release
-    (found_at c.args.tree.now c.places-places.result.now assigned (finish_of work (start_of starts)) m c.of.result.0 c.loop-m.table
-    c.latest.result c.places-places.ensures c.requires.known from (omega (arith, c.len-m-end.ensures.count, c.loop-m-test.true)) c.of.ensures c.loop-m.invariant.planned.table c.latest.ensures)
+    (found_at c.args.tree.now c.spans-spans.result.now assigned (finish_of work (start_of starts)) m c.of.result.0 c.loop-m.table
+    c.latest.result c.spans-spans.ensures c.requires.known from (omega (arith, c.len-m-end.ensures.count, c.loop-m-test.true)) c.of.ensures c.loop-m.invariant.planned.table c.latest.ensures)
     c.start_after-start.ensures.start in
     let cost : c.from.result < 2 ^ 32 = omega (arith, c.from.ensures, c.start_after-start.ensures.cost) in
     omega arith
 
 pub loop-m-init : goal.loop-m-init
 loop-m-init c = record {
-  planned = planned_none c.args.tree.now c.places-places.result.now c.args.assigned.now (work_of c.args.timings.now) c.in_ok-starts.starts.items c.in_ok-table.table (sym c.requires.lengths)
-      (ap length c.in_ok-starts.ensures.items) (c.in_ok-table.ensures.table c.places-places.result.now c.args.assigned.now);
-  places = c.in_ok-table.ensures.count ∙ c.len.ensures.count;
+  planned = planned_none c.args.tree.now c.spans-spans.result.now c.args.assigned.now (work_of c.args.timings.now) c.in_ok-starts.starts.items c.in_ok-table.table (sym c.requires.lengths)
+      (ap length c.in_ok-starts.ensures.items) (c.in_ok-table.ensures.table c.spans-spans.result.now c.args.assigned.now);
+  spans = c.in_ok-table.ensures.count ∙ c.len.ensures.count;
 }
 
 pub loop-m-preserved : goal.loop-m-preserved
 loop-m-preserved c =
     let tree = c.args.tree.now in
-    let places = c.places-places.result.now in
+    let spans = c.spans-spans.result.now in
     let assigned = c.args.assigned.now in
     let work = work_of c.args.timings.now in
     let starts = c.loop-m.starts.items in
@@ -47,22 +47,22 @@ loop-m-preserved c =
     let from : 1 ≤ m = c.loop-m.auto.m in
     let to : m ≤ work.count = omega (arith, c.len-m-end.ensures.count, c.loop-m-test.true, c.requires.lengths) in
     let planned = c.loop-m.invariant.planned in
-    let found = found_at tree places assigned (finish_of work (start_of starts)) m c.of.result.0 table c.latest.result c.places-places.ensures c.requires.known
+    let found = found_at tree spans assigned (finish_of work (start_of starts)) m c.of.result.0 table c.latest.result c.spans-spans.ensures c.requires.known
     from (omega (arith, to, c.requires.lengths)) c.of.ensures planned.table c.latest.ensures in
     let is = c.start_after-start.ensures.start in
-    let early = start_early tree places assigned work starts m start table c.latest.result from planned c.start_after-start.ensures.release found is in
+    let early = start_early tree spans assigned work starts m start table c.latest.result from planned c.start_after-start.ensures.release found is in
     let this : m - 1 + 1 ≡ m = omega arith in
-    let note : (finish : ℕ → ℕ) → IsTable places assigned finish (m - 1) table → finish m ≡ start + work.cost m → IsTable places assigned finish m next
+    let note : (finish : ℕ → ℕ) → IsTable spans assigned finish (m - 1) table → finish m ≡ start + work.cost m → IsTable spans assigned finish m next
     = λ finish h finish_is.
-    subst (λ x. IsTable places assigned finish x next) this
-    (c.note.ensures.table places assigned finish (m - 1) h (sym this)
-    (ap (λ x. message_place places assigned x) this ∙ ap (λ x. place_at places x) (sym c.of.ensures))
+    subst (λ x. IsTable spans assigned finish x next) this
+    (c.note.ensures.table spans assigned finish (m - 1) h (sym this)
+    (ap (λ x. message_span spans assigned x) this ∙ ap (λ x. span_at spans x) (sym c.of.ensures))
     (ap finish this ∙ finish_is ∙ ap (λ x. start + x) (sym c.from.ensures))) in
-    let more = planned_next tree places assigned work starts m start table next c.latest.result (sym c.requires.lengths) from to
+    let more = planned_next tree spans assigned work starts m start table next c.latest.result (sym c.requires.lengths) from to
     c.start_after-start.ensures.cost early planned found is note in
     record {
       planned = rw c.in_ok-push.ensures.items more;
-      places = c.note.ensures.count ∙ c.loop-m.invariant.places;
+      spans = c.note.ensures.count ∙ c.loop-m.invariant.spans;
     }
 
 pub returns-clause-least : goal.returns-clause-least
@@ -76,5 +76,5 @@ returns-clause-least c =
 
 pub returns-clause-printable : goal.returns-clause-printable
 returns-clause-printable c =
-    early_is_printable c.args.tree.now c.places-places.result.now c.args.assigned.now (work_of c.args.timings.now) c.loop-m.starts.items (c.loop-m.m - 1)
+    early_is_printable c.args.tree.now c.spans-spans.result.now c.args.assigned.now (work_of c.args.timings.now) c.loop-m.starts.items (c.loop-m.m - 1)
     c.loop-m.table (omega (arith, c.len-m-end.ensures.few, c.len-m-end.ensures.count)) c.loop-m.invariant.planned

@@ -5,6 +5,6 @@ use Rattle.waff_plan.proofs.least.least_starts.Given as goal
 
 abbrev pub invariant-loop-m : goal.invariant-loop-m
 invariant-loop-m l = record {
-  planned : IsPlanned l.tree l.places l.assigned (work_of l.timings) l.starts.items (l.m - 1) l.table;
-  places : length l.table.own ≡ length l.tree;
+  planned : IsPlanned l.tree l.spans l.assigned (work_of l.timings) l.starts.items (l.m - 1) l.table;
+  spans : length l.table.own ≡ length l.tree;
 }

@@ -1,9 +1,9 @@
 use Rattle.std.proofs.Common.{◌≡◌, ◌+◌, ◌-◌, ◌≤◌, [], ◌∷◌, ◌++◌, length, arith, sym, ◌∙◌, ap, subst}
 use Rattle.std.proofs.lemmas.List.{length_push}
-use Rattle.waff_model.specs.Places.{place_at}
+use Rattle.waff_model.specs.Preorder.{span_at}
 use Rattle.waff_assign.specs.Order.{IsOrdered}
 use Rattle.waff_plan.specs.Work.{finish_of}
-use Rattle.waff_plan.specs.Table.{message_place, IsTable}
+use Rattle.waff_plan.specs.Table.{message_span, IsTable}
 use Rattle.waff_plan.specs.Links.{IsLink, link_of}
 use Rattle.waff_plan.specs.Timetable.{work_in, starts_in}
 use Rattle.waff_plan.proofs.Linkings.{is_link, links_more}
@@ -14,8 +14,8 @@ pub loop-m-init : goal.loop-m-init
 loop-m-init c = record {
   count = ap length c.in_ok-links.ensures.items;
   links = λ m from to. absurd (omega arith);
-  table = c.in_ok-table.ensures.table c.places-places.result.now c.args.assigned.now _;
-  places = c.in_ok-table.ensures.count ∙ c.len.ensures.count;
+  table = c.in_ok-table.ensures.table c.spans-spans.result.now c.args.assigned.now _;
+  spans = c.in_ok-table.ensures.count ∙ c.len.ensures.count;
 }
 
 pub loop-m-preserved : goal.loop-m-preserved
@@ -26,26 +26,26 @@ loop-m-preserved c =
     let start = starts_in c.args.plan.now in
     let finish = finish_of work start in
     let links = c.loop-m.links.items in
-    let places = c.places-places.result.now in
+    let spans = c.spans-spans.result.now in
     let m = c.loop-m.m in
     let link = c.waited_for-link.result in
     let from : 1 ≤ m = c.loop-m.auto.m in
     let to : m ≤ length assigned = omega (arith, c.len-m-end.ensures.count, c.loop-m-test.true, c.requires.lengths) in
     let this : m - 1 + 1 ≡ m = omega arith in
     let next : m ≡ m + 1 - 1 = omega arith in
-    let found = found_at tree places assigned finish m c.of.result.0 c.loop-m.table c.latest.result c.places-places.ensures c.requires.known from to c.of.ensures
+    let found = found_at tree spans assigned finish m c.of.result.0 c.loop-m.table c.latest.result c.spans-spans.ensures c.requires.known from to c.of.ensures
     c.loop-m.invariant.table c.latest.ensures in
     let link_is : link ≡ link_of c.latest.result (work.release m)
     = c.waited_for-link.ensures ∙ ap (λ release. link_of c.latest.result release) c.release.ensures.release in
     let is : IsLink (IsOrdered tree assigned) work start m link
     = subst (λ x. IsLink (IsOrdered tree assigned) work start m x) (sym link_is) (is_link tree assigned work start m c.latest.result from to found) in
     let more = links_more (IsOrdered tree assigned) work start m links link from c.loop-m.invariant.count c.loop-m.invariant.links is in
-    let noted = c.note.ensures.table places assigned finish (m - 1) c.loop-m.invariant.table (sym this)
-    (ap (λ x. message_place places assigned x) this ∙ ap (λ x. place_at places x) (sym c.of.ensures)) (ap finish this ∙ sym c.finish-finish.ensures.finish) in
+    let noted = c.note.ensures.table spans assigned finish (m - 1) c.loop-m.invariant.table (sym this)
+    (ap (λ x. message_span spans assigned x) this ∙ ap (λ x. span_at spans x) (sym c.of.ensures)) (ap finish this ∙ sym c.finish-finish.ensures.finish) in
     let items : c.push.new.self.items ≡ links ++ link ∷ [] = c.in_ok-push.ensures.items in
     record {
       count = rw items (let long = length_push links link in omega (arith, long, c.loop-m.invariant.count));
       links = rw items more;
-      table = subst (λ x. IsTable places assigned finish x c.note.new.self) (this ∙ next) noted;
-      places = c.note.ensures.count ∙ c.loop-m.invariant.places;
+      table = subst (λ x. IsTable spans assigned finish x c.note.new.self) (this ∙ next) noted;
+      spans = c.note.ensures.count ∙ c.loop-m.invariant.spans;
     }

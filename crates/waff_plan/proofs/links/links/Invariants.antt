@@ -10,6 +10,6 @@ abbrev pub invariant-loop-m : goal.invariant-loop-m
 invariant-loop-m l = record {
   count : length l.links.items ≡ l.m - 1;
   links : AreLinks (IsOrdered l.tree l.assigned) (work_in l.plan) (starts_in l.plan) (l.m - 1) l.links.items;
-  table : IsTable l.places l.assigned (finish_of (work_in l.plan) (starts_in l.plan)) (l.m - 1) l.table;
-  places : length l.table.own ≡ length l.tree;
+  table : IsTable l.spans l.assigned (finish_of (work_in l.plan) (starts_in l.plan)) (l.m - 1) l.table;
+  spans : length l.table.own ≡ length l.tree;
 }

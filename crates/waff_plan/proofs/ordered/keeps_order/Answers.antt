@@ -1,8 +1,8 @@
 -- Each message starts after the latest of the noted ones that exclude it.
 use Rattle.std.proofs.Common.{◌≡◌, ◌+◌, ◌-◌, ◌<◌, ◌≤◌, length, IfSome, arith, sym, ◌∙◌, ap, subst}
-use Rattle.waff_model.specs.Places.{place_at}
+use Rattle.waff_model.specs.Preorder.{span_at}
 use Rattle.waff_plan.specs.Work.{finish_of}
-use Rattle.waff_plan.specs.Table.{message_place, IsTable}
+use Rattle.waff_plan.specs.Table.{message_span, IsTable}
 use Rattle.waff_plan.specs.Timetable.{work_in, starts_in}
 use Rattle.waff_plan.proofs.OrderKept.{after_latest, found_among, keeps_more, noted_before, starts_after}
 use Rattle.waff_plan.proofs.ordered.keeps_order.Goals as goal
@@ -13,9 +13,9 @@ loop-m-init c = record {
   kept = λ i j o early. let from : 1 ≤ i = o.ordered.from in let earlier : i < j = o.ordered.earlier in absurd (omega arith);
   table =
       let none : 0 ≡ noted_before c.args.count 1 = omega arith in
-      subst (λ x. IsTable c.places-places.result.now c.args.assigned.now (finish_of (work_in c.args.plan.now) (starts_in c.args.plan.now)) x c.in_ok-table.table)
-      none (c.in_ok-table.ensures.table c.places-places.result.now c.args.assigned.now _);
-  places = c.in_ok-table.ensures.count ∙ c.len.ensures.count;
+      subst (λ x. IsTable c.spans-spans.result.now c.args.assigned.now (finish_of (work_in c.args.plan.now) (starts_in c.args.plan.now)) x c.in_ok-table.table)
+      none (c.in_ok-table.ensures.table c.spans-spans.result.now c.args.assigned.now _);
+  spans = c.in_ok-table.ensures.count ∙ c.len.ensures.count;
 }
 
 pub returns-then-not-is_finished_by : goal.returns-then-not-is_finished_by
@@ -24,14 +24,14 @@ returns-then-not-is_finished_by c =
     let assigned = c.args.assigned.now in
     let work = work_in c.args.plan.now in
     let start = starts_in c.args.plan.now in
-    let places = c.places-places.result.now in
+    let spans = c.spans-spans.result.now in
     let count = c.args.count in
     let m = c.loop-m.m in
     let kept = c.loop-m.invariant in
     let from : 1 ≤ m = c.loop-m.auto.m in
     let to : m ≤ length assigned = omega (arith, c.len-m-end.ensures.count, c.loop-m-test.true) in
-    let found = found_among tree places assigned (finish_of work start) (noted_before count m) m c.of.result.0 c.loop-m.table c.latest.result
-    c.places-places.ensures c.requires.known (omega arith) to c.of.ensures kept.table c.latest.ensures in (
+    let found = found_among tree spans assigned (finish_of work start) (noted_before count m) m c.of.result.0 c.loop-m.table c.latest.result
+    c.spans-spans.ensures c.requires.known (omega arith) to c.of.ensures kept.table c.latest.ensures in (
       λ t. absurd (cc t),
       λ order. (
           let late : IfSome c.latest.result (λ l. l.finish ≤ start m) = after_latest tree assigned work start count m c.latest.result to found order in
@@ -45,14 +45,14 @@ loop-m-preserved c =
     let assigned = c.args.assigned.now in
     let work = work_in c.args.plan.now in
     let start = starts_in c.args.plan.now in
-    let places = c.places-places.result.now in
+    let spans = c.spans-spans.result.now in
     let count = c.args.count in
     let m = c.loop-m.m in
     let kept = c.loop-m.invariant in
     let from : 1 ≤ m = c.loop-m.auto.m in
     let to : m ≤ length assigned = omega (arith, c.len-m-end.ensures.count, c.loop-m-test.true) in
-    let found = found_among tree places assigned (finish_of work start) (noted_before count m) m c.of.result.0 c.loop-m.table c.latest.result
-    c.places-places.ensures c.requires.known (omega arith) to c.of.ensures kept.table c.latest.ensures in
+    let found = found_among tree spans assigned (finish_of work start) (noted_before count m) m c.of.result.0 c.loop-m.table c.latest.result
+    c.spans-spans.ensures c.requires.known (omega arith) to c.of.ensures kept.table c.latest.ensures in
     let late : IfSome c.latest.result (λ l. l.finish ≤ start m) = rw (sym c.start.ensures.start) (c.is_finished_by.ensures.0 c.if-not-is_finished_by.false) in
     let more = keeps_more tree assigned work start count m kept.kept (starts_after tree assigned work start count m c.latest.result found late) in
     let this : m - 1 + 1 ≡ m = omega arith in
@@ -61,14 +61,14 @@ loop-m-preserved c =
           let within : m ≤ count = omega (arith, w.if-m-count.true) in
           let before : noted_before count m ≡ m - 1 = omega arith in
           let after : m - 1 + 1 ≡ noted_before count (m + 1) = omega arith in
-          let noted : IsTable places assigned (finish_of work start) (m - 1 + 1) w.note.new.self
-          = w.note.ensures.table places assigned (finish_of work start) (m - 1) (subst (λ x. IsTable places assigned (finish_of work start) x c.loop-m.table) before kept.table) (sym this)
-          (ap (λ x. message_place places assigned x) this ∙ ap (λ x. place_at places x) (sym c.of.ensures))
+          let noted : IsTable spans assigned (finish_of work start) (m - 1 + 1) w.note.new.self
+          = w.note.ensures.table spans assigned (finish_of work start) (m - 1) (subst (λ x. IsTable spans assigned (finish_of work start) x c.loop-m.table) before kept.table) (sym this)
+          (ap (λ x. message_span spans assigned x) this ∙ ap (λ x. span_at spans x) (sym c.of.ensures))
           (ap (finish_of work start) this ∙ sym w.finish-finish.ensures.finish) in
           rw w.table-is (record {
             kept = more;
-            table = subst (λ x. IsTable places assigned (finish_of work start) x w.note.new.self) after noted;
-            places = w.note.ensures.count ∙ kept.places;
+            table = subst (λ x. IsTable spans assigned (finish_of work start) x w.note.new.self) after noted;
+            spans = w.note.ensures.count ∙ kept.spans;
           })
           )
       | else-m-count w ↦ (
@@ -76,8 +76,8 @@ loop-m-preserved c =
           let same : noted_before count m ≡ noted_before count (m + 1) = omega arith in
           rw w.table-is (record {
             kept = more;
-            table = subst (λ x. IsTable places assigned (finish_of work start) x c.loop-m.table) same kept.table;
-            places = kept.places;
+            table = subst (λ x. IsTable spans assigned (finish_of work start) x c.loop-m.table) same kept.table;
+            spans = kept.spans;
           })
           )
     ]

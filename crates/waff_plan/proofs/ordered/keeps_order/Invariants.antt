@@ -8,6 +8,6 @@ use Rattle.waff_plan.proofs.ordered.keeps_order.Given as goal
 abbrev pub invariant-loop-m : goal.invariant-loop-m
 invariant-loop-m l = record {
   kept : KeepsOrderBelow l.tree l.assigned (work_in l.plan) (starts_in l.plan) l.count l.m;
-  table : IsTable l.places l.assigned (finish_of (work_in l.plan) (starts_in l.plan)) (noted_before l.count l.m) l.table;
-  places : length l.table.own ≡ length l.tree;
+  table : IsTable l.spans l.assigned (finish_of (work_in l.plan) (starts_in l.plan)) (noted_before l.count l.m) l.table;
+  spans : length l.table.own ≡ length l.tree;
 }

@@ -5,14 +5,14 @@ use Rattle.std.proofs.lemmas.Iterator.Splits.{YieldsList-from_str_split}
 use Rattle.std.proofs.lemmas.List.{length_push}
 use Rattle.std.proofs.lemmas.List.Elements.{All-push, All-nil}
 use Rattle.waff_parse.proofs.Laws.{with_front-nil}
-use Rattle.waff_plan.specs.Chain.{IsMessage}
+use Rattle.waff_plan.specs.Chain.{IsAmongFirst}
 use Rattle.waff_plan_text.proofs.LineLaws.{links-all, links-many, links-refused, links-step, links-whole}
 use Rattle.waff_plan_text.proofs.lines.links.Goals as goal
 
 pub loop-link-init : goal.loop-link-init
 loop-link-init c =
     let none = c.new-chain.ensures.items in
-    record { count = ap length none; each = rw none (All-nil (IsMessage c.args.messages)); links = rw none (with_front-nil _) }
+    record { count = ap length none; each = rw none (All-nil (IsAmongFirst c.args.messages)); links = rw none (with_front-nil _) }
 
 pub returns-in-None-number_within-clause-value : goal.returns-in-None-number_within-clause-value
 returns-in-None-number_within-clause-value c =
@@ -35,7 +35,7 @@ loop-link-preserved c =
     let f = c.from.ensures in
     record {
       count = omega (arith, ap length p, length_push c.loop-link.chain.items c.in-Some-number_within.message, len, c.loop-link.invariant.count);
-      each = rw p (All-push (IsMessage c.args.messages) c.loop-link.chain.items c.in-Some-number_within.message c.loop-link.invariant.each
+      each = rw p (All-push (IsAmongFirst c.args.messages) c.loop-link.chain.items c.in-Some-number_within.message c.loop-link.invariant.each
           (record { from = w.0; to = omega (arith, w.1, f) }));
       links = links-step c.args.messages (length c.loop-link.yielded) _ c.in-Some-number_within.message c.args.text.now c.in-Some.link.now c.loop-link.chain.items c.push.new.self.items
           turn.0 turn.1 (rw f at c.in-Some-number_within.ensures.value) p len ∙ c.loop-link.invariant.links;

@@ -3,27 +3,27 @@ use Rattle.std.proofs.Common.{◌≡◌, ℕ, zero, suc, ◌+◌, ◌<◌, ◌�
 use Rattle.std.proofs.lemmas.Bool.{cases_order}
 use Rattle.std.proofs.lemmas.List.{get_or_default}
 use Rattle.waff_model.specs.Tree.{Node, parent_of, Leads, AtOrAbove, IsRooted}
-use Rattle.waff_model.specs.declared.places.Place.{Place}
-use Rattle.waff_model.specs.Places.{place_at, Spans, ArePlaces, AreNested}
+use Rattle.waff_model.specs.declared.preorder.Span.{Span}
+use Rattle.waff_model.specs.Preorder.{span_at, Spans, AreSpans, AreNested}
 use Rattle.waff_model.proofs.TreeLemmas.{reflexive, above_child, above_parent, earlier}
 
 -- a read of an affinity's place, whatever stands past the end
-pub place_at_any : (places : List Place) (b : ℕ) (p : Place) → b < length places → get_or places b p ≡ place_at places b
-place_at_any places b p within = get_or_default places b p (record { parent = None; first = 0; end = 0 }) within
+pub place_at_any : (spans : List Span) (b : ℕ) (p : Span) → b < length spans → get_or spans b p ≡ span_at spans b
+place_at_any spans b p within = get_or_default spans b p (record { parent = None; first = 0; end = 0 }) within
 
 -- the places of q lie among those below p
-abbrev Nests : Place → Place → Type 0
+abbrev Nests : Span → Span → Type 0
 Nests p q = (p.first < q.first) × (q.end ≤ p.end)
 
 -- p and q have no place in common
-abbrev Apart : Place → Place → Type 0
+abbrev Apart : Span → Span → Type 0
 Apart p q = (p.end ≤ q.first) ⊎ (q.end ≤ p.first)
 
-apart_inside : (p q r : Place) → Nests p q → Apart p r → Apart q r
+apart_inside : (p q r : Span) → Nests p q → Apart p r → Apart q r
 apart_inside p q r nests (inl before) = inl (omega arith)
 apart_inside p q r nests (inr past) = inr (omega arith)
 
-apart_swapped : (p q : Place) → Apart p q → Apart q p
+apart_swapped : (p q : Span) → Apart p q → Apart q p
 apart_swapped p q (inl before) = inr before
 apart_swapped p q (inr past) = inl past
 
@@ -31,28 +31,28 @@ some_of : (o : Option ℕ) → IsSome o → (p : ℕ) × (o ≡ Some p)
 some_of None none = absurd (cc)
 some_of (Some p) some = (p, refl)
 
-module _ (tree : List Node) (places : List Place) (rooted : IsRooted tree) (are : ArePlaces tree places) where
-  nests_in_parent : (b p : ℕ) → b < length tree → parent_of tree b ≡ Some p → Nests (place_at places p) (place_at places b)
+module _ (tree : List Node) (spans : List Span) (rooted : IsRooted tree) (are : AreSpans tree spans) where
+  nests_in_parent : (b p : ℕ) → b < length tree → parent_of tree b ≡ Some p → Nests (span_at spans p) (span_at spans b)
   nests_in_parent b p within parent = (are.after b p within parent, are.within b p within parent)
 
-  leads_nested : (n a b : ℕ) → b < length tree → Leads tree n a b → (a ≡ b) ⊎ Nests (place_at places a) (place_at places b)
+  leads_nested : (n a b : ℕ) → b < length tree → Leads tree n a b → (a ≡ b) ⊎ Nests (span_at spans a) (span_at spans b)
   leads_nested zero a b within same = inl same
   leads_nested (suc n) a b within (p, parent, leads) =
       let before : p < b = rooted.earlier b p parent in
       let inside = nests_in_parent b p within parent in
       inr (elim (leads_nested n a p (omega arith) leads) [
-        | inl same ↦ subst (λ a. Nests (place_at places a) (place_at places b)) (sym same) inside
+        | inl same ↦ subst (λ a. Nests (span_at spans a) (span_at spans b)) (sym same) inside
         | inr nests ↦ (omega arith, omega arith)
       ])
 
   -- two affinities are one at or above the other, or apart
   abbrev Related : ℕ → ℕ → Type 0
-  Related a b = AtOrAbove tree a b ⊎ (AtOrAbove tree b a ⊎ Apart (place_at places a) (place_at places b))
+  Related a b = AtOrAbove tree a b ⊎ (AtOrAbove tree b a ⊎ Apart (span_at spans a) (span_at spans b))
 
   related_swapped : (a b : ℕ) → Related a b → Related b a
   related_swapped a b (inl above) = inr (inl above)
   related_swapped a b (inr (inl below)) = inl below
-  related_swapped a b (inr (inr apart)) = inr (inr (apart_swapped (place_at places a) (place_at places b) apart))
+  related_swapped a b (inr (inr apart)) = inr (inr (apart_swapped (span_at spans a) (span_at spans b) apart))
 
   -- the parent q of b is at or above a, which stands before b
   related_below_parent : (a b q : ℕ) → a < b → b < length tree → parent_of tree b ≡ Some q → AtOrAbove tree q a → ((x : ℕ) → x < a → Related x b) → Related a b
@@ -68,7 +68,7 @@ module _ (tree : List Node) (places : List Place) (rooted : IsRooted tree) (are 
               let two : q ≤ r = earlier tree rooted q r (n, leads) in
               elim other [ inl less ↦ absurd (omega arith) | inr more ↦ absurd (omega arith) ]
           | inr (inl under) ↦ let three : b ≤ r = earlier tree rooted b r under in absurd (omega arith)
-          | inr (inr apart) ↦ inr (inr (apart_inside (place_at places r) (place_at places a) (place_at places b) (nests_in_parent a r (omega arith) parent_r) apart))
+          | inr (inr apart) ↦ inr (inr (apart_inside (span_at spans r) (span_at spans a) (span_at spans b) (nests_in_parent a r (omega arith) parent_r) apart))
         ]
       ]
 
@@ -79,7 +79,7 @@ module _ (tree : List Node) (places : List Place) (rooted : IsRooted tree) (are 
       elim (below a q (omega arith) (omega arith) (omega arith)) [
         | inl above ↦ inl (above_child tree a b q parent above)
         | inr (inl under) ↦ related_below_parent a b q order within parent under (λ x less. below x b (omega arith) (omega arith) within)
-        | inr (inr apart) ↦ inr (inr (apart_swapped (place_at places b) (place_at places a) (apart_inside (place_at places q) (place_at places b) (place_at places a) (nests_in_parent b q within parent) (apart_swapped (place_at places a) (place_at places q) apart))))
+        | inr (inr apart) ↦ inr (inr (apart_swapped (span_at spans b) (span_at spans a) (apart_inside (span_at spans q) (span_at spans b) (span_at spans a) (nests_in_parent b q within parent) (apart_swapped (span_at spans a) (span_at spans q) apart))))
       ]
 
   related : (n a b : ℕ) → a + b < n → a < length tree → b < length tree → Related a b
@@ -90,15 +90,15 @@ module _ (tree : List Node) (places : List Place) (rooted : IsRooted tree) (are 
     | inr (inr after) ↦ related_swapped b a (related_before b a after within_a (λ x y less within_x within_y. related n x y (omega arith) within_x within_y))
   ]
 
-  above_spans : (a b : ℕ) → b < length tree → AtOrAbove tree a b → Spans (place_at places a) (place_at places b)
+  above_spans : (a b : ℕ) → b < length tree → AtOrAbove tree a b → Spans (span_at spans a) (span_at spans b)
   above_spans a b within (n, leads) =
       let filled = are.filled b within in
       elim (leads_nested n a b within leads) [
-        | inl same ↦ subst (λ a. Spans (place_at places a) (place_at places b)) (sym same) (omega arith, filled)
+        | inl same ↦ subst (λ a. Spans (span_at spans a) (span_at spans b)) (sym same) (omega arith, filled)
         | inr nests ↦ (omega arith, omega arith)
       ]
 
-  spans_above : (a b : ℕ) → a < length tree → b < length tree → Spans (place_at places a) (place_at places b) → AtOrAbove tree a b
+  spans_above : (a b : ℕ) → a < length tree → b < length tree → Spans (span_at spans a) (span_at spans b) → AtOrAbove tree a b
   spans_above a b within_a within_b spans =
       let filled = are.filled b within_b in
       elim (related (suc (a + b)) a b (omega arith) within_a within_b) [
@@ -112,8 +112,8 @@ module _ (tree : List Node) (places : List Place) (rooted : IsRooted tree) (are 
       ]
 
   -- an affinity's places are those of the affinities that it is at or above
-  pub spans_where_above : (a b : ℕ) → a < length tree → b < length tree → Spans (place_at places a) (place_at places b) ↔ AtOrAbove tree a b
+  pub spans_where_above : (a b : ℕ) → a < length tree → b < length tree → Spans (span_at spans a) (span_at spans b) ↔ AtOrAbove tree a b
   spans_where_above a b within_a within_b = (spans_above a b within_a within_b, above_spans a b within_b)
 
-  pub nested : AreNested tree places
-  nested = record { count = are.count; filled = are.filled; few = are.few; spans = spans_where_above }
+  pub nested : AreNested tree spans
+  nested = record { count = are.count; filled = are.filled; few = are.few; tells = spans_where_above }

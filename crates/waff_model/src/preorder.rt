@@ -1,23 +1,23 @@
-//! The places of affinities in preorder: those below an affinity follow right after it.
+//! The spans of affinities in preorder: those below an affinity follow right after it.
 
 ghost use Rattle.std.specs.Prelude.{◌≡◌, ◌↔◌, length, replicate, IsTrue, IfOk};
 ghost use Rattle.waff_model.specs.Tree.{IsRooted};
-ghost use Rattle.waff_model.specs.Places.{Spans, ArePlaces, leaf, AreShares};
+ghost use Rattle.waff_model.specs.Preorder.{Spans, AreSpans, leaf, AreShares};
 
 use crate::nodes::Nodes;
 use std::alloc::AllocError;
 
 /// Where an affinity stands in preorder: at `first`, and those below it after it, up to `end`.
 #[derive(Clone, Copy)]
-pub struct Place {
+pub struct Span {
     pub(crate) parent: Option<u16>,
     pub first: u16,
     pub end: u16,
 }
 
-impl Place {
-    /// Whether the other place is this one or one of those below it.
-    pub fn spans(&self, other: &Place) -> bool
+impl Span {
+    /// Whether the other affinity is this one or one of those below it.
+    pub fn spans(&self, other: &Span) -> bool
         ensures { IsTrue result ↔ Spans self.now other.now }
     {
         self.first <= other.first && other.first < self.end
@@ -32,10 +32,10 @@ struct Share {
     size: u16,
 }
 
-/// The places of the affinities of a tree.
-pub(crate) fn places_of(nodes: &Nodes) -> Result<Vec<Place>, AllocError>
+/// The spans of the affinities of a tree.
+pub(crate) fn spans_of(nodes: &Nodes) -> Result<Vec<Span>, AllocError>
     requires { IsRooted nodes.now }
-    ensures { IfOk result (λ places. ArePlaces nodes.now places.items) }
+    ensures { IfOk result (λ spans. AreSpans nodes.now spans.items) }
 {
     let leaf = Share { offset: 0, size: 1 };
     let mut shares = vec![in nodes.allocator(); leaf; nodes.len()]?;
@@ -59,21 +59,21 @@ fn share_out(nodes: &Nodes, shares: &mut [Share])
     }
 }
 
-/// Places each affinity, from the first to the last, by its share of its parent's places.
-fn arrange(nodes: &Nodes, shares: &[Share]) -> Result<Vec<Place>, AllocError>
+/// Gives each affinity its span, from the first to the last, by its share of its parent's.
+fn arrange(nodes: &Nodes, shares: &[Share]) -> Result<Vec<Span>, AllocError>
     requires tree { IsRooted nodes.now }
     requires shares { AreShares nodes.now shares.now }
-    ensures { IfOk result (λ places. ArePlaces nodes.now places.items) }
+    ensures { IfOk result (λ spans. AreSpans nodes.now spans.items) }
 {
-    let mut places: Vec<Place> = Vec::with_capacity(nodes.allocator(), shares.len())?;
+    let mut spans: Vec<Span> = Vec::with_capacity(nodes.allocator(), shares.len())?;
     for (at, share) in shares.iter().enumerate() {
         let parent = nodes.parent(at);
         let first = match parent {
-            Some(parent) => places[parent as usize].first + share.offset,
+            Some(parent) => spans[parent as usize].first + share.offset,
             None => 0,
         };
         let end = first + share.size;
-        places.push(Place { parent, first, end })?;
+        spans.push(Span { parent, first, end })?;
     }
-    Ok(places)
+    Ok(spans)
 }

@@ -1,7 +1,7 @@
 use Rattle.std.proofs.Common.{◌≡◌, ◌<◌, ◌+◌, ◌-◌, length, Some, subst, sym, ◌∙◌, arith}
 use Rattle.waff_model.specs.Tree.{parent_of}
 use Rattle.waff_model.proofs.ShareLemmas.{AreSharesFrom, both_sizes, shares_given, is_given, none_given, start_given, all_given}
-use Rattle.waff_model.proofs.places.share_out.Goals as goal
+use Rattle.waff_model.proofs.preorder.share_out.Goals as goal
 
 pub overflow_add-shares : goal.overflow_add-shares
 overflow_add-shares c =

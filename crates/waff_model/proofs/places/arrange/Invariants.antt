@@ -1,5 +1,0 @@
-use Rattle.waff_model.proofs.ArrangeLemmas.{ArePlacedBefore}
-use Rattle.waff_model.proofs.places.arrange.Given as goal
-
-abbrev pub invariant-loop-at : goal.invariant-loop-at
-invariant-loop-at l = ArePlacedBefore l.nodes l.shares l.places.items l.at

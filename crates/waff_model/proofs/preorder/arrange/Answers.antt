@@ -1,0 +1,36 @@
+use Rattle.std.proofs.Common.{◌≡◌, ◌<◌, ◌+◌, length, Some, subst, sym, ◌∙◌, arith}
+use Rattle.waff_model.specs.Tree.{parent_of}
+use Rattle.waff_model.specs.Preorder.{share_at, span_at}
+use Rattle.waff_model.specs.declared.preorder.Span.{Span}
+use Rattle.waff_model.proofs.PreorderLemmas.{place_at_any}
+use Rattle.waff_model.proofs.ArrangeLemmas.{ArePlacedBefore, IsPlaced, placed_more, all_placed, parent_placed, root_placed}
+use Rattle.waff_model.proofs.preorder.arrange.Goals as goal
+use Rattle.waff_model.proofs.preorder.arrange.Goals.{in-Some, in-None}
+
+pub loop-at-preserved : goal.loop-at-preserved
+loop-at-preserved c =
+    let tree = c.args.nodes.now in
+    let shares = c.args.shares.now in
+    let spans = c.loop-at.spans.items in
+    let k = c.loop-at.at in
+    let rooted = c.requires.tree in
+    let shared = c.requires.shares in
+    let within : k < length tree = omega (arith, shared.count) in
+    let span : Span = record { parent = c.match-parent.parent; first = c.match-parent.first; end = c.match-parent.first + (share_at shares k).size } in
+    let placed : IsPlaced tree shares spans k span = elim c.match-parent.branch [
+      | in-Some w ↦
+          let p = w.in-Some.parent in
+          let parent : parent_of tree k ≡ Some p = sym c.parent-parent.ensures ∙ w.in-Some.is in
+          let up : p < k = rooted.earlier k p parent in
+          let read : w.index.result.now ≡ span_at spans p = w.index.ensures ∙ place_at_any spans p w.index.result.now (omega (arith, c.loop-at.invariant.count)) in
+          let below : c.match-parent.first ≡ (span_at spans p).first + (share_at shares k).offset = rw (← read) w.first-is in
+          rw w.parent-is (parent_placed tree rooted shares shared spans k p c.match-parent.first c.loop-at.invariant within parent below)
+      | in-None w ↦ rw (w.parent-is, w.in-None.is, w.first-is)
+          (root_placed tree rooted shares shared spans k within (sym c.parent-parent.ensures ∙ w.in-None.is))
+    ] in
+    rw c.in_ok-push.ensures.items (placed_more tree rooted shares spans k span c.loop-at.invariant placed)
+
+pub returns : goal.returns
+returns c =
+    all_placed c.args.nodes.now c.requires.tree c.args.shares.now c.requires.shares c.loop-at.spans.items
+    (subst (ArePlacedBefore c.args.nodes.now c.args.shares.now c.loop-at.spans.items) (omega (arith, c.requires.shares.count)) c.loop-at.invariant)
