@@ -1,6 +1,7 @@
-//! The words that tell of files: where the fault is for which one is refused, what was found there
-//! and what is wanted, or how much there is; and what a verdict says of a plan, with the messages
-//! that it names.
+//! The words for a fault, and for a verdict on a plan.
+//!
+//! Of a file that is refused: where the fault is, what was found there and what is wanted. Of a file
+//! that is accepted: how much there is. Of a verdict: what it says, with the messages that it names.
 //!
 //! - `hierarchy`: a hierarchy that is refused, over `document` (a document of the wrong shape),
 //!   `affinities` (the tree) and `layouts` (spaces and maps), which find tables by `named`.

@@ -12,6 +12,9 @@
 //!   and plans.
 //! - `laws`: what holds of the parcels of all layouts.
 //!
+//! A tree keeps for each affinity its span in preorder. So *at or above* is two comparisons, and the
+//! affinities at or below one stand at a run of places.
+//!
 //! Affinities and spaces are numbered from 0, messages from 1, in the order in which they are
 //! given.
 #![tactic(auto)]

@@ -2,7 +2,8 @@
 //!
 //! The needs of a message are earlier messages that exclude it, chosen so that the paths through
 //! them lead to all earlier messages that exclude it: whoever waits for the needs waits for all,
-//! and there are few of them.
+//! and there are few of them. A message takes the messages that are open at or below its affinity,
+//! or, where there is none, the latest one above it.
 //! - `predecessors`: the needs, found with tables by the spans of affinities in preorder; `lists`:
 //!   lists of lists, as needs are.
 //! - `refinement`: whether all pairs that one hierarchy orders are ordered by another one, with

@@ -4,6 +4,11 @@
 //! messages that exclude it have finished, and not before its release. The unlimited plan is the
 //! least that obeys, message by message. Its chain shows that no shorter plan obeys: messages that
 //! wait for one another, whose first release and costs add up to the length.
+//! The planner walks over the messages once, with two tables by place. A message notes its finish for
+//! all places of its span, and it stands at its first place; so the latest message that excludes
+//! another is found in the two tables. Places are cut into blocks of 64: a span that holds a whole
+//! block is one entry for it. The latest message of all is looked at first, since on a path it
+//! excludes every other.
 //! - `timing`, `timetable`: costs and releases; plans.
 //! - `unlimited`, over `least` and `latest`: the unlimited plan.
 //! - `table`, over `last`: the latest message that excludes another, by spans in preorder.
