@@ -1,4 +1,4 @@
-//! A plain planner with no proof, on the standard library alone: what `bench/plain` compares the built program with.
+//! A plain planner with no proof, on the standard library alone: what `tests/random/run` compares the built program with.
 //!
 //! It reads files that are right (nothing is refused), and prints the texts of assign, plan, check and compare.
 use std::cmp::Reverse;
