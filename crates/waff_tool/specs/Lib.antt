@@ -9,5 +9,6 @@ pub mod ListOrder
 pub mod OwnPlans
 pub mod PlanText
 pub mod PrintedSpaces
+pub mod Ranks
 pub mod ReplayText
 pub mod Unique
