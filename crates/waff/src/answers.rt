@@ -12,7 +12,7 @@ use waff_cli::{Asked, Drawing};
 use waff_core::limits::MAX_SEATS;
 use waff_tool::{
     Picture, assign_text, check_text, compare_text, draw_text, explain_text, explained_status,
-    plan_text, replay_text, split_input, sweep_text, verdict_status, where_text,
+    plan_text, replay_text, split_input, sweep_text, sweep_workers, verdict_status, where_text,
 };
 
 /// Prints what is asked for of these files, and gives the exit status.
@@ -64,7 +64,7 @@ fn print_of_trace<R: Runtime + Threads + Wait + Sync>(
     match asked {
         Asked::Assign => assign_text(alloc, hierarchy, trace, &mut out)?,
         Asked::Plan(workers) => plan_text(alloc, hierarchy, trace, workers, &mut out)?,
-        Asked::Sweep => sweep_text(alloc, hierarchy, trace, &mut out)?,
+        Asked::Sweep => sweep_text(alloc, hierarchy, trace, sweep_workers(), &mut out)?,
         Asked::Where(by_name) => where_text(alloc, hierarchy, trace, by_name, &mut out)?,
         Asked::Replay(workers) => {
             let workers = threads(rt, workers);

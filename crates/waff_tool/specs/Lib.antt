@@ -9,5 +9,6 @@ pub mod ListOrder
 pub mod OwnPlans
 pub mod PlanText
 pub mod PrintedSpaces
+pub mod Rate
 pub mod ReplayText
 pub mod Unique
