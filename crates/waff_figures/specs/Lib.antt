@@ -1,6 +1,8 @@
 pub mod Ratio
+pub mod Percentile
 pub mod Figures
 pub mod Sweep
+pub mod Rate
 pub mod Tally
 pub mod Below
 pub mod ByAffinity
