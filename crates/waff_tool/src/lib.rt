@@ -36,6 +36,7 @@ pub use explains::{Explained, explain_text, explained_status};
 pub use plans::plan_text;
 pub use replays::replay_text;
 pub use sweeps::sweep_text;
+pub use waff_draw::Part;
 pub use waff_inputs::{ToolError, fault_status, fault_text};
 pub use waff_io::{ReadFault, read_whole, split_input};
 pub use wheres::where_text;
