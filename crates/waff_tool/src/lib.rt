@@ -41,6 +41,7 @@ pub use ranks::{MAX_RANKED, rank_text};
 pub use rates::rate_text;
 pub use replays::replay_text;
 pub use sweeps::sweep_text;
+pub use waff_draw::Part;
 pub use waff_figures::sweep_workers;
 pub use waff_inputs::{ToolError, fault_status, fault_text};
 pub use waff_io::{ReadFault, read_whole, split_input};
