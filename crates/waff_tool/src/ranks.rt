@@ -1,6 +1,6 @@
 //! The command that ranks several hierarchies on one trace.
 ghost use Rattle.std.specs.Prelude.{◌≡◌, ◌≢◌, ◌<◌, ◌≤◌, ◌+◌, ◌++◌, ◌∷◌, Ok, ℕ, All, List, IfOk, IfErr};
-ghost use Rattle.std.specs.Prelude.{IsErrOf, OnOk, length, map, string_bytes};
+ghost use Rattle.std.specs.Prelude.{[], IsErrOf, OnOk, length, map, string_bytes};
 ghost use Rattle.std.specs.List.{AllZip};
 ghost use Rattle.std.specs.Io.KnownBytes.{Appends, Keeps};
 ghost use Rattle.waff_model.specs.Messages.{sizes_of};
