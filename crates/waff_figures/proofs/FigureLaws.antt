@@ -1,9 +1,9 @@
 -- Plans with the same starts have the same figures.
-use Rattle.std.proofs.Common.{◌≡◌, ℕ, ◌+◌, ◌-◌, ◌<◌, ◌≤◌, List, Option, map, sum_by, arith, refl, sym, ◌∙◌, ap, subst}
+use Rattle.std.proofs.Common.{◌≡◌, ℕ, ◌+◌, ◌-◌, ◌<◌, ◌≤◌, Option, sum_by, arith, refl, sym, ◌∙◌, ap, subst}
 use Rattle.waff_plan.specs.Unique.{AreSame}
-use Rattle.waff_plan.specs.Work.{Work, finish_of, greatest, length_of, numbers, total_of}
+use Rattle.waff_plan.specs.Work.{Work, greatest, numbers}
 use Rattle.waff_plan.proofs.Uniqueness.{same_length}
-use Rattle.waff_figures.specs.Figures.{AreFigures, FiguresAreOne, latencies_of, latency_of, least_of, waits_of}
+use Rattle.waff_figures.specs.Figures.{AreFigures, FiguresAreOne, latencies_of, latency_of, waits_of}
 use Rattle.waff_figures.specs.Percentile.{IsPercentile}
 use Rattle.waff_figures.specs.declared.figures.Figures.{Figures}
 use Rattle.waff_figures.proofs.PercentileLemmas.{percentile_is_one}
@@ -73,8 +73,8 @@ of_one_plan limit work shortest start one other h k =
     let p99 : one.p99 ≡ other.p99 = percentile_is_one (latencies_of work start) 99 one.p99 other.p99 h.p99 k.p99 in
     let latency : one.latency ≡ other.latency = h.latency ∙ sym k.latency in
     let all : made one.workers one.messages one.total one.length one.least one.waits one.latencies one.p50 one.p99 one.latency
-        ≡ made other.workers other.messages other.total other.length other.least other.waits other.latencies other.p50 other.p99 other.latency
-        = rw (workers, messages, total, length, least, waits, latencies, p50, p99, latency) refl in
+    ≡ made other.workers other.messages other.total other.length other.least other.waits other.latencies other.p50 other.p99 other.latency
+    = rw (workers, messages, total, length, least, waits, latencies, p50, p99, latency) refl in
     all
 
 pub figures_are_one : (work : Work) → FiguresAreOne work

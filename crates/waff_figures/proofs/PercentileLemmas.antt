@@ -1,8 +1,8 @@
 -- Percentiles of numbers in order, and of the same numbers in another order.
-use Rattle.std.proofs.Common.{◌≡◌, ℕ, zero, suc, ◌+◌, ◌-◌, ◌*◌, ◌/◌, ◌%◌, ◌<◌, ◌≤◌, cond, nat_le, List, [], ◌∷◌, get_or, length, count_by, min, inl, inr, arith, sym, ◌∙◌, ap, subst}
+use Rattle.std.proofs.Common.{◌≡◌, ℕ, zero, suc, ◌+◌, ◌-◌, ◌*◌, ◌/◌, ◌%◌, ◌<◌, ◌≤◌, cond, nat_le, List, [], ◌∷◌, get_or, length, min, inl, inr, arith, sym, subst}
 use Rattle.std.proofs.Math.Nat.{mul_comm, mul-le-mul_left}
 use Rattle.std.specs.List.Sorted.{IsNonDecreasing, IsPermutation}
-use Rattle.std.proofs.lemmas.Bool.{cases_lt, cond-true, cond-false}
+use Rattle.std.proofs.lemmas.Bool.{cases_lt}
 use Rattle.std.proofs.lemmas.Bool.Decides.{nat_tests}
 use Rattle.std.proofs.lemmas.Grind.{div_ceil_times}
 use Rattle.std.proofs.lemmas.List.Sorted.{length_permutation, sum_by-IsPermutation}

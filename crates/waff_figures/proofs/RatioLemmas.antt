@@ -1,5 +1,5 @@
 -- A ratio in hundredths, by its whole part and what is left over.
-use Rattle.std.proofs.Common.{◌≡◌, ℕ, zero, suc, ◌+◌, ◌*◌, ◌/◌, ◌%◌, ◌<◌, List, [], ◌∷◌, ◌++◌, decimal, arith, sym, ◌∙◌, ap}
+use Rattle.std.proofs.Common.{◌≡◌, ℕ, zero, suc, ◌+◌, ◌*◌, ◌/◌, ◌%◌, ◌<◌, [], ◌∷◌, ◌++◌, decimal, arith, sym, ◌∙◌, ap}
 use Rattle.std.proofs.Math.Nat.{div-lt_iff_lt-mul, mod-lt, mul-add-div_right, mul_comm, mul_right_comm}
 use Rattle.std.proofs.lemmas.List.{append_assoc}
 use Rattle.std.proofs.lemmas.Nat.{div-add-mod'}

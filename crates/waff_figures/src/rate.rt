@@ -31,6 +31,12 @@ pub fn push_rate(text: &mut String, figures: &Figures) -> Result<(), AllocError>
     let mean = Mean(figures.latencies, figures.messages);
     let workers = WorkerField(workers);
     writeln!(text, "workers,{workers}\ntotal,{total}\nlength,{length}")?;
-    writeln!(text, "speedup,{speedup}\nbusy,{busy}\nleast,{least}\nover,{over}")?;
-    writeln!(text, "waits,{waits}\nmean,{mean}\np50,{p50}\np99,{p99}\nlatency,{latency}")
+    writeln!(
+        text,
+        "speedup,{speedup}\nbusy,{busy}\nleast,{least}\nover,{over}"
+    )?;
+    writeln!(
+        text,
+        "waits,{waits}\nmean,{mean}\np50,{p50}\np99,{p99}\nlatency,{latency}"
+    )
 }

@@ -1,5 +1,4 @@
 use Rattle.std.proofs.Common.{refl, ◌∙◌, ap, subst}
-use Rattle.waff_plan.specs.Timing.{start_of, work_of}
 use Rattle.waff_plan.specs.Timetable.{starts_in, work_in}
 use Rattle.waff_figures.specs.Figures.{latencies_of, least_of}
 use Rattle.waff_figures.specs.Percentile.{IsPercentile}

@@ -1,4 +1,4 @@
-use Rattle.std.proofs.Common.{◌≤◌, length, arith}
+use Rattle.std.proofs.Common.{length, arith}
 use Rattle.waff_figures.proofs.PercentileLemmas.{covered_is, percentile_at}
 use Rattle.waff_figures.proofs.percentile.percentile.Goals as goal
 

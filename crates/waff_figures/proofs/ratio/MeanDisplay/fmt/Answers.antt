@@ -1,4 +1,4 @@
-use Rattle.std.proofs.Common.{ℕ, ◌<◌, arith, subst}
+use Rattle.std.proofs.Common.{◌<◌, arith, subst}
 use Rattle.std.specs.Fmt.{HasWritten}
 use Rattle.waff_figures.proofs.RatioLemmas.{mean_field}
 use Rattle.waff_figures.proofs.ratio.MeanDisplay.fmt.Goals as goal
