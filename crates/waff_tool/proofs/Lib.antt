@@ -8,5 +8,6 @@ mod FigureUniqueness
 mod LineLaws
 mod OrderLemmas
 mod OwnPlanLaws
+mod RateLaws
 mod StateLines
 mod TextUniqueness
