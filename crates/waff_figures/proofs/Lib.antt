@@ -5,4 +5,7 @@ mod NameLemmas
 mod LineLemmas
 pub mod AddingUp
 pub mod RowLemmas
+mod PercentileLemmas
+pub mod FigureLaws
+mod RatioLemmas
 mod NameLaws

@@ -13,10 +13,11 @@ pub(crate) fn percentile(sorted: &[u64], percent: usize) -> u64
     requires to { percent ≤ 100 }
     ensures { IsPercentile percent sorted.now result }
 {
-    if sorted.is_empty() {
+    let count = sorted.len();
+    if count == 0 {
         return 0;
     }
-    let covered = (sorted.len() * percent).div_ceil(100);
+    let covered = (count * percent).div_ceil(100);
     sorted[covered - 1]
 }
 

@@ -30,10 +30,13 @@ pub fn push_rate(text: &mut String, figures: &Figures) -> Result<(), AllocError>
     let over = RatioUp(length, least);
     let mean = Mean(figures.latencies, figures.messages);
     let workers = WorkerField(workers);
-    write!(
+    writeln!(text, "workers,{workers}\ntotal,{total}\nlength,{length}")?;
+    writeln!(
         text,
-        "workers,{workers}\ntotal,{total}\nlength,{length}\nspeedup,{speedup}\nbusy,{busy}\n\
-         least,{least}\nover,{over}\nwaits,{waits}\nmean,{mean}\np50,{p50}\np99,{p99}\n\
-         latency,{latency}\n"
+        "speedup,{speedup}\nbusy,{busy}\nleast,{least}\nover,{over}"
+    )?;
+    writeln!(
+        text,
+        "waits,{waits}\nmean,{mean}\np50,{p50}\np99,{p99}\nlatency,{latency}"
     )
 }

@@ -52,8 +52,10 @@ impl fmt::Display for Mean {
         } else {
             let count = u128::from(self.1);
             let whole = self.0 / count;
-            let hundredths = self.0 % count * 100 / count;
-            write!(f, "{whole}.{}{}", hundredths / 10, hundredths % 10)
+            let part = self.0 % count * 100 / count;
+            let tenth = part / 10;
+            let hundredth = part % 10;
+            write!(f, "{whole}.{tenth}{hundredth}")
         }
     }
 }

@@ -83,7 +83,8 @@ pub fn list_figures_for(
         (length_of (work_in unlimited.now) (starts_in unlimited.now))) }
 {
     let needs = needs(alloc, tree, assigned)?;
-    figures_for(alloc, trace, unlimited, &needs, k)
+    let figures = figures_for(alloc, trace, unlimited, &needs, k)?;
+    Ok(figures)
 }
 
 /// The figures of the list plans for these numbers of workers.
@@ -136,7 +137,8 @@ fn figures_for(
     let made = list_plan(alloc, needs, trace, k)?;
     needs_make_the_same_plans();
     none_is_shorter();
-    figures_of(alloc, made.plan(), Some(k), unlimited.length())
+    let figures = figures_of(alloc, made.plan(), Some(k), unlimited.length())?;
+    Ok(figures)
 }
 
 /// The text of the figures of the list plans and of the unlimited plan.

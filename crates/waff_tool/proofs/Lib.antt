@@ -9,5 +9,6 @@ mod LineLaws
 mod OrderLemmas
 mod OwnPlanLaws
 mod RankLemmas
+mod RateLaws
 mod StateLines
 mod TextUniqueness

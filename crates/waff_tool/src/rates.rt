@@ -115,7 +115,8 @@ fn given_figures(
     let shortest = unlimited.length();
     drop(unlimited);
     let handed = given.plan(alloc, trace)?;
-    figures_of(alloc, &handed, given.workers(), shortest)
+    let figures = figures_of(alloc, &handed, given.workers(), shortest)?;
+    Ok(figures)
 }
 
 /// The text of a rating.

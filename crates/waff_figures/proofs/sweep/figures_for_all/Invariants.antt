@@ -6,7 +6,7 @@ use Rattle.waff_plan.specs.Obeys.{IsLeast}
 use Rattle.waff_plan.specs.Timing.{start_of, work_of}
 use Rattle.waff_plan.specs.Work.{length_of}
 use Rattle.waff_figures.specs.Sweep.{IsListed}
-use Rattle.waff_figures.proofs.sweep.list_figures_for.Given as goal
+use Rattle.waff_figures.proofs.sweep.figures_for_all.Given as goal
 
 abbrev pub invariant-loop-k : goal.invariant-loop-k
 invariant-loop-k l = record {
