@@ -34,7 +34,7 @@ use Rattle.waff_tool.proofs.TextUniqueness.{trace_runs}
 abbrev IsListPlanFor : (ℕ → ℕ → Type 0) → Work → ℕ → List ℕ → Type 0
 IsListPlanFor before work k starts = IsListPlan before work k (start_of starts)
 
-listed_same : (before : ℕ → ℕ → Type 0) (work : Work) → IsForward before work → EachRuns work → (shortest : ℕ) (one other : Figures)
+pub listed_same : (before : ℕ → ℕ → Type 0) (work : Work) → IsForward before work → EachRuns work → (shortest : ℕ) (one other : Figures)
     → IsListed before work shortest one → IsListed before work shortest other → one.workers ≡ other.workers → one ≡ other
 listed_same before work forward runs shortest one other p q workers =
     let first : one.workers ≡ Some p.k = p.figures_are.workers in
@@ -59,7 +59,7 @@ workers_at listed workers in_turn i d e inside =
     ∙ get_or-map (λ (k : ℕ). Some k) workers i e None there
 
 -- the list of them is one
-listed_is_one : (before : ℕ → ℕ → Type 0) (work : Work) → IsForward before work → EachRuns work → (shortest : ℕ) (workers : List ℕ) (one other : List Figures)
+pub listed_is_one : (before : ℕ → ℕ → Type 0) (work : Work) → IsForward before work → EachRuns work → (shortest : ℕ) (workers : List ℕ) (one other : List Figures)
     → AreListed before work shortest workers one → AreListed before work shortest workers other → one ≡ other
 listed_is_one before work forward runs shortest workers one other p q =
     let long : length one ≡ length other = count_of one workers p.in_turn ∙ sym (count_of other workers q.in_turn) in

@@ -8,6 +8,7 @@ mod FigureUniqueness
 mod LineLaws
 mod OrderLemmas
 mod OwnPlanLaws
+mod RankLaws
 mod RankLemmas
 mod RateLaws
 mod StateLines
