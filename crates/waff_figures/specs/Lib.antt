@@ -6,3 +6,5 @@ pub mod Below
 pub mod ByAffinity
 pub mod ByName
 pub mod Laws
+pub mod Waits
+pub mod WaitRows

@@ -19,6 +19,8 @@ mod names;
 mod ratio;
 mod sweep;
 mod tally;
+mod wait_rows;
+mod waits;
 
 pub use by_affinity::affinities_text;
 pub use by_name::names_text;
