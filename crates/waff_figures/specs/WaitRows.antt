@@ -1,23 +1,18 @@
 -- Waits of one kind told in one row (own).
-use Rattle.std.specs.Prelude.{◌≡◌, ℕ, ◌-◌, ◌+◌, ◌<◌, ◌⊎◌, ◌==◌, max, Bool, true, false, ◌&&◌, List}
+use Rattle.std.specs.Prelude.{◌≡◌, ℕ, ◌-◌, ◌+◌, ◌<◌, ◌⊎◌, ◌==◌, max, Bool, true, false, ◌&&◌, List, [], ◌∷◌, ◌++◌}
 use Rattle.std.specs.Prelude.{Option, Some, None, All, count_by, filter, length, map, option_map}
-use Rattle.std.specs.Prelude.{slice_get, slice_index_or, sum_by}
+use Rattle.std.specs.Prelude.{slice_get, slice_index_or, slice_set, sum_by}
 use Rattle.std.specs.List.{AllPairs}
+use Rattle.std.specs.Option.{option_eq}
 use Rattle.waff_plan.specs.Work.{greatest}
 use Rattle.waff_figures.specs.Waits.{ComesFirst}
 use Rattle.waff_figures.specs.declared.wait_rows.Row.{Row}
 use Rattle.waff_figures.specs.declared.waits.Wait.{Wait}
 
--- whether what is waited for is alike: two messages, or a worker both times
-abbrev pub same_cause : (ℕ → ℕ → Bool) → Option ℕ → Option ℕ → Bool
-same_cause alike None None = true
-same_cause alike None (Some j) = false
-same_cause alike (Some i) None = false
-same_cause alike (Some i) (Some j) = alike i j
-
--- whether two waits are of one kind: their messages are alike, and so is what they wait for
+-- whether two waits are of one kind: their messages are alike, and they wait for alike messages or
+-- both for a worker
 abbrev pub same_kind : (ℕ → ℕ → Bool) → Wait → Wait → Bool
-same_kind alike one other = alike one.message other.message && same_cause alike one.on other.on
+same_kind alike one other = alike one.message other.message && option_eq alike one.on other.on
 
 -- the row of these waits: how many there are, the sum of their ticks, and the most ticks of one
 abbrev pub row_over : List Wait → Wait → Row
@@ -85,3 +80,9 @@ row_with row wait = record {
   ticks = row.ticks + wait.ticks;
   longest = max row.longest wait.ticks;
 }
+
+-- the rows with one wait more: in the row at this place, or in a new row that comes last
+abbrev pub rows_with : List Row → ℕ → Bool → Wait → List Row
+rows_with rows place true wait = rows ++ row_over (wait ∷ []) wait ∷ []
+rows_with rows place false wait =
+    slice_set rows place (row_with (slice_index_or rows place (row_over [] wait)) wait)

@@ -1,10 +1,11 @@
 //! Waits of one kind told together.
 
-ghost use Rattle.std.specs.Prelude.{◌≡◌, ◌+◌, ◌<◌, ◌^◌, [], ◌∷◌, IfOk, All, length};
+ghost use Rattle.std.specs.Prelude.{◌≡◌, ◌+◌, ◌<◌, ◌≤◌, ◌^◌, [], ◌∷◌, All, false, IfOk};
+ghost use Rattle.std.specs.Prelude.{OnOk, length};
 ghost use Rattle.std.specs.List.{AllPairs};
 ghost use Rattle.waff_figures.specs.Waits.{ComesFirst, IsWaitAmong};
 ghost use Rattle.waff_figures.specs.WaitRows.{AreRows, AreTold, StartsFirst, kind_in, same_group};
-ghost use Rattle.waff_figures.specs.WaitRows.{row_over, row_with};
+ghost use Rattle.waff_figures.specs.WaitRows.{row_over, row_with, rows_with};
 
 use crate::waits::Wait;
 use indexmap::IndexSet;
@@ -51,16 +52,31 @@ fn gathered(alloc: Global, waits: &[Wait], groups: &[Group]) -> Result<Vec<Row>,
     ensures order { IfOk result (λ rows. AllPairs StartsFirst rows.items) }
 {
     let mut kinds = IndexSet::new(alloc);
-    let mut rows: Vec<Row> = Vec::new(alloc);
+    let mut rows = Vec::new(alloc);
     for wait in waits {
         let (place, is_new) = kinds.insert_full(kind(groups, wait))?;
-        if is_new {
-            rows.push(row_of_one(wait))?;
-        } else {
-            rows[place] = row_with(&rows[place], wait);
-        }
+        tell(&mut rows, place, is_new, wait)?;
     }
     Ok(rows)
+}
+
+/// Tells of one wait more: in the row at this place, or where its kind is new in a row of its own
+/// behind the others.
+fn tell(rows: &mut Vec<Row>, place: usize, is_new: bool, wait: &Wait) -> Result<(), AllocError>
+    requires place { is_new ≡ false → place < length rows.old.items }
+    requires few { All (λ row. row.messages + 1 < 2 ^ 64) rows.old.items }
+    requires short { All (λ row. row.ticks + 2 ^ 64 ≤ 2 ^ 128) rows.old.items }
+    ensures told { OnOk result
+        (rows.new.items ≡ rows_with rows.old.items place is_new wait.now) }
+    ensures small { wait.now.ticks < 2 ^ 64 }
+{
+    let _ticks = wait.ticks;
+    if is_new {
+        rows.push(row_of_one(wait))?;
+    } else {
+        rows[place] = row_with(&rows[place], wait);
+    }
+    Ok(())
 }
 
 /// What kind a wait is of: the groups of the message that waits and of the one that it waits for.
@@ -89,8 +105,8 @@ fn row_of_one(wait: &Wait) -> Row
 
 /// The row with one wait more.
 fn row_with(row: &Row, wait: &Wait) -> Row
-    requires few { row.now.messages < 2 ^ 63 }
-    requires short { row.now.ticks < 2 ^ 127 }
+    requires few { row.now.messages + 1 < 2 ^ 64 }
+    requires short { row.now.ticks + wait.now.ticks < 2 ^ 128 }
     ensures { result ≡ row_with row.now wait.now }
 {
     let ticks = wait.ticks;
