@@ -6,3 +6,8 @@ mod LineLemmas
 pub mod AddingUp
 pub mod RowLemmas
 mod NameLaws
+mod WaitLemmas
+mod WaitRowLemmas
+mod WaitKinds
+mod WaitOrder
+mod WaitGroups

@@ -8,3 +8,4 @@ pub mod ByName
 pub mod Laws
 pub mod Waits
 pub mod WaitRows
+pub mod WaitText

@@ -19,7 +19,9 @@ mod names;
 mod ratio;
 mod sweep;
 mod tally;
+mod wait_groups;
 mod wait_rows;
+mod wait_text;
 mod waits;
 
 pub use by_affinity::affinities_text;
@@ -28,3 +30,6 @@ pub use figures::Figures;
 pub use ratio::Ratio;
 pub use sweep::{figures_text, list_figures};
 pub use tally::Tally;
+pub use wait_rows::Row;
+pub use wait_text::waiting_text;
+pub use waits::Wait;
