@@ -11,3 +11,5 @@ mod WaitRowLemmas
 mod WaitKinds
 mod WaitOrder
 mod WaitGroups
+mod WaitSums
+pub mod WaitUnique

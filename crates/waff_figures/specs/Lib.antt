@@ -9,3 +9,4 @@ pub mod Laws
 pub mod Waits
 pub mod WaitRows
 pub mod WaitText
+pub mod WaitLaws

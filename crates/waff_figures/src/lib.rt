@@ -20,6 +20,7 @@ mod ratio;
 mod sweep;
 mod tally;
 mod wait_groups;
+pub mod wait_laws;
 mod wait_rows;
 mod wait_text;
 mod waits;
