@@ -3,8 +3,12 @@ use Rattle.std.proofs.Common.{◌≡◌, ℕ, zero, suc, ◌+◌, ◌-◌, ◌<�
 use Rattle.std.specs.Cmp.{IsEquivalence}
 use Rattle.std.specs.List.{AllPairs}
 use Rattle.std.specs.Option.{IsSome, is_some}
+use Rattle.std.specs.Str.{bytes_eq}
 use Rattle.std.proofs.lemmas.Bool.{cases_lt, false≢true}
+use Rattle.std.proofs.lemmas.Cmp.{and_equiv, nat_eq_equiv, on_equiv}
+use Rattle.std.proofs.lemmas.Slice.Eq.{bytes_eq-Decides}
 use Rattle.std.proofs.lemmas.Option.{get_or_from_slice_get, same_Some, slice_get-get_or, slice_get_within}
+use Rattle.waff_assign.specs.Order.{affinity_of}
 use Rattle.waff_plan.specs.Links.{AreLinks, IsLink}
 use Rattle.waff_plan.specs.Obeys.{IsForward}
 use Rattle.waff_plan.specs.Unique.{AreSame}
@@ -12,6 +16,7 @@ use Rattle.waff_plan.specs.Work.{Work, IsNumber, finish_of}
 use Rattle.waff_figures.specs.Waits.{AreWaits, ComesFirst, ready_of, wait_of, waits_in}
 use Rattle.waff_figures.specs.WaitLaws.{RowsAreOne}
 use Rattle.waff_figures.specs.WaitRows.{AreRows, IsRow, StandsBefore, row_of, same_kind}
+use Rattle.waff_figures.specs.WaitText.{are_alike, name_at}
 use Rattle.waff_figures.specs.declared.wait_rows.Row.{Row}
 use Rattle.waff_figures.specs.declared.waits.Wait.{Wait}
 use Rattle.waff_figures.proofs.WaitKinds.{kinds_are}
@@ -166,3 +171,22 @@ pub rows_are_one : (before : ℕ → ℕ → Type 0) (work : Work) → IsForward
 rows_are_one before work forward alike start other waits other_waits rows other_rows laws same are other_are told other_told =
     let equal = same_waits before work forward start other same waits other_waits are other_are in
     same_rows alike laws other_waits rows other_rows (subst (λ ws. AreRows alike ws rows) equal told) other_told
+
+-- tests that pass alike are equal
+both_pass : (a b : Bool) → (a ≡ true → b ≡ true) → (b ≡ true → a ≡ true) → a ≡ b
+both_pass true b into back = sym (into refl)
+both_pass false true into back = back refl
+both_pass false false into back = refl
+
+bytes_laws : IsEquivalence bytes_eq
+bytes_laws = record {
+  refl = λ x. (bytes_eq-Decides x x).1 refl;
+  symm = λ x y. both_pass (bytes_eq x y) (bytes_eq y x) (λ pass. (bytes_eq-Decides y x).1 (sym ((bytes_eq-Decides x y).0 pass)))
+      (λ pass. (bytes_eq-Decides x y).1 (sym ((bytes_eq-Decides y x).0 pass)));
+  congr = λ x y z pass. ap (λ w. bytes_eq w z) ((bytes_eq-Decides x y).0 pass);
+}
+
+-- messages are alike by an equivalence
+pub alike_laws : (by_name : Bool) (assigned : List ℕ) (names : List (List ℕ)) → IsEquivalence (are_alike by_name assigned names)
+alike_laws false assigned names = on_equiv (affinity_of assigned) nat_eq_equiv
+alike_laws true assigned names = and_equiv (on_equiv (name_at names) bytes_laws) (on_equiv (affinity_of assigned) nat_eq_equiv)

@@ -10,3 +10,4 @@ mod OrderLemmas
 mod OwnPlanLaws
 mod StateLines
 mod TextUniqueness
+mod WaitsTexts

@@ -11,3 +11,4 @@ pub mod PlanText
 pub mod PrintedSpaces
 pub mod ReplayText
 pub mod Unique
+pub mod WaitsText
