@@ -9,3 +9,10 @@ mod PercentileLemmas
 pub mod FigureLaws
 mod RatioLemmas
 mod NameLaws
+mod WaitLemmas
+mod WaitRowLemmas
+mod WaitKinds
+mod WaitOrder
+mod WaitGroups
+mod WaitSums
+pub mod WaitUnique

@@ -8,3 +8,7 @@ pub mod Below
 pub mod ByAffinity
 pub mod ByName
 pub mod Laws
+pub mod Waits
+pub mod WaitRows
+pub mod WaitText
+pub mod WaitLaws

@@ -22,6 +22,11 @@ mod rate;
 mod ratio;
 mod sweep;
 mod tally;
+mod wait_groups;
+pub mod wait_laws;
+mod wait_rows;
+mod wait_text;
+mod waits;
 
 pub use by_affinity::affinities_text;
 pub use by_name::names_text;
@@ -31,3 +36,6 @@ pub use rate::push_rate;
 pub use ratio::{Mean, Ratio, RatioUp};
 pub use sweep::{SWEEP_WORKERS, figures_text, list_figures, list_figures_for, sweep_workers};
 pub use tally::Tally;
+pub use wait_rows::Row;
+pub use wait_text::waiting_text;
+pub use waits::Wait;

@@ -13,3 +13,4 @@ mod RankLemmas
 mod RateLaws
 mod StateLines
 mod TextUniqueness
+mod WaitsTexts

@@ -13,3 +13,4 @@ pub mod Ranks
 pub mod Rate
 pub mod ReplayText
 pub mod Unique
+pub mod WaitsText

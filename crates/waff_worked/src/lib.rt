@@ -27,6 +27,8 @@ mod texts;
 #[cfg(test)]
 mod verdicts;
 #[cfg(test)]
+mod waits;
+#[cfg(test)]
 mod words;
 #[cfg(test)]
 mod worker_plans;
