@@ -1,5 +1,6 @@
 """Trees with other numbers of stripes and other units, and how the proved program plans a trace under each."""
 
+import csv
 import itertools
 import os
 import re
@@ -8,13 +9,14 @@ import tempfile
 import tomllib
 
 from .logs import Refusal, read_text, shown, tell
-from .traces import read_trace, write_file
+from .traces import write_file
 from .words import Words, number, run_words
 
 ROOT = os.path.dirname(os.path.dirname(os.path.dirname(os.path.realpath(__file__))))
 STRIPES = (1, 2, 4, 8, 16, 32)
 UNITS = tuple(1 << n for n in range(11))
 MOST_TREES = 1000
+MOST_RANKED = 64
 MOST_OWNERS = 256
 
 
@@ -91,44 +93,37 @@ def largest(tree):
 
 
 class Figures:
-    """How long the list plan is, and the latencies of its messages: their sum, and how many messages there are."""
+    """What the program tells of a tree's list plan: its length, how long its messages wait in all, and their mean latency."""
 
-    def __init__(self, length, latencies, messages):
-        self.length = length
-        self.latencies = latencies
-        self.messages = messages
-
-    def mean(self):
-        if self.messages == 0:
-            return "-"
-        hundredths = 100 * self.latencies // self.messages
-        return f"{hundredths // 100}.{hundredths % 100:02}"
+    def __init__(self, row):
+        self.length = int(row["list"])
+        self.waits = int(row["waits"])
+        self.mean = row["mean"]
 
 
-def rank(program, trees, trace, releases, workers):
-    """The figures of the trees' list plans, in order. This is the one place that knows which command tells them: the length is that
-    of `waff plan`, the latencies are the finishes there less the releases of the trace."""
+def rank(program, trees, trace, workers):
+    """The figures of the trees' list plans, in order, as `waff rank` tells them."""
     figures = []
-    with tempfile.NamedTemporaryFile("w", suffix=".toml") as file:
-        for tree in trees:
-            file.seek(0)
-            file.truncate()
-            file.write(tree.text())
-            file.flush()
-            try:
-                done = subprocess.run(
-                    [*program, "plan", file.name, trace, "--workers", str(workers)],
-                    capture_output=True, text=True, check=False, stdin=subprocess.DEVNULL,
-                )
-            except OSError as fault:
-                raise Refusal(4, f"{shown(program[0])}: {fault.strerror}") from None
-            if done.returncode != 0:
-                raise Refusal(3, f"the program refuses: {shown(done.stderr.strip())}")
-            rows = [line.split(",") for line in done.stdout.splitlines()[1:]]
-            finishes = [int(row[3]) for row in rows if len(row) == 5]
-            length = next(int(row[1]) for row in rows if row[0] == "length")
-            figures.append(Figures(length, sum(finishes) - sum(releases), len(finishes)))
+    for at in range(0, len(trees), MOST_RANKED):
+        figures += rank_some(program, trees[at : at + MOST_RANKED], trace, workers)
     return figures
+
+
+def rank_some(program, trees, trace, workers):
+    with tempfile.TemporaryDirectory() as folder:
+        names = [os.path.join(folder, f"{number}.toml") for number, _ in enumerate(trees, 1)]
+        for name, tree in zip(names, trees, strict=True):
+            write_file(name, tree.text())
+        try:
+            done = subprocess.run(
+                [*program, "rank", "--workers", str(workers), "--", trace, *names],
+                capture_output=True, text=True, check=False, stdin=subprocess.DEVNULL,
+            )
+        except OSError as fault:
+            raise Refusal(4, f"{shown(program[0])}: {fault.strerror}") from None
+    if done.returncode != 0:
+        raise Refusal(3, f"the program refuses: {shown(done.stderr.strip())}")
+    return [Figures(row) for row in csv.DictReader(done.stdout.splitlines())]
 
 
 def numbers(word):
@@ -161,7 +156,7 @@ def tune(asked):
     if asked.trace == "-":
         raise Refusal(2, "the trace is read once for each tree, so it is a file")
     tree = read_tree(asked.hier)
-    releases = [it.release for it in read_trace(asked.trace).messages]
+    read_text(asked.trace)
     spaces = list(dict.fromkeys(asked.space or largest(tree)))
     for space in spaces:
         if space not in tree.maps:
@@ -173,10 +168,11 @@ def tune(asked):
         raise Refusal(2, f"{len(tries)} trees of up to {max(asked.stripes)} stripes: at most {MOST_TREES} of {MOST_OWNERS}")
     trees = [tree.with_stripes(spaces, *it) for it in tries]
     tell(f"{len(trees)} trees with other stripes or units for {', '.join(spaces)}")
-    first, *others = rank([asked.program], [tree, *trees], asked.trace, releases, asked.workers)
-    found = sorted(zip(others, tries, trees, strict=True), key=lambda it: (it[0].length, it[0].latencies, it[1]))
-    lines = ["stripes,unit,length,mean", f"-,-,{first.length},{first.mean()}"]
-    lines += [f"{stripes},{unit},{it.length},{it.mean()}" for it, (stripes, unit), _ in found]
+    first, *others = rank([asked.program], [tree, *trees], asked.trace, asked.workers)
+    # All trees have the same costs and releases, so the order of the waits is that of the means, and is not rounded.
+    found = sorted(zip(others, tries, trees, strict=True), key=lambda it: (it[0].length, it[0].waits, it[1]))
+    lines = ["stripes,unit,length,mean", f"-,-,{first.length},{first.mean}"]
+    lines += [f"{stripes},{unit},{it.length},{it.mean}" for it, (stripes, unit), _ in found]
     if asked.write:
         write_file(asked.write, found[0][2].text())
     return "\n".join(lines) + "\n"

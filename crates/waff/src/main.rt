@@ -54,7 +54,7 @@ fn run_words<R: Runtime + AllocGlobal + Threads + Wait + Sync>(
     let request = read_words(rt, alloc, words)?;
     let in_words = matches!(request.asked, Asked::Explain);
     match read_files(rt, alloc, request.files.as_slice()) {
-        Ok(files) => answer(rt, alloc, request.asked, files.as_slice()),
+        Ok(files) => answer(rt, alloc, &request.asked, files.as_slice()),
         Err(unread) => Err(unread.failure(rt, in_words)),
     }
 }

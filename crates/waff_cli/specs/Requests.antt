@@ -1,12 +1,18 @@
 -- What the words of the command line ask for.
-use Rattle.std.specs.Prelude.{◌≤◌, IfSome}
+use Rattle.std.specs.Prelude.{◌<◌, ◌≤◌, All, IfSome}
 use Rattle.waff_core.specs.declared.limits.TheConstants.{MAX_SEATS}
 use Rattle.waff_model.specs.declared.limits.TheConstants.{MAX_WORKERS}
+use Rattle.waff_plan.specs.Bound.{IsWorkers}
 use Rattle.waff_cli.specs.declared.words.Asked.{Asked}
 use Rattle.waff_cli.specs.declared.words.Asked.TheVariants as asked
+use Rattle.waff_cli.specs.declared.words.Part.{Part}
 
--- where a plan, a comparison or a replay for a number of workers is asked for, that number is
--- within the limits
+-- a part of a plan has a tick
+abbrev pub IsPart : Part → Type 0
+IsPart part = IfSome part.to (λ to. part.from < to)
+
+-- where a plan, or something of one, is asked for for a number of workers, and where a replay is,
+-- that number is within the limits, and so is each number of a sweep
 abbrev pub IsWithinLimits : Asked → Type 0
 IsWithinLimits (asked.Plan workers) =
     IfSome workers (λ k. 1 ≤ k) × IfSome workers (λ k. k ≤ MAX_WORKERS)
@@ -16,7 +22,11 @@ IsWithinLimits asked.Check = Unit {0}
 IsWithinLimits (asked.Replay workers) =
     IfSome workers (λ w. 1 ≤ w) × IfSome workers (λ w. w ≤ MAX_SEATS)
 IsWithinLimits (asked.Compare k) = (1 ≤ k) × (k ≤ MAX_WORKERS)
-IsWithinLimits asked.Sweep = Unit {0}
+IsWithinLimits asked.Rate = Unit {0}
+IsWithinLimits (asked.Sweep given) = IfSome given (λ numbers. All IsWorkers numbers.items)
 IsWithinLimits (asked.Where by_name) = Unit {0}
-IsWithinLimits (asked.Draw picture) = Unit {0}
+IsWithinLimits (asked.Waits workers by_name) =
+    IfSome workers (λ k. 1 ≤ k) × IfSome workers (λ k. k ≤ MAX_WORKERS)
+IsWithinLimits (asked.Draw picture part) = IsPart part
+IsWithinLimits (asked.Rank k) = (1 ≤ k) × (k ≤ MAX_WORKERS)
 IsWithinLimits asked.Explain = Unit {0}

@@ -18,6 +18,8 @@ pub struct FileWord {
     pub id: &'static str,
     pub name: &'static str,
     pub required: bool,
+    /// Whether it may be given more than once.
+    pub repeated: bool,
     pub help: &'static str,
 }
 
@@ -26,16 +28,28 @@ pub struct FileWord {
 pub enum OptionWord {
     /// `--workers` for planners' workers, which has to be given or not.
     PlanWorkers(bool),
+    /// `--workers` for several numbers of planners' workers.
+    SweepWorkers,
     /// `--workers` for threads of a replay.
     Threads,
-    /// `--names`.
-    Names,
+    /// `--names`, with its help.
+    Names(&'static str),
     /// `--as`.
     Picture,
+    /// `--from`.
+    From,
+    /// `--to`.
+    To,
 }
 
 /// The words for files of all commands, in the order in which each command has its own.
-pub static FILE_WORDS: [&str; 4] = ["HIER", "OTHER", "TRACE", "PLAN"];
+pub static FILE_WORDS: [&str; 5] = ["HIER", "OTHER", "TRACE", "HIERS", "PLAN"];
+
+/// Hierarchies that are ranked.
+pub const MAX_RANKED: usize = 64;
+
+/// Numbers of workers of a sweep.
+pub const MAX_SWEPT: usize = 64;
 
 /// What a plan is drawn as.
 pub static PICTURES: [&str; 2] = ["svg", "events"];
@@ -44,6 +58,7 @@ const HIERARCHY: FileWord = FileWord {
     id: "HIER",
     name: "HIER",
     required: true,
+    repeated: false,
     help: "The hierarchy, a TOML file",
 };
 
@@ -51,6 +66,7 @@ const TRACE: FileWord = FileWord {
     id: "TRACE",
     name: "TRACE",
     required: true,
+    repeated: false,
     help: "The trace, a CSV file",
 };
 
@@ -58,6 +74,7 @@ const PLAN: FileWord = FileWord {
     id: "PLAN",
     name: "PLAN",
     required: true,
+    repeated: false,
     help: "The text of the plan, a CSV file",
 };
 
@@ -65,11 +82,20 @@ const OTHER: FileWord = FileWord {
     id: "OTHER",
     name: "HIER",
     required: true,
+    repeated: false,
     help: "The hierarchy of the other model, a TOML file",
 };
 
+const RANKED: FileWord = FileWord {
+    id: "HIERS",
+    name: "HIER",
+    required: true,
+    repeated: true,
+    help: "The hierarchies, TOML files, 64 at most",
+};
+
 /// The commands, in the order of the help.
-pub static COMMANDS: [CommandWords; 9] = [
+pub static COMMANDS: [CommandWords; 12] = [
     CommandWords {
         name: "assign",
         about: "Prints the affinity in which each message runs",
@@ -109,24 +135,41 @@ pub static COMMANDS: [CommandWords; 9] = [
         help: help::EXPLAIN,
     },
     CommandWords {
+        name: "rate",
+        about: "Prints how good a plan is, whoever made it",
+        files: &[HIERARCHY, TRACE, PLAN],
+        options: &[],
+        help: help::RATE,
+    },
+    CommandWords {
         name: "sweep",
         about: "Prints how long the trace takes, by the number of workers",
         files: &[HIERARCHY, TRACE],
-        options: &[],
+        options: &[OptionWord::SweepWorkers],
         help: help::SWEEP,
     },
     CommandWords {
         name: "where",
         about: "Prints where the time goes, by affinity or by name of messages",
         files: &[HIERARCHY, TRACE],
-        options: &[OptionWord::Names],
+        options: &[OptionWord::Names("A line for each name of messages")],
         help: help::WHERE,
+    },
+    CommandWords {
+        name: "waits",
+        about: "Prints who waits for whom, and how long",
+        files: &[HIERARCHY, TRACE],
+        options: &[
+            OptionWord::PlanWorkers(false),
+            OptionWord::Names("By the names of messages too"),
+        ],
+        help: help::WAITS,
     },
     CommandWords {
         name: "draw",
         about: "Prints a picture of a plan",
         files: &[HIERARCHY, TRACE, PLAN],
-        options: &[OptionWord::Picture],
+        options: &[OptionWord::Picture, OptionWord::From, OptionWord::To],
         help: help::DRAW,
     },
     CommandWords {
@@ -149,5 +192,12 @@ pub static COMMANDS: [CommandWords; 9] = [
         ],
         options: &[OptionWord::PlanWorkers(true)],
         help: help::COMPARE,
+    },
+    CommandWords {
+        name: "rank",
+        about: "Prints how several trees serve one trace",
+        files: &[TRACE, RANKED],
+        options: &[OptionWord::PlanWorkers(true)],
+        help: help::RANK,
     },
 ];

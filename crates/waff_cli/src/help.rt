@@ -128,18 +128,45 @@ Exit status:
   3  a file is refused
   4  something could not be read or written, or memory was refused";
 
-pub const SWEEP: &str = "\
-Example: waff sweep hier.toml trace.csv
+pub const RATE: &str = "\
+Example: waff rate hier.toml trace.csv plan.csv
 
-A line for each number of workers:
-  workers  how many; - for any number
-  length   the length of the plan in ticks
-  speedup  the total cost / length
-  busy     the part of the workers' time that is work
-  least    a length that no such plan is below
-  over     length / least
-  waits    the ticks that messages wait in all
-  latency  the longest time from a release to the finish
+A line each:
+  verdict   what waff check prints
+  workers   how many; - for any number
+  total     the sum of all costs
+  length    the last finish
+  speedup   the total / the length
+  busy      the part of the workers' time that is work
+  least     a length that no plan that obeys is below
+  over      the length / least, rounded up
+  waits     the ticks that messages wait in all
+  mean      the mean latency, from a release to the finish
+  p50, p99  a latency that 50 and 99 of 100 messages do not pass
+  latency   the greatest latency
+
+Exit status:
+  0  no fault in the plan
+  1  a fault in the plan
+  2  the words are refused
+  3  a file is refused
+  4  something could not be read or written, or memory was refused";
+
+pub const SWEEP: &str = "\
+Example: waff sweep hier.toml trace.csv --workers 2,4,8
+
+A line for each number of workers (without --workers 1, 2, 3, 4, 6, 8, 12, 16,
+24, 32, 48 and 64), and one for any number:
+  workers   how many; - for any number
+  length    the length of the plan in ticks
+  speedup   the total cost / the length
+  busy      the part of the workers' time that is work
+  least     a length that no such plan is below
+  over      the length / least, rounded up
+  waits     the ticks that messages wait in all
+  mean      the mean latency, from a release to the finish
+  p50, p99  a latency that 50 and 99 of 100 messages do not pass
+  latency   the greatest latency
 
 Exit status:
   0  done
@@ -169,12 +196,57 @@ Exit status:
   3  a file is refused
   4  something could not be read or written, or memory was refused";
 
+pub const WAITS: &str = "\
+Example: waff waits hier.toml trace.csv --workers 8
+
+A line for each pair of affinities of which one waits for the other, in the
+shortest plan, or in that for K workers:
+  affinity  that of the messages that wait
+  for       that of the messages they wait for; - for a worker
+  messages  how many wait so
+  ticks     how long they wait in all
+  longest   how long one of them waits
+With --names a line for each two names and their affinities:
+  name         that of the messages that wait
+  affinity     theirs
+  forname      that of the messages they wait for; - for a worker
+  foraffinity  that of those; - for a worker
+  messages, ticks, longest
+
+Exit status:
+  0  done
+  2  the words are refused
+  3  a file is refused
+  4  something could not be read or written, or memory was refused";
+
 pub const DRAW: &str = "\
-Example: waff draw hier.toml trace.csv plan.csv >plan.svg
+Example: waff draw hier.toml trace.csv plan.csv --from 100 --to 200 >part.svg
 
 The pictures:
   svg     for a browser
   events  for a viewer of traces
+
+Exit status:
+  0  done
+  2  the words are refused
+  3  a file is refused
+  4  something could not be read or written, or memory was refused";
+
+pub const RANK: &str = "\
+Example: waff rank trace.csv one.toml two.toml --workers 8
+
+A line for each hierarchy:
+  hierarchy   its number, from 1
+  model       classical or hierarchical
+  affinities  how many it has
+  length      of its shortest plan
+  list        the length of its plan for K workers
+  least       a length that no plan for K workers is below
+  over        list / least, rounded up
+  waits       the ticks that messages wait in all
+  mean        the mean latency, from a release to the finish
+  p50, p99    a latency that 50 and 99 of 100 messages do not pass
+  latency     the greatest latency
 
 Exit status:
   0  done

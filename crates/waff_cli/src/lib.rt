@@ -15,4 +15,4 @@ mod refusal;
 mod words;
 
 pub use refusal::{FAILED, REFUSED, Refusal};
-pub use words::{Asked, Drawing, Request, read_words};
+pub use words::{Asked, Drawing, Part, Request, read_words};

@@ -4,7 +4,7 @@ use crate::help;
 use clap::{Arg, ArgAction, Command, value_parser};
 use std::alloc::{AllocError, Global};
 use waff_core::limits::MAX_SEATS;
-use waff_model::limits::MAX_WORKERS;
+use waff_model::limits::{MAX_TICK, MAX_WORKERS};
 
 /// The parser of all commands.
 pub fn parser<'a>(alloc: Global) -> Result<Command<'a>, AllocError> {
@@ -59,37 +59,64 @@ fn with_options<'a>(
 }
 
 fn file<'a>(alloc: Global, word: &'static FileWord) -> Arg<'a> {
-    Arg::new(alloc, word.id)
+    let arg = Arg::new(alloc, word.id)
         .value_name(word.name)
         .required(word.required)
-        .help(word.help)
+        .help(word.help);
+    if word.repeated {
+        arg.num_args(1..).action(ArgAction::Append)
+    } else {
+        arg
+    }
 }
 
 fn option<'a>(alloc: Global, word: OptionWord) -> Arg<'a> {
     match word {
-        OptionWord::PlanWorkers(required) => workers_up_to(alloc, MAX_WORKERS)
-            .short('k')
+        OptionWord::PlanWorkers(required) => plan_workers(alloc)
             .value_name("K")
             .help("How many messages may run at once, from 1 to 64")
             .required(required),
+        OptionWord::SweepWorkers => plan_workers(alloc)
+            .value_name("K,K,..")
+            .help("Up to 64 numbers of workers, each from 1 to 64")
+            .value_delimiter(','),
         OptionWord::Threads => workers_up_to(alloc, MAX_SEATS)
             .value_name("W")
             .help("How many threads, from 1 to 16; else one a processor"),
-        OptionWord::Names => Arg::new(alloc, "names")
+        OptionWord::Names(help) => Arg::new(alloc, "names")
             .long("names")
             .action(ArgAction::SetTrue)
-            .help("A line for each name of messages"),
-        OptionWord::Picture => Arg::new(alloc, "as")
-            .long("as")
-            .value_name("PICTURE")
-            .value_parser(PICTURES.as_slice())
-            .default_value("svg")
-            .help("The picture"),
+            .help(help),
+        OptionWord::Picture => picture(alloc),
+        OptionWord::From => tick(alloc, "from").help("The tick at which the part begins, else 0"),
+        OptionWord::To => tick(alloc, "to").help("The tick at which it ends, else the length"),
     }
+}
+
+/// How many messages may run at once.
+fn plan_workers<'a>(alloc: Global) -> Arg<'a> {
+    workers_up_to(alloc, MAX_WORKERS).short('k')
 }
 
 fn workers_up_to<'a>(alloc: Global, most: u32) -> Arg<'a> {
     Arg::new(alloc, "workers")
         .long("workers")
         .value_parser(value_parser!(u32).range(1..=i64::from(most)))
+}
+
+fn picture<'a>(alloc: Global) -> Arg<'a> {
+    Arg::new(alloc, "as")
+        .long("as")
+        .value_name("PICTURE")
+        .value_parser(PICTURES.as_slice())
+        .default_value("svg")
+        .help("The picture")
+}
+
+/// A tick of a plan.
+fn tick<'a>(alloc: Global, name: &'static str) -> Arg<'a> {
+    Arg::new(alloc, name)
+        .long(name)
+        .value_name("T")
+        .value_parser(value_parser!(u64).range(0..=MAX_TICK as i64))
 }

@@ -1,6 +1,6 @@
 //! Why words ask for nothing, and what is said then.
 use clap::error::ErrorKind;
-use std::alloc::AllocError;
+use std::alloc::{AllocError, AllocFailed};
 
 /// The words were refused.
 pub const REFUSED: u8 = 2;
@@ -24,6 +24,12 @@ impl From<AllocError> for Refusal {
     }
 }
 
+impl<T: Drop> From<AllocFailed<T>> for Refusal {
+    fn from(_error: AllocFailed<T>) -> Refusal {
+        Refusal::Memory
+    }
+}
+
 impl Refusal {
     /// The refusal of this error, which is printed: help on standard output, what is wrong on
     /// standard error.
@@ -36,5 +42,11 @@ impl Refusal {
             return Refusal::Told(FAILED);
         }
         Refusal::Told(error.exit_code() as u8)
+    }
+
+    /// The refusal of words for this, which is printed.
+    pub(crate) fn because(rt: &impl Eprint, why: &str) -> Refusal {
+        let _ = eprintln!(rt; "error: {why}\n\nFor more information, try '--help'.");
+        Refusal::Told(REFUSED)
     }
 }

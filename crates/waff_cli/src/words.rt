@@ -1,10 +1,11 @@
 //! The words of the command line, read.
-ghost use Rattle.std.specs.Prelude.{◌≤◌, IfOk, IfSome};
-ghost use Rattle.waff_cli.specs.Requests.{IsWithinLimits};
+ghost use Rattle.std.specs.Prelude.{◌≤◌, All, IfOk, IfSome};
+ghost use Rattle.waff_plan.specs.Bound.{IsWorkers};
+ghost use Rattle.waff_cli.specs.Requests.{IsPart, IsWithinLimits};
 
-use crate::commands::FILE_WORDS;
+use crate::commands::{FILE_WORDS, MAX_RANKED, MAX_SWEPT};
 use crate::parser::parser;
-use crate::refusal::{REFUSED, Refusal};
+use crate::refusal::Refusal;
 use clap::ArgMatches;
 use std::alloc::{AllocError, Global};
 use waff_core::limits::MAX_SEATS;
@@ -19,7 +20,7 @@ pub struct Request<'a> {
 }
 
 /// What is asked for of the files.
-#[derive(Clone, Copy)]
+#[derive(Drop)]
 pub enum Asked {
     /// No words: the plan of the hierarchy and the trace in one file, standard input.
     PlanOfInput,
@@ -33,12 +34,19 @@ pub enum Asked {
     Replay(Option<u32>),
     /// Two hierarchies compared, for this number of workers.
     Compare(u32),
-    /// How long the trace takes, by the number of workers.
-    Sweep,
+    /// How good the plan is.
+    Rate,
+    /// How long the trace takes, for each of these numbers of workers, or for the usual ones.
+    Sweep(Option<Vec<u32>>),
     /// Where the time goes, by the names of messages or by affinity.
     Where(bool),
-    /// The plan drawn as this picture.
-    Draw(Drawing),
+    /// Who waits for whom, by the names of messages or not, in the plan for this number of workers
+    /// or in a shortest one.
+    Waits(Option<u32>, bool),
+    /// This part of the plan drawn as this picture.
+    Draw(Drawing, Part),
+    /// How several hierarchies serve the trace, for this number of workers. The trace comes first.
+    Rank(u32),
     /// The first fault, or the verdict, of a hierarchy, of a trace where there is one, and of a
     /// plan where there is one.
     Explain,
@@ -50,6 +58,13 @@ pub enum Drawing {
     Svg,
     /// Events, for a viewer of traces.
     Events,
+}
+
+/// The ticks of a plan from the one up to the other, or up to its end.
+#[derive(Clone, Copy)]
+pub struct Part {
+    pub from: u64,
+    pub to: Option<u64>,
 }
 
 /// Reads the words, the program's own name first. Where they are refused, or ask for help, that is
@@ -77,8 +92,8 @@ fn request_of<'a>(
 {
     match matches.subcommand() {
         Some((command, matches)) => {
-            let asked = asked_of(command, matches)?;
-            let files = file_names(alloc, matches)?;
+            let asked = asked_of(rt, alloc, command, matches)?;
+            let files = file_names(rt, alloc, matches)?;
             refuse_two_inputs(rt, files.as_slice())?;
             Ok(Request { asked, files })
         }
@@ -92,16 +107,10 @@ fn request_of<'a>(
 /// The name of standard input among the names of files.
 const INPUT: &str = "-";
 
-/// What is said where it is there twice.
-const TWO_INPUTS: &str = "error: only one file can be '-', standard input
-
-For more information, try '--help'.";
-
 /// Refuses files of which more than one is standard input, and says so.
 fn refuse_two_inputs(rt: &impl Eprint, files: &[&str]) -> Result<(), Refusal> {
     if files.iter().filter(|name| **name == INPUT).count() > 1 {
-        let _ = rt.eprintln(TWO_INPUTS);
-        return Err(Refusal::Told(REFUSED));
+        return Err(Refusal::because(rt, "only one file can be '-', standard input"));
     }
     Ok(())
 }
@@ -112,29 +121,44 @@ fn input_alone<'a>(alloc: Global) -> Result<Vec<&'a str>, AllocError> {
 }
 
 /// What the words of a command ask for.
-fn asked_of(command: &str, matches: &ArgMatches<'_>) -> Result<Asked, Refusal>
+fn asked_of(
+    rt: &impl Eprint,
+    alloc: Global,
+    command: &str,
+    matches: &ArgMatches<'_>,
+) -> Result<Asked, Refusal>
     ensures { IfOk result IsWithinLimits }
 {
     match command {
         "assign" => Ok(Asked::Assign),
         "plan" => Ok(Asked::Plan(workers(matches, MAX_WORKERS)?)),
         "check" => Ok(Asked::Check),
+        "explain" => Ok(Asked::Explain),
+        "rate" => Ok(Asked::Rate),
+        "sweep" => Ok(Asked::Sweep(swept_workers(rt, alloc, matches)?)),
+        "where" => Ok(Asked::Where(matches.get_flag("names"))),
+        "waits" => waits_of(matches),
+        "draw" => Ok(Asked::Draw(drawn_as(matches)?, part_of(rt, matches)?)),
         "replay" => Ok(Asked::Replay(workers(matches, MAX_SEATS)?)),
         "compare" => Ok(Asked::Compare(wanted_workers(matches, MAX_WORKERS)?)),
-        "sweep" => Ok(Asked::Sweep),
-        "where" => Ok(Asked::Where(matches.get_flag("names"))),
-        "draw" => Ok(Asked::Draw(drawn_as(matches)?)),
-        "explain" => Ok(Asked::Explain),
+        "rank" => Ok(Asked::Rank(wanted_workers(matches, MAX_WORKERS)?)),
         _ => Err(Refusal::NoWords),
     }
 }
 
 /// The names of the files of a command, in the order of its words.
-fn file_names<'a>(alloc: Global, matches: &ArgMatches<'a>) -> Result<Vec<&'a str>, AllocError> {
+fn file_names<'a>(
+    rt: &impl Eprint,
+    alloc: Global,
+    matches: &ArgMatches<'a>,
+) -> Result<Vec<&'a str>, Refusal> {
     let mut names = Vec::new(alloc);
     for id in FILE_WORDS.iter() {
-        if let Some(name) = matches.get_str(id) {
-            names.push(name)?;
+        if let Some(given) = matches.get_strs(id) {
+            if given.len() > MAX_RANKED {
+                return Err(Refusal::because(rt, "at most 64 hierarchies can be ranked"));
+            }
+            names.extend_from_slice(given)?;
         }
     }
     Ok(names)
@@ -164,5 +188,68 @@ fn drawn_as(matches: &ArgMatches<'_>) -> Result<Drawing, Refusal> {
         Some("svg") => Ok(Drawing::Svg),
         Some("events") => Ok(Drawing::Events),
         _ => Err(Refusal::NoWords),
+    }
+}
+
+/// The numbers of workers of a sweep, where they are given.
+fn swept_workers(
+    rt: &impl Eprint,
+    alloc: Global,
+    matches: &ArgMatches<'_>,
+) -> Result<Option<Vec<u32>>, Refusal>
+    ensures { IfOk result (λ given. IfSome given (λ numbers. All IsWorkers numbers.items)) }
+{
+    match matches.get_strs("workers") {
+        Some(words) if words.len() > MAX_SWEPT => {
+            Err(Refusal::because(rt, "'--workers' takes at most 64 numbers"))
+        }
+        Some(words) => Ok(Some(numbers_of_workers(alloc, words)?)),
+        None => Ok(None),
+    }
+}
+
+/// The numbers of planners' workers that these words spell.
+fn numbers_of_workers(alloc: Global, words: &[&str]) -> Result<Vec<u32>, Refusal>
+    ensures { IfOk result (λ numbers. All IsWorkers numbers.items) }
+{
+    let mut numbers = Vec::new(alloc);
+    for word in words {
+        let number = number_of_workers(word)?;
+        numbers.push(number)?;
+    }
+    Ok(numbers)
+}
+
+/// The number of planners' workers that this word spells.
+fn number_of_workers(word: &str) -> Result<u32, Refusal>
+    ensures { IfOk result IsWorkers }
+{
+    match word.parse::<u32>() {
+        Ok(k) if k >= 1 && k <= MAX_WORKERS => Ok(k),
+        _ => Err(Refusal::NoWords),
+    }
+}
+
+/// Of which plan, and how, waits are told.
+fn waits_of(matches: &ArgMatches<'_>) -> Result<Asked, Refusal>
+    ensures { IfOk result IsWithinLimits }
+{
+    let workers = workers(matches, MAX_WORKERS)?;
+    Ok(Asked::Waits(workers, matches.get_flag("names")))
+}
+
+/// The part of a plan that is drawn.
+fn part_of(rt: &impl Eprint, matches: &ArgMatches<'_>) -> Result<Part, Refusal>
+    ensures { IfOk result IsPart }
+{
+    let part = Part {
+        from: matches.get_one::<u64>("from").unwrap_or(0),
+        to: matches.get_one::<u64>("to"),
+    };
+    match part.to {
+        Some(to) if to <= part.from => {
+            Err(Refusal::because(rt, "'--from' has to be below '--to'"))
+        }
+        _ => Ok(part),
     }
 }

@@ -1,5 +1,5 @@
 -- The axis: round numbers of ticks.
-use Rattle.std.specs.Prelude.{ℕ, ◌*◌, max, nat_le, List, [], ◌∷◌, if◌then◌else◌}
+use Rattle.std.specs.Prelude.{ℕ, ◌+◌, ◌-◌, ◌*◌, ◌/◌, max, nat_le, List, [], ◌∷◌, if◌then◌else◌}
 
 -- round numbers, as far as plans may be long
 abbrev pub round_numbers : List ℕ
@@ -23,3 +23,11 @@ first_step length (step ∷ steps) =
 -- the least round number of which ten steps reach the length
 abbrev pub step_of : ℕ → ℕ
 step_of length = first_step length round_numbers
+
+-- the least multiple of a step that is not below a tick
+abbrev pub multiple_from : ℕ → ℕ → ℕ
+multiple_from step tick = (tick + step - 1) / step * step
+
+-- line i of the axis of so many ticks from this one on, counted from 0
+abbrev pub line_at : ℕ → ℕ → ℕ → ℕ
+line_at from span i = multiple_from (step_of span) from + i * step_of span

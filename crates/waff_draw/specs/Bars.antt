@@ -1,35 +1,49 @@
 -- The bars of a picture.
 use Rattle.std.specs.Prelude.{ℕ, ◌+◌, ◌-◌, ◌*◌, ◌&&◌, Bool, List, [], ◌++◌, Option, Some, None}
-use Rattle.std.specs.Prelude.{if◌then◌else◌, length, nat_le, codes}
+use Rattle.std.specs.Prelude.{if◌then◌else◌, length, nat_le, nat_lt, codes}
 use Rattle.std.specs.List.{flat_map}
 use Rattle.waff_assign.specs.Order.{affinity_of}
-use Rattle.waff_plan.specs.Work.{numbers}
 use Rattle.waff_plan_text.specs.Given.{row_at}
 use Rattle.waff_draw.specs.Lanes.{is_among, row_of}
-use Rattle.waff_draw.specs.Pieces.{bar_end, bar_middle, bar_start}
-use Rattle.waff_draw.specs.Scene.{Scene, affinity_in, lanes_in, name_in, start_in, work_in}
-use Rattle.waff_draw.specs.Scene.{workers_in}
+use Rattle.waff_draw.specs.Pieces.{bar_end, bar_middle, bar_place, bar_size}
+use Rattle.waff_draw.specs.Scene.{Scene, affinity_in, finish_in, from_in, lanes_in, name_in}
+use Rattle.waff_draw.specs.Scene.{shown_in, shown_start, shown_ticks, span_in, start_in, workers_in}
 use Rattle.waff_draw.specs.Xml.{xml_text}
 use Rattle.waff_draw.specs.declared.bars.Bar.{Bar}
 
--- how a bar of the chain is marked
-abbrev pub link_mark : Bool → List ℕ
-link_mark is_link = if is_link then codes " class='chain'" else codes ""
+-- whether so many ticks are narrower than a pixel where these are a thousand wide
+abbrev pub is_narrow : ℕ → ℕ → Bool
+is_narrow span ticks = nat_lt (ticks * 1000) span
 
--- a bar in its row, from its start for its cost, with what it tells of its message
+-- how a bar of the chain is marked, and a thin one, which has no outline
+abbrev pub mark_of : Bool → Bool → List ℕ
+mark_of is_link is_thin =
+    if is_link then (if is_thin then codes " class='chain thin'" else codes " class='chain'") else
+    (if is_thin then codes " class='thin'" else codes "")
+
+-- how many tenths of its lane are free above it and below: none round a thin bar of the chain
+abbrev pub margin_of : Bool → Bool → ℕ
+margin_of is_link is_thin = if is_link && is_thin then 0 else 1
+
+-- a bar in its row, with what it tells of its message
 abbrev pub bar_text : Bar → List ℕ → List ℕ → List ℕ
 bar_text bar name affinity =
-    bar_start (link_mark bar.is_link) bar.start (bar.row * 10 + 1) bar.cost bar.message
-    ++ xml_text name ++ bar_middle ++ xml_text affinity ++ bar_end bar.start (bar.start + bar.cost)
+    bar_place (mark_of bar.is_link bar.is_thin) bar.left
+    (bar.row * 10 + margin_of bar.is_link bar.is_thin)
+    ++ bar_size bar.width (10 - 2 * margin_of bar.is_link bar.is_thin) bar.message
+    ++ xml_text name ++ bar_middle ++ xml_text affinity ++ bar_end bar.start bar.finish
 
--- the bar of message n in a row
+-- the bar of message n in a row: it is as wide as its ticks that are shown, and tells of all
 abbrev pub bar_at : Scene → ℕ → ℕ → Bar
 bar_at scene row n = record {
   message = n;
   row = row;
+  left = shown_start scene n - from_in scene;
+  width = shown_ticks scene n;
   start = start_in scene n;
-  cost = (work_in scene).cost n;
+  finish = finish_in scene n;
   is_link = is_among scene.plan.summary.chain n;
+  is_thin = is_narrow (span_in scene) (shown_ticks scene n);
 }
 
 -- its text
@@ -56,9 +70,10 @@ worker_bar scene n =
     bar_where scene n
     (worker_row (length (lanes_in scene)) (workers_in scene) (row_at scene.plan.rows n).worker)
 
--- the bars of all messages in the lanes of their affinities, then in those of their workers
+-- the bars of the messages that are shown in the lanes of their affinities, then in those of their
+-- workers
 abbrev pub affinity_bars : Scene → List ℕ
-affinity_bars scene = flat_map (affinity_bar scene) (numbers (work_in scene))
+affinity_bars scene = flat_map (affinity_bar scene) (shown_in scene)
 
 abbrev pub worker_bars : Scene → List ℕ
-worker_bars scene = flat_map (worker_bar scene) (numbers (work_in scene))
+worker_bars scene = flat_map (worker_bar scene) (shown_in scene)

@@ -1,14 +1,14 @@
 -- A scene that is made ready for drawing.
-use Rattle.std.specs.Prelude.{◌≡◌, ℕ, ◌<◌, ◌≤◌, All, Bool, false, List, length, map, slice_index}
+use Rattle.std.specs.Prelude.{◌≡◌, ℕ, ◌^◌, ◌<◌, ◌≤◌, All, Bool, false, List, length, map, slice_index}
 use Rattle.std.specs.Prelude.{slice_index_or}
 use Rattle.waff_plan.specs.Timetable.{Timetable, timings_of}
 use Rattle.waff_draw.specs.Lanes.{is_among, row_of}
-use Rattle.waff_draw.specs.Scene.{Scene, lanes_in, length_in, work_in}
+use Rattle.waff_draw.specs.Scene.{Scene, end_in, from_in, lanes_in, length_in, work_in}
 use Rattle.waff_draw.specs.declared.lanes.Lane.{Lane}
 
--- each message has its affinity and its row; the lanes, the plan and its length are those of the
--- scene, with the row of each affinity and which numbers are on the chain
-pub record IsChart (scene : Scene) (lanes : List Lane) (plan : Timetable) (ticks : ℕ)
+-- each message has its affinity and its row; the lanes, the plan, its length and where the part of
+-- it ends are those of the scene, with the row of each affinity and which numbers are on the chain
+pub record IsChart (scene : Scene) (lanes : List Lane) (plan : Timetable) (ticks end : ℕ)
     (rows : List ℕ) (links : List Bool) : Type 0 where
   pub messages : length scene.messages ≡ (work_in scene).count
   pub assigned : length scene.assigned ≡ (work_in scene).count
@@ -20,6 +20,9 @@ pub record IsChart (scene : Scene) (lanes : List Lane) (plan : Timetable) (ticks
   pub timings : plan.timings ≡ timings_of scene.messages
   pub starts : plan.starts ≡ map (λ row. row.start) scene.plan.rows
   pub long : ticks ≡ length_in scene
+  pub ends : end ≡ end_in scene
+  pub some : from_in scene < end
+  pub small : end ≤ 2 ^ 64
   pub row_count : length rows ≡ length scene.tree
   pub each_row : (a : ℕ) → a < length scene.tree
       → slice_index rows a ≡ row_of (lanes_in scene) a

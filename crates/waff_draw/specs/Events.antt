@@ -7,13 +7,12 @@ use Rattle.serde_json.specs.Data.{string}
 use Rattle.serde_json.specs.Written.{compact_text}
 use Rattle.waff_model.specs.Tree.{Node, name_of}
 use Rattle.waff_assign.specs.Order.{affinity_of}
-use Rattle.waff_plan.specs.Work.{numbers}
 use Rattle.waff_plan_text.specs.Given.{row_at}
 use Rattle.waff_draw.specs.Bars.{worker_row}
 use Rattle.waff_draw.specs.Lanes.{is_among, lane_of, row_of}
 use Rattle.waff_draw.specs.Pieces.{joined, worker_name}
-use Rattle.waff_draw.specs.Scene.{Scene, affinity_in, lanes_in, name_in, start_in, work_in}
-use Rattle.waff_draw.specs.Scene.{workers_in}
+use Rattle.waff_draw.specs.Scene.{Scene, affinity_in, lanes_in, name_in, shown_in, shown_start}
+use Rattle.waff_draw.specs.Scene.{shown_ticks, work_in, workers_in}
 use Rattle.waff_draw.specs.declared.events.Event.{Event}
 use Rattle.waff_draw.specs.declared.lanes.Lane.{Lane}
 
@@ -51,7 +50,7 @@ thread_place process thread =
 -- a complete event: what runs from when for how long, in which thread, and what is told of the
 -- message
 unfoldable pub event_start : List ℕ → List ℕ → ℕ → ℕ → List ℕ
-event_start name category start cost =
+event_start name category start ticks =
     joined (
     codes ",\n{\"name\":"
     ∷ name
@@ -60,7 +59,7 @@ event_start name category start cost =
     ∷ codes "\",\"ph\":\"X\",\"ts\":"
     ∷ decimal start
     ∷ codes ",\"dur\":"
-    ∷ decimal cost
+    ∷ decimal ticks
     ∷ codes "," ∷ [])
 
 unfoldable pub event_thread : ℕ → ℕ → List ℕ
@@ -103,7 +102,7 @@ category is_link = if is_link then codes "chain" else codes "message"
 -- a message of this name that runs in the affinity of that name
 abbrev pub event_text : Event → List ℕ → List ℕ → List ℕ
 event_text event name affinity =
-    event_start (quoted name) (category event.is_link) event.start event.cost
+    event_start (quoted name) (category event.is_link) event.start event.ticks
     ++ event_thread event.process event.thread
     ++ event_args event.message (quoted name) (quoted affinity) event.release
 
@@ -120,14 +119,14 @@ abbrev pub worker_threads : ℕ → Option ℕ → List ℕ
 worker_threads first None = []
 worker_threads first (Some k) = workers_start ++ flat_map (worker_thread first) (range_with_len 1 k)
 
--- the event of message n in a row of a process
+-- the event of message n in a row of a process: it has the ticks that are shown
 abbrev pub event_at : Scene → ℕ → ℕ → ℕ → Event
 event_at scene process row n = record {
   message = n;
   process = process;
   thread = row + 1;
-  start = start_in scene n;
-  cost = (work_in scene).cost n;
+  start = shown_start scene n;
+  ticks = shown_ticks scene n;
   release = (work_in scene).release n;
   is_link = is_among scene.plan.summary.chain n;
 }
@@ -151,12 +150,13 @@ worker_event scene n =
     event_where scene n
     (worker_row (length (lanes_in scene)) (workers_in scene) (row_at scene.plan.rows n).worker)
 
--- the events of all messages in the lanes of their affinities, then in those of their workers
+-- the events of the messages that are shown in the lanes of their affinities, then in those of
+-- their workers
 abbrev pub affinity_events : Scene → List ℕ
-affinity_events scene = flat_map (affinity_event scene) (numbers (work_in scene))
+affinity_events scene = flat_map (affinity_event scene) (shown_in scene)
 
 abbrev pub worker_events : Scene → List ℕ
-worker_events scene = flat_map (worker_event scene) (numbers (work_in scene))
+worker_events scene = flat_map (worker_event scene) (shown_in scene)
 
 -- what stands before the events of messages
 abbrev pub threads_text : Scene → List ℕ

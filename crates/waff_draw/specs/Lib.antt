@@ -1,4 +1,5 @@
 pub mod Lanes
+pub mod Parts
 pub mod Axis
 pub mod Xml
 pub mod Pieces

@@ -9,15 +9,15 @@ joined pieces = flat_map (λ piece. piece) pieces
 
 -- the colours, for light and for dark
 unfoldable pub style_text : List ℕ
-style_text = codes "<style>svg{background:#fff;font:12px sans-serif}text{fill:#222}.heading{font-size:16px;font-weight:bold}.tick{text-anchor:middle}.lane rect{fill:#fff}.lane:nth-of-type(even) rect{fill:#f0f2f5}.plan rect{fill:#56b4e9;stroke:#0072b2;stroke-width:.75;vector-effect:non-scaling-stroke}.plan .chain{fill:#e69f00;stroke:#000;stroke-width:2}.plan path{stroke:#c8ccd2;vector-effect:non-scaling-stroke}@media(prefers-color-scheme:dark){svg{background:#16181c}text{fill:#e8e8e8}.lane rect{fill:#16181c}.lane:nth-of-type(even) rect{fill:#22262c}.plan rect{fill:#0072b2;stroke:#56b4e9}.plan .chain{fill:#e69f00;stroke:#fff}.plan path{stroke:#454b54}}</style>\n"
+style_text = codes "<style>svg{background:#fff;font:12px sans-serif}text{fill:#222}.heading{font-size:16px;font-weight:bold}.tick{text-anchor:middle}.lane rect{fill:#fff}.lane:nth-of-type(even) rect{fill:#f0f2f5}.plan rect{fill:#56b4e9;stroke:#0072b2;stroke-width:.75;vector-effect:non-scaling-stroke}.plan .thin{fill:#0072b2}.plan .chain{fill:#e69f00;stroke:#000;stroke-width:2}.plan path{stroke:#c8ccd2;vector-effect:non-scaling-stroke}@media(prefers-color-scheme:dark){svg{background:#16181c}text{fill:#e8e8e8}.lane rect{fill:#16181c}.lane:nth-of-type(even) rect{fill:#22262c}.plan rect{fill:#0072b2;stroke:#56b4e9}.plan .thin{fill:#56b4e9}.plan .chain{fill:#e69f00;stroke:#fff}.plan path{stroke:#454b54}}.plan .thin{stroke:none}</style>\n"
 
 -- what the bars are
 unfoldable pub legend_text : List ℕ
-legend_text = codes "<text x='8' y='48'>A bar is a message from its start to its finish; outlined bars are the chain of the plan.</text>\n"
+legend_text = codes "<text x='8' y='48'>A bar is a message from its start to its finish. The plan's chain has thick outlines; its bars narrower than a pixel fill the height of the lane.</text>\n"
 
 -- the top of the document, of this height
 unfoldable pub top_start : ℕ → List ℕ
-top_start height = codes "<svg xmlns='http://www.w3.org/2000/svg' width='1340' height='"
+top_start height = codes "<svg xmlns='http://www.w3.org/2000/svg' width='1380' height='"
     ++ decimal height ++ codes "'>\n"
 
 -- what is told of the plan, as far as its workers
@@ -41,7 +41,7 @@ lane_start top left base =
     joined (
     codes "<g class='lane'><rect y='"
     ∷ decimal top
-    ∷ codes "' width='1340' height='20'/><text x='"
+    ∷ codes "' width='1380' height='20'/><text x='"
     ∷ decimal left
     ∷ codes "' y='"
     ∷ decimal base
@@ -91,19 +91,27 @@ grid_line tick units =
     ∷ decimal units
     ∷ codes "'/>\n" ∷ [])
 
--- a bar as far as the name of its message
-unfoldable pub bar_start : List ℕ → ℕ → ℕ → ℕ → ℕ → List ℕ
-bar_start mark start top cost message =
+-- a bar with its mark, as far as its place
+unfoldable pub bar_place : List ℕ → ℕ → ℕ → List ℕ
+bar_place mark left top =
     joined (
     codes "<rect"
     ∷ mark
     ∷ codes " x='"
-    ∷ decimal start
+    ∷ decimal left
     ∷ codes "' y='"
     ∷ decimal top
-    ∷ codes "' width='"
-    ∷ decimal cost
-    ∷ codes "' height='8'><title>"
+    ∷ codes "'" ∷ [])
+
+-- its size, and what it tells as far as the name of its message
+unfoldable pub bar_size : ℕ → ℕ → ℕ → List ℕ
+bar_size width height message =
+    joined (
+    codes " width='"
+    ∷ decimal width
+    ∷ codes "' height='"
+    ∷ decimal height
+    ∷ codes "'><title>"
     ∷ decimal message
     ∷ codes " " ∷ [])
 

@@ -1,25 +1,30 @@
--- What a picture shows: a plan that is given for the messages of a trace with their affinities.
-use Rattle.std.specs.Prelude.{ℕ, ◌+◌, ◌-◌, max, List, [], Option, Some, None, length, map}
-use Rattle.std.specs.Prelude.{slice_index_or}
+-- What a picture shows: a plan that is given for the messages of a trace with their affinities, or
+-- a part of it.
+use Rattle.std.specs.Prelude.{ℕ, ◌+◌, ◌-◌, max, min, Bool, List, [], Option, Some, None, length, map}
+use Rattle.std.specs.Prelude.{nat_lt, slice_index_or}
+use Rattle.std.specs.List.{filter}
 use Rattle.waff_model.specs.Tree.{Node, name_of}
 use Rattle.waff_model.specs.declared.message.Message.{Message}
 use Rattle.waff_assign.specs.Order.{affinity_of}
 use Rattle.waff_plan.specs.Timetable.{timings_of}
 use Rattle.waff_plan.specs.Timing.{start_of, work_of}
-use Rattle.waff_plan.specs.Work.{Work, length_of}
+use Rattle.waff_plan.specs.Work.{Work, finish_of, length_of, numbers}
 use Rattle.waff_plan_text.specs.Given.{Given}
 use Rattle.waff_draw.specs.Lanes.{lanes_of}
+use Rattle.waff_draw.specs.Parts.{end_of}
 use Rattle.waff_draw.specs.declared.lanes.Lane.{Lane}
+use Rattle.waff_draw.specs.declared.parts.Part.{Part}
 
 pub record Scene : Type 0 where
   pub tree : List Node
   pub assigned : List ℕ
   pub messages : List Message
   pub plan : Given
+  pub part : Part
 
-abbrev pub scene_of : List Node → List ℕ → List Message → Given → Scene
-scene_of tree assigned messages plan =
-    record { tree = tree; assigned = assigned; messages = messages; plan = plan }
+abbrev pub scene_of : List Node → List ℕ → List Message → Given → Part → Scene
+scene_of tree assigned messages plan part =
+    record { tree = tree; assigned = assigned; messages = messages; plan = plan; part = part }
 
 -- the work, the starts and the length of the plan
 abbrev pub work_in : Scene → Work
@@ -31,9 +36,32 @@ start_in scene = start_of (map (λ row. row.start) scene.plan.rows)
 abbrev pub length_in : Scene → ℕ
 length_in scene = length_of (work_in scene) (start_in scene)
 
--- the width of the picture in ticks
+-- where the part of it begins and ends that is shown, and how many ticks that is
+abbrev pub from_in : Scene → ℕ
+from_in scene = scene.part.from
+
+abbrev pub end_in : Scene → ℕ
+end_in scene = end_of scene.part (length_in scene)
+
 abbrev pub span_in : Scene → ℕ
-span_in scene = max (length_in scene) 1
+span_in scene = end_in scene - from_in scene
+
+-- what is shown of message n, cut at the edges of the part: where it begins, and how many ticks
+abbrev pub finish_in : Scene → ℕ → ℕ
+finish_in scene = finish_of (work_in scene) (start_in scene)
+
+abbrev pub shown_start : Scene → ℕ → ℕ
+shown_start scene n = max (start_in scene n) (from_in scene)
+
+abbrev pub shown_ticks : Scene → ℕ → ℕ
+shown_ticks scene n = min (finish_in scene n) (end_in scene) - shown_start scene n
+
+-- the messages that have a tick in the part
+abbrev pub is_shown : Scene → ℕ → Bool
+is_shown scene n = nat_lt 0 (shown_ticks scene n)
+
+abbrev pub shown_in : Scene → List ℕ
+shown_in scene = filter (is_shown scene) (numbers (work_in scene))
 
 -- the lanes of affinities; below them a plan for k workers has k more
 abbrev pub lanes_in : Scene → List Lane

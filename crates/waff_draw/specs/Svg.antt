@@ -5,13 +5,14 @@ use Rattle.std.specs.List.{flat_map, range_with_len}
 use Rattle.waff_model.specs.Tree.{Node, name_of}
 use Rattle.waff_plan.specs.Work.{total_of}
 use Rattle.waff_plan_text.specs.Spelling.{worker_field}
-use Rattle.waff_draw.specs.Axis.{step_of}
+use Rattle.waff_draw.specs.Axis.{line_at}
 use Rattle.waff_draw.specs.Bars.{affinity_bars, worker_bars}
 use Rattle.waff_draw.specs.Lanes.{lane_of}
 use Rattle.waff_draw.specs.Pieces.{document_end, grid_line, heading_end, heading_start, lane_end}
 use Rattle.waff_draw.specs.Pieces.{lane_start, legend_text, plan_start, style_text, tick_label}
 use Rattle.waff_draw.specs.Pieces.{top_start, worker_name}
-use Rattle.waff_draw.specs.Scene.{Scene, lanes_in, length_in, rows_in, span_in, work_in, workers_in}
+use Rattle.waff_draw.specs.Scene.{Scene, end_in, from_in, lanes_in, length_in, rows_in, span_in}
+use Rattle.waff_draw.specs.Scene.{work_in, workers_in}
 use Rattle.waff_draw.specs.Xml.{xml_text}
 use Rattle.waff_draw.specs.declared.lanes.Lane.{Lane}
 
@@ -41,19 +42,23 @@ abbrev pub worker_lane : ℕ → ℕ → List ℕ
 worker_lane first worker = lane_text (first + worker - 1) 0 (worker_name worker)
 
 -- a number of ticks where it stands between the left and the right of the lanes
-abbrev pub tick_text : ℕ → ℕ → ℕ → List ℕ
-tick_text rows span tick = tick_label (tick * 1000 / span + 320) (rows * 20 + 98) tick
+abbrev pub tick_text : Scene → ℕ → List ℕ
+tick_text scene tick =
+    tick_label ((tick - from_in scene) * 1000 / span_in scene + 320) (rows_in scene * 20 + 98) tick
 
 -- a line through all rows
-abbrev pub grid_text : ℕ → ℕ → List ℕ
-grid_text rows tick = grid_line tick (rows * 10)
+abbrev pub grid_text : Scene → ℕ → List ℕ
+grid_text scene tick = grid_line (tick - from_in scene) (rows_in scene * 10)
 
--- the steps of the axis that are not past the length
+-- the lines of the axis that are not past the end of the part
 abbrev pub upto : ℕ → (ℕ → List ℕ) → ℕ → List ℕ
-upto length text tick = if nat_le tick length then text tick else []
+upto end text tick = if nat_le tick end then text tick else []
 
-abbrev pub each_step : ℕ → (ℕ → List ℕ) → List ℕ
-each_step length text = flat_map (λ i. upto length text (i * step_of length)) (range_with_len 0 11)
+abbrev pub line_in : Scene → ℕ → ℕ
+line_in scene i = line_at (from_in scene) (span_in scene) i
+
+abbrev pub each_line : Scene → (ℕ → List ℕ) → List ℕ
+each_line scene text = flat_map (λ i. upto (end_in scene) text (line_in scene i)) (range_with_len 0 11)
 
 -- the ground of the bars, in ticks and tenths of a lane
 abbrev pub plan_text : ℕ → ℕ → List ℕ
@@ -67,9 +72,9 @@ ground_text scene =
     ++ flat_map (affinity_lane scene.tree (lanes_in scene))
     (range_with_len 0 (length (lanes_in scene)))
     ++ flat_map (worker_lane (length (lanes_in scene))) (range_with_len 1 (workers_in scene))
-    ++ each_step (length_in scene) (tick_text (rows_in scene) (span_in scene))
+    ++ each_line scene (tick_text scene)
     ++ plan_text (rows_in scene) (span_in scene)
-    ++ each_step (length_in scene) (grid_text (rows_in scene))
+    ++ each_line scene (grid_text scene)
 
 -- the document
 abbrev pub svg_text : Scene → List ℕ

@@ -1,29 +1,33 @@
 //! The bars of a picture.
 
-ghost use Rattle.std.specs.Prelude.{◌≡◌, ◌^◌, ◌<◌, ◌≤◌, ◌++◌, OnOk, string_bytes};
+ghost use Rattle.std.specs.Prelude.{◌≡◌, ◌≤◌, ◌++◌, OnOk, string_bytes};
 ghost use Rattle.waff_plan.specs.Work.{IsNumber};
-ghost use Rattle.waff_draw.specs.Bars.{bar_at, bar_in, link_mark};
+ghost use Rattle.waff_draw.specs.Bars.{bar_at, bar_in, is_narrow, margin_of, mark_of};
 ghost use Rattle.waff_draw.specs.Kinds.{bars_of};
 ghost use Rattle.waff_draw.specs.Scene.{work_in};
 
 use crate::chart::Chart;
 use crate::lanes::LaneKind;
-use crate::pieces::{push_bar_end, push_bar_middle, push_bar_start};
+use crate::pieces::{push_bar_end, push_bar_middle, push_bar_place, push_bar_size};
 use crate::xml::push_xml;
 use std::alloc::AllocError;
-use waff_model::limits::MAX_TICK;
 
-/// A bar: its message, its row, its start and its cost, and whether the message is on the chain.
+/// A bar: its message, its row, its left edge and its width in ticks of the part that is shown; when
+/// the message starts and finishes, whether it is on the chain, and whether the bar is narrower than
+/// a pixel.
 #[derive(Clone, Copy)]
 pub struct Bar {
     pub message: u32,
     pub row: u64,
+    pub left: u64,
+    pub width: u64,
     pub start: u64,
-    pub cost: u64,
+    pub finish: u64,
     pub is_link: bool,
+    pub is_thin: bool,
 }
 
-/// Appends the bars of all messages that have a row among the lanes of this kind.
+/// Appends the bars of the messages that are shown and have a row among the lanes of this kind.
 pub(crate) fn push_bars(
     text: &mut String,
     chart: &Chart<'_>,
@@ -33,7 +37,7 @@ pub(crate) fn push_bars(
         ++ bars_of chart.now kind) }
 {
     for n in 1..chart.len() + 1 {
-        if let Some(row) = chart.row(kind, n) {
+        if let Some(row) = chart.shown_row(kind, n) {
             push_bar(text, chart, row, n)?;
         }
     }
@@ -47,34 +51,58 @@ fn push_bar(text: &mut String, chart: &Chart<'_>, row: u64, n: u32) -> Result<()
         ++ bar_in chart.now row n) }
 {
     let bar = bar_of(chart, row, n);
-    let mark = link_mark(bar.is_link);
-    let top = u128::from(bar.row) * 10 + 1;
-    push_bar_start(text, mark, bar.start, top, bar.cost, bar.message)?;
+    let mark = mark_of(bar.is_link, bar.is_thin);
+    let margin = margin_of(bar.is_link, bar.is_thin);
+    let top = u128::from(bar.row) * 10 + u128::from(margin);
+    push_bar_place(text, mark, bar.left, top)?;
+    push_bar_size(text, bar.width, 10 - 2 * margin, bar.message)?;
     push_xml(text, chart.name(n))?;
     push_bar_middle(text)?;
     push_xml(text, chart.affinity_name(n))?;
-    push_bar_end(text, bar.start, bar.start + bar.cost)
+    push_bar_end(text, bar.start, bar.finish)
 }
 
 /// The bar of message `n` in this row.
 fn bar_of(chart: &Chart<'_>, row: u64, n: u32) -> Bar
     requires { IsNumber (work_in chart.now) n }
-    ensures bar { result ≡ bar_at chart.now row n }
-    ensures start { result.start ≤ MAX_TICK }
-    ensures cost { result.cost < 2 ^ 32 }
+    ensures { result ≡ bar_at chart.now row n }
 {
+    let width = chart.shown_ticks(n);
     Bar {
         message: n,
         row,
+        left: chart.shown_start(n) - chart.from(),
+        width,
         start: chart.start(n),
-        cost: chart.cost(n),
+        finish: chart.finish(n),
         is_link: chart.is_link(n),
+        is_thin: is_narrow(chart.span(), width),
     }
 }
 
-/// How a bar of the chain is marked.
-fn link_mark(is_link: bool) -> &'static str
-    ensures { result.now ≡ link_mark is_link }
+/// Whether so many ticks are narrower than a pixel where these are a thousand wide.
+fn is_narrow(span: u128, ticks: u64) -> bool
+    ensures { result ≡ is_narrow span ticks }
 {
-    if is_link { " class='chain'" } else { "" }
+    u128::from(ticks) * 1000 < span
+}
+
+/// How a bar of the chain is marked, and a thin one.
+fn mark_of(is_link: bool, is_thin: bool) -> &'static str
+    ensures { result.now ≡ mark_of is_link is_thin }
+{
+    match (is_link, is_thin) {
+        (true, true) => " class='chain thin'",
+        (true, false) => " class='chain'",
+        (false, true) => " class='thin'",
+        (false, false) => "",
+    }
+}
+
+/// How many tenths of its lane are free above a bar and below: none round a thin bar of the chain.
+fn margin_of(is_link: bool, is_thin: bool) -> u32
+    ensures margin { result ≡ margin_of is_link is_thin }
+    ensures small { result ≤ 1 }
+{
+    if is_link && is_thin { 0 } else { 1 }
 }

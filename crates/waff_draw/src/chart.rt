@@ -1,42 +1,49 @@
 //! What a picture shows, made ready for drawing.
 
-ghost use Rattle.std.specs.Prelude.{◌≡◌, ◌*◌, ◌^◌, ◌<◌, ◌≤◌, All, IfOk, IfSome, length};
+ghost use Rattle.std.specs.Prelude.{◌≡◌, ◌^◌, ◌<◌, ◌≤◌, All, IfOk, IfSome, length};
 ghost use Rattle.std.specs.Prelude.{slice_index_or};
 ghost use Rattle.waff_model.specs.Tree.{name_of};
 ghost use Rattle.waff_assign.specs.Order.{affinity_of};
 ghost use Rattle.waff_plan.specs.Bound.{IsWorkers};
 ghost use Rattle.waff_plan.specs.Work.{IsNumber, total_of};
 ghost use Rattle.waff_plan_text.specs.Given.{row_at};
-ghost use Rattle.waff_draw.specs.Axis.{step_of};
 ghost use Rattle.waff_draw.specs.Bars.{worker_row};
-ghost use Rattle.waff_draw.specs.Kinds.{row_in};
+ghost use Rattle.waff_draw.specs.Kinds.{row_in, shown_row};
 ghost use Rattle.waff_draw.specs.Lanes.{is_among, lane_of, row_of};
-ghost use Rattle.waff_draw.specs.Scene.{affinity_in, lanes_in, length_in, name_in, rows_in};
-ghost use Rattle.waff_draw.specs.Scene.{scene_of, start_in, work_in, workers_in};
+ghost use Rattle.waff_draw.specs.Parts.{IsPart};
+ghost use Rattle.waff_draw.specs.Scene.{affinity_in, end_in, finish_in, from_in, is_shown};
+ghost use Rattle.waff_draw.specs.Scene.{lanes_in, length_in, name_in, rows_in, scene_of};
+ghost use Rattle.waff_draw.specs.Scene.{shown_start, shown_ticks, span_in, start_in, work_in};
+ghost use Rattle.waff_draw.specs.Scene.{workers_in};
+ghost use Rattle.waff_draw.specs.Svg.{line_in};
 
-use crate::axis::step;
+use crate::axis::line_at;
 use crate::lanes::{Lane, LaneKind, lanes, rows};
 use crate::marks::marks;
+use crate::parts::{Part, end_of};
 use std::alloc::{AllocError, Global};
 use std::marker::Model;
 use waff_assign::Assigned;
-use waff_model::limits::{MAX_MESSAGES, MAX_TICK, MAX_WORKERS};
+use waff_model::limits::{MAX_MESSAGES, MAX_WORKERS};
 use waff_model::{AffinityId, Trace, Tree};
 use waff_plan::Plan;
 use waff_plan_text::GivenPlan;
 
 /// A scene made ready for drawing: a plan that is given for the messages of a trace with their
-/// affinities, the lanes of these and the row of each, the plan of its starts and its length in
-/// ticks, and whether each message is on the chain, by its number.
+/// affinities, and which part of it is shown; the lanes of these and the row of each, the plan of its
+/// starts and its length in ticks, where the part ends, and whether each message is on the chain, by
+/// its number.
 #[derive(Drop)]
 pub(crate) struct Chart<'a> {
     tree: &'a Tree,
     assigned: &'a Assigned,
     trace: &'a Trace,
     given: &'a GivenPlan,
+    part: Part,
     lanes: Vec<Lane>,
     plan: Plan,
     ticks: u64,
+    end: u128,
     rows: Vec<u64>,
     links: Vec<bool>,
 }
@@ -47,27 +54,30 @@ impl<'a> Model for Chart<'a> {
 
     ghost Value = { Scene };
 
-    ghost view = { λ c. scene_of c.tree.now c.assigned.now c.trace.now.messages c.given.now };
+    ghost view = { λ c.
+        scene_of c.tree.now c.assigned.now c.trace.now.messages c.given.now c.part };
 
     ghost invariant = { λ c.
-        IsChart (scene_of c.tree.now c.assigned.now c.trace.now.messages c.given.now)
-        c.lanes.items c.plan c.ticks c.rows.items c.links.items };
+        IsChart (scene_of c.tree.now c.assigned.now c.trace.now.messages c.given.now c.part)
+        c.lanes.items c.plan c.ticks c.end c.rows.items c.links.items };
 }
 
 impl<'a> Chart<'a> {
-    /// The chart of a plan that is given.
+    /// The chart of this part of a plan that is given.
     pub(crate) fn new(
         alloc: Global,
         tree: &'a Tree,
         assigned: &'a Assigned,
         trace: &'a Trace,
         given: &'a GivenPlan,
+        part: Part,
     ) -> Result<Self, AllocError>
         requires lengths { length assigned.now ≡ length trace.now.messages }
         requires known { All (λ a. a < length tree.now) assigned.now }
         requires rows { length given.now.rows ≡ length trace.now.messages }
+        requires part { IsPart part }
         ensures { IfOk result (λ chart.
-            chart ≡ scene_of tree.now assigned.now trace.now.messages given.now) }
+            chart ≡ scene_of tree.now assigned.now trace.now.messages given.now part) }
     {
         let lanes = lanes(alloc, tree, assigned)?;
         let plan = given.plan(alloc, trace)?;
@@ -79,9 +89,11 @@ impl<'a> Chart<'a> {
             assigned,
             trace,
             given,
+            part,
             lanes,
             plan,
             ticks,
+            end: end_of(part, ticks),
             rows,
             links,
         })
@@ -117,19 +129,17 @@ impl<'a> Chart<'a> {
     /// The tick at which it starts.
     pub(crate) fn start(&self, n: u32) -> u64
         requires { IsNumber (work_in self.now) n }
-        ensures start { result ≡ start_in self.now n }
-        ensures printable { result ≤ MAX_TICK }
+        ensures { result ≡ start_in self.now n }
     {
         self.plan.start(n)
     }
 
-    /// Its running time.
-    pub(crate) fn cost(&self, n: u32) -> u64
+    /// The tick at which it has finished.
+    pub(crate) fn finish(&self, n: u32) -> u64
         requires { IsNumber (work_in self.now) n }
-        ensures cost { result ≡ (work_in self.now).cost n }
-        ensures small { result < 2 ^ 32 }
+        ensures { result ≡ finish_in self.now n }
     {
-        self.plan.cost(n)
+        self.plan.finish(n)
     }
 
     /// The tick before which it may not start.
@@ -148,8 +158,43 @@ impl<'a> Chart<'a> {
         self.links[n as usize]
     }
 
+    /// The tick from which it is shown.
+    pub(crate) fn shown_start(&self, n: u32) -> u64
+        requires { IsNumber (work_in self.now) n }
+        ensures start { result ≡ shown_start self.now n }
+        ensures from { from_in self.now ≤ result }
+    {
+        self.start(n).max(self.from())
+    }
+
+    /// How many of its ticks are shown.
+    pub(crate) fn shown_ticks(&self, n: u32) -> u64
+        requires { IsNumber (work_in self.now) n }
+        ensures { result ≡ shown_ticks self.now n }
+    {
+        let finish = self.finish(n);
+        let end = if u128::from(finish) <= self.end {
+            finish
+        } else {
+            self.end as u64
+        };
+        end.saturating_sub(self.shown_start(n))
+    }
+
+    /// Its row among the lanes of this kind, if it is shown and has one there.
+    pub(crate) fn shown_row(&self, kind: LaneKind, n: u32) -> Option<u64>
+        requires { IsNumber (work_in self.now) n }
+        ensures { result ≡ shown_row self.now kind n }
+    {
+        if self.shown_ticks(n) > 0 {
+            self.row(kind, n)
+        } else {
+            None
+        }
+    }
+
     /// Its row among the lanes of this kind, if it has one there.
-    pub(crate) fn row(&self, kind: LaneKind, n: u32) -> Option<u64>
+    fn row(&self, kind: LaneKind, n: u32) -> Option<u64>
         requires { IsNumber (work_in self.now) n }
         ensures { result ≡ row_in self.now kind n }
     {
@@ -254,10 +299,36 @@ impl<'a> Chart<'a> {
         self.plan.total()
     }
 
-    /// Where step `i` of the axis is.
-    pub(crate) fn tick(&self, i: u32) -> u128
-        ensures { result ≡ i * step_of (length_in self.now) }
+    /// The first tick that is shown.
+    pub(crate) fn from(&self) -> u64
+        ensures { result ≡ from_in self.now }
     {
-        u128::from(i) * u128::from(step(self.length()))
+        self.part.from
+    }
+
+    /// Where the part ends that is shown.
+    pub(crate) fn end(&self) -> u128
+        ensures end { result ≡ end_in self.now }
+        ensures some { from_in self.now < result }
+        ensures small { result ≤ 2 ^ 64 }
+    {
+        self.end
+    }
+
+    /// How many ticks are shown.
+    pub(crate) fn span(&self) -> u128
+        ensures span { result ≡ span_in self.now }
+        ensures some { 0 < result }
+        ensures small { result ≤ 2 ^ 64 }
+    {
+        self.end() - u128::from(self.from())
+    }
+
+    /// Where line `i` of the axis is, counted from 0.
+    pub(crate) fn line(&self, i: u32) -> u128
+        ensures line { result ≡ line_in self.now i }
+        ensures from { from_in self.now ≤ result }
+    {
+        line_at(self.from(), self.span(), i)
     }
 }

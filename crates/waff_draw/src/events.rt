@@ -9,10 +9,12 @@ ghost use Rattle.waff_draw.specs.Events.{event_text, event_thread, events_text, 
 ghost use Rattle.waff_draw.specs.Events.{thread_name, thread_place, thread_text, threads_text};
 ghost use Rattle.waff_draw.specs.Events.{worker_thread, worker_threads, workers_start};
 ghost use Rattle.waff_draw.specs.Kinds.{events_of, process_of};
+ghost use Rattle.waff_draw.specs.Parts.{IsPart};
 ghost use Rattle.waff_draw.specs.Scene.{lanes_in, scene_of, work_in};
 
 use crate::chart::Chart;
 use crate::lanes::LaneKind;
+use crate::parts::Part;
 use crate::pieces::push_worker_name;
 use serde_json::Value;
 use std::alloc::{AllocError, Global};
@@ -20,33 +22,36 @@ use waff_assign::Assigned;
 use waff_model::{Trace, Tree};
 use waff_plan_text::GivenPlan;
 
-/// A message as it runs in a thread of a process.
+/// A message as it runs in a thread of a process, as far as it is shown.
 #[derive(Clone, Copy)]
 pub struct Event {
     pub message: u32,
     pub process: u32,
     pub thread: u128,
     pub start: u64,
-    pub cost: u64,
+    pub ticks: u64,
     pub release: u64,
     pub is_link: bool,
 }
 
-/// The events of a plan that is given for the messages of a trace with their affinities.
+/// The events of this part of a plan that is given for the messages of a trace with their
+/// affinities.
 pub fn events_text(
     alloc: Global,
     tree: &Tree,
     assigned: &Assigned,
     trace: &Trace,
     given: &GivenPlan,
+    part: Part,
 ) -> Result<String, AllocError>
     requires lengths { length assigned.now ≡ length trace.now.messages }
     requires known { All (λ a. a < length tree.now) assigned.now }
     requires rows { length given.now.rows ≡ length trace.now.messages }
+    requires part { IsPart part }
     ensures { IfOk result (λ text. string_bytes text
-        ≡ events_text (scene_of tree.now assigned.now trace.now.messages given.now)) }
+        ≡ events_text (scene_of tree.now assigned.now trace.now.messages given.now part)) }
 {
-    let chart = Chart::new(alloc, tree, assigned, trace, given)?;
+    let chart = Chart::new(alloc, tree, assigned, trace, given, part)?;
     document(alloc, &chart)
 }
 
@@ -207,7 +212,7 @@ fn push_thread_place(text: &mut String, process: u32, thread: u128) -> Result<()
     )
 }
 
-/// Appends the events of all messages that have a row among the lanes of this kind.
+/// Appends the events of the messages that are shown and have a row among the lanes of this kind.
 fn push_events(
     alloc: Global,
     text: &mut String,
@@ -218,7 +223,7 @@ fn push_events(
         ++ events_of chart.now kind) }
 {
     for n in 1..chart.len() + 1 {
-        if let Some(row) = chart.row(kind, n) {
+        if let Some(row) = chart.shown_row(kind, n) {
             let event = event_of(chart, process_of(kind), row, n);
             push_event(alloc, text, &event, chart.name(n), chart.affinity_name(n))?;
         }
@@ -245,8 +250,8 @@ fn event_of(chart: &Chart<'_>, process: u32, row: u64, n: u32) -> Event
         message: n,
         process,
         thread: u128::from(row) + 1,
-        start: chart.start(n),
-        cost: chart.cost(n),
+        start: chart.shown_start(n),
+        ticks: chart.shown_ticks(n),
         release: chart.release(n),
         is_link: chart.is_link(n),
     }
@@ -266,7 +271,7 @@ fn push_event(
     let name = json(alloc, name)?;
     let affinity = json(alloc, affinity)?;
     let category = category(event.is_link);
-    push_event_start(text, name.as_str(), category, event.start, event.cost)?;
+    push_event_start(text, name.as_str(), category, event.start, event.ticks)?;
     push_event_thread(text, event.process, event.thread)?;
     push_event_args(
         text,
@@ -283,14 +288,14 @@ fn push_event_start(
     name: &str,
     category: &str,
     start: u64,
-    cost: u64,
+    ticks: u64,
 ) -> Result<(), AllocError>
     ensures { OnOk result (string_bytes text.new ≡ string_bytes text.old
-        ++ event_start name.now category.now start cost) }
+        ++ event_start name.now category.now start ticks) }
 {
     write!(
         text,
-        ",\n{{\"name\":{name},\"cat\":\"{category}\",\"ph\":\"X\",\"ts\":{start},\"dur\":{cost},"
+        ",\n{{\"name\":{name},\"cat\":\"{category}\",\"ph\":\"X\",\"ts\":{start},\"dur\":{ticks},"
     )
 }
 

@@ -1,9 +1,9 @@
-//! A picture of a plan, whoever made it: a lane for each affinity and each worker, a bar for each
-//! message.
+//! A picture of a plan, whoever made it, or of a part of it: a lane for each affinity and each
+//! worker, a bar for each message.
 //!
 //! - `lanes`: the affinities that have a message, in preorder; `marks`: which numbers a list has;
 //!   `laws`: each has one lane, where its bars are, and the lanes are in preorder.
-//! - `chart`: what a picture shows, made ready for drawing.
+//! - `parts`: the ticks that are shown; `chart`: what a picture shows, made ready for drawing.
 //! - `axis`: round numbers of ticks; `xml`: names in a document of markup.
 //! - `svg`: the text of the picture; `bars`: its bars; `pieces`: what both are made of.
 //! - `events`: the same as events of threads, for a viewer of traces.
@@ -16,10 +16,12 @@ mod events;
 mod lanes;
 mod laws;
 mod marks;
+mod parts;
 mod pieces;
 mod svg;
 mod xml;
 
 pub use events::events_text;
 pub use laws::{depth_is_steps, lane_is_one, lanes_in_preorder, row_is_of_lane};
+pub use parts::Part;
 pub use svg::svg_text;

@@ -12,7 +12,7 @@ pub(crate) fn push_style(text: &mut String) -> Result<(), AllocError>
 {
     write!(
         text,
-        "<style>svg{{background:#fff;font:12px sans-serif}}text{{fill:#222}}.heading{{font-size:16px;font-weight:bold}}.tick{{text-anchor:middle}}.lane rect{{fill:#fff}}.lane:nth-of-type(even) rect{{fill:#f0f2f5}}.plan rect{{fill:#56b4e9;stroke:#0072b2;stroke-width:.75;vector-effect:non-scaling-stroke}}.plan .chain{{fill:#e69f00;stroke:#000;stroke-width:2}}.plan path{{stroke:#c8ccd2;vector-effect:non-scaling-stroke}}@media(prefers-color-scheme:dark){{svg{{background:#16181c}}text{{fill:#e8e8e8}}.lane rect{{fill:#16181c}}.lane:nth-of-type(even) rect{{fill:#22262c}}.plan rect{{fill:#0072b2;stroke:#56b4e9}}.plan .chain{{fill:#e69f00;stroke:#fff}}.plan path{{stroke:#454b54}}}}</style>\n"
+        "<style>svg{{background:#fff;font:12px sans-serif}}text{{fill:#222}}.heading{{font-size:16px;font-weight:bold}}.tick{{text-anchor:middle}}.lane rect{{fill:#fff}}.lane:nth-of-type(even) rect{{fill:#f0f2f5}}.plan rect{{fill:#56b4e9;stroke:#0072b2;stroke-width:.75;vector-effect:non-scaling-stroke}}.plan .thin{{fill:#0072b2}}.plan .chain{{fill:#e69f00;stroke:#000;stroke-width:2}}.plan path{{stroke:#c8ccd2;vector-effect:non-scaling-stroke}}@media(prefers-color-scheme:dark){{svg{{background:#16181c}}text{{fill:#e8e8e8}}.lane rect{{fill:#16181c}}.lane:nth-of-type(even) rect{{fill:#22262c}}.plan rect{{fill:#0072b2;stroke:#56b4e9}}.plan .thin{{fill:#56b4e9}}.plan .chain{{fill:#e69f00;stroke:#fff}}.plan path{{stroke:#454b54}}}}.plan .thin{{stroke:none}}</style>\n"
     )
 }
 
@@ -22,7 +22,7 @@ pub(crate) fn push_legend(text: &mut String) -> Result<(), AllocError>
 {
     write!(
         text,
-        "<text x='8' y='48'>A bar is a message from its start to its finish; outlined bars are the chain of the plan.</text>\n"
+        "<text x='8' y='48'>A bar is a message from its start to its finish. The plan's chain has thick outlines; its bars narrower than a pixel fill the height of the lane.</text>\n"
     )
 }
 
@@ -33,7 +33,7 @@ pub(crate) fn push_top_start(text: &mut String, height: u64) -> Result<(), Alloc
 {
     writeln!(
         text,
-        "<svg xmlns='http://www.w3.org/2000/svg' width='1340' height='{height}'>"
+        "<svg xmlns='http://www.w3.org/2000/svg' width='1380' height='{height}'>"
     )
 }
 
@@ -74,7 +74,7 @@ pub(crate) fn push_lane_start(
 {
     write!(
         text,
-        "<g class='lane'><rect y='{top}' width='1340' height='20'/><text x='{left}' y='{base}'>"
+        "<g class='lane'><rect y='{top}' width='1380' height='20'/><text x='{left}' y='{base}'>"
     )
 }
 
@@ -113,7 +113,7 @@ pub(crate) fn push_tick_label(
 pub(crate) fn push_plan_start(
     text: &mut String,
     height: u64,
-    span: u64,
+    span: u128,
     units: u64,
 ) -> Result<(), AllocError>
     ensures { OnOk result (string_bytes text.new ≡ string_bytes text.old
@@ -133,22 +133,30 @@ pub(crate) fn push_grid_line(text: &mut String, tick: u128, units: u64) -> Resul
     writeln!(text, "<path d='M{tick} 0v{units}'/>")
 }
 
-/// Appends a bar as far as the name of its message.
-pub(crate) fn push_bar_start(
+/// Appends a bar with its mark, as far as its place.
+pub(crate) fn push_bar_place(
     text: &mut String,
     mark: &str,
-    start: u64,
+    left: u64,
     top: u128,
-    cost: u64,
+) -> Result<(), AllocError>
+    ensures { OnOk result (string_bytes text.new ≡ string_bytes text.old
+        ++ pieces.bar_place mark.now left top) }
+{
+    write!(text, "<rect{mark} x='{left}' y='{top}'")
+}
+
+/// Appends its size, and what it tells as far as the name of its message.
+pub(crate) fn push_bar_size(
+    text: &mut String,
+    width: u64,
+    height: u32,
     message: u32,
 ) -> Result<(), AllocError>
     ensures { OnOk result (string_bytes text.new ≡ string_bytes text.old
-        ++ pieces.bar_start mark.now start top cost message) }
+        ++ pieces.bar_size width height message) }
 {
-    write!(
-        text,
-        "<rect{mark} x='{start}' y='{top}' width='{cost}' height='8'><title>{message} "
-    )
+    write!(text, " width='{width}' height='{height}'><title>{message} ")
 }
 
 /// Appends what stands between the names of a message and of its affinity.

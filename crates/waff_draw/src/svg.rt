@@ -4,15 +4,17 @@ ghost use Rattle.std.specs.Prelude.{◌≡◌, ◌<◌, ◌≤◌, ◌++◌, All
 ghost use Rattle.std.specs.List.{flat_map, range_with_len};
 ghost use Rattle.waff_plan.specs.Work.{total_of};
 ghost use Rattle.waff_plan_text.specs.Spelling.{worker_field};
-ghost use Rattle.waff_draw.specs.Scene.{lanes_in, length_in, rows_in, scene_of, span_in, work_in};
-ghost use Rattle.waff_draw.specs.Scene.{workers_in};
-ghost use Rattle.waff_draw.specs.Svg.{affinity_lane, each_step, grid_text, ground_text};
+ghost use Rattle.waff_draw.specs.Parts.{IsPart};
+ghost use Rattle.waff_draw.specs.Scene.{end_in, from_in, lanes_in, length_in, rows_in, scene_of};
+ghost use Rattle.waff_draw.specs.Scene.{span_in, work_in, workers_in};
+ghost use Rattle.waff_draw.specs.Svg.{affinity_lane, each_line, grid_text, ground_text};
 ghost use Rattle.waff_draw.specs.Svg.{heading_text, plan_text, svg_text, tick_text, top_text};
 ghost use Rattle.waff_draw.specs.Svg.{upto, worker_lane};
 
 use crate::bars::push_bars;
 use crate::chart::Chart;
 use crate::lanes::LaneKind;
+use crate::parts::Part;
 use crate::pieces::{
     push_document_end, push_grid_line, push_heading_end, push_heading_start, push_lane_end,
     push_lane_start, push_legend, push_plan_start, push_style, push_tick_label, push_top_start,
@@ -25,21 +27,24 @@ use waff_figures::Ratio;
 use waff_model::{Trace, Tree};
 use waff_plan_text::GivenPlan;
 
-/// The picture of a plan that is given for the messages of a trace with their affinities.
+/// The picture of this part of a plan that is given for the messages of a trace with their
+/// affinities.
 pub fn svg_text(
     alloc: Global,
     tree: &Tree,
     assigned: &Assigned,
     trace: &Trace,
     given: &GivenPlan,
+    part: Part,
 ) -> Result<String, AllocError>
     requires lengths { length assigned.now ≡ length trace.now.messages }
     requires known { All (λ a. a < length tree.now) assigned.now }
     requires rows { length given.now.rows ≡ length trace.now.messages }
+    requires part { IsPart part }
     ensures { IfOk result (λ text. string_bytes text
-        ≡ svg_text (scene_of tree.now assigned.now trace.now.messages given.now)) }
+        ≡ svg_text (scene_of tree.now assigned.now trace.now.messages given.now part)) }
 {
-    let chart = Chart::new(alloc, tree, assigned, trace, given)?;
+    let chart = Chart::new(alloc, tree, assigned, trace, given, part)?;
     picture(alloc, &chart)
 }
 
@@ -155,22 +160,22 @@ fn push_worker_lane(text: &mut String, chart: &Chart<'_>, worker: u32) -> Result
 /// Appends the numbers of ticks along the axis, above the lanes and below.
 fn push_ticks(text: &mut String, chart: &Chart<'_>) -> Result<(), AllocError>
     ensures { OnOk result (string_bytes text.new ≡ string_bytes text.old
-        ++ each_step (length_in chart.now) (tick_text (rows_in chart.now) (span_in chart.now))) }
+        ++ each_line chart.now (tick_text chart.now)) }
 {
     for i in 0..11_u32 {
-        push_tick(text, chart, chart.tick(i))?;
+        push_tick(text, chart, chart.line(i))?;
     }
     Ok(())
 }
 
-/// Appends a number of ticks, unless it is past the length.
+/// Appends a number of ticks, unless it is past the end of the part.
 fn push_tick(text: &mut String, chart: &Chart<'_>, tick: u128) -> Result<(), AllocError>
+    requires { from_in chart.now ≤ tick }
     ensures { OnOk result (string_bytes text.new ≡ string_bytes text.old
-        ++ upto (length_in chart.now) (tick_text (rows_in chart.now) (span_in chart.now)) tick) }
+        ++ upto (end_in chart.now) (tick_text chart.now) tick) }
 {
-    let length = chart.length();
-    if tick <= u128::from(length) {
-        let place = tick * 1000 / u128::from(length.max(1)) + 320;
+    if tick <= chart.end() {
+        let place = (tick - u128::from(chart.from())) * 1000 / chart.span() + 320;
         push_tick_label(text, place, chart.row_count() * 20 + 98, tick)?;
     }
     Ok(())
@@ -182,27 +187,32 @@ fn push_plan(text: &mut String, chart: &Chart<'_>) -> Result<(), AllocError>
         ++ plan_text (rows_in chart.now) (span_in chart.now)) }
 {
     let rows = chart.row_count();
-    push_plan_start(text, rows * 20, chart.length().max(1), rows * 10)
+    push_plan_start(text, rows * 20, chart.span(), rows * 10)
 }
 
 /// Appends the lines of the axis through all rows.
 fn push_grid(text: &mut String, chart: &Chart<'_>) -> Result<(), AllocError>
     ensures { OnOk result (string_bytes text.new ≡ string_bytes text.old
-        ++ each_step (length_in chart.now) (grid_text (rows_in chart.now))) }
+        ++ each_line chart.now (grid_text chart.now)) }
 {
     for i in 0..11_u32 {
-        push_grid_at(text, chart, chart.tick(i))?;
+        push_grid_at(text, chart, chart.line(i))?;
     }
     Ok(())
 }
 
-/// Appends a line through all rows, unless it is past the length.
+/// Appends a line through all rows, unless it is past the end of the part.
 fn push_grid_at(text: &mut String, chart: &Chart<'_>, tick: u128) -> Result<(), AllocError>
+    requires { from_in chart.now ≤ tick }
     ensures { OnOk result (string_bytes text.new ≡ string_bytes text.old
-        ++ upto (length_in chart.now) (grid_text (rows_in chart.now)) tick) }
+        ++ upto (end_in chart.now) (grid_text chart.now) tick) }
 {
-    if tick <= u128::from(chart.length()) {
-        push_grid_line(text, tick, chart.row_count() * 10)?;
+    if tick <= chart.end() {
+        push_grid_line(
+            text,
+            tick - u128::from(chart.from()),
+            chart.row_count() * 10,
+        )?;
     }
     Ok(())
 }

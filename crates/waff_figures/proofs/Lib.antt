@@ -5,4 +5,14 @@ mod NameLemmas
 mod LineLemmas
 pub mod AddingUp
 pub mod RowLemmas
+mod PercentileLemmas
+pub mod FigureLaws
+mod RatioLemmas
 mod NameLaws
+mod WaitLemmas
+mod WaitRowLemmas
+mod WaitKinds
+mod WaitOrder
+mod WaitGroups
+mod WaitSums
+pub mod WaitUnique

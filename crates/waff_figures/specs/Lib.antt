@@ -1,8 +1,14 @@
 pub mod Ratio
+pub mod Percentile
 pub mod Figures
 pub mod Sweep
+pub mod Rate
 pub mod Tally
 pub mod Below
 pub mod ByAffinity
 pub mod ByName
 pub mod Laws
+pub mod Waits
+pub mod WaitRows
+pub mod WaitText
+pub mod WaitLaws

@@ -6,11 +6,11 @@ use Rattle.waff_plan.specs.Work.{Work, length_of}
 use Rattle.waff_plan.specs.Workers.{IsWorkerPlan}
 use Rattle.waff_list.specs.ListRule.{IsListPlan}
 use Rattle.waff_plan_text.specs.Spelling.{worker_field}
-use Rattle.waff_figures.specs.Figures.{figures_of}
-use Rattle.waff_figures.specs.Ratio.{ratio_field}
+use Rattle.waff_figures.specs.Figures.{AreFigures}
+use Rattle.waff_figures.specs.Ratio.{ratio_field, ratio_up_field}
 use Rattle.waff_figures.specs.declared.figures.Figures.{Figures}
 
--- the numbers of workers that a sweep tells of
+-- the numbers of workers that a sweep tells of where none are asked for
 abbrev pub sweep_workers : List ℕ
 sweep_workers = 1 ∷ 2 ∷ 3 ∷ 4 ∷ 6 ∷ 8 ∷ 12 ∷ 16 ∷ 24 ∷ 32 ∷ 48 ∷ 64 ∷ []
 
@@ -18,12 +18,25 @@ abbrev pub sweep_header : List (List ℕ)
 sweep_header =
     codes "workers" ∷ codes "length" ∷ codes "speedup"
     ∷ codes "busy" ∷ codes "least" ∷ codes "over" ∷ codes "waits"
-    ∷ codes "latency" ∷ []
+    ∷ codes "mean" ∷ codes "p50" ∷ codes "p99" ∷ codes "latency" ∷ []
 
 -- how much of their time the workers are busy: the total over k times the length
 abbrev pub busy_field : Option ℕ → ℕ → ℕ → List ℕ
 busy_field None total length = codes "-"
 busy_field (Some k) total length = ratio_field total (k * length)
+
+-- how much longer the plan is than it has to be, and how long the messages take: the fields from
+-- `least` on
+abbrev pub quality_fields : Figures → List (List ℕ)
+quality_fields figures =
+    decimal figures.least
+    ∷ ratio_up_field figures.length figures.least
+    ∷ decimal figures.waits
+    ∷ ratio_field figures.latencies figures.messages
+    ∷ decimal figures.p50
+    ∷ decimal figures.p99
+    ∷ decimal figures.latency
+    ∷ []
 
 -- the line of a plan
 abbrev pub sweep_row : Figures → List (List ℕ)
@@ -32,11 +45,7 @@ sweep_row figures =
     ∷ decimal figures.length
     ∷ ratio_field figures.total figures.length
     ∷ busy_field figures.workers figures.total figures.length
-    ∷ decimal figures.least
-    ∷ ratio_field figures.length figures.least
-    ∷ decimal figures.waits
-    ∷ decimal figures.latency
-    ∷ []
+    ∷ quality_fields figures
 
 -- the lines of the list plans, and of the least plan
 abbrev pub sweep_lines : List Figures → Figures → List (List (List ℕ))
@@ -49,12 +58,12 @@ pub record IsListed (before : ℕ → ℕ
   pub k : ℕ
   pub starts : List ℕ
   pub list : IsListPlan before work k (start_of starts)
-  pub figures_are : figures ≡ figures_of (Some k) work shortest (start_of starts)
+  pub figures_are : AreFigures (Some k) work shortest (start_of starts) figures
   pub least : (other : ℕ → ℕ) → IsWorkerPlan before work k other
       → figures.least ≤ length_of work other
 
--- the figures of the list plans of a sweep, for each number of workers in turn
-pub record AreListed (before : ℕ → ℕ
-    → Type 0) (work : Work) (shortest : ℕ) (listed : List Figures) : Type 0 where
-  pub workers : map (λ figures. figures.workers) listed ≡ map Some sweep_workers
+-- the figures of the list plans for these numbers of workers, for each in turn
+pub record AreListed (before : ℕ → ℕ → Type 0) (work : Work) (shortest : ℕ) (workers : List ℕ)
+    (listed : List Figures) : Type 0 where
+  pub in_turn : map (λ figures. figures.workers) listed ≡ map Some workers
   pub each : All (IsListed before work shortest) listed

@@ -1,45 +1,70 @@
 //! What is told of one plan.
 
-ghost use Rattle.std.specs.Prelude.{◌≡◌, ◌^◌, ◌≤◌, IfSome};
+ghost use Rattle.std.specs.Prelude.{◌≡◌, ◌^◌, ◌<◌, ◌≤◌, IfOk, IfSome, length, sum_by};
+ghost use Rattle.std.specs.List.Sorted.{IsNonDecreasing, IsPermutation};
 ghost use Rattle.waff_plan.specs.Timetable.{starts_in, work_in};
 ghost use Rattle.waff_plan.specs.Bound.{IsWorkers};
 ghost use Rattle.waff_plan.specs.Laws.{least_for};
-ghost use Rattle.waff_figures.specs.Figures.{figures_of, latency_of, least_of, waits_of};
+ghost use Rattle.waff_plan.specs.Work.{Work, greatest, numbers};
+ghost use Rattle.waff_figures.specs.Figures.{AreFigures, FiguresAreOne, latencies_of, latency_of};
+ghost use Rattle.waff_figures.specs.Figures.{least_of, waits_of};
 
+use crate::percentile::percentile;
+use std::alloc::{AllocError, Global};
 use waff_plan::Plan;
 
-/// What a sweep tells of a plan, in ticks.
+/// What is told of a plan, in ticks.
 #[derive(Clone, Copy)]
 pub struct Figures {
     /// The number of workers, none in a plan without a limit on them.
     pub workers: Option<u32>,
+    /// How many messages there are.
+    pub messages: u32,
     /// The sum of all costs.
     pub total: u64,
     pub length: u64,
-    /// No plan for as many workers is shorter.
+    /// No plan that obeys is shorter, for as many workers.
     pub least: u64,
     /// The sum over all messages of the time from the release to the start. It may pass 64 bits, as
     /// 65,536 starts may be up to 10^15.
     pub waits: u128,
-    /// The longest time from a release to its finish, 0 for no message.
+    /// The sum of the latencies: of the times from the releases to the finishes. It may pass 64
+    /// bits too.
+    pub latencies: u128,
+    /// At least half of the messages have a latency of at most this.
+    pub p50: u64,
+    /// And 99 of 100.
+    pub p99: u64,
+    /// The greatest latency, 0 for no message.
     pub latency: u64,
 }
 
-/// The figures of a plan for this number of workers or without, where the least plan is this long.
-pub(crate) fn told_of(plan: &Plan, workers: Option<u32>, shortest: u64) -> Figures
+/// The figures of a plan for this number of workers or without a limit, where the unlimited plan is
+/// `shortest` long.
+pub fn figures_of(
+    alloc: Global,
+    plan: &Plan,
+    workers: Option<u32>,
+    shortest: u64,
+) -> Result<Figures, AllocError>
     requires { IfSome workers IsWorkers }
-    ensures { result
-        ≡ figures_of workers (work_in plan.now) shortest (starts_in plan.now) }
+    ensures { IfOk result
+        (AreFigures workers (work_in plan.now) shortest (starts_in plan.now)) }
 {
+    let sorted = sorted_latencies(alloc, plan)?;
     let total = plan.total();
-    Figures {
+    Ok(Figures {
         workers,
+        messages: plan.len(),
         total,
         length: plan.length(),
         least: least(workers, total, shortest),
         waits: waits(plan),
-        latency: latency(plan),
-    }
+        latencies: sum_of_latencies(plan),
+        p50: percentile(sorted.as_slice(), 50),
+        p99: percentile(sorted.as_slice(), 99),
+        latency: greatest_latency(plan),
+    })
 }
 
 /// A number of ticks that no plan for as many workers is shorter than.
@@ -64,13 +89,56 @@ fn waits(plan: &Plan) -> u128
     waits
 }
 
-/// The longest time from a release to its finish.
-fn latency(plan: &Plan) -> u64
-    ensures { result ≡ latency_of (work_in plan.now) (starts_in plan.now) }
+/// How long message `n` takes from its release to its finish, 0 where it finishes before that.
+fn latency(plan: &Plan, n: u32) -> u64
+    requires from { 1 ≤ n }
+    requires to { n ≤ length plan.now.timings }
+    ensures latency { result ≡ latency_of (work_in plan.now) (starts_in plan.now) n }
+    ensures small { result < 2 ^ 64 }
 {
-    let mut latency = 0;
-    for n in 1..plan.len() + 1 {
-        latency = plan.finish(n).saturating_sub(plan.release(n)).max(latency);
-    }
-    latency
+    plan.finish(n).saturating_sub(plan.release(n))
 }
+
+/// The sum of the latencies.
+fn sum_of_latencies(plan: &Plan) -> u128
+    ensures { result ≡ sum_by
+        (latency_of (work_in plan.now) (starts_in plan.now)) (numbers (work_in plan.now)) }
+{
+    let mut sum = 0;
+    for n in 1..plan.len() + 1 {
+        sum += u128::from(latency(plan, n));
+    }
+    sum
+}
+
+/// The greatest latency, 0 for no message.
+fn greatest_latency(plan: &Plan) -> u64
+    ensures { result ≡ greatest (latencies_of (work_in plan.now) (starts_in plan.now)) }
+{
+    let mut greatest = 0;
+    for n in 1..plan.len() + 1 {
+        greatest = latency(plan, n).max(greatest);
+    }
+    greatest
+}
+
+/// The latencies of all messages, from the least to the greatest.
+fn sorted_latencies(alloc: Global, plan: &Plan) -> Result<Vec<u64>, AllocError>
+    ensures same { IfOk result (λ sorted.
+        IsPermutation (latencies_of (work_in plan.now) (starts_in plan.now)) sorted.items) }
+    ensures sorted { IfOk result (λ sorted. IsNonDecreasing sorted.items) }
+    ensures few { IfOk result (λ sorted. length sorted.items < 2 ^ 32) }
+{
+    let mut latencies = Vec::with_capacity(alloc, plan.len() as usize)?;
+    for n in 1..plan.len() + 1 {
+        latencies.push(latency(plan, n))?;
+    }
+    latencies.sort_unstable();
+    Ok(latencies)
+}
+
+/// Two figures of plans with the same starts are equal: a function that does nothing and whose
+/// contract is the law.
+pub fn figures_are_one()
+    ensures equal { (work : Work) → FiguresAreOne work }
+{}

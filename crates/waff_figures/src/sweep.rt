@@ -9,15 +9,15 @@ ghost use Rattle.waff_plan.specs.Obeys.{IsLeast};
 ghost use Rattle.waff_plan.specs.Timetable.{starts_in, timings_of, work_in};
 ghost use Rattle.waff_plan.specs.Work.{length_of};
 ghost use Rattle.waff_plan_text.specs.Lines.{line_text, text_of};
-ghost use Rattle.waff_plan_text.specs.Spelling.{worker_field};
 ghost use Rattle.waff_order.specs.Needs.{AreNeeds};
-ghost use Rattle.waff_figures.specs.Figures.{figures_of};
-ghost use Rattle.waff_figures.specs.Sweep.{AreListed, IsListed, busy_field, sweep_lines, sweep_row};
+ghost use Rattle.waff_figures.specs.Figures.{AreFigures};
+ghost use Rattle.waff_figures.specs.Sweep.{AreListed, IsListed, sweep_lines, sweep_row};
+ghost use Rattle.waff_figures.specs.Sweep.{sweep_workers};
 
-use crate::figures::{Figures, told_of};
+use crate::fields::{BusyField, QualityFields, WorkerField};
+use crate::figures::{Figures, figures_of};
 use crate::ratio::Ratio;
 use std::alloc::{AllocError, Global};
-use std::fmt;
 use waff_assign::Assigned;
 use waff_list::laws::needs_make_the_same_plans;
 use waff_list::list_plan;
@@ -27,32 +27,68 @@ use waff_order::predecessors::needs;
 use waff_plan::Plan;
 use waff_plan::laws::none_is_shorter;
 
-/// The numbers of workers that a sweep tells of.
-const WORKERS: [u32; 12] = [1, 2, 3, 4, 6, 8, 12, 16, 24, 32, 48, 64];
+/// The numbers of workers that a sweep tells of where none are asked for.
+pub static SWEEP_WORKERS: [u32; 12] = [1, 2, 3, 4, 6, 8, 12, 16, 24, 32, 48, 64];
 
-/// The figures of the list plans, where this is the unlimited plan.
+/// The numbers of workers that a sweep tells of where none are asked for.
+pub fn sweep_workers() -> &'static [u32]
+    ensures listed { result.now ≡ sweep_workers }
+    ensures fit { All IsWorkers result.now }
+{
+    &SWEEP_WORKERS
+}
+
+/// The figures of the list plans for these numbers of workers, in their order, where this is the
+/// unlimited plan.
 pub fn list_figures(
     alloc: Global,
     tree: &Tree,
     assigned: &Assigned,
     trace: &Trace,
     unlimited: &Plan,
+    workers: &[u32],
 ) -> Result<Vec<Figures>, AllocError>
     requires lengths { length assigned.now ≡ length trace.now.messages }
     requires known { All (λ a. a < length tree.now) assigned.now }
     requires timings { unlimited.now.timings ≡ timings_of trace.now.messages }
     requires least { IsLeast (IsOrdered tree.now assigned.now)
         (work_in unlimited.now) (starts_in unlimited.now) }
+    requires workers { All IsWorkers workers.now }
     ensures { IfOk result (λ listed.
         AreListed (IsOrdered tree.now assigned.now) (work_in unlimited.now)
-        (length_of (work_in unlimited.now) (starts_in unlimited.now)) listed.items) }
+        (length_of (work_in unlimited.now) (starts_in unlimited.now)) workers.now listed.items) }
 {
     let needs = needs(alloc, tree, assigned)?;
-    list_figures_for(alloc, trace, unlimited, &needs, &WORKERS)
+    figures_for_all(alloc, trace, unlimited, &needs, workers)
+}
+
+/// The figures of the list plan for k workers, where this is the unlimited plan.
+pub fn list_figures_for(
+    alloc: Global,
+    tree: &Tree,
+    assigned: &Assigned,
+    trace: &Trace,
+    unlimited: &Plan,
+    k: u32,
+) -> Result<Figures, AllocError>
+    requires lengths { length assigned.now ≡ length trace.now.messages }
+    requires known { All (λ a. a < length tree.now) assigned.now }
+    requires timings { unlimited.now.timings ≡ timings_of trace.now.messages }
+    requires least { IsLeast (IsOrdered tree.now assigned.now)
+        (work_in unlimited.now) (starts_in unlimited.now) }
+    requires workers { IsWorkers k }
+    ensures workers { IfOk result (λ figures. figures.workers ≡ Some k) }
+    ensures listed { IfOk result (IsListed (IsOrdered tree.now assigned.now)
+        (work_in unlimited.now)
+        (length_of (work_in unlimited.now) (starts_in unlimited.now))) }
+{
+    let needs = needs(alloc, tree, assigned)?;
+    let figures = figures_for(alloc, trace, unlimited, &needs, k)?;
+    Ok(figures)
 }
 
 /// The figures of the list plans for these numbers of workers.
-fn list_figures_for(
+fn figures_for_all(
     alloc: Global,
     trace: &Trace,
     unlimited: &Plan,
@@ -101,24 +137,23 @@ fn figures_for(
     let made = list_plan(alloc, needs, trace, k)?;
     needs_make_the_same_plans();
     none_is_shorter();
-    Ok(told_of(made.plan(), Some(k), unlimited.length()))
+    let figures = figures_of(alloc, made.plan(), Some(k), unlimited.length())?;
+    Ok(figures)
 }
 
 /// The text of the figures of the list plans and of the unlimited plan.
 pub fn figures_text(
     alloc: Global,
     listed: &[Figures],
-    unlimited: &Plan,
+    unlimited: &Figures,
 ) -> Result<String, AllocError>
-    ensures { IfOk result (λ text. string_bytes text ≡ text_of (sweep_lines listed.now
-        (figures_of None (work_in unlimited.now)
-        (length_of (work_in unlimited.now) (starts_in unlimited.now))
-        (starts_in unlimited.now)))) }
+    ensures { IfOk result (λ text.
+        string_bytes text ≡ text_of (sweep_lines listed.now unlimited.now)) }
 {
     let mut text = String::new(alloc);
-    text.push_str("workers,length,speedup,busy,least,over,waits,latency\n")?;
+    text.push_str("workers,length,speedup,busy,least,over,waits,mean,p50,p99,latency\n")?;
     push_rows(&mut text, listed)?;
-    push_row(&mut text, &told_of(unlimited, None, unlimited.length()))?;
+    push_row(&mut text, unlimited)?;
     Ok(text)
 }
 
@@ -142,46 +177,11 @@ fn push_row(text: &mut String, figures: &Figures) -> Result<(), AllocError>
         workers,
         total,
         length,
-        least,
-        waits,
-        latency,
+        ..
     } = *figures;
     let speedup = Ratio(total, u128::from(length));
     let busy = BusyField(workers, total, length);
-    let over = Ratio(length, u128::from(least));
     let workers = WorkerField(workers);
-    writeln!(
-        text,
-        "{workers},{length},{speedup},{busy},{least},{over},{waits},{latency}"
-    )
-}
-
-/// A number of workers, `-` where there is none.
-#[derive(Clone, Copy)]
-struct WorkerField(Option<u32>);
-
-impl fmt::Display for WorkerField {
-    ghost output = { λ workers. Some (worker_field workers.0) };
-
-    fn fmt<W: fmt::Write>(&self, f: &mut fmt::Formatter<W>) -> fmt::Result {
-        match self.0 {
-            Some(k) => write!(f, "{k}"),
-            None => write!(f, "-"),
-        }
-    }
-}
-
-/// How much of the time workers are busy: their number, the total and the length.
-#[derive(Clone, Copy)]
-struct BusyField(Option<u32>, u64, u64);
-
-impl fmt::Display for BusyField {
-    ghost output = { λ busy. Some (busy_field busy.0 busy.1 busy.2) };
-
-    fn fmt<W: fmt::Write>(&self, f: &mut fmt::Formatter<W>) -> fmt::Result {
-        match self.0 {
-            Some(k) => write!(f, "{}", Ratio(self.1, u128::from(k) * u128::from(self.2))),
-            None => write!(f, "-"),
-        }
-    }
+    let quality = QualityFields(*figures);
+    writeln!(text, "{workers},{length},{speedup},{busy},{quality}")
 }

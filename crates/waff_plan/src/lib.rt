@@ -23,7 +23,7 @@ mod latest;
 pub mod laws;
 mod least;
 mod linked;
-mod links;
+pub mod links;
 pub mod ordered;
 pub mod printed;
 mod table;

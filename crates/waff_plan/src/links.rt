@@ -18,7 +18,7 @@ use waff_model::spans::Later;
 
 /// For each message the latest of those that it waited for, where it did not wait for its release
 /// instead.
-pub(crate) fn links(
+pub fn links(
     alloc: Global,
     tree: &Tree,
     assigned: &Assigned,

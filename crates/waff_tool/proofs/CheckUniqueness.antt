@@ -10,6 +10,7 @@ use Rattle.waff_check.specs.Verdicts.{IsVerdict, claim_of}
 use Rattle.waff_check.specs.declared.verdict.Verdict.{Verdict}
 use Rattle.waff_check.proofs.Uniqueness.{verdict_is_one}
 use Rattle.waff_draw.specs.Scene.{scene_of}
+use Rattle.waff_draw.specs.declared.parts.Part.{Part}
 use Rattle.waff_inputs.proofs.SameInput.{moved_back, same_input, same_ok, same_trace}
 use Rattle.waff_tool.specs.DrawText.{DrawTextIsOne, picture_of}
 use Rattle.waff_tool.specs.ReplayText.{state_after, state_lines}
@@ -30,18 +31,18 @@ check_text_is_one hierarchy_file trace_file plan_file one other p q =
     (subst (λ g. IsVerdict (claim_of p.layout.tree p.assigned p.trace.messages g) other) (sym given) found.1)
 
 -- the picture
-abbrev IsDrawnOf : List ℕ → Picture → Given → List ℕ → Hierarchy → Arrivals → List ℕ → Type 0
-IsDrawnOf plan_file picture given text layout trace assigned =
+abbrev IsDrawnOf : List ℕ → Picture → Part → Given → List ℕ → Hierarchy → Arrivals → List ℕ → Type 0
+IsDrawnOf plan_file picture part given text layout trace assigned =
     (plan_of trace.version (length trace.messages) plan_file ≡ Ok given)
-    × (text ≡ picture_of picture (scene_of layout.tree assigned trace.messages given))
+    × (text ≡ picture_of picture (scene_of layout.tree assigned trace.messages given part))
 
-pub draw_text_is_one : (hierarchy_file trace_file plan_file : List ℕ) (picture : Picture)
-    → DrawTextIsOne hierarchy_file trace_file plan_file picture
-draw_text_is_one hierarchy_file trace_file plan_file picture text other p q =
+pub draw_text_is_one : (hierarchy_file trace_file plan_file : List ℕ) (picture : Picture) (part : Part)
+    → DrawTextIsOne hierarchy_file trace_file plan_file picture part
+draw_text_is_one hierarchy_file trace_file plan_file picture part text other p q =
     let same = same_input hierarchy_file trace_file p.layout q.layout p.trace q.trace p.assigned q.assigned p.accepts q.accepts in
-    let drawn = moved_back (IsDrawnOf plan_file picture q.given other) p.layout q.layout p.trace q.trace p.assigned q.assigned same (q.is_plan, q.drawn) in
+    let drawn = moved_back (IsDrawnOf plan_file picture part q.given other) p.layout q.layout p.trace q.trace p.assigned q.assigned same (q.is_plan, q.drawn) in
     let given = same_ok (plan_of p.trace.version (length p.trace.messages) plan_file) p.given q.given p.is_plan drawn.0 in
-    p.drawn ∙ ap (λ g. picture_of picture (scene_of p.layout.tree p.assigned p.trace.messages g)) given ∙ sym drawn.1
+    p.drawn ∙ ap (λ g. picture_of picture (scene_of p.layout.tree p.assigned p.trace.messages g part)) given ∙ sym drawn.1
 
 -- the state
 pub replay_text_is_one : (hierarchy_file trace_file : List ℕ) → ReplayTextIsOne hierarchy_file trace_file

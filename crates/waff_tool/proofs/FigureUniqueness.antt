@@ -8,8 +8,7 @@ use Rattle.waff_assign.specs.Order.{IsOrdered}
 use Rattle.waff_plan.specs.Chain.{IsPrinted}
 use Rattle.waff_plan.specs.Obeys.{IsForward, IsLeast}
 use Rattle.waff_plan.specs.Timing.{start_of}
-use Rattle.waff_plan.specs.Unique.{AreSame}
-use Rattle.waff_plan.specs.Work.{Work, finish_of, greatest, length_of, total_of}
+use Rattle.waff_plan.specs.Work.{Work, length_of}
 use Rattle.waff_plan.proofs.Uniqueness.{least_is_one, printed_is_one, same_length}
 use Rattle.waff_list.specs.ListRule.{IsListPlan}
 use Rattle.waff_list.specs.Unique.{EachRuns}
@@ -19,99 +18,88 @@ use Rattle.waff_figures.specs.ByAffinity.{AreCostsBelow, affinities_lines, affin
 use Rattle.waff_model.specs.Tree.{name_of, parent_of}
 use Rattle.waff_figures.specs.Tally.{tally_of}
 use Rattle.waff_figures.specs.ByName.{message_names, names_lines}
-use Rattle.waff_figures.specs.Figures.{figures_of, latency_of, least_of, waits_of}
-use Rattle.waff_figures.specs.Sweep.{AreListed, IsListed, sweep_lines, sweep_workers}
+use Rattle.waff_figures.specs.Figures.{AreFigures}
+use Rattle.waff_figures.specs.Sweep.{AreListed, IsListed, sweep_lines}
 use Rattle.waff_figures.specs.declared.figures.Figures.{Figures}
+use Rattle.waff_figures.proofs.FigureLaws.{figures_are_one}
 use Rattle.waff_figures.proofs.AddingUp.{cost_below_is_one}
 use Rattle.waff_figures.proofs.RowLemmas.{map_range_same}
-use Rattle.waff_figures.proofs.SumLemmas.{sum_same}
 use Rattle.waff_tool.specs.PlanText.{work_in}
 use Rattle.waff_tool.specs.Figures.{IsAffinitiesText, IsNamesText, SweepTextIsOne, WhereTextIsOne}
 use Rattle.waff_tool.proofs.CertificateLemmas.{pairs_forward}
 use Rattle.waff_inputs.proofs.SameInput.{moved_back, same_input}
 use Rattle.waff_tool.proofs.TextUniqueness.{trace_runs}
 
--- plans with the same starts have the same figures
-figures_same : (workers : Option ℕ) (work : Work) (shortest : ℕ) (start other : ℕ → ℕ) → AreSame work start other
-    → figures_of workers work shortest start ≡ figures_of workers work shortest other
-figures_same workers work shortest start other same =
-    let told : ℕ → ℕ → ℕ → Figures = λ l w t. record {
-      workers = workers;
-      total = total_of work;
-      length = l;
-      least = least_of workers (total_of work) shortest;
-      waits = w;
-      latency = t;
-    } in
-    let at : (m : ℕ) → 1 ≤ m → m < 1 + work.count → start m ≡ other m = λ m from to. same m (record { from = from; to = omega (arith, to) }) in
-    let waits : waits_of work start ≡ waits_of work other
-    = sum_same (λ m. start m - work.release m) (λ m. other m - work.release m) 1 work.count (λ m from to. ap (λ s. s - work.release m) (at m from to)) in
-    let latency : latency_of work start ≡ latency_of work other
-    = ap greatest (map_range_same (λ m. finish_of work start m - work.release m) (λ m. finish_of work other m - work.release m) 1 work.count
-    (λ m from to. ap (λ s. s + work.cost m - work.release m) (at m from to))) in
-    ap (λ l. told l (waits_of work start) (latency_of work start)) (same_length work start other same)
-    ∙ ap (λ w. told (length_of work other) w (latency_of work start)) waits
-    ∙ ap (λ t. told (length_of work other) (waits_of work other) t) latency
-
 -- the figures of list plans for the same number of workers are the same
 abbrev IsListPlanFor : (ℕ → ℕ → Type 0) → Work → ℕ → List ℕ → Type 0
 IsListPlanFor before work k starts = IsListPlan before work k (start_of starts)
 
-listed_same : (before : ℕ → ℕ → Type 0) (work : Work) → IsForward before work → EachRuns work → (shortest : ℕ) (one other : Figures)
+pub listed_same : (before : ℕ → ℕ → Type 0) (work : Work) → IsForward before work → EachRuns work → (shortest : ℕ) (one other : Figures)
     → IsListed before work shortest one → IsListed before work shortest other → one.workers ≡ other.workers → one ≡ other
 listed_same before work forward runs shortest one other p q workers =
-    let first : one.workers ≡ Some p.k = ap (λ (f : Figures). f.workers) p.figures_are in
-    let second : other.workers ≡ Some q.k = ap (λ (f : Figures). f.workers) q.figures_are in
+    let first : one.workers ≡ Some p.k = p.figures_are.workers in
+    let second : other.workers ≡ Some q.k = q.figures_are.workers in
     let same_k : p.k ≡ q.k = same_Some p.k q.k (sym first ∙ workers ∙ second) in
     let list = subst (λ k. IsListPlanFor before work k q.starts) (sym same_k) q.list in
+    let figures = subst (λ k. AreFigures (Some k) work shortest (start_of q.starts) other) (sym same_k) q.figures_are in
     let same = list_plan_is_one before work forward runs p.k (start_of p.starts) (start_of q.starts) p.list list in
-    p.figures_are ∙ figures_same (Some p.k) work shortest (start_of p.starts) (start_of q.starts) same
-    ∙ ap (λ k. figures_of (Some k) work shortest (start_of q.starts)) same_k ∙ sym q.figures_are
+    figures_are_one work (Some p.k) shortest (start_of p.starts) (start_of q.starts) one other same p.figures_are figures
 
-count_of : (listed : List Figures) → map (λ (f : Figures). f.workers) listed ≡ map (λ (k : ℕ). Some k) sweep_workers → length listed ≡ 12
-count_of listed workers = sym (length-map listed (λ (f : Figures). f.workers)) ∙ ap length workers
+-- there is one for each number of workers, in its place
+pub count_of : (listed : List Figures) (workers : List ℕ) → map (λ (f : Figures). f.workers) listed ≡ map (λ (k : ℕ). Some k) workers
+    → length listed ≡ length workers
+count_of listed workers in_turn =
+    sym (length-map listed (λ (f : Figures). f.workers)) ∙ ap length in_turn ∙ length-map workers (λ (k : ℕ). Some k)
+
+pub workers_at : (listed : List Figures) (workers : List ℕ) → map (λ (f : Figures). f.workers) listed ≡ map (λ (k : ℕ). Some k) workers
+    → (i : ℕ) (d : Figures) (e : ℕ) → i < length listed → (get_or listed i d).workers ≡ Some (get_or workers i e)
+workers_at listed workers in_turn i d e inside =
+    let there : i < length workers = subst (λ n. i < n) (count_of listed workers in_turn) inside in
+    sym (get_or-map (λ (f : Figures). f.workers) listed i d None inside) ∙ ap (λ ws. get_or ws i None) in_turn
+    ∙ get_or-map (λ (k : ℕ). Some k) workers i e None there
 
 -- the list of them is one
-listed_is_one : (before : ℕ → ℕ → Type 0) (work : Work) → IsForward before work → EachRuns work → (shortest : ℕ) (one other : List Figures)
-    → AreListed before work shortest one → AreListed before work shortest other → one ≡ other
-listed_is_one before work forward runs shortest one other p q =
-    let f : Figures → Option ℕ = λ figures. figures.workers in
-    let long : length one ≡ length other = count_of one p.workers ∙ sym (count_of other q.workers) in
+pub listed_is_one : (before : ℕ → ℕ → Type 0) (work : Work) → IsForward before work → EachRuns work → (shortest : ℕ) (workers : List ℕ) (one other : List Figures)
+    → AreListed before work shortest workers one → AreListed before work shortest workers other → one ≡ other
+listed_is_one before work forward runs shortest workers one other p q =
+    let long : length one ≡ length other = count_of one workers p.in_turn ∙ sym (count_of other workers q.in_turn) in
     same_lists one other long (λ i d inside.
     let there : i < length other = subst (λ n. i < n) long inside in
-    let workers : f (get_or one i d) ≡ f (get_or other i d)
-    = sym (get_or-map f one i d None inside) ∙ ap (λ ws. get_or ws i None) (p.workers ∙ sym q.workers) ∙ get_or-map f other i d None there in
-    listed_same before work forward runs shortest (get_or one i d) (get_or other i d) (p.each i d inside) (q.each i d there) workers)
+    let same : (get_or one i d).workers ≡ (get_or other i d).workers
+    = workers_at one workers p.in_turn i d 0 inside ∙ sym (workers_at other workers q.in_turn i d 0 there) in
+    listed_same before work forward runs shortest (get_or one i d) (get_or other i d) (p.each i d inside) (q.each i d there) same)
 
 -- the sweep
-abbrev IsSwept : List ℕ → List Figures → List ℕ → Hierarchy → Arrivals → List ℕ → Type 0
-IsSwept starts listed text layout trace assigned =
+abbrev pub IsSwept : List ℕ → List ℕ → List Figures → Figures → Hierarchy → Arrivals → List ℕ → Type 0
+IsSwept workers starts listed unlimited layout trace assigned =
     IsLeast (IsOrdered layout.tree assigned) (work_in trace) (start_of starts)
-    × AreListed (IsOrdered layout.tree assigned) (work_in trace) (length_of (work_in trace) (start_of starts)) listed
-    × (text ≡ text_of (sweep_lines listed (figures_of None (work_in trace) (length_of (work_in trace) (start_of starts)) (start_of starts))))
+    × AreListed (IsOrdered layout.tree assigned) (work_in trace) (length_of (work_in trace) (start_of starts)) workers listed
+    × AreFigures None (work_in trace) (length_of (work_in trace) (start_of starts)) (start_of starts) unlimited
 
 one_sweep : (layout : Hierarchy) (trace : Arrivals) (assigned : List ℕ) → IsForward (IsOrdered layout.tree assigned) (work_in trace) → EachRuns (work_in trace)
-    → (starts : List ℕ) (listed : List Figures) (text others : List ℕ) (more : List Figures) (other : List ℕ)
-    → IsSwept starts listed text layout trace assigned → IsSwept others more other layout trace assigned → text ≡ other
-one_sweep layout trace assigned forward runs starts listed text others more other p q =
+    → (workers starts others : List ℕ) (listed more : List Figures) (unlimited another : Figures)
+    → IsSwept workers starts listed unlimited layout trace assigned → IsSwept workers others more another layout trace assigned
+    → text_of (sweep_lines listed unlimited) ≡ text_of (sweep_lines more another)
+one_sweep layout trace assigned forward runs workers starts others listed more unlimited another p q =
     let before = IsOrdered layout.tree assigned in
     let work = work_in trace in
     let same = least_is_one before work (start_of starts) (start_of others) p.0 q.0 in
     let lengths = same_length work (start_of starts) (start_of others) same in
-    let lists = listed_is_one before work forward runs (length_of work (start_of starts)) listed more p.1
-    (subst (λ n. AreListed before work n more) (sym lengths) q.1) in
-    p.2
-    ∙ ap (λ fs. text_of (sweep_lines fs (figures_of None work (length_of work (start_of starts)) (start_of starts)))) lists
-    ∙ ap (λ f. text_of (sweep_lines more f)) (figures_same None work (length_of work (start_of starts)) (start_of starts) (start_of others) same)
-    ∙ ap (λ n. text_of (sweep_lines more (figures_of None work n (start_of others)))) lengths
-    ∙ sym q.2
+    let lists = listed_is_one before work forward runs (length_of work (start_of starts)) workers listed more p.1
+    (subst (λ n. AreListed before work n workers more) (sym lengths) q.1) in
+    let last = figures_are_one work None (length_of work (start_of starts)) (start_of starts) (start_of others) unlimited another same p.2
+    (subst (λ n. AreFigures None work n (start_of others) another) (sym lengths) q.2) in
+    ap (λ fs. text_of (sweep_lines fs unlimited)) lists ∙ ap (λ f. text_of (sweep_lines more f)) last
 
-pub sweep_text_is_one : (hierarchy_file trace_file : List ℕ) → SweepTextIsOne hierarchy_file trace_file
-sweep_text_is_one hierarchy_file trace_file text other p q =
+pub sweep_text_is_one : (hierarchy_file trace_file workers : List ℕ) → SweepTextIsOne hierarchy_file trace_file workers
+sweep_text_is_one hierarchy_file trace_file workers text other p q =
     let same = same_input hierarchy_file trace_file p.layout q.layout p.trace q.trace p.assigned q.assigned p.accepts q.accepts in
-    let told = moved_back (IsSwept q.starts q.listed other) p.layout q.layout p.trace q.trace p.assigned q.assigned same (q.least, q.are_listed, q.lines) in
-    one_sweep p.layout p.trace p.assigned (pairs_forward p.layout.tree p.assigned p.trace.messages p.accepts.assignment.count)
-    (trace_runs p.layout trace_file p.trace p.accepts.is_trace) p.starts p.listed text q.starts q.listed other (p.least, p.are_listed, p.lines) told
+    let told = moved_back (IsSwept workers q.starts q.listed q.unlimited) p.layout q.layout p.trace q.trace p.assigned q.assigned same (q.least, q.are_listed, q.are_unlimited) in
+    p.lines
+    ∙ one_sweep p.layout p.trace p.assigned (pairs_forward p.layout.tree p.assigned p.trace.messages p.accepts.assignment.count)
+    (trace_runs p.layout trace_file p.trace p.accepts.is_trace) workers p.starts q.starts p.listed q.listed p.unlimited q.unlimited
+    (p.least, p.are_listed, p.are_unlimited) told
+    ∙ sym q.lines
 
 -- where the time goes, by affinity
 abbrev IsParted : List ℕ → List ℕ → List ℕ → List ℕ → Hierarchy → Arrivals → List ℕ → Type 0

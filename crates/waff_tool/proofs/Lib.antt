@@ -8,5 +8,9 @@ mod FigureUniqueness
 mod LineLaws
 mod OrderLemmas
 mod OwnPlanLaws
+mod RankLaws
+mod RankLemmas
+mod RateLaws
 mod StateLines
 mod TextUniqueness
+mod WaitsTexts

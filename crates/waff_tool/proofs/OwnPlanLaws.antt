@@ -54,7 +54,7 @@ use Rattle.waff_check.proofs.OwnLaws.{own_plan_is_shortest, own_plan_is_within_b
 use Rattle.waff_check.proofs.PromiseLaws as promise
 use Rattle.waff_tool.specs.CheckText.{IsCheckText}
 use Rattle.waff_inputs.specs.Inputs as inputs
-use Rattle.waff_tool.specs.PlanText.{work_in}
+use Rattle.waff_tool.specs.PlanText.{IsPlanText, IsWorkerPlanText, work_in}
 use Rattle.waff_tool.specs.OwnPlans.{OwnPlanPasses, OwnWorkerPlanPasses}
 use Rattle.waff_tool.proofs.CertificateLemmas.{pairs_forward}
 
@@ -349,8 +349,17 @@ module _ (hierarchy_file trace_file : List ℕ) (layout : Hierarchy) (trace : Ar
               (subst (IsVerdict claim) same is);
         }
 
-pub own_plan_passes : (hierarchy_file trace_file text : List ℕ) → OwnPlanPasses hierarchy_file trace_file text
-own_plan_passes hierarchy_file trace_file text told =
+-- a text that tells a plan, and the plan that is read of it
+abbrev pub IsTold : Hierarchy → Arrivals → List ℕ → List ℕ → Option ℕ → List ℕ → (ℕ → Option ℕ) → List ℕ → Type 0
+IsTold layout trace assigned text workers starts worker chain =
+    IsTellable trace.version layout.tree assigned (work_in trace) workers (start_of starts) worker chain
+    × (plan_of trace.version (work_in trace).count text
+    ≡ Ok (plan_told trace.version layout.tree assigned (work_in trace) workers (start_of starts) worker chain))
+
+-- that of a plan without workers
+pub own_plan_told : (hierarchy_file trace_file text : List ℕ) (told : IsPlanText hierarchy_file trace_file text)
+    → IsTold told.layout told.trace told.assigned text None told.starts no_worker told.chain
+own_plan_told hierarchy_file trace_file text told =
     let before = IsOrdered told.layout.tree told.assigned in
     let work = work_in told.trace in
     let start = start_of told.starts in
@@ -366,12 +375,27 @@ own_plan_passes hierarchy_file trace_file text told =
     (named hierarchy_file trace_file told.layout told.trace told.assigned told.accepts) (λ n number. tt) tt short short (omega (arith, cost, release)) in
     let read = ap (plan_of version work.count) told.lines
     ∙ written_is_read version told.layout.tree told.assigned work None start no_worker told.chain can in
-    checked hierarchy_file trace_file told.layout told.trace told.assigned told.accepts text None start no_worker told.chain is_chain can read verdict.Shortest
-    (own_plan_is_shortest told.layout.tree told.assigned told.trace.messages version start told.chain told.accepts.assignment.count
-    told.certified.least.obeys is_chain as_long)
+    (can, read)
 
-pub own_worker_plan_passes : (hierarchy_file trace_file : List ℕ) (k : ℕ) (text : List ℕ) → OwnWorkerPlanPasses hierarchy_file trace_file k text
-own_worker_plan_passes hierarchy_file trace_file k text workers told =
+pub own_plan_passes : (hierarchy_file trace_file text : List ℕ) → OwnPlanPasses hierarchy_file trace_file text
+own_plan_passes hierarchy_file trace_file text told =
+    let is = own_plan_told hierarchy_file trace_file text told in
+    let is_chain = told.certified.is_chain in
+    checked hierarchy_file trace_file told.layout told.trace told.assigned told.accepts text None (start_of told.starts) no_worker told.chain is_chain is.0 is.1 verdict.Shortest
+    (own_plan_is_shortest told.layout.tree told.assigned told.trace.messages told.trace.version (start_of told.starts) told.chain told.accepts.assignment.count
+    told.certified.least.obeys is_chain told.certified.as_long)
+
+-- the workers of a plan for k workers
+crew_of : (hierarchy_file trace_file : List ℕ) (k : ℕ) (text : List ℕ) (told : IsWorkerPlanText hierarchy_file trace_file k text)
+    → AreManned (work_in told.trace) (start_of told.starts) (seat_of told.workers) k
+crew_of hierarchy_file trace_file k text told =
+    let small = within_limits hierarchy_file trace_file told.layout told.trace told.assigned told.accepts in
+    manned (work_in told.trace) (start_of told.starts) told.workers k small.some_cost told.seated told.bounded.at_once
+
+pub own_worker_plan_told : (hierarchy_file trace_file : List ℕ) (k : ℕ) (text : List ℕ) → IsWorkers k
+    → (told : IsWorkerPlanText hierarchy_file trace_file k text)
+    → IsTold told.layout told.trace told.assigned text (Some k) told.starts (seat_of told.workers) told.chain
+own_worker_plan_told hierarchy_file trace_file k text workers told =
     let before = IsOrdered told.layout.tree told.assigned in
     let work = work_in told.trace in
     let start = start_of told.starts in
@@ -392,15 +416,22 @@ own_worker_plan_passes hierarchy_file trace_file k text workers told =
     let left : left_side work k start ≤ MAX_TICK = omega (arith, bound, right) in
     let once : 1 * length_of work start ≤ k * length_of work start = mul-le-mul from (omega arith) in
     let short : length_of work start ≤ MAX_TICK = omega (arith, once, left) in
-    let crew = manned work start told.workers k small.some_cost told.seated told.bounded.at_once in
+    let crew = crew_of hierarchy_file trace_file k text told in
     let can = tellable version before work small forward told.chain is_chain told.layout.tree told.assigned (Some k) start (seat_of told.workers)
     (named hierarchy_file trace_file told.layout told.trace told.assigned told.accepts)
     (λ n number. let one = crew.each n number in let last = one.1 in omega (arith, to, last)) workers short left right in
     let read = ap (plan_of version work.count) told.lines
     ∙ written_is_read version told.layout.tree told.assigned work (Some k) start (seat_of told.workers) told.chain can in
-    let passes = checked hierarchy_file trace_file told.layout told.trace told.assigned told.accepts text (Some k) start (seat_of told.workers) told.chain is_chain can read in
-    elim (own_plan_is_within_bound told.layout.tree told.assigned told.trace.messages version k start (seat_of told.workers) told.chain
-    told.accepts.assignment.count told.bounded.list.within crew is_chain told.bounded.bound) [
+    (can, read)
+
+pub own_worker_plan_passes : (hierarchy_file trace_file : List ℕ) (k : ℕ) (text : List ℕ) → OwnWorkerPlanPasses hierarchy_file trace_file k text
+own_worker_plan_passes hierarchy_file trace_file k text workers told =
+    let is = own_worker_plan_told hierarchy_file trace_file k text workers told in
+    let is_chain = told.bounded.is_chain in
+    let passes = checked hierarchy_file trace_file told.layout told.trace told.assigned told.accepts text (Some k) (start_of told.starts) (seat_of told.workers) told.chain is_chain
+    is.0 is.1 in
+    elim (own_plan_is_within_bound told.layout.tree told.assigned told.trace.messages told.trace.version k (start_of told.starts) (seat_of told.workers) told.chain
+    told.accepts.assignment.count told.bounded.list.within (crew_of hierarchy_file trace_file k text told) is_chain told.bounded.bound) [
       | inl shortest ↦ inl (passes verdict.Shortest shortest)
       | inr within ↦ inr (passes verdict.WithinBound within)
     ]

@@ -7,6 +7,7 @@ use Rattle.waff_plan_text.specs.PlanTexts.{plan_of}
 use Rattle.waff_draw.specs.Events.{events_text}
 use Rattle.waff_draw.specs.Scene.{Scene, scene_of}
 use Rattle.waff_draw.specs.Svg.{svg_text}
+use Rattle.waff_draw.specs.declared.parts.Part.{Part}
 use Rattle.waff_inputs.specs.Inputs.{Accepts}
 use Rattle.waff_tool.specs.declared.draws.Picture.{Picture}
 use Rattle.waff_tool.specs.declared.draws.Picture.TheVariants as picture
@@ -17,19 +18,19 @@ picture_of picture.Svg scene = svg_text scene
 picture_of picture.TraceEvents scene = events_text scene
 
 -- bytes that are a hierarchy, a trace over it and the text of a plan for its messages, and the
--- picture of that plan
+-- picture of a part of that plan
 pub record IsDrawText (hierarchy_file trace_file plan_file : List ℕ)
-    (picture : Picture) (text : List ℕ) : Type 0 where
+    (picture : Picture) (part : Part) (text : List ℕ) : Type 0 where
   pub layout : Hierarchy
   pub trace : Arrivals
   pub assigned : List ℕ
   pub given : Given
   pub accepts : Accepts hierarchy_file trace_file layout trace assigned
   pub is_plan : plan_of trace.version (length trace.messages) plan_file ≡ Ok given
-  pub drawn : text ≡ picture_of picture (scene_of layout.tree assigned trace.messages given)
+  pub drawn : text ≡ picture_of picture (scene_of layout.tree assigned trace.messages given part)
 
--- two pictures of a plan text of a hierarchy and a trace are equal
-abbrev pub DrawTextIsOne : List ℕ → List ℕ → List ℕ → Picture → Type 0
-DrawTextIsOne hierarchy_file trace_file plan_file picture =
-    (text other : List ℕ) → IsDrawText hierarchy_file trace_file plan_file picture text
-    → IsDrawText hierarchy_file trace_file plan_file picture other → text ≡ other
+-- two pictures of a part of a plan text of a hierarchy and a trace are equal
+abbrev pub DrawTextIsOne : List ℕ → List ℕ → List ℕ → Picture → Part → Type 0
+DrawTextIsOne hierarchy_file trace_file plan_file picture part =
+    (text other : List ℕ) → IsDrawText hierarchy_file trace_file plan_file picture part text
+    → IsDrawText hierarchy_file trace_file plan_file picture part other → text ≡ other

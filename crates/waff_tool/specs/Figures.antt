@@ -10,7 +10,7 @@ use Rattle.waff_plan.specs.Work.{length_of}
 use Rattle.waff_plan_text.specs.Lines.{text_of}
 use Rattle.waff_figures.specs.ByAffinity.{AreCostsBelow, affinities_lines}
 use Rattle.waff_figures.specs.ByName.{message_names, names_lines}
-use Rattle.waff_figures.specs.Figures.{figures_of}
+use Rattle.waff_figures.specs.Figures.{AreFigures}
 use Rattle.waff_figures.specs.Laws.{ChainAddsUp, CostsAddUp, NamesAddUp}
 use Rattle.waff_figures.specs.Sweep.{AreListed, sweep_lines}
 use Rattle.waff_figures.specs.declared.figures.Figures.{Figures}
@@ -18,21 +18,22 @@ use Rattle.waff_tool.specs.Certificates.{IsCertified}
 use Rattle.waff_inputs.specs.Inputs.{Accepts}
 use Rattle.waff_tool.specs.PlanText.{work_in}
 
--- the text of a sweep: the figures of the list plan for each number of workers, none of which is
--- beaten by more than `least` allows, and those of the least plan
-pub record IsSweepText (hierarchy_file trace_file text : List ℕ) : Type 0 where
+-- the text of a sweep: the figures of the list plan for each of these numbers of workers, none of
+-- which is beaten by more than `least` allows, and those of the least plan
+pub record IsSweepText (hierarchy_file trace_file workers text : List ℕ) : Type 0 where
   pub layout : Hierarchy
   pub trace : Arrivals
   pub assigned : List ℕ
   pub starts : List ℕ
   pub listed : List Figures
+  pub unlimited : Figures
   pub accepts : Accepts hierarchy_file trace_file layout trace assigned
   pub least : IsLeast (IsOrdered layout.tree assigned) (work_in trace) (start_of starts)
   pub are_listed : AreListed (IsOrdered layout.tree assigned)
-      (work_in trace) (length_of (work_in trace) (start_of starts)) listed
-  pub lines : text ≡ text_of (sweep_lines listed
-      (figures_of None (work_in trace) (length_of (work_in trace) (start_of starts))
-      (start_of starts)))
+      (work_in trace) (length_of (work_in trace) (start_of starts)) workers listed
+  pub are_unlimited : AreFigures None (work_in trace)
+      (length_of (work_in trace) (start_of starts)) (start_of starts) unlimited
+  pub lines : text ≡ text_of (sweep_lines listed unlimited)
 
 -- the text of where the time goes by affinity, with the printed chain of the least plan; its
 -- columns add up to the total and to the cost of the chain
@@ -70,11 +71,11 @@ abbrev pub IsWhereText : List ℕ → List ℕ → Bool → List ℕ → Type 0
 IsWhereText hierarchy_file trace_file false text = IsAffinitiesText hierarchy_file trace_file text
 IsWhereText hierarchy_file trace_file true text = IsNamesText hierarchy_file trace_file text
 
--- two texts of a sweep of a hierarchy and a trace are equal
-abbrev pub SweepTextIsOne : List ℕ → List ℕ → Type 0
-SweepTextIsOne hierarchy_file trace_file =
-    (text other : List ℕ) → IsSweepText hierarchy_file trace_file text
-    → IsSweepText hierarchy_file trace_file other
+-- two texts of a sweep of a hierarchy and a trace for the same numbers of workers are equal
+abbrev pub SweepTextIsOne : List ℕ → List ℕ → List ℕ → Type 0
+SweepTextIsOne hierarchy_file trace_file workers =
+    (text other : List ℕ) → IsSweepText hierarchy_file trace_file workers text
+    → IsSweepText hierarchy_file trace_file workers other
     → text ≡ other
 
 -- two texts of where the time of a hierarchy and a trace goes are equal

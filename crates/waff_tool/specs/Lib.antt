@@ -9,5 +9,8 @@ pub mod ListOrder
 pub mod OwnPlans
 pub mod PlanText
 pub mod PrintedSpaces
+pub mod Ranks
+pub mod Rate
 pub mod ReplayText
 pub mod Unique
+pub mod WaitsText

@@ -5,6 +5,7 @@ ghost use Rattle.std.specs.Io.KnownBytes.{Appends, Keeps};
 ghost use Rattle.waff_inputs.specs.Deliveries.{Delivers, Makes};
 ghost use Rattle.waff_inputs.specs.Inputs.{Accepts};
 ghost use Rattle.waff_tool.specs.CheckText.{RefusesCheck};
+ghost use Rattle.waff_draw.specs.Parts.{IsPart};
 ghost use Rattle.waff_draw.specs.Scene.{scene_of};
 ghost use Rattle.waff_tool.specs.DrawText.{DrawTextIsOne, IsDrawText, picture_of};
 ghost use Rattle.waff_io.specs.Writing.{AppendsPart};
@@ -13,7 +14,7 @@ use std::alloc::{AllocError, Global};
 use std::io::Write;
 use waff_assign::Assigned;
 use waff_check::{GivenPlan, read_plan};
-use waff_draw::{events_text, svg_text};
+use waff_draw::{Part, events_text, svg_text};
 use waff_inputs::{Accepted, ToolError, accept, deliver};
 use waff_model::{Trace, Tree};
 
@@ -24,20 +25,22 @@ pub enum Picture {
     TraceEvents,
 }
 
-/// Writes the picture of the plan that the text gives for the trace under the hierarchy, whether or
-/// not the plan obeys. Nothing is written before the whole picture is made.
+/// Writes the picture of this part of the plan that the text gives for the trace under the hierarchy,
+/// whether or not the plan obeys. Nothing is written before the whole picture is made.
 pub fn draw_text<W: Write>(
     alloc: Global,
     hierarchy: &[u8],
     trace: &[u8],
     plan: &[u8],
     picture: Picture,
+    part: Part,
     writer: &mut W,
 ) -> Result<(), ToolError>
-    ensures { Delivers (λ _ text. IsDrawText hierarchy.now trace.now plan.now picture text)
+    requires { IsPart part }
+    ensures { Delivers (λ _ text. IsDrawText hierarchy.now trace.now plan.now picture part text)
         (RefusesCheck hierarchy.now trace.now plan.now) (W.contents writer.old) (W.contents writer.new) result }
 {
-    deliver(writer, made_picture(alloc, hierarchy, trace, plan, picture))
+    deliver(writer, made_picture(alloc, hierarchy, trace, plan, picture, part))
 }
 
 fn made_picture(
@@ -46,26 +49,31 @@ fn made_picture(
     trace: &[u8],
     plan: &[u8],
     picture: Picture,
+    part: Part,
 ) -> Result<String, ToolError>
-    ensures { Makes (λ text. IsDrawText hierarchy.now trace.now plan.now picture (string_bytes text))
+    requires { IsPart part }
+    ensures { Makes (λ text.
+        IsDrawText hierarchy.now trace.now plan.now picture part (string_bytes text))
         (RefusesCheck hierarchy.now trace.now plan.now) result }
 {
     let accepted = accept(alloc, hierarchy, trace)?;
-    let text = picture_on(alloc, &accepted, plan, picture);
+    let text = picture_on(alloc, &accepted, plan, picture, part);
     drop(accepted);
     text
 }
 
-/// The picture of the plan of the text for what was read.
+/// The picture of this part of the plan of the text for what was read.
 fn picture_on(
     alloc: Global,
     accepted: &Accepted,
     plan: &[u8],
     picture: Picture,
+    part: Part,
 ) -> Result<String, ToolError>
+    requires { IsPart part }
     ensures made { IfOk result (λ text. (hierarchy trace : List ℕ)
         → Accepts hierarchy trace accepted.now.layout accepted.now.trace accepted.now.assigned
-        → IsDrawText hierarchy trace plan.now picture (string_bytes text)) }
+        → IsDrawText hierarchy trace plan.now picture part (string_bytes text)) }
     ensures refused { IfErr result (λ e. (hierarchy trace : List ℕ)
         → Accepts hierarchy trace accepted.now.layout accepted.now.trace accepted.now.assigned
         → RefusesCheck hierarchy trace plan.now e) }
@@ -74,12 +82,12 @@ fn picture_on(
     let trace = &accepted.trace;
     let given = read_plan(alloc, trace.version(), trace.len(), plan)?;
     let tree = accepted.layout.tree();
-    let text = pictured(alloc, tree, &accepted.assigned, trace, &given, picture)?;
+    let text = pictured(alloc, tree, &accepted.assigned, trace, &given, picture, part)?;
     drop(given);
     Ok(text)
 }
 
-/// The picture of a plan that is given.
+/// The picture of this part of a plan that is given.
 fn pictured(
     alloc: Global,
     tree: &Tree,
@@ -87,21 +95,23 @@ fn pictured(
     trace: &Trace,
     given: &GivenPlan,
     picture: Picture,
+    part: Part,
 ) -> Result<String, AllocError>
     requires lengths { length assigned.now ≡ length trace.now.messages }
     requires known { All (λ a. a < length tree.now) assigned.now }
     requires rows { length given.now.rows ≡ length trace.now.messages }
+    requires part { IsPart part }
     ensures { IfOk result (λ text. string_bytes text
-        ≡ picture_of picture (scene_of tree.now assigned.now trace.now.messages given.now)) }
+        ≡ picture_of picture (scene_of tree.now assigned.now trace.now.messages given.now part)) }
 {
     match picture {
-        Picture::Svg => svg_text(alloc, tree, assigned, trace, given),
-        Picture::TraceEvents => events_text(alloc, tree, assigned, trace, given),
+        Picture::Svg => svg_text(alloc, tree, assigned, trace, given, part),
+        Picture::TraceEvents => events_text(alloc, tree, assigned, trace, given, part),
     }
 }
 
-/// The picture of a plan text of a hierarchy and a trace is one.
+/// The picture of a part of a plan text of a hierarchy and a trace is one.
 pub fn draw_text_is_one()
     ensures equal { (hierarchy_file trace_file plan_file : List ℕ) (picture : Picture)
-        → DrawTextIsOne hierarchy_file trace_file plan_file picture }
+        (part : Part) → DrawTextIsOne hierarchy_file trace_file plan_file picture part }
 {}

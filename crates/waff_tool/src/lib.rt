@@ -5,11 +5,13 @@
 //! before the first byte is written, so a refusal leaves nothing written, and a writer that fails
 //! has taken a prefix of it. A plan is told with its printed chain as its *certificate*.
 //! - `assigns` (assign), `plans` (plan), `comparison` (compare, over `measures`), `sweeps` (sweep),
-//!   `wheres` (where): commands that tell of a trace under a hierarchy.
-//! - `checks` (check, over `verdict_line`), `draws` (draw): a plan that is handed in, tried;
-//!   `replays` (replay, over `state_text`): the state that threads leave.
+//!   `wheres` (where), `waits` (waits), `ranks` (rank): commands that tell of a trace under
+//!   hierarchies.
+//! - `checks` (check, over `verdict_line`), `rates` (rate), `draws` (draw): a plan that is handed in,
+//!   tried; `replays` (replay, over `state_text`): the state that threads leave.
 //! - `explains` (explain): the fault or the verdict that the others find, in words.
-//! - `unique`, and the laws of `sweeps`, `wheres` and `draws`: one text or one fault for each input;
+//! - `unique`, and the laws of `sweeps`, `rates`, `wheres`, `waits`, `ranks` and `draws`: one text or
+//!   one fault for each input;
 //!   `own`: plans that are printed pass the check.
 #![tactic(auto)]
 
@@ -21,11 +23,14 @@ mod explains;
 mod measures;
 pub mod own;
 mod plans;
+pub mod ranks;
+pub mod rates;
 mod replays;
 mod state_text;
 pub mod sweeps;
 pub mod unique;
 mod verdict_line;
+pub mod waits;
 pub mod wheres;
 
 pub use assigns::assign_text;
@@ -34,8 +39,13 @@ pub use comparison::compare_text;
 pub use draws::{Picture, draw_text};
 pub use explains::{Explained, explain_text, explained_status};
 pub use plans::plan_text;
+pub use ranks::{MAX_RANKED, rank_text};
+pub use rates::rate_text;
 pub use replays::replay_text;
 pub use sweeps::sweep_text;
+pub use waff_draw::Part;
+pub use waff_figures::sweep_workers;
 pub use waff_inputs::{ToolError, fault_status, fault_text};
 pub use waff_io::{ReadFault, read_whole, split_input};
+pub use waits::waits_text;
 pub use wheres::where_text;

@@ -194,7 +194,8 @@ fn push_second(
     )
 }
 
-fn kind_name(kind: Kind) -> &'static str
+/// The name of a model.
+pub fn kind_name(kind: Kind) -> &'static str
     ensures { result.now ≡ kind_field kind }
 {
     match kind {

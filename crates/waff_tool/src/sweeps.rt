@@ -2,6 +2,7 @@
 ghost use Rattle.std.specs.Prelude.{◌≡◌, ◌≢◌, ◌<◌, ℕ, All, List, IfOk, IfErr, IsErrOf, OnOk};
 ghost use Rattle.std.specs.Prelude.{length, string_bytes};
 ghost use Rattle.std.specs.Io.KnownBytes.{Appends, Keeps};
+ghost use Rattle.waff_plan.specs.Bound.{IsWorkers};
 ghost use Rattle.waff_inputs.specs.Deliveries.{Delivers, Makes};
 ghost use Rattle.waff_inputs.specs.Inputs.{Accepts, Refuses};
 ghost use Rattle.waff_tool.specs.Figures.{IsSweepText, SweepTextIsOne};
@@ -9,52 +10,69 @@ ghost use Rattle.waff_io.specs.Writing.{AppendsPart};
 
 use std::alloc::{AllocError, Global};
 use std::io::Write;
-use waff_figures::{figures_text, list_figures};
+use waff_figures::{figures_of, figures_text, list_figures};
 use waff_inputs::{Accepted, ToolError, accept, deliver};
 use waff_plan::unlimited::plan;
 
-/// Writes how long the trace takes under the hierarchy for 1 to 64 workers and with no limit on
-/// them, how busy the workers are, and how long the messages wait. Nothing is written before the
-/// whole text is made.
+/// Writes how long the trace takes under the hierarchy for each of these numbers of workers and with
+/// no limit on them, how busy the workers are, and how long the messages wait. Nothing is written
+/// before the whole text is made.
 pub fn sweep_text<W: Write>(
     alloc: Global,
     hierarchy: &[u8],
     trace: &[u8],
+    workers: &[u32],
     writer: &mut W,
 ) -> Result<(), ToolError>
-    ensures { Delivers (λ _ text. IsSweepText hierarchy.now trace.now text)
+    requires workers { All IsWorkers workers.now }
+    ensures { Delivers (λ _ text. IsSweepText hierarchy.now trace.now workers.now text)
         (Refuses hierarchy.now trace.now) (W.contents writer.old) (W.contents writer.new) result }
 {
-    deliver(writer, made_sweep_text(alloc, hierarchy, trace))
+    deliver(writer, made_sweep_text(alloc, hierarchy, trace, workers))
 }
 
-fn made_sweep_text(alloc: Global, hierarchy: &[u8], trace: &[u8]) -> Result<String, ToolError>
-    ensures { Makes (λ text. IsSweepText hierarchy.now trace.now (string_bytes text))
+fn made_sweep_text(
+    alloc: Global,
+    hierarchy: &[u8],
+    trace: &[u8],
+    workers: &[u32],
+) -> Result<String, ToolError>
+    requires workers { All IsWorkers workers.now }
+    ensures { Makes (λ text. IsSweepText hierarchy.now trace.now workers.now (string_bytes text))
         (Refuses hierarchy.now trace.now) result }
 {
     let accepted = accept(alloc, hierarchy, trace)?;
-    let text = swept_text(alloc, &accepted).map_err(ToolError::from);
+    let text = swept_text(alloc, &accepted, workers).map_err(ToolError::from);
     drop(accepted);
     text
 }
 
 /// The text of a sweep of what was read.
-fn swept_text(alloc: Global, accepted: &Accepted) -> Result<String, AllocError>
+fn swept_text(alloc: Global, accepted: &Accepted, workers: &[u32]) -> Result<String, AllocError>
+    requires workers { All IsWorkers workers.now }
     ensures { IfOk result (λ text. (hierarchy trace : List ℕ)
         → Accepts hierarchy trace accepted.now.layout accepted.now.trace accepted.now.assigned
-        → IsSweepText hierarchy trace (string_bytes text)) }
+        → IsSweepText hierarchy trace workers.now (string_bytes text)) }
 {
     let tree = accepted.layout.tree();
     let plan = plan(alloc, tree, &accepted.assigned, &accepted.trace)?;
-    let listed = list_figures(alloc, tree, &accepted.assigned, &accepted.trace, &plan)?;
-    let text = figures_text(alloc, listed.as_slice(), &plan);
+    let listed = list_figures(
+        alloc,
+        tree,
+        &accepted.assigned,
+        &accepted.trace,
+        &plan,
+        workers,
+    )?;
+    let unlimited = figures_of(alloc, &plan, None, plan.length())?;
+    let text = figures_text(alloc, listed.as_slice(), &unlimited);
     drop(listed);
     drop(plan);
     text
 }
 
-/// The text of a sweep of a hierarchy and a trace is one.
+/// The text of a sweep of a hierarchy and a trace for these numbers of workers is one.
 pub fn sweep_text_is_one()
-    ensures equal { (hierarchy_file trace_file : List ℕ)
-        → SweepTextIsOne hierarchy_file trace_file }
+    ensures equal { (hierarchy_file trace_file workers : List ℕ)
+        → SweepTextIsOne hierarchy_file trace_file workers }
 {}

@@ -13,7 +13,7 @@ use waff_samples::{
 };
 use waff_tool::{
     Picture, ReadFault, ToolError, assign_text, check_text, compare_text, draw_text, explain_text,
-    plan_text, read_whole, replay_text, sweep_text, where_text,
+    plan_text, rate_text, read_whole, replay_text, sweep_text, sweep_workers, where_text,
 };
 
 /// The calls that write a text.
@@ -31,6 +31,7 @@ enum Call {
     Picture,
     Events,
     Explain,
+    Rate,
 }
 
 /// Has room for some bytes, of which it takes a few at once, and then fails, or takes none.
@@ -72,7 +73,7 @@ fn write_text<R: Threads + Wait + Sync>(
         Call::PlanForTwo => plan_text(alloc, hierarchy, trace, Some(2), writer),
         Call::Compare => compare_text(alloc, C1.as_bytes(), hierarchy, trace, 2, writer),
         Call::Replay => replay_text(rt, alloc, hierarchy, trace, 2, writer),
-        Call::Sweep => sweep_text(alloc, hierarchy, trace, writer),
+        Call::Sweep => sweep_text(alloc, hierarchy, trace, sweep_workers(), writer),
         Call::Affinities => where_text(alloc, hierarchy, trace, false, writer),
         Call::Names => where_text(alloc, hierarchy, trace, true, writer),
         _ => write_of_plan(rt, alloc, call, writer),
@@ -96,6 +97,10 @@ fn write_of_plan<R: Threads + Sync>(
         Call::Events => draw_text(alloc, hierarchy, none, empty, Picture::TraceEvents, writer),
         Call::Explain => {
             explain_text(rt, alloc, hierarchy, Some(trace), Some(plan), writer)?;
+            Ok(())
+        }
+        Call::Rate => {
+            rate_text(rt, alloc, hierarchy, trace, plan, writer)?;
             Ok(())
         }
         _ => {
@@ -172,12 +177,12 @@ fn leave_the_part_that_was_taken(rt: HostRuntime) {
     }
 }
 
-/// More bytes than these pictures and the explanation have.
+/// More bytes than each of these texts has.
 const MORE: usize = 10_000;
 
 #[test]
 fn leave_the_part_of_other_texts_that_was_taken(rt: HostRuntime) {
-    for call in [Call::Picture, Call::Events, Call::Explain] {
+    for call in [Call::Picture, Call::Events, Call::Explain, Call::Rate] {
         let whole = given(&rt, rt.alloc(), call, MORE, MORE);
         is_given(&rt, rt.alloc(), call, whole.as_slice());
     }

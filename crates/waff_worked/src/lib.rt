@@ -15,6 +15,8 @@ mod hostile_writes;
 #[cfg(test)]
 mod plan_texts;
 #[cfg(test)]
+mod rates;
+#[cfg(test)]
 mod replay_texts;
 #[cfg(test)]
 mod same;
@@ -24,6 +26,8 @@ mod sweeps;
 mod texts;
 #[cfg(test)]
 mod verdicts;
+#[cfg(test)]
+mod waits;
 #[cfg(test)]
 mod words;
 #[cfg(test)]

@@ -4,54 +4,63 @@ use crate::same::are_same;
 use std::alloc::Global;
 use std::process::Abort;
 use waff_samples::{H1, X1, X2};
-use waff_tool::{sweep_text, where_text};
+use waff_tool::{sweep_text, sweep_workers, where_text};
 
 /// The sweep of the first trace under the hierarchical sample.
-pub const SWEEP_H1_X1: &str = "workers,length,speedup,busy,least,over,waits,latency\n\
-    1,17,1.00,1.00,17,1.00,49,17\n\
-    2,11,1.54,0.77,9,1.22,24,11\n\
-    3,9,1.88,0.62,9,1.00,17,9\n\
-    4,9,1.88,0.47,9,1.00,17,9\n\
-    6,9,1.88,0.31,9,1.00,17,9\n\
-    8,9,1.88,0.23,9,1.00,17,9\n\
-    12,9,1.88,0.15,9,1.00,17,9\n\
-    16,9,1.88,0.11,9,1.00,17,9\n\
-    24,9,1.88,0.07,9,1.00,17,9\n\
-    32,9,1.88,0.05,9,1.00,17,9\n\
-    48,9,1.88,0.03,9,1.00,17,9\n\
-    64,9,1.88,0.02,9,1.00,17,9\n\
-    -,9,1.88,-,9,1.00,17,9\n";
+pub const SWEEP_H1_X1: &str = "workers,length,speedup,busy,least,over,waits,mean,p50,p99,latency\n\
+    1,17,1.00,1.00,17,1.00,49,11.00,9,17,17\n\
+    2,11,1.54,0.77,9,1.23,24,6.83,6,11,11\n\
+    3,9,1.88,0.62,9,1.00,17,5.66,5,9,9\n\
+    4,9,1.88,0.47,9,1.00,17,5.66,5,9,9\n\
+    6,9,1.88,0.31,9,1.00,17,5.66,5,9,9\n\
+    8,9,1.88,0.23,9,1.00,17,5.66,5,9,9\n\
+    12,9,1.88,0.15,9,1.00,17,5.66,5,9,9\n\
+    16,9,1.88,0.11,9,1.00,17,5.66,5,9,9\n\
+    24,9,1.88,0.07,9,1.00,17,5.66,5,9,9\n\
+    32,9,1.88,0.05,9,1.00,17,5.66,5,9,9\n\
+    48,9,1.88,0.03,9,1.00,17,5.66,5,9,9\n\
+    64,9,1.88,0.02,9,1.00,17,5.66,5,9,9\n\
+    -,9,1.88,-,9,1.00,17,5.66,5,9,9\n";
 
-const SWEEP_H1_X2: &str = "workers,length,speedup,busy,least,over,waits,latency\n\
-    1,15,1.00,1.00,15,1.00,25,15\n\
-    2,13,1.15,0.57,13,1.00,14,13\n\
-    3,13,1.15,0.38,13,1.00,12,13\n\
-    4,13,1.15,0.28,13,1.00,12,13\n\
-    6,13,1.15,0.19,13,1.00,12,13\n\
-    8,13,1.15,0.14,13,1.00,12,13\n\
-    12,13,1.15,0.09,13,1.00,12,13\n\
-    16,13,1.15,0.07,13,1.00,12,13\n\
-    24,13,1.15,0.04,13,1.00,12,13\n\
-    32,13,1.15,0.03,13,1.00,12,13\n\
-    48,13,1.15,0.02,13,1.00,12,13\n\
-    64,13,1.15,0.01,13,1.00,12,13\n\
-    -,13,1.15,-,13,1.00,12,13\n";
+const SWEEP_H1_X2: &str = "workers,length,speedup,busy,least,over,waits,mean,p50,p99,latency\n\
+    1,15,1.00,1.00,15,1.00,25,8.00,5,15,15\n\
+    2,13,1.15,0.57,13,1.00,14,5.80,5,13,13\n\
+    3,13,1.15,0.38,13,1.00,12,5.40,4,13,13\n\
+    4,13,1.15,0.28,13,1.00,12,5.40,4,13,13\n\
+    6,13,1.15,0.19,13,1.00,12,5.40,4,13,13\n\
+    8,13,1.15,0.14,13,1.00,12,5.40,4,13,13\n\
+    12,13,1.15,0.09,13,1.00,12,5.40,4,13,13\n\
+    16,13,1.15,0.07,13,1.00,12,5.40,4,13,13\n\
+    24,13,1.15,0.04,13,1.00,12,5.40,4,13,13\n\
+    32,13,1.15,0.03,13,1.00,12,5.40,4,13,13\n\
+    48,13,1.15,0.02,13,1.00,12,5.40,4,13,13\n\
+    64,13,1.15,0.01,13,1.00,12,5.40,4,13,13\n\
+    -,13,1.15,-,13,1.00,12,5.40,4,13,13\n";
 
 /// Of no message: every ratio is of nothing.
-const SWEEP_OF_NONE: &str = "workers,length,speedup,busy,least,over,waits,latency\n\
-    1,0,-,-,0,-,0,0\n\
-    2,0,-,-,0,-,0,0\n\
-    3,0,-,-,0,-,0,0\n\
-    4,0,-,-,0,-,0,0\n\
-    6,0,-,-,0,-,0,0\n\
-    8,0,-,-,0,-,0,0\n\
-    12,0,-,-,0,-,0,0\n\
-    16,0,-,-,0,-,0,0\n\
-    24,0,-,-,0,-,0,0\n\
-    32,0,-,-,0,-,0,0\n\
-    48,0,-,-,0,-,0,0\n\
-    64,0,-,-,0,-,0,0\n\
-    -,0,-,-,0,-,0,0\n";
+const SWEEP_OF_NONE: &str = "workers,length,speedup,busy,least,over,waits,mean,p50,p99,latency\n\
+    1,0,-,-,0,-,0,-,0,0,0\n\
+    2,0,-,-,0,-,0,-,0,0,0\n\
+    3,0,-,-,0,-,0,-,0,0,0\n\
+    4,0,-,-,0,-,0,-,0,0,0\n\
+    6,0,-,-,0,-,0,-,0,0,0\n\
+    8,0,-,-,0,-,0,-,0,0,0\n\
+    12,0,-,-,0,-,0,-,0,0,0\n\
+    16,0,-,-,0,-,0,-,0,0,0\n\
+    24,0,-,-,0,-,0,-,0,0,0\n\
+    32,0,-,-,0,-,0,-,0,0,0\n\
+    48,0,-,-,0,-,0,-,0,0,0\n\
+    64,0,-,-,0,-,0,-,0,0,0\n\
+    -,0,-,-,0,-,0,-,0,0,0\n";
+
+/// The numbers of workers as they are asked for: in their order, and each as often as it stands
+/// there.
+const SWEEP_H1_X1_TWICE: &str =
+    "workers,length,speedup,busy,least,over,waits,mean,p50,p99,latency\n\
+    3,9,1.88,0.62,9,1.00,17,5.66,5,9,9\n\
+    1,17,1.00,1.00,17,1.00,49,11.00,9,17,17\n\
+    3,9,1.88,0.62,9,1.00,17,5.66,5,9,9\n\
+    -,9,1.88,-,9,1.00,17,5.66,5,9,9\n";
 
 /// Where the time of the first trace goes, by affinities.
 pub const WHERE_H1_X1: &str = "affinity,parent,messages,cost,below,chain\n\
@@ -73,17 +82,25 @@ pub const WHERE_H1_X1_NAMES: &str = "name,messages,cost,chain\n\
     m6,1,2,2\n";
 
 /// The sweep of the trace has to be this.
-fn is_swept(rt: &impl Abort, alloc: Global, trace: &str, text: &str) {
+fn is_swept(rt: &impl Abort, alloc: Global, trace: &str, workers: &[u32], text: &str) {
     let mut written = Vec::new(alloc);
-    sweep_text(alloc, H1.as_bytes(), trace.as_bytes(), &mut written).expect(rt, "a text");
+    let (hierarchy, trace) = (H1.as_bytes(), trace.as_bytes());
+    sweep_text(alloc, hierarchy, trace, workers, &mut written).expect(rt, "a text");
     are_same(rt, written.as_slice(), text.as_bytes());
 }
 
 #[test]
 fn of_workers(rt: HostRuntime) {
-    is_swept(&rt, rt.alloc(), X1, SWEEP_H1_X1);
-    is_swept(&rt, rt.alloc(), X2, SWEEP_H1_X2);
-    is_swept(&rt, rt.alloc(), "message,cost,ops\n", SWEEP_OF_NONE);
+    is_swept(&rt, rt.alloc(), X1, sweep_workers(), SWEEP_H1_X1);
+    is_swept(&rt, rt.alloc(), X2, sweep_workers(), SWEEP_H1_X2);
+    is_swept(
+        &rt,
+        rt.alloc(),
+        "message,cost,ops\n",
+        sweep_workers(),
+        SWEEP_OF_NONE,
+    );
+    is_swept(&rt, rt.alloc(), X1, &[3, 1, 3], SWEEP_H1_X1_TWICE);
 }
 
 #[test]

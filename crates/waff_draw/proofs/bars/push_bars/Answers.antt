@@ -1,7 +1,9 @@
-use Rattle.std.proofs.Common.{◌≡◌, ◌++◌, string_bytes, sym, ◌∙◌, ap}
+use Rattle.std.proofs.Common.{◌≡◌, ◌-◌, ◌++◌, flat_map, string_bytes, sym, ◌∙◌, ap, arith}
+use Rattle.std.specs.List.{range_with_len}
 use Rattle.waff_draw.specs.Bars.{bar_where}
-use Rattle.waff_draw.specs.Kinds.{row_in}
-use Rattle.waff_draw.proofs.KindLemmas.{kind_bar}
+use Rattle.waff_draw.specs.Kinds.{shown_row}
+use Rattle.waff_draw.specs.Scene.{work_in}
+use Rattle.waff_draw.proofs.KindLemmas.{kind_bar, kind_bars}
 use Rattle.waff_draw.proofs.TextLemmas.{append_none, more_numbers}
 use Rattle.waff_draw.proofs.bars.push_bars.Goals as goal
 use Rattle.waff_draw.proofs.bars.push_bars.Goals.{in-Some+in_ok-push_bar, in_default}
@@ -10,16 +12,25 @@ pub loop-n-preserved : goal.loop-n-preserved
 loop-n-preserved c =
     let scene = c.args.chart.now in
     let n = c.loop-n.n in
-    let place = row_in scene c.args.kind n in
+    let place = shown_row scene c.args.kind n in
     let before = string_bytes c.loop-n.text in
-    let now : string_bytes c.match-row.text ≡ before ++ bar_where scene n place
-    = elim c.match-row.branch [
+    let now : string_bytes c.match-shown_row.text ≡ before ++ bar_where scene n place
+    = elim c.match-shown_row.branch [
       | in-Some+in_ok-push_bar w ↦
           ap (λ t. string_bytes t) w.text-is ∙ w.in_ok-push_bar.ensures
-          ∙ ap (λ r. before ++ bar_where scene n r) (sym w.in-Some.is ∙ c.row.ensures)
+          ∙ ap (λ r. before ++ bar_where scene n r) (sym w.in-Some.is ∙ c.shown_row.ensures)
       | in_default w ↦
           ap (λ t. string_bytes t) w.text-is ∙ sym (append_none before)
-          ∙ ap (λ r. before ++ bar_where scene n r) (sym w.in_default.is ∙ c.row.ensures)
+          ∙ ap (λ r. before ++ bar_where scene n r) (sym w.in_default.is ∙ c.shown_row.ensures)
     ] in
-    more_numbers (kind_bar scene c.args.kind) n (string_bytes c.args.text.now) before (string_bytes c.match-row.text)
+    more_numbers (kind_bar scene c.args.kind) n (string_bytes c.args.text.now) before (string_bytes c.match-shown_row.text)
     c.loop-n.auto.n c.loop-n.invariant now
+
+pub returns : goal.returns
+returns c =
+    let scene = c.args.chart.now in
+    let before = string_bytes c.args.text.now in
+    let all : c.loop-n.n - 1 ≡ (work_in scene).count
+    = omega (arith, c.loop-n-test.false, c.loop-n.auto.n-end, c.len-n-end.ensures.count) in
+    c.loop-n.invariant ∙ ap (λ k. before ++ flat_map (kind_bar scene c.args.kind) (range_with_len 1 k)) all
+    ∙ ap (λ text. before ++ text) (kind_bars scene c.args.kind)

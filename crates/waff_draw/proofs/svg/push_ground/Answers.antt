@@ -3,7 +3,7 @@ use Rattle.std.specs.List.{range_with_len}
 use Rattle.std.proofs.lemmas.Result.{on_ok_weaker}
 use Rattle.waff_plan.specs.Work.{total_of}
 use Rattle.waff_draw.specs.Scene.{lanes_in, length_in, rows_in, span_in, work_in, workers_in}
-use Rattle.waff_draw.specs.Svg.{affinity_lane, each_step, grid_text, heading_text, plan_text, tick_text, top_text, worker_lane}
+use Rattle.waff_draw.specs.Svg.{affinity_lane, each_line, grid_text, heading_text, plan_text, tick_text, top_text, worker_lane}
 use Rattle.waff_draw.proofs.TextLemmas.{behind}
 use Rattle.waff_draw.proofs.svg.push_ground.Goals as goal
 
@@ -17,9 +17,9 @@ returns c = on_ok_weaker c.push_grid.result
     let x2 = heading_text (length_in scene) (total_of (work_in scene)) scene.plan.summary.workers in
     let x3 = flat_map (affinity_lane scene.tree (lanes_in scene)) (range_with_len 0 first) in
     let x4 = flat_map (worker_lane first) (range_with_len 1 (workers_in scene)) in
-    let x5 = each_step (length_in scene) (tick_text (rows_in scene) (span_in scene)) in
+    let x5 = each_line scene (tick_text scene) in
     let x6 = plan_text (rows_in scene) (span_in scene) in
-    let x7 = each_step (length_in scene) (grid_text (rows_in scene)) in
+    let x7 = each_line scene (grid_text scene) in
     let s1 = string_bytes c.push_top.new.text in
     let s2 = string_bytes c.push_heading.new.text in
     let s3 = string_bytes c.push_affinity_lanes.new.text in

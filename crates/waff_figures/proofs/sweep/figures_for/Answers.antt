@@ -1,7 +1,7 @@
 use Rattle.std.proofs.Common.{◌≡◌, ◌≤◌, Some, sym, ◌∙◌, subst}
 use Rattle.waff_plan.specs.Timing.{start_of, work_of}
 use Rattle.waff_plan.specs.Work.{length_of}
-use Rattle.waff_figures.specs.Figures.{figures_of}
+use Rattle.waff_figures.specs.Figures.{AreFigures}
 use Rattle.waff_figures.proofs.sweep.figures_for.Goals as goal
 
 pub returns-clause-listed : goal.returns-clause-listed
@@ -12,14 +12,14 @@ returns-clause-listed c = λ tree assigned are least.
     let timings : made.table.timings ≡ c.args.unlimited.now.timings = c.in_ok-made.ensures.timings ∙ sym c.requires.timings in
     let list = c.needs_make_the_same_plans.ensures tree assigned c.args.needs.now (work_of made.table.timings) c.args.k
     (start_of made.table.starts) are c.in_ok-made.ensures.follows in
-    let told : c.told_of.result ≡ figures_of (Some c.args.k) work shortest (start_of made.table.starts)
-    = rw (c.plan.ensures.plan, timings, c.length.ensures.length) at c.told_of.ensures in
+    let told : AreFigures (Some c.args.k) work shortest (start_of made.table.starts) c.in_ok-figures.figures
+    = rw (c.plan.ensures.plan, timings, c.length.ensures.length) at c.in_ok-figures.ensures in
     record {
       k = c.args.k;
       starts = made.table.starts;
       list = rw timings at list;
       figures_are = told;
       least = λ other plan.
-          subst (λ figures. figures.least ≤ length_of work other) (sym told)
+          subst (λ n. n ≤ length_of work other) (sym told.least)
           (c.none_is_shorter.ensures tree assigned work c.args.k (start_of c.args.unlimited.now.starts) other c.requires.workers.from least plan);
     }

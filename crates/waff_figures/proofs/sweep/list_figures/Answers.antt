@@ -1,9 +1,5 @@
 use Rattle.std.proofs.Common.{Result, Ok, Err, IfOk}
-use Rattle.waff_figures.proofs.RowLemmas.{sweep_workers_fit}
 use Rattle.waff_figures.proofs.sweep.list_figures.Goals as goal
-
-pub list_figures_for-requires-clause-workers : goal.list_figures_for-requires-clause-workers
-list_figures_for-requires-clause-workers c = sweep_workers_fit
 
 both : {A E : Type 0} (P Q R : A → Type 0) (r : Result A E) → IfOk r P → IfOk r Q → ((a : A) → P a → Q a → R a) → IfOk r R
 both P Q R (Ok a) p q f = f a p q
@@ -11,7 +7,7 @@ both P Q R (Err e) p q f = tt
 
 pub returns : goal.returns
 returns c =
-    both _ _ _ c.list_figures_for.result c.list_figures_for.ensures.workers c.list_figures_for.ensures.each (λ listed workers each. record {
-      workers = workers;
+    both _ _ _ c.figures_for_all.result c.figures_for_all.ensures.workers c.figures_for_all.ensures.each (λ listed workers each. record {
+      in_turn = workers;
       each = each c.args.tree.now c.args.assigned.now c.in_ok-needs.ensures.needs c.requires.least;
     })

@@ -1,10 +1,9 @@
 use Rattle.std.proofs.Common.{◌≡◌, ℕ, List, None, string_bytes, ◌∙◌, ap}
 use Rattle.std.proofs.lemmas.Result.{IfOk-weaker}
-use Rattle.waff_plan.specs.declared.timing.Timing.{Timing}
 use Rattle.waff_plan.specs.Timing.{work_of, start_of}
 use Rattle.waff_plan.specs.Work.{length_of}
 use Rattle.waff_plan_text.specs.Lines.{text_of}
-use Rattle.waff_figures.specs.Figures.{figures_of}
+use Rattle.waff_figures.specs.Figures.{AreFigures}
 use Rattle.waff_figures.specs.Sweep.{sweep_lines}
 use Rattle.waff_figures.specs.declared.figures.Figures.{Figures}
 use Rattle.waff_inputs.specs.Inputs.{Accepts}
@@ -15,6 +14,8 @@ pub returns : goal.returns
 returns c =
     let plan = c.in_ok-plan.plan in
     let listed = c.in_ok-listed.listed.items in
+    let unlimited = c.in_ok-unlimited.unlimited in
+    let workers = c.args.workers.now in
     let layout = c.args.accepted.now.layout in
     let trace = c.args.accepted.now.trace in
     let assigned = c.args.accepted.now.assigned in
@@ -22,20 +23,21 @@ returns c =
     let timings = c.in_ok-plan.ensures.timings in
     let least = rw (tree, timings) at c.in_ok-plan.ensures.least in
     let are = rw (tree, timings) at c.in_ok-listed.ensures in
-    let text_for : List Timing → List Figures → List ℕ = λ timings listed. text_of (sweep_lines listed
-    (figures_of None (work_of timings) (length_of (work_of timings) (start_of plan.starts)) (start_of plan.starts))) in
+    let told = rw (c.length.ensures.length, timings) at c.in_ok-unlimited.ensures in
     IfOk-weaker c.figures_text-text.result
-    (λ text. string_bytes text ≡ text_for plan.timings c.as_slice.result.now)
-    (λ text. (hierarchy trace_file : List ℕ) → Accepts hierarchy trace_file layout trace assigned → IsSweepText hierarchy trace_file (string_bytes text))
+    (λ text. string_bytes text ≡ text_of (sweep_lines c.as_slice.result.now unlimited))
+    (λ text. (hierarchy trace_file : List ℕ) → Accepts hierarchy trace_file layout trace assigned → IsSweepText hierarchy trace_file workers (string_bytes text))
     (λ text lines hierarchy trace_file accepts. record {
       layout = layout;
       trace = trace;
       assigned = assigned;
       starts = plan.starts;
       listed = listed;
+      unlimited = unlimited;
       accepts = accepts;
       least = least;
       are_listed = are;
-      lines = lines ∙ ap (λ fs. text_for plan.timings fs) c.as_slice.ensures.value ∙ ap (λ ts. text_for ts listed) timings;
+      are_unlimited = told;
+      lines = lines ∙ ap (λ fs. text_of (sweep_lines fs unlimited)) c.as_slice.ensures.value;
     })
     c.figures_text-text.ensures

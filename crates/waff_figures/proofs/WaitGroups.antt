@@ -1,0 +1,116 @@
+-- The groups of messages, one after another, and rows by them.
+use Rattle.std.proofs.Common.{◌≡◌, ℕ, suc, ◌+◌, ◌-◌, ◌<◌, ◌≤◌, cond, ◌==◌, ◌&&◌, Bool, true, false, List, [], ◌∷◌, ◌++◌, length, get_or, filter, map, slice_get, count_by, All, Option, Some, None, IfSome, arith, refl, sym, ◌∙◌, ap, subst}
+use Rattle.std.specs.List.{AllPairs, range_with_len}
+use Rattle.std.specs.Option.{option_eq}
+use Rattle.std.specs.Str.{bytes_eq}
+use Rattle.std.proofs.lemmas.Bool.Decides.{nat_tests}
+use Rattle.std.proofs.lemmas.List.FromFn.{get_or-map-range_with_len, length-map-range_with_len, map-range_with_len_more}
+use Rattle.std.proofs.lemmas.Slice.Eq.{bytes_eq-Decides}
+use Rattle.std.proofs.lemmas.Option.{get_or_from_slice_get, slice_get_within}
+use Rattle.waff_plan.specs.Work.{IsMessage}
+use Rattle.waff_figures.specs.ByName.{is_named}
+use Rattle.waff_figures.specs.Tally.{is_in}
+use Rattle.waff_figures.specs.Waits.{IsWaitAmong}
+use Rattle.waff_figures.specs.WaitRows.{AreRows, AreTold, IsFirst, IsRow, StandsBefore, group_of, row_of, row_over, same_group, same_kind}
+use Rattle.waff_figures.specs.WaitText.{name_at}
+use Rattle.waff_figures.specs.declared.wait_rows.Row.{Row}
+use Rattle.waff_figures.specs.declared.waits.Wait.{Wait}
+use Rattle.waff_figures.proofs.WaitRowLemmas.{same_counts}
+
+-- one group more
+pub grouped_more : (f : ℕ → ℕ × ℕ) (groups now : List (ℕ × ℕ)) (n : ℕ) (g : ℕ × ℕ) → 1 ≤ n → groups ≡ map f (range_with_len 1 (n - 1)) → now ≡ groups ++ g ∷ []
+    → g ≡ f n → now ≡ map f (range_with_len 1 (n + 1 - 1))
+grouped_more f groups now n g from are pushed is =
+    let at : 1 + (n - 1) ≡ n = omega (arith, from) in
+    let next : n - 1 + 1 ≡ n + 1 - 1 = omega (arith, from) in
+    pushed ∙ ap (λ x. groups ++ x ∷ []) is ∙ ap (λ gs. gs ++ f n ∷ []) are ∙ sym (map-range_with_len_more f 1 (n - 1) n at)
+    ∙ ap (λ k. map f (range_with_len 1 k)) next
+
+-- the group of a message
+pub grouped_at : (f : ℕ → ℕ × ℕ) (groups : List (ℕ × ℕ)) (n m : ℕ) → groups ≡ map f (range_with_len 1 n) → IsMessage n m → group_of groups m ≡ f m
+grouped_at f groups n m are h =
+    let from : 1 ≤ m = h.from in
+    let to : m ≤ n = h.to in
+    ap (λ gs. group_of gs m) are ∙ get_or-map-range_with_len f 1 n (m - 1) m (0, 0) (omega (arith, from, to)) (omega (arith, from))
+
+-- two ways in which messages are alike, that agree on so many messages
+module _ (one other : ℕ → ℕ → Bool) (n : ℕ) (agree : (i j : ℕ) → IsMessage n i → IsMessage n j → one i j ≡ other i j) where
+  same_causes : (a b : Option ℕ) → IfSome a (IsMessage n) → IfSome b (IsMessage n) → option_eq one a b ≡ option_eq other a b
+  same_causes None None first second = refl
+  same_causes None (Some j) first second = refl
+  same_causes (Some i) None first second = refl
+  same_causes (Some i) (Some j) first second = agree i j first second
+
+  kinds_agree : (w v : Wait) → IsWaitAmong n w → IsWaitAmong n v → same_kind one w v ≡ same_kind other w v
+  kinds_agree w v first second =
+      ap (λ b. b && option_eq one w.on v.on) (agree w.message v.message first.message second.message)
+      ∙ ap (λ b. other w.message v.message && b) (same_causes w.on v.on first.on second.on)
+
+  filter_same : (p q : Wait → Bool) (ws : List Wait) → ((k : ℕ) (d : Wait) → k < length ws → p (get_or ws k d) ≡ q (get_or ws k d)) → filter p ws ≡ filter q ws
+  filter_same p q [] same = refl
+  filter_same p q (w ∷ ws) same =
+      let rest = filter_same p q ws (λ k d low. same (suc k) d (omega (arith, low))) in
+      ap (λ b. cond b (w ∷ filter p ws) (filter p ws)) (same 0 w (omega arith)) ∙ ap (λ l. cond (q w) (w ∷ l) l) rest
+
+  module _ (ws : List Wait) (among : All (IsWaitAmong n) ws) where
+    -- the first wait of a kind is one of these
+    first_among : (first : Wait) → IsFirst one ws first → IsWaitAmong n first
+    first_among first is =
+        let within = slice_get_within ws is.place first is.at in
+        subst (IsWaitAmong n) (get_or_from_slice_get ws is.place first first is.at) (among is.place first within)
+
+    pub rows_among : (rows : List Row) → AreTold one ws rows → All (λ (row : Row). IsWaitAmong n row.first) rows
+    rows_among rows told = λ k d low. first_among (get_or rows k d).first (told.each k d low).first
+
+    row_same : (row : Row) → IsRow one ws row → IsRow other ws row
+    row_same row is =
+        let first = row.first in
+        let known = first_among first is.first in
+        record {
+          first = record {
+            place = is.first.place;
+            at = is.first.at;
+            earlier = λ p v less at.
+                let within = slice_get_within ws p v at in
+                let v_known = subst (IsWaitAmong n) (get_or_from_slice_get ws p v v at) (among p v within) in
+                sym (kinds_agree first v known v_known) ∙ is.first.earlier p v less at;
+          };
+          row_is = is.row_is
+              ∙ ap (λ l. row_over l first) (filter_same (same_kind one first) (same_kind other first) ws
+              (λ k d low. kinds_agree first (get_or ws k d) known (among k d low)));
+        }
+
+    pub rows_same : (rows : List Row) → AreRows one ws rows → AreRows other ws rows
+    rows_same rows are = record {
+      told = record {
+        each = λ k d low. row_same (get_or rows k d) (are.told.each k d low);
+        once = λ k d low.
+            let v = get_or ws k d in
+            let firsts = rows_among rows are.told in
+            sym (same_counts (λ (row : Row). same_kind one row.first v) (λ (row : Row). same_kind other row.first v) rows
+            (λ i e inside. kinds_agree (get_or rows i e).first v (firsts i e inside) (among k d low)))
+            ∙ are.told.once k d low;
+      };
+      order = are.order;
+    }
+
+-- messages that have places by their names have one place exactly if they have one name
+pub names_tell : (names texts : List (List ℕ)) (places : List ℕ) (count keys : ℕ) → length places ≡ count → All (λ p. p < keys) places
+    → ((g m : ℕ) → g < keys → 1 ≤ m → m ≤ count → is_in places g m ≡ is_named names (get_or texts g []) m)
+    → (m n : ℕ) → IsMessage count m → IsMessage count n → (get_or places (m - 1) 0 == get_or places (n - 1) 0) ≡ bytes_eq (name_at names m) (name_at names n)
+names_tell names texts places count keys long known each m n first second =
+    let g = get_or places (n - 1) 0 in
+    let low : g < keys = known (n - 1) 0 (let from : 1 ≤ n = second.from in let to : n ≤ count = second.to in omega (arith, from, to, long)) in
+    let same : (g == g) ≡ true = grind (arith, nat_tests) in
+    let named : name_at names n ≡ get_or texts g []
+    = (bytes_eq-Decides (name_at names n) (get_or texts g [])).0 (sym (each g n low second.from second.to) ∙ same) in
+    each g m low first.from first.to ∙ ap (bytes_eq (name_at names m)) (sym named)
+
+-- groups that are made of a number and an affinity
+pub groups_tell : (number affinity : ℕ → ℕ) (groups : List (ℕ × ℕ)) (count : ℕ) → groups ≡ map (λ m. (number m, affinity m)) (range_with_len 1 count)
+    → (m n : ℕ) → IsMessage count m → IsMessage count n → same_group groups m n ≡ ((number m == number n) && (affinity m == affinity n))
+groups_tell number affinity groups count are m n first second =
+    let one = grouped_at (λ k. (number k, affinity k)) groups count m are first in
+    let other = grouped_at (λ k. (number k, affinity k)) groups count n are second in
+    ap (λ g. (g.0 == (group_of groups n).0) && (g.1 == (group_of groups n).1)) one
+    ∙ ap (λ g. (number m == g.0) && (affinity m == g.1)) other

@@ -1,0 +1,186 @@
+-- Waits add up.
+use Rattle.std.proofs.Common.{◌≡◌, ℕ, zero, suc, ◌+◌, ◌-◌, ◌<◌, ◌≤◌, inl, inr, cond, ltb, ◌==◌, Bool, true, false, List, [], ◌∷◌, ◌++◌, length, get_or, filter, sum_by, count_by, All, Option, Some, None, arith, refl, sym, ◌∙◌, ap, subst}
+use Rattle.std.specs.List.{range_with_len}
+use Rattle.std.proofs.lemmas.Bool.{cases_Bool, cond_both, ltb-false}
+use Rattle.std.proofs.lemmas.Bool.Decides.{nat_tests}
+use Rattle.std.proofs.lemmas.List.Sums.{sum_by-append, sum_by-cons}
+use Rattle.waff_plan.specs.Links.{IsLink}
+use Rattle.waff_plan.specs.Obeys.{Obeys}
+use Rattle.waff_plan.specs.Work.{Work, IsNumber, finish_of, numbers}
+use Rattle.waff_plan.proofs.Longest.{sum_more}
+use Rattle.waff_figures.specs.Waits.{AreWaits, ready_of, wait_of, waits_in}
+use Rattle.waff_figures.specs.WaitLaws.{ReadyIsGreatest, TicksAddUp, WaitsAddUp}
+use Rattle.waff_figures.specs.WaitRows.{same_kind}
+use Rattle.waff_figures.specs.declared.wait_rows.Row.{Row}
+use Rattle.waff_figures.specs.declared.waits.Wait.{Wait}
+use Rattle.waff_figures.proofs.SumLemmas.{sum_one, sum_same}
+use Rattle.waff_figures.proofs.WaitLemmas.{upto_more, waits_at, waits_upto}
+
+pub ready_is_greatest : (before : ℕ → ℕ → Type 0) (work : Work) → ReadyIsGreatest before work
+ready_is_greatest before work start m None is = record { released = omega arith; finished = is; one = inl refl }
+ready_is_greatest before work start m (Some i) is = record {
+  released = let later : work.release m < finish_of work start i = is.1 in omega (arith, later);
+  finished = is.0.latest;
+  one = inr (i, is.0.one, refl);
+}
+
+abbrev pub ticks_of : Wait → ℕ
+ticks_of wait = wait.ticks
+
+-- the ticks of the waits of message m alone
+abbrev of_message : ℕ → Wait → ℕ
+of_message m wait = cond (wait.message == m) wait.ticks 0
+
+one_wait : (f : Wait → ℕ) (m : ℕ) (on : Option ℕ) (ticks x : ℕ) → f (record { message = m; on = on; ticks = ticks }) ≡ x → (ticks ≡ 0 → x ≡ 0)
+    → sum_by f (wait_of m on ticks) ≡ x
+one_wait f m on ticks x is none =
+    let w : Wait = record { message = m; on = on; ticks = ticks } in
+    cond_both (ltb 0 ticks) (w ∷ []) [] (λ ws. sum_by f ws ≡ x)
+    (λ some. let cons = sum_by-cons f w [] in omega (arith, cons, is))
+    (λ no_more. sym (none (let less : ticks ≤ 0 = ltb-false 0 ticks no_more in omega (arith, less))))
+
+-- the ticks of the waits of a message, each weighed by what tells of the message alone
+abbrev weighed : (ℕ → Bool) → Wait → ℕ
+weighed counts wait = cond (counts wait.message) wait.ticks 0
+
+weight : (b : Bool) (ticks more : ℕ) → cond b ticks 0 + cond b more 0 ≡ cond b (ticks + more) 0
+weight true ticks more = refl
+weight false ticks more = refl
+
+none_weighed : (b : Bool) (ticks : ℕ) → ticks ≡ 0 → cond b ticks 0 ≡ 0
+none_weighed true ticks none = none
+none_weighed false ticks none = refl
+
+sum_in : (counts : ℕ → Bool) (work : Work) (start : ℕ → ℕ) (m : ℕ) (link : Option ℕ)
+    → sum_by (weighed counts) (waits_in work start m link)
+    ≡ cond (counts m) ((ready_of work start m link - work.release m) + (start m - ready_of work start m link)) 0
+sum_in counts work start m link =
+    let ready = ready_of work start m link in
+    let ticks = ready - work.release m in
+    let more = start m - ready in
+    let first = one_wait (weighed counts) m link ticks (cond (counts m) ticks 0) refl (none_weighed (counts m) ticks) in
+    let second = one_wait (weighed counts) m None more (cond (counts m) more 0) refl (none_weighed (counts m) more) in
+    sum_by-append (weighed counts) (wait_of m link ticks) (wait_of m None more)
+    ∙ ap (λ x. x + sum_by (weighed counts) (wait_of m None more)) first ∙ ap (λ x. cond (counts m) ticks 0 + x) second
+    ∙ weight (counts m) ticks more
+
+-- from the release to the start
+all_of_it : (before : ℕ → ℕ → Type 0) (work : Work) (start : ℕ → ℕ) (m : ℕ) (link : Option ℕ) → IsLink before work start m link → Obeys before work start
+    → (ready_of work start m link - work.release m) + (start m - ready_of work start m link) ≡ start m - work.release m
+all_of_it before work start m None is obeys = omega arith
+all_of_it before work start m (Some i) is obeys =
+    let later : work.release m < finish_of work start i = is.1 in
+    let done : finish_of work start i ≤ start m = obeys.ordered i m is.0.one in
+    omega (arith, later, done)
+
+sum_upto : (f : Wait → ℕ) (work : Work) (start : ℕ → ℕ) (links : List (Option ℕ)) (n : ℕ)
+    → sum_by f (waits_upto work start links n) ≡ sum_by (λ m. sum_by f (waits_at work start links m)) (range_with_len 1 n)
+sum_upto f work start links zero = refl
+sum_upto f work start links (suc n) =
+    let next : n + 1 ≡ suc n = omega arith in
+    let each : ℕ → ℕ = λ m. sum_by f (waits_at work start links m) in
+    ap (sum_by f) (upto_more work start links n (suc n) next)
+    ∙ sum_by-append f (waits_upto work start links n) (waits_at work start links (suc n))
+    ∙ ap (λ x. x + each (suc n)) (sum_upto f work start links n)
+    ∙ ap (λ k. sum_by each (range_with_len 1 n) + each k) (sym next)
+    ∙ sym (sum_more each n)
+    ∙ ap (λ k. sum_by each (range_with_len 1 k)) next
+
+module _ (before : ℕ → ℕ → Type 0) (work : Work) (start : ℕ → ℕ) (waits : List Wait) (are : AreWaits before work start waits) (obeys : Obeys before work start) where
+  -- what counts of all waits
+  all_counted : (counts : ℕ → Bool) → sum_by (weighed counts) waits ≡ sum_by (λ m. cond (counts m) (start m - work.release m) 0) (numbers work)
+  all_counted counts =
+      ap (sum_by (weighed counts)) are.waits_are ∙ sum_upto (weighed counts) work start are.links work.count
+      ∙ sum_same (λ m. sum_by (weighed counts) (waits_at work start are.links m)) (λ m. cond (counts m) (start m - work.release m) 0) 1 work.count
+      (λ m from to.
+      let link = get_or are.links (m - 1) None in
+      sum_in counts work start m link
+      ∙ ap (λ x. cond (counts m) x 0) (all_of_it before work start m link (are.are_links m from (omega (arith, to))) obeys))
+
+  pub one_adds_up : (m : ℕ) → IsNumber work m → sum_by (λ wait. cond (wait.message == m) wait.ticks 0) waits ≡ start m - work.release m
+  one_adds_up m number =
+      let term : ℕ → ℕ = λ k. cond (k == m) (start k - work.release k) 0 in
+      let from : 1 ≤ m = number.from in
+      let to : m ≤ work.count = number.to in
+      let this : term m ≡ start m - work.release m = grind (arith, nat_tests) in
+      all_counted (λ k. k == m)
+      ∙ sum_one term m 1 work.count from (omega (arith, to)) (λ k low high other. grind (arith, nat_tests, other)) ∙ this
+
+  pub all_add_up : sum_by ticks_of waits ≡ sum_by (λ m. start m - work.release m) (numbers work)
+  all_add_up = all_counted (λ m. true)
+
+pub waits_add_up : (before : ℕ → ℕ → Type 0) (work : Work) → WaitsAddUp before work
+waits_add_up before work start waits m are obeys number = one_adds_up before work start waits are obeys m number
+
+-- sums over any list
+sum_all_same : {X : Type 0} (f g : X → ℕ) (xs : List X) → ((k : ℕ) (d : X) → k < length xs → f (get_or xs k d) ≡ g (get_or xs k d)) → sum_by f xs ≡ sum_by g xs
+sum_all_same f g [] same = refl
+sum_all_same f g (x ∷ xs) same =
+    let first : f x ≡ g x = same 0 x (omega arith) in
+    let rest : sum_by f xs ≡ sum_by g xs = sum_all_same f g xs (λ k d low. same (suc k) d (omega (arith, low))) in
+    omega (arith, first, rest, sum_by-cons f x xs, sum_by-cons g x xs)
+
+sum_nothing : {X : Type 0} (xs : List X) → sum_by (λ (x : X). 0) xs ≡ 0
+sum_nothing {X} [] = refl
+sum_nothing {X} (x ∷ xs) = let rest = sum_nothing xs in let cons = sum_by-cons (λ (y : X). 0) x xs in omega (arith, rest, cons)
+
+sum_of_both : {X : Type 0} (f g : X → ℕ) (xs : List X) → sum_by (λ x. f x + g x) xs ≡ sum_by f xs + sum_by g xs
+sum_of_both f g [] = refl
+sum_of_both f g (x ∷ xs) = omega (arith, sum_of_both f g xs, sum_by-cons (λ y. f y + g y) x xs, sum_by-cons f x xs, sum_by-cons g x xs)
+
+abbrev one_if : Bool → ℕ
+one_if b = cond b 1 0
+
+none_picked : {X : Type 0} (p : X → Bool) (y : ℕ) (xs : List X) → count_by p xs ≡ 0 → sum_by (λ x. cond (p x) y 0) xs ≡ 0
+none_picked p y [] none = refl
+none_picked p y (x ∷ xs) none = elim (cases_Bool (p x)) [
+  | inl pass ↦
+      let first : one_if (p x) ≡ 1 = ap one_if pass in
+      absurd (omega (arith, none, first, sum_by-cons (λ z. one_if (p z)) x xs))
+  | inr fails ↦
+      let first : one_if (p x) ≡ 0 = ap one_if fails in
+      let this : cond (p x) y 0 ≡ 0 = ap (λ b. cond b y 0) fails in
+      let rest = none_picked p y xs (omega (arith, none, first, sum_by-cons (λ z. one_if (p z)) x xs)) in
+      omega (arith, this, rest, sum_by-cons (λ z. cond (p z) y 0) x xs)
+]
+
+-- what is picked once counts once
+once_picked : {X : Type 0} (p : X → Bool) (y : ℕ) (xs : List X) → count_by p xs ≡ 1 → sum_by (λ x. cond (p x) y 0) xs ≡ y
+once_picked p y [] once = absurd (omega (arith, once))
+once_picked p y (x ∷ xs) once = elim (cases_Bool (p x)) [
+  | inl pass ↦
+      let first : one_if (p x) ≡ 1 = ap one_if pass in
+      let this : cond (p x) y 0 ≡ y = ap (λ b. cond b y 0) pass in
+      let rest = none_picked p y xs (omega (arith, once, first, sum_by-cons (λ z. one_if (p z)) x xs)) in
+      omega (arith, this, rest, sum_by-cons (λ z. cond (p z) y 0) x xs)
+  | inr fails ↦
+      let first : one_if (p x) ≡ 0 = ap one_if fails in
+      let this : cond (p x) y 0 ≡ 0 = ap (λ b. cond b y 0) fails in
+      let rest = once_picked p y xs (omega (arith, once, first, sum_by-cons (λ z. one_if (p z)) x xs)) in
+      omega (arith, this, rest, sum_by-cons (λ z. cond (p z) y 0) x xs)
+]
+
+filtered_sum : {X : Type 0} (p : X → Bool) (f : X → ℕ) (x : X) (xs : List X) → sum_by f (filter p (x ∷ xs)) ≡ cond (p x) (f x) 0 + sum_by f (filter p xs)
+filtered_sum p f x xs =
+    cond_both (p x) (x ∷ filter p xs) (filter p xs) (λ l. sum_by f l ≡ cond (p x) (f x) 0 + sum_by f (filter p xs))
+    (λ pass. let this : cond (p x) (f x) 0 ≡ f x = ap (λ b. cond b (f x) 0) pass in omega (arith, this, sum_by-cons f x (filter p xs)))
+    (λ fails. let this : cond (p x) (f x) 0 ≡ 0 = ap (λ b. cond b (f x) 0) fails in omega (arith, this))
+
+-- where each is in one part, the parts add up to all
+parts_add_up : {X Y : Type 0} (p : Y → X → Bool) (f : X → ℕ) (parts : List Y) (xs : List X) → All (λ x. count_by (λ y. p y x) parts ≡ 1) xs
+    → sum_by (λ y. sum_by f (filter (p y) xs)) parts ≡ sum_by f xs
+parts_add_up p f parts [] once = sum_nothing parts
+parts_add_up p f parts (x ∷ xs) once =
+    let split = sum_all_same (λ y. sum_by f (filter (p y) (x ∷ xs))) (λ y. cond (p y x) (f x) 0 + sum_by f (filter (p y) xs)) parts
+    (λ k d low. filtered_sum (p (get_or parts k d)) f x xs) in
+    let both = sum_of_both (λ y. cond (p y x) (f x) 0) (λ y. sum_by f (filter (p y) xs)) parts in
+    let this = once_picked (λ y. p y x) (f x) parts (once 0 x (omega arith)) in
+    let rest = parts_add_up p f parts xs (λ k d low. once (suc k) d (omega (arith, low))) in
+    omega (arith, split, both, this, rest, sum_by-cons f x xs)
+
+pub ticks_add_up : (before : ℕ → ℕ → Type 0) (work : Work) → TicksAddUp before work
+ticks_add_up before work alike start waits rows are obeys told =
+    sum_all_same (λ (row : Row). row.ticks) (λ row. sum_by ticks_of (filter (same_kind alike row.first) waits)) rows
+    (λ k d low. ap (λ (row : Row). row.ticks) (told.told.each k d low).row_is)
+    ∙ parts_add_up (λ (row : Row) (wait : Wait). same_kind alike row.first wait) ticks_of rows waits told.told.once
+    ∙ all_add_up before work start waits are obeys

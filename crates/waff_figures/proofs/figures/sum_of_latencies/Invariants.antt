@@ -1,0 +1,11 @@
+use Rattle.std.proofs.Common.{◌≡◌, ◌-◌, ◌*◌, ◌^◌, ◌≤◌, sum_by}
+use Rattle.std.specs.List.{range_with_len}
+use Rattle.waff_plan.specs.Timing.{start_of, work_of}
+use Rattle.waff_figures.specs.Figures.{latency_of}
+use Rattle.waff_figures.proofs.figures.sum_of_latencies.Given as goal
+
+abbrev pub invariant-loop-n : goal.invariant-loop-n
+invariant-loop-n l = record {
+  sum : l.sum ≡ sum_by (latency_of (work_of l.plan.timings) (start_of l.plan.starts)) (range_with_len 1 (l.n - 1));
+  small : l.sum ≤ 2 ^ 64 * (l.n - 1);
+}

@@ -1,0 +1,23 @@
+-- The lines that tell how good one plan is (own).
+use Rattle.std.specs.Prelude.{ℕ, List, [], ◌∷◌, codes, decimal}
+use Rattle.waff_plan_text.specs.Spelling.{worker_field}
+use Rattle.waff_figures.specs.Ratio.{ratio_field, ratio_up_field}
+use Rattle.waff_figures.specs.Sweep.{busy_field}
+use Rattle.waff_figures.specs.declared.figures.Figures.{Figures}
+
+-- a line for each figure: its name and its value
+abbrev pub rate_lines : Figures → List (List (List ℕ))
+rate_lines figures =
+    (codes "workers" ∷ worker_field figures.workers ∷ [])
+    ∷ (codes "total" ∷ decimal figures.total ∷ [])
+    ∷ (codes "length" ∷ decimal figures.length ∷ [])
+    ∷ (codes "speedup" ∷ ratio_field figures.total figures.length ∷ [])
+    ∷ (codes "busy" ∷ busy_field figures.workers figures.total figures.length ∷ [])
+    ∷ (codes "least" ∷ decimal figures.least ∷ [])
+    ∷ (codes "over" ∷ ratio_up_field figures.length figures.least ∷ [])
+    ∷ (codes "waits" ∷ decimal figures.waits ∷ [])
+    ∷ (codes "mean" ∷ ratio_field figures.latencies figures.messages ∷ [])
+    ∷ (codes "p50" ∷ decimal figures.p50 ∷ [])
+    ∷ (codes "p99" ∷ decimal figures.p99 ∷ [])
+    ∷ (codes "latency" ∷ decimal figures.latency ∷ [])
+    ∷ []

@@ -1,0 +1,88 @@
+-- Waits of one kind told in one row (own).
+use Rattle.std.specs.Prelude.{◌≡◌, ℕ, ◌-◌, ◌+◌, ◌<◌, ◌⊎◌, ◌==◌, max, Bool, true, false, ◌&&◌, List, [], ◌∷◌, ◌++◌}
+use Rattle.std.specs.Prelude.{Option, Some, None, All, count_by, filter, length, map, option_map}
+use Rattle.std.specs.Prelude.{slice_get, slice_index_or, slice_set, sum_by}
+use Rattle.std.specs.List.{AllPairs}
+use Rattle.std.specs.Option.{option_eq}
+use Rattle.waff_plan.specs.Work.{greatest}
+use Rattle.waff_figures.specs.Waits.{ComesFirst}
+use Rattle.waff_figures.specs.declared.wait_rows.Row.{Row}
+use Rattle.waff_figures.specs.declared.waits.Wait.{Wait}
+
+-- whether two waits are of one kind: their messages are alike, and they wait for alike messages or
+-- both for a worker
+abbrev pub same_kind : (ℕ → ℕ → Bool) → Wait → Wait → Bool
+same_kind alike one other = alike one.message other.message && option_eq alike one.on other.on
+
+-- the row of these waits: how many there are, the sum of their ticks, and the most ticks of one
+abbrev pub row_over : List Wait → Wait → Row
+row_over waits first = record {
+  first = first;
+  messages = length waits;
+  ticks = sum_by (λ wait. wait.ticks) waits;
+  longest = greatest (map (λ wait. wait.ticks) waits);
+}
+
+-- the row of all waits of the kind of this one
+abbrev pub row_of : (ℕ → ℕ → Bool) → List Wait → Wait → Row
+row_of alike waits first = row_over (filter (same_kind alike first) waits) first
+
+-- no wait of its kind comes earlier
+pub record IsFirst (alike : ℕ → ℕ → Bool) (waits : List Wait) (first : Wait) : Type 0 where
+  pub place : ℕ
+  pub at : slice_get waits place ≡ Some first
+  pub earlier : (p : ℕ) (wait : Wait) → p < place → slice_get waits p ≡ Some wait
+      → same_kind alike first wait ≡ false
+
+-- a row tells of the waits of a kind, by the first of them
+pub record IsRow (alike : ℕ → ℕ → Bool) (waits : List Wait) (row : Row) : Type 0 where
+  pub first : IsFirst alike waits row.first
+  pub row_is : row ≡ row_of alike waits row.first
+
+-- each row tells of the waits of a kind, and each wait is told of in one row
+pub record AreTold (alike : ℕ → ℕ → Bool) (waits : List Wait) (rows : List Row) : Type 0 where
+  pub each : All (IsRow alike waits) rows
+  pub once : All (λ wait. count_by (λ row. same_kind alike row.first wait) rows ≡ 1) waits
+
+-- the one row's first wait comes first
+abbrev pub StartsFirst : Row → Row → Type 0
+StartsFirst one other = ComesFirst one.first other.first
+
+-- the one row has more ticks, or as many and the earlier first wait
+abbrev pub StandsBefore : Row → Row → Type 0
+StandsBefore one other =
+    (other.ticks < one.ticks) ⊎ ((one.ticks ≡ other.ticks) × StartsFirst one other)
+
+-- the rows of the waits, by the most ticks
+pub record AreRows (alike : ℕ → ℕ → Bool) (waits : List Wait) (rows : List Row) : Type 0 where
+  pub told : AreTold alike waits rows
+  pub order : AllPairs StandsBefore rows
+
+-- the group of message n, where the groups are listed in the order of arrival
+abbrev pub group_of : List (ℕ × ℕ) → ℕ → ℕ × ℕ
+group_of groups n = slice_index_or groups (n - 1) (0, 0)
+
+-- whether two messages are in one group
+abbrev pub same_group : List (ℕ × ℕ) → ℕ → ℕ → Bool
+same_group groups m n =
+    ((group_of groups m).0 == (group_of groups n).0)
+    && ((group_of groups m).1 == (group_of groups n).1)
+
+-- the groups of a wait's message and of the one that it waits for
+abbrev pub kind_in : List (ℕ × ℕ) → Wait → (ℕ × ℕ) × Option (ℕ × ℕ)
+kind_in groups wait = (group_of groups wait.message, option_map (group_of groups) wait.on)
+
+-- the row with one wait more
+abbrev pub row_with : Row → Wait → Row
+row_with row wait = record {
+  first = row.first;
+  messages = row.messages + 1;
+  ticks = row.ticks + wait.ticks;
+  longest = max row.longest wait.ticks;
+}
+
+-- the rows with one wait more: in the row at this place, or in a new row that comes last
+abbrev pub rows_with : List Row → ℕ → Bool → Wait → List Row
+rows_with rows place true wait = rows ++ row_over (wait ∷ []) wait ∷ []
+rows_with rows place false wait =
+    slice_set rows place (row_with (slice_index_or rows place (row_over [] wait)) wait)

@@ -1,0 +1,47 @@
+-- Who waits for whom in a plan (own).
+use Rattle.std.specs.Prelude.{◌≡◌, ℕ, ◌-◌, ◌<◌, ◌⊎◌, List, [], ◌∷◌, ◌++◌, Option, Some, None, IsSome}
+use Rattle.std.specs.Prelude.{IfSome, if◌then◌else◌, nat_lt, slice_index_or}
+use Rattle.std.specs.List.{flat_map}
+use Rattle.waff_assign.specs.Order.{Relation}
+use Rattle.waff_plan.specs.Links.{AreLinks}
+use Rattle.waff_plan.specs.Work.{Work, IsMessage, finish_of, numbers}
+use Rattle.waff_figures.specs.declared.waits.Wait.{Wait}
+
+-- from when on m waits for a worker alone: from the finish of the message that it waited for, or
+-- from its release where it waited for none
+abbrev pub ready_of : Work → (ℕ → ℕ) → ℕ → Option ℕ → ℕ
+ready_of work start m None = work.release m
+ready_of work start m (Some i) = finish_of work start i
+
+-- the wait of m for so many ticks, none where there are no ticks
+abbrev pub wait_of : ℕ → Option ℕ → ℕ → List Wait
+wait_of m on ticks =
+    if nat_lt 0 ticks then record { message = m; on = on; ticks = ticks } ∷ [] else []
+
+-- the waits of m: from its release until it is ready for the message that it waited for, and then
+-- until its start for a worker
+abbrev pub waits_in : Work → (ℕ → ℕ) → ℕ → Option ℕ → List Wait
+waits_in work start m waited_for =
+    wait_of m waited_for (ready_of work start m waited_for - work.release m)
+    ++ wait_of m None (start m - ready_of work start m waited_for)
+
+-- the waits of a plan, message by message. The link of a message is the one that it waited for: the
+-- latest before it, where that finishes after the message's release
+pub record AreWaits (before : Relation) (work : Work)
+    (start : ℕ → ℕ) (waits : List Wait) : Type 0 where
+  pub links : List (Option ℕ)
+  pub are_links : AreLinks before work start work.count links
+  pub waits_are : waits ≡ flat_map (λ m. waits_in work start m (slice_index_or links (m - 1) None))
+      (numbers work)
+
+-- the one wait is of an earlier message, or is that for a message where the other is that of the
+-- same message for a worker
+abbrev pub ComesFirst : Wait → Wait → Type 0
+ComesFirst one other =
+    (one.message < other.message)
+    ⊎ ((one.message ≡ other.message) × IsSome one.on × (other.on ≡ None))
+
+-- the wait is of one of so many messages, and for one of them or for a worker
+pub record IsWaitAmong (messages : ℕ) (wait : Wait) : Type 0 where
+  pub message : IsMessage messages wait.message
+  pub on : IfSome wait.on (IsMessage messages)

@@ -1,0 +1,63 @@
+//! Figures as they are printed.
+
+ghost use Rattle.std.specs.Prelude.{Some};
+ghost use Rattle.std.specs.List.{join_with_byte};
+ghost use Rattle.waff_plan_text.specs.Spelling.{worker_field};
+ghost use Rattle.waff_figures.specs.Sweep.{busy_field, quality_fields};
+
+use crate::figures::Figures;
+use crate::ratio::{Mean, Ratio, RatioUp};
+use std::fmt;
+
+/// A number of workers, `-` where there is none.
+#[derive(Clone, Copy)]
+pub(crate) struct WorkerField(pub(crate) Option<u32>);
+
+impl fmt::Display for WorkerField {
+    ghost output = { λ workers. Some (worker_field workers.0) };
+
+    fn fmt<W: fmt::Write>(&self, f: &mut fmt::Formatter<W>) -> fmt::Result {
+        match self.0 {
+            Some(k) => write!(f, "{k}"),
+            None => write!(f, "-"),
+        }
+    }
+}
+
+/// How much of the time workers are busy: their number, the total and the length.
+#[derive(Clone, Copy)]
+pub(crate) struct BusyField(pub(crate) Option<u32>, pub(crate) u64, pub(crate) u64);
+
+impl fmt::Display for BusyField {
+    ghost output = { λ busy. Some (busy_field busy.0 busy.1 busy.2) };
+
+    fn fmt<W: fmt::Write>(&self, f: &mut fmt::Formatter<W>) -> fmt::Result {
+        match self.0 {
+            Some(k) => write!(f, "{}", Ratio(self.1, u128::from(k) * u128::from(self.2))),
+            None => write!(f, "-"),
+        }
+    }
+}
+
+/// How much longer a plan is than it has to be, and how long its messages take: the fields from
+/// `least` on, joined by commas.
+#[derive(Clone, Copy)]
+pub struct QualityFields(pub Figures);
+
+impl fmt::Display for QualityFields {
+    ghost output = { λ quality. Some (join_with_byte 44 (quality_fields quality.0)) };
+
+    fn fmt<W: fmt::Write>(&self, f: &mut fmt::Formatter<W>) -> fmt::Result {
+        let Figures {
+            least,
+            waits,
+            p50,
+            p99,
+            latency,
+            ..
+        } = self.0;
+        let over = RatioUp(self.0.length, least);
+        let mean = Mean(self.0.latencies, self.0.messages);
+        write!(f, "{least},{over},{waits},{mean},{p50},{p99},{latency}")
+    }
+}

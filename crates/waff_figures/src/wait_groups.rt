@@ -1,0 +1,68 @@
+//! The messages that are told of together.
+
+ghost use Rattle.std.specs.Prelude.{◌≡◌, ◌-◌, ℕ, IfOk, length, map, slice_index};
+ghost use Rattle.std.specs.List.{range_with_len};
+ghost use Rattle.waff_assign.specs.Order.{affinity_of};
+ghost use Rattle.waff_plan.specs.Work.{IsMessage};
+ghost use Rattle.waff_figures.specs.ByName.{message_names};
+ghost use Rattle.waff_figures.specs.WaitRows.{same_group};
+ghost use Rattle.waff_figures.specs.WaitText.{are_alike};
+
+use crate::names::names_of;
+use crate::wait_rows::Group;
+use std::alloc::{AllocError, Global};
+use waff_assign::Assigned;
+use waff_model::Trace;
+
+/// The group of each message: those of one affinity are together, by name those of one name and
+/// one affinity.
+pub(crate) fn groups(
+    alloc: Global,
+    assigned: &Assigned,
+    trace: &Trace,
+    by_name: bool,
+) -> Result<Vec<Group>, AllocError>
+    requires lengths { length assigned.now ≡ length trace.now.messages }
+    ensures count { IfOk result (λ groups. length groups.items ≡ length assigned.now) }
+    ensures tell { IfOk result (λ groups. (m n : ℕ)
+        → IsMessage (length assigned.now) m → IsMessage (length assigned.now) n
+        → same_group groups.items m n
+        ≡ are_alike by_name assigned.now (message_names trace.now.messages) m n) }
+{
+    if by_name {
+        let found = names_of(alloc, trace)?;
+        numbered_groups(alloc, assigned, found.places.as_slice())
+    } else {
+        affinity_groups(alloc, assigned)
+    }
+}
+
+/// The groups of messages by their affinities.
+fn affinity_groups(alloc: Global, assigned: &Assigned) -> Result<Vec<Group>, AllocError>
+    ensures { IfOk result (λ groups. groups.items
+        ≡ map (λ m. (0, affinity_of assigned.now m)) (range_with_len 1 (length assigned.now))) }
+{
+    let mut groups = Vec::with_capacity(alloc, assigned.len() as usize)?;
+    for n in 1..assigned.len() + 1 {
+        groups.push((0, u32::from(assigned.of(n).0)))?;
+    }
+    Ok(groups)
+}
+
+/// The groups of messages by these numbers and their affinities.
+fn numbered_groups(
+    alloc: Global,
+    assigned: &Assigned,
+    numbers: &[u32],
+) -> Result<Vec<Group>, AllocError>
+    requires lengths { length numbers.now ≡ length assigned.now }
+    ensures { IfOk result (λ groups. groups.items
+        ≡ map (λ m. (slice_index numbers.now (m - 1), affinity_of assigned.now m))
+        (range_with_len 1 (length assigned.now))) }
+{
+    let mut groups = Vec::with_capacity(alloc, assigned.len() as usize)?;
+    for n in 1..assigned.len() + 1 {
+        groups.push((numbers[n as usize - 1], u32::from(assigned.of(n).0)))?;
+    }
+    Ok(groups)
+}

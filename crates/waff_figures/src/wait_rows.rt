@@ -1,0 +1,119 @@
+//! Waits of one kind told together.
+
+ghost use Rattle.std.specs.Prelude.{◌≡◌, ◌+◌, ◌<◌, ◌≤◌, ◌^◌, [], ◌∷◌, All, false, IfOk};
+ghost use Rattle.std.specs.Prelude.{OnOk, length};
+ghost use Rattle.std.specs.List.{AllPairs};
+ghost use Rattle.waff_figures.specs.Waits.{ComesFirst, IsWaitAmong};
+ghost use Rattle.waff_figures.specs.WaitRows.{AreRows, AreTold, StartsFirst, kind_in, same_group};
+ghost use Rattle.waff_figures.specs.WaitRows.{row_over, row_with, rows_with};
+
+use crate::waits::Wait;
+use indexmap::IndexSet;
+use std::alloc::{AllocError, Global};
+use std::cmp::Reverse;
+
+/// What is told of all waits of one kind: how many messages wait so, and how long.
+#[derive(Clone, Copy)]
+pub struct Row {
+    /// The first of these waits: the others are of messages like its own.
+    pub first: Wait,
+    pub messages: usize,
+    /// The sum of the ticks. It may pass 64 bits, as 65,536 starts may be up to 10^15.
+    pub ticks: u128,
+    /// The most ticks of one message.
+    pub longest: u64,
+}
+
+/// The group of a message: the number of its name, or 0 where names don't count, and that of its
+/// affinity.
+pub(crate) type Group = (u32, u32);
+
+/// The rows of these waits, where message n is in the group `groups[n - 1]`: the most ticks first,
+/// and of as many ticks in the order of their first waits.
+pub(crate) fn rows(
+    alloc: Global,
+    waits: &[Wait],
+    groups: &[Group],
+) -> Result<Vec<Row>, AllocError>
+    requires order { AllPairs ComesFirst waits.now }
+    requires among { All (IsWaitAmong (length groups.now)) waits.now }
+    ensures { IfOk result (λ rows. AreRows (same_group groups.now) waits.now rows.items) }
+{
+    let mut rows = gathered(alloc, waits, groups)?;
+    rows.sort_by_key(|row| Reverse(row.ticks))?;
+    Ok(rows)
+}
+
+/// The rows in the order of their first waits.
+fn gathered(alloc: Global, waits: &[Wait], groups: &[Group]) -> Result<Vec<Row>, AllocError>
+    requires order { AllPairs ComesFirst waits.now }
+    requires among { All (IsWaitAmong (length groups.now)) waits.now }
+    ensures told { IfOk result (λ rows. AreTold (same_group groups.now) waits.now rows.items) }
+    ensures order { IfOk result (λ rows. AllPairs StartsFirst rows.items) }
+{
+    let mut kinds = IndexSet::new(alloc);
+    let mut rows = Vec::new(alloc);
+    for wait in waits {
+        let (place, is_new) = kinds.insert_full(kind(groups, wait))?;
+        tell(&mut rows, place, is_new, wait)?;
+    }
+    Ok(rows)
+}
+
+/// Tells of one wait more: in the row at this place, or where its kind is new in a row of its own
+/// behind the others.
+fn tell(rows: &mut Vec<Row>, place: usize, is_new: bool, wait: &Wait) -> Result<(), AllocError>
+    requires place { is_new ≡ false → place < length rows.old.items }
+    requires few { All (λ row. row.messages + 1 < 2 ^ 64) rows.old.items }
+    requires short { All (λ row. row.ticks + 2 ^ 64 ≤ 2 ^ 128) rows.old.items }
+    ensures told { OnOk result
+        (rows.new.items ≡ rows_with rows.old.items place is_new wait.now) }
+    ensures small { wait.now.ticks < 2 ^ 64 }
+{
+    let _ticks = wait.ticks;
+    if is_new {
+        rows.push(row_of_one(wait))?;
+    } else {
+        rows[place] = row_with(&rows[place], wait);
+    }
+    Ok(())
+}
+
+/// What kind a wait is of: the groups of the message that waits and of the one that it waits for.
+fn kind(groups: &[Group], wait: &Wait) -> (Group, Option<Group>)
+    requires { IsWaitAmong (length groups.now) wait.now }
+    ensures { result ≡ kind_in groups.now wait.now }
+{
+    let on = match wait.on {
+        Some(other) => Some(groups[other as usize - 1]),
+        None => None,
+    };
+    (groups[wait.message as usize - 1], on)
+}
+
+/// The row of one wait.
+fn row_of_one(wait: &Wait) -> Row
+    ensures { result ≡ row_over (wait.now ∷ []) wait.now }
+{
+    Row {
+        first: *wait,
+        messages: 1,
+        ticks: u128::from(wait.ticks),
+        longest: wait.ticks,
+    }
+}
+
+/// The row with one wait more.
+fn row_with(row: &Row, wait: &Wait) -> Row
+    requires few { row.now.messages + 1 < 2 ^ 64 }
+    requires short { row.now.ticks + wait.now.ticks < 2 ^ 128 }
+    ensures { result ≡ row_with row.now wait.now }
+{
+    let ticks = wait.ticks;
+    Row {
+        first: row.first,
+        messages: row.messages + 1,
+        ticks: row.ticks + u128::from(ticks),
+        longest: row.longest.max(ticks),
+    }
+}

@@ -1,0 +1,91 @@
+//! Who waits for whom: the waits of a plan.
+
+ghost use Rattle.std.specs.Prelude.{◌≡◌, ◌<◌, ◌++◌, All, IfOk, OnOk, IfSome, length};
+ghost use Rattle.waff_assign.specs.Order.{IsOrdered};
+ghost use Rattle.waff_plan.specs.Timetable.{starts_in, work_in};
+ghost use Rattle.waff_plan.specs.Work.{IsMessage};
+ghost use Rattle.std.specs.List.{AllPairs};
+ghost use Rattle.waff_figures.specs.Waits.{AreWaits, ComesFirst, IsWaitAmong, wait_of, waits_in};
+
+use std::alloc::{AllocError, Global};
+use waff_assign::Assigned;
+use waff_model::Tree;
+use waff_plan::Plan;
+use waff_plan::links::links;
+
+/// How long a message waits for another one, or for a worker.
+#[derive(Clone, Copy)]
+pub struct Wait {
+    /// The message that waits.
+    pub message: u32,
+    /// The message that it waits for; none where it waits for a worker.
+    pub on: Option<u32>,
+    /// The time that it waits, in ticks.
+    pub ticks: u64,
+}
+
+/// All waits of the plan, in the order of the messages; that for a message comes before that for a
+/// worker.
+pub(crate) fn waits(
+    alloc: Global,
+    tree: &Tree,
+    assigned: &Assigned,
+    plan: &Plan,
+) -> Result<Vec<Wait>, AllocError>
+    requires lengths { length plan.now.timings ≡ length assigned.now }
+    requires known { All (λ a. a < length tree.now) assigned.now }
+    ensures waits { IfOk result (λ waits. AreWaits (IsOrdered tree.now assigned.now)
+        (work_in plan.now) (starts_in plan.now) waits.items) }
+    ensures order { IfOk result (λ waits. AllPairs ComesFirst waits.items) }
+    ensures among { IfOk result (λ waits.
+        All (IsWaitAmong (length plan.now.timings)) waits.items) }
+{
+    let links = links(alloc, tree, assigned, plan)?;
+    let mut waits = Vec::new(alloc);
+    for m in 1..plan.len() + 1 {
+        push_waits(&mut waits, plan, m, links[m as usize - 1])?;
+    }
+    Ok(waits)
+}
+
+/// Appends the waits of a message: for the one of its link until it is ready, and then for a
+/// worker until it starts.
+fn push_waits(
+    waits: &mut Vec<Wait>,
+    plan: &Plan,
+    message: u32,
+    link: Option<u32>,
+) -> Result<(), AllocError>
+    requires message { IsMessage (length plan.now.timings) message }
+    requires link { IfSome link (IsMessage (length plan.now.timings)) }
+    ensures { OnOk result (waits.new.items ≡ waits.old.items
+        ++ waits_in (work_in plan.now) (starts_in plan.now) message link) }
+{
+    let release = plan.release(message);
+    let ready = match link {
+        Some(other) => plan.finish(other),
+        None => release,
+    };
+    push_wait(waits, message, link, ready.saturating_sub(release))?;
+    push_wait(
+        waits,
+        message,
+        None,
+        plan.start(message).saturating_sub(ready),
+    )
+}
+
+/// Appends a wait, where it is one of any ticks.
+fn push_wait(
+    waits: &mut Vec<Wait>,
+    message: u32,
+    on: Option<u32>,
+    ticks: u64,
+) -> Result<(), AllocError>
+    ensures { OnOk result (waits.new.items ≡ waits.old.items ++ wait_of message on ticks) }
+{
+    if ticks > 0 {
+        waits.push(Wait { message, on, ticks })?;
+    }
+    Ok(())
+}

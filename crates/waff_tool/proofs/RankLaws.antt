@@ -1,0 +1,184 @@
+-- Of the same files there is one rank or one refusal, and what it tells of the list plan is what a sweep tells.
+use Rattle.std.proofs.Common.{◌≡◌, ℕ, ◌+◌, ◌<◌, ◌≤◌, All, List, [], ◌∷◌, take, length, get_or, Some, None, Ok, Err, inl, inr, refl, sym, ◌∙◌, ap, subst, arith}
+use Rattle.std.proofs.lemmas.Bool.{cases_order}
+use Rattle.std.proofs.lemmas.List.{get_or-take, length-take-le}
+use Rattle.std.proofs.lemmas.List.Elements.{All-cons}
+use Rattle.std.specs.List.{AllZip}
+use Rattle.waff_model.specs.Layout.{Hierarchy}
+use Rattle.waff_model.specs.Messages.{Arrivals}
+use Rattle.waff_model.specs.declared.kind.Kind.{Kind}
+use Rattle.waff_read.specs.Hierarchies.{hierarchy_of}
+use Rattle.waff_read.specs.declared.hier_error.HierError.{HierError}
+use Rattle.waff_read.specs.declared.trace_fault.TraceError.{TraceError}
+use Rattle.waff_assign.specs.Order.{IsOrdered}
+use Rattle.waff_plan.specs.Obeys.{IsForward}
+use Rattle.waff_plan.specs.Timing.{start_of}
+use Rattle.waff_plan.specs.Work.{length_of}
+use Rattle.waff_plan.proofs.Uniqueness.{least_is_one, same_length}
+use Rattle.waff_list.specs.Unique.{EachRuns}
+use Rattle.waff_plan_text.specs.Lines.{text_of}
+use Rattle.waff_figures.specs.Sweep.{AreListed, IsListed}
+use Rattle.waff_figures.specs.declared.figures.Figures.{Figures}
+use Rattle.waff_inputs.specs.Inputs.{TellsOfFiles}
+use Rattle.waff_inputs.specs.declared.fault.ToolError.{ToolError}
+use Rattle.waff_inputs.specs.declared.fault.ToolError.TheVariants as tool
+use Rattle.waff_inputs.proofs.Refusals.{of_files, of_trace, refusal_is_one, refused_is}
+use Rattle.waff_inputs.proofs.SameInput.{moved_back, same_input}
+use Rattle.waff_tool.specs.PlanText.{work_in}
+use Rattle.waff_tool.specs.Ranks.{Admits, IsFirstRefused, IsFirstRefuted, IsHierarchy, IsRanked, IsRankedAsSwept, IsRankedUnder, RankRefusalIsOne, RankTextIsOne, RankedIsNotRefused, RefusesRank, Refutes, file_at, rank_header, rank_rows}
+use Rattle.waff_tool.specs.declared.ranks.Ranked.{Ranked}
+use Rattle.waff_tool.proofs.CertificateLemmas.{pairs_forward}
+use Rattle.waff_tool.proofs.FigureUniqueness.{IsSwept, listed_is_one, listed_same}
+use Rattle.waff_tool.proofs.RankLemmas.{ranked_admit}
+use Rattle.waff_tool.proofs.TextUniqueness.{trace_runs}
+
+-- what is told under a hierarchy is one
+under_is_one : (layout : Hierarchy) (trace : Arrivals) (assigned : List ℕ) (k : ℕ) (one other : Ranked) → IsForward (IsOrdered layout.tree assigned) (work_in trace)
+    → EachRuns (work_in trace) → IsRankedUnder layout trace assigned k one → IsRankedUnder layout trace assigned k other → one ≡ other
+under_is_one layout trace assigned k one other forward runs p q =
+    let before = IsOrdered layout.tree assigned in
+    let work = work_in trace in
+    let told : Kind → ℕ → ℕ → Figures → Ranked = λ kind affinities length listed. record {
+      kind = kind;
+      affinities = affinities;
+      length = length;
+      listed = listed;
+    } in
+    let same = least_is_one before work (start_of p.starts) (start_of q.starts) p.least q.least in
+    let lengths : one.length ≡ other.length = p.shortest ∙ same_length work (start_of p.starts) (start_of q.starts) same ∙ sym q.shortest in
+    let listed : one.listed ≡ other.listed = listed_same before work forward runs one.length one.listed other.listed p.listed
+    (subst (λ n. IsListed before work n other.listed) (sym lengths) q.listed) (p.workers ∙ sym q.workers) in
+    ap (λ kind. told kind one.affinities one.length one.listed) (p.kind ∙ sym q.kind)
+    ∙ ap (λ n. told other.kind n one.length one.listed) (p.affinities ∙ sym q.affinities)
+    ∙ ap (λ n. told other.kind other.affinities n one.listed) lengths
+    ∙ ap (told other.kind other.affinities other.length) listed
+
+ranked_is_one : (trace_file : List ℕ) (k : ℕ) (file : List ℕ) (one other : Ranked) → IsRanked trace_file k file one → IsRanked trace_file k file other → one ≡ other
+ranked_is_one trace_file k file one other p q =
+    let same = same_input file trace_file p.layout q.layout p.trace q.trace p.assigned q.assigned p.accepts q.accepts in
+    let told = moved_back (λ layout trace assigned. IsRankedUnder layout trace assigned k other) p.layout q.layout p.trace q.trace p.assigned q.assigned same q.under in
+    under_is_one p.layout p.trace p.assigned k one other (pairs_forward p.layout.tree p.assigned p.trace.messages p.accepts.assignment.count)
+    (trace_runs p.layout trace_file p.trace p.accepts.is_trace) p.under told
+
+ranks_are_one : (trace_file : List ℕ) (k : ℕ) (files : List (List ℕ)) (ranks others : List Ranked) → AllZip (IsRanked trace_file k) files ranks
+    → AllZip (IsRanked trace_file k) files others → ranks ≡ others
+ranks_are_one trace_file k [] [] [] p q = refl
+ranks_are_one trace_file k [] [] (other ∷ others) p q = absurd q
+ranks_are_one trace_file k [] (one ∷ ranks) others p q = absurd p
+ranks_are_one trace_file k (file ∷ files) [] others p q = absurd p
+ranks_are_one trace_file k (file ∷ files) (one ∷ ranks) [] p q = absurd q
+ranks_are_one trace_file k (file ∷ files) (one ∷ ranks) (other ∷ others) p q =
+    ap (λ r. r ∷ ranks) (ranked_is_one trace_file k file one other p.0 q.0) ∙ ap (λ rs. other ∷ rs) (ranks_are_one trace_file k files ranks others p.1 q.1)
+
+pub rank_text_is_one : (files : List (List ℕ)) (trace_file : List ℕ) (k : ℕ) → RankTextIsOne files trace_file k
+rank_text_is_one files trace_file k text other p q =
+    p.lines ∙ ap (λ rs. text_of (rank_header ∷ rank_rows 1 rs)) (ranks_are_one trace_file k files p.ranks q.ranks p.each q.each) ∙ sym q.lines
+
+-- what a file before the first one has
+before_first : (P : List ℕ → Type 0) (files : List (List ℕ)) (i at : ℕ) → i < at → at < length files → All P (take at files) → P (file_at files i)
+before_first P files i at earlier inside all =
+    let long : length (take at files) ≡ at = length-take-le at files (omega (arith, inside)) in
+    subst P (get_or-take at files i [] earlier) (all i [] (subst (λ n. i < n) (sym long) earlier))
+
+-- a file is a hierarchy or refused, and under it a trace is accepted or refused
+not_both : (file : List ℕ) (fault : HierError) → IsHierarchy file → hierarchy_of file ≡ Err fault → ⊥
+not_both file fault (layout, read) refused = cc
+
+not_either : (trace_file : List ℕ) (fault : TraceError) (file : List ℕ) → Admits trace_file file → Refutes trace_file fault file → ⊥
+not_either trace_file fault file (layout, trace, read, is) refuted =
+    let found : of_files trace_file (hierarchy_of file) ≡ Some (tool.Trace fault) = refused_is file trace_file (tool.Trace fault) tt refuted in
+    let none : of_files trace_file (hierarchy_of file) ≡ None = ap (of_files trace_file) read ∙ ap of_trace is in
+    cc
+
+-- the first refused file is one
+refused_is_one : (files : List (List ℕ)) (number other : ℕ) (fault more : HierError) → IsFirstRefused files number fault → IsFirstRefused files other more
+    → tool.Hier number fault ≡ tool.Hier other more
+refused_is_one files number other fault more p q = elim (cases_order p.at q.at) [
+  | inl same ↦
+      let numbers : number ≡ other = p.number_is ∙ ap (λ n. n + 1) same ∙ sym q.number_is in
+      let is : hierarchy_of (file_at files q.at) ≡ Err fault = subst (λ n. hierarchy_of (file_at files n) ≡ Err fault) same p.refused in
+      let also = q.refused in
+      let faults : fault ≡ more = cc in
+      ap (λ n. tool.Hier n fault) numbers ∙ ap (tool.Hier other) faults
+  | inr (inl earlier) ↦ absurd (not_both (file_at files p.at) fault (before_first IsHierarchy files p.at q.at earlier q.within q.before) p.refused)
+  | inr (inr later) ↦ absurd (not_both (file_at files q.at) more (before_first IsHierarchy files q.at p.at later p.within p.before) q.refused)
+]
+
+refuted_is_one : (files : List (List ℕ)) (trace_file : List ℕ) (fault more : TraceError) → IsFirstRefuted files trace_file fault
+    → IsFirstRefuted files trace_file more → tool.Trace fault ≡ tool.Trace more
+refuted_is_one files trace_file fault more p q = elim (cases_order p.at q.at) [
+  | inl same ↦
+      let is : Refutes trace_file fault (file_at files q.at) = subst (λ n. Refutes trace_file fault (file_at files n)) same p.refuted in
+      refusal_is_one (file_at files q.at) trace_file (tool.Trace fault) (tool.Trace more) tt tt is q.refuted
+  | inr (inl earlier) ↦
+      absurd (not_either trace_file fault (file_at files p.at) (before_first (Admits trace_file) files p.at q.at earlier q.within q.before) p.refuted)
+  | inr (inr later) ↦
+      absurd (not_either trace_file more (file_at files q.at) (before_first (Admits trace_file) files q.at p.at later p.within p.before) q.refuted)
+]
+
+-- a refused file is no hierarchy
+no_hierarchy : (files : List (List ℕ)) (number : ℕ) (fault : HierError) → IsFirstRefused files number fault → All IsHierarchy files → ⊥
+no_hierarchy files number fault p are = not_both (file_at files p.at) fault (are p.at [] p.within) p.refused
+
+pub rank_refusal_is_one : (files : List (List ℕ)) (trace_file : List ℕ) → RankRefusalIsOne files trace_file
+rank_refusal_is_one files trace_file (tool.Hier number fault) (tool.Hier other more) tells also p q = refused_is_one files number other fault more p q
+rank_refusal_is_one files trace_file (tool.Hier number fault) (tool.Trace more) tells also p q = absurd (no_hierarchy files number fault p q.hierarchies)
+rank_refusal_is_one files trace_file (tool.Hier number fault) (tool.PlanText more) tells also p q = absurd q
+rank_refusal_is_one files trace_file (tool.Hier number fault) tool.SpacesDiffer tells also p q = absurd q
+rank_refusal_is_one files trace_file (tool.Hier number fault) tool.ModelsSame tells also p q = absurd q
+rank_refusal_is_one files trace_file (tool.Hier number fault) tool.Write tells also p q = absurd also
+rank_refusal_is_one files trace_file (tool.Hier number fault) tool.Memory tells also p q = absurd also
+rank_refusal_is_one files trace_file (tool.Trace fault) (tool.Hier other more) tells also p q = absurd (no_hierarchy files other more q p.hierarchies)
+rank_refusal_is_one files trace_file (tool.Trace fault) (tool.Trace more) tells also p q = refuted_is_one files trace_file fault more p q
+rank_refusal_is_one files trace_file (tool.Trace fault) (tool.PlanText more) tells also p q = absurd q
+rank_refusal_is_one files trace_file (tool.Trace fault) tool.SpacesDiffer tells also p q = absurd q
+rank_refusal_is_one files trace_file (tool.Trace fault) tool.ModelsSame tells also p q = absurd q
+rank_refusal_is_one files trace_file (tool.Trace fault) tool.Write tells also p q = absurd also
+rank_refusal_is_one files trace_file (tool.Trace fault) tool.Memory tells also p q = absurd also
+rank_refusal_is_one files trace_file (tool.PlanText fault) other tells also p q = absurd p
+rank_refusal_is_one files trace_file tool.SpacesDiffer other tells also p q = absurd p
+rank_refusal_is_one files trace_file tool.ModelsSame other tells also p q = absurd p
+rank_refusal_is_one files trace_file tool.Write other tells also p q = absurd tells
+rank_refusal_is_one files trace_file tool.Memory other tells also p q = absurd tells
+
+-- files that admit the trace are refused for nothing
+none_refused : (files : List (List ℕ)) (trace_file : List ℕ) (error : ToolError) → TellsOfFiles error → All (Admits trace_file) files
+    → RefusesRank files trace_file error → ⊥
+none_refused files trace_file (tool.Hier number fault) tells admit p =
+    let (layout, trace, read, is) = admit p.at [] p.within in
+    not_both (file_at files p.at) fault (layout, read) p.refused
+none_refused files trace_file (tool.Trace fault) tells admit p = not_either trace_file fault (file_at files p.at) (admit p.at [] p.within) p.refuted
+none_refused files trace_file (tool.PlanText fault) tells admit p = p
+none_refused files trace_file tool.SpacesDiffer tells admit p = p
+none_refused files trace_file tool.ModelsSame tells admit p = p
+none_refused files trace_file tool.Write tells admit p = absurd tells
+none_refused files trace_file tool.Memory tells admit p = absurd tells
+
+pub ranked_is_not_refused : (files : List (List ℕ)) (trace_file : List ℕ) → RankedIsNotRefused files trace_file
+ranked_is_not_refused files trace_file k text error ranked tells refused =
+    none_refused files trace_file error tells (ranked_admit trace_file k files ranked.ranks ranked.each) refused
+
+-- the list plan alone, as a sweep tells of it
+swept_alone : (layout : Hierarchy) (trace : Arrivals) (assigned : List ℕ) (k : ℕ) (ranked : Ranked) (starts : List ℕ) (listed : List Figures) (unlimited : Figures)
+    → IsForward (IsOrdered layout.tree assigned) (work_in trace) → EachRuns (work_in trace) → IsRankedUnder layout trace assigned k ranked
+    → IsSwept (k ∷ []) starts listed unlimited layout trace assigned → listed ≡ ranked.listed ∷ []
+swept_alone layout trace assigned k ranked starts listed unlimited forward runs p q =
+    let before = IsOrdered layout.tree assigned in
+    let work = work_in trace in
+    let same = least_is_one before work (start_of starts) (start_of p.starts) q.0 p.least in
+    let lengths : length_of work (start_of starts) ≡ ranked.length = same_length work (start_of starts) (start_of p.starts) same ∙ sym p.shortest in
+    let alone : AreListed before work ranked.length (k ∷ []) (ranked.listed ∷ []) = record {
+      in_turn = ap (λ w. w ∷ []) p.workers;
+      each = All-cons (IsListed before work ranked.length) ranked.listed [] p.listed (λ i d inside. absurd (omega (arith, inside)));
+    } in
+    listed_is_one before work forward runs ranked.length (k ∷ []) listed (ranked.listed ∷ [])
+    (subst (λ n. AreListed before work n (k ∷ []) listed) lengths q.1) alone
+
+pub is_ranked_as_swept : (hierarchy_file trace_file : List ℕ) → IsRankedAsSwept hierarchy_file trace_file
+is_ranked_as_swept hierarchy_file trace_file k ranked text p q =
+    let same = same_input hierarchy_file trace_file p.layout q.layout p.trace q.trace p.assigned q.assigned p.accepts q.accepts in
+    let told = moved_back (IsSwept (k ∷ []) q.starts q.listed q.unlimited) p.layout q.layout p.trace q.trace p.assigned q.assigned same
+    (q.least, q.are_listed, q.are_unlimited) in
+    swept_alone p.layout p.trace p.assigned k ranked q.starts q.listed q.unlimited
+    (pairs_forward p.layout.tree p.assigned p.trace.messages p.accepts.assignment.count)
+    (trace_runs p.layout trace_file p.trace p.accepts.is_trace) p.under told

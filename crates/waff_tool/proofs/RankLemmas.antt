@@ -1,0 +1,122 @@
+-- Files side by side with what they are read as, and the lines of a rank.
+use Rattle.std.proofs.Common.{◌≡◌, ℕ, zero, suc, ◌+◌, ◌<◌, ◌≤◌, All, List, [], ◌∷◌, ◌++◌, map, take, length, get_or, Vec, Global, Ok, Err, append_assoc, refl, sym, ◌∙◌, ap, arith}
+use Rattle.std.proofs.lemmas.List.{append-nil, get_or-map, length-map, length-take-le, take_more}
+use Rattle.std.proofs.lemmas.List.Elements.{All-cons}
+use Rattle.std.proofs.lemmas.Grind.{flat_map-append}
+use Rattle.std.specs.List.{AllZip}
+use Rattle.waff_model.specs.Layout.{Hierarchy}
+use Rattle.waff_read.specs.Hierarchies.{hierarchy_of}
+use Rattle.waff_plan_text.specs.Lines.{line_text, text_of}
+use Rattle.waff_inputs.specs.Inputs.{Refuses, RefusesHierarchy}
+use Rattle.waff_inputs.specs.declared.fault.ToolError.{ToolError}
+use Rattle.waff_inputs.specs.declared.fault.ToolError.TheVariants as tool
+use Rattle.waff_tool.specs.Ranks.{Admits, AreRead, IsHierarchy, IsRanked, RefusesRank, file_at, rank_row, rank_rows}
+use Rattle.waff_tool.specs.declared.ranks.Ranked.{Ranked}
+
+-- two lists side by side
+pub zip_push : {A B : Type 0} (R : A → B → Type 0) (xs : List A) (ys : List B) (x : A) (y : B) → AllZip R xs ys → R x y → AllZip R (xs ++ x ∷ []) (ys ++ y ∷ [])
+zip_push R [] [] x y are is = (is, tt)
+zip_push R [] (b ∷ ys) x y are is = absurd are
+zip_push R (a ∷ xs) [] x y are is = absurd are
+zip_push R (a ∷ xs) (b ∷ ys) x y are is = (are.0, zip_push R xs ys x y are.1 is)
+
+pub zip_at : {A B : Type 0} (R : A → B → Type 0) (xs : List A) (ys : List B) (i : ℕ) (d : A) (e : B) → AllZip R xs ys → i < length xs
+    → R (get_or xs i d) (get_or ys i e)
+zip_at R [] [] i d e are inside = absurd (omega (arith, inside))
+zip_at R [] (b ∷ ys) i d e are inside = absurd are
+zip_at R (a ∷ xs) [] i d e are inside = absurd are
+zip_at R (a ∷ xs) (b ∷ ys) zero d e are inside = are.0
+zip_at R (a ∷ xs) (b ∷ ys) (suc i) d e are inside = zip_at R xs ys i d e are.1 (omega (arith, inside))
+
+pub zip_length : {A B : Type 0} (R : A → B → Type 0) (xs : List A) (ys : List B) → AllZip R xs ys → length xs ≡ length ys
+zip_length R [] [] are = refl
+zip_length R [] (b ∷ ys) are = absurd are
+zip_length R (a ∷ xs) [] are = absurd are
+zip_length R (a ∷ xs) (b ∷ ys) are = ap suc (zip_length R xs ys are.1)
+
+-- what a side of them has, by what stands beside it
+pub zip_have : {A B : Type 0} (R : A → B → Type 0) (P : A → Type 0) → ((x : A) (y : B) → R x y → P x) → (xs : List A) (ys : List B) → AllZip R xs ys → All P xs
+zip_have R P has [] [] are = λ k d inside. absurd (omega (arith, inside))
+zip_have R P has [] (b ∷ ys) are = absurd are
+zip_have R P has (a ∷ xs) [] are = absurd are
+zip_have R P has (a ∷ xs) (b ∷ ys) are = All-cons P a xs (has a b are.0) (zip_have R P has xs ys are.1)
+
+-- the bytes of files, one by one
+abbrev pub bytes_of : List (Vec ℕ Global) → List (List ℕ)
+bytes_of files = map (λ (file : Vec ℕ Global). file.items) files
+
+pub file_bytes : (files : List (Vec ℕ Global)) (i : ℕ) (file : Vec ℕ Global) → i < length files → file ≡ get_or files i file → file_at (bytes_of files) i ≡ file.items
+file_bytes files i file inside is = get_or-map (λ (f : Vec ℕ Global). f.items) files i file [] inside ∙ ap (λ (f : Vec ℕ Global). f.items) (sym is)
+
+pub bytes_length : (files : List (Vec ℕ Global)) → length (bytes_of files) ≡ length files
+bytes_length files = length-map files (λ (f : Vec ℕ Global). f.items)
+
+-- files that are read are hierarchies
+pub read_are : (files : List (List ℕ)) (layouts : List Hierarchy) → AreRead files layouts → All IsHierarchy files
+read_are files layouts are = zip_have (λ file layout. hierarchy_of file ≡ Ok layout) IsHierarchy (λ file layout read. (layout, read)) files layouts are
+
+-- files that are ranked admit the trace
+pub ranked_admit : (trace_file : List ℕ) (k : ℕ) (files : List (List ℕ)) (ranks : List Ranked) → AllZip (IsRanked trace_file k) files ranks
+    → All (Admits trace_file) files
+ranked_admit trace_file k files ranks are =
+    zip_have (IsRanked trace_file k) (Admits trace_file) (λ file ranked is. (is.layout, is.trace, is.accepts.is_layout, is.accepts.is_trace)) files ranks are
+
+-- the first file that is no hierarchy
+pub first_refused : (files : List (List ℕ)) (trace_file : List ℕ) (i number : ℕ) (error : ToolError) → number ≡ i + 1 → i < length files
+    → All IsHierarchy (take i files) → RefusesHierarchy number (file_at files i) error → RefusesRank files trace_file error
+first_refused files trace_file i number (tool.Hier file fault) is inside before refused = record {
+  at = i;
+  number_is = refused.0 ∙ is;
+  within = inside;
+  before = before;
+  refused = refused.1;
+}
+first_refused files trace_file i number (tool.Trace fault) is inside before refused = absurd refused
+first_refused files trace_file i number (tool.PlanText fault) is inside before refused = absurd refused
+first_refused files trace_file i number tool.SpacesDiffer is inside before refused = absurd refused
+first_refused files trace_file i number tool.ModelsSame is inside before refused = absurd refused
+first_refused files trace_file i number tool.Write is inside before refused = absurd refused
+first_refused files trace_file i number tool.Memory is inside before refused = tt
+
+-- the first of hierarchies under which the trace is refused
+pub first_refuted : (files : List (List ℕ)) (trace_file : List ℕ) (i : ℕ) (layout : Hierarchy) (error : ToolError) → All IsHierarchy files → i < length files
+    → All (Admits trace_file) (take i files) → hierarchy_of (file_at files i) ≡ Ok layout → Refuses (file_at files i) trace_file error
+    → RefusesRank files trace_file error
+first_refuted files trace_file i layout (tool.Hier file fault) are inside before read refused = absurd (let is = refused.1 in cc)
+first_refuted files trace_file i layout (tool.Trace fault) are inside before read refused = record {
+  hierarchies = are;
+  at = i;
+  within = inside;
+  before = before;
+  refuted = refused;
+}
+first_refuted files trace_file i layout (tool.PlanText fault) are inside before read refused = absurd refused
+first_refuted files trace_file i layout tool.SpacesDiffer are inside before read refused = absurd refused
+first_refuted files trace_file i layout tool.ModelsSame are inside before read refused = absurd refused
+first_refuted files trace_file i layout tool.Write are inside before read refused = tt
+first_refuted files trace_file i layout tool.Memory are inside before read refused = tt
+
+-- one line more
+rows_push : (n : ℕ) (ranks : List Ranked) (ranked : Ranked) → rank_rows n (ranks ++ ranked ∷ []) ≡ rank_rows n ranks ++ rank_row (n + length ranks) ranked ∷ []
+rows_push n [] ranked = ap (λ m. rank_row m ranked ∷ []) (let e : n ≡ n + 0 = omega arith in e)
+rows_push n (one ∷ ranks) ranked =
+    ap (λ rows. rank_row n one ∷ rows)
+    (rows_push (n + 1) ranks ranked ∙ ap (λ m. rank_rows (n + 1) ranks ++ rank_row m ranked ∷ []) (let e : n + 1 + length ranks ≡ n + suc (length ranks) = omega arith in e))
+
+pub ranks_further : (ranks : List Ranked) (i : ℕ) (d : Ranked) (before so_far now : List ℕ) → i < length ranks
+    → so_far ≡ before ++ text_of (rank_rows 1 (take i ranks)) → now ≡ so_far ++ line_text (rank_row (i + 1) (get_or ranks i d))
+    → now ≡ before ++ text_of (rank_rows 1 (take (i + 1) ranks))
+ranks_further ranks i d before so_far now inside h k =
+    let front = take i ranks in
+    let ranked = get_or ranks i d in
+    let more : take (i + 1) ranks ≡ front ++ ranked ∷ [] = take_more ranks i d inside in
+    let long : length front ≡ i = length-take-le i ranks (omega (arith, inside)) in
+    let row = rank_row (i + 1) ranked in
+    let last : rank_rows 1 (take (i + 1) ranks) ≡ rank_rows 1 front ++ row ∷ []
+    = ap (rank_rows 1) more ∙ rows_push 1 front ranked
+    ∙ ap (λ n. rank_rows 1 front ++ rank_row n ranked ∷ []) (let e : 1 + length front ≡ i + 1 = omega (arith, long) in e) in
+    let text : text_of (rank_rows 1 (take (i + 1) ranks)) ≡ text_of (rank_rows 1 front) ++ text_of (row ∷ [])
+    = ap text_of last ∙ flat_map-append line_text (rank_rows 1 front) (row ∷ []) in
+    let one : line_text row ≡ text_of (row ∷ []) = sym (append-nil (line_text row)) in
+    k ∙ ap (λ t. t ++ line_text row) h ∙ append_assoc before (text_of (rank_rows 1 front)) (line_text row)
+    ∙ ap (λ t. before ++ (text_of (rank_rows 1 front) ++ t)) one ∙ ap (λ t. before ++ t) (sym text)

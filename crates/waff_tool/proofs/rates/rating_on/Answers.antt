@@ -1,0 +1,28 @@
+use Rattle.waff_tool.proofs.rates.rating_on.Goals as goal
+
+pub returns-clause-made : goal.returns-clause-made
+returns-clause-made g c hierarchy trace accepts =
+    let accepted = c.args.accepted.now in
+    let tree = c.tree-tree.ensures in
+    let given = rw (c.version.ensures, c.len.ensures.count) at c.in_ok-given.ensures.exact in
+    let promised = c.in_ok-verdict.ensures in
+    record {
+      checked = record {
+        layout = accepted.layout;
+        trace = accepted.trace;
+        assigned = accepted.assigned;
+        given = c.in_ok-given.given;
+        accepts = accepts;
+        is_plan = given;
+        verdict = rw tree at promised.verdict;
+        obeys = rw tree at promised.obeys;
+        worker_plan = rw tree at promised.worker_plan;
+        one_at_a_time = promised.one_at_a_time;
+        chain = rw tree at promised.chain;
+        shortest = rw tree at promised.shortest;
+        bound = rw tree at promised.bound;
+      };
+      figures = c.in_ok-figures.figures;
+      rated = rw tree at c.in_ok-figures.ensures;
+      lines = c.in_ok-text.ensures;
+    }

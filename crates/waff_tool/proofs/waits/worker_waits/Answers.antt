@@ -1,0 +1,35 @@
+use Rattle.std.proofs.Common.{◌≡◌, ℕ, List, Some, string_bytes, subst}
+use Rattle.std.proofs.lemmas.Result.{IfOk-weaker}
+use Rattle.waff_plan.specs.Timetable.{Timetable}
+use Rattle.waff_plan.specs.Timing.{start_of, work_of}
+use Rattle.waff_inputs.specs.Inputs.{Accepts}
+use Rattle.waff_tool.specs.PlanText.{work_in}
+use Rattle.waff_tool.specs.WaitsText.{IsWaitsText}
+use Rattle.waff_tool.proofs.WaitsTexts.{IsTold, told_text}
+use Rattle.waff_tool.proofs.waits.worker_waits.Goals as goal
+
+pub returns : goal.returns
+returns c =
+    let made = c.in_ok-made.made in
+    let layout = c.args.accepted.now.layout in
+    let trace = c.args.accepted.now.trace in
+    let assigned = c.args.accepted.now.assigned in
+    let by_name = c.args.by_name in
+    let k = c.args.k in
+    let tree = c.tree-tree.ensures in
+    let timings = c.in_ok-made.ensures.timings in
+    let plan = c.needs_make_the_same_plans.ensures c.tree-tree.result.now assigned c.in_ok-needs.needs
+    (work_of made.table.timings) k (start_of made.table.starts) c.in_ok-needs.ensures.needs
+    c.in_ok-made.ensures.follows in
+    let list = rw (tree, timings) at plan in
+    let adds = c.ticks_add_up.ensures layout.tree assigned (work_in trace) in
+    IfOk-weaker c.waiting_text-text.result
+    (λ text. IsTold by_name c.tree-tree.result.now assigned trace.messages c.plan.result.now.timings c.plan.result.now.starts (string_bytes text))
+    (λ text. (hierarchy trace_file : List ℕ) → Accepts hierarchy trace_file layout trace assigned
+    → IsWaitsText hierarchy trace_file (Some k) by_name (string_bytes text))
+    (λ text told hierarchy trace_file accepts.
+    told_text hierarchy trace_file (Some k) by_name layout trace assigned made.table.starts (string_bytes text) accepts adds list
+    (subst (λ ts. IsTold by_name layout.tree assigned trace.messages ts made.table.starts (string_bytes text)) timings
+    (subst (λ (table : Timetable). IsTold by_name layout.tree assigned trace.messages table.timings table.starts (string_bytes text)) c.plan.ensures.plan
+    (subst (λ t. IsTold by_name t assigned trace.messages c.plan.result.now.timings c.plan.result.now.starts (string_bytes text)) tree told))))
+    c.waiting_text-text.ensures

@@ -1,0 +1,149 @@
+-- What is printed of several hierarchies that serve one trace.
+use Rattle.std.specs.Prelude.{◌≡◌, ℕ, ◌+◌, ◌<◌, List, [], ◌∷◌, Some, Ok, Err, All, codes, decimal}
+use Rattle.std.specs.Prelude.{length, slice_index_or, take}
+use Rattle.std.specs.List.{AllZip}
+use Rattle.waff_model.specs.Layout.{Hierarchy}
+use Rattle.waff_model.specs.Messages.{Arrivals}
+use Rattle.waff_read.specs.Hierarchies.{hierarchy_of}
+use Rattle.waff_read.specs.Traces.{trace_of}
+use Rattle.waff_read.specs.declared.hier_error.HierError.{HierError}
+use Rattle.waff_read.specs.declared.trace_fault.TraceError.{TraceError}
+use Rattle.waff_assign.specs.Order.{IsOrdered}
+use Rattle.waff_plan.specs.Obeys.{IsLeast}
+use Rattle.waff_plan.specs.Timing.{start_of}
+use Rattle.waff_plan.specs.Work.{length_of}
+use Rattle.waff_plan_text.specs.Lines.{text_of}
+use Rattle.waff_figures.specs.Sweep.{IsListed, quality_fields}
+use Rattle.waff_figures.specs.declared.figures.Figures.{Figures}
+use Rattle.waff_inputs.specs.Inputs.{Accepts, TellsOfFiles}
+use Rattle.waff_inputs.specs.declared.fault.ToolError.{ToolError}
+use Rattle.waff_inputs.specs.declared.fault.ToolError.TheVariants as tool
+use Rattle.waff_tool.specs.Comparison.{kind_field}
+use Rattle.waff_tool.specs.Figures.{IsSweepText}
+use Rattle.waff_tool.specs.PlanText.{work_in}
+use Rattle.waff_tool.specs.declared.ranks.Ranked.{Ranked}
+
+-- what is told of a trace under a hierarchy: its model, how many affinities it has, how long its
+-- least plan is, and the figures of the list plan for k workers
+pub record IsRankedUnder (layout : Hierarchy) (trace : Arrivals) (assigned : List ℕ) (k : ℕ)
+    (ranked : Ranked) : Type 0 where
+  pub starts : List ℕ
+  pub kind : ranked.kind ≡ layout.kind
+  pub affinities : ranked.affinities ≡ length layout.tree
+  pub least : IsLeast (IsOrdered layout.tree assigned) (work_in trace) (start_of starts)
+  pub shortest : ranked.length ≡ length_of (work_in trace) (start_of starts)
+  pub listed : IsListed (IsOrdered layout.tree assigned) (work_in trace) ranked.length ranked.listed
+  pub workers : ranked.listed.workers ≡ Some k
+
+-- what is told of the bytes of a trace under those of a hierarchy
+pub record IsRanked (trace_file : List ℕ) (k : ℕ) (hierarchy_file : List ℕ)
+    (ranked : Ranked) : Type 0 where
+  pub layout : Hierarchy
+  pub trace : Arrivals
+  pub assigned : List ℕ
+  pub accepts : Accepts hierarchy_file trace_file layout trace assigned
+  pub under : IsRankedUnder layout trace assigned k ranked
+
+abbrev pub rank_header : List (List ℕ)
+rank_header =
+    codes "hierarchy" ∷ codes "model" ∷ codes "affinities"
+    ∷ codes "length" ∷ codes "list" ∷ codes "least" ∷ codes "over" ∷ codes "waits"
+    ∷ codes "mean" ∷ codes "p50" ∷ codes "p99" ∷ codes "latency" ∷ []
+
+-- the line of the hierarchy of this number
+abbrev pub rank_row : ℕ → Ranked → List (List ℕ)
+rank_row number ranked =
+    decimal number
+    ∷ kind_field ranked.kind
+    ∷ decimal ranked.affinities
+    ∷ decimal ranked.length
+    ∷ decimal ranked.listed.length
+    ∷ quality_fields ranked.listed
+
+-- the lines of hierarchies, of which the first has this number
+abbrev pub rank_rows : ℕ → List Ranked → List (List (List ℕ))
+rank_rows number [] = []
+rank_rows number (ranked ∷ more) = rank_row number ranked ∷ rank_rows (number + 1) more
+
+-- the text of the hierarchies of these files, in their order, that serve a trace
+pub record IsRankText (files : List (List ℕ)) (trace_file : List ℕ) (k : ℕ)
+    (text : List ℕ) : Type 0 where
+  pub ranks : List Ranked
+  pub each : AllZip (IsRanked trace_file k) files ranks
+  pub lines : text ≡ text_of (rank_header ∷ rank_rows 1 ranks)
+
+-- files that are these hierarchies
+abbrev pub AreRead : List (List ℕ) → List Hierarchy → Type 0
+AreRead files layouts = AllZip (λ file layout. hierarchy_of file ≡ Ok layout) files layouts
+
+-- the file of this place, from 0
+abbrev pub file_at : List (List ℕ) → ℕ → List ℕ
+file_at files at = slice_index_or files at []
+
+-- bytes that are a hierarchy
+abbrev pub IsHierarchy : List ℕ → Type 0
+IsHierarchy file = (layout : Hierarchy) × (hierarchy_of file ≡ Ok layout)
+
+-- bytes that are a hierarchy under which a trace is accepted
+abbrev pub Admits : List ℕ → List ℕ → Type 0
+Admits trace_file file =
+    (layout : Hierarchy) × (trace : Arrivals)
+    × (hierarchy_of file ≡ Ok layout) × (trace_of layout.spaces trace_file ≡ Ok trace)
+
+-- bytes that are a hierarchy under which a trace is refused
+abbrev pub Refutes : List ℕ → TraceError → List ℕ → Type 0
+Refutes trace_file fault file =
+    (layout : Hierarchy)
+    × (hierarchy_of file ≡ Ok layout) × (trace_of layout.spaces trace_file ≡ Err fault)
+
+-- the first of the files that is no hierarchy: its number, from 1, and its fault
+pub record IsFirstRefused (files : List (List ℕ)) (number : ℕ) (fault : HierError) : Type 0 where
+  pub at : ℕ
+  pub number_is : number ≡ at + 1
+  pub within : at < length files
+  pub before : All IsHierarchy (take at files)
+  pub refused : hierarchy_of (file_at files at) ≡ Err fault
+
+-- all of the files are hierarchies, and the fault is that of the first under which the trace is
+-- refused
+pub record IsFirstRefuted (files : List (List ℕ)) (trace_file : List ℕ)
+    (fault : TraceError) : Type 0 where
+  pub hierarchies : All IsHierarchy files
+  pub at : ℕ
+  pub within : at < length files
+  pub before : All (Admits trace_file) (take at files)
+  pub refuted : Refutes trace_file fault (file_at files at)
+
+-- an error tells the first of the faults: of the hierarchies in their order, and then of the trace
+-- under each in order; want of memory and a writer's fault tell nothing of the files
+abbrev pub RefusesRank : List (List ℕ) → List ℕ → ToolError → Type 0
+RefusesRank files trace_file (tool.Hier number fault) = IsFirstRefused files number fault
+RefusesRank files trace_file (tool.Trace fault) = IsFirstRefuted files trace_file fault
+RefusesRank files trace_file tool.Write = Unit {0}
+RefusesRank files trace_file tool.Memory = Unit {0}
+RefusesRank files trace_file error = ⊥
+
+-- two texts of the same hierarchies and trace are equal
+abbrev pub RankTextIsOne : List (List ℕ) → List ℕ → ℕ → Type 0
+RankTextIsOne files trace_file k =
+    (text other : List ℕ) → IsRankText files trace_file k text
+    → IsRankText files trace_file k other → text ≡ other
+
+-- two errors that tell why hierarchies and a trace are refused are equal
+abbrev pub RankRefusalIsOne : List (List ℕ) → List ℕ → Type 0
+RankRefusalIsOne files trace_file =
+    (one other : ToolError) → TellsOfFiles one → TellsOfFiles other
+    → RefusesRank files trace_file one → RefusesRank files trace_file other → one ≡ other
+
+-- files that have a text are refused for no error that tells of them
+abbrev pub RankedIsNotRefused : List (List ℕ) → List ℕ → Type 0
+RankedIsNotRefused files trace_file =
+    (k : ℕ) (text : List ℕ) (error : ToolError) → IsRankText files trace_file k text
+    → TellsOfFiles error → ¬ RefusesRank files trace_file error
+
+-- the figures of a hierarchy are those that a sweep for as many workers tells of it
+abbrev pub IsRankedAsSwept : List ℕ → List ℕ → Type 0
+IsRankedAsSwept hierarchy_file trace_file =
+    (k : ℕ) (ranked : Ranked) (text : List ℕ) → IsRanked trace_file k hierarchy_file ranked
+    → (swept : IsSweepText hierarchy_file trace_file (k ∷ []) text)
+    → swept.listed ≡ ranked.listed ∷ []

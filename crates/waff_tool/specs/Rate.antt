@@ -1,0 +1,69 @@
+-- What `rate` tells of a plan that is handed in.
+use Rattle.std.specs.Prelude.{◌≡◌, ℕ, List, Option, ◌∷◌, Contains, codes}
+use Rattle.waff_assign.specs.Order.{IsOrdered, Relation}
+use Rattle.waff_plan.specs.Bound.{IsWorkers}
+use Rattle.waff_plan.specs.Obeys.{IsLeast}
+use Rattle.waff_plan.specs.Timing.{start_of}
+use Rattle.waff_plan.specs.Work.{Work, length_of}
+use Rattle.waff_plan_text.specs.Lines.{text_of}
+use Rattle.waff_check.specs.Verdicts.{starts_of}
+use Rattle.waff_check.specs.declared.verdict.Verdict.{Verdict}
+use Rattle.waff_figures.specs.Figures.{AreFigures}
+use Rattle.waff_figures.specs.Rate.{rate_lines}
+use Rattle.waff_figures.specs.declared.figures.Figures.{Figures}
+use Rattle.waff_tool.specs.CheckText.{IsCheckText, verdict_fields}
+use Rattle.waff_tool.specs.Figures.{IsSweepText}
+use Rattle.waff_tool.specs.PlanText.{IsPlanText, IsWorkerPlanText, work_in}
+
+-- the figures of a plan with these starts, whoever made it, against the least plan
+pub record AreRated (before : Relation) (work : Work) (limit : Option ℕ) (start : ℕ → ℕ)
+    (figures : Figures) : Type 0 where
+  pub starts : List ℕ
+  pub least : IsLeast before work (start_of starts)
+  pub are_figures : AreFigures limit work (length_of work (start_of starts)) start figures
+
+-- the lines of a verdict and of the figures of a plan
+abbrev pub rated_lines : Verdict → Figures → List (List (List ℕ))
+rated_lines v figures = (codes "verdict" ∷ verdict_fields v) ∷ rate_lines figures
+
+-- the text that tells the verdict of `check` on the plan of a text, and the figures of the starts
+-- in its rows for the number of workers that it says
+pub record IsRateText (hierarchy_file trace_file plan_file : List ℕ) (v : Verdict)
+    (text : List ℕ) : Type 0 where
+  pub checked : IsCheckText hierarchy_file trace_file plan_file v
+  pub figures : Figures
+  pub rated : AreRated (IsOrdered checked.layout.tree checked.assigned) (work_in checked.trace)
+      checked.given.summary.workers (start_of (starts_of checked.given)) figures
+  pub lines : text ≡ text_of (rated_lines v figures)
+
+-- two texts that tell how good the plan of a text is are equal
+abbrev pub RateTextIsOne : List ℕ → List ℕ → List ℕ → Type 0
+RateTextIsOne hierarchy_file trace_file plan_file =
+    (one other : Verdict) (text another : List ℕ)
+    → IsRateText hierarchy_file trace_file plan_file one text
+    → IsRateText hierarchy_file trace_file plan_file other another → text ≡ another
+
+-- the verdict is that of `check`
+abbrev pub RatedIsChecked : List ℕ → List ℕ → List ℕ → Type 0
+RatedIsChecked hierarchy_file trace_file plan_file =
+    (one other : Verdict) (text : List ℕ)
+    → IsRateText hierarchy_file trace_file plan_file one text
+    → IsCheckText hierarchy_file trace_file plan_file other → one ≡ other
+
+-- of the text of a plan without workers the figures are those of the last line of a sweep
+abbrev pub OwnPlanIsSwept : List ℕ → List ℕ → Type 0
+OwnPlanIsSwept hierarchy_file trace_file =
+    (plan_file workers text sweep : List ℕ) (v : Verdict)
+    → IsPlanText hierarchy_file trace_file plan_file
+    → (rate : IsRateText hierarchy_file trace_file plan_file v text)
+    → (swept : IsSweepText hierarchy_file trace_file workers sweep)
+    → rate.figures ≡ swept.unlimited
+
+-- of the text of a plan for k workers they are those of a line of a sweep
+abbrev pub OwnWorkerPlanIsSwept : List ℕ → List ℕ → Type 0
+OwnWorkerPlanIsSwept hierarchy_file trace_file =
+    (k : ℕ) (plan_file workers text sweep : List ℕ) (v : Verdict) → IsWorkers k
+    → Contains workers k → IsWorkerPlanText hierarchy_file trace_file k plan_file
+    → (rate : IsRateText hierarchy_file trace_file plan_file v text)
+    → (swept : IsSweepText hierarchy_file trace_file workers sweep)
+    → Contains swept.listed rate.figures

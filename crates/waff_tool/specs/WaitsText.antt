@@ -1,0 +1,50 @@
+-- What `waits` prints for the bytes of its files.
+use Rattle.std.specs.Prelude.{◌≡◌, ℕ, Bool, List, Option, Some, None, sum_by}
+use Rattle.waff_model.specs.Layout.{Hierarchy}
+use Rattle.waff_model.specs.Messages.{Arrivals}
+use Rattle.waff_assign.specs.Order.{IsOrdered, Relation}
+use Rattle.waff_plan.specs.Obeys.{IsLeast}
+use Rattle.waff_plan.specs.Timing.{start_of}
+use Rattle.waff_plan.specs.Work.{Work}
+use Rattle.waff_list.specs.ListRule.{IsListPlan}
+use Rattle.waff_plan_text.specs.Lines.{text_of}
+use Rattle.waff_figures.specs.ByName.{message_names}
+use Rattle.waff_figures.specs.Figures.{waits_of}
+use Rattle.waff_figures.specs.Waits.{AreWaits}
+use Rattle.waff_figures.specs.WaitRows.{AreRows}
+use Rattle.waff_figures.specs.WaitText.{are_alike, waits_lines}
+use Rattle.waff_figures.specs.declared.wait_rows.Row.{Row}
+use Rattle.waff_figures.specs.declared.waits.Wait.{Wait}
+use Rattle.waff_inputs.specs.Inputs.{Accepts}
+use Rattle.waff_tool.specs.PlanText.{work_in}
+
+-- the list plan for this number of workers, or the least plan where there is no number
+abbrev pub IsPlanFor : Relation → Work → Option ℕ → (ℕ → ℕ) → Type 0
+IsPlanFor before work None start = IsLeast before work start
+IsPlanFor before work (Some k) start = IsListPlan before work k start
+
+-- the text of who waits for whom in the plan for this number of workers or without: a line for each
+-- kind of wait, by affinity or by name, whose ticks add up to how long all messages wait
+pub record IsWaitsText (hierarchy_file trace_file : List ℕ) (workers : Option ℕ) (by_name : Bool)
+    (text : List ℕ) : Type 0 where
+  pub layout : Hierarchy
+  pub trace : Arrivals
+  pub assigned : List ℕ
+  pub starts : List ℕ
+  pub waits : List Wait
+  pub rows : List Row
+  pub accepts : Accepts hierarchy_file trace_file layout trace assigned
+  pub planned : IsPlanFor (IsOrdered layout.tree assigned)
+      (work_in trace) workers (start_of starts)
+  pub are_waits : AreWaits (IsOrdered layout.tree assigned)
+      (work_in trace) (start_of starts) waits
+  pub are_rows : AreRows (are_alike by_name assigned (message_names trace.messages)) waits rows
+  pub adds_up : sum_by (λ row. row.ticks) rows ≡ waits_of (work_in trace) (start_of starts)
+  pub lines : text ≡ text_of
+      (waits_lines by_name layout.tree assigned (message_names trace.messages) rows)
+
+-- two texts of who waits for whom are equal
+abbrev pub WaitsTextIsOne : List ℕ → List ℕ → Option ℕ → Bool → Type 0
+WaitsTextIsOne hierarchy_file trace_file workers by_name =
+    (text other : List ℕ) → IsWaitsText hierarchy_file trace_file workers by_name text
+    → IsWaitsText hierarchy_file trace_file workers by_name other → text ≡ other

@@ -1,0 +1,296 @@
+//! The command that ranks several hierarchies on one trace.
+ghost use Rattle.std.specs.Prelude.{◌≡◌, ◌≢◌, ◌<◌, ◌≤◌, ◌+◌, ◌++◌, ◌∷◌, Ok, ℕ, All, List, IfOk, IfErr};
+ghost use Rattle.std.specs.Prelude.{[], IsErrOf, OnOk, length, map, string_bytes};
+ghost use Rattle.std.specs.List.{AllZip};
+ghost use Rattle.std.specs.Io.KnownBytes.{Appends, Keeps};
+ghost use Rattle.waff_model.specs.Messages.{sizes_of};
+ghost use Rattle.waff_read.specs.Hierarchies.{hierarchy_of};
+ghost use Rattle.waff_assign.specs.Lowest.{IsAssignment};
+ghost use Rattle.waff_plan_text.specs.Lines.{line_text, text_of};
+ghost use Rattle.waff_inputs.specs.Deliveries.{Delivers, Makes};
+ghost use Rattle.waff_inputs.specs.Inputs.{Refuses};
+ghost use Rattle.waff_io.specs.Writing.{AppendsPart};
+ghost use Rattle.waff_tool.specs.Comparison.{kind_field};
+ghost use Rattle.waff_tool.specs.Ranks.{AreRead, IsRanked, IsRankedAsSwept, IsRankedUnder};
+ghost use Rattle.waff_tool.specs.Ranks.{IsRankText, RankRefusalIsOne, RankTextIsOne};
+ghost use Rattle.waff_tool.specs.Ranks.{RankedIsNotRefused, RefusesRank, rank_header, rank_row};
+ghost use Rattle.waff_tool.specs.Ranks.{rank_rows};
+
+use crate::measures::kind_name;
+use std::alloc::{AllocError, Global};
+use std::io::Write;
+use waff_assign::{Assigned, assign};
+use waff_figures::{Figures, QualityFields, list_figures_for};
+use waff_inputs::{ToolError, deliver, read_numbered};
+use waff_model::limits::MAX_WORKERS;
+use waff_model::{Kind, Layout, Trace};
+use waff_plan::unlimited::plan;
+use waff_read::read_trace;
+
+/// Hierarchies that are ranked.
+pub const MAX_RANKED: usize = 64;
+
+/// What is told of a trace under one of several hierarchies.
+#[derive(Clone, Copy)]
+pub struct Ranked {
+    pub kind: Kind,
+    /// How many affinities the hierarchy has.
+    pub affinities: u32,
+    /// How long the unlimited plan is.
+    pub length: u64,
+    /// The figures of the list plan.
+    pub listed: Figures,
+}
+
+/// Writes what the trace comes to under each of these hierarchies, for this number of workers.
+/// Nothing is written before the whole text is made.
+pub fn rank_text<W: Write>(
+    alloc: Global,
+    hierarchies: &[Vec<u8>],
+    trace: &[u8],
+    workers: u32,
+    writer: &mut W,
+) -> Result<(), ToolError>
+    requires files { length hierarchies.now ≤ MAX_RANKED }
+    requires some { 1 ≤ workers }
+    requires few { workers ≤ MAX_WORKERS }
+    ensures { Delivers (λ _ text.
+        IsRankText (map (λ file. file.items) hierarchies.now) trace.now workers text)
+        (RefusesRank (map (λ file. file.items) hierarchies.now) trace.now)
+        (W.contents writer.old) (W.contents writer.new) result }
+{
+    deliver(writer, made_rank_text(alloc, hierarchies, trace, workers))
+}
+
+fn made_rank_text(
+    alloc: Global,
+    hierarchies: &[Vec<u8>],
+    trace: &[u8],
+    workers: u32,
+) -> Result<String, ToolError>
+    requires files { length hierarchies.now ≤ MAX_RANKED }
+    requires some { 1 ≤ workers }
+    requires few { workers ≤ MAX_WORKERS }
+    ensures { Makes (λ text. IsRankText
+        (map (λ file. file.items) hierarchies.now) trace.now workers (string_bytes text))
+        (RefusesRank (map (λ file. file.items) hierarchies.now) trace.now) result }
+{
+    let layouts = read_hierarchies(alloc, hierarchies)?;
+    let text = text_under_all(alloc, layouts.as_slice(), trace, workers);
+    drop(layouts);
+    text
+}
+
+/// The hierarchies of these files, in their order.
+fn read_hierarchies(alloc: Global, files: &[Vec<u8>]) -> Result<Vec<Layout>, ToolError>
+    requires { length files.now ≤ MAX_RANKED }
+    ensures read { IfOk result (λ layouts.
+        AreRead (map (λ file. file.items) files.now) layouts.items) }
+    ensures refused { IfErr result (λ e. (trace_file : List ℕ)
+        → RefusesRank (map (λ file. file.items) files.now) trace_file e) }
+    ensures nothing { IfErr result (λ e. e ≢ ToolError.Write) }
+{
+    let mut layouts = Vec::with_capacity(alloc, files.len())?;
+    for file in files {
+        let number = layouts.len() as u8 + 1;
+        let layout = read_numbered(alloc, number, file)?;
+        keep(&mut layouts, layout)?;
+    }
+    Ok(layouts)
+}
+
+/// Appends a hierarchy.
+fn keep(layouts: &mut Vec<Layout>, layout: Layout) -> Result<(), AllocError>
+    ensures { OnOk result (layouts.new.items ≡ layouts.old.items ++ layout ∷ []) }
+{
+    layouts.push(layout)?;
+    Ok(())
+}
+
+/// The text of the trace under these hierarchies.
+fn text_under_all(
+    alloc: Global,
+    layouts: &[Layout],
+    trace: &[u8],
+    k: u32,
+) -> Result<String, ToolError>
+    requires some { 1 ≤ k }
+    requires few { k ≤ MAX_WORKERS }
+    ensures made { IfOk result (λ text. (files : List (List ℕ)) → AreRead files layouts.now
+        → IsRankText files trace.now k (string_bytes text)) }
+    ensures refused { IfErr result (λ e. (files : List (List ℕ)) → AreRead files layouts.now
+        → RefusesRank files trace.now e) }
+    ensures nothing { IfErr result (λ e. e ≢ ToolError.Write) }
+{
+    let ranks = rank_all(alloc, layouts, trace, k)?;
+    let text = ranks_text(alloc, ranks.as_slice());
+    drop(ranks);
+    text.map_err(ToolError::from)
+}
+
+/// What is told of the trace under each of these hierarchies.
+fn rank_all(
+    alloc: Global,
+    layouts: &[Layout],
+    trace: &[u8],
+    k: u32,
+) -> Result<Vec<Ranked>, ToolError>
+    requires some { 1 ≤ k }
+    requires few { k ≤ MAX_WORKERS }
+    ensures made { IfOk result (λ ranks. (files : List (List ℕ)) → AreRead files layouts.now
+        → AllZip (IsRanked trace.now k) files ranks.items) }
+    ensures refused { IfErr result (λ e. (files : List (List ℕ)) → AreRead files layouts.now
+        → RefusesRank files trace.now e) }
+    ensures nothing { IfErr result (λ e. e ≢ ToolError.Write) }
+{
+    let mut ranks = Vec::with_capacity(alloc, layouts.len())?;
+    for layout in layouts {
+        let ranked = rank(alloc, layout, trace, k)?;
+        keep_rank(&mut ranks, ranked)?;
+    }
+    Ok(ranks)
+}
+
+/// Appends what is told of one.
+fn keep_rank(ranks: &mut Vec<Ranked>, ranked: Ranked) -> Result<(), AllocError>
+    ensures { OnOk result (ranks.new.items ≡ ranks.old.items ++ ranked ∷ []) }
+{
+    ranks.push(ranked)?;
+    Ok(())
+}
+
+/// What is told of the trace under a hierarchy.
+fn rank(alloc: Global, layout: &Layout, trace: &[u8], k: u32) -> Result<Ranked, ToolError>
+    requires some { 1 ≤ k }
+    requires few { k ≤ MAX_WORKERS }
+    ensures made { IfOk result (λ ranked. (file : List ℕ) → hierarchy_of file ≡ Ok layout.now
+        → IsRanked trace.now k file ranked) }
+    ensures refused { IfErr result (λ e. (file : List ℕ) → hierarchy_of file ≡ Ok layout.now
+        → Refuses file trace.now e) }
+    ensures nothing { IfErr result (λ e. e ≢ ToolError.Write) }
+{
+    match read_trace(alloc, layout, trace) {
+        Ok(trace) => {
+            let ranked = rank_assigned(alloc, layout, &trace, k);
+            drop(trace);
+            ranked.map_err(ToolError::from)
+        }
+        Err(fault) => Err(ToolError::from(fault)),
+    }
+}
+
+/// What is told of the trace that was read under a hierarchy.
+fn rank_assigned(
+    alloc: Global,
+    layout: &Layout,
+    trace: &Trace,
+    k: u32,
+) -> Result<Ranked, AllocError>
+    requires fits { trace.now.sizes ≡ sizes_of layout.now.spaces }
+    requires some { 1 ≤ k }
+    requires few { k ≤ MAX_WORKERS }
+    ensures { IfOk result (λ ranked. (assigned : List ℕ)
+        × IsAssignment layout.now trace.now.messages assigned
+        × IsRankedUnder layout.now trace.now assigned k ranked) }
+{
+    let assigned = assign(alloc, layout, trace)?;
+    let ranked = rank_planned(alloc, layout, &assigned, trace, k);
+    drop(assigned);
+    ranked
+}
+
+/// What is told of the trace with these affinities.
+fn rank_planned(
+    alloc: Global,
+    layout: &Layout,
+    assigned: &Assigned,
+    trace: &Trace,
+    k: u32,
+) -> Result<Ranked, AllocError>
+    requires lengths { length assigned.now ≡ length trace.now.messages }
+    requires known { All (λ a. a < length layout.now.tree) assigned.now }
+    requires some { 1 ≤ k }
+    requires few { k ≤ MAX_WORKERS }
+    ensures { IfOk result (IsRankedUnder layout.now trace.now assigned.now k) }
+{
+    let tree = layout.tree();
+    let plan = plan(alloc, tree, assigned, trace)?;
+    let listed = list_figures_for(alloc, tree, assigned, trace, &plan, k)?;
+    let ranked = Ranked {
+        kind: layout.kind(),
+        affinities: tree.len(),
+        length: plan.length(),
+        listed,
+    };
+    drop(plan);
+    Ok(ranked)
+}
+
+/// The lines of hierarchies.
+fn ranks_text(alloc: Global, ranks: &[Ranked]) -> Result<String, AllocError>
+    ensures { IfOk result (λ text.
+        string_bytes text ≡ text_of (rank_header ∷ rank_rows 1 ranks.now)) }
+{
+    let mut text = String::new(alloc);
+    text.push_str(
+        "hierarchy,model,affinities,length,list,least,over,waits,mean,p50,p99,latency\n",
+    )?;
+    push_ranks(&mut text, ranks)?;
+    Ok(text)
+}
+
+/// Appends the lines of these hierarchies, numbered from 1.
+fn push_ranks(text: &mut String, ranks: &[Ranked]) -> Result<(), AllocError>
+    ensures { OnOk result (string_bytes text.new ≡ string_bytes text.old
+        ++ text_of (rank_rows 1 ranks.now)) }
+{
+    for i in 0..ranks.len() {
+        push_ranked(text, i + 1, &ranks[i])?;
+    }
+    Ok(())
+}
+
+/// Appends the line of the hierarchy of this number.
+fn push_ranked(text: &mut String, number: usize, ranked: &Ranked) -> Result<(), AllocError>
+    ensures { OnOk result (string_bytes text.new ≡ string_bytes text.old
+        ++ line_text (rank_row number ranked.now)) }
+{
+    let Ranked {
+        affinities,
+        length,
+        listed,
+        ..
+    } = *ranked;
+    let kind = kind_name(ranked.kind);
+    let list = listed.length;
+    let quality = QualityFields(listed);
+    writeln!(
+        text,
+        "{number},{kind},{affinities},{length},{list},{quality}"
+    )
+}
+
+/// The text of hierarchies that are ranked on a trace is one.
+pub fn rank_text_is_one()
+    ensures equal { (files : List (List ℕ)) (trace_file : List ℕ) (k : ℕ)
+        → RankTextIsOne files trace_file k }
+{}
+
+/// The error that tells why hierarchies and a trace are refused is one.
+pub fn rank_refusal_is_one()
+    ensures equal { (files : List (List ℕ)) (trace_file : List ℕ)
+        → RankRefusalIsOne files trace_file }
+{}
+
+/// Hierarchies that are ranked on a trace are not refused, but for want of memory or a writer's
+/// fault.
+pub fn ranked_is_not_refused()
+    ensures none { (files : List (List ℕ)) (trace_file : List ℕ)
+        → RankedIsNotRefused files trace_file }
+{}
+
+/// What is told of the list plan under a hierarchy is what a sweep for as many workers tells of it.
+pub fn is_ranked_as_swept()
+    ensures equal { (hierarchy_file trace_file : List ℕ)
+        → IsRankedAsSwept hierarchy_file trace_file }
+{}

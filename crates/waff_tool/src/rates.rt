@@ -1,0 +1,154 @@
+//! How good a plan is, whoever made it.
+ghost use Rattle.std.specs.Prelude.{◌≡◌, ◌≢◌, ◌<◌, ℕ, All, List, IfOk, IfErr, IsErrOf, OnOk};
+ghost use Rattle.std.specs.Prelude.{length, string_bytes};
+ghost use Rattle.std.specs.Io.KnownBytes.{Appends, Keeps};
+ghost use Rattle.waff_assign.specs.Order.{IsOrdered};
+ghost use Rattle.waff_plan.specs.Timing.{start_of, work_of};
+ghost use Rattle.waff_plan.specs.Timetable.{timings_of};
+ghost use Rattle.waff_plan_text.specs.Lines.{text_of};
+ghost use Rattle.waff_check.specs.Verdicts.{starts_of};
+ghost use Rattle.waff_inputs.specs.Deliveries.{Delivers, Makes};
+ghost use Rattle.waff_inputs.specs.Inputs.{Accepts};
+ghost use Rattle.waff_io.specs.Writing.{AppendsPart};
+ghost use Rattle.waff_tool.specs.CheckText.{RefusesCheck};
+ghost use Rattle.waff_tool.specs.Rate.{AreRated, IsRateText, OwnPlanIsSwept, OwnWorkerPlanIsSwept};
+ghost use Rattle.waff_tool.specs.Rate.{RateTextIsOne, RatedIsChecked, rated_lines};
+
+use crate::verdict_line::VerdictFields;
+use std::alloc::{AllocError, Global};
+use std::io::Write;
+use std::thread::Threads;
+use waff_assign::Assigned;
+use waff_check::{GivenPlan, Verdict, check, read_plan};
+use waff_figures::{Figures, figures_of, push_rate};
+use waff_inputs::{Accepted, ToolError, accept, write_text};
+use waff_model::{Trace, Tree};
+use waff_plan::unlimited::plan;
+
+/// The verdict on a plan, and the text that tells how good the plan is.
+#[derive(Drop)]
+struct Rating {
+    verdict: Verdict,
+    text: String,
+}
+
+/// Writes how good the plan is that the text gives for the trace under the hierarchy, whatever the
+/// verdict on it, and answers the verdict. Nothing is written before the whole text is made.
+pub fn rate_text<R: Threads + Sync, W: Write>(
+    rt: &R,
+    alloc: Global,
+    hierarchy: &[u8],
+    trace: &[u8],
+    plan: &[u8],
+    writer: &mut W,
+) -> Result<Verdict, ToolError>
+    ensures { Delivers (IsRateText hierarchy.now trace.now plan.now)
+        (RefusesCheck hierarchy.now trace.now plan.now)
+        (W.contents writer.old) (W.contents writer.new) result }
+{
+    let rating = made_rating(rt, alloc, hierarchy, trace, plan)?;
+    write_text(writer, rating.text.as_bytes())?;
+    Ok(rating.verdict)
+}
+
+/// The rating of the plan of the text. The hierarchy is read first, then the trace.
+fn made_rating<R: Threads + Sync>(
+    rt: &R,
+    alloc: Global,
+    hierarchy: &[u8],
+    trace: &[u8],
+    plan: &[u8],
+) -> Result<Rating, ToolError>
+    ensures { Makes (λ rating. IsRateText hierarchy.now trace.now plan.now
+        rating.verdict (string_bytes rating.text))
+        (RefusesCheck hierarchy.now trace.now plan.now) result }
+{
+    let accepted = accept(alloc, hierarchy, trace)?;
+    let rating = rating_on(rt, alloc, &accepted, plan);
+    drop(accepted);
+    rating
+}
+
+/// The rating of the plan of the text for what was read.
+fn rating_on<R: Threads + Sync>(
+    rt: &R,
+    alloc: Global,
+    accepted: &Accepted,
+    plan: &[u8],
+) -> Result<Rating, ToolError>
+    ensures made { IfOk result (λ rating. (hierarchy trace : List ℕ)
+        → Accepts hierarchy trace accepted.now.layout accepted.now.trace accepted.now.assigned
+        → IsRateText hierarchy trace plan.now rating.verdict (string_bytes rating.text)) }
+    ensures refused { IfErr result (λ e. (hierarchy trace : List ℕ)
+        → Accepts hierarchy trace accepted.now.layout accepted.now.trace accepted.now.assigned
+        → RefusesCheck hierarchy trace plan.now e) }
+    ensures nothing { IfErr result (λ e. e ≢ ToolError.Write) }
+{
+    let trace = &accepted.trace;
+    let given = read_plan(alloc, trace.version(), trace.len(), plan)?;
+    let tree = accepted.layout.tree();
+    let verdict = check(rt, alloc, tree, &accepted.assigned, trace, &given)?;
+    let figures = given_figures(alloc, tree, &accepted.assigned, trace, &given)?;
+    drop(given);
+    let text = rated_text(alloc, verdict, &figures)?;
+    Ok(Rating { verdict, text })
+}
+
+/// The figures of a plan that is given, of the starts in its rows, for the number of workers that
+/// its summary tells.
+fn given_figures(
+    alloc: Global,
+    tree: &Tree,
+    assigned: &Assigned,
+    trace: &Trace,
+    given: &GivenPlan,
+) -> Result<Figures, AllocError>
+    requires lengths { length assigned.now ≡ length trace.now.messages }
+    requires known { All (λ a. a < length tree.now) assigned.now }
+    requires rows { length given.now.rows ≡ length trace.now.messages }
+    ensures { IfOk result (AreRated (IsOrdered tree.now assigned.now)
+        (work_of (timings_of trace.now.messages))
+        given.now.summary.workers (start_of (starts_of given.now))) }
+{
+    let _rows = given.len();
+    let unlimited = plan(alloc, tree, assigned, trace)?;
+    let shortest = unlimited.length();
+    drop(unlimited);
+    let handed = given.plan(alloc, trace)?;
+    let figures = figures_of(alloc, &handed, given.workers(), shortest)?;
+    Ok(figures)
+}
+
+/// The text of a rating.
+fn rated_text(alloc: Global, verdict: Verdict, figures: &Figures) -> Result<String, AllocError>
+    ensures { IfOk result (λ text. string_bytes text ≡ text_of (rated_lines verdict figures.now)) }
+{
+    let mut text = String::new(alloc);
+    writeln!(text, "verdict,{}", VerdictFields(verdict))?;
+    push_rate(&mut text, figures)?;
+    Ok(text)
+}
+
+/// The text that rates a plan text of a hierarchy and a trace is one.
+pub fn rate_text_is_one()
+    ensures equal { (hierarchy_file trace_file plan_file : List ℕ)
+        → RateTextIsOne hierarchy_file trace_file plan_file }
+{}
+
+/// The verdict that it tells is that of the check.
+pub fn rated_is_checked()
+    ensures equal { (hierarchy_file trace_file plan_file : List ℕ)
+        → RatedIsChecked hierarchy_file trace_file plan_file }
+{}
+
+/// The figures of the plan that is printed without workers are those of the last line of a sweep.
+pub fn own_plan_is_swept()
+    ensures equal { (hierarchy_file trace_file : List ℕ)
+        → OwnPlanIsSwept hierarchy_file trace_file }
+{}
+
+/// The figures of the plan that is printed for k workers are those of a line for k.
+pub fn own_worker_plan_is_swept()
+    ensures equal { (hierarchy_file trace_file : List ℕ)
+        → OwnWorkerPlanIsSwept hierarchy_file trace_file }
+{}

@@ -1,0 +1,138 @@
+//! Who waits for whom.
+ghost use Rattle.std.specs.Prelude.{◌≡◌, ◌≢◌, ◌<◌, ℕ, Bool, All, List, Option, IfOk, IfErr, IsErrOf};
+ghost use Rattle.std.specs.Prelude.{None, Some, OnOk, IfSome, length, string_bytes};
+ghost use Rattle.std.specs.Io.KnownBytes.{Appends, Keeps};
+ghost use Rattle.waff_io.specs.Writing.{AppendsPart};
+ghost use Rattle.waff_plan.specs.Bound.{IsWorkers};
+ghost use Rattle.waff_inputs.specs.Deliveries.{Delivers, Makes};
+ghost use Rattle.waff_inputs.specs.Inputs.{Accepts, Refuses};
+ghost use Rattle.waff_tool.specs.WaitsText.{IsWaitsText, WaitsTextIsOne};
+
+use std::alloc::{AllocError, Global};
+use std::io::Write;
+use waff_figures::wait_laws::ticks_add_up;
+use waff_figures::waiting_text;
+use waff_inputs::{Accepted, ToolError, accept, deliver};
+use waff_list::laws::needs_make_the_same_plans;
+use waff_list::list_plan;
+use waff_order::predecessors::needs;
+use waff_plan::unlimited::plan;
+
+/// Writes who waits for whom in the plan of the trace under the hierarchy for this number of workers,
+/// or with no limit on them: for each pair of affinities, or for each pair of names and affinities,
+/// how many messages of the one wait for messages of the other or for a worker, and how long.
+/// Nothing is written before the whole text is made.
+pub fn waits_text<W: Write>(
+    alloc: Global,
+    hierarchy: &[u8],
+    trace: &[u8],
+    workers: Option<u32>,
+    by_name: bool,
+    writer: &mut W,
+) -> Result<(), ToolError>
+    requires { IfSome workers IsWorkers }
+    ensures { Delivers (λ _ text. IsWaitsText hierarchy.now trace.now workers by_name text)
+        (Refuses hierarchy.now trace.now) (W.contents writer.old) (W.contents writer.new) result }
+{
+    deliver(
+        writer,
+        made_waits_text(alloc, hierarchy, trace, workers, by_name),
+    )
+}
+
+fn made_waits_text(
+    alloc: Global,
+    hierarchy: &[u8],
+    trace: &[u8],
+    workers: Option<u32>,
+    by_name: bool,
+) -> Result<String, ToolError>
+    requires { IfSome workers IsWorkers }
+    ensures { Makes
+        (λ text. IsWaitsText hierarchy.now trace.now workers by_name (string_bytes text))
+        (Refuses hierarchy.now trace.now) result }
+{
+    let accepted = accept(alloc, hierarchy, trace)?;
+    let text = waited_text(alloc, &accepted, workers, by_name).map_err(ToolError::from);
+    drop(accepted);
+    text
+}
+
+/// The text of who waits for whom in the plan of what was read.
+fn waited_text(
+    alloc: Global,
+    accepted: &Accepted,
+    workers: Option<u32>,
+    by_name: bool,
+) -> Result<String, AllocError>
+    requires { IfSome workers IsWorkers }
+    ensures { IfOk result (λ text. (hierarchy trace : List ℕ)
+        → Accepts hierarchy trace accepted.now.layout accepted.now.trace accepted.now.assigned
+        → IsWaitsText hierarchy trace workers by_name (string_bytes text)) }
+{
+    match workers {
+        None => unlimited_waits(alloc, accepted, by_name),
+        Some(k) => worker_waits(alloc, accepted, k, by_name),
+    }
+}
+
+/// The text of the unlimited plan.
+fn unlimited_waits(
+    alloc: Global,
+    accepted: &Accepted,
+    by_name: bool,
+) -> Result<String, AllocError>
+    ensures { IfOk result (λ text. (hierarchy trace : List ℕ)
+        → Accepts hierarchy trace accepted.now.layout accepted.now.trace accepted.now.assigned
+        → IsWaitsText hierarchy trace None by_name (string_bytes text)) }
+{
+    let tree = accepted.layout.tree();
+    let plan = plan(alloc, tree, &accepted.assigned, &accepted.trace)?;
+    ticks_add_up();
+    let text = waiting_text(
+        alloc,
+        tree,
+        &accepted.assigned,
+        &accepted.trace,
+        &plan,
+        by_name,
+    );
+    drop(plan);
+    text
+}
+
+/// The text of the list plan for k workers.
+fn worker_waits(
+    alloc: Global,
+    accepted: &Accepted,
+    k: u32,
+    by_name: bool,
+) -> Result<String, AllocError>
+    requires { IsWorkers k }
+    ensures { IfOk result (λ text. (hierarchy trace : List ℕ)
+        → Accepts hierarchy trace accepted.now.layout accepted.now.trace accepted.now.assigned
+        → IsWaitsText hierarchy trace (Some k) by_name (string_bytes text)) }
+{
+    let tree = accepted.layout.tree();
+    let needs = needs(alloc, tree, &accepted.assigned)?;
+    let made = list_plan(alloc, &needs, &accepted.trace, k)?;
+    drop(needs);
+    needs_make_the_same_plans();
+    ticks_add_up();
+    let text = waiting_text(
+        alloc,
+        tree,
+        &accepted.assigned,
+        &accepted.trace,
+        made.plan(),
+        by_name,
+    );
+    drop(made);
+    text
+}
+
+/// The text of who waits for whom is one.
+pub fn waits_text_is_one()
+    ensures equal { (hierarchy_file trace_file : List ℕ) (workers : Option ℕ) (by_name : Bool)
+        → WaitsTextIsOne hierarchy_file trace_file workers by_name }
+{}
