@@ -9,12 +9,14 @@ use Rattle.std.proofs.lemmas.Option.{same_Some}
 use Rattle.waff_model.specs.Layout.{Hierarchy}
 use Rattle.waff_model.specs.Messages.{Arrivals}
 use Rattle.waff_model.specs.Tree.{Node}
+use Rattle.waff_model.specs.declared.message.Message.{Message}
 use Rattle.waff_model.specs.declared.message.Version.{Version}
 use Rattle.waff_assign.specs.Order.{IsOrdered}
 use Rattle.waff_plan.specs.Obeys.{IsLeast}
 use Rattle.waff_plan.specs.Timing.{start_of}
 use Rattle.waff_plan.specs.Unique.{AreSame}
 use Rattle.waff_plan.specs.Work.{Work, IsNumber, length_of, numbers}
+use Rattle.waff_plan.specs.declared.timing.Timing.{Timing}
 use Rattle.waff_plan.proofs.Uniqueness.{least_is_one, same_length}
 use Rattle.waff_list.specs.ListRule.{IsListPlan}
 use Rattle.waff_list.proofs.Uniqueness.{list_plan_is_one}
@@ -112,7 +114,10 @@ told_swept hierarchy_file trace_file workers sweep layout trace assigned accepts
 -- as many messages are read as the work has
 count_read : (trace : Arrivals) (text : List ℕ) (plan : Given) → plan_of trace.version (work_in trace).count text ≡ Ok plan
     → plan_of trace.version (length trace.messages) text ≡ Ok plan
-count_read trace text plan read = ?
+count_read trace text plan read =
+    let count : (work_in trace).count ≡ length trace.messages
+    = length-map trace.messages (λ (message : Message). let t : Timing = record { cost = message.cost; release = message.release } in t) in
+    ap (λ n. plan_of trace.version n text) (sym count) ∙ read
 
 pub own_plan_is_swept : (hierarchy_file trace_file : List ℕ) → OwnPlanIsSwept hierarchy_file trace_file
 own_plan_is_swept hierarchy_file trace_file plan_file workers text sweep v told rate swept =
