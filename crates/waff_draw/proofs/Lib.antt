@@ -5,3 +5,4 @@ pub mod KindLemmas
 pub mod OnceLemmas
 pub mod RowLemmas
 mod PreorderLemmas
+mod PartLemmas

@@ -1,10 +1,16 @@
--- What holds of the lanes of every picture.
-use Rattle.std.specs.Prelude.{◌≡◌, ℕ, ◌<◌, ◌≤◌, ◌==◌, true, All, List, Some, if◌then◌else◌, length}
-use Rattle.std.specs.Prelude.{slice_get, slice_index_or}
+-- What holds of the lanes of every picture, of what is shown in them, and of the axis.
+use Rattle.std.specs.Prelude.{◌≡◌, ◌↔◌, ℕ, ◌+◌, ◌*◌, ◌<◌, ◌≤◌, ◌==◌, true, All, List, Some, None}
+use Rattle.std.specs.Prelude.{if◌then◌else◌, length, slice_get, slice_index_or}
 use Rattle.std.specs.List.{count_by}
 use Rattle.waff_model.specs.Tree.{AtOrAbove, Leads, Node, parent_of}
+use Rattle.waff_plan.specs.Work.{IsNumber}
+use Rattle.waff_draw.specs.Axis.{step_of}
 use Rattle.waff_draw.specs.Lanes.{is_among, lane_of, lanes_of, row_of}
+use Rattle.waff_draw.specs.Scene.{Scene, end_in, from_in, shown_start, shown_ticks, span_in}
+use Rattle.waff_draw.specs.Scene.{start_in, work_in}
+use Rattle.waff_draw.specs.Svg.{line_in}
 use Rattle.waff_draw.specs.declared.lanes.Lane.{Lane}
+use Rattle.waff_draw.specs.declared.parts.Part.{Part}
 
 -- an affinity that has a message has one lane, and no other has any
 abbrev pub LaneIsOne : List Node → List ℕ → Type 0
@@ -39,3 +45,29 @@ pub record IsPreorder (tree : List Node) (lanes : List Lane) : Type 0 where
   pub ordered : (i j b c p : ℕ) → i < length lanes → j < length lanes
       → parent_of tree b ≡ Some p → parent_of tree c ≡ Some p → b < c
       → AtOrAbove tree b (affinity_at lanes i) → AtOrAbove tree c (affinity_at lanes j) → i < j
+
+-- t is one of so many ticks from a first one on
+abbrev pub IsOneOf : ℕ → ℕ → ℕ → Type 0
+IsOneOf first count t = (first ≤ t) × (t < first + count)
+
+-- what is shown of a message are those of its ticks that are in the part
+abbrev pub ShowsTicksInPart : Scene → Type 0
+ShowsTicksInPart scene =
+    (n t : ℕ) → IsOneOf (shown_start scene n) (shown_ticks scene n) t
+    ↔ (IsOneOf (start_in scene n) ((work_in scene).cost n) t × IsOneOf (from_in scene) (span_in scene) t)
+
+-- the part that is the whole plan
+abbrev pub whole_part : Part
+whole_part = record { from = 0; to = None }
+
+-- each message is shown whole
+abbrev pub ShowsAll : Scene → Type 0
+ShowsAll scene =
+    (n : ℕ) → IsNumber (work_in scene) n
+    → (shown_start scene n ≡ start_in scene n) × (shown_ticks scene n ≡ (work_in scene).cost n)
+
+-- the axis has a line at each multiple of its step that is in the part or at its end
+abbrev pub HasLines : Scene → Type 0
+HasLines scene =
+    (k : ℕ) → from_in scene ≤ k * step_of (span_in scene) → k * step_of (span_in scene) ≤ end_in scene
+    → (i : ℕ) × (i < 11) × (line_in scene i ≡ k * step_of (span_in scene))

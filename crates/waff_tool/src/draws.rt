@@ -40,7 +40,10 @@ pub fn draw_text<W: Write>(
     ensures { Delivers (λ _ text. IsDrawText hierarchy.now trace.now plan.now picture part text)
         (RefusesCheck hierarchy.now trace.now plan.now) (W.contents writer.old) (W.contents writer.new) result }
 {
-    deliver(writer, made_picture(alloc, hierarchy, trace, plan, picture, part))
+    deliver(
+        writer,
+        made_picture(alloc, hierarchy, trace, plan, picture, part),
+    )
 }
 
 fn made_picture(
@@ -82,7 +85,15 @@ fn picture_on(
     let trace = &accepted.trace;
     let given = read_plan(alloc, trace.version(), trace.len(), plan)?;
     let tree = accepted.layout.tree();
-    let text = pictured(alloc, tree, &accepted.assigned, trace, &given, picture, part)?;
+    let text = pictured(
+        alloc,
+        tree,
+        &accepted.assigned,
+        trace,
+        &given,
+        picture,
+        part,
+    )?;
     drop(given);
     Ok(text)
 }

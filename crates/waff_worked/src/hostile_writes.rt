@@ -12,7 +12,7 @@ use waff_samples::{
     STATE_H1_X1, X1,
 };
 use waff_tool::{
-    Picture, ReadFault, ToolError, assign_text, check_text, compare_text, draw_text, explain_text,
+    Part, Picture, ReadFault, ToolError, assign_text, check_text, compare_text, draw_text, explain_text,
     plan_text, rate_text, read_whole, replay_text, sweep_text, sweep_workers, where_text,
 };
 
@@ -83,6 +83,9 @@ fn write_text<R: Threads + Wait + Sync>(
 /// The trace of no message, of which a picture is short.
 const NONE: &str = "message,cost,ops\n";
 
+/// The whole of a plan.
+const WHOLE: Part = Part { from: 0, to: None };
+
 /// Writes the text of a call that takes a plan, else that of a check.
 fn write_of_plan<R: Threads + Sync>(
     rt: &R,
@@ -93,8 +96,11 @@ fn write_of_plan<R: Threads + Sync>(
     let (hierarchy, trace, plan) = (H1.as_bytes(), X1.as_bytes(), PLAN_H1_X1.as_bytes());
     let (none, empty) = (NONE.as_bytes(), PLAN_H1_HEADER_ALONE.as_bytes());
     match call {
-        Call::Picture => draw_text(alloc, hierarchy, none, empty, Picture::Svg, writer),
-        Call::Events => draw_text(alloc, hierarchy, none, empty, Picture::TraceEvents, writer),
+        Call::Picture => draw_text(alloc, hierarchy, none, empty, Picture::Svg, WHOLE, writer),
+        Call::Events => {
+            let picture = Picture::TraceEvents;
+            draw_text(alloc, hierarchy, none, empty, picture, WHOLE, writer)
+        }
         Call::Explain => {
             explain_text(rt, alloc, hierarchy, Some(trace), Some(plan), writer)?;
             Ok(())
