@@ -2,7 +2,8 @@
 use Rattle.std.proofs.Common.{◌≡◌, ◌≢◌, ℕ, zero, suc, ◌+◌, ◌-◌, ◌*◌, ◌^◌, ◌<◌, ◌≤◌, ◌⊎◌, inl, inr, Bool, true, false, cond, List, nat_lt, count_by, length, get_or, Contains, arith, ap, ◌∙◌, subst, ⊎_elim}
 use Rattle.std.specs.List.{range_with_len}
 use Rattle.std.proofs.lemmas.Bool.{cases_Bool, cases_eq, cases_lt, cond-true, cond-false, ltb-true, lt-ltb, le-ltb}
-use Rattle.std.proofs.lemmas.List.{get_or_past, get_or_default}
+use Rattle.std.proofs.lemmas.List.{get_or_default}
+use Rattle.std.proofs.lemmas.List.Elements.{All-contains}
 use Rattle.std.proofs.lemmas.List.FromFn.{length-range_with_len}
 use Rattle.std.proofs.lemmas.List.Sums.{sum_by-cons, count_by-le-length}
 use Rattle.waff_plan.specs.Work.{Work, IsNumber, numbers, finish_of}
@@ -11,6 +12,7 @@ use Rattle.waff_plan.specs.Timing.{start_of}
 use Rattle.waff_list.specs.Seats.{IsSeated}
 use Rattle.waff_list.specs.Progress.{IsProgress, IsSmall, GoesOn, IsNextTick, IsLastTick, IsMade}
 use Rattle.waff_list.specs.declared.progress.TheConstants.{NEVER}
+use Rattle.waff_list.specs.Waiting.{Runs, AreFinishes}
 use Rattle.waff_list.proofs.Settling.{settled_all, settled_plan}
 
 -- how many finishes and releases come after now
@@ -73,7 +75,8 @@ on_time_none work start =
 module _ (before : ℕ → ℕ → Type 0) (work : Work) (k : ℕ) (forward : IsForward before work) (small : IsSmall work)
     (old starts seats free_at order : List ℕ) (now next turn : ℕ)
     (placed : (m : ℕ) → IsNumber work m → (start_of old m ≤ now) ⊎ (start_of old m ≡ NEVER))
-    (on : GoesOn before work k old starts seats free_at order now turn) (tick : IsNextTick work free_at now next) where
+    (on : GoesOn before work k old starts seats free_at order now turn) (finishes : List (ℕ × ℕ)) (running : AreFinishes work (start_of starts) now finishes)
+    (tick : IsNextTick work finishes now next) where
   -- a finish after the next tick came after now before
   finish_back : (m : ℕ) → IsNumber work m → now < finish_of work (start_of starts) m → now < finish_of work (start_of old) m
   finish_back m number later =
@@ -86,20 +89,11 @@ module _ (before : ℕ → ℕ → Type 0) (work : Work) (k : ℕ) (forward : Is
   event : ((m : ℕ) × IsNumber work m × (start_of starts m ≤ now) × (finish_of work (start_of starts) m ≡ next)) ⊎ ((m : ℕ) × IsNumber work m × (work.release m ≡ next))
   event =
       ⊎_elim {C = ((m : ℕ) × IsNumber work m × (start_of starts m ≤ now) × (finish_of work (start_of starts) m ≡ next)) ⊎ ((m : ℕ) × IsNumber work m × (work.release m ≡ next))}
-      (λ (freed : Contains free_at next).
-      let i = freed.0 in
-      let inside : i < length free_at = freed.1 in
-      let at : get_or free_at i next ≡ next = freed.2 in
-      let past : now < next = tick.later in
-      let place : i + 1 - 1 ≡ i = omega arith in
-      let same : get_or free_at (i + 1 - 1) 0 ≡ next = ap (λ v. get_or free_at v 0) place ∙ default_is free_at i inside ∙ at in
-      let holder = on.progress.workers.holder (i + 1) (omega arith) (omega arith) (omega arith) in
-      inl (holder.0, holder.1, holder.2, holder.4 ∙ same))
+      (λ (there : (m : ℕ) × Contains finishes (next, m)).
+      let runs = All-contains (Runs work (start_of starts) now) finishes (next, there.0) running.only there.1 in
+      inl (there.0, runs.0, runs.1, runs.3))
       (λ (released : (m : ℕ) × IsNumber work m × (work.release m ≡ next)). inr released)
       tick.one
-    where
-      default_is : (xs : List ℕ) (i : ℕ) → i < length xs → get_or xs i 0 ≡ get_or xs i next
-      default_is xs i inside = get_or_default xs i 0 next inside
 
   in_range : (m : ℕ) → 1 ≤ m → m < 1 + work.count → IsNumber work m
   in_range m low high = record { from = low; to = omega arith }
@@ -159,28 +153,21 @@ module _ (before : ℕ → ℕ → Type 0) (work : Work) (k : ℕ) (forward : Is
 -- where no event is left, all messages are placed
 pub made_of_last : (before : ℕ → ℕ → Type 0) (work : Work) (k : ℕ) → IsForward before work → IsSmall work
     → (starts seats free_at order : List ℕ) (now : ℕ) → 1 ≤ k → now ≤ 2 ^ 49
-    → IsProgress before work k starts seats free_at order now (work.count + 1) → IsLastTick work free_at now → IsMade before work k starts seats order
-made_of_last before work k forward small starts seats free_at order now some early h last =
+    → IsProgress before work k starts seats free_at order now (work.count + 1)
+    → (finishes : List (ℕ × ℕ)) → AreFinishes work (start_of starts) now finishes → IsLastTick work finishes now → IsMade before work k starts seats order
+made_of_last before work k forward small starts seats free_at order now some early h finishes running last =
     let start = start_of starts in
-    let finishes = λ (m : ℕ) (number : IsNumber work m) (begun : start_of starts m ≤ now).
-    let done : finish_of work (start_of starts) m ≤ now = ⊎_elim {C = finish_of work (start_of starts) m ≤ now}
-    (λ (is : finish_of work (start_of starts) m ≤ now). is)
-    (λ (held : finish_of work (start_of starts) m ≡ get_or free_at (start_of seats m - 1) 0).
+    let done = λ (m : ℕ) (number : IsNumber work m) (begun : start_of starts m ≤ now).
+    ⊎_elim {C = finish_of work (start_of starts) m ≤ now}
+    (λ (late : now < finish_of work (start_of starts) m).
     let cost : work.cost m < 2 ^ 32 = small.cost m number in
-    ⊎_elim {C = finish_of work (start_of starts) m ≤ now}
-    (λ (inside : start_of seats m - 1 < length free_at).
-    ⊎_elim {C = finish_of work (start_of starts) m ≤ now}
-    (λ (freed : get_or free_at (start_of seats m - 1) 0 ≤ now). omega arith)
-    (λ (never : NEVER ≤ get_or free_at (start_of seats m - 1) 0). absurd (omega arith))
-    (last.frees (start_of seats m - 1) 0 inside))
-    (λ (past : length free_at ≤ start_of seats m - 1).
-    let none : get_or free_at (start_of seats m - 1) 0 ≡ 0 = get_or_past free_at (start_of seats m - 1) 0 past in
-    omega arith)
-    (cases_lt (start_of seats m - 1) (length free_at)))
-    (h.workers.held m number begun) in
-    done in
+    let never : NEVER ≤ finish_of work (start_of starts) m
+    = All-contains (λ (r : ℕ × ℕ). NEVER ≤ r.0) finishes (finish_of work (start_of starts) m, m) last.none (running.each m number begun late) in
+    absurd (omega arith))
+    (λ (is : finish_of work (start_of starts) m ≤ now). is)
+    (cases_lt now (finish_of work (start_of starts) m)) in
     let all = λ (m : ℕ) (number : IsNumber work m).
-    settled_all before work k forward start (start_of seats) now some (omega arith) finishes last.releases h.settled (suc m) m (omega arith) number in
+    settled_all before work k forward start (start_of seats) now some (omega arith) done last.releases h.settled (suc m) m (omega arith) number in
     let number_at = λ (i : ℕ) (inside : i < work.count).
     let number : IsNumber work (i + 1) = record { from = omega arith; to = omega arith } in number in
     record {

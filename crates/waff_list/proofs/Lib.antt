@@ -10,7 +10,10 @@ mod Events
 mod Filling
 mod PathPlans
 mod ChainBounds
-mod CandidateLemmas
+mod CountLemmas
+mod FinishLemmas
+mod ReadyLemmas
+mod WakingLemmas
 mod WakeLemmas
 mod OrderingLemmas
 mod DependentLemmas

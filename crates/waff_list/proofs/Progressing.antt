@@ -1,21 +1,22 @@
 -- A list plan while it is made, as the lists that the planner keeps.
-use Rattle.std.proofs.Common.{◌≡◌, ◌≢◌, ℕ, ◌+◌, ◌-◌, ◌^◌, ◌<◌, ◌≤◌, ◌⊎◌, inl, inr, List, [], ◌∷◌, ◌++◌, length, get_or, set, replicate, All, arith, sym, ◌∙◌, subst, ⊎_elim, get_or-set_same, get_or-set_other, length-set}
+use Rattle.std.proofs.Common.{◌≡◌, ◌≢◌, ℕ, ◌+◌, ◌-◌, ◌^◌, ◌<◌, ◌≤◌, ◌⊎◌, inl, inr, List, [], ◌∷◌, ◌++◌, length, get_or, set, replicate, All, arith, ◌∙◌, ⊎_elim, get_or-set_same, get_or-set_other, length-set}
 use Rattle.std.proofs.lemmas.Bool.{cases_lt}
-use Rattle.std.proofs.lemmas.List.{get_or-replicate, length-replicate, get_or_past}
-use Rattle.std.proofs.lemmas.List.Elements.{All-nil}
+use Rattle.std.proofs.lemmas.List.{get_or-replicate, length-replicate}
+use Rattle.std.proofs.lemmas.List.Elements.{All-nil, All-contains}
 use Rattle.waff_plan.specs.Work.{Work, IsNumber, finish_of}
 use Rattle.waff_plan.specs.Obeys.{IsForward}
 use Rattle.waff_plan.specs.Workers.{running}
 use Rattle.waff_plan.specs.Timing.{start_of}
 use Rattle.waff_list.specs.ListRule.{IsReady}
 use Rattle.waff_list.specs.Progress.{IsLeastFree, IsProgress}
+use Rattle.waff_list.specs.Waiting.{AreFinishes}
 use Rattle.waff_list.specs.declared.progress.TheConstants.{NEVER}
 use Rattle.waff_list.proofs.Settling.{settled_skip, settled_advance}
 use Rattle.waff_list.proofs.Placing.{IsMovedTo, settled_place}
 use Rattle.waff_list.proofs.Freeing.{none_free, one_free, seated_here, free_more, order_more}
 
 -- a list with one number changed
-moved_by_set : (xs : List ℕ) (x y : ℕ) → 1 ≤ x → x ≤ length xs → IsMovedTo (start_of xs) (start_of (set xs (x - 1) y)) x y
+pub moved_by_set : (xs : List ℕ) (x y : ℕ) → 1 ≤ x → x ≤ length xs → IsMovedTo (start_of xs) (start_of (set xs (x - 1) y)) x y
 moved_by_set xs x y from to = record {
   here = get_or-set_same xs (x - 1) y 0 (omega arith);
   others = λ i i_from other. let apart : i - 1 ≢ x - 1 = omega arith in get_or-set_other xs (x - 1) (i - 1) y 0 apart;
@@ -122,12 +123,12 @@ module _ (before : ℕ → ℕ → Type 0) (work : Work) (k : ℕ) (forward : Is
               now x w number short cost moved sat waits h.settled free_at h.workers free order h.listed;
         }
 
-    -- on to the next tick at which a worker is free or a message is released
-    pub progress_advance : (next : ℕ) → now < next → next < NEVER
-        → All (λ f. (f ≤ now) ⊎ (next ≤ f)) free_at
+    -- on to the next tick at which a message finishes or is released
+    pub progress_advance : (next : ℕ) (finishing : List (ℕ × ℕ)) → now < next → next < NEVER
+        → AreFinishes work (start_of starts) now finishing → All (λ r. next ≤ r.0) finishing
         → ((m : ℕ) → IsNumber work m → (work.release m ≤ now) ⊎ (next ≤ work.release m))
         → IsProgress before work k starts seats free_at order now (work.count + 1) → IsProgress before work k starts seats free_at order next 1
-    progress_advance next later short frees releases h =
+    progress_advance next finishing later short run least releases h =
         let settled = h.settled in
         let start = start_of starts in
         let worker = start_of seats in
@@ -142,10 +143,9 @@ module _ (before : ℕ → ℕ → Type 0) (work : Work) (k : ℕ) (forward : Is
         ⊎_elim {C = (finish_of work start m ≤ now) ⊎ (next ≤ finish_of work start m)}
         (λ (early : start m ≤ now).
         ⊎_elim {C = (finish_of work start m ≤ now) ⊎ (next ≤ finish_of work start m)}
+        (λ (late : now < finish_of work start m). inr (All-contains (λ (r : ℕ × ℕ). next ≤ r.0) finishing (finish_of work start m, m) least (run.each m number early late)))
         (λ (done : finish_of work start m ≤ now). inl done)
-        (λ (held : finish_of work start m ≡ get_or free_at (worker m - 1) 0).
-        subst (λ f. (f ≤ now) ⊎ (next ≤ f)) (sym held) (freed (worker m - 1)))
-        (h.workers.held m number early))
+        (cases_lt now (finish_of work start m)))
         (λ (never : start m ≡ NEVER). inr (omega arith))
         (settled.placed m number) in
         one in
@@ -170,10 +170,3 @@ module _ (before : ℕ → ℕ → Type 0) (work : Work) (k : ℕ) (forward : Is
             sorted = h.listed.sorted;
           };
         }
-      where
-        -- also past the last worker
-        freed : (i : ℕ) → (get_or free_at i 0 ≤ now) ⊎ (next ≤ get_or free_at i 0)
-        freed i = ⊎_elim {C = (get_or free_at i 0 ≤ now) ⊎ (next ≤ get_or free_at i 0)}
-            (λ (inside : i < length free_at). frees i 0 inside)
-            (λ (past : length free_at ≤ i). let none : get_or free_at i 0 ≡ 0 = get_or_past free_at i 0 past in inl (omega arith))
-            (cases_lt i (length free_at))

@@ -1,35 +1,13 @@
--- From one tick to the next: which messages may be ready then.
-use Rattle.std.proofs.Common.{◌≡◌, ◌≢◌, ℕ, suc, ◌+◌, ◌-◌, ◌<◌, ◌≤◌, ◌⊎◌, inl, inr, List, [], ◌∷◌, length, get_or, All, Contains, arith, refl, ap, sym, ◌∙◌, subst, ⊎_elim}
+-- From one tick to the next: which messages are ready then.
+use Rattle.std.proofs.Common.{◌≡◌, ◌≢◌, ℕ, ◌+◌, ◌<◌, ◌≤◌, ◌⊎◌, inl, inr, List, [], length, get_or, Contains, arith, refl, ap, sym, ◌∙◌, subst, ⊎_elim}
 use Rattle.std.proofs.lemmas.Bool.{cases_lt, cases_eq}
 use Rattle.std.proofs.lemmas.List.{get_or_default}
-use Rattle.std.proofs.lemmas.List.Elements.{All-cons, All-contains}
 use Rattle.waff_plan.specs.Work.{Work, IsNumber, finish_of}
 use Rattle.waff_plan.specs.Obeys.{IsForward}
-use Rattle.waff_plan.specs.Timing.{start_of}
-use Rattle.waff_order.specs.Needs.{needs_of, IsNeed}
-use Rattle.waff_list.specs.ListRule.{IsReady}
-use Rattle.waff_list.specs.Progress.{IsProgress, IsWaiting}
-use Rattle.waff_list.specs.Waiting.{AreCandidates, AreReleases, ArePassed, AreLast, IsNextRelease}
+use Rattle.waff_order.specs.Needs.{IsNeed}
+use Rattle.waff_list.specs.Waiting.{Joins, IsFree, AreReady, AreFinishes, AreLeft, AreReleases, ArePassed, Admits, IsNextRelease, left_of}
 use Rattle.waff_list.specs.declared.progress.TheConstants.{NEVER}
-
--- either all numbers of a list pass, or one does not
-all_or_one : (f : ℕ → ℕ) (now : ℕ) (xs : List ℕ) → All (λ x. f x ≤ now) xs ⊎ ((x : ℕ) × Contains xs x × (now < f x))
-all_or_one f now [] = inl (λ i d within. absurd (omega arith))
-all_or_one f now (x ∷ xs) =
-    ⊎_elim {C = All (λ x. f x ≤ now) (x ∷ xs) ⊎ ((y : ℕ) × Contains (x ∷ xs) y × (now < f y))}
-    (λ (late : now < f x). inr (x, (0, omega arith, refl), late))
-    (λ (early : f x ≤ now).
-    ⊎_elim {C = All (λ x. f x ≤ now) (x ∷ xs) ⊎ ((y : ℕ) × Contains (x ∷ xs) y × (now < f y))}
-    (λ (all : All (λ x. f x ≤ now) xs). inl (all_cons early all))
-    (λ (one : (y : ℕ) × Contains xs y × (now < f y)).
-    let there = one.1 in
-    let within = there.1 in
-    inr (one.0, (suc there.0, omega (arith, within), there.2), one.2))
-    (all_or_one f now xs))
-    (cases_lt now (f x))
-  where
-    all_cons : f x ≤ now → All (λ x. f x ≤ now) xs → All (λ x. f x ≤ now) (x ∷ xs)
-    all_cons early all = All-cons (λ x. f x ≤ now) x xs early all
+use Rattle.waff_list.proofs.CountLemmas.{left_finished, left_over}
 
 -- a message that is released by the next tick is one of those passed before, or one of those passed since
 pub released_by : (work : Work) (releases : List (ℕ × ℕ)) (passed next_passed next m : ℕ) (P : Type 0) → AreReleases work releases
@@ -61,86 +39,90 @@ released_by work releases passed next_passed next m P are before_now before_next
     (cases_lt i next_passed))
     (cases_lt i passed)
 
-module _ (needs : List (List ℕ)) (work : Work) (k : ℕ) (forward : IsForward (IsNeed needs) work) (starts seats free_at order last : List ℕ) (now next : ℕ)
-    (short : next < NEVER) (h : IsProgress (IsNeed needs) work k starts seats free_at order now (work.count + 1))
-    (lasts : AreLast work (start_of starts) (start_of seats) now last) where
-  -- the worker of a message that has not finished is busy with it
-  pub worker_of_unfinished : (m : ℕ) → IsNumber work m → start_of starts m ≤ now → now < finish_of work (start_of starts) m
-      → (w : ℕ) × (w < length free_at) × (get_or free_at w 0 ≡ finish_of work (start_of starts) m) × (get_or last w 0 ≡ m)
-  worker_of_unfinished m number begun unfinished =
-      let seat = h.settled.seated m number begun in
-      let from : 1 ≤ start_of seats m = seat.from in
-      let to : start_of seats m ≤ k = h.settled.within m number begun in
-      let workers : length free_at ≡ k = h.workers_count in
-      ⊎_elim {C = (w : ℕ) × (w < length free_at) × (get_or free_at w 0 ≡ finish_of work (start_of starts) m) × (get_or last w 0 ≡ m)}
-      (λ (done : finish_of work (start_of starts) m ≤ now). absurd (omega arith))
-      (λ (held : finish_of work (start_of starts) m ≡ get_or free_at (start_of seats m - 1) 0).
-      (start_of seats m - 1, omega arith, sym held, lasts.held m number begun unfinished))
-      (h.workers.held m number begun)
+-- before a release has been passed, none is ready
+pub ready_none : (before : ℕ → ℕ → Type 0) (work : Work) (start : ℕ → ℕ) → AreReady before work start 0 0 []
+ready_none before work start = record {
+  only = λ m there. let within = there.1 in absurd (omega (arith, within));
+  each = λ m free late. let released : work.release m < 0 = free.released in absurd (omega arith);
+}
 
-  -- a busy worker is busy with a message
-  pub busy_with_number : (w : ℕ) → w < length free_at → now < get_or free_at w 0 → IsNumber work (get_or last w 0)
-  busy_with_number w inside busy =
-      let place : w + 1 - 1 ≡ w = omega arith in
-      let holder = h.workers.holder (w + 1) (omega arith) (omega arith) (subst (λ v. now < get_or free_at v 0) (sym place) busy) in
-      let m = holder.0 in
-      let number = holder.1 in
-      let at : finish_of work (start_of starts) m ≡ get_or free_at (w + 1 - 1) 0 = holder.4 in
-      let same : get_or free_at (w + 1 - 1) 0 ≡ get_or free_at w 0 = ap (λ v. get_or free_at v 0) place in
-      let is = lasts.held m number holder.2 (omega arith) in
-      let seat : start_of seats m - 1 ≡ w = ap (λ v. v - 1) holder.3 ∙ place in
-      subst (λ x. IsNumber work x) (sym (ap (λ v. get_or last v 0) (sym seat) ∙ is)) number
+-- what is known of the messages that run and wait at a tick
+pub record AreKnown (needs : List (List ℕ)) (work : Work) (start : ℕ → ℕ) (now : ℕ) (finishes : List (ℕ × ℕ)) (left : List ℕ) : Type 0 where
+  pub short : now < NEVER
+  pub running : AreFinishes work start now finishes
+  pub counts : AreLeft needs start finishes left
+  pub placed : (m : ℕ) → IsNumber work m → (start m ≤ now) ⊎ (start m ≡ NEVER)
 
-  -- what may be ready at the next tick is a candidate, or is released by then, or depends on a message that finishes by then
-  pub waits_next : (candidates more : List ℕ) (m : ℕ) → AreCandidates (IsNeed needs) work (start_of starts) now candidates
-      → ((x : ℕ) → Contains candidates x → Contains more x)
-      → ((w d : ℕ) → w < length free_at → now < get_or free_at w 0 → get_or free_at w 0 ≤ next → IsNeed needs (get_or last w 0) d → Contains more d)
-      → ((x : ℕ) → IsNumber work x → work.release x ≤ next → (work.release x ≤ now) ⊎ Contains more x)
-      → now < next → IsWaiting (IsNeed needs) work (start_of starts) next m → Contains more m
-  waits_next candidates more m are kept woken released later waiting =
-      let ready = waiting.0 in
-      let number = ready.number in
-      let late : next < start_of starts m = waiting.1 in
-      ⊎_elim {C = Contains more m}
-      (λ (early : work.release m ≤ now).
-      ⊎_elim {C = Contains more m}
-      (λ (all : All (λ i. finish_of work (start_of starts) i ≤ now) (needs_of needs m)).
-      let was_ready : IsReady (IsNeed needs) work (start_of starts) now m = record {
-        number = number;
-        waits = omega arith;
-        released = early;
-        free = λ i need. All-contains (λ i. finish_of work (start_of starts) i ≤ now) (needs_of needs m) i all need.listed;
-      } in
-      kept m (are.each m (was_ready, omega arith)))
-      (λ (one : (i : ℕ) × Contains (needs_of needs m) i × (now < finish_of work (start_of starts) i)).
-      let i = one.0 in
-      let need : IsNeed needs i m = record { from = number.from; listed = one.1 } in
-      let i_number : IsNumber work i = number_first i m need in
-      let unfinished : now < finish_of work (start_of starts) i = one.2 in
-      let done : finish_of work (start_of starts) i ≤ next = ready.free i need in
-      let begun : start_of starts i ≤ now = ⊎_elim {C = start_of starts i ≤ now}
-      (λ (is : start_of starts i ≤ now). is) (λ (never : start_of starts i ≡ NEVER). absurd (omega arith)) (h.settled.placed i i_number) in
-      let worker = worker_of_unfinished i i_number begun unfinished in
-      let free : get_or free_at worker.0 0 ≡ finish_of work (start_of starts) i = worker.2 in
-      woken worker.0 m worker.1 (omega arith) (omega arith) (subst (λ x. IsNeed needs x m) (sym worker.3) need))
-      (all_or_one (finish_of work (start_of starts)) now (needs_of needs m)))
-      (λ (there : Contains more m). there)
-      (released m number ready.released)
-    where
-      number_first : (i j : ℕ) → IsNeed needs i j → IsNumber work i
-      number_first i j need =
-          let from : 1 ≤ i = forward.from i j need in
-          let earlier : i < j = forward.earlier i j need in
-          let to : j ≤ work.count = forward.to i j need in
-          record { from = from; to = omega arith }
+module _ (needs : List (List ℕ)) (work : Work) (forward : IsForward (IsNeed needs) work) (same : length needs ≡ work.count) (start : ℕ → ℕ) where
+  -- the count of a message is 0 exactly where its needs have finished
+  module _ (now : ℕ) (finishes : List (ℕ × ℕ)) (left : List ℕ) (h : AreKnown needs work start now finishes left) (m : ℕ) (number : IsNumber work m) where
+    pub finished : left_of left m ≡ 0 → (i : ℕ) → IsNeed needs i m → finish_of work start i ≤ now
+    finished = left_finished needs work forward same start now finishes left h.short h.running h.counts m number h.placed
 
-  -- the workers' last messages stay the last
-  pub last_advance : now < next → AreLast work (start_of starts) (start_of seats) next last
-  last_advance later = record {
-    held = λ m number early unfinished.
-        let begun : start_of starts m ≤ now = ⊎_elim {C = start_of starts m ≤ now}
-        (λ (is : start_of starts m ≤ now). is) (λ (never : start_of starts m ≡ NEVER). absurd (omega arith)) (h.settled.placed m number) in
-        lasts.held m number begun (omega arith);
+    pub over : ((i : ℕ) → IsNeed needs i m → finish_of work start i ≤ now) → left_of left m ≡ 0
+    over = left_over needs work forward same start now finishes left h.short h.running h.counts m number
+
+  -- from one tick to the next, those are ready whose last needs have finished
+  pub ready_wake : (now next : ℕ) (finishes finishes_after : List (ℕ × ℕ)) (left left_after ready ready_after : List ℕ) → now < next
+      → AreKnown needs work start now finishes left → AreKnown needs work start next finishes_after left_after
+      → ((m : ℕ) → Contains ready m → Contains ready_after m)
+      → ((m : ℕ) → IsNumber work m → 1 ≤ left_of left m → left_of left_after m ≡ 0 → work.release m ≤ now → Contains ready_after m)
+      → ((m : ℕ) → Contains ready_after m → Contains ready m ⊎ (IsNumber work m × (left_of left_after m ≡ 0) × (work.release m ≤ now)))
+      → AreReady (IsNeed needs) work start now (now + 1) ready → AreReady (IsNeed needs) work start next (now + 1) ready_after
+  ready_wake now next finishes finishes_after left left_after ready ready_after later first second kept woken only h = record {
+    only = λ m there. ⊎_elim {C = IsFree (IsNeed needs) work start next (now + 1) m}
+        (λ (was : Contains ready m).
+        let free = h.only m was in
+        record { number = free.number; released = free.released; free = λ i need. let done : finish_of work start i ≤ now = free.free i need in omega arith })
+        (λ (new : IsNumber work m × (left_of left_after m ≡ 0) × (work.release m ≤ now)).
+        let released : work.release m ≤ now = new.2 in
+        record { number = new.0; released = omega arith; free = finished next finishes_after left_after second m new.0 new.1 })
+        (only m there);
+    each = λ m free late.
+        let number : IsNumber work m = free.number in
+        let none : left_of left_after m ≡ 0 = over next finishes_after left_after second m number free.free in
+        ⊎_elim {C = Contains ready_after m}
+        (λ (before : left_of left m < 1).
+        let was : IsFree (IsNeed needs) work start now (now + 1) m
+        = record { number = number; released = free.released; free = finished now finishes left first m number (omega arith) } in
+        kept m (h.each m was (omega arith)))
+        (λ (some : 1 ≤ left_of left m). let released : work.release m < now + 1 = free.released in woken m number some none (omega arith))
+        (cases_lt (left_of left m) 1);
+  }
+
+  -- and those that are released and need nothing more
+  pub ready_pass : (now end : ℕ) (finishes releases : List (ℕ × ℕ)) (left ready ready_after : List ℕ) (passed more : ℕ) → end ≤ now + 1
+      → AreKnown needs work start now finishes left → AreReleases work releases
+      → ((i : ℕ) (d : ℕ × ℕ) → i < passed → i < length releases → (get_or releases i d).0 < end)
+      → ArePassed releases more now → Admits releases passed more left ready ready_after
+      → AreReady (IsNeed needs) work start now end ready → AreReady (IsNeed needs) work start now (now + 1) ready_after
+  ready_pass now end finishes releases left ready ready_after passed more within known are before after admits h = record {
+    only = λ m there. ⊎_elim {C = IsFree (IsNeed needs) work start now (now + 1) m}
+        (λ (was : Contains ready m).
+        let free = h.only m was in
+        let released : work.release m < end = free.released in
+        record { number = free.number; released = omega arith; free = free.free })
+        (λ (new : (i : ℕ) × (i < more) × (i < length releases) × (m ≡ (get_or releases i (0, 0)).1) × (left_of left m ≡ 0)).
+        let listed = are.only new.0 (0, 0) new.2 in
+        let number : IsNumber work m = subst (λ x. IsNumber work x) (sym new.3) listed.0 in
+        let release : work.release m ≡ (get_or releases new.0 (0, 0)).0 = ap work.release new.3 ∙ listed.1 in
+        let early : (get_or releases new.0 (0, 0)).0 ≤ now = after.before new.0 (0, 0) new.1 new.2 in
+        record { number = number; released = omega arith; free = finished now finishes left known m number new.4 })
+        (admits.only m there);
+    each = λ m free late.
+        let number : IsNumber work m = free.number in
+        let released : work.release m < now + 1 = free.released in
+        let none : left_of left m ≡ 0 = over now finishes left known m number free.free in
+        ⊎_elim {C = Contains ready_after m}
+        (λ (early : work.release m < end).
+        let was : IsFree (IsNeed needs) work start now end m = record { number = number; released = early; free = free.free } in
+        admits.kept m (h.each m was late))
+        (λ (there : (i : ℕ) × (passed ≤ i) × (i < more) × ((get_or releases i (0, 0)).1 ≡ m)).
+        subst (λ x. Contains ready_after x) there.3
+        (admits.added there.0 there.1 there.2 (subst (λ x. left_of left x ≡ 0) (sym there.3) none)))
+        (released_by work releases passed more now m (work.release m < end) are
+        (λ i early inside release. let is : (get_or releases i (work.release m, m)).0 < end = before i (work.release m, m) early inside in omega (arith, release))
+        after number (omega arith));
   }
 
 -- the release that stands next is the least after now
@@ -205,3 +187,39 @@ passed_more releases passed more now on within released next h = record {
       omega arith;
   within = within;
 }
+
+-- one release more has been passed, of a message that needs nothing more or of another
+module _ (releases : List (ℕ × ℕ)) (from at : ℕ) (left old ready : List ℕ) (inside : at < length releases) (h : Admits releases from at left old ready) where
+  pub admits_one : (m : ℕ) (new : List ℕ) → m ≡ (get_or releases at (0, 0)).1 → left_of left m ≡ 0 → Joins ready m new → Admits releases from (at + 1) left old new
+  admits_one m new is none joins = record {
+    kept = λ x there. joins.kept x (h.kept x there);
+    added = λ i from_i before here. ⊎_elim {C = Contains new (get_or releases i (0, 0)).1}
+        (λ (same : i ≡ at). subst (λ j. Contains new (get_or releases j (0, 0)).1) (sym same) (subst (λ x. Contains new x) is joins.here))
+        (λ (other : i ≢ at). joins.kept (get_or releases i (0, 0)).1 (h.added i from_i (omega arith) here))
+        (cases_eq i at);
+    only = λ x there. ⊎_elim {C = Contains old x ⊎ ((i : ℕ) × (i < at + 1) × (i < length releases) × (x ≡ (get_or releases i (0, 0)).1) × (left_of left x ≡ 0))}
+        (λ (was : Contains ready x). earlier x was)
+        (λ (same : x ≡ m). inr (at, omega arith, inside, same ∙ is, subst (λ y. left_of left y ≡ 0) (sym same) none))
+        (joins.only x there);
+  }
+    where
+      earlier : (x : ℕ) → Contains ready x → Contains old x ⊎ ((i : ℕ) × (i < at + 1) × (i < length releases) × (x ≡ (get_or releases i (0, 0)).1) × (left_of left x ≡ 0))
+      earlier x was = ⊎_elim {C = Contains old x ⊎ ((i : ℕ) × (i < at + 1) × (i < length releases) × (x ≡ (get_or releases i (0, 0)).1) × (left_of left x ≡ 0))}
+          (λ (first : Contains old x). inl first)
+          (λ (one : (i : ℕ) × (i < at) × (i < length releases) × (x ≡ (get_or releases i (0, 0)).1) × (left_of left x ≡ 0)).
+          let before = one.1 in inr (one.0, omega (arith, before), one.2, one.3, one.4))
+          (h.only x was)
+
+  pub admits_other : left_of left (get_or releases at (0, 0)).1 ≢ 0 → Admits releases from (at + 1) left old ready
+  admits_other some = record {
+    kept = h.kept;
+    added = λ i from_i before here. ⊎_elim {C = Contains ready (get_or releases i (0, 0)).1}
+        (λ (same : i ≡ at). absurd (some (subst (λ j. left_of left (get_or releases j (0, 0)).1 ≡ 0) same here)))
+        (λ (other : i ≢ at). h.added i from_i (omega arith) here)
+        (cases_eq i at);
+    only = λ x there. ⊎_elim {C = Contains old x ⊎ ((i : ℕ) × (i < at + 1) × (i < length releases) × (x ≡ (get_or releases i (0, 0)).1) × (left_of left x ≡ 0))}
+        (λ (first : Contains old x). inl first)
+        (λ (one : (i : ℕ) × (i < at) × (i < length releases) × (x ≡ (get_or releases i (0, 0)).1) × (left_of left x ≡ 0)).
+        let before = one.1 in inr (one.0, omega (arith, before), one.2, one.3, one.4))
+        (h.only x there);
+  }

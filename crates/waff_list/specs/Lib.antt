@@ -4,4 +4,5 @@ pub mod Bound
 pub mod Progress
 pub mod Seating
 pub mod Waiting
+pub mod Planning
 pub mod Unique

@@ -70,17 +70,18 @@ pub record GoesOn (before : ℕ → ℕ → Type 0)
   pub progress : IsProgress before work k starts seats free_at order now turn
   pub kept : (m : ℕ) → IsNumber work m → start_of old m ≤ now → start_of starts m ≡ start_of old m
 
--- next is the least tick after now at which a worker is free or a message is released
-pub record IsNextTick (work : Work) (free_at : List ℕ) (now next : ℕ) : Type 0 where
+-- next is the least tick after now at which a message finishes or is released
+pub record IsNextTick (work : Work) (finishes : List (ℕ × ℕ)) (now next : ℕ) : Type 0 where
   pub later : now < next
   pub tick : next < NEVER
-  pub frees : All (λ f. (f ≤ now) ⊎ (next ≤ f)) free_at
+  pub first : All (λ r. next ≤ r.0) finishes
   pub releases : (m : ℕ) → IsNumber work m → (work.release m ≤ now) ⊎ (next ≤ work.release m)
-  pub one : Contains free_at next ⊎ ((m : ℕ) × IsNumber work m × (work.release m ≡ next))
+  pub one : ((m : ℕ) × Contains finishes (next, m))
+      ⊎ ((m : ℕ) × IsNumber work m × (work.release m ≡ next))
 
--- after now no worker is busy and no message is released
-pub record IsLastTick (work : Work) (free_at : List ℕ) (now : ℕ) : Type 0 where
-  pub frees : All (λ f. (f ≤ now) ⊎ (NEVER ≤ f)) free_at
+-- after now no message finishes and none is released
+pub record IsLastTick (work : Work) (finishes : List (ℕ × ℕ)) (now : ℕ) : Type 0 where
+  pub none : All (λ r. NEVER ≤ r.0) finishes
   pub releases : (m : ℕ) → IsNumber work m → work.release m ≤ now
 
 -- all messages are placed

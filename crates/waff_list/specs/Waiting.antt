@@ -1,19 +1,19 @@
--- What the planner keeps of the messages that are not placed yet: those that may be ready, those
--- that each message is a need of, and those that are still to be released.
-use Rattle.std.specs.Prelude.{◌≡◌, ℕ, ◌+◌, ◌-◌, ◌<◌, ◌≤◌, ◌⊎◌, List, length, All, AllPairs}
-use Rattle.std.specs.Prelude.{Contains, slice_index, slice_index_or}
-use Rattle.waff_plan.specs.Work.{Work, IsNumber}
-use Rattle.waff_order.specs.Needs.{needs_of, IsNeed}
-use Rattle.waff_list.specs.Progress.{IsWaiting}
+-- What the planner keeps of the messages that are not placed yet: how many needs of each have not
+-- finished, those that are ready, those that each message is a need of, and those that are still to
+-- be released; and of those that run, when they finish.
+use Rattle.std.specs.Prelude.{◌≡◌, ◌≢◌, ℕ, ◌+◌, ◌-◌, ◌<◌, ◌≤◌, ◌⊎◌, List, length, All, AllPairs}
+use Rattle.std.specs.Prelude.{Contains, slice_index, slice_index_or, count_by, sum_by, ◌==◌}
+use Rattle.waff_plan.specs.Work.{Work, IsNumber, finish_of}
+use Rattle.waff_order.specs.Needs.{needs_of}
 use Rattle.waff_list.specs.declared.progress.TheConstants.{NEVER}
 
--- m has joined the candidates
+-- m has joined the messages that are ready
 pub record Joins (old : List ℕ) (m : ℕ) (new : List ℕ) : Type 0 where
   pub here : Contains new m
   pub kept : (x : ℕ) → Contains old x → Contains new x
   pub only : (x : ℕ) → Contains new x → Contains old x ⊎ (x ≡ m)
 
--- m, the least of the candidates, has left them
+-- m, the least of the messages that are ready, has left them
 pub record Leaves (old : List ℕ) (m : ℕ) (new : List ℕ) : Type 0 where
   pub one : Contains old m
   pub others : (x : ℕ) → Contains old x → (x ≡ m) ⊎ Contains new x
@@ -21,22 +21,78 @@ pub record Leaves (old : List ℕ) (m : ℕ) (new : List ℕ) : Type 0 where
   pub least : (x : ℕ) → Contains new x → m ≤ x
   pub fewer : length new + 1 ≡ length old
 
--- each message that waits at now is a candidate, and all candidates are messages
-pub record AreCandidates (before : ℕ → ℕ
-    → Type 0) (work : Work) (start : ℕ → ℕ) (now : ℕ) (candidates : List ℕ) : Type 0 where
-  pub numbers : (m : ℕ) → Contains candidates m → IsNumber work m
-  pub each : (m : ℕ) → IsWaiting before work start now m → Contains candidates m
+-- m is released before the tick end, and each message that is before it has finished by now
+pub record IsFree (before : ℕ → ℕ
+    → Type 0) (work : Work) (start : ℕ → ℕ) (now end m : ℕ) : Type 0 where
+  pub number : IsNumber work m
+  pub released : work.release m < end
+  pub free : (i : ℕ) → before i m → finish_of work start i ≤ now
+
+-- the messages that are ready: each that is free and has not been placed, and none that is not free
+pub record AreReady (before : ℕ → ℕ → Type 0) (work : Work) (start : ℕ → ℕ)
+    (now end : ℕ) (ready : List ℕ) : Type 0 where
+  pub only : (m : ℕ) → Contains ready m → IsFree before work start now end m
+  pub each : (m : ℕ) → IsFree before work start now end m → now < start m → Contains ready m
+
+-- a message that runs at now, after the tick at which it finishes
+abbrev pub Runs : Work → (ℕ → ℕ) → ℕ → ℕ × ℕ → Type 0
+Runs work start now r =
+    IsNumber work r.1 × (start r.1 ≤ now) × (now < r.0) × (finish_of work start r.1 ≡ r.0)
+
+-- the messages that run at now, each with its finish
+pub record AreFinishes (work : Work) (start : ℕ → ℕ)
+    (now : ℕ) (finishes : List (ℕ × ℕ)) : Type 0 where
+  pub each : (m : ℕ) → IsNumber work m → start m ≤ now → now < finish_of work start m
+      → Contains finishes (finish_of work start m, m)
+  pub only : All (Runs work start now) finishes
+
+-- how often m is listed
+abbrev pub times : ℕ → List ℕ → ℕ
+times m xs = count_by (λ x. x == m) xs
+
+-- how many needs of m have not been placed
+abbrev pub unplaced_needs : List (List ℕ) → (ℕ → ℕ) → ℕ → ℕ
+unplaced_needs needs start m = count_by (λ i. start i == NEVER) (needs_of needs m)
+
+-- how many needs of m run
+abbrev pub running_needs : List (List ℕ) → List (ℕ × ℕ) → ℕ → ℕ
+running_needs needs finishes m = sum_by (λ r. times r.1 (needs_of needs m)) finishes
+
+-- the count of message m, from 1
+abbrev pub left_of : List ℕ → ℕ → ℕ
+left_of left m = slice_index left (m - 1)
+
+-- the count of each message: how many of its needs have not finished, as they have not been placed
+-- or run
+pub record AreLeft (needs : List (List ℕ)) (start : ℕ → ℕ)
+    (finishes : List (ℕ × ℕ)) (left : List ℕ) : Type 0 where
+  pub count : length left ≡ length needs
+  pub counts : (m : ℕ) → 1 ≤ m → m ≤ length needs
+      → left_of left m ≡ unplaced_needs needs start m + running_needs needs finishes m
+
+-- the counts fall as much as the needs that run
+abbrev pub FallAlike : List (List ℕ) → List (ℕ × ℕ) → List ℕ → List (ℕ × ℕ) → List ℕ → Type 0
+FallAlike needs finishes left finishes_after left_after =
+    (m : ℕ) → 1 ≤ m → m ≤ length needs
+    → left_of left_after m + running_needs needs finishes m
+    ≡ left_of left m + running_needs needs finishes_after m
+
+-- those that finish by next have left
+pub record HaveFinished (next : ℕ) (old new : List (ℕ × ℕ)) : Type 0 where
+  pub kept : (r : ℕ × ℕ) → Contains old r → (r.0 ≤ next) ⊎ Contains new r
+  pub only : (r : ℕ × ℕ) → Contains new r → Contains old r × (next < r.0)
 
 -- lists to which m has been added at some places
 pub record Grows (old : List (List ℕ)) (m : ℕ) (new : List (List ℕ)) : Type 0 where
   pub count : length new ≡ length old
-  pub kept : (i x : ℕ) → Contains (needs_of old i) x → Contains (needs_of new i) x
+  pub others : (i x : ℕ) → x ≢ m → times x (needs_of new i) ≡ times x (needs_of old i)
   pub only : (i x : ℕ) → Contains (needs_of new i) x → Contains (needs_of old i) x ⊎ (x ≡ m)
 
--- the dependents of a message are those that need it
+-- the dependents of a message are those that need it, up to message n
 pub record AreDependents (needs dependents : List (List ℕ)) (n : ℕ) : Type 0 where
   pub count : length dependents ≡ length needs
-  pub each : (i m : ℕ) → IsNeed needs i m → m ≤ n → Contains (needs_of dependents i) m
+  pub each : (i m : ℕ) → 1 ≤ i → 1 ≤ m → m ≤ n
+      → times m (needs_of dependents i) ≡ times i (needs_of needs m)
   pub only : (i m : ℕ) → Contains (needs_of dependents i) m → (1 ≤ m) × (m ≤ n)
 
 -- the releases of all messages, the first to be released first
@@ -58,7 +114,15 @@ pub record IsNextRelease (work : Work) (now next : ℕ) : Type 0 where
   pub releases : (m : ℕ) → IsNumber work m → (work.release m ≤ now) ⊎ (next ≤ work.release m)
   pub one : (next ≡ NEVER) ⊎ ((m : ℕ) × IsNumber work m × (work.release m ≡ next))
 
--- the message that each worker ran last, where it has not finished by now
-pub record AreLast (work : Work) (start worker : ℕ → ℕ) (now : ℕ) (last : List ℕ) : Type 0 where
-  pub held : (m : ℕ) → IsNumber work m → start m ≤ now
-      → now < start m + work.cost m → slice_index last (worker m - 1) ≡ m
+-- the message that is released in this place
+abbrev pub released_at : List (ℕ × ℕ) → ℕ → ℕ
+released_at releases i = (slice_index_or releases i (0, 0)).1
+
+-- the messages that are released from one place to another have joined those that are ready, where
+-- they need nothing more
+pub record Admits (releases : List (ℕ × ℕ)) (from to : ℕ) (left old new : List ℕ) : Type 0 where
+  pub kept : (m : ℕ) → Contains old m → Contains new m
+  pub added : (i : ℕ) → from ≤ i → i < to → left_of left (released_at releases i) ≡ 0
+      → Contains new (released_at releases i)
+  pub only : (m : ℕ) → Contains new m → Contains old m ⊎ ((i : ℕ) × (i < to)
+      × (i < length releases) × (m ≡ released_at releases i) × (left_of left m ≡ 0))

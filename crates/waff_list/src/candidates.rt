@@ -1,4 +1,4 @@
-//! The messages that may be ready, the first to arrive first.
+//! The candidates for a free worker: the messages that are ready, the first to arrive first.
 
 ghost use Rattle.std.specs.Prelude.{◌≡◌, [], OnOk, MatchOption};
 ghost use Rattle.waff_list.specs.Waiting.{Joins, Leaves};

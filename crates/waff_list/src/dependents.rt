@@ -1,9 +1,9 @@
 //! The messages that need each message.
 
 ghost use Rattle.std.specs.Prelude.{◌≡◌, ℕ, ◌+◌, ◌-◌, ◌<◌, ◌≤◌, [], ◌∷◌, ◌++◌, length, replicate};
-ghost use Rattle.std.specs.Prelude.{All, Contains, IfOk, OnOk, slice_set};
-ghost use Rattle.waff_order.specs.Needs.{needs_of};
-ghost use Rattle.waff_list.specs.Waiting.{AreDependents, Grows};
+ghost use Rattle.std.specs.Prelude.{All, IfOk, OnOk, slice_set};
+ghost use Rattle.waff_order.specs.Needs.{needs_of, AreLists};
+ghost use Rattle.waff_list.specs.Waiting.{AreDependents, Grows, times};
 
 use std::alloc::{AllocError, Global};
 use std::marker::Model;
@@ -59,8 +59,8 @@ impl Dependents {
     fn add_all(&mut self, needed: &[u32], m: u32) -> Result<(), AllocError>
         requires { All (λ i. (1 ≤ i) × (i ≤ length self.old)) needed.now }
         ensures grows { OnOk result (Grows self.old m self.new) }
-        ensures added { OnOk result ((i : ℕ) → Contains needed.now i
-            → Contains (needs_of self.new i) m) }
+        ensures added { OnOk result ((i : ℕ) → 1 ≤ i → times m (needs_of self.new i)
+            ≡ times m (needs_of self.old i) + times i needed.now) }
     {
         for at in 0..needed.len() {
             self.add(needed[at], m)?;
@@ -70,8 +70,9 @@ impl Dependents {
 
     /// The messages that need each message.
     pub fn of_needs(alloc: Global, needs: &Needs) -> Result<Self, AllocError>
-        ensures { IfOk result (λ dependents.
+        ensures dependents { IfOk result (λ dependents.
             AreDependents needs.now dependents (length needs.now)) }
+        ensures lists { IfOk result (λ _. AreLists needs.now) }
     {
         let mut dependents = Dependents::none(alloc, needs.len())?;
         for m in 1..needs.len() + 1 {

@@ -4,22 +4,26 @@
 //! the bound of Graham (1969): `k * length <= total + k * release + (k - 1) * cost`, with the
 //! release and the cost of its printed chain.
 //! - `list`: the plan and its printed chain; `worker_plan`: plans for k workers.
-//! - `planner`, over `progress` (the plan while it is made), `candidates` (messages that may be
-//!   ready), `dependents` (the messages that need each message), `releases` and `ticks` (when
-//!   something happens).
+//! - `planner`, over `task` (the messages with their needs, and the `dependents` of each),
+//!   `progress` (the plan while it is made), `finishes` (when the messages that run finish),
+//!   `waiting` (how many needs of each message have not finished, and the `candidates`, those that
+//!   are ready), `releases` and `ticks` (when something happens).
 //! - `laws`: the bound, and that needs make the same plans as all pairs; `unique`: that there is
 //!   one list plan.
 #![tactic(auto)]
 
 mod candidates;
 mod dependents;
+mod finishes;
 pub mod laws;
 mod list;
 mod planner;
 mod progress;
 mod releases;
+mod task;
 mod ticks;
 pub mod unique;
+mod waiting;
 mod worker_plan;
 
 pub use list::{list_chain, list_plan};

@@ -1,19 +1,19 @@
-//! The planner: at each tick at which a worker is free or a message is released, the ready messages
-//! start in turn.
+//! The planner: at each tick at which a message finishes or is released, the ready messages start
+//! in turn on the workers that are free.
 
-ghost use Rattle.std.specs.Prelude.{◌≡◌, ℕ, ◌+◌, ◌^◌, ◌<◌, ◌≤◌, ◌⊎◌, ◌↔◌, All, Contains, IfOk};
-ghost use Rattle.std.specs.Prelude.{OnOk, IsTrue, length, slice_index};
-ghost use Rattle.waff_plan.specs.Work.{IsNumber, finish_of};
-ghost use Rattle.waff_plan.specs.Timing.{start_of};
-ghost use Rattle.waff_order.specs.Needs.{IsNeed, AreLists, needs_of};
-ghost use Rattle.waff_list.specs.Progress.{work_of_messages, IsProgress, IsWaiting, GoesOn, IsMade};
-ghost use Rattle.waff_list.specs.Waiting.{AreCandidates, AreLast};
+ghost use Rattle.std.specs.Prelude.{◌≡◌, ℕ, ◌+◌, ◌^◌, ◌<◌, ◌≤◌, IfOk, OnOk, length};
+ghost use Rattle.waff_plan.specs.Work.{IsNumber};
+ghost use Rattle.waff_order.specs.Needs.{IsNeed, needs_of};
+ghost use Rattle.waff_list.specs.Progress.{work_of_messages, IsMade};
+ghost use Rattle.waff_list.specs.Waiting.{FallAlike, HaveFinished, left_of, times};
+ghost use Rattle.waff_list.specs.Planning.{AreCounted, IsBegun, IsFilled, IsKept, Wakes};
 
-use crate::candidates::Candidates;
-use crate::dependents::Dependents;
+use crate::finishes::Finishes;
 use crate::progress::{NEVER, Progress, least_free};
 use crate::releases::Releases;
-use crate::ticks::{cost_of, next_tick, release_of};
+use crate::task::Task;
+use crate::ticks::next_tick;
+use crate::waiting::Waiting;
 use std::alloc::{AllocError, Global};
 use waff_model::Trace;
 use waff_order::Needs;
@@ -30,18 +30,18 @@ pub(crate) fn make(
     ensures { IfOk result (λ made. IsMade (IsNeed needs.now) (work_of_messages trace.now.messages)
         k made.starts.items made.seats.items made.order.items) }
 {
-    let dependents = Dependents::of_needs(alloc, needs)?;
+    let task = Task::new(alloc, needs, trace)?;
     let mut releases = Releases::new(alloc, trace)?;
     let mut progress = Progress::new(alloc, needs.len(), k)?;
-    let mut candidates = Candidates::new(alloc);
+    let mut waiting = Waiting::new(alloc, needs)?;
     let mut now = 0;
-    releases.pass(now, &mut candidates)?;
+    releases.pass(now, waiting.left.as_slice(), &mut waiting.ready)?;
     loop {
-        fill(needs, trace, now, &mut progress, &mut candidates)?;
-        match next_tick(&releases, progress.free_at.as_slice(), now) {
+        fill(&task, now, &mut progress, &mut waiting)?;
+        match next_tick(&releases, &progress.finishes, now) {
             Some(next) => {
-                wake(&dependents, &progress, now, next, &mut candidates)?;
-                releases.pass(next, &mut candidates)?;
+                wake(&task, now, next, &mut progress.finishes, &mut waiting)?;
+                releases.pass(next, waiting.left.as_slice(), &mut waiting.ready)?;
                 now = next;
             }
             None => return Ok(progress),
@@ -51,135 +51,72 @@ pub(crate) fn make(
 
 /// Starts messages that are ready, in the order of arrival, as long as workers are free.
 fn fill(
-    needs: &Needs,
-    trace: &Trace,
+    task: &Task,
     now: u64,
     progress: &mut Progress,
-    candidates: &mut Candidates,
+    waiting: &mut Waiting,
 ) -> Result<(), AllocError>
-    requires lists { AreLists needs.now }
-    requires lengths { length needs.now ≡ length trace.now.messages }
     requires workers { length progress.old.free_at.items < 2 ^ 32 }
     requires tick { now + 2 ^ 32 < NEVER }
-    requires progress { IsProgress (IsNeed needs.now) (work_of_messages trace.now.messages)
-        (length progress.old.free_at.items) progress.old.starts.items
-        progress.old.seats.items progress.old.free_at.items progress.old.order.items now 1 }
-    requires lasts { length progress.old.last.items ≡ length progress.old.free_at.items }
-    requires last { AreLast (work_of_messages trace.now.messages) (start_of
-        progress.old.starts.items) (start_of progress.old.seats.items) now progress.old.last.items }
-    requires candidates { AreCandidates (IsNeed needs.now) (work_of_messages trace.now.messages)
-        (start_of progress.old.starts.items) now candidates.old }
-    ensures goes_on { IfOk result (λ _. GoesOn (IsNeed needs.now) (work_of_messages
-        trace.now.messages) (length progress.old.free_at.items) progress.old.starts.items
-        progress.new.starts.items progress.new.seats.items progress.new.free_at.items
-        progress.new.order.items now (length trace.now.messages + 1)) }
-    ensures lasts { IfOk result (λ _. length progress.new.last.items
-        ≡ length progress.new.free_at.items) }
-    ensures last { IfOk result (λ _. AreLast (work_of_messages trace.now.messages)
-        (start_of progress.new.starts.items) (start_of progress.new.seats.items) now
-        progress.new.last.items) }
-    ensures candidates { IfOk result (λ _. AreCandidates (IsNeed needs.now) (work_of_messages
-        trace.now.messages) (start_of progress.new.starts.items) now candidates.new) }
+    requires begun { IsBegun task.now.needs.now task.now.trace.now.messages progress.old now }
+    requires kept { IsKept task.now.needs.now task.now.trace.now.messages
+        progress.old waiting.old now (now + 1) }
+    ensures filled { IfOk result (λ _. IsFilled task.now.needs.now task.now.trace.now.messages
+        progress.old progress.new now) }
+    ensures kept { IfOk result (λ _. IsKept task.now.needs.now task.now.trace.now.messages
+        progress.new waiting.new now (now + 1)) }
 {
-    while let Some(m) = candidates.pop() {
-        if is_waiting(needs, trace, progress.starts.as_slice(), now, m) {
-            match least_free(progress.free_at.as_slice(), now) {
-                Some(worker) => progress.place(m, worker, now, cost_of(trace, m))?,
-                None => {
-                    candidates.push(m)?;
-                    return Ok(());
+    while let Some(worker) = least_free(progress.free_at.as_slice(), now) {
+        match waiting.ready.pop() {
+            Some(m) => {
+                if progress.starts[m as usize - 1] > now {
+                    progress.place(m, worker, now, task.cost_of(m))?;
                 }
             }
+            None => return Ok(()),
         }
     }
     Ok(())
 }
 
-/// Makes those that need a message which finishes after `now` and by `next` candidates.
+/// Takes out the messages that finish by `next`, and tells those that need them.
 fn wake(
-    dependents: &Dependents,
-    progress: &Progress,
+    task: &Task,
     now: u64,
     next: u64,
-    candidates: &mut Candidates,
+    finishes: &mut Finishes,
+    waiting: &mut Waiting,
 ) -> Result<(), AllocError>
-    requires lasts { length progress.now.last.items ≡ length progress.now.free_at.items }
-    requires busy { (w : ℕ) → w < length progress.now.free_at.items
-        → now < slice_index progress.now.free_at.items w
-        → (1 ≤ slice_index progress.now.last.items w)
-        × (slice_index progress.now.last.items w ≤ length dependents.now) }
-    ensures kept { OnOk result ((m : ℕ) → Contains candidates.old m → Contains candidates.new m) }
-    ensures woken { OnOk result ((w m : ℕ) → w < length progress.now.free_at.items
-        → now < slice_index progress.now.free_at.items w
-        → slice_index progress.now.free_at.items w ≤ next
-        → Contains (needs_of dependents.now (slice_index progress.now.last.items w)) m
-        → Contains candidates.new m) }
-    ensures only { OnOk result ((m : ℕ) → Contains candidates.new m
-        → Contains candidates.old m ⊎ ((i : ℕ) × Contains (needs_of dependents.now i) m)) }
+    requires next { next < NEVER }
+    requires counted { AreCounted task.now.needs.now task.now.trace.now.messages
+        finishes.old waiting.old }
+    ensures counts { OnOk result (FallAlike task.now.needs.now finishes.old waiting.old.left.items
+        finishes.new waiting.new.left.items) }
+    ensures wakes { OnOk result (Wakes (work_of_messages task.now.trace.now.messages) now
+        waiting.old waiting.new) }
+    ensures finished { OnOk result (HaveFinished next finishes.old finishes.new) }
 {
-    for worker in 0..progress.free_at.len() {
-        let free = progress.free_at[worker];
-        if now < free && free <= next {
-            push_all(candidates, dependents.of(progress.last[worker]))?;
-        }
+    while let Some(m) = finishes.pop_by(next) {
+        tell_all(task, m, now, waiting)?;
     }
     Ok(())
 }
 
-/// Makes these messages candidates.
-fn push_all(candidates: &mut Candidates, messages: &[u32]) -> Result<(), AllocError>
-    ensures kept { OnOk result ((m : ℕ) → Contains candidates.old m → Contains candidates.new m) }
-    ensures added { OnOk result ((m : ℕ) → Contains messages.now m → Contains candidates.new m) }
-    ensures only { OnOk result ((m : ℕ) → Contains candidates.new m
-        → Contains candidates.old m ⊎ Contains messages.now m) }
+/// Tells those that need message `m` that it has finished.
+fn tell_all(task: &Task, m: u32, now: u64, waiting: &mut Waiting) -> Result<(), AllocError>
+    requires number { IsNumber (work_of_messages task.now.trace.now.messages) m }
+    requires count { length waiting.old.left.items ≡ length task.now.trace.now.messages }
+    requires counts { (d : ℕ) → 1 ≤ d → d ≤ length task.now.needs.now
+        → times m (needs_of task.now.needs.now d) ≤ left_of waiting.old.left.items d }
+    ensures counts { OnOk result ((d : ℕ) → 1 ≤ d → d ≤ length task.now.needs.now
+        → left_of waiting.new.left.items d + times m (needs_of task.now.needs.now d)
+        ≡ left_of waiting.old.left.items d) }
+    ensures wakes { OnOk result (Wakes (work_of_messages task.now.trace.now.messages) now
+        waiting.old waiting.new) }
 {
-    for at in 0..messages.len() {
-        candidates.push(messages[at])?;
+    let dependents = task.dependents.of(m);
+    for at in 0..dependents.len() {
+        waiting.tell(task.trace, dependents[at], now)?;
     }
     Ok(())
-}
-
-/// Whether message `m` is ready and not placed yet.
-fn is_waiting(needs: &Needs, trace: &Trace, starts: &[u64], now: u64, m: u32) -> bool
-    requires lists { AreLists needs.now }
-    requires lengths { length needs.now ≡ length trace.now.messages }
-    requires starts { length starts.now ≡ length trace.now.messages }
-    requires tick { now + 2 ^ 32 < NEVER }
-    requires number { IsNumber (work_of_messages trace.now.messages) m }
-    ensures { IsTrue result ↔ IsWaiting (IsNeed needs.now)
-        (work_of_messages trace.now.messages) (start_of starts.now) now m }
-{
-    starts[m as usize - 1] > now
-        && release_of(trace, m) <= now
-        && are_finished(trace, needs.of(m), starts, now)
-}
-
-/// Whether all these messages have finished by now. The last to arrive is asked first, as it mostly
-/// finishes last.
-fn are_finished(trace: &Trace, messages: &[u32], starts: &[u64], now: u64) -> bool
-    requires starts { length starts.now ≡ length trace.now.messages }
-    requires tick { now + 2 ^ 32 < NEVER }
-    requires messages { All (IsNumber (work_of_messages trace.now.messages)) messages.now }
-    ensures { IsTrue result ↔ All (λ m. finish_of
-        (work_of_messages trace.now.messages) (start_of starts.now) m ≤ now) messages.now }
-{
-    for passed in 0..messages.len() {
-        let at = messages.len() - 1 - passed;
-        if !is_finished(trace, messages[at], starts, now) {
-            return false;
-        }
-    }
-    true
-}
-
-/// Whether message `m` has finished by now.
-fn is_finished(trace: &Trace, m: u32, starts: &[u64], now: u64) -> bool
-    requires starts { length starts.now ≡ length trace.now.messages }
-    requires tick { now + 2 ^ 32 < NEVER }
-    requires number { IsNumber (work_of_messages trace.now.messages) m }
-    ensures { IsTrue result
-        ↔ (finish_of (work_of_messages trace.now.messages) (start_of starts.now) m ≤ now) }
-{
-    let start = starts[m as usize - 1];
-    start <= now && start + cost_of(trace, m) <= now
 }

@@ -1,9 +1,10 @@
 //! A plan while it is made, tick after tick.
 
-ghost use Rattle.std.specs.Prelude.{◌≡◌, ◌+◌, ◌-◌, ◌^◌, ◌<◌, ◌≤◌, [], ◌∷◌, ◌++◌, length, replicate};
-ghost use Rattle.std.specs.Prelude.{All, IfOk, OnOk, MatchOption, slice_set};
+ghost use Rattle.std.specs.Prelude.{◌≡◌, ◌+◌, ◌^◌, ◌<◌, [], length, replicate};
+ghost use Rattle.std.specs.Prelude.{All, IfOk, OnOk, MatchOption};
 ghost use Rattle.waff_list.specs.Progress.{IsLeastFree};
 
+use crate::finishes::Finishes;
 use std::alloc::{AllocError, Global};
 
 /// The start of a message that is not placed yet.
@@ -18,20 +19,22 @@ pub(crate) struct Progress {
     pub seats: Vec<u32>,
     /// For each worker the tick at which it is free.
     pub free_at: Vec<u64>,
-    /// For each worker the message that it ran last, 0 for none.
-    pub last: Vec<u32>,
+    /// The messages that run, the first to finish first.
+    pub finishes: Finishes,
     /// The messages that are placed, in the order of their starts.
     pub order: Vec<u32>,
 }
 
 impl Progress {
+    ghost use Rattle.waff_list.specs.Planning.{AreInside, IsPlaced};
+
     /// Nothing is placed yet.
     pub fn new(alloc: Global, messages: u32, workers: u32) -> Result<Self, AllocError>
         ensures starts { IfOk result (λ progress.
             progress.starts.items ≡ replicate messages NEVER) }
         ensures seats { IfOk result (λ progress. progress.seats.items ≡ replicate messages 0) }
         ensures free_at { IfOk result (λ progress. progress.free_at.items ≡ replicate workers 0) }
-        ensures last { IfOk result (λ progress. progress.last.items ≡ replicate workers 0) }
+        ensures finishes { IfOk result (λ progress. progress.finishes ≡ []) }
         ensures order { IfOk result (λ progress. progress.order.items ≡ []) }
     {
         let count = messages as usize;
@@ -39,7 +42,7 @@ impl Progress {
             starts: vec![in alloc; NEVER; count]?,
             seats: vec![in alloc; 0; count]?,
             free_at: vec![in alloc; 0; workers as usize]?,
-            last: vec![in alloc; 0; workers as usize]?,
+            finishes: Finishes::new(alloc),
             order: Vec::with_capacity(alloc, count)?,
         })
     }
@@ -52,28 +55,16 @@ impl Progress {
         now: u64,
         cost: u64,
     ) -> Result<(), AllocError>
-        requires message { 1 ≤ message }
-        requires started { message ≤ length self.old.starts.items }
-        requires sat { message ≤ length self.old.seats.items }
-        requires worker { 1 ≤ worker }
-        requires freed { worker ≤ length self.old.free_at.items }
-        requires lasts { worker ≤ length self.old.last.items }
+        requires inside { AreInside self.old message worker }
         requires tick { now + cost < 2 ^ 64 }
-        ensures starts { OnOk result (self.new.starts.items
-            ≡ slice_set self.old.starts.items (message - 1) now) }
-        ensures seats { OnOk result (self.new.seats.items
-            ≡ slice_set self.old.seats.items (message - 1) worker) }
-        ensures free_at { OnOk result (self.new.free_at.items
-            ≡ slice_set self.old.free_at.items (worker - 1) (now + cost)) }
-        ensures last { OnOk result (self.new.last.items
-            ≡ slice_set self.old.last.items (worker - 1) message) }
-        ensures order { OnOk result (self.new.order.items ≡ self.old.order.items ++ message ∷ []) }
+        ensures { OnOk result (IsPlaced self.old message worker now cost self.new) }
     {
+        let finish = now + cost;
         self.order.push(message)?;
+        self.finishes.push(finish, message)?;
         self.starts[message as usize - 1] = now;
         self.seats[message as usize - 1] = worker;
-        self.free_at[worker as usize - 1] = now + cost;
-        self.last[worker as usize - 1] = message;
+        self.free_at[worker as usize - 1] = finish;
         Ok(())
     }
 }

@@ -1,10 +1,10 @@
 //! The releases of messages, in their order.
 
-ghost use Rattle.std.specs.Prelude.{◌≡◌, ℕ, ◌<◌, ◌≤◌, ◌⊎◌, length, IfOk, OnOk, Contains};
+ghost use Rattle.std.specs.Prelude.{◌≡◌, ℕ, ◌<◌, ◌≤◌, length, All, IfOk, OnOk};
 ghost use Rattle.std.specs.Prelude.{slice_index_or};
 ghost use Rattle.waff_plan.specs.Work.{Work};
 ghost use Rattle.waff_list.specs.Progress.{work_of_messages, IsSmall};
-ghost use Rattle.waff_list.specs.Waiting.{AreReleases, ArePassed, IsNextRelease};
+ghost use Rattle.waff_list.specs.Waiting.{AreReleases, ArePassed, IsNextRelease, Admits};
 
 use crate::candidates::Candidates;
 use crate::progress::NEVER;
@@ -49,23 +49,22 @@ impl Releases {
         }
     }
 
-    /// Passes those that are released by now, and makes their messages candidates.
-    pub fn pass(&mut self, now: u64, candidates: &mut Candidates) -> Result<(), AllocError>
-        requires { self.old.passed ≤ length self.old.sorted.items }
+    /// Passes those that are released by now. Those that need nothing more are ready.
+    pub fn pass(&mut self, now: u64, left: &[u32], ready: &mut Candidates) -> Result<(), AllocError>
+        requires within { self.old.passed ≤ length self.old.sorted.items }
+        requires messages { All (λ r. (1 ≤ r.1) × (r.1 ≤ length left.now)) self.old.sorted.items }
         ensures sorted { OnOk result (self.new.sorted.items ≡ self.old.sorted.items) }
         ensures passed { OnOk result (((i : ℕ) (d : ℕ × ℕ) → i < self.old.passed
             → i < length self.old.sorted.items → (slice_index_or self.old.sorted.items i d).0 ≤ now)
             → ArePassed self.old.sorted.items self.new.passed now) }
-        ensures kept { OnOk result ((m : ℕ) → Contains candidates.old m
-            → Contains candidates.new m) }
-        ensures added { OnOk result ((i : ℕ) → self.old.passed ≤ i → i < self.new.passed
-            → Contains candidates.new (slice_index_or self.old.sorted.items i (0, 0)).1) }
-        ensures only { OnOk result ((m : ℕ) → Contains candidates.new m
-            → Contains candidates.old m ⊎ ((i : ℕ) × (i < length self.old.sorted.items)
-            × (m ≡ (slice_index_or self.old.sorted.items i (0, 0)).1))) }
+        ensures admits { OnOk result (Admits self.old.sorted.items self.old.passed self.new.passed
+            left.now ready.old ready.new) }
     {
         while self.passed < self.sorted.len() && self.sorted[self.passed].0 <= now {
-            candidates.push(self.sorted[self.passed].1)?;
+            let m = self.sorted[self.passed].1;
+            if left[m as usize - 1] == 0 {
+                ready.push(m)?;
+            }
             self.passed += 1;
         }
         Ok(())

@@ -1,16 +1,19 @@
-use Rattle.std.proofs.Common.{◌≡◌, ℕ, ◌+◌, ◌-◌, ◌<◌, ◌≤◌, ◌⊎◌, inl, inr, List, length, get_or, replicate, Contains, arith, refl, sym, ◌∙◌, ap, subst, ⊎_elim}
+use Rattle.std.proofs.Common.{◌≡◌, ℕ, ◌+◌, ◌-◌, ◌<◌, ◌≤◌, inr, List, [], length, get_or, replicate, All, arith, sym, ◌∙◌, ap, subst}
 use Rattle.std.proofs.lemmas.List.{get_or-replicate}
+use Rattle.std.proofs.lemmas.List.Elements.{All-weaker}
 use Rattle.waff_plan.specs.Work.{Work, IsNumber}
 use Rattle.waff_plan.specs.Timing.{start_of}
-use Rattle.waff_order.specs.Needs.{IsNeed, needs_of}
-use Rattle.waff_order.proofs.NeedLemmas.{need_within}
-use Rattle.waff_list.specs.Progress.{work_of_messages, IsProgress, IsNextTick, IsLastTick}
-use Rattle.waff_list.specs.Waiting.{AreReleases, ArePassed}
+use Rattle.waff_order.specs.Needs.{IsNeed}
+use Rattle.waff_list.specs.Progress.{work_of_messages, IsProgress, IsNextTick, IsLastTick, GoesOn}
+use Rattle.waff_list.specs.Planning.{IsKept, Wakes}
+use Rattle.waff_list.specs.Waiting.{Runs, AreReady, AreReleases, ArePassed, Admits, FallAlike, AreLeft, AreFinishes}
 use Rattle.waff_list.specs.declared.progress.TheConstants.{NEVER}
 use Rattle.waff_list.proofs.TraceWork.{count_is, needs_forward}
 use Rattle.waff_list.proofs.Progressing.{progress_none, progress_advance}
+use Rattle.waff_list.proofs.CountLemmas.{left_none, left_fall}
+use Rattle.waff_list.proofs.FinishLemmas.{finishes_none, finishes_advance}
 use Rattle.waff_list.proofs.Events.{events_fewer, on_time_none, on_time_next, made_of_last}
-use Rattle.waff_list.proofs.WakeLemmas.{released_by, busy_with_number, waits_next, last_advance}
+use Rattle.waff_list.proofs.WakeLemmas.{AreKnown, ready_none, ready_wake, ready_pass}
 use Rattle.waff_list.proofs.planner.make.Goals as goal
 
 -- nothing is placed at the beginning
@@ -20,19 +23,17 @@ never_at work m number =
     let to : m ≤ work.count = number.to in
     get_or-replicate work.count (m - 1) NEVER 0 (omega arith)
 
--- a release that is listed is that of a message
-listed_is_number : (work : Work) (releases : List (ℕ × ℕ)) (i m : ℕ) → AreReleases work releases → i < length releases → m ≡ (get_or releases i (0, 0)).1
-    → IsNumber work m
-listed_is_number work releases i m are inside is =
-    let there = are.only i (0, 0) inside in
-    subst (λ x. IsNumber work x) (sym is) there.0
+-- messages that run finish later
+runs_late : (work : Work) (start : ℕ → ℕ) (now : ℕ) (finishes : List (ℕ × ℕ)) → AreFinishes work start now finishes → All (λ r. now < r.0) finishes
+runs_late work start now finishes h = All-weaker (Runs work start now) (λ (r : ℕ × ℕ). now < r.0) (λ (r : ℕ × ℕ) runs. runs.2) finishes h.only
 
-pub loop-candidates-init : goal.loop-candidates-init
-loop-candidates-init c =
-    let before = IsNeed c.args.needs.now in
+pub loop-waiting-init : goal.loop-waiting-init
+loop-waiting-init c =
+    let needs = c.args.needs.now in
+    let before = IsNeed needs in
     let work = work_of_messages c.args.trace.now.messages in
-    let same : length c.args.needs.now ≡ work.count = c.requires.lengths ∙ sym (count_is c.args.trace.now.messages) in
-    let forward = needs_forward c.args.needs.now work c.len.ensures.lists same in
+    let same : length needs ≡ work.count = c.requires.lengths ∙ sym (count_is c.args.trace.now.messages) in
+    let forward = needs_forward needs work c.len.ensures.lists same in
     let count : c.len.result ≡ work.count = c.len.ensures.count ∙ same in
     let few = c.len.ensures.lists.few in
     let h = c.in_ok-progress.ensures in
@@ -41,154 +42,149 @@ loop-candidates-init c =
     let pass = c.in_ok-pass.ensures in
     let none : c.in_ok-releases.releases.passed ≡ 0 = c.in_ok-releases.ensures.none in
     let passed : ArePassed sorted c.pass.new.self.passed 0 = pass.passed (λ i d early inside. absurd (omega (arith, none))) in
-    let zeros : List ℕ = replicate c.args.k 0 in
-    rw (h.starts, h.seats, h.free_at, h.last, h.order, count) (record {
-      progress = progress_none before work c.args.k forward (omega (arith, few));
-      time = on_time_none work (start_of (replicate work.count NEVER));
-      lasts = refl;
-      last = record { held = λ m number early unfinished. let at = never_at work m number in absurd (omega (arith, early, at)) };
-      candidates = record {
-        numbers = λ m there. ⊎_elim {C = IsNumber work m}
-            (λ (old : Contains c.new-candidates.result m).
-            let empty = subst (λ xs. Contains xs m) c.new-candidates.ensures old in
-            let within = empty.1 in
-            absurd (omega (arith, within)))
-            (λ (new : (i : ℕ) × (i < length sorted) × (m ≡ (get_or sorted i (0, 0)).1)). listed_is_number work sorted new.0 m are new.1 new.2)
-            (pass.only m there);
-        each = λ m waiting.
-            let ready = waiting.0 in
-            ⊎_elim {C = Contains c.pass.new.candidates m}
-            (λ (nothing : ⊥). absurd nothing)
-            (λ (there : (i : ℕ) × (c.in_ok-releases.releases.passed ≤ i) × (i < c.pass.new.self.passed) × ((get_or sorted i (0, 0)).1 ≡ m)).
-            subst (λ x. Contains c.pass.new.candidates x) there.3 (pass.added there.0 there.1 there.2))
-            (released_by work sorted c.in_ok-releases.releases.passed c.pass.new.self.passed 0 m ⊥ are (λ i early inside release. omega (arith, none)) passed
-            ready.number ready.released);
+    let p = c.in_ok-progress.progress in
+    let start = start_of p.starts.items in
+    let starts : p.starts.items ≡ replicate work.count NEVER = h.starts ∙ ap (λ n. replicate n NEVER) count in
+    let never = λ (m : ℕ) (number : IsNumber work m). subst (λ xs. start_of xs m ≡ NEVER) (sym starts) (never_at work m number) in
+    let left : List ℕ = c.in_ok-waiting.waiting.left.items in
+    let counts : AreLeft needs start [] left = subst (λ xs. AreLeft needs start [] xs) (sym c.in_ok-waiting.ensures.left) (left_none needs work forward same start never) in
+    let running = finishes_none work start never in
+    let admits : Admits sorted c.in_ok-releases.releases.passed c.pass.new.self.passed left c.in_ok-waiting.waiting.ready c.pass.new.ready
+    = subst (λ xs. Admits sorted c.in_ok-releases.releases.passed c.pass.new.self.passed xs c.in_ok-waiting.waiting.ready c.pass.new.ready) c.as_slice.ensures.value pass.admits in
+    let known : AreKnown needs work start 0 [] left
+    = record { short = omega arith; running = running; counts = counts; placed = λ m number. inr (never m number) } in
+    let ready = ready_pass needs work forward same start 0 0 [] sorted left c.in_ok-waiting.waiting.ready c.pass.new.ready c.in_ok-releases.releases.passed c.pass.new.self.passed
+    (omega arith) known are (λ i d early inside. absurd (omega (arith, none))) passed admits
+    (subst (λ xs. AreReady before work start 0 0 xs) (sym c.in_ok-waiting.ensures.ready) (ready_none before work start)) in
+    let progress : IsProgress before work c.args.k p.starts.items p.seats.items p.free_at.items p.order.items 0 1
+    = rw (h.starts, h.seats, h.free_at, h.order, count) (progress_none before work c.args.k forward (omega (arith, few))) in
+    record {
+      progress = progress;
+      time = on_time_none work start;
+      kept = record {
+        finishes = subst (λ (xs : List (ℕ × ℕ)). AreFinishes work start 0 xs) (sym h.finishes) running;
+        left = subst (λ (xs : List (ℕ × ℕ)). AreLeft needs start xs left) (sym h.finishes) counts;
+        ready = ready;
       };
       releases = subst (λ xs. AreReleases work xs) (sym pass.sorted) are;
       passed = subst (λ xs. ArePassed xs c.pass.new.self.passed 0) (sym pass.sorted) passed;
-    })
+    }
 
-pub wake-requires-clause-busy : goal.wake-requires-clause-busy
-wake-requires-clause-busy c = λ w inside busy.
-    let work = work_of_messages c.args.trace.now.messages in
-    let same : length c.args.needs.now ≡ work.count = c.requires.lengths ∙ sym (count_is c.args.trace.now.messages) in
-    let forward = needs_forward c.args.needs.now work c.len.ensures.lists same in
-    let old = c.loop-candidates.progress in
-    let new = c.fill.new.progress in
-    let now = c.loop-candidates.now in
-    let end : length c.args.trace.now.messages + 1 ≡ work.count + 1 = ap (λ n. n + 1) (sym (count_is c.args.trace.now.messages)) in
-    let made = subst (λ n. IsProgress (IsNeed c.args.needs.now) work (length old.free_at.items) new.starts.items new.seats.items new.free_at.items new.order.items now n) end
-    c.in_ok-fill.ensures.goes_on.progress in
-    let number : IsNumber work (get_or new.last.items w 0)
-    = busy_with_number c.args.needs.now work (length old.free_at.items) forward new.starts.items new.seats.items new.free_at.items new.order.items
-    new.last.items now now (omega arith) made c.in_ok-fill.ensures.last w inside busy in
-    let from : 1 ≤ get_or new.last.items w 0 = number.from in
-    let to : get_or new.last.items w 0 ≤ work.count = number.to in
-    (from, omega (arith, c.in_ok-dependents.ensures.count, same, to))
+pub pass-requires-in-Some-clause-messages : goal.pass-requires-in-Some-clause-messages
+pass-requires-in-Some-clause-messages c = λ k d inside.
+    let messages = c.args.trace.now.messages in
+    let listed = c.loop-waiting.invariant.releases.only k d inside in
+    let from = listed.0.from in
+    let to = listed.0.to in
+    let same = c.requires.lengths in
+    let kept : IsKept c.args.needs.now messages c.fill.new.progress c.fill.new.waiting c.loop-waiting.now (c.loop-waiting.now + 1)
+    = rw (c.in_ok-task.ensures.needs, c.in_ok-task.ensures.trace) at c.in_ok-fill.ensures.kept in
+    let count = kept.left.count in
+    let woken = c.in_ok-wake-in-Some.ensures.wakes.count in
+    let slice = ap length c.as_slice-in-Some.ensures.value in
+    (from, omega (arith, to, count_is messages, same, count, woken, slice))
 
-pub loop-candidates-smaller : goal.loop-candidates-smaller
-loop-candidates-smaller c =
-    let before = IsNeed c.args.needs.now in
-    let work = work_of_messages c.args.trace.now.messages in
-    let same : length c.args.needs.now ≡ work.count = c.requires.lengths ∙ sym (count_is c.args.trace.now.messages) in
-    let forward = needs_forward c.args.needs.now work c.len.ensures.lists same in
-    let old = c.loop-candidates.progress in
+pub loop-waiting-smaller : goal.loop-waiting-smaller
+loop-waiting-smaller c =
+    let needs = c.args.needs.now in
+    let messages = c.args.trace.now.messages in
+    let before = IsNeed needs in
+    let work = work_of_messages messages in
+    let same : length needs ≡ work.count = c.requires.lengths ∙ sym (count_is messages) in
+    let forward = needs_forward needs work c.len.ensures.lists same in
+    let old = c.loop-waiting.progress in
     let new = c.fill.new.progress in
+    let now = c.loop-waiting.now in
     let small = c.in_ok-releases.ensures.small in
-    let tick : IsNextTick work new.free_at.items c.loop-candidates.now c.in-Some.next
-    = subst (λ xs. IsNextTick work xs c.loop-candidates.now c.in-Some.next) c.as_slice.ensures.value
-    (c.in-Some.ensures work small c.loop-candidates.invariant.releases c.loop-candidates.invariant.passed) in
+    let kept : IsKept needs messages new c.fill.new.waiting now (now + 1) = rw (c.in_ok-task.ensures.needs, c.in_ok-task.ensures.trace) at c.in_ok-fill.ensures.kept in
+    let filled : GoesOn before work (length old.free_at.items) old.starts.items new.starts.items new.seats.items new.free_at.items new.order.items now (length messages + 1)
+    = rw (c.in_ok-task.ensures.needs, c.in_ok-task.ensures.trace) at c.in_ok-fill.ensures.filled in
+    let tick : IsNextTick work new.finishes now c.in-Some.next
+    = c.in-Some.ensures work small c.loop-waiting.invariant.releases c.loop-waiting.invariant.passed (runs_late work (start_of new.starts.items) now new.finishes kept.finishes) in
     events_fewer before work (length old.free_at.items) forward small old.starts.items new.starts.items new.seats.items new.free_at.items new.order.items
-    c.loop-candidates.now c.in-Some.next (length c.args.trace.now.messages + 1) c.loop-candidates.invariant.progress.settled.placed c.in_ok-fill.ensures.goes_on tick
+    now c.in-Some.next (length messages + 1) c.loop-waiting.invariant.progress.settled.placed filled new.finishes kept.finishes tick
 
-pub loop-candidates-preserved : goal.loop-candidates-preserved
-loop-candidates-preserved c =
-    let before = IsNeed c.args.needs.now in
-    let work = work_of_messages c.args.trace.now.messages in
-    let same : length c.args.needs.now ≡ work.count = c.requires.lengths ∙ sym (count_is c.args.trace.now.messages) in
-    let forward = needs_forward c.args.needs.now work c.len.ensures.lists same in
-    let old = c.loop-candidates.progress in
+pub loop-waiting-preserved : goal.loop-waiting-preserved
+loop-waiting-preserved c =
+    let needs = c.args.needs.now in
+    let messages = c.args.trace.now.messages in
+    let before = IsNeed needs in
+    let work = work_of_messages messages in
+    let same : length needs ≡ work.count = c.requires.lengths ∙ sym (count_is messages) in
+    let forward = needs_forward needs work c.len.ensures.lists same in
+    let old = c.loop-waiting.progress in
     let new = c.fill.new.progress in
-    let now = c.loop-candidates.now in
+    let start = start_of new.starts.items in
+    let now = c.loop-waiting.now in
     let next = c.in-Some.next in
-    let invariant = c.loop-candidates.invariant in
-    let sorted = c.loop-candidates.releases.sorted.items in
+    let invariant = c.loop-waiting.invariant in
+    let sorted = c.loop-waiting.releases.sorted.items in
     let small = c.in_ok-releases.ensures.small in
-    let tick : IsNextTick work new.free_at.items now next
-    = subst (λ xs. IsNextTick work xs now next) c.as_slice.ensures.value (c.in-Some.ensures work small invariant.releases invariant.passed) in
+    let kept : IsKept needs messages new c.fill.new.waiting now (now + 1) = rw (c.in_ok-task.ensures.needs, c.in_ok-task.ensures.trace) at c.in_ok-fill.ensures.kept in
+    let filled : GoesOn before work (length old.free_at.items) old.starts.items new.starts.items new.seats.items new.free_at.items new.order.items now (length messages + 1)
+    = rw (c.in_ok-task.ensures.needs, c.in_ok-task.ensures.trace) at c.in_ok-fill.ensures.filled in
+    let tick : IsNextTick work new.finishes now next
+    = c.in-Some.ensures work small invariant.releases invariant.passed (runs_late work start now new.finishes kept.finishes) in
     let later : now < next = tick.later in
     let workers : length old.free_at.items ≡ c.args.k = invariant.progress.workers_count in
-    let end : length c.args.trace.now.messages + 1 ≡ work.count + 1 = ap (λ n. n + 1) (sym (count_is c.args.trace.now.messages)) in
-    let filled = c.in_ok-fill.ensures in
+    let end : length messages + 1 ≡ work.count + 1 = ap (λ n. n + 1) (sym (count_is messages)) in
     let made : IsProgress before work c.args.k new.starts.items new.seats.items new.free_at.items new.order.items now (work.count + 1)
     = subst (λ n. IsProgress before work c.args.k new.starts.items new.seats.items new.free_at.items new.order.items now n) end
-    (subst (λ n. IsProgress before work n new.starts.items new.seats.items new.free_at.items new.order.items now (length c.args.trace.now.messages + 1)) workers
-    filled.goes_on.progress) in
-    let wake = c.in_ok-wake-in-Some.ensures in
+    (subst (λ n. IsProgress before work n new.starts.items new.seats.items new.free_at.items new.order.items now (length messages + 1)) workers filled.progress) in
+    let advanced = progress_advance before work c.args.k forward new.starts.items new.seats.items new.free_at.items new.order.items now next new.finishes
+    tick.later tick.tick kept.finishes tick.first tick.releases made in
+    let counts : FallAlike needs new.finishes c.fill.new.waiting.left.items c.wake.new.finishes c.wake.new.waiting.left.items
+    = rw c.in_ok-task.ensures.needs at c.in_ok-wake-in-Some.ensures.counts in
+    let wakes : Wakes work now c.fill.new.waiting c.wake.new.waiting = rw c.in_ok-task.ensures.trace at c.in_ok-wake-in-Some.ensures.wakes in
+    let running = finishes_advance work start now next new.finishes c.wake.new.finishes later tick.tick made.settled.placed c.in_ok-wake-in-Some.ensures.finished kept.finishes in
+    let left = left_fall needs start new.finishes c.wake.new.finishes c.fill.new.waiting.left.items c.wake.new.waiting.left.items kept.left counts wakes.count in
+    let first : AreKnown needs work start now new.finishes c.fill.new.waiting.left.items
+    = record { short = let short : next < NEVER = tick.tick in omega arith; running = kept.finishes; counts = kept.left; placed = made.settled.placed } in
+    let second : AreKnown needs work start next c.wake.new.finishes c.wake.new.waiting.left.items
+    = record { short = tick.tick; running = running; counts = left; placed = advanced.settled.placed } in
+    let woken = ready_wake needs work forward same start now next new.finishes c.wake.new.finishes c.fill.new.waiting.left.items c.wake.new.waiting.left.items
+    c.fill.new.waiting.ready c.wake.new.waiting.ready later first second wakes.kept wakes.woken wakes.only kept.ready in
     let pass = c.in_ok-pass-in-Some.ensures in
     let passed : ArePassed sorted c.pass-in-Some.new.self.passed next
     = pass.passed (λ i d early inside. let is : (get_or sorted i d).0 ≤ now = invariant.passed.before i d early inside in omega arith) in
-    let deps = c.in_ok-dependents.ensures in
-    let more = c.pass-in-Some.new.candidates in
+    let admits : Admits sorted c.loop-waiting.releases.passed c.pass-in-Some.new.self.passed c.wake.new.waiting.left.items c.wake.new.waiting.ready c.pass-in-Some.new.ready
+    = subst (λ xs. Admits sorted c.loop-waiting.releases.passed c.pass-in-Some.new.self.passed xs c.wake.new.waiting.ready c.pass-in-Some.new.ready)
+    c.as_slice-in-Some.ensures.value pass.admits in
+    let ready = ready_pass needs work forward same start next (now + 1) c.wake.new.finishes sorted c.wake.new.waiting.left.items c.wake.new.waiting.ready c.pass-in-Some.new.ready
+    c.loop-waiting.releases.passed c.pass-in-Some.new.self.passed (omega arith) second invariant.releases
+    (λ i d early inside. let is : (get_or sorted i d).0 ≤ now = invariant.passed.before i d early inside in omega arith) passed admits woken in
     record {
-      progress = progress_advance before work c.args.k forward new.starts.items new.seats.items new.free_at.items new.order.items now next
-          tick.later tick.tick tick.frees tick.releases made;
+      progress = advanced;
       time = on_time_next before work (length old.free_at.items) forward small old.starts.items new.starts.items new.seats.items new.free_at.items
-          new.order.items now next (length c.args.trace.now.messages + 1) invariant.progress.settled.placed filled.goes_on tick invariant.time;
-      lasts = filled.lasts;
-      last = last_advance c.args.needs.now work c.args.k forward new.starts.items new.seats.items new.free_at.items new.order.items new.last.items now next tick.tick made
-          filled.last later;
-      candidates = record {
-        numbers = λ m there. ⊎_elim {C = IsNumber work m}
-            (λ (woken : Contains c.wake.new.candidates m).
-            ⊎_elim {C = IsNumber work m}
-            (λ (kept : Contains c.fill.new.candidates m). filled.candidates.numbers m kept)
-            (λ (one : (i : ℕ) × Contains (needs_of c.in_ok-dependents.dependents i) m).
-            let within = deps.only one.0 m one.1 in
-            let to : m ≤ length c.args.needs.now = within.1 in
-            let number : IsNumber work m = record { from = within.0; to = omega (arith, same) } in
-            number)
-            (wake.only m woken))
-            (λ (new_one : (i : ℕ) × (i < length sorted) × (m ≡ (get_or sorted i (0, 0)).1)). listed_is_number work sorted new_one.0 m invariant.releases new_one.1 new_one.2)
-            (pass.only m there);
-        each = λ m waiting. waits_next c.args.needs.now work c.args.k forward new.starts.items new.seats.items new.free_at.items new.order.items new.last.items now next
-            tick.tick made filled.last c.fill.new.candidates more m filled.candidates
-            (λ x there. pass.kept x (wake.kept x there))
-            (λ w d inside busy done need.
-            let to = need_within c.args.needs.now (get_or new.last.items w 0) d need in
-            pass.kept d (wake.woken w d inside busy done (deps.each (get_or new.last.items w 0) d need to)))
-            (λ x number released. ⊎_elim {C = (work.release x ≤ now) ⊎ Contains more x}
-            (λ (early : work.release x ≤ now). inl early)
-            (λ (there : (i : ℕ) × (c.loop-candidates.releases.passed ≤ i) × (i < c.pass-in-Some.new.self.passed) × ((get_or sorted i (0, 0)).1 ≡ x)).
-            inr (subst (λ y. Contains more y) there.3 (pass.added there.0 there.1 there.2)))
-            (released_by work sorted c.loop-candidates.releases.passed c.pass-in-Some.new.self.passed next x (work.release x ≤ now) invariant.releases
-            (λ i early inside release. let is : (get_or sorted i (work.release x, x)).0 ≤ now = invariant.passed.before i (work.release x, x) early inside in omega (arith, release))
-            passed number released))
-            later waiting;
-      };
+          new.order.items now next (length messages + 1) invariant.progress.settled.placed filled new.finishes kept.finishes tick invariant.time;
+      kept = record { finishes = running; left = left; ready = ready };
       releases = subst (λ xs. AreReleases work xs) (sym pass.sorted) invariant.releases;
       passed = subst (λ xs. ArePassed xs c.pass-in-Some.new.self.passed next) (sym pass.sorted) passed;
     }
 
 pub returns-in-None : goal.returns-in-None
 returns-in-None c =
-    let before = IsNeed c.args.needs.now in
-    let work = work_of_messages c.args.trace.now.messages in
-    let same : length c.args.needs.now ≡ work.count = c.requires.lengths ∙ sym (count_is c.args.trace.now.messages) in
-    let forward = needs_forward c.args.needs.now work c.len.ensures.lists same in
-    let old = c.loop-candidates.progress in
+    let needs = c.args.needs.now in
+    let messages = c.args.trace.now.messages in
+    let before = IsNeed needs in
+    let work = work_of_messages messages in
+    let same : length needs ≡ work.count = c.requires.lengths ∙ sym (count_is messages) in
+    let forward = needs_forward needs work c.len.ensures.lists same in
+    let old = c.loop-waiting.progress in
     let new = c.fill.new.progress in
-    let now = c.loop-candidates.now in
-    let invariant = c.loop-candidates.invariant in
+    let now = c.loop-waiting.now in
+    let invariant = c.loop-waiting.invariant in
     let small = c.in_ok-releases.ensures.small in
-    let last : IsLastTick work new.free_at.items now
-    = subst (λ xs. IsLastTick work xs now) c.as_slice.ensures.value (c.in-None.ensures work small invariant.releases invariant.passed) in
+    let kept : IsKept needs messages new c.fill.new.waiting now (now + 1) = rw (c.in_ok-task.ensures.needs, c.in_ok-task.ensures.trace) at c.in_ok-fill.ensures.kept in
+    let filled : GoesOn before work (length old.free_at.items) old.starts.items new.starts.items new.seats.items new.free_at.items new.order.items now (length messages + 1)
+    = rw (c.in_ok-task.ensures.needs, c.in_ok-task.ensures.trace) at c.in_ok-fill.ensures.filled in
+    let last : IsLastTick work new.finishes now
+    = c.in-None.ensures work small invariant.releases invariant.passed (runs_late work (start_of new.starts.items) now new.finishes kept.finishes) in
     let workers : length old.free_at.items ≡ c.args.k = invariant.progress.workers_count in
-    let end : length c.args.trace.now.messages + 1 ≡ work.count + 1 = ap (λ n. n + 1) (sym (count_is c.args.trace.now.messages)) in
+    let end : length messages + 1 ≡ work.count + 1 = ap (λ n. n + 1) (sym (count_is messages)) in
     let made : IsProgress before work c.args.k new.starts.items new.seats.items new.free_at.items new.order.items now (work.count + 1)
     = subst (λ n. IsProgress before work c.args.k new.starts.items new.seats.items new.free_at.items new.order.items now n) end
-    (subst (λ n. IsProgress before work n new.starts.items new.seats.items new.free_at.items new.order.items now (length c.args.trace.now.messages + 1)) workers
-    c.in_ok-fill.ensures.goes_on.progress) in
+    (subst (λ n. IsProgress before work n new.starts.items new.seats.items new.free_at.items new.order.items now (length messages + 1)) workers filled.progress) in
     let few = c.len.ensures.lists.few in
     made_of_last before work c.args.k forward small new.starts.items new.seats.items new.free_at.items new.order.items now
-    c.requires.some (omega (arith, invariant.time, few, same)) made last
+    c.requires.some (omega (arith, invariant.time, few, same)) made new.finishes kept.finishes last

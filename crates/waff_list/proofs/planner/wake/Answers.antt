@@ -1,51 +1,76 @@
-use Rattle.std.proofs.Common.{◌≡◌, ◌≢◌, ℕ, ◌<◌, ◌≤◌, ◌⊎◌, inr, length, get_or, Contains, arith, sym, ◌∙◌, ap, subst, ⊎_elim}
-use Rattle.std.proofs.lemmas.Bool.{cases_eq}
-use Rattle.std.proofs.lemmas.List.{get_or_read}
+use Rattle.std.proofs.Common.{◌≡◌, ℕ, suc, List, sym, ◌<◌, ◌≤◌, ◌⊎◌, inl, inr, ◌∷◌, length, Contains, arith, refl, ap, subst, ⊎_elim}
+use Rattle.std.proofs.lemmas.List.Elements.{All-contains}
+use Rattle.std.proofs.lemmas.List.Sorted.{IsPermutation-sym, Contains-permutation, length_permutation, sum_by_popped}
+use Rattle.waff_plan.specs.Work.{IsNumber}
 use Rattle.waff_order.specs.Needs.{needs_of}
+use Rattle.waff_list.specs.Progress.{work_of_messages}
+use Rattle.waff_list.specs.Waiting.{times}
+use Rattle.waff_list.proofs.FinishLemmas.{contains_rest_of}
+use Rattle.waff_list.proofs.WakingLemmas.{wakes_join}
 use Rattle.waff_list.proofs.planner.wake.Goals as goal
-use Rattle.waff_list.proofs.planner.wake.Goals.{then-now-free+then-free-next+in_ok-push_all, else-now-free, else-now-free-via-then-now-free+else-free-next, else-now-free-via-else-now-free}
 
-pub loop-worker-preserved : goal.loop-worker-preserved
-loop-worker-preserved c =
-    let frees = c.args.progress.now.free_at.items in
-    let last = c.args.progress.now.last.items in
-    let deps = c.args.dependents.now in
-    let worker = c.loop-worker.worker in
-    let h = c.loop-worker.invariant in
-    let inside : worker < length frees = omega arith in
-    let free : c.index-free.result.now ≡ get_or frees worker 0 = get_or_read frees worker c.index-free.result.now inside c.index-free.ensures 0 in
-    elim c.if-now-free.branch [
-      | then-now-free+then-free-next+in_ok-push_all w ↦
-          let pushed = w.in_ok-push_all.ensures in
-          let is_last : w.index.result.now ≡ get_or last worker 0 = get_or_read last worker w.index.result.now (omega (arith, c.requires.lasts)) w.index.ensures 0 in
-          let messages : w.of.result.now ≡ needs_of deps (get_or last worker 0) = w.of.ensures ∙ ap (λ i. needs_of deps i) is_last in
-          rw w.candidates-is (record {
-            kept = λ m there. pushed.kept m (h.kept m there);
-            woken = λ v m before busy done there. ⊎_elim {C = Contains w.push_all.new.candidates m}
-                (λ (same : v ≡ worker).
-                pushed.added m (subst (λ xs. Contains xs m) (sym messages) (subst (λ u. Contains (needs_of deps (get_or last u 0)) m) same there)))
-                (λ (other : v ≢ worker). pushed.kept m (h.woken v m (omega arith) busy done there))
-                (cases_eq v worker);
-            only = λ m there. ⊎_elim {C = Contains c.args.candidates.now m ⊎ ((i : ℕ) × Contains (needs_of deps i) m)}
-                (λ (old : Contains c.loop-worker.candidates m). h.only m old)
-                (λ (new : Contains w.of.result.now m). inr (get_or last worker 0, subst (λ xs. Contains xs m) messages new))
-                (pushed.only m there);
-          })
-      | else-now-free w ↦
-          let idle : (c.args.now < get_or frees worker 0) → (get_or frees worker 0 ≤ c.args.next) → ⊥ = elim w.else-now-free.branch [
-            | else-now-free-via-then-now-free+else-free-next w' ↦ λ busy done. (let late = w'.if-free-next.false in omega (arith, late, free))
-            | else-now-free-via-else-now-free w' ↦ λ busy done. (let early = w'.if-now-free.false in omega (arith, early, free))
-          ] in
-          rw w.candidates-is (record {
-            kept = h.kept;
-            woken = λ v m before busy done there. ⊎_elim {C = Contains c.loop-worker.candidates m}
-                (λ (same : v ≡ worker).
-                absurd (idle (subst (λ u. c.args.now < get_or frees u 0) same busy) (subst (λ u. get_or frees u 0 ≤ c.args.next) same done)))
-                (λ (other : v ≢ worker). h.woken v m (omega arith) busy done there)
-                (cases_eq v worker);
-            only = h.only;
-          })
-    ]
+pub tell_all-requires-clause-number : goal.tell_all-requires-clause-number
+tell_all-requires-clause-number c =
+    let popped = c.in-Some.ensures in
+    let pair : ℕ × ℕ = (popped.0, c.in-Some.m) in
+    let there = Contains-permutation (pair ∷ c.pop_by.new.self) c.loop-m.finishes pair
+    (IsPermutation-sym c.loop-m.finishes (pair ∷ c.pop_by.new.self) popped.2) (0, omega arith, refl) in
+    All-contains (λ (r : ℕ × ℕ). IsNumber (work_of_messages c.args.task.now.trace.now.messages) r.1) c.args.finishes.now pair c.requires.counted.numbers
+    (c.loop-m.invariant.only pair there)
 
-pub returns-clause-woken : goal.returns-clause-woken
-returns-clause-woken c = λ w m within busy done there. c.loop-worker.invariant.woken w m (omega arith) busy done there
+pub tell_all-requires-clause-counts : goal.tell_all-requires-clause-counts
+tell_all-requires-clause-counts c = λ d from to.
+    let popped = c.in-Some.ensures in
+    let xs = needs_of c.args.task.now.needs.now d in
+    let part = sum_by_popped (λ (r : ℕ × ℕ). times r.1 xs) (popped.0, c.in-Some.m) c.loop-m.finishes c.pop_by.new.self popped.2 in
+    omega (arith, part, c.loop-m.invariant.counts d from to, c.requires.counted.counts d from to)
+
+pub loop-m-smaller : goal.loop-m-smaller
+loop-m-smaller c =
+    let popped = c.in-Some.ensures in
+    let pair : ℕ × ℕ = (popped.0, c.in-Some.m) in
+    let long : length (pair ∷ c.pop_by.new.self) ≡ length c.loop-m.finishes = length_permutation c.loop-m.finishes (pair ∷ c.pop_by.new.self) popped.2 in
+    let less : length c.pop_by.new.self < length c.loop-m.finishes = omega (arith, long) in
+    less
+
+pub loop-m-preserved : goal.loop-m-preserved
+loop-m-preserved c =
+    let popped = c.in-Some.ensures in
+    let h = c.loop-m.invariant in
+    let pair : ℕ × ℕ = (popped.0, c.in-Some.m) in
+    let old = c.loop-m.finishes in
+    let new = c.pop_by.new.self in
+    let told = c.in_ok-tell_all.ensures in
+    record {
+      counts = λ d from to.
+          let xs = needs_of c.args.task.now.needs.now d in
+          let part = sum_by_popped (λ (r : ℕ × ℕ). times r.1 xs) pair old new popped.2 in
+          omega (arith, part, h.counts d from to, told.counts d from to);
+      wakes = wakes_join (work_of_messages c.args.task.now.trace.now.messages) c.args.now c.args.waiting.now c.loop-m.waiting c.tell_all.new.waiting h.wakes told.wakes;
+      kept = λ (r : ℕ × ℕ) there. ⊎_elim {C = (r.0 ≤ c.args.next) ⊎ Contains new r}
+          (λ (done : r.0 ≤ c.args.next). inl done)
+          (λ (was : Contains old r).
+          ⊎_elim {C = (r.0 ≤ c.args.next) ⊎ Contains new r}
+          (λ (still : Contains new r). inr still)
+          (λ (same : r ≡ pair). let at = ap (λ (s : ℕ × ℕ). s.0) same in let done : r.0 ≤ c.args.next = omega (arith, at, popped.1) in inl done)
+          (contains_rest_of pair r new (Contains-permutation old (pair ∷ new) r popped.2 was)))
+          (h.kept r there);
+      only = λ (r : ℕ × ℕ) there.
+          let within = there.1 in
+          h.only r (Contains-permutation (pair ∷ new) old r (IsPermutation-sym old (pair ∷ new) popped.2) (suc there.0, omega (arith, within), there.2));
+    }
+
+pub returns-clause-finished : goal.returns-clause-finished
+returns-clause-finished c =
+    let none = c.in_default.ensures in
+    let h = c.loop-m.invariant in
+    let old = c.loop-m.finishes in
+    record {
+      kept = λ (r : ℕ × ℕ) there. ⊎_elim {C = (r.0 ≤ c.args.next) ⊎ Contains c.pop_by.new.self r}
+          (λ (done : r.0 ≤ c.args.next). inl done)
+          (λ (was : Contains old r). inr (subst (λ (xs : List (ℕ × ℕ)). Contains xs r) (sym none.0) was))
+          (h.kept r there);
+      only = λ (r : ℕ × ℕ) there.
+          let was = subst (λ (xs : List (ℕ × ℕ)). Contains xs r) none.0 there in
+          (h.only r was, All-contains (λ (s : ℕ × ℕ). c.args.next < s.0) old r none.1 was);
+    }

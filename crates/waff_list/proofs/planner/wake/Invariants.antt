@@ -1,11 +1,16 @@
-use Rattle.std.proofs.Common.{ℕ, ◌<◌, ◌≤◌, ◌⊎◌, get_or, Contains}
-use Rattle.waff_order.specs.Needs.{needs_of}
+use Rattle.std.proofs.Common.{ℕ, ◌≤◌, ◌⊎◌, length, Contains}
+use Rattle.waff_list.specs.Progress.{work_of_messages}
+use Rattle.waff_list.specs.Waiting.{FallAlike}
+use Rattle.waff_list.specs.Planning.{Wakes}
 use Rattle.waff_list.proofs.planner.wake.Given as goal
 
-abbrev pub invariant-loop-worker : goal.invariant-loop-worker
-invariant-loop-worker l = record {
-  kept : (m : ℕ) → Contains l.initial.candidates m → Contains l.candidates m;
-  woken : (w m : ℕ) → w < l.worker → l.now < get_or l.progress.free_at.items w 0 → get_or l.progress.free_at.items w 0 ≤ l.next
-      → Contains (needs_of l.dependents (get_or l.progress.last.items w 0)) m → Contains l.candidates m;
-  only : (m : ℕ) → Contains l.candidates m → Contains l.initial.candidates m ⊎ ((i : ℕ) × Contains (needs_of l.dependents i) m);
+abbrev pub invariant-loop-m : goal.invariant-loop-m
+invariant-loop-m l = record {
+  counts : FallAlike l.task.needs.now l.initial.finishes l.initial.waiting.left.items l.finishes l.waiting.left.items;
+  wakes : Wakes (work_of_messages l.task.trace.now.messages) l.now l.initial.waiting l.waiting;
+  kept : (r : ℕ × ℕ) → Contains l.initial.finishes r → (r.0 ≤ l.next) ⊎ Contains l.finishes r;
+  only : (r : ℕ × ℕ) → Contains l.finishes r → Contains l.initial.finishes r;
 }
+
+abbrev pub decreases-loop-m : goal.decreases-loop-m
+decreases-loop-m l = length l.finishes

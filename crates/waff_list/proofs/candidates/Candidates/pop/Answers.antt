@@ -5,7 +5,7 @@ use Rattle.std.proofs.lemmas.List.{nil_from_length}
 use Rattle.std.proofs.lemmas.List.Elements.{All-map, All-weaker, All-from_recursion}
 use Rattle.std.proofs.lemmas.List.Sorted.{IsPermutation-map}
 use Rattle.waff_list.specs.Waiting.{Leaves}
-use Rattle.waff_list.proofs.CandidateLemmas.{leaves_of}
+use Rattle.waff_list.proofs.ReadyLemmas.{leaves_of}
 use Rattle.waff_list.proofs.OrderingLemmas.{not_less}
 use Rattle.waff_list.proofs.candidates.Candidates.pop.Goals as goal
 use Rattle.waff_list.proofs.candidates.Candidates.pop.Goals.{in-Some, in-None}

@@ -2,7 +2,7 @@ use Rattle.std.proofs.Common.{map, subst}
 use Rattle.std.specs.BinaryHeap.{heap_items}
 use Rattle.std.proofs.lemmas.List.Sorted.{IsPermutation-map}
 use Rattle.waff_list.specs.Waiting.{Joins}
-use Rattle.waff_list.proofs.CandidateLemmas.{joins_of}
+use Rattle.waff_list.proofs.ReadyLemmas.{joins_of}
 use Rattle.waff_list.proofs.candidates.Candidates.push.Goals as goal
 
 pub returns : goal.returns

@@ -1,7 +1,7 @@
 use Rattle.std.proofs.Common.{◌≡◌, ℕ, ◌+◌, ◌-◌, ◌≤◌, [], length, get_or, replicate, Contains, arith, sym, ◌∙◌, ap, subst}
 use Rattle.std.proofs.lemmas.List.Elements.{Contains-get_or}
 use Rattle.waff_order.specs.Needs.{needs_of}
-use Rattle.waff_list.specs.Waiting.{Grows, AreDependents}
+use Rattle.waff_list.specs.Waiting.{Grows, AreDependents, times}
 use Rattle.waff_list.proofs.DependentLemmas.{dependents_none, dependents_more, needs_inside}
 use Rattle.waff_list.proofs.dependents.Dependents.of_needs.Goals as goal
 
@@ -24,13 +24,13 @@ loop-m-preserved c =
     let one_more : n + 1 ≡ c.loop-m.m + 1 - 1 = omega arith in
     let h = c.in_ok-add_all.ensures in
     let grows = subst (λ m. Grows c.loop-m.dependents m c.add_all.new.self) next h.grows in
-    let added = λ (i : ℕ) (there : Contains (needs_of c.args.needs.now (n + 1)) i).
-    subst (λ m. Contains (needs_of c.add_all.new.self i) m) next
-    (h.added i (subst (λ xs. Contains xs i) (sym c.of.ensures.needs) (subst (λ m. Contains (needs_of c.args.needs.now m) i) (sym next) there))) in
+    let added = λ (i : ℕ) (from : 1 ≤ i).
+    subst (λ m. times m (needs_of c.add_all.new.self i) ≡ times m (needs_of c.loop-m.dependents i) + times i (needs_of c.args.needs.now m)) next
+    (h.added i from ∙ ap (λ xs. times c.loop-m.m (needs_of c.loop-m.dependents i) + times i xs) c.of.ensures.needs) in
     subst (λ m. AreDependents c.args.needs.now c.add_all.new.self m) one_more
     (dependents_more c.args.needs.now c.loop-m.dependents c.add_all.new.self n c.loop-m.invariant grows added)
 
-pub returns : goal.returns
-returns c =
+pub returns-clause-dependents : goal.returns-clause-dependents
+returns-clause-dependents c =
     let all : c.loop-m.m - 1 ≡ length c.args.needs.now = omega arith in
     subst (λ n. AreDependents c.args.needs.now c.loop-m.dependents n) all c.loop-m.invariant

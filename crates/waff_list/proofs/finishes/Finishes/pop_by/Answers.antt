@@ -1,0 +1,43 @@
+use Rattle.std.proofs.Common.{◌≡◌, ℕ, ◌∷◌, ◌<◌, ◌≤◌, [], List, map, All, Contains, arith, sym, ◌∙◌, ap, subst, ⊎_elim, rules}
+use Rattle.std.specs.BinaryHeap.{heap_items}
+use Rattle.std.specs.List.Sorted.{IsPermutation}
+use Rattle.std.specs.declared.cmp.Reverse.{Reverse}
+use Rattle.std.proofs.lemmas.List.{nil_from_length}
+use Rattle.std.proofs.lemmas.List.Elements.{All-map, All-weaker, All-from_recursion, All-contains, All-nil}
+use Rattle.std.proofs.lemmas.List.Sorted.{IsPermutation-map, Contains-permutation}
+use Rattle.waff_list.specs.declared.progress.TheConstants.{NEVER}
+use Rattle.waff_list.proofs.OrderingLemmas.{not_less_first}
+use Rattle.waff_list.proofs.FinishLemmas.{contains_rest_of}
+use Rattle.waff_list.proofs.finishes.Finishes.pop_by.Goals as goal
+use Rattle.waff_list.proofs.finishes.Finishes.pop_by.Goals.{in-Some, in-None}
+
+pub returns : goal.returns
+returns c = elim c.match-pop.branch [
+  | in-Some w ↦
+      let old = c.args.self.now in
+      let new = heap_items c.pop.new.self in
+      let top = w.in-Some.field-0.0 in
+      let rest : List (ℕ × ℕ) = map (λ (r : Reverse (ℕ × ℕ)). r.0) new in
+      let popped : IsPermutation old (top ∷ rest) = subst (λ (xs : List (ℕ × ℕ)). IsPermutation xs (top ∷ rest)) c.self.view_is
+      (IsPermutation-map (λ (r : Reverse (ℕ × ℕ)). r.0) _ _ w.in-Some.ensures.permutation) in
+      let above = All-from_recursion _ new (w.in-Some.ensures.below_top c.self.invariant) in
+      let least : All (λ (r : ℕ × ℕ). top.0 ≤ r.0) rest = All-map (λ (r : ℕ × ℕ). top.0 ≤ r.0) (λ (r : Reverse (ℕ × ℕ)). r.0) new
+      (All-weaker _ (λ (r : Reverse (ℕ × ℕ)). top.0 ≤ r.0.0) (λ r h. not_less_first r.0 top h) new above) in
+      let early : top.0 ≤ c.next.result = ⊎_elim {C = top.0 ≤ c.next.result}
+      (λ (never : c.next.result ≡ NEVER). absurd (omega arith))
+      (λ (there : (m : ℕ) × Contains old (c.next.result, m)).
+      ⊎_elim {C = top.0 ≤ c.next.result}
+      (λ (in_rest : Contains rest (c.next.result, there.0)). All-contains (λ (r : ℕ × ℕ). top.0 ≤ r.0) rest (c.next.result, there.0) least in_rest)
+      (λ (is : (c.next.result, there.0) ≡ top). let same = ap (λ (r : ℕ × ℕ). r.0) is in omega (arith, same))
+      (contains_rest_of top (c.next.result, there.0) rest (Contains-permutation old (top ∷ rest) (c.next.result, there.0) popped there.1)))
+      c.next.ensures.one in
+      let done : top.0 ≤ c.args.tick = omega arith in
+      rw w.result-is (top.0, done, popped)
+  | in-None w ↦
+      let none : heap_items c.self.inside.heap ≡ [] = search (rules, nil_from_length) in
+      let empty : c.args.self.now ≡ [] = sym c.self.view_is ∙ ap (λ xs. map (λ (r : Reverse (ℕ × ℕ)). r.0) xs) none in
+      rw w.result-is (
+        ap (λ xs. map (λ (r : Reverse (ℕ × ℕ)). r.0) xs) w.in-None.ensures.unchanged.0 ∙ c.self.view_is,
+        subst (λ (xs : List (ℕ × ℕ)). All (λ (r : ℕ × ℕ). c.args.tick < r.0) xs) (sym empty) (All-nil (λ (r : ℕ × ℕ). c.args.tick < r.0)),
+      )
+]

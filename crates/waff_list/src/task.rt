@@ -1,0 +1,49 @@
+//! What is to be planned: the messages of a trace with their needs.
+
+ghost use Rattle.std.specs.Prelude.{◌≡◌, ◌^◌, ◌<◌, ◌≤◌, length, IfOk};
+ghost use Rattle.waff_order.specs.Needs.{AreLists};
+ghost use Rattle.waff_list.specs.Waiting.{AreDependents};
+ghost use Rattle.waff_list.specs.Progress.{work_of_messages};
+
+use crate::dependents::Dependents;
+use std::alloc::{AllocError, Global};
+use waff_model::Trace;
+use waff_order::Needs;
+
+/// The messages of a trace, the needs of each, and those that need each.
+#[derive(Drop)]
+pub(crate) struct Task<'a> {
+    pub needs: &'a Needs,
+    pub trace: &'a Trace,
+    pub dependents: Dependents,
+    ghost lists: { AreLists needs.now },
+    ghost lengths: { length needs.now ≡ length trace.now.messages },
+    ghost told: { AreDependents needs.now dependents (length needs.now) },
+}
+
+impl<'a> Task<'a> {
+    /// The messages of this trace with these needs.
+    pub fn new(alloc: Global, needs: &'a Needs, trace: &'a Trace) -> Result<Self, AllocError>
+        requires { length needs.now ≡ length trace.now.messages }
+        ensures needs { IfOk result (λ task. task.needs.now ≡ needs.entry.now) }
+        ensures trace { IfOk result (λ task. task.trace.now ≡ trace.entry.now) }
+    {
+        let dependents = Dependents::of_needs(alloc, needs)?;
+        Ok(Task {
+            needs,
+            trace,
+            dependents,
+        })
+    }
+
+    /// How many ticks message `m` runs.
+    pub fn cost_of(&self, m: u32) -> u64
+        requires from { 1 ≤ m }
+        requires to { m ≤ length self.now.trace.now.messages }
+        ensures cost { result ≡ (work_of_messages self.now.trace.now.messages).cost m }
+        ensures some { 1 ≤ result }
+        ensures small { result < 2 ^ 32 }
+    {
+        u64::from(self.trace.message(m).cost)
+    }
+}
