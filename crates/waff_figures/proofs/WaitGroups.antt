@@ -7,7 +7,7 @@ use Rattle.std.proofs.lemmas.Bool.Decides.{nat_tests}
 use Rattle.std.proofs.lemmas.List.FromFn.{get_or-map-range_with_len, length-map-range_with_len, map-range_with_len_more}
 use Rattle.std.proofs.lemmas.Slice.Eq.{bytes_eq-Decides}
 use Rattle.std.proofs.lemmas.Option.{get_or_from_slice_get, slice_get_within}
-use Rattle.waff_plan.specs.Work.{IsMessage}
+use Rattle.waff_plan.specs.Work.{IsAmongFirst}
 use Rattle.waff_figures.specs.ByName.{is_named}
 use Rattle.waff_figures.specs.Tally.{is_in}
 use Rattle.waff_figures.specs.Waits.{IsWaitAmong}
@@ -27,15 +27,15 @@ grouped_more f groups now n g from are pushed is =
     ∙ ap (λ k. map f (range_with_len 1 k)) next
 
 -- the group of a message
-pub grouped_at : (f : ℕ → ℕ × ℕ) (groups : List (ℕ × ℕ)) (n m : ℕ) → groups ≡ map f (range_with_len 1 n) → IsMessage n m → group_of groups m ≡ f m
+pub grouped_at : (f : ℕ → ℕ × ℕ) (groups : List (ℕ × ℕ)) (n m : ℕ) → groups ≡ map f (range_with_len 1 n) → IsAmongFirst n m → group_of groups m ≡ f m
 grouped_at f groups n m are h =
     let from : 1 ≤ m = h.from in
     let to : m ≤ n = h.to in
     ap (λ gs. group_of gs m) are ∙ get_or-map-range_with_len f 1 n (m - 1) m (0, 0) (omega (arith, from, to)) (omega (arith, from))
 
 -- two ways in which messages are alike, that agree on so many messages
-module _ (one other : ℕ → ℕ → Bool) (n : ℕ) (agree : (i j : ℕ) → IsMessage n i → IsMessage n j → one i j ≡ other i j) where
-  same_causes : (a b : Option ℕ) → IfSome a (IsMessage n) → IfSome b (IsMessage n) → option_eq one a b ≡ option_eq other a b
+module _ (one other : ℕ → ℕ → Bool) (n : ℕ) (agree : (i j : ℕ) → IsAmongFirst n i → IsAmongFirst n j → one i j ≡ other i j) where
+  same_causes : (a b : Option ℕ) → IfSome a (IsAmongFirst n) → IfSome b (IsAmongFirst n) → option_eq one a b ≡ option_eq other a b
   same_causes None None first second = refl
   same_causes None (Some j) first second = refl
   same_causes (Some i) None first second = refl
@@ -97,7 +97,7 @@ module _ (one other : ℕ → ℕ → Bool) (n : ℕ) (agree : (i j : ℕ) → I
 -- messages that have places by their names have one place exactly if they have one name
 pub names_tell : (names texts : List (List ℕ)) (places : List ℕ) (count keys : ℕ) → length places ≡ count → All (λ p. p < keys) places
     → ((g m : ℕ) → g < keys → 1 ≤ m → m ≤ count → is_in places g m ≡ is_named names (get_or texts g []) m)
-    → (m n : ℕ) → IsMessage count m → IsMessage count n → (get_or places (m - 1) 0 == get_or places (n - 1) 0) ≡ bytes_eq (name_at names m) (name_at names n)
+    → (m n : ℕ) → IsAmongFirst count m → IsAmongFirst count n → (get_or places (m - 1) 0 == get_or places (n - 1) 0) ≡ bytes_eq (name_at names m) (name_at names n)
 names_tell names texts places count keys long known each m n first second =
     let g = get_or places (n - 1) 0 in
     let low : g < keys = known (n - 1) 0 (let from : 1 ≤ n = second.from in let to : n ≤ count = second.to in omega (arith, from, to, long)) in
@@ -108,7 +108,7 @@ names_tell names texts places count keys long known each m n first second =
 
 -- groups that are made of a number and an affinity
 pub groups_tell : (number affinity : ℕ → ℕ) (groups : List (ℕ × ℕ)) (count : ℕ) → groups ≡ map (λ m. (number m, affinity m)) (range_with_len 1 count)
-    → (m n : ℕ) → IsMessage count m → IsMessage count n → same_group groups m n ≡ ((number m == number n) && (affinity m == affinity n))
+    → (m n : ℕ) → IsAmongFirst count m → IsAmongFirst count n → same_group groups m n ≡ ((number m == number n) && (affinity m == affinity n))
 groups_tell number affinity groups count are m n first second =
     let one = grouped_at (λ k. (number k, affinity k)) groups count m are first in
     let other = grouped_at (λ k. (number k, affinity k)) groups count n are second in

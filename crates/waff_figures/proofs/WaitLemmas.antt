@@ -8,7 +8,7 @@ use Rattle.std.proofs.lemmas.List.Quantifiers.{all_pairs_push}
 use Rattle.waff_model.specs.Tree.{Node}
 use Rattle.waff_assign.specs.Order.{IsOrdered}
 use Rattle.waff_plan.specs.Links.{AreLinks, IsLink}
-use Rattle.waff_plan.specs.Work.{Work, IsMessage, finish_of}
+use Rattle.waff_plan.specs.Work.{Work, IsAmongFirst, finish_of}
 use Rattle.waff_plan.proofs.Longest.{range_with_len_more}
 use Rattle.waff_figures.specs.Waits.{ComesFirst, IsWaitAmong, ready_of, wait_of, waits_in}
 use Rattle.waff_figures.specs.declared.waits.Wait.{Wait}
@@ -38,11 +38,11 @@ none_so_far count n = record {
 }
 
 module _ (count n m : ℕ) (next : n + 1 ≡ m) (within : m ≤ count) where
-  among : (on : Option ℕ) (ticks : ℕ) → IfSome on (IsMessage count) → IsWaitAmong count (wait m on ticks)
+  among : (on : Option ℕ) (ticks : ℕ) → IfSome on (IsAmongFirst count) → IsWaitAmong count (wait m on ticks)
   among on ticks known = record { message = record { from = omega (arith, next); to = within }; on = known }
 
   -- one wait of the next message
-  one_more : (on : Option ℕ) (ticks : ℕ) → IfSome on (IsMessage count) → (ws : List Wait) → AreSoFar count n ws
+  one_more : (on : Option ℕ) (ticks : ℕ) → IfSome on (IsAmongFirst count) → (ws : List Wait) → AreSoFar count n ws
       → AreSoFar count m (ws ++ wait m on ticks ∷ [])
   one_more on ticks known ws are = record {
     order = all_pairs_push ComesFirst ws (wait m on ticks) are.order (λ k d low.
@@ -61,7 +61,7 @@ module _ (count n m : ℕ) (next : n + 1 ≡ m) (within : m ≤ count) where
   }
 
   -- a wait of the next message for another message, and one for a worker
-  two_more : (i ticks more : ℕ) → IsMessage count i → (ws : List Wait) → AreSoFar count n ws
+  two_more : (i ticks more : ℕ) → IsAmongFirst count i → (ws : List Wait) → AreSoFar count n ws
       → AreSoFar count m ((ws ++ wait m (Some i) ticks ∷ []) ++ wait m None more ∷ [])
   two_more i ticks more known ws are =
       let first = wait m (Some i) ticks in
@@ -75,7 +75,7 @@ module _ (count n m : ℕ) (next : n + 1 ≡ m) (within : m ≤ count) where
         among = All-push (IsWaitAmong count) (ws ++ first ∷ []) second old.among (among None more tt);
       }
 
-  pub so_far_more : (work : Work) (start : ℕ → ℕ) (link : Option ℕ) → IfSome link (IsMessage count) → (ws : List Wait) → AreSoFar count n ws
+  pub so_far_more : (work : Work) (start : ℕ → ℕ) (link : Option ℕ) → IfSome link (IsAmongFirst count) → (ws : List Wait) → AreSoFar count n ws
       → AreSoFar count m (ws ++ waits_in work start m link)
   so_far_more work start None known ws are =
       let release = work.release m in
@@ -108,7 +108,7 @@ module _ (work : Work) (start : ℕ → ℕ) (links : List (Option ℕ)) where
       ap (λ k. waits_upto k) (sym next) ∙ ap (λ ms. flat_map waits_at ms) (range_with_len_more 1 n m (omega (arith, next)))
       ∙ sym (flat_map_more waits_at [] (range_with_len 1 n) m)
 
-  pub upto_so_far : (count n : ℕ) → n ≤ count → ((m : ℕ) → 1 ≤ m → m ≤ count → IfSome (get_or links (m - 1) None) (IsMessage count))
+  pub upto_so_far : (count n : ℕ) → n ≤ count → ((m : ℕ) → 1 ≤ m → m ≤ count → IfSome (get_or links (m - 1) None) (IsAmongFirst count))
       → AreSoFar count n (waits_upto n)
   upto_so_far count zero within known = none_so_far count 0
   upto_so_far count (suc n) within known =
@@ -119,14 +119,14 @@ module _ (work : Work) (start : ℕ → ℕ) (links : List (Option ℕ)) where
 
 -- a message waited for one of the messages
 link_known : (tree : List Node) (assigned : List ℕ) (work : Work) (start : ℕ → ℕ) (m : ℕ) (link : Option ℕ) → IsLink (IsOrdered tree assigned) work start m link
-    → IfSome link (IsMessage (length assigned))
+    → IfSome link (IsAmongFirst (length assigned))
 link_known tree assigned work start m None is = tt
 link_known tree assigned work start m (Some i) is =
     let one = is.0.one in
     record { from = one.from; to = omega (arith, one.earlier, one.to) }
 
 pub links_known : (tree : List Node) (assigned : List ℕ) (work : Work) (start : ℕ → ℕ) (links : List (Option ℕ)) (n : ℕ) → n ≡ length assigned
-    → AreLinks (IsOrdered tree assigned) work start n links → (m : ℕ) → 1 ≤ m → m ≤ n → IfSome (get_or links (m - 1) None) (IsMessage n)
+    → AreLinks (IsOrdered tree assigned) work start n links → (m : ℕ) → 1 ≤ m → m ≤ n → IfSome (get_or links (m - 1) None) (IsAmongFirst n)
 links_known tree assigned work start links n count are m from to =
-    subst (λ k. IfSome (get_or links (m - 1) None) (IsMessage k)) (sym count)
+    subst (λ k. IfSome (get_or links (m - 1) None) (IsAmongFirst k)) (sym count)
     (link_known tree assigned work start m (get_or links (m - 1) None) (are m from to))

@@ -4,7 +4,7 @@ use Rattle.std.specs.Prelude.{IfSome, if◌then◌else◌, nat_lt, slice_index_o
 use Rattle.std.specs.List.{flat_map}
 use Rattle.waff_assign.specs.Order.{Relation}
 use Rattle.waff_plan.specs.Links.{AreLinks}
-use Rattle.waff_plan.specs.Work.{Work, IsMessage, finish_of, numbers}
+use Rattle.waff_plan.specs.Work.{Work, IsAmongFirst, finish_of, numbers}
 use Rattle.waff_figures.specs.declared.waits.Wait.{Wait}
 
 -- from when on m waits for a worker alone: from the finish of the message that it waited for, or
@@ -43,5 +43,5 @@ ComesFirst one other =
 
 -- the wait is of one of so many messages, and for one of them or for a worker
 pub record IsWaitAmong (messages : ℕ) (wait : Wait) : Type 0 where
-  pub message : IsMessage messages wait.message
-  pub on : IfSome wait.on (IsMessage messages)
+  pub message : IsAmongFirst messages wait.message
+  pub on : IfSome wait.on (IsAmongFirst messages)

@@ -3,7 +3,7 @@
 ghost use Rattle.std.specs.Prelude.{◌≡◌, ◌-◌, ℕ, IfOk, length, map, slice_index};
 ghost use Rattle.std.specs.List.{range_with_len};
 ghost use Rattle.waff_assign.specs.Order.{affinity_of};
-ghost use Rattle.waff_plan.specs.Work.{IsMessage};
+ghost use Rattle.waff_plan.specs.Work.{IsAmongFirst};
 ghost use Rattle.waff_figures.specs.ByName.{message_names};
 ghost use Rattle.waff_figures.specs.WaitRows.{same_group};
 ghost use Rattle.waff_figures.specs.WaitText.{are_alike};
@@ -25,7 +25,7 @@ pub(crate) fn groups(
     requires lengths { length assigned.now ≡ length trace.now.messages }
     ensures count { IfOk result (λ groups. length groups.items ≡ length assigned.now) }
     ensures tell { IfOk result (λ groups. (m n : ℕ)
-        → IsMessage (length assigned.now) m → IsMessage (length assigned.now) n
+        → IsAmongFirst (length assigned.now) m → IsAmongFirst (length assigned.now) n
         → same_group groups.items m n
         ≡ are_alike by_name assigned.now (message_names trace.now.messages) m n) }
 {

@@ -4,7 +4,7 @@ ghost use Rattle.std.specs.Prelude.{◌≡◌, ◌<◌, ◌++◌, All, IfOk, IfS
 ghost use Rattle.std.specs.Prelude.{map, string_bytes, true, []};
 ghost use Rattle.waff_assign.specs.Order.{IsOrdered};
 ghost use Rattle.waff_plan.specs.Timetable.{starts_in, timings_of, work_in};
-ghost use Rattle.waff_plan.specs.Work.{IsMessage};
+ghost use Rattle.waff_plan.specs.Work.{IsAmongFirst};
 ghost use Rattle.waff_plan_text.specs.Lines.{line_text, text_of};
 ghost use Rattle.waff_figures.specs.ByName.{message_names};
 ghost use Rattle.waff_figures.specs.Waits.{AreWaits, IsWaitAmong};
@@ -186,7 +186,7 @@ fn push_name_row(
 /// The name of the affinity of message `n`.
 fn affinity_name<'a>(tree: &'a Tree, assigned: &Assigned, n: u32) -> &'a str
     requires known { All (λ a. a < length tree.now) assigned.now }
-    requires message { IsMessage (length assigned.now) n }
+    requires message { IsAmongFirst (length assigned.now) n }
     ensures { result.now ≡ affinity_field tree.now assigned.now n }
 {
     tree.name(assigned.of(n))
@@ -195,7 +195,7 @@ fn affinity_name<'a>(tree: &'a Tree, assigned: &Assigned, n: u32) -> &'a str
 /// The name of the affinity of what is waited for, `-` for a worker.
 fn affinity_waited_for<'a>(tree: &'a Tree, assigned: &Assigned, on: Option<u32>) -> &'a str
     requires known { All (λ a. a < length tree.now) assigned.now }
-    requires message { IfSome on (IsMessage (length assigned.now)) }
+    requires message { IfSome on (IsAmongFirst (length assigned.now)) }
     ensures { result.now ≡ for_field (affinity_field tree.now assigned.now) on }
 {
     match on {
@@ -206,7 +206,7 @@ fn affinity_waited_for<'a>(tree: &'a Tree, assigned: &Assigned, on: Option<u32>)
 
 /// The name of message `n`.
 fn message_name(trace: &Trace, n: u32) -> &str
-    requires { IsMessage (length trace.now.messages) n }
+    requires { IsAmongFirst (length trace.now.messages) n }
     ensures { result.now ≡ name_at (message_names trace.now.messages) n }
 {
     trace.message(n).name.as_str()
@@ -214,7 +214,7 @@ fn message_name(trace: &Trace, n: u32) -> &str
 
 /// The name of the message that is waited for, `-` for a worker.
 fn name_waited_for(trace: &Trace, on: Option<u32>) -> &str
-    requires { IfSome on (IsMessage (length trace.now.messages)) }
+    requires { IfSome on (IsAmongFirst (length trace.now.messages)) }
     ensures { result.now ≡ for_field (name_at (message_names trace.now.messages)) on }
 {
     match on {

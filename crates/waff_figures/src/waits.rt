@@ -3,7 +3,7 @@
 ghost use Rattle.std.specs.Prelude.{◌≡◌, ◌<◌, ◌++◌, All, IfOk, OnOk, IfSome, length};
 ghost use Rattle.waff_assign.specs.Order.{IsOrdered};
 ghost use Rattle.waff_plan.specs.Timetable.{starts_in, work_in};
-ghost use Rattle.waff_plan.specs.Work.{IsMessage};
+ghost use Rattle.waff_plan.specs.Work.{IsAmongFirst};
 ghost use Rattle.std.specs.List.{AllPairs};
 ghost use Rattle.waff_figures.specs.Waits.{AreWaits, ComesFirst, IsWaitAmong, wait_of, waits_in};
 
@@ -56,8 +56,8 @@ fn push_waits(
     message: u32,
     link: Option<u32>,
 ) -> Result<(), AllocError>
-    requires message { IsMessage (length plan.now.timings) message }
-    requires link { IfSome link (IsMessage (length plan.now.timings)) }
+    requires message { IsAmongFirst (length plan.now.timings) message }
+    requires link { IfSome link (IsAmongFirst (length plan.now.timings)) }
     ensures { OnOk result (waits.new.items ≡ waits.old.items
         ++ waits_in (work_in plan.now) (starts_in plan.now) message link) }
 {

@@ -3,7 +3,7 @@ use Rattle.std.specs.List.{range_with_len}
 use Rattle.std.proofs.lemmas.List.FromFn.{length-map-range_with_len}
 use Rattle.std.proofs.lemmas.Result.{IfOk-weaker}
 use Rattle.waff_assign.specs.Order.{affinity_of}
-use Rattle.waff_plan.specs.Work.{IsMessage}
+use Rattle.waff_plan.specs.Work.{IsAmongFirst}
 use Rattle.waff_figures.specs.ByName.{is_named, message_names}
 use Rattle.waff_figures.specs.Tally.{is_in}
 use Rattle.waff_figures.specs.WaitRows.{same_group}
@@ -27,7 +27,7 @@ returns-in_ok-found-clause-tell c =
     let number : ℕ → ℕ = λ m. get_or places (m - 1) 0 in
     IfOk-weaker c.numbered_groups.result
     (λ groups. groups.items ≡ map (λ m. (get_or c.as_slice.result.now (m - 1) 0, affinity_of assigned m)) (range_with_len 1 n))
-    (λ groups. (i j : ℕ) → IsMessage n i → IsMessage n j → same_group groups.items i j ≡ are_alike c.args.by_name assigned names i j)
+    (λ groups. (i j : ℕ) → IsAmongFirst n i → IsAmongFirst n j → same_group groups.items i j ≡ are_alike c.args.by_name assigned names i j)
     (λ groups are i j first second.
     let are_numbered = subst (λ ps. groups.items ≡ map (λ m. (get_or ps (m - 1) 0, affinity_of assigned m)) (range_with_len 1 n)) c.as_slice.ensures.value are in
     groups_tell number (affinity_of assigned) groups.items n are_numbered i j first second
@@ -51,7 +51,7 @@ returns-else-by_name-clause-tell c =
     let names = message_names c.args.trace.now.messages in
     IfOk-weaker c.affinity_groups.result
     (λ groups. groups.items ≡ map (λ m. (0, affinity_of assigned m)) (range_with_len 1 n))
-    (λ groups. (i j : ℕ) → IsMessage n i → IsMessage n j → same_group groups.items i j ≡ are_alike c.args.by_name assigned names i j)
+    (λ groups. (i j : ℕ) → IsAmongFirst n i → IsAmongFirst n j → same_group groups.items i j ≡ are_alike c.args.by_name assigned names i j)
     (λ groups are i j first second.
     groups_tell (λ m. 0) (affinity_of assigned) groups.items n are i j first second
     ∙ ap (λ b. are_alike b assigned names i j) (sym c.if-by_name.false))

@@ -1,7 +1,7 @@
 use Rattle.std.proofs.Common.{◌≡◌, ℕ, ◌+◌, ◌-◌, ◌<◌, ◌≤◌, ◌++◌, List, Option, get_or, length, None, IfSome, arith, sym, ◌∙◌, ap, subst}
 use Rattle.std.proofs.lemmas.List.{get_or_read}
 use Rattle.waff_plan.specs.Timetable.{Timetable, starts_in, work_in}
-use Rattle.waff_plan.specs.Work.{IsMessage}
+use Rattle.waff_plan.specs.Work.{IsAmongFirst}
 use Rattle.waff_figures.proofs.WaitLemmas.{AreSoFar, links_known, upto_more, upto_so_far, waits_upto}
 use Rattle.waff_figures.specs.Waits.{waits_in}
 use Rattle.waff_figures.specs.declared.waits.Wait.{Wait}
@@ -16,7 +16,7 @@ push_waits-requires-clause-link c =
     let to : m ≤ length plan.timings = omega (arith, c.loop-m-test.true, c.len-m-end.ensures.count) in
     let read : c.index.result.now ≡ get_or links (m - 1) None
     = get_or_read links (m - 1) c.index.result.now (omega (arith, from, to, c.in_ok-links.ensures.count)) c.index.ensures None in
-    subst (λ link. IfSome link (IsMessage (length plan.timings))) (sym read)
+    subst (λ link. IfSome link (IsAmongFirst (length plan.timings))) (sym read)
     (links_known c.args.tree.now c.args.assigned.now (work_in plan) (starts_in plan) links (length plan.timings) c.requires.lengths
     c.in_ok-links.ensures.links m from to)
 
