@@ -25,8 +25,7 @@ IsWithinLimits (asked.Compare k) = (1 ≤ k) × (k ≤ MAX_WORKERS)
 IsWithinLimits asked.Rate = Unit {0}
 IsWithinLimits (asked.Sweep given) = IfSome given (λ numbers. All IsWorkers numbers.items)
 IsWithinLimits (asked.Where by_name) = Unit {0}
-IsWithinLimits (asked.Waits workers by_name) =
-    IfSome workers (λ k. 1 ≤ k) × IfSome workers (λ k. k ≤ MAX_WORKERS)
+IsWithinLimits (asked.Waits workers by_name) = IfSome workers IsWorkers
 IsWithinLimits (asked.Draw picture part) = IsPart part
 IsWithinLimits (asked.Rank k) = (1 ≤ k) × (k ≤ MAX_WORKERS)
 IsWithinLimits asked.Explain = Unit {0}
