@@ -1,17 +1,17 @@
 -- The groups of messages, one after another, and rows by them.
-use Rattle.std.proofs.Common.{◌≡◌, ℕ, suc, ◌+◌, ◌-◌, ◌<◌, ◌≤◌, cond, ◌==◌, ◌&&◌, Bool, true, false, List, [], ◌∷◌, ◌++◌, length, get_or, filter, map, slice_get, count_by, All, Option, Some, None, IfSome, arith, refl, sym, ◌∙◌, ap, subst}
-use Rattle.std.specs.List.{AllPairs, range_with_len}
+use Rattle.std.proofs.Common.{◌≡◌, ℕ, suc, ◌+◌, ◌-◌, ◌<◌, ◌≤◌, cond, ◌==◌, ◌&&◌, Bool, true, List, [], ◌∷◌, ◌++◌, length, get_or, filter, map, All, Option, Some, None, IfSome, arith, refl, sym, ◌∙◌, ap, subst}
+use Rattle.std.specs.List.{range_with_len}
 use Rattle.std.specs.Option.{option_eq}
 use Rattle.std.specs.Str.{bytes_eq}
 use Rattle.std.proofs.lemmas.Bool.Decides.{nat_tests}
-use Rattle.std.proofs.lemmas.List.FromFn.{get_or-map-range_with_len, length-map-range_with_len, map-range_with_len_more}
+use Rattle.std.proofs.lemmas.List.FromFn.{get_or-map-range_with_len, map-range_with_len_more}
 use Rattle.std.proofs.lemmas.Slice.Eq.{bytes_eq-Decides}
 use Rattle.std.proofs.lemmas.Option.{get_or_from_slice_get, slice_get_within}
 use Rattle.waff_plan.specs.Work.{IsAmongFirst}
 use Rattle.waff_figures.specs.ByName.{is_named}
 use Rattle.waff_figures.specs.Tally.{is_in}
 use Rattle.waff_figures.specs.Waits.{IsWaitAmong}
-use Rattle.waff_figures.specs.WaitRows.{AreRows, AreTold, IsFirst, IsRow, StandsBefore, group_of, row_of, row_over, same_group, same_kind}
+use Rattle.waff_figures.specs.WaitRows.{AreRows, AreTold, IsFirst, IsRow, group_of, row_over, same_group, same_kind}
 use Rattle.waff_figures.specs.WaitText.{name_at}
 use Rattle.waff_figures.specs.declared.wait_rows.Row.{Row}
 use Rattle.waff_figures.specs.declared.waits.Wait.{Wait}

@@ -10,7 +10,7 @@ use Rattle.waff_assign.specs.Order.{IsOrdered}
 use Rattle.waff_plan.specs.Links.{AreLinks, IsLink}
 use Rattle.waff_plan.specs.Work.{Work, IsAmongFirst, finish_of}
 use Rattle.waff_plan.proofs.Longest.{range_with_len_more}
-use Rattle.waff_figures.specs.Waits.{ComesFirst, IsWaitAmong, ready_of, wait_of, waits_in}
+use Rattle.waff_figures.specs.Waits.{ComesFirst, IsWaitAmong, wait_of, waits_in}
 use Rattle.waff_figures.specs.declared.waits.Wait.{Wait}
 
 abbrev wait : ℕ → Option ℕ → ℕ → Wait

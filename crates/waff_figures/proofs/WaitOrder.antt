@@ -1,15 +1,15 @@
 -- Rows sorted by their ticks, those of as many ticks left in their order.
-use Rattle.std.proofs.Common.{◌≡◌, ℕ, zero, suc, ◌+◌, ◌<◌, ◌≤◌, inl, inr, cond, ltb, ◌==◌, ◌&&◌, not, Bool, true, false, List, [], ◌∷◌, length, get_or, filter, count_by, All, arith, refl, sym, ◌∙◌, ap, subst}
+use Rattle.std.proofs.Common.{◌≡◌, ℕ, zero, suc, ◌<◌, ◌≤◌, inl, inr, cond, ltb, ◌==◌, ◌&&◌, not, Bool, true, false, List, [], ◌∷◌, length, get_or, filter, arith, refl, sym, ◌∙◌, ap, subst}
 use Rattle.std.specs.Cmp.{IsStrictWeakOrder, nat_cmp_total}
 use Rattle.std.specs.List.{AllPairs}
 use Rattle.std.specs.List.Sorted.{IsPermutation, IsSortedBy, IsStableBy, ties}
 use Rattle.std.specs.Ordering.{is_lt, nat_cmp}
 use Rattle.std.specs.declared.cmp.Ordering.TheVariants.{Less, Equal, Greater}
-use Rattle.std.proofs.lemmas.Bool.{cases_Bool, cases_eq, cases_lt, false≢true}
+use Rattle.std.proofs.lemmas.Bool.{cases_Bool, cases_lt, false≢true}
 use Rattle.std.proofs.lemmas.Bool.Decides.{nat_tests}
 use Rattle.std.proofs.lemmas.List.Kept.{AllPairs-filter}
 use Rattle.std.proofs.lemmas.List.Sorted.{All-permutation, IsStrictWeakOrder-flip, ranks_by, sorted_far, sum_by-IsPermutation}
-use Rattle.waff_figures.specs.WaitRows.{AreRows, AreTold, IsRow, StandsBefore, StartsFirst, same_kind}
+use Rattle.waff_figures.specs.WaitRows.{AreRows, AreTold, IsRow, StartsFirst, same_kind}
 use Rattle.waff_figures.specs.declared.wait_rows.Row.{Row}
 use Rattle.waff_figures.specs.declared.waits.Wait.{Wait}
 
@@ -88,8 +88,8 @@ sorted_rows alike ws xs ys told order moved sorted stable = record {
             inr (
               same,
               kept_pairs (ties has_more one) StartsFirst ys
-              (subst (AllPairs StartsFirst) (sym (stable one)) (AllPairs-filter StartsFirst (ties has_more one) xs order)) i j d less low
-              (ties_at one.ticks one.ticks refl) (ties_at other.ticks one.ticks (sym same)),
+                  (subst (AllPairs StartsFirst) (sym (stable one)) (AllPairs-filter StartsFirst (ties has_more one) xs order)) i j d less low
+                  (ties_at one.ticks one.ticks refl) (ties_at other.ticks one.ticks (sym same)),
             )
       ];
 }

@@ -4,14 +4,14 @@ use Rattle.std.specs.Cmp.{IsEquivalence}
 use Rattle.std.specs.List.{AllPairs, Any}
 use Rattle.std.proofs.lemmas.Bool.{cases_Bool, cases_eq, cases_lt}
 use Rattle.std.proofs.lemmas.List.{append-nil, get_or_append_left, get_or_default, get_or_push, length_push, map_push}
-use Rattle.std.proofs.lemmas.List.Elements.{All-cons, All-head, All-push, All-tail, filter-append}
+use Rattle.std.proofs.lemmas.List.Elements.{All-push, filter-append}
 use Rattle.std.proofs.lemmas.List.Quantifiers.{all_pairs_push}
 use Rattle.std.proofs.lemmas.List.Recursion.{max_push}
 use Rattle.std.proofs.lemmas.List.Sums.{sum_by-cons, sum_by-set, sum_by_push}
 use Rattle.std.proofs.lemmas.Option.{get_or_from_slice_get, slice_get-get_or, slice_get_within}
 use Rattle.waff_plan.specs.Work.{greatest}
 use Rattle.waff_figures.specs.Waits.{ComesFirst}
-use Rattle.waff_figures.specs.WaitRows.{AreTold, IsFirst, IsRow, StartsFirst, row_of, row_over, row_with, rows_with, same_kind}
+use Rattle.waff_figures.specs.WaitRows.{AreTold, IsFirst, IsRow, StartsFirst, row_of, row_over, row_with, same_kind}
 use Rattle.waff_figures.specs.declared.wait_rows.Row.{Row}
 use Rattle.waff_figures.specs.declared.waits.Wait.{Wait}
 

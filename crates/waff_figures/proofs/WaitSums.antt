@@ -1,5 +1,5 @@
 -- Waits add up.
-use Rattle.std.proofs.Common.{◌≡◌, ℕ, zero, suc, ◌+◌, ◌-◌, ◌<◌, ◌≤◌, inl, inr, cond, ltb, ◌==◌, Bool, true, false, List, [], ◌∷◌, ◌++◌, length, get_or, filter, sum_by, count_by, All, Option, Some, None, arith, refl, sym, ◌∙◌, ap, subst}
+use Rattle.std.proofs.Common.{◌≡◌, ℕ, zero, suc, ◌+◌, ◌-◌, ◌<◌, ◌≤◌, inl, inr, cond, ltb, ◌==◌, Bool, true, false, List, [], ◌∷◌, length, get_or, filter, sum_by, count_by, All, Option, Some, None, arith, refl, sym, ◌∙◌, ap}
 use Rattle.std.specs.List.{range_with_len}
 use Rattle.std.proofs.lemmas.Bool.{cases_Bool, cond_both, ltb-false}
 use Rattle.std.proofs.lemmas.Bool.Decides.{nat_tests}

@@ -1,5 +1,5 @@
 -- What holds of the waits of all plans: they add up, and they leave no choice.
-use Rattle.std.specs.Prelude.{◌≡◌, ℕ, ◌-◌, ◌==◌, ◌<◌, ◌≤◌, ◌⊎◌, Bool, List, Option, if◌then◌else◌, All, sum_by}
+use Rattle.std.specs.Prelude.{◌≡◌, ℕ, ◌-◌, ◌==◌, ◌≤◌, ◌⊎◌, Bool, List, Option, if◌then◌else◌, sum_by}
 use Rattle.std.specs.Cmp.{IsEquivalence}
 use Rattle.waff_assign.specs.Order.{Relation}
 use Rattle.waff_plan.specs.Links.{IsLink}

@@ -1,5 +1,5 @@
 -- The lines that tell who waits for whom (own).
-use Rattle.std.specs.Prelude.{ℕ, ◌-◌, ◌==◌, ◌&&◌, Bool, true, false, List, [], ◌∷◌, ◌++◌, Option, Some, None, map}
+use Rattle.std.specs.Prelude.{ℕ, ◌-◌, ◌==◌, ◌&&◌, Bool, true, false, List, [], ◌∷◌, Option, Some, None, map}
 use Rattle.std.specs.Prelude.{slice_index_or, codes, decimal}
 use Rattle.std.specs.Str.{bytes_eq}
 use Rattle.waff_model.specs.Tree.{Node, name_of}

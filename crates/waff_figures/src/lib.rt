@@ -1,5 +1,5 @@
-//! Figures of a trace under a hierarchy: how long it takes by the number of workers, and where the
-//! time goes.
+//! Figures of a trace under a hierarchy: how long it takes by the number of workers, where the time
+//! goes, and who waits for whom.
 //!
 //! - `ratio`, `percentile`: ratios as they are printed, and percentiles.
 //! - `figures`, over `fields`: what is told of one plan, and how it is printed; `sweep`: of the list
@@ -7,7 +7,9 @@
 //! - `tally`: what is told of some of the messages; `below`: costs summed up the tree; `names`: the
 //!   distinct names.
 //! - `by_affinity`, `by_name`: the texts of these.
-//! - `laws`: the columns of these texts add up.
+//! - `waits`: the waits of a plan; `wait_rows`, over `wait_groups`: those of one kind told together;
+//!   `wait_text`: their text.
+//! - `laws`, `wait_laws`: the columns of these texts add up.
 #![tactic(auto)]
 
 mod below;

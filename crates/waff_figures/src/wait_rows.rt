@@ -30,11 +30,7 @@ pub(crate) type Group = (u32, u32);
 
 /// The rows of these waits, where message n is in the group `groups[n - 1]`: the most ticks first,
 /// and of as many ticks in the order of their first waits.
-pub(crate) fn rows(
-    alloc: Global,
-    waits: &[Wait],
-    groups: &[Group],
-) -> Result<Vec<Row>, AllocError>
+pub(crate) fn rows(alloc: Global, waits: &[Wait], groups: &[Group]) -> Result<Vec<Row>, AllocError>
     requires order { AllPairs ComesFirst waits.now }
     requires among { All (IsWaitAmong (length groups.now)) waits.now }
     ensures { IfOk result (λ rows. AreRows (same_group groups.now) waits.now rows.items) }

@@ -77,11 +77,7 @@ fn waited_text(
 }
 
 /// The text of the unlimited plan.
-fn unlimited_waits(
-    alloc: Global,
-    accepted: &Accepted,
-    by_name: bool,
-) -> Result<String, AllocError>
+fn unlimited_waits(alloc: Global, accepted: &Accepted, by_name: bool) -> Result<String, AllocError>
     ensures { IfOk result (λ text. (hierarchy trace : List ℕ)
         → Accepts hierarchy trace accepted.now.layout accepted.now.trace accepted.now.assigned
         → IsWaitsText hierarchy trace None by_name (string_bytes text)) }

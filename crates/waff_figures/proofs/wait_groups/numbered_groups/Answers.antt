@@ -1,4 +1,4 @@
-use Rattle.std.proofs.Common.{◌≡◌, ℕ, ◌+◌, ◌-◌, ◌≤◌, map, get_or, length, arith, sym, ◌∙◌, ap}
+use Rattle.std.proofs.Common.{◌≡◌, ℕ, ◌-◌, map, get_or, length, arith, ◌∙◌, ap}
 use Rattle.std.specs.List.{range_with_len}
 use Rattle.waff_assign.specs.Order.{affinity_of}
 use Rattle.waff_figures.proofs.WaitGroups.{grouped_more}

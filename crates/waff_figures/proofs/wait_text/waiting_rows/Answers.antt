@@ -46,10 +46,10 @@ returns c =
           (λ rows. (ws : List Wait)
           × AreWaits (IsOrdered c.args.tree.now assigned) (work_in c.args.plan.now) (starts_in c.args.plan.now) ws × AreRows alike ws rows.items)
           (λ rows are. (
-          waits,
-          c.in_ok-waits.ensures.waits,
-          rows_same (same_group groups) alike (length assigned) c.in_ok-groups.ensures.tell waits among rows.items (told rows.items are),
-        ))
+            waits,
+            c.in_ok-waits.ensures.waits,
+            rows_same (same_group groups) alike (length assigned) c.in_ok-groups.ensures.tell waits among rows.items (told rows.items are),
+          ))
           c.rows.ensures;
       among = IfOk-weaker c.rows.result (λ rows. AreRows (same_group c.as_slice-2.result.now) c.as_slice.result.now rows.items)
           (λ rows. All (λ (row : Row). IsWaitAmong (length assigned) row.first) rows.items)
