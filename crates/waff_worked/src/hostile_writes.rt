@@ -12,8 +12,9 @@ use waff_samples::{
     STATE_H1_X1, X1,
 };
 use waff_tool::{
-    Part, Picture, ReadFault, ToolError, assign_text, check_text, compare_text, draw_text, explain_text,
-    plan_text, rate_text, read_whole, replay_text, sweep_text, sweep_workers, where_text,
+    Part, Picture, ReadFault, ToolError, assign_text, check_text, compare_text, draw_text,
+    explain_text, plan_text, rate_text, read_whole, replay_text, sweep_text, sweep_workers,
+    where_text,
 };
 
 /// The calls that write a text.
