@@ -3,9 +3,15 @@ use Rattle.std.proofs.Common.{◌≡◌, ◌≢◌, ℕ, ◌+◌, ◌-◌, ◌<�
 use Rattle.waff_plan.specs.Work.{Work, IsNumber}
 use Rattle.waff_plan.specs.Obeys.{IsForward}
 use Rattle.waff_plan.specs.Timing.{start_of}
-use Rattle.waff_list.specs.Progress.{IsLeastFree, IsWaiting, GoesOn}
+use Rattle.waff_list.specs.ListRule.{IsReady}
+use Rattle.waff_list.specs.Progress.{GoesOn}
+use Rattle.waff_list.proofs.Freeing.{IsLeastFree}
 use Rattle.waff_list.specs.declared.progress.TheConstants.{NEVER}
 use Rattle.waff_list.proofs.Progressing.{progress_skip, progress_full, progress_place}
+
+-- m is ready at now and has not been placed
+abbrev pub IsWaiting : (ℕ → ℕ → Type 0) → Work → (ℕ → ℕ) → ℕ → ℕ → Type 0
+IsWaiting before work start now m = IsReady before work start now m × (now < start m)
 
 module _ (before : ℕ → ℕ → Type 0) (work : Work) (k : ℕ) (forward : IsForward before work) (old starts seats free_at order : List ℕ) (now : ℕ) where
   -- where no worker is free, all other messages are passed over

@@ -7,11 +7,18 @@ use Rattle.waff_plan.specs.Work.{Work, IsNumber, finish_of}
 use Rattle.waff_plan.specs.Obeys.{IsForward}
 use Rattle.waff_plan.specs.Workers.{running}
 use Rattle.waff_list.specs.Seats.{ComesBefore, IsSeated}
-use Rattle.waff_list.specs.Progress.{IsSettled, AreFreeAt, IsOrderSoFar, IsLeastFree}
+use Rattle.waff_list.specs.Progress.{IsSettled, AreFreeAt, IsOrderSoFar}
 use Rattle.waff_list.specs.declared.progress.TheConstants.{NEVER}
 use Rattle.waff_list.proofs.Running.{runs_parts, runs_from, running_all, running_fewer}
 use Rattle.waff_list.proofs.Settling.{seated_at}
 use Rattle.waff_list.proofs.Placing.{IsMovedTo, placed_is_other, placed_cases}
+
+-- w is the least worker that is free at now
+pub record IsLeastFree (free_at : List ℕ) (now w : ℕ) : Type 0 where
+  pub from : 1 ≤ w
+  pub to : w ≤ length free_at
+  pub free : get_or free_at (w - 1) 0 ≤ now
+  pub least : (v : ℕ) → 1 ≤ v → v < w → now < get_or free_at (v - 1) 0
 
 module _ (before : ℕ → ℕ → Type 0) (work : Work) (k : ℕ) (start worker : ℕ → ℕ) (now turn : ℕ) (free_at : List ℕ)
     (count : length free_at ≡ k) (settled : IsSettled before work k start worker now turn) (free : AreFreeAt work start worker now free_at) where

@@ -12,6 +12,7 @@ mod PathPlans
 mod ChainBounds
 mod CountLemmas
 mod FinishLemmas
+mod IdleLemmas
 mod ReadyLemmas
 mod WakingLemmas
 mod WakeLemmas

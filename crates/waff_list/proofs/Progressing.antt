@@ -8,12 +8,12 @@ use Rattle.waff_plan.specs.Obeys.{IsForward}
 use Rattle.waff_plan.specs.Workers.{running}
 use Rattle.waff_plan.specs.Timing.{start_of}
 use Rattle.waff_list.specs.ListRule.{IsReady}
-use Rattle.waff_list.specs.Progress.{IsLeastFree, IsProgress}
+use Rattle.waff_list.specs.Progress.{IsProgress}
+use Rattle.waff_list.proofs.Freeing.{IsLeastFree, none_free, one_free, seated_here, free_more, order_more}
 use Rattle.waff_list.specs.Waiting.{AreFinishes}
 use Rattle.waff_list.specs.declared.progress.TheConstants.{NEVER}
 use Rattle.waff_list.proofs.Settling.{settled_skip, settled_advance}
 use Rattle.waff_list.proofs.Placing.{IsMovedTo, settled_place}
-use Rattle.waff_list.proofs.Freeing.{none_free, one_free, seated_here, free_more, order_more}
 
 -- a list with one number changed
 pub moved_by_set : (xs : List ℕ) (x y : ℕ) → 1 ≤ x → x ≤ length xs → IsMovedTo (start_of xs) (start_of (set xs (x - 1) y)) x y

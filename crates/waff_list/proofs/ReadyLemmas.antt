@@ -1,5 +1,5 @@
 -- The messages that are ready, as messages join and leave them.
-use Rattle.std.proofs.Common.{◌≡◌, ◌≢◌, ℕ, zero, suc, ◌+◌, ◌-◌, ◌<◌, ◌≤◌, ◌⊎◌, inl, inr, List, [], ◌∷◌, length, set, All, Contains, arith, refl, ap, sym, ◌∙◌, subst, ⊎_elim, ◌++◌}
+use Rattle.std.proofs.Common.{◌≡◌, ◌≢◌, ℕ, zero, suc, ◌+◌, ◌-◌, ◌<◌, ◌≤◌, ◌⊎◌, inl, inr, List, [], ◌∷◌, length, get_or, set, All, Contains, arith, refl, ap, sym, ◌∙◌, subst, ⊎_elim, ◌++◌}
 use Rattle.std.specs.List.Sorted.{IsPermutation}
 use Rattle.std.proofs.lemmas.Bool.{cases_lt}
 use Rattle.std.proofs.lemmas.List.Elements.{All-contains}
@@ -8,17 +8,18 @@ use Rattle.waff_plan.specs.Work.{Work, IsNumber}
 use Rattle.waff_plan.specs.Obeys.{IsForward}
 use Rattle.waff_plan.specs.Workers.{running}
 use Rattle.waff_plan.specs.Timing.{start_of}
-use Rattle.waff_list.specs.Progress.{IsLeastFree, IsProgress, IsWaiting, GoesOn}
+use Rattle.waff_list.specs.Progress.{IsProgress, GoesOn}
+use Rattle.waff_list.proofs.Filling.{IsWaiting, goes_place}
+use Rattle.waff_list.proofs.Freeing.{IsLeastFree, one_free}
 use Rattle.waff_order.specs.Needs.{IsNeed}
 use Rattle.waff_list.specs.ListRule.{IsReady}
-use Rattle.waff_list.specs.Waiting.{Joins, Leaves, IsFree, AreReady, AreFinishes, AreLeft}
+use Rattle.waff_list.specs.Waiting.{Joins, Leaves, AreIdle, IsFree, AreReady, AreFinishes, AreLeft}
 use Rattle.waff_list.specs.declared.progress.TheConstants.{NEVER}
-use Rattle.waff_list.proofs.Freeing.{one_free}
 use Rattle.waff_list.proofs.Placing.{ready_back}
 use Rattle.waff_list.proofs.Progressing.{moved_by_set, progress_skip}
 use Rattle.waff_list.proofs.CountLemmas.{left_place}
+use Rattle.waff_list.proofs.IdleLemmas.{idle_least, idle_place}
 use Rattle.waff_list.proofs.FinishLemmas.{finishes_place}
-use Rattle.waff_list.proofs.Filling.{goes_place}
 
 contains_rest : (m x : ℕ) (xs : List ℕ) → Contains (m ∷ xs) x → Contains xs x ⊎ (x ≡ m)
 contains_rest m x xs (zero, within, is) = inr (sym is)
@@ -32,6 +33,7 @@ joins_of old m new same = record {
   here = Contains-permutation (m ∷ old) new m same (0, omega arith, refl);
   kept = λ x there. Contains-permutation (m ∷ old) new x same (contains_more m x old there);
   only = λ x there. contains_rest m x old (Contains-permutation new (m ∷ old) x (IsPermutation-sym (m ∷ old) new same) there);
+  more = let long : length new ≡ length (m ∷ old) = length_permutation (m ∷ old) new same in omega arith;
 }
 
 pub leaves_of : (old : List ℕ) (m : ℕ) (new : List ℕ) → IsPermutation old (m ∷ new) → All (λ x. m ≤ x) new → Leaves old m new
@@ -156,22 +158,24 @@ module _ (before : ℕ → ℕ → Type 0) (work : Work) (k : ℕ) (forward : Is
       (back.0, back.1)
 
 -- what is kept while the messages that wait are placed
-pub record IsFilling (needs : List (List ℕ)) (work : Work) (k : ℕ) (old starts seats free_at order : List ℕ) (finishes : List (ℕ × ℕ)) (left ready : List ℕ) (now : ℕ) : Type 0 where
+pub record IsFilling (needs : List (List ℕ)) (work : Work) (k : ℕ) (old starts seats free_at order : List ℕ) (finishes : List (ℕ × ℕ)) (idle left ready : List ℕ) (now : ℕ) : Type 0 where
   pub turn : ℕ
   pub to : turn ≤ work.count + 1
   pub on : GoesOn (IsNeed needs) work k old starts seats free_at order now turn
   pub running : AreFinishes work (start_of starts) now finishes
+  pub workers : AreIdle free_at now idle
   pub counts : AreLeft needs (start_of starts) finishes left
   pub waiting : AreReady (IsNeed needs) work (start_of starts) now (now + 1) ready
 
 module _ (needs : List (List ℕ)) (work : Work) (k : ℕ) (forward : IsForward (IsNeed needs) work) (same : length needs ≡ work.count) (old starts seats free_at order : List ℕ)
-    (finishes : List (ℕ × ℕ)) (left ready : List ℕ) (now : ℕ) (h : IsFilling needs work k old starts seats free_at order finishes left ready now)
+    (finishes : List (ℕ × ℕ)) (idle left ready : List ℕ) (now : ℕ) (h : IsFilling needs work k old starts seats free_at order finishes idle left ready now)
     (m : ℕ) (new : List ℕ) (leaves : Leaves ready m new) where
   -- the first that waits is placed
-  pub filling_place : (w : ℕ) (more : List (ℕ × ℕ)) → now < NEVER → 1 ≤ work.cost m → IsLeastFree free_at now w → now < start_of starts m
+  pub filling_place : (w : ℕ) (others : List ℕ) (more : List (ℕ × ℕ)) → now < NEVER → 1 ≤ work.cost m → Leaves idle w others → get_or free_at (w - 1) 0 ≤ now → now < start_of starts m
       → IsPermutation ((now + work.cost m, m) ∷ finishes) more
-      → IsFilling needs work k old (set starts (m - 1) now) (set seats (m - 1) w) (set free_at (w - 1) (now + work.cost m)) (order ++ m ∷ []) more left new now
-  filling_place w more short cost least unplaced pushed =
+      → IsFilling needs work k old (set starts (m - 1) now) (set seats (m - 1) w) (set free_at (w - 1) (now + work.cost m)) (order ++ m ∷ []) more others left new now
+  filling_place w others more short cost taken is_free unplaced pushed =
+      let least : IsLeastFree free_at now w = idle_least free_at now idle w others taken h.workers is_free in
       let free = h.waiting.only m leaves.one in
       let is = free_is_waiting (IsNeed needs) work (start_of starts) now m free unplaced in
       let number : IsNumber work m = free.number in
@@ -190,6 +194,7 @@ module _ (needs : List (List ℕ)) (work : Work) (k : ℕ) (forward : IsForward 
         to = omega arith;
         on = goes_place (IsNeed needs) work k forward old starts seats free_at order now m w number short cost least is at;
         running = finishes_place work (start_of starts) (start_of (set starts (m - 1) now)) now m finishes more number unplaced here cost moved.others pushed h.running;
+        workers = idle_place free_at now idle w others taken h.workers (now + work.cost m) (omega arith);
         counts = left_place needs work forward same (start_of starts) (start_of (set starts (m - 1) now)) m (now + work.cost m) finishes more left never
             (λ again. omega (arith, here, again)) moved.others pushed h.counts;
         waiting = ready_place (IsNeed needs) work (start_of starts) now ready m new leaves h.waiting forward (start_of (set starts (m - 1) now)) unplaced here moved.others
@@ -197,12 +202,27 @@ module _ (needs : List (List ℕ)) (work : Work) (k : ℕ) (forward : IsForward 
       }
 
   -- one that has been placed is dropped
-  pub filling_drop : start_of starts m ≤ now → IsFilling needs work k old starts seats free_at order finishes left new now
+  pub filling_drop : start_of starts m ≤ now → IsFilling needs work k old starts seats free_at order finishes idle left new now
   filling_drop early = record {
     turn = h.turn;
     to = h.to;
     on = h.on;
     running = h.running;
+    workers = h.workers;
     counts = h.counts;
     waiting = ready_drop (IsNeed needs) work (start_of starts) now ready m new leaves h.waiting early;
   }
+
+-- the workers that are idle, where they change alone
+pub filling_idle : (needs : List (List ℕ)) (work : Work) (k : ℕ) (old starts seats free_at order : List ℕ) (finishes : List (ℕ × ℕ)) (idle others left ready : List ℕ) (now : ℕ)
+    → AreIdle free_at now others → IsFilling needs work k old starts seats free_at order finishes idle left ready now
+    → IsFilling needs work k old starts seats free_at order finishes others left ready now
+filling_idle needs work k old starts seats free_at order finishes idle others left ready now are h = record {
+  turn = h.turn;
+  to = h.to;
+  on = h.on;
+  running = h.running;
+  workers = are;
+  counts = h.counts;
+  waiting = h.waiting;
+}

@@ -1,19 +1,10 @@
 -- Messages are told that needs of theirs have finished.
-use Rattle.std.proofs.Common.{◌≡◌, ◌≢◌, ℕ, ◌-◌, ◌<◌, ◌≤◌, ◌⊎◌, inl, inr, List, length, set, get_or, Contains, arith, refl, ap, sym, ◌∙◌, subst, ⊎_elim, get_or-set_same, get_or-set_other, length-set}
+use Rattle.std.proofs.Common.{◌≡◌, ◌≢◌, ℕ, ◌-◌, ◌<◌, ◌≤◌, ◌⊎◌, inl, inr, List, length, set, get_or, Contains, arith, ap, sym, ◌∙◌, subst, ⊎_elim, get_or-set_same, get_or-set_other, length-set}
 use Rattle.std.proofs.lemmas.Bool.{cases_lt, cases_eq}
 use Rattle.waff_plan.specs.Work.{Work, IsNumber}
 use Rattle.waff_list.specs.Waiting.{left_of}
 use Rattle.waff_list.specs.Planning.{Wakes}
 use Rattle.waff_list.specs.declared.waiting.Waiting.{Waiting}
-
-pub wakes_none : (work : Work) (now : ℕ) (w : Waiting) → Wakes work now w w
-wakes_none work now w = record {
-  count = refl;
-  fewer = λ m. omega arith;
-  kept = λ m there. there;
-  woken = λ m number some none released. absurd (omega arith);
-  only = λ m there. inl there;
-}
 
 pub wakes_join : (work : Work) (now : ℕ) (a b c : Waiting) → Wakes work now a b → Wakes work now b c → Wakes work now a c
 wakes_join work now a b c first second = record {

@@ -7,7 +7,7 @@ use Rattle.waff_plan.specs.Work.{Work, IsNumber}
 use Rattle.waff_plan.specs.Timing.{start_of}
 use Rattle.waff_order.specs.Needs.{IsNeed}
 use Rattle.waff_list.specs.Progress.{work_of_messages, IsProgress, GoesOn}
-use Rattle.waff_list.specs.Waiting.{AreReady, AreFinishes, AreLeft, left_of, running_needs}
+use Rattle.waff_list.specs.Waiting.{AreIdle, AreReady, AreFinishes, AreLeft, left_of, running_needs}
 use Rattle.waff_list.specs.declared.progress.Progress.{Progress}
 use Rattle.waff_list.specs.declared.waiting.Waiting.{Waiting}
 
@@ -29,6 +29,7 @@ pub record IsKept (needs : List (List ℕ)) (messages : List Message)
     (p : Progress) (w : Waiting) (now end : ℕ) : Type 0 where
   pub finishes : AreFinishes
       (work_of_messages messages) (start_of p.starts.items) now p.finishes
+  pub idle : AreIdle p.free_at.items now p.idle
   pub left : AreLeft needs (start_of p.starts.items) p.finishes w.left.items
   pub ready : AreReady (IsNeed needs)
       (work_of_messages messages) (start_of p.starts.items) now end w.ready
@@ -55,6 +56,7 @@ pub record IsPlaced (old : Progress) (message worker now cost : ℕ) (new : Prog
   pub seats : new.seats.items ≡ slice_set old.seats.items (message - 1) worker
   pub free_at : new.free_at.items ≡ slice_set old.free_at.items (worker - 1) (now + cost)
   pub finishes : IsPermutation ((now + cost, message) ∷ old.finishes) new.finishes
+  pub idle : new.idle ≡ old.idle
   pub order : new.order.items ≡ old.order.items ++ message ∷ []
 
 -- messages have been told of needs that have finished: a message that has been released by now and

@@ -59,10 +59,6 @@ pub record IsProgress (before : ℕ → ℕ → Type 0)
   pub workers : AreFreeAt work (start_of starts) (start_of seats) now free_at
   pub listed : IsOrderSoFar work (start_of starts) now order
 
--- m is ready at now and has not been placed
-abbrev pub IsWaiting : (ℕ → ℕ → Type 0) → Work → (ℕ → ℕ) → ℕ → ℕ → Type 0
-IsWaiting before work start now m = IsReady before work start now m × (now < start m)
-
 -- the plan has been made up to the tick now and the message turn, and what was placed before stays
 -- placed
 pub record GoesOn (before : ℕ → ℕ → Type 0)
@@ -100,13 +96,6 @@ pub record IsSmall (work : Work) : Type 0 where
   pub some_cost : (m : ℕ) → IsNumber work m → 1 ≤ work.cost m
   pub cost : (m : ℕ) → IsNumber work m → work.cost m < 2 ^ 32
   pub release : (m : ℕ) → IsNumber work m → work.release m < 2 ^ 32
-
--- w is the least worker that is free at now
-pub record IsLeastFree (free_at : List ℕ) (now w : ℕ) : Type 0 where
-  pub from : 1 ≤ w
-  pub to : w ≤ length free_at
-  pub free : slice_index free_at (w - 1) ≤ now
-  pub least : (v : ℕ) → 1 ≤ v → v < w → now < slice_index free_at (v - 1)
 
 -- the work of the messages of a trace
 abbrev pub work_of_messages : List Message → Work

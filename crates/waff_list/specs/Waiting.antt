@@ -7,19 +7,31 @@ use Rattle.waff_plan.specs.Work.{Work, IsNumber, finish_of}
 use Rattle.waff_order.specs.Needs.{needs_of}
 use Rattle.waff_list.specs.declared.progress.TheConstants.{NEVER}
 
--- m has joined the messages that are ready
+-- m has joined a heap
 pub record Joins (old : List ℕ) (m : ℕ) (new : List ℕ) : Type 0 where
   pub here : Contains new m
   pub kept : (x : ℕ) → Contains old x → Contains new x
   pub only : (x : ℕ) → Contains new x → Contains old x ⊎ (x ≡ m)
+  pub more : length new ≡ length old + 1
 
--- m, the least of the messages that are ready, has left them
+-- m, the least number of a heap, has left it
 pub record Leaves (old : List ℕ) (m : ℕ) (new : List ℕ) : Type 0 where
   pub one : Contains old m
   pub others : (x : ℕ) → Contains old x → (x ≡ m) ⊎ Contains new x
   pub only : (x : ℕ) → Contains new x → Contains old x
   pub least : (x : ℕ) → Contains new x → m ≤ x
   pub fewer : length new + 1 ≡ length old
+
+-- the numbers from 1 to n
+pub record AreFirst (n : ℕ) (xs : List ℕ) : Type 0 where
+  pub only : (x : ℕ) → Contains xs x → (1 ≤ x) × (x ≤ n)
+  pub each : (x : ℕ) → 1 ≤ x → x ≤ n → Contains xs x
+
+-- each worker that is free at now is idle, and all that are idle are workers
+pub record AreIdle (free_at : List ℕ) (now : ℕ) (idle : List ℕ) : Type 0 where
+  pub only : (w : ℕ) → Contains idle w → (1 ≤ w) × (w ≤ length free_at)
+  pub each : (w : ℕ) → 1 ≤ w → w ≤ length free_at → slice_index free_at (w - 1) ≤ now
+      → Contains idle w
 
 -- m is released before the tick end, and each message that is before it has finished by now
 pub record IsFree (before : ℕ → ℕ
@@ -45,6 +57,15 @@ pub record AreFinishes (work : Work) (start : ℕ → ℕ)
   pub each : (m : ℕ) → IsNumber work m → start m ≤ now → now < finish_of work start m
       → Contains finishes (finish_of work start m, m)
   pub only : All (Runs work start now) finishes
+
+-- the workers of the messages that finish have become idle
+pub record AreFreed (seats : List ℕ)
+    (old new : List (ℕ × ℕ)) (idle idle_after : List ℕ) : Type 0 where
+  pub kept : (w : ℕ) → Contains idle w → Contains idle_after w
+  pub freed : (r : ℕ × ℕ) → Contains old r
+      → Contains new r ⊎ Contains idle_after (slice_index seats (r.1 - 1))
+  pub only : (w : ℕ) → Contains idle_after w
+      → Contains idle w ⊎ ((r : ℕ × ℕ) × Contains old r × (w ≡ slice_index seats (r.1 - 1)))
 
 -- how often m is listed
 abbrev pub times : ℕ → List ℕ → ℕ

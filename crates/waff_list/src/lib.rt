@@ -5,9 +5,9 @@
 //! release and the cost of its printed chain.
 //! - `list`: the plan and its printed chain; `worker_plan`: plans for k workers.
 //! - `planner`, over `task` (the messages with their needs, and the `dependents` of each),
-//!   `progress` (the plan while it is made), `finishes` (when the messages that run finish),
-//!   `waiting` (how many needs of each message have not finished, and the `candidates`, those that
-//!   are ready), `releases` and `ticks` (when something happens).
+//!   `progress` (the plan while it is made), `finishes` (when the messages that run finish), `idle`
+//!   (the workers that are free), `waiting` (how many needs of each message have not finished, and
+//!   the `candidates`, those that are ready), `releases` and `ticks` (when something happens).
 //! - `laws`: the bound, and that needs make the same plans as all pairs; `unique`: that there is
 //!   one list plan.
 #![tactic(auto)]
@@ -15,6 +15,7 @@
 mod candidates;
 mod dependents;
 mod finishes;
+mod idle;
 pub mod laws;
 mod list;
 mod planner;

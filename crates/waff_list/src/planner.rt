@@ -5,11 +5,12 @@ ghost use Rattle.std.specs.Prelude.{◌≡◌, ℕ, ◌+◌, ◌^◌, ◌<◌, �
 ghost use Rattle.waff_plan.specs.Work.{IsNumber};
 ghost use Rattle.waff_order.specs.Needs.{IsNeed, needs_of};
 ghost use Rattle.waff_list.specs.Progress.{work_of_messages, IsMade};
-ghost use Rattle.waff_list.specs.Waiting.{FallAlike, HaveFinished, left_of, times};
+ghost use Rattle.waff_list.specs.Waiting.{AreFreed, FallAlike, HaveFinished, left_of, times};
 ghost use Rattle.waff_list.specs.Planning.{AreCounted, IsBegun, IsFilled, IsKept, Wakes};
 
 use crate::finishes::Finishes;
-use crate::progress::{NEVER, Progress, least_free};
+use crate::idle::Idle;
+use crate::progress::{NEVER, Progress};
 use crate::releases::Releases;
 use crate::task::Task;
 use crate::ticks::next_tick;
@@ -40,7 +41,15 @@ pub(crate) fn make(
         fill(&task, now, &mut progress, &mut waiting)?;
         match next_tick(&releases, &progress.finishes, now) {
             Some(next) => {
-                wake(&task, now, next, &mut progress.finishes, &mut waiting)?;
+                wake(
+                    &task,
+                    now,
+                    next,
+                    progress.seats.as_slice(),
+                    &mut progress.finishes,
+                    &mut progress.idle,
+                    &mut waiting,
+                )?;
                 releases.pass(next, waiting.left.as_slice(), &mut waiting.ready)?;
                 now = next;
             }
@@ -56,7 +65,6 @@ fn fill(
     progress: &mut Progress,
     waiting: &mut Waiting,
 ) -> Result<(), AllocError>
-    requires workers { length progress.old.free_at.items < 2 ^ 32 }
     requires tick { now + 2 ^ 32 < NEVER }
     requires begun { IsBegun task.now.needs.now task.now.trace.now.messages progress.old now }
     requires kept { IsKept task.now.needs.now task.now.trace.now.messages
@@ -66,37 +74,51 @@ fn fill(
     ensures kept { IfOk result (λ _. IsKept task.now.needs.now task.now.trace.now.messages
         progress.new waiting.new now (now + 1)) }
 {
-    while let Some(worker) = least_free(progress.free_at.as_slice(), now) {
+    while let Some(worker) = progress.idle.pop() {
+        if progress.free_at[worker as usize - 1] > now {
+            continue;
+        }
         match waiting.ready.pop() {
             Some(m) => {
                 if progress.starts[m as usize - 1] > now {
                     progress.place(m, worker, now, task.cost_of(m))?;
+                } else {
+                    progress.idle.push(worker)?;
                 }
             }
-            None => return Ok(()),
+            None => {
+                progress.idle.push(worker)?;
+                return Ok(());
+            }
         }
     }
     Ok(())
 }
 
-/// Takes out the messages that finish by `next`, and tells those that need them.
+/// Takes out the messages that finish by `next`, frees their workers, and tells those that need
+/// them.
 fn wake(
     task: &Task,
     now: u64,
     next: u64,
+    seats: &[u32],
     finishes: &mut Finishes,
+    idle: &mut Idle,
     waiting: &mut Waiting,
 ) -> Result<(), AllocError>
     requires next { next < NEVER }
     requires counted { AreCounted task.now.needs.now task.now.trace.now.messages
         finishes.old waiting.old }
+    requires seats { length seats.now ≡ length task.now.trace.now.messages }
     ensures counts { OnOk result (FallAlike task.now.needs.now finishes.old waiting.old.left.items
         finishes.new waiting.new.left.items) }
     ensures wakes { OnOk result (Wakes (work_of_messages task.now.trace.now.messages) now
         waiting.old waiting.new) }
     ensures finished { OnOk result (HaveFinished next finishes.old finishes.new) }
+    ensures freed { OnOk result (AreFreed seats.now finishes.old finishes.new idle.old idle.new) }
 {
     while let Some(m) = finishes.pop_by(next) {
+        idle.push(seats[m as usize - 1])?;
         tell_all(task, m, now, waiting)?;
     }
     Ok(())

@@ -1,10 +1,11 @@
 //! A plan while it is made, tick after tick.
 
-ghost use Rattle.std.specs.Prelude.{◌≡◌, ◌+◌, ◌^◌, ◌<◌, [], length, replicate};
-ghost use Rattle.std.specs.Prelude.{All, IfOk, OnOk, MatchOption};
-ghost use Rattle.waff_list.specs.Progress.{IsLeastFree};
+ghost use Rattle.std.specs.Prelude.{◌≡◌, ◌+◌, ◌^◌, ◌<◌, [], replicate};
+ghost use Rattle.std.specs.Prelude.{IfOk, OnOk};
+ghost use Rattle.waff_list.specs.Waiting.{AreFirst};
 
 use crate::finishes::Finishes;
+use crate::idle::Idle;
 use std::alloc::{AllocError, Global};
 
 /// The start of a message that is not placed yet.
@@ -21,6 +22,8 @@ pub(crate) struct Progress {
     pub free_at: Vec<u64>,
     /// The messages that run, the first to finish first.
     pub finishes: Finishes,
+    /// The workers that are free, the least first.
+    pub idle: Idle,
     /// The messages that are placed, in the order of their starts.
     pub order: Vec<u32>,
 }
@@ -35,6 +38,7 @@ impl Progress {
         ensures seats { IfOk result (λ progress. progress.seats.items ≡ replicate messages 0) }
         ensures free_at { IfOk result (λ progress. progress.free_at.items ≡ replicate workers 0) }
         ensures finishes { IfOk result (λ progress. progress.finishes ≡ []) }
+        ensures idle { IfOk result (λ progress. AreFirst workers progress.idle) }
         ensures order { IfOk result (λ progress. progress.order.items ≡ []) }
     {
         let count = messages as usize;
@@ -43,6 +47,7 @@ impl Progress {
             seats: vec![in alloc; 0; count]?,
             free_at: vec![in alloc; 0; workers as usize]?,
             finishes: Finishes::new(alloc),
+            idle: Idle::all(alloc, workers)?,
             order: Vec::with_capacity(alloc, count)?,
         })
     }
@@ -67,18 +72,4 @@ impl Progress {
         self.free_at[worker as usize - 1] = finish;
         Ok(())
     }
-}
-
-/// The least worker that is free.
-pub(crate) fn least_free(free_at: &[u64], now: u64) -> Option<u32>
-    requires { length free_at.now < 2 ^ 32 }
-    ensures { MatchOption result (All (λ free. now < free) free_at.now)
-        (IsLeastFree free_at.now now) }
-{
-    for worker in 0..free_at.len() {
-        if free_at[worker] <= now {
-            return Some(worker as u32 + 1);
-        }
-    }
-    None
 }

@@ -1,17 +1,18 @@
-use Rattle.std.proofs.Common.{◌≡◌, ℕ, ◌+◌, ◌-◌, ◌<◌, ◌≤◌, inr, List, [], length, get_or, replicate, All, arith, sym, ◌∙◌, ap, subst}
-use Rattle.std.proofs.lemmas.List.{get_or-replicate}
+use Rattle.std.proofs.Common.{◌≡◌, ℕ, ◌+◌, ◌-◌, ◌<◌, ◌≤◌, inr, List, [], length, get_or, replicate, All, arith, refl, sym, ◌∙◌, ap, subst}
+use Rattle.std.proofs.lemmas.List.{get_or-replicate, length-replicate}
 use Rattle.std.proofs.lemmas.List.Elements.{All-weaker}
 use Rattle.waff_plan.specs.Work.{Work, IsNumber}
 use Rattle.waff_plan.specs.Timing.{start_of}
 use Rattle.waff_order.specs.Needs.{IsNeed}
 use Rattle.waff_list.specs.Progress.{work_of_messages, IsProgress, IsNextTick, IsLastTick, GoesOn}
 use Rattle.waff_list.specs.Planning.{IsKept, Wakes}
-use Rattle.waff_list.specs.Waiting.{Runs, AreReady, AreReleases, ArePassed, Admits, FallAlike, AreLeft, AreFinishes}
+use Rattle.waff_list.specs.Waiting.{AreFirst, AreFreed, Runs, AreReady, AreReleases, ArePassed, Admits, FallAlike, AreLeft, AreFinishes}
 use Rattle.waff_list.specs.declared.progress.TheConstants.{NEVER}
 use Rattle.waff_list.proofs.TraceWork.{count_is, needs_forward}
 use Rattle.waff_list.proofs.Progressing.{progress_none, progress_advance}
 use Rattle.waff_list.proofs.CountLemmas.{left_none, left_fall}
 use Rattle.waff_list.proofs.FinishLemmas.{finishes_none, finishes_advance}
+use Rattle.waff_list.proofs.IdleLemmas.{idle_none, idle_wake}
 use Rattle.waff_list.proofs.Events.{events_fewer, on_time_none, on_time_next, made_of_last}
 use Rattle.waff_list.proofs.WakeLemmas.{AreKnown, ready_none, ready_wake, ready_pass}
 use Rattle.waff_list.proofs.planner.make.Goals as goal
@@ -63,6 +64,7 @@ loop-waiting-init c =
       time = on_time_none work start;
       kept = record {
         finishes = subst (λ (xs : List (ℕ × ℕ)). AreFinishes work start 0 xs) (sym h.finishes) running;
+        idle = idle_none p.free_at.items p.idle 0 (subst (λ n. AreFirst n p.idle) (sym (ap length h.free_at ∙ length-replicate c.args.k 0)) h.idle);
         left = subst (λ (xs : List (ℕ × ℕ)). AreLeft needs start xs left) (sym h.finishes) counts;
         ready = ready;
       };
@@ -81,7 +83,7 @@ pass-requires-in-Some-clause-messages c = λ k d inside.
     = rw (c.in_ok-task.ensures.needs, c.in_ok-task.ensures.trace) at c.in_ok-fill.ensures.kept in
     let count = kept.left.count in
     let woken = c.in_ok-wake-in-Some.ensures.wakes.count in
-    let slice = ap length c.as_slice-in-Some.ensures.value in
+    let slice = ap length c.as_slice-in-Some-2.ensures.value in
     (from, omega (arith, to, count_is messages, same, count, woken, slice))
 
 pub loop-waiting-smaller : goal.loop-waiting-smaller
@@ -138,6 +140,12 @@ loop-waiting-preserved c =
     let wakes : Wakes work now c.fill.new.waiting c.wake.new.waiting = rw c.in_ok-task.ensures.trace at c.in_ok-wake-in-Some.ensures.wakes in
     let running = finishes_advance work start now next new.finishes c.wake.new.finishes later tick.tick made.settled.placed c.in_ok-wake-in-Some.ensures.finished kept.finishes in
     let left = left_fall needs start new.finishes c.wake.new.finishes c.fill.new.waiting.left.items c.wake.new.waiting.left.items kept.left counts wakes.count in
+    let freed : AreFreed new.seats.items new.finishes c.wake.new.finishes new.idle c.wake.new.idle
+    = subst (λ xs. AreFreed xs new.finishes c.wake.new.finishes new.idle c.wake.new.idle) c.as_slice-in-Some.ensures.value c.in_ok-wake-in-Some.ensures.freed in
+    let idle = idle_wake work start (start_of new.seats.items) new.seats.items new.free_at.items now next new.finishes c.wake.new.finishes new.idle c.wake.new.idle
+    (λ m. refl)
+    (λ m number begun. let seat = made.settled.seated m number begun in (seat.from, omega (arith, made.settled.within m number begun, made.workers_count)))
+    made.workers kept.finishes c.in_ok-wake-in-Some.ensures.finished freed kept.idle in
     let first : AreKnown needs work start now new.finishes c.fill.new.waiting.left.items
     = record { short = let short : next < NEVER = tick.tick in omega arith; running = kept.finishes; counts = kept.left; placed = made.settled.placed } in
     let second : AreKnown needs work start next c.wake.new.finishes c.wake.new.waiting.left.items
@@ -149,7 +157,7 @@ loop-waiting-preserved c =
     = pass.passed (λ i d early inside. let is : (get_or sorted i d).0 ≤ now = invariant.passed.before i d early inside in omega arith) in
     let admits : Admits sorted c.loop-waiting.releases.passed c.pass-in-Some.new.self.passed c.wake.new.waiting.left.items c.wake.new.waiting.ready c.pass-in-Some.new.ready
     = subst (λ xs. Admits sorted c.loop-waiting.releases.passed c.pass-in-Some.new.self.passed xs c.wake.new.waiting.ready c.pass-in-Some.new.ready)
-    c.as_slice-in-Some.ensures.value pass.admits in
+    c.as_slice-in-Some-2.ensures.value pass.admits in
     let ready = ready_pass needs work forward same start next (now + 1) c.wake.new.finishes sorted c.wake.new.waiting.left.items c.wake.new.waiting.ready c.pass-in-Some.new.ready
     c.loop-waiting.releases.passed c.pass-in-Some.new.self.passed (omega arith) second invariant.releases
     (λ i d early inside. let is : (get_or sorted i d).0 ≤ now = invariant.passed.before i d early inside in omega arith) passed admits woken in
@@ -157,7 +165,7 @@ loop-waiting-preserved c =
       progress = advanced;
       time = on_time_next before work (length old.free_at.items) forward small old.starts.items new.starts.items new.seats.items new.free_at.items
           new.order.items now next (length messages + 1) invariant.progress.settled.placed filled new.finishes kept.finishes tick invariant.time;
-      kept = record { finishes = running; left = left; ready = ready };
+      kept = record { finishes = running; idle = idle; left = left; ready = ready };
       releases = subst (λ xs. AreReleases work xs) (sym pass.sorted) invariant.releases;
       passed = subst (λ xs. ArePassed xs c.pass-in-Some.new.self.passed next) (sym pass.sorted) passed;
     }
