@@ -1,6 +1,6 @@
 -- A scene that is made ready for drawing.
-use Rattle.std.specs.Prelude.{◌≡◌, ℕ, ◌^◌, ◌<◌, ◌≤◌, All, Bool, false, List, length, map, slice_index}
-use Rattle.std.specs.Prelude.{slice_index_or}
+use Rattle.std.specs.Prelude.{◌≡◌, ℕ, ◌^◌, ◌<◌, ◌≤◌, All, Bool, false, List, length, map}
+use Rattle.std.specs.Prelude.{slice_index, slice_index_or}
 use Rattle.waff_plan.specs.Timetable.{Timetable, timings_of}
 use Rattle.waff_draw.specs.Lanes.{is_among, row_of}
 use Rattle.waff_draw.specs.Scene.{Scene, end_in, from_in, lanes_in, length_in, work_in}

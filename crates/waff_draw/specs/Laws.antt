@@ -54,7 +54,8 @@ IsOneOf first count t = (first ≤ t) × (t < first + count)
 abbrev pub ShowsTicksInPart : Scene → Type 0
 ShowsTicksInPart scene =
     (n t : ℕ) → IsOneOf (shown_start scene n) (shown_ticks scene n) t
-    ↔ (IsOneOf (start_in scene n) ((work_in scene).cost n) t × IsOneOf (from_in scene) (span_in scene) t)
+    ↔ (IsOneOf (start_in scene n) ((work_in scene).cost n) t
+    × IsOneOf (from_in scene) (span_in scene) t)
 
 -- the part that is the whole plan
 abbrev pub whole_part : Part
@@ -69,5 +70,6 @@ ShowsAll scene =
 -- the axis has a line at each multiple of its step that is in the part or at its end
 abbrev pub HasLines : Scene → Type 0
 HasLines scene =
-    (k : ℕ) → from_in scene ≤ k * step_of (span_in scene) → k * step_of (span_in scene) ≤ end_in scene
+    (k : ℕ) → from_in scene ≤ k * step_of (span_in scene)
+    → k * step_of (span_in scene) ≤ end_in scene
     → (i : ℕ) × (i < 11) × (line_in scene i ≡ k * step_of (span_in scene))

@@ -1,7 +1,7 @@
 -- What a picture shows: a plan that is given for the messages of a trace with their affinities, or
 -- a part of it.
-use Rattle.std.specs.Prelude.{ℕ, ◌+◌, ◌-◌, max, min, Bool, List, [], Option, Some, None, length, map}
-use Rattle.std.specs.Prelude.{nat_lt, slice_index_or}
+use Rattle.std.specs.Prelude.{ℕ, ◌+◌, ◌-◌, max, min, Bool, List, [], Option, Some, None, length}
+use Rattle.std.specs.Prelude.{map, nat_lt, slice_index_or}
 use Rattle.std.specs.List.{filter}
 use Rattle.waff_model.specs.Tree.{Node, name_of}
 use Rattle.waff_model.specs.declared.message.Message.{Message}
@@ -26,17 +26,20 @@ abbrev pub scene_of : List Node → List ℕ → List Message → Given → Part
 scene_of tree assigned messages plan part =
     record { tree = tree; assigned = assigned; messages = messages; plan = plan; part = part }
 
--- the work, the starts and the length of the plan
+-- the work, the starts, the finishes and the length of the plan
 abbrev pub work_in : Scene → Work
 work_in scene = work_of (timings_of scene.messages)
 
 abbrev pub start_in : Scene → ℕ → ℕ
 start_in scene = start_of (map (λ row. row.start) scene.plan.rows)
 
+abbrev pub finish_in : Scene → ℕ → ℕ
+finish_in scene = finish_of (work_in scene) (start_in scene)
+
 abbrev pub length_in : Scene → ℕ
 length_in scene = length_of (work_in scene) (start_in scene)
 
--- where the part of it begins and ends that is shown, and how many ticks that is
+-- where the part begins and ends that is shown, and how many ticks it has
 abbrev pub from_in : Scene → ℕ
 from_in scene = scene.part.from
 
@@ -46,10 +49,7 @@ end_in scene = end_of scene.part (length_in scene)
 abbrev pub span_in : Scene → ℕ
 span_in scene = end_in scene - from_in scene
 
--- what is shown of message n, cut at the edges of the part: where it begins, and how many ticks
-abbrev pub finish_in : Scene → ℕ → ℕ
-finish_in scene = finish_of (work_in scene) (start_in scene)
-
+-- what is shown of message n, cut at the edges of the part: from which tick, and how many
 abbrev pub shown_start : Scene → ℕ → ℕ
 shown_start scene n = max (start_in scene n) (from_in scene)
 

@@ -58,7 +58,8 @@ abbrev pub line_in : Scene → ℕ → ℕ
 line_in scene i = line_at (from_in scene) (span_in scene) i
 
 abbrev pub each_line : Scene → (ℕ → List ℕ) → List ℕ
-each_line scene text = flat_map (λ i. upto (end_in scene) text (line_in scene i)) (range_with_len 0 11)
+each_line scene text =
+    flat_map (λ i. upto (end_in scene) text (line_in scene i)) (range_with_len 0 11)
 
 -- the ground of the bars, in ticks and tenths of a lane
 abbrev pub plan_text : ℕ → ℕ → List ℕ

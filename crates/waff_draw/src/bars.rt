@@ -12,9 +12,9 @@ use crate::pieces::{push_bar_end, push_bar_middle, push_bar_place, push_bar_size
 use crate::xml::push_xml;
 use std::alloc::AllocError;
 
-/// A bar: its message, its row, its left edge and its width in ticks of the part that is shown; when
-/// the message starts and finishes, whether it is on the chain, and whether the bar is narrower than
-/// a pixel.
+/// A bar: its message, its row, its left edge and its width in ticks of the part that is shown;
+/// when the message starts and finishes, whether it is on the chain, and whether the bar is narrower
+/// than a pixel.
 #[derive(Clone, Copy)]
 pub struct Bar {
     pub message: u32,

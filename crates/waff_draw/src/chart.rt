@@ -30,9 +30,9 @@ use waff_plan::Plan;
 use waff_plan_text::GivenPlan;
 
 /// A scene made ready for drawing: a plan that is given for the messages of a trace with their
-/// affinities, and which part of it is shown; the lanes of these and the row of each, the plan of its
-/// starts and its length in ticks, where the part ends, and whether each message is on the chain, by
-/// its number.
+/// affinities, and which part of it is shown; the lanes of these and the row of each, the plan of
+/// its starts and its length in ticks, where the part ends, and whether each message is on the
+/// chain, by its number.
 #[derive(Drop)]
 pub(crate) struct Chart<'a> {
     tree: &'a Tree,

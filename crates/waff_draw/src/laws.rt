@@ -1,5 +1,5 @@
-//! What holds of the lanes of every picture, of what is shown in them, and of the axis. Each law is a
-//! function that does nothing and whose contract is the law.
+//! What holds of the lanes of every picture, of what is shown in them, and of the axis. Each law is
+//! a function that does nothing and whose contract is the law.
 
 ghost use Rattle.std.specs.Prelude.{◌≡◌, ◌<◌, ℕ, List};
 ghost use Rattle.waff_model.specs.Tree.{IsTree, Node};

@@ -25,8 +25,8 @@ pub enum Picture {
     TraceEvents,
 }
 
-/// Writes the picture of this part of the plan that the text gives for the trace under the hierarchy,
-/// whether or not the plan obeys. Nothing is written before the whole picture is made.
+/// Writes the picture of this part of the plan that the text gives for the trace under the
+/// hierarchy, whether or not the plan obeys. Nothing is written before the whole picture is made.
 pub fn draw_text<W: Write>(
     alloc: Global,
     hierarchy: &[u8],
