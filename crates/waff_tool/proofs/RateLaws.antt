@@ -1,20 +1,19 @@
 -- Of the same bytes there is one rating, and what `plan` prints is rated as a sweep tells of it.
-use Rattle.std.proofs.Common.{◌≡◌, ℕ, ◌+◌, ◌-◌, ◌<◌, ◌≤◌, List, map, length, get_or, Option, Some, None, Ok, arith, refl, sym, ◌∙◌, ap, subst}
-use Rattle.std.specs.Prelude.{Contains}
-use Rattle.std.specs.List.{range_with_len}
+use Rattle.std.proofs.Common.{◌≡◌, ℕ, ◌-◌, ◌<◌, ◌≤◌, List, map, length, get_or, Option, Some, None, Ok, arith, refl, sym, ◌∙◌, ap, subst}
 use Rattle.std.proofs.lemmas.List.{get_or-map, length-map}
-use Rattle.std.proofs.lemmas.List.Elements.{Contains-get_or}
 use Rattle.std.proofs.lemmas.List.FromFn.{get_or-map-range_with_len, length-map-range_with_len}
 use Rattle.std.proofs.lemmas.Option.{same_Some}
 use Rattle.waff_model.specs.Layout.{Hierarchy}
 use Rattle.waff_model.specs.Messages.{Arrivals}
 use Rattle.waff_model.specs.Tree.{Node}
+use Rattle.waff_model.specs.declared.message.Message.{Message}
 use Rattle.waff_model.specs.declared.message.Version.{Version}
 use Rattle.waff_assign.specs.Order.{IsOrdered}
 use Rattle.waff_plan.specs.Obeys.{IsLeast}
 use Rattle.waff_plan.specs.Timing.{start_of}
 use Rattle.waff_plan.specs.Unique.{AreSame}
-use Rattle.waff_plan.specs.Work.{Work, IsNumber, length_of, numbers}
+use Rattle.waff_plan.specs.Work.{Work, length_of, numbers}
+use Rattle.waff_plan.specs.declared.timing.Timing.{Timing}
 use Rattle.waff_plan.proofs.Uniqueness.{least_is_one, same_length}
 use Rattle.waff_list.specs.ListRule.{IsListPlan}
 use Rattle.waff_list.proofs.Uniqueness.{list_plan_is_one}
@@ -27,18 +26,18 @@ use Rattle.waff_plan_text.specs.declared.row.Row.{Row}
 use Rattle.waff_check.specs.Verdicts.{starts_of}
 use Rattle.waff_check.specs.declared.verdict.Verdict.{Verdict}
 use Rattle.waff_figures.specs.Figures.{AreFigures}
-use Rattle.waff_figures.specs.Sweep.{AreListed, IsListed}
+use Rattle.waff_figures.specs.Sweep.{IsListed}
 use Rattle.waff_figures.specs.declared.figures.Figures.{Figures}
 use Rattle.waff_figures.proofs.FigureLaws.{figures_are_one}
 use Rattle.waff_inputs.specs.Inputs.{Accepts}
 use Rattle.waff_inputs.proofs.SameInput.{moved_back, same_input, same_ok}
 use Rattle.waff_tool.specs.Figures.{IsSweepText}
-use Rattle.waff_tool.specs.PlanText.{IsPlanText, IsWorkerPlanText, work_in}
+use Rattle.waff_tool.specs.PlanText.{work_in}
 use Rattle.waff_tool.specs.Rate.{AreRated, IsRateText, OwnPlanIsSwept, OwnWorkerPlanIsSwept, RateTextIsOne, RatedIsChecked, rated_lines}
 use Rattle.waff_tool.proofs.CertificateLemmas.{pairs_forward}
 use Rattle.waff_tool.proofs.CheckUniqueness.{check_text_is_one}
 use Rattle.waff_tool.proofs.FigureUniqueness.{IsSwept, count_of, workers_at}
-use Rattle.waff_tool.proofs.OwnPlanLaws.{IsTold, own_plan_told, own_worker_plan_told}
+use Rattle.waff_tool.proofs.OwnPlanLaws.{own_plan_told, own_worker_plan_told}
 use Rattle.waff_tool.proofs.TextUniqueness.{trace_runs}
 
 -- what is rated of a plan that is given
@@ -112,7 +111,10 @@ told_swept hierarchy_file trace_file workers sweep layout trace assigned accepts
 -- as many messages are read as the work has
 count_read : (trace : Arrivals) (text : List ℕ) (plan : Given) → plan_of trace.version (work_in trace).count text ≡ Ok plan
     → plan_of trace.version (length trace.messages) text ≡ Ok plan
-count_read trace text plan read = ?
+count_read trace text plan read =
+    let count : (work_in trace).count ≡ length trace.messages
+    = length-map trace.messages (λ (message : Message). let t : Timing = record { cost = message.cost; release = message.release } in t) in
+    ap (λ n. plan_of trace.version n text) (sym count) ∙ read
 
 pub own_plan_is_swept : (hierarchy_file trace_file : List ℕ) → OwnPlanIsSwept hierarchy_file trace_file
 own_plan_is_swept hierarchy_file trace_file plan_file workers text sweep v told rate swept =
