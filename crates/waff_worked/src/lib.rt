@@ -15,6 +15,8 @@ mod hostile_writes;
 #[cfg(test)]
 mod plan_texts;
 #[cfg(test)]
+mod ranks;
+#[cfg(test)]
 mod rates;
 #[cfg(test)]
 mod replay_texts;
