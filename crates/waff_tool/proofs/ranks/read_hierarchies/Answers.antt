@@ -1,10 +1,9 @@
-use Rattle.std.proofs.Common.{◌≡◌, ◌+◌, ◌<◌, ◌≤◌, ℕ, [], ◌∷◌, ◌++◌, Ok, length, take, rules, arith, sym, ◌∙◌, ap, subst}
+use Rattle.std.proofs.Common.{◌≡◌, ◌+◌, ◌<◌, ◌≤◌, [], ◌∷◌, ◌++◌, Ok, length, take, arith, sym, ◌∙◌, ap, subst}
 use Rattle.std.proofs.lemmas.List.{length_push, take_all, take_more}
 use Rattle.std.proofs.lemmas.Result.{err_from_is_err_and}
 use Rattle.waff_read.specs.Hierarchies.{hierarchy_of}
 use Rattle.waff_inputs.specs.Inputs.{RefusesHierarchy}
-use Rattle.waff_inputs.specs.declared.fault.ToolError.{ToolError}
-use Rattle.waff_tool.specs.Ranks.{AreRead, RefusesRank, file_at}
+use Rattle.waff_tool.specs.Ranks.{AreRead, file_at}
 use Rattle.waff_tool.proofs.RankLemmas.{bytes_length, bytes_of, file_bytes, first_refused, read_are, zip_push}
 use Rattle.waff_tool.proofs.ranks.read_hierarchies.Goals as goal
 
