@@ -1,6 +1,6 @@
-//! What holds of the waits of all plans. Each law is a function that does nothing and whose contract
-//! is the law, for the ordered pairs of a tree of affinities and the affinities assigned to the
-//! messages.
+//! What holds of the waits of all plans. Each law is a function that does nothing and whose
+//! contract is the law, for the ordered pairs of a tree of affinities and the affinities assigned
+//! to the messages.
 
 ghost use Rattle.std.specs.Prelude.{◌≡◌, ℕ, List, length};
 ghost use Rattle.waff_model.specs.Tree.{Node};

@@ -18,10 +18,10 @@ use waff_list::list_plan;
 use waff_order::predecessors::needs;
 use waff_plan::unlimited::plan;
 
-/// Writes who waits for whom in the plan of the trace under the hierarchy for this number of workers,
-/// or with no limit on them: for each pair of affinities, or for each pair of names and affinities,
-/// how many messages of the one wait for messages of the other or for a worker, and how long.
-/// Nothing is written before the whole text is made.
+/// Writes who waits for whom in the plan of the trace under the hierarchy for this number of
+/// workers, or with no limit on them: for each pair of affinities, or for each pair of names and
+/// affinities, how many messages of the one wait for messages of the other or for a worker, and how
+/// long. Nothing is written before the whole text is made.
 pub fn waits_text<W: Write>(
     alloc: Global,
     hierarchy: &[u8],

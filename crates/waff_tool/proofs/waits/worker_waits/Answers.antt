@@ -1,4 +1,4 @@
-use Rattle.std.proofs.Common.{◌≡◌, ℕ, List, Some, string_bytes, subst}
+use Rattle.std.proofs.Common.{ℕ, List, Some, string_bytes, subst}
 use Rattle.std.proofs.lemmas.Result.{IfOk-weaker}
 use Rattle.waff_plan.specs.Timetable.{Timetable}
 use Rattle.waff_plan.specs.Timing.{start_of, work_of}
