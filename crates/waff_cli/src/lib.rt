@@ -12,6 +12,7 @@ mod commands;
 mod help;
 mod parser;
 mod refusal;
+mod version;
 mod words;
 
 pub use refusal::{FAILED, REFUSED, Refusal};

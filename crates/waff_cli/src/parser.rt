@@ -1,6 +1,7 @@
 //! The parser of the table of commands.
 use crate::commands::{COMMANDS, CommandWords, FileWord, OptionWord, PICTURES};
 use crate::help;
+use crate::version::LONG_VERSION;
 use clap::{Arg, ArgAction, Command, value_parser};
 use std::alloc::{AllocError, Global};
 use waff_core::limits::MAX_SEATS;
@@ -18,6 +19,7 @@ pub fn parser<'a>(alloc: Global) -> Result<Command<'a>, AllocError> {
 fn waff<'a>(alloc: Global) -> Command<'a> {
     Command::new(alloc, "waff")
         .version("0.1.0")
+        .long_version(LONG_VERSION)
         .about("How much parallelism a tree of affinities allows a trace of messages")
         .after_help("Without words: the plan of what standard input holds.")
         .after_long_help(help::WAFF)

@@ -1,0 +1,7 @@
+//! The version of the program, written by dist/version.
+
+/// The version, the kit that proves these sources, and the sum of them.
+pub const LONG_VERSION: &str = "\
+0.1.0
+kit: rattle-kit-13f logic dac8208d650f15bf
+sources: cabf0e60c23b389a";
