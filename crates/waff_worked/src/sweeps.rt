@@ -1,5 +1,8 @@
 //! Sweeps over numbers of workers, and where the time goes.
 
+ghost use Rattle.std.specs.Prelude.{All};
+ghost use Rattle.waff_plan.specs.Bound.{IsWorkers};
+
 use crate::same::are_same;
 use std::alloc::Global;
 use std::process::Abort;
@@ -82,7 +85,9 @@ pub const WHERE_H1_X1_NAMES: &str = "name,messages,cost,chain\n\
     m6,1,2,2\n";
 
 /// The sweep of the trace has to be this.
-fn is_swept(rt: &impl Abort, alloc: Global, trace: &str, workers: &[u32], text: &str) {
+fn is_swept(rt: &impl Abort, alloc: Global, trace: &str, workers: &[u32], text: &str)
+    requires { All IsWorkers workers.now }
+{
     let mut written = Vec::new(alloc);
     let (hierarchy, trace) = (H1.as_bytes(), trace.as_bytes());
     sweep_text(alloc, hierarchy, trace, workers, &mut written).expect(rt, "a text");

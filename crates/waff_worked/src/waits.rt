@@ -1,5 +1,8 @@
 //! Who waits for whom.
 
+ghost use Rattle.std.specs.Prelude.{IfSome};
+ghost use Rattle.waff_plan.specs.Bound.{IsWorkers};
+
 use crate::same::are_same;
 use std::alloc::Global;
 use std::process::Abort;
@@ -78,11 +81,14 @@ const WAITS_SHARED: &str = "affinity,for,messages,ticks,longest\n\
 fn is_waited(
     rt: &impl Abort,
     alloc: Global,
-    (hierarchy, trace): (&str, &str),
+    files: (&str, &str),
     workers: Option<u32>,
     by_name: bool,
     text: &str,
-) {
+)
+    requires { IfSome workers IsWorkers }
+{
+    let (hierarchy, trace) = files;
     let mut written = Vec::new(alloc);
     waits_text(
         alloc,
