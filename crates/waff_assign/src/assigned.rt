@@ -1,6 +1,7 @@
 //! The affinities assigned to the messages of a trace.
 
 ghost use Rattle.std.specs.Prelude.{◌≡◌, ◌≤◌, ℕ, length};
+ghost use Rattle.waff_model.specs.Numbers.{IsAmongFirst};
 ghost use Rattle.waff_assign.specs.Order.{affinity_of};
 
 use std::marker::Model;
@@ -46,8 +47,7 @@ impl Assigned {
 
     /// The affinity of message `n`, from 1.
     pub fn of(&self, n: u32) -> AffinityId
-        requires from { 1 ≤ n }
-        requires to { n ≤ length self.now }
+        requires number { IsAmongFirst (length self.now) n }
         ensures { result.0 ≡ affinity_of self.now n }
     {
         self.affinities[n as usize - 1]

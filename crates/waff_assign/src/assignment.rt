@@ -32,8 +32,8 @@ pub fn assign(alloc: Global, layout: &Layout, trace: &Trace) -> Result<Assigned,
 pub(crate) fn push_cells(cells: &mut Vec<Cell>, ops: &Ops) -> Result<(), AllocError>
     ensures { OnOk result (cells.new.items ≡ cells.old.items ++ cells_of ops.now) }
 {
-    for place in 0..ops.len() {
-        push_cells_of_op(cells, ops.get(place))?;
+    for index in 0..ops.len() {
+        push_cells_of_op(cells, ops.get(index))?;
     }
     Ok(())
 }

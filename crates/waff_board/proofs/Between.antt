@@ -7,7 +7,7 @@ use lib.ListN.{get_elem?}
 use Rattle.waff_core.specs.Machine.{Core}
 use Rattle.waff_core.proofs.Phases.{Has}
 use Rattle.waff_board.specs.Laws.{ActorsDiffer, NumbersDiffer, NumbersAreDrawn, HandedOutOnce, IsAt, RunByOne, RunOnce, DoneIsRun, SeenIsDone, DrawsAreFew, OpensUntouched}
-use Rattle.waff_board.specs.Seats.{Shown, IsListed, AreListedOnce}
+use Rattle.waff_board.specs.Seats.{Shown, StandsInOne, AreListedOnce}
 use Rattle.waff_board.specs.declared.view.Setup.{Setup}
 use Rattle.waff_board.specs.declared.view.View.{View}
 use Rattle.waff_board.proofs.Known.{Known, known}
@@ -71,7 +71,7 @@ pub opens_untouched : (setup : Setup) → OpensUntouched setup
 opens_untouched setup s h none = undrawn_opening setup.job setup.seats h.events h.core h.reached
     (⊎_elim {C = h.core.drawn ≡ 0}
     (λ (drawn : 0 < h.core.drawn).
-    let first : IsListed (λ v. v.draws) s.views 0 = h.seats.draws.each 0 drawn in
+    let first : StandsInOne (λ v. v.draws) s.views 0 = h.seats.draws.each 0 drawn in
     let few : length first.view.draws ≡ 0 = ap length (none first.seat first.view first.at) in
     let has = first.has.1 in absurd (omega (arith, few, has)))
     (λ (none : h.core.drawn ≤ 0). omega (arith, none))

@@ -16,7 +16,7 @@ use Rattle.waff_board.proofs.Known.{Known, known}
 use Rattle.waff_board.proofs.Begins.{parcel_same}
 
 -- the slots have the parcels of the cells
-pub record AreParcels {S : Type 0} (items : S → List ℕ) (job : JobValue) (cells : Cells) (xs : List S) : Type 0 where
+pub record HaveParcels {S : Type 0} (items : S → List ℕ) (job : JobValue) (cells : Cells) (xs : List S) : Type 0 where
   pub count : length xs ≡ length job.layout.tree
   pub each : (a : ℕ) → a < length job.layout.tree
       → (y : S) × (get_elem? xs a ≡ some y) × IsParcel job.layout.spaces a cells (items y)
@@ -32,7 +32,7 @@ module _ {S : Type 0} (items : S → List ℕ) (setup : Setup) (id : ℕ) (v : V
 
   -- where all status words say so, the slots have the parcels of the state after all messages
   pub all_done_is_serial : ((n : ℕ) → IsIn setup.job n → slice_index words n ≡ 2)
-      → AreParcels items setup.job (serial setup.job.ops (length setup.job.ops)) xs
+      → HaveParcels items setup.job (serial setup.job.ops (length setup.job.ops)) xs
   all_done_is_serial over =
       let h = final.1.0 in
       let job = setup.job in

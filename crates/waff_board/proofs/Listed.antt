@@ -7,7 +7,7 @@ use mathlib.Core.Logic.{dite}
 use native.Mathlib.Decide.{ℕ_discrete}
 use lib.ListN.{get_elem?}
 use Rattle.atomic_table.proofs.Lists.{at_set, set_here, set_else, at_longer}
-use Rattle.waff_board.specs.Seats.{IsListed, AreListedOnce}
+use Rattle.waff_board.specs.Seats.{StandsInOne, AreListedOnce}
 use Rattle.waff_board.specs.declared.view.View.{View}
 
 -- a seat that has a view is one of them
@@ -65,10 +65,10 @@ module _ (list : View → List ℕ) (such next : ℕ → Type 0) (views : List V
       (λ (new : ¬ such n). new (h.only j u there n theirs))
       (adds.fresh n mine)
 
-  here : (n : ℕ) → Contains (list w) n → IsListed list (set views id w) n
+  here : (n : ℕ) → Contains (list w) n → StandsInOne list (set views id w) n
   here n has = record { seat = id; view = w; at = set_here views id w (at_within views id v at); has = has }
 
-  still : (n : ℕ) → IsListed list views n → IsListed list (set views id w) n
+  still : (n : ℕ) → StandsInOne list views n → StandsInOne list (set views id w) n
   still n is = dite (ℕ_discrete is.seat id)
       (λ same. here n (adds.kept n (subst (λ (u : View). Contains (list u) n) (mine same) is.has)))
       (λ other. record { seat = is.seat; view = is.view; at = set_else views id is.seat w other ∙ is.at; has = is.has })
@@ -78,7 +78,7 @@ module _ (list : View → List ℕ) (such next : ℕ → Type 0) (views : List V
 
   pub listed_moved : AreListedOnce list next (set views id w)
   listed_moved = record {
-    each = λ n is. ⊎_elim {C = IsListed list (set views id w) n}
+    each = λ n is. ⊎_elim {C = StandsInOne list (set views id w) n}
         (λ (old : such n). still n (h.each n old)) (λ (new : Contains (list w) n). here n new) (adds.each n is);
     only = λ j u there n has. ⊎_elim {C = next n}
         (λ (mine : (j ≡ id) × (w ≡ u)). adds.only n (subst (λ (u : View). Contains (list u) n) (sym mine.1) has))

@@ -4,7 +4,7 @@ use Rattle.std.proofs.lemmas.List.{take_more, get_or_read}
 use Rattle.std.proofs.lemmas.List.Elements.{Contains-get_or, All-head, All-tail}
 use Rattle.std.proofs.lemmas.Option.{none-some}
 use Rattle.waff_order.specs.Needs.{IsNeed, needs_of}
-use Rattle.waff_core.specs.Job.{JobValue, IsJob}
+use Rattle.waff_core.specs.Job.{JobValue, IsJob, IsIn}
 use Rattle.waff_board.specs.Calls.{Looked, LooksOver}
 use Rattle.waff_board.specs.Seats.{has_seen, HasSeen}
 use Rattle.waff_board.specs.declared.view.View.{View}
@@ -32,13 +32,13 @@ looks_alone v w (n ∷ messages) (u, look, rest) =
     one false (word, same) = subst (λ (x : View). x ≡ record v { looks = x.looks }) (sym same) refl
 
 -- the needs of a message are messages
-pub needs_known : (job : JobValue) → IsJob job → (m : ℕ) → 1 ≤ m → All (λ n. (1 ≤ n) × (n ≤ length job.ops)) (needs_of job.needs m)
+pub needs_known : (job : JobValue) → IsJob job → (m : ℕ) → 1 ≤ m → All (IsIn job) (needs_of job.needs m)
 needs_known job is m from k d within =
     let pair = is.needs.ordered (get_or (needs_of job.needs m) k d) m (record { from = from; listed = Contains-get_or (needs_of job.needs m) k d within }) in
     let earlier = pair.earlier in
     let to = pair.to in
     let count = is.count in
-    (pair.from, omega (arith, earlier, to, count))
+    record { from = pair.from; to = omega (arith, earlier, to, count) }
 
 -- two tests that agree find the same
 pub find_agree : (p q : ℕ → Bool) (xs : List ℕ) → All (λ n. p n ≡ q n) xs → find p xs ≡ find q xs
@@ -88,7 +88,7 @@ module _ (job : JobValue) (is : IsJob job) (m : ℕ) (from : 1 ≤ m) (w : View)
     (marked : (n : ℕ) → n < length w.job.ops + 1 → slice_index_or marks n false ≡ has_seen w n) where
   pub needs_marked : All (λ n. n < length w.job.ops + 1) (needs_of job.needs m)
   needs_marked k d there =
-      let to = (needs_known job is m from k d there).1 in
+      let to = (needs_known job is m from k d there).to in
       let ops : length w.job.ops ≡ length job.ops = ap (λ (j : JobValue). length j.ops) same in
       omega (arith, to, ops)
 

@@ -6,7 +6,7 @@ use mathlib.Core.Option.{some, some-injective, some-ne-none}
 use lib.ListN.{get_elem?}
 use Rattle.atomic_table.specs.Table.{opening as table_opening}
 use Rattle.waff_model.specs.Layout.{Space}
-use Rattle.waff_model.proofs.ParcelLemmas.{place_within}
+use Rattle.waff_model.proofs.ParcelLemmas.{offset_within}
 use Rattle.waff_cells.specs.Serial.{zeros}
 use Rattle.waff_core.specs.Job.{JobValue}
 use Rattle.waff_core.specs.Machine.{Core, Runs, opening, phase_of}
@@ -66,7 +66,7 @@ there items (x ∷ xs) (suc a) numbers is = there items xs a numbers is
 zero_parcel : (spaces : List Space) (a : ℕ) → IsParcel spaces a zeros (replicate (parcel_size spaces a) 0)
 zero_parcel spaces a = record {
   count = length-replicate (parcel_size spaces a) 0;
-  each = λ cell is_cell owned. zero_at (parcel_size spaces a) (offset_of spaces cell) (subst (λ b. offset_of spaces cell < parcel_size spaces b) owned (place_within spaces cell is_cell));
+  each = λ cell is_cell owned. zero_at (parcel_size spaces a) (offset_of spaces cell) (subst (λ b. offset_of spaces cell < parcel_size spaces b) owned (offset_within spaces cell is_cell));
 }
   where
     zero_at : (n k : ℕ) → k < n → slice_get {X = ℕ} (replicate n 0) k ≡ Some 0

@@ -8,7 +8,7 @@ use Rattle.atomic_table.specs.Table.{Final, Seen}
 use Rattle.waff_model.specs.Layout.{IsCell, IsLayout, owner_of}
 use Rattle.waff_model.specs.Parcel.{offset_of, parcel_size}
 use Rattle.waff_model.specs.declared.cell.Cell.{Cell}
-use Rattle.waff_model.proofs.ParcelLemmas.{place_within}
+use Rattle.waff_model.proofs.ParcelLemmas.{offset_within}
 use Rattle.waff_model.proofs.ParcelTableLemmas.{owner_is_affinity}
 use Rattle.waff_cells.specs.Gathered.{LieIn, cells_of_parcels}
 use Rattle.waff_cells.specs.Held.{rows_of}
@@ -20,7 +20,7 @@ use Rattle.waff_board.specs.Seats.{has_seen}
 use Rattle.waff_board.specs.declared.view.Setup.{Setup}
 use Rattle.waff_board.specs.declared.view.View.{View}
 use Rattle.waff_cells.specs.Serial.{serial}
-use Rattle.waff_board.proofs.Closes.{AreParcels, seen_is_done, all_done_is_serial}
+use Rattle.waff_board.proofs.Closes.{HaveParcels, seen_is_done, all_done_is_serial}
 
 -- what is found at a place is read there
 pub index_there : (words : List ℕ) (i word : ℕ) → get_elem? words i ≡ some word → slice_index words i ≡ word
@@ -48,7 +48,7 @@ size_there (first ∷ vecs) zero vec at = ap (λ (v : Vec ℕ Global). length v.
 size_there (first ∷ vecs) (suc i) vec at = size_there vecs i vec at
 
 module _ (job : JobValue) (is : IsLayout job.layout) (cells : Cells) (vecs : List (Vec ℕ Global))
-    (are : AreParcels (λ (v : Vec ℕ Global). v.items) job cells vecs) where
+    (are : HaveParcels (λ (v : Vec ℕ Global). v.items) job cells vecs) where
   owned : (cell : Cell) → IsCell job.layout.spaces cell → owner_of job.layout.spaces cell < length job.layout.tree
   owned cell is_cell = owner_is_affinity job.layout.tree job.layout.spaces is.each cell is_cell
 
@@ -56,18 +56,18 @@ module _ (job : JobValue) (is : IsLayout job.layout) (cells : Cells) (vecs : Lis
   parcels_lie cell is_cell =
       let a = owner_of job.layout.spaces cell in
       let slot = are.each a (owned cell is_cell) in
-      let place = place_within job.layout.spaces cell is_cell in
+      let offset = offset_within job.layout.spaces cell is_cell in
       let size : slice_index (map length (rows_of vecs)) a ≡ parcel_size job.layout.spaces a
       = size_there vecs a slot.0 slot.1 ∙ slot.2.count in
-      omega (arith, place, size)
+      omega (arith, offset, size)
 
   pub parcels_tell : (cell : Cell) → IsCell job.layout.spaces cell → cells_of_parcels job.layout.spaces (rows_of vecs) cell ≡ cells cell
   parcels_tell cell is_cell =
       let a = owner_of job.layout.spaces cell in
-      let place = offset_of job.layout.spaces cell in
+      let offset = offset_of job.layout.spaces cell in
       let slot = are.each a (owned cell is_cell) in
-      ap (λ xs. get_or xs place 0) (row_there vecs a slot.0 slot.1)
-      ∙ get_or_from_slice_get slot.0.items place (cells cell) 0 (slot.2.each cell is_cell refl)
+      ap (λ xs. get_or xs offset 0) (row_there vecs a slot.0 slot.1)
+      ∙ get_or_from_slice_get slot.0.items offset (cells cell) 0 (slot.2.each cell is_cell refl)
 
 -- what is seen done has a status word that says so
 pub seen_done : {S : Type 0} (items : S → List ℕ) (key : Setup) (job : JobValue) (id : ℕ) (v : View) (words : List ℕ) (xs : List S)
@@ -96,8 +96,8 @@ undone_unseen items key job id v words xs final told of m from to undone = recor
 pub closed_serial : {S : Type 0} (items : S → List ℕ) (key : Setup) (job : JobValue) (id : ℕ) (v : View) (words : List ℕ) (xs : List S)
     → Final (Seen (Holds items key) id v) words xs → key.job ≡ job
     → ((n : ℕ) → 1 ≤ n → n ≤ length job.ops → slice_index words n ≡ 2)
-    → AreParcels items job (serial job.ops (length job.ops)) xs
+    → HaveParcels items job (serial job.ops (length job.ops)) xs
 closed_serial items key job id v words xs final told over =
-    subst (λ (j : JobValue). AreParcels items j (serial j.ops (length j.ops)) xs) told
+    subst (λ (j : JobValue). HaveParcels items j (serial j.ops (length j.ops)) xs) told
     (all_done_is_serial items key id v words xs final
     (λ n is. let there : IsIn job n = subst (λ (j : JobValue). IsIn j n) told is in over n there.from there.to))

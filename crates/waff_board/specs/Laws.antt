@@ -9,7 +9,7 @@ use Rattle.waff_core.specs.Job.{IsIn, StandsAt}
 use Rattle.waff_core.specs.Machine.{opening}
 use Rattle.waff_core.specs.declared.phase.Phase.TheVariants.{Drawn, Running}
 use Rattle.waff_board.specs.Rule.{Holds}
-use Rattle.waff_board.specs.Seats.{HasSeen, IsListed}
+use Rattle.waff_board.specs.Seats.{HasSeen, StandsInOne}
 use Rattle.waff_board.specs.declared.view.Setup.{Setup}
 use Rattle.waff_board.specs.declared.view.View.{View}
 use Rattle.waff_board.specs.declared.view.TheConstants.{DONE}
@@ -41,7 +41,7 @@ NumbersDiffer setup =
 abbrev pub NumbersAreDrawn : Setup → Type 0
 NumbersAreDrawn setup =
     (s : State (Vec ℕ) View) → IsBetween setup s
-    → (p : ℕ) → p < slice_index s.words 0 → IsListed (λ v. v.draws) s.views p
+    → (p : ℕ) → p < slice_index s.words 0 → StandsInOne (λ v. v.draws) s.views p
 
 -- no message is handed out twice
 abbrev pub HandedOutOnce : Setup → Type 0
@@ -76,7 +76,7 @@ abbrev pub DoneIsRun : Setup → Type 0
 DoneIsRun setup =
     (s : State (Vec ℕ) View) → IsBetween setup s
     → (m : ℕ) → IsIn setup.job m
-    → (slice_index s.words m ≡ DONE) ↔ IsListed (λ v. v.ran) s.views m
+    → (slice_index s.words m ≡ DONE) ↔ StandsInOne (λ v. v.ran) s.views m
 
 -- where no seat has drawn, the state is the one in which the machine opens: nothing is drawn or
 -- done, and every cell is 0

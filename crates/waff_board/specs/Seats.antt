@@ -34,7 +34,7 @@ pub record Shown (job : JobValue) (core : Core) (v : View) : Type 0 where
   pub seen : (n : ℕ) → HasSeen v n → core.done n ≡ true
 
 -- number n stands in the list of one of the views
-pub record IsListed (list : View → List ℕ) (views : List View) (n : ℕ) : Type 0 where
+pub record StandsInOne (list : View → List ℕ) (views : List View) (n : ℕ) : Type 0 where
   pub seat : ℕ
   pub view : View
   pub at : get_elem? views seat ≡ some view
@@ -43,7 +43,7 @@ pub record IsListed (list : View → List ℕ) (views : List View) (n : ℕ) : T
 -- the numbers that are such are those that stand in the lists of the views, each in one list, there
 -- once
 pub record AreListedOnce (list : View → List ℕ) (such : ℕ → Type 0) (views : List View) : Type 0 where
-  pub each : (n : ℕ) → such n → IsListed list views n
+  pub each : (n : ℕ) → such n → StandsInOne list views n
   pub only : (seat : ℕ) (v : View) → get_elem? views seat ≡ some v
       → (n : ℕ) → Contains (list v) n → such n
   pub apart : (seat other : ℕ) (v w : View) → get_elem? views seat ≡ some v

@@ -29,8 +29,8 @@ pub record Words (job : JobValue) (core : Core) (words : List ℕ) : Type 0 wher
 
 -- the slots show the state: a slot is home exactly where the parcel is not away, and then it holds
 -- the parcel
-pub record Slots {S : Type 0} (items : S
-    → List ℕ) (job : JobValue) (core : Core) (homes : List (Option S)) : Type 0 where
+pub record Slots {S : Type 0} (items : S → List ℕ) (job : JobValue) (core : Core)
+    (homes : List (Option S)) : Type 0 where
   pub count : length homes ≡ length job.layout.tree
   pub home : (a : ℕ) → a < length job.layout.tree → ¬ IsAway job core a
       → (y : S) × (get_elem? homes a ≡ some (some y))

@@ -2,6 +2,7 @@
 
 ghost use Rattle.std.specs.Prelude.{◌≡◌, ◌≤◌, ◌<◌, ℕ, All, Option, IfSome, find, false, length};
 ghost use Rattle.std.specs.Prelude.{not, slice_index_or};
+ghost use Rattle.waff_core.specs.Job.{IsIn};
 ghost use Rattle.waff_order.specs.Needs.{needs_of};
 ghost use Rattle.waff_board.specs.Calls.{Looked, LooksOver, ClearTells};
 ghost use Rattle.waff_board.specs.Hands.{IsHandOf};
@@ -43,7 +44,7 @@ impl Board {
     /// Looks once at each of the messages that the seat has not seen done.
     fn look_over(&self, mut hand: Hand, messages: &[u32]) -> Hand
         requires of { IsHandOf self.now hand }
-        requires known { All (λ n. (1 ≤ n) × (n ≤ length self.now.job.ops)) messages.now }
+        requires known { All (IsIn self.now.job) messages.now }
         ensures looks { LooksOver hand.chair.me.0 messages.now result.chair.me.0 }
         ensures held { result.chair.me.1 ≡ hand.chair.me.1 }
         ensures of { IsHandOf self.now result }
@@ -59,8 +60,7 @@ impl Board {
     /// Looks at message `n`, and marks it where it is done.
     pub(crate) fn look(&self, hand: Hand, n: u32) -> Hand
         requires of { IsHandOf self.now hand }
-        requires from { 1 ≤ n }
-        requires to { n ≤ length self.now.job.ops }
+        requires number { IsIn self.now.job n }
         ensures view { Looked hand.chair.me.0 n result.chair.me.0 }
         ensures held { result.chair.me.1 ≡ hand.chair.me.1 }
         ensures of { IsHandOf self.now result }

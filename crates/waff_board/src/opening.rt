@@ -1,7 +1,7 @@
 //! Making a board and its seats.
 
 ghost use Rattle.std.specs.Prelude.{◌≡◌, ◌+◌, ◌≤◌, [], length, map, All, IfOk};
-ghost use Rattle.waff_core.specs.declared.limits.TheConstants.{MAX_SEATS};
+ghost use Rattle.waff_core.specs.Seats.{IsSeats};
 ghost use Rattle.waff_board.specs.Openings.{IsFresh, AreFresh, zero_parcels_of};
 ghost use Rattle.waff_board.specs.Rule.{IsSetup};
 ghost use Rattle.waff_board.specs.Seats.{first, fresh};
@@ -28,8 +28,7 @@ pub enum BoardError {
 impl Board {
     /// A board for the job, and its seats, as many as asked for: those of actors 1, 2 and so on.
     pub fn new(alloc: Global, job: Job, seats: u32) -> Result<(Board, Vec<Seat>), BoardError>
-        requires some { 1 ≤ seats }
-        requires few { seats ≤ MAX_SEATS }
+        requires seats { IsSeats seats }
         ensures job { IfOk result (λ made. made.0.job ≡ job) }
         ensures seats { IfOk result (λ made. made.0.seats ≡ seats) }
         ensures count { IfOk result (λ made. length made.1.items ≡ seats) }
@@ -106,8 +105,7 @@ fn table_of(
     ),
     AllocError,
 >
-    requires some { 1 ≤ setup.now.seats }
-    requires few { setup.now.seats ≤ MAX_SEATS }
+    requires seats { IsSeats setup.now.seats }
     ensures setup { IfOk result (λ made. IsSetup setup.now) }
     ensures told { IfOk result (λ made. made.0.shared.key ≡ setup.now) }
     ensures words { IfOk result (λ made. made.0.shared.table_id.words

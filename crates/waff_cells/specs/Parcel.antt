@@ -1,4 +1,4 @@
--- Parcels: the numbers of the cells that an affinity owns, each cell's at its place. Rows hold the
+-- Parcels: the numbers of the cells that an affinity owns, each cell's at its offset. Rows hold the
 -- parcels of affinities, each in the row of its affinity's number.
 use Rattle.std.specs.Prelude.{◌≡◌, ℕ, List, [], Some, Contains, length, map, slice_get}
 use Rattle.std.specs.Prelude.{slice_index_or}
@@ -8,7 +8,7 @@ use Rattle.waff_model.specs.Parcel.{parcel_size, offset_of}
 use Rattle.waff_cells.specs.Meaning.{Cells}
 use Rattle.waff_cells.specs.Held.{Address, IsWithin}
 
--- these numbers are a's parcel: as many as the cells that a owns, each cell's at its place
+-- these numbers are a's parcel: as many as the cells that a owns, each cell's at its offset
 pub record IsParcel (spaces : List Space) (a : ℕ) (cells : Cells) (numbers : List ℕ) : Type 0 where
   pub count : length numbers ≡ parcel_size spaces a
   pub each : (cell : Cell) → IsCell spaces cell → owner_of spaces cell ≡ a
@@ -29,7 +29,7 @@ pub record IsOwned (spaces : List Space) (owners : List ℕ) (cell : Cell) : Typ
   pub there : IsCell spaces cell
   pub owned : Contains owners (owner_of spaces cell)
 
--- where a cell lies: in the parcel of its owner, at its place
+-- where a cell lies: in the parcel of its owner, at its offset
 abbrev pub lies_at : List Space → Cell → Address
 lies_at spaces cell = (owner_of spaces cell, offset_of spaces cell)
 

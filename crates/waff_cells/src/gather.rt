@@ -72,8 +72,8 @@ fn numbers_at<'a>(layout: &Layout, parcels: &'a [Vec<u64>], first: Cell, count: 
         (λ i. cells_of_parcels layout.now.spaces (rows_of parcels.now)
         (record { space = first.space; index = i })) (range_with_len first.index count) }
 {
-    let (owner, place) = layout.place(first);
-    let at = place as usize;
+    let (owner, offset) = layout.place(first);
+    let at = offset as usize;
     let parcel = parcels[owner.0 as usize].as_slice();
     &parcel[at..at + count as usize]
 }

@@ -33,8 +33,8 @@ pub fn get(parcels: &[Vec<u64>], layout: &Layout, owners: &[u16], cell: Cell) ->
         → IfSome result (λ number. number ≡ cells cell) }
 {
     if is_owned(layout, owners, cell) {
-        let (owner, place) = layout.place(cell);
-        Some(rows::number_at(parcels, (owner.0 as usize, place as usize)))
+        let (owner, offset) = layout.place(cell);
+        Some(rows::number_at(parcels, (owner.0 as usize, offset as usize)))
     } else {
         None
     }
@@ -47,7 +47,7 @@ fn is_owned(layout: &Layout, owners: &[u16], cell: Cell) -> bool
     layout.has(cell) && owners.contains(&layout.owner(cell).0)
 }
 
-/// Where parcels hold each cell: in the row of its owner, at its place.
+/// Where parcels hold each cell: in the row of its owner, at its offset.
 #[derive(Drop)]
 struct InParcels<'a> {
     layout: &'a Layout,
@@ -62,7 +62,7 @@ impl<'a> Addresses for InParcels<'a> {
     ghost at = { λ s. lies_at s.layout.now.spaces };
 
     fn address(&self, cell: Cell) -> (usize, usize) {
-        let (owner, place) = self.layout.place(cell);
-        (owner.0 as usize, place as usize)
+        let (owner, offset) = self.layout.place(cell);
+        (owner.0 as usize, offset as usize)
     }
 }

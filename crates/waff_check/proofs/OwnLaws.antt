@@ -11,6 +11,7 @@ use Rattle.waff_assign.specs.Order.{IsOrdered}
 use Rattle.waff_plan.specs.Bound.{right_side}
 use Rattle.waff_plan.specs.Chain.{IsChain, chain_cost, chain_release}
 use Rattle.waff_plan.specs.Obeys.{Obeys}
+use Rattle.waff_plan.specs.Timetable.{work_of_messages}
 use Rattle.waff_plan.specs.Unique.{AreSame}
 use Rattle.waff_plan.specs.Work.{Work, IsNumber, finish_of, length_of, numbers}
 use Rattle.waff_plan.specs.Workers.{running, runs_at}
@@ -22,7 +23,7 @@ use Rattle.waff_plan_text.specs.Laws.{row_told}
 use Rattle.waff_plan_text.specs.Spelling.{no_worker}
 use Rattle.waff_plan_text.specs.declared.row.Row.{Row}
 use Rattle.waff_check.specs.Faults.{HasWrongWorker, IsCrowded, IsMisplaced, IsTaken, NoneOf, RunTogether}
-use Rattle.waff_check.specs.OwnPlans.{AreManned, OwnPlanIsShortest, OwnPlanIsWithinBound, claim_told, work_for}
+use Rattle.waff_check.specs.OwnPlans.{AreManned, OwnPlanIsShortest, OwnPlanIsWithinBound, claim_told}
 use Rattle.waff_check.specs.Shifts.{IsOneOf}
 use Rattle.waff_check.specs.Verdicts.{Claim, IsFaultless, start_in, worker_in}
 use Rattle.waff_check.proofs.LinkLaws.{chain-linked}
@@ -82,7 +83,7 @@ module _ (tree : List Node) (assigned : List ℕ) (messages : List Message) (ver
   claim = claim_told tree assigned messages version workers start worker chain
 
   abbrev work : Work
-  work = work_for messages
+  work = work_of_messages messages
 
   -- the claim tells the rows
   tells_row : (n : ℕ) → IsNumber work n → row_at claim.plan.rows n ≡ row_told tree assigned work start worker n
@@ -154,15 +155,15 @@ pub own_plan_is_shortest : (tree : List Node) (assigned : List ℕ) (messages : 
 own_plan_is_shortest tree assigned messages version start chain count obeys is_chain as_long =
     let told = claim_told tree assigned messages version None start no_worker chain in (
       no_fault tree assigned messages version None start no_worker chain count obeys is_chain (λ k none. absurd (cc))
-          (no_workers (work_for messages) (start_in told) (worker_in told.plan) (tells_worker tree assigned messages version None start no_worker chain)),
-      as_long ∙ same_length (work_for messages) start (start_in told) (tells_back tree assigned messages version None start no_worker chain),
+          (no_workers (work_of_messages messages) (start_in told) (worker_in told.plan) (tells_worker tree assigned messages version None start no_worker chain)),
+      as_long ∙ same_length (work_of_messages messages) start (start_in told) (tells_back tree assigned messages version None start no_worker chain),
     )
 
 pub own_plan_is_within_bound : (tree : List Node) (assigned : List ℕ) (messages : List Message) (version : Version) (k : ℕ) (start : ℕ → ℕ)
     (worker : ℕ → Option ℕ) (chain : List ℕ) → OwnPlanIsWithinBound tree assigned messages version k start worker chain
 own_plan_is_within_bound tree assigned messages version k start worker chain count plan manned is_chain bound =
     let told = claim_told tree assigned messages version (Some k) start worker chain in
-    let all = work_for messages in
+    let all = work_of_messages messages in
     let same = tells_start tree assigned messages version (Some k) start worker chain in
     let good : IsFaultless told =
     no_fault tree assigned messages version (Some k) start worker chain count plan.obeys is_chain

@@ -14,7 +14,7 @@ use Rattle.waff_plan.specs.declared.timing.Timing.{Timing}
 use Rattle.waff_check.specs.Faults.{IsCrowded, IsMisplaced, IsTaken, RunTogether}
 use Rattle.waff_plan_text.specs.Given.{IsGiven}
 use Rattle.waff_check.specs.Promises.{Accepts, AreOneAtATime, IsWithin}
-use Rattle.waff_check.specs.Verdicts.{Claim, IsBoundedFor, IsFaultless, IsVerdict, before_of, chain_in, start_in, work_in, worker_in, workers_in}
+use Rattle.waff_check.specs.Verdicts.{Claim, IsBoundedFor, IsFaultless, IsVerdict, before_of, chain_in, start_in, work_of_claim, worker_in, workers_in}
 use Rattle.waff_check.specs.declared.verdict.Verdict.{Verdict}
 use Rattle.waff_check.specs.declared.verdict.Verdict.TheVariants as verdict
 use Rattle.waff_check.proofs.LinkLaws.{is-chain}
@@ -38,33 +38,33 @@ bounded-for work start chain None h = absurd h
 bounded-for work start chain (Some k) h = (k, refl, h)
 
 module _ (claim : Claim) where
-  pub obeys : IsFaultless claim → Obeys (before_of claim) (work_in claim) (start_in claim)
+  pub obeys : IsFaultless claim → Obeys (before_of claim) (work_of_claim claim) (start_in claim)
   obeys good = record {
-    released = λ m n. elim (cases_lt (start_in claim m) ((work_in claim).release m)) [ inl lt ↦ absurd (good.starts m (record { number = n; early = lt })) | inr le ↦ le ];
-    ordered = λ i j b. elim (cases_lt (start_in claim j) (finish_of (work_in claim) (start_in claim) i)) [
+    released = λ m n. elim (cases_lt (start_in claim m) ((work_of_claim claim).release m)) [ inl lt ↦ absurd (good.starts m (record { number = n; early = lt })) | inr le ↦ le ];
+    ordered = λ i j b. elim (cases_lt (start_in claim j) (finish_of (work_of_claim claim) (start_in claim) i)) [
       | inl lt ↦ absurd (good.linked.summed.finished.named.manned.roomy.orderly.pairs i j (record { ordered = b; early = lt }))
       | inr le ↦ le
     ];
   }
 
-  pub worker-plan : IsFaultless claim → (k : ℕ) → workers_in claim ≡ Some k → IsWorkerPlan (before_of claim) (work_in claim) k (start_in claim)
+  pub worker-plan : IsFaultless claim → (k : ℕ) → workers_in claim ≡ Some k → IsWorkerPlan (before_of claim) (work_of_claim claim) k (start_in claim)
   worker-plan good k e = record {
     obeys = obeys good;
-    within = λ t. elim (cases_lt k (running (work_in claim) (start_in claim) t)) [
-      | inl lt ↦ (let crowd : IsCrowded (work_in claim) (start_in claim) (workers_in claim) t = rw e lt in absurd (good.linked.summed.finished.named.manned.roomy.ticks t crowd))
+    within = λ t. elim (cases_lt k (running (work_of_claim claim) (start_in claim) t)) [
+      | inl lt ↦ (let crowd : IsCrowded (work_of_claim claim) (start_in claim) (workers_in claim) t = rw e lt in absurd (good.linked.summed.finished.named.manned.roomy.ticks t crowd))
       | inr le ↦ le
     ];
   }
 
-  apart : IsFaultless claim → (k : ℕ) → workers_in claim ≡ Some k → (i j w : ℕ) → IsNumber (work_in claim) i → IsNumber (work_in claim) j → i < j
-      → worker_in claim.plan i ≡ Some w → worker_in claim.plan j ≡ Some w → RunTogether (work_in claim) (start_in claim) i j → ⊥
+  apart : IsFaultless claim → (k : ℕ) → workers_in claim ≡ Some k → (i j w : ℕ) → IsNumber (work_of_claim claim) i → IsNumber (work_of_claim claim) j → i < j
+      → worker_in claim.plan i ≡ Some w → worker_in claim.plan j ≡ Some w → RunTogether (work_of_claim claim) (start_in claim) i j → ⊥
   apart good k e i j w ni nj lt wi wj together =
-      let taken : IsTaken (work_in claim) (start_in claim) (worker_in claim.plan) w j i = record { from = ni.from; earlier = lt; same = wi; together = together } in
-      let wrong : IsMisplaced (work_in claim) (start_in claim) (worker_in claim.plan) (workers_in claim) j (worker_in claim.plan j) = rw (e, wj) (inr (inr (i, taken))) in
+      let taken : IsTaken (work_of_claim claim) (start_in claim) (worker_in claim.plan) w j i = record { from = ni.from; earlier = lt; same = wi; together = together } in
+      let wrong : IsMisplaced (work_of_claim claim) (start_in claim) (worker_in claim.plan) (workers_in claim) j (worker_in claim.plan j) = rw (e, wj) (inr (inr (i, taken))) in
       good.linked.summed.finished.named.manned.workers j (record { number = nj; wrong = wrong })
 
   -- a worker that is not wrong is one of the k
-  seated : (k n : ℕ) (o : Option ℕ) → (IsMisplaced (work_in claim) (start_in claim) (worker_in claim.plan) (Some k) n o → ⊥)
+  seated : (k n : ℕ) (o : Option ℕ) → (IsMisplaced (work_of_claim claim) (start_in claim) (worker_in claim.plan) (Some k) n o → ⊥)
       → (w : ℕ) × (o ≡ Some w) × (1 ≤ w) × (w ≤ k)
   seated k n None right = absurd (right tt)
   seated k n (Some w) right = elim (cases_lt w 1) [
@@ -76,12 +76,12 @@ module _ (claim : Claim) where
   ]
 
   pub one-at-a-time : IsFaultless claim → (k : ℕ) → workers_in claim ≡ Some k
-      → AreOneAtATime (work_in claim) (start_in claim) (worker_in claim.plan) k
+      → AreOneAtATime (work_of_claim claim) (start_in claim) (worker_in claim.plan) k
   one-at-a-time good k e = record {
     seated = λ n number.
         seated k n (worker_in claim.plan n)
         (λ wrong.
-        let misplaced : IsMisplaced (work_in claim) (start_in claim) (worker_in claim.plan) (workers_in claim) n (worker_in claim.plan n) = rw e wrong in
+        let misplaced : IsMisplaced (work_of_claim claim) (start_in claim) (worker_in claim.plan) (workers_in claim) n (worker_in claim.plan n) = rw e wrong in
         good.linked.summed.finished.named.manned.workers n (record { number = number; wrong = misplaced }));
     apart = λ i j w ni nj other wi wj together. elim (cases_lt i j) [
       | inl lt ↦ apart good k e i j w ni nj lt wi wj together
@@ -89,28 +89,28 @@ module _ (claim : Claim) where
     ];
   }
 
-  pub chain-of : IsGiven claim.plan → length claim.plan.rows ≡ length claim.messages → IsFaultless claim → IsChain (before_of claim) (work_in claim) (chain_in claim)
+  pub chain-of : IsGiven claim.plan → length claim.plan.rows ≡ length claim.messages → IsFaultless claim → IsChain (before_of claim) (work_of_claim claim) (chain_in claim)
   chain-of given same good =
       let count : length (timings_of claim.messages) ≡ length claim.messages = length-map claim.messages (λ (message : Message). let t : Timing = record { cost = message.cost; release = message.release } in t) in
-      is-chain (before_of claim) (work_in claim) (chain_in claim) good.linked.links
+      is-chain (before_of claim) (work_of_claim claim) (chain_in claim) good.linked.links
       (λ i d lt. let m = given.chain.each i d lt in let from = m.from in let to = m.to in record { from = from; to = omega arith })
 
-  pub shortest : ChainsAreWithinLength (before_of claim) (work_in claim) → IsGiven claim.plan → length claim.plan.rows ≡ length claim.messages → IsVerdict claim verdict.Shortest → (other : ℕ → ℕ) → Obeys (before_of claim) (work_in claim) other
-      → length_of (work_in claim) (start_in claim) ≤ length_of (work_in claim) other
+  pub shortest : ChainsAreWithinLength (before_of claim) (work_of_claim claim) → IsGiven claim.plan → length claim.plan.rows ≡ length claim.messages → IsVerdict claim verdict.Shortest → (other : ℕ → ℕ) → Obeys (before_of claim) (work_of_claim claim) other
+      → length_of (work_of_claim claim) (start_in claim) ≤ length_of (work_of_claim claim) other
   shortest chains given same h other o =
       let within = chains (chain_in claim) other (chain-of given same h.0) o in
-      let reach : chain_release (work_in claim) (chain_in claim) + chain_cost (work_in claim) (chain_in claim) ≡ length_of (work_in claim) (start_in claim) = h.1 in
+      let reach : chain_release (work_of_claim claim) (chain_in claim) + chain_cost (work_of_claim claim) (chain_in claim) ≡ length_of (work_of_claim claim) (start_in claim) = h.1 in
       omega (arith, within, reach)
 
   some-workers : (w : Option ℕ) (k : ℕ) → w ≡ Some k → IfSome w IsWorkers → 1 ≤ k
   some-workers w k e h = let at = rw e at h in at.from
 
-  pub bound : BoundIsWithinTwice (before_of claim) (work_in claim) → BoundIsWithinRatio (before_of claim) (work_in claim)
+  pub bound : BoundIsWithinTwice (before_of claim) (work_of_claim claim) → BoundIsWithinRatio (before_of claim) (work_of_claim claim)
       → IsGiven claim.plan → length claim.plan.rows ≡ length claim.messages → IsVerdict claim verdict.WithinBound → (k : ℕ) × IsWithin claim k
   bound twice ratio given same h =
       let start = start_in claim in
       let chain = chain_in claim in
-      let kept = bounded-for (work_in claim) start chain (workers_in claim) h.1.1 in
+      let kept = bounded-for (work_of_claim claim) start chain (workers_in claim) h.1.1 in
       let k = kept.0 in
       let linked = chain-of given same h.0 in
       let some = some-workers (workers_in claim) k kept.1 given.workers in (

@@ -4,7 +4,7 @@ use Rattle.std.proofs.lemmas.Bool.{cases_order}
 use Rattle.waff_plan.specs.Work.{Work}
 use Rattle.waff_check.specs.Faults.{IsFirstOverlap, IsLeastOf, Overlaps}
 use Rattle.waff_check.specs.Unique.{VerdictIsOne}
-use Rattle.waff_check.specs.Verdicts.{Claim, IsVerdict, IsOrderly, IsRoomy, IsManned, IsNamed, IsFinished, IsSummed, IsLinked, IsFaultless, TickIsCrowded, WorkerIsWrong, NameIsWrong, FinishIsWrong, LinkIsBroken, StartIsEarly, before_of, work_in, start_in}
+use Rattle.waff_check.specs.Verdicts.{Claim, IsVerdict, IsOrderly, IsRoomy, IsManned, IsNamed, IsFinished, IsSummed, IsLinked, IsFaultless, TickIsCrowded, WorkerIsWrong, NameIsWrong, FinishIsWrong, LinkIsBroken, StartIsEarly, before_of, work_of_claim, start_in}
 use Rattle.waff_check.specs.declared.verdict.Verdict.{Verdict}
 use Rattle.waff_check.specs.declared.verdict.Verdict.TheVariants as verdict
 
@@ -236,7 +236,7 @@ one_overlap before work start i j n m one other =
 -- of one stage there is one verdict
 of_stage : (claim : Claim) (v w : Verdict) → IsVerdict claim v → IsVerdict claim w → stage v ≡ stage w → v ≡ w
 of_stage claim (verdict.Overlap i j) (verdict.Overlap n m) one other same =
-    let e = one_overlap (before_of claim) (work_in claim) (start_in claim) i j n m one other in cc (e.0, e.1)
+    let e = one_overlap (before_of claim) (work_of_claim claim) (start_in claim) i j n m one other in cc (e.0, e.1)
 of_stage claim (verdict.TooManyAt n) (verdict.TooManyAt m) one other same = ap verdict.TooManyAt (one_least (TickIsCrowded claim) n m one.1 other.1)
 of_stage claim (verdict.Worker n) (verdict.Worker m) one other same = ap verdict.Worker (one_least (WorkerIsWrong claim) n m one.1 other.1)
 of_stage claim (verdict.Affinity n) (verdict.Affinity m) one other same = ap verdict.Affinity (one_least (NameIsWrong claim) n m one.1 other.1)

@@ -2,6 +2,7 @@
 -- message j starts only when message i has finished.
 use Rattle.std.specs.Prelude.{◌≡◌, ◌≢◌, ◌⊎◌, ℕ, ◌-◌, ◌<◌, ◌≤◌, true, List, length, slice_index}
 use Rattle.std.specs.Prelude.{Option, Some, None}
+use Rattle.waff_assign.specs.Order.{Relation}
 use Rattle.waff_plan.specs.Work.{Work, IsNumber, finish_of}
 use Rattle.waff_plan.specs.Workers.{running, runs_at}
 use Rattle.waff_plan.specs.Totals.{totals_of}
@@ -17,13 +18,13 @@ abbrev pub NoneOf : (ℕ → Type 0) → Type 0
 NoneOf P = (n : ℕ) → P n → ⊥
 
 -- an ordered pair the second message of which starts before the first has finished
-pub record Overlaps (before : ℕ → ℕ → Type 0) (work : Work) (start : ℕ → ℕ) (i j : ℕ) : Type 0 where
+pub record Overlaps (before : Relation) (work : Work) (start : ℕ → ℕ) (i j : ℕ) : Type 0 where
   pub ordered : before i j
   pub early : start j < finish_of work start i
 
 -- the least first message of such a pair, and the least second message with it
-pub record IsFirstOverlap (before : ℕ → ℕ
-    → Type 0) (work : Work) (start : ℕ → ℕ) (first second : ℕ) : Type 0 where
+pub record IsFirstOverlap (before : Relation) (work : Work) (start : ℕ → ℕ)
+    (first second : ℕ) : Type 0 where
   pub least_second : IsLeastOf (Overlaps before work start first) second
   pub least_first : (i j : ℕ) → Overlaps before work start i j → first ≤ i
 
@@ -57,8 +58,8 @@ IsMisplaced work start worker (Some k) n None = Unit {0}
 IsMisplaced work start worker (Some k) n (Some w) = IsWrong work start worker k n w
 
 -- a message whose row tells a wrong worker
-pub record HasWrongWorker (work : Work) (start : ℕ
-    → ℕ) (worker : ℕ → Option ℕ) (workers : Option ℕ) (n : ℕ) : Type 0 where
+pub record HasWrongWorker (work : Work) (start : ℕ → ℕ) (worker : ℕ → Option ℕ)
+    (workers : Option ℕ) (n : ℕ) : Type 0 where
   pub number : IsNumber work n
   pub wrong : IsMisplaced work start worker workers n (worker n)
 
@@ -88,12 +89,12 @@ link_at chain place = slice_index chain (place - 1)
 
 -- at this place of a chain, from 2 on, stands a message that is no ordered pair with the one before
 -- it
-pub record IsBroken (before : ℕ → ℕ → Type 0) (chain : List ℕ) (place : ℕ) : Type 0 where
+pub record IsBroken (before : Relation) (chain : List ℕ) (place : ℕ) : Type 0 where
   pub from : 2 ≤ place
   pub to : place ≤ length chain
   pub broken : before (link_at chain (place - 1)) (link_at chain place) → ⊥
 
 -- each message of a chain and the next one are an ordered pair
-abbrev pub AreLinked : (ℕ → ℕ → Type 0) → List ℕ → Type 0
+abbrev pub AreLinked : Relation → List ℕ → Type 0
 AreLinked before chain = (place : ℕ) → 2 ≤ place
     → place ≤ length chain → before (link_at chain (place - 1)) (link_at chain place)

@@ -7,8 +7,7 @@ use Rattle.waff_assign.specs.Order.{IsOrdered}
 use Rattle.waff_plan.specs.Bound.{IsWithinBound}
 use Rattle.waff_plan.specs.Chain.{IsChain, chain_cost, chain_release}
 use Rattle.waff_plan.specs.Obeys.{Obeys}
-use Rattle.waff_plan.specs.Timetable.{timings_of}
-use Rattle.waff_plan.specs.Timing.{work_of}
+use Rattle.waff_plan.specs.Timetable.{work_of_messages}
 use Rattle.waff_plan.specs.Work.{Work, IsNumber, length_of}
 use Rattle.waff_plan.specs.Workers.{IsWorkerPlan}
 use Rattle.waff_plan_text.specs.Laws.{plan_told}
@@ -18,16 +17,12 @@ use Rattle.waff_check.specs.Shifts.{IsOneOf}
 use Rattle.waff_check.specs.Verdicts.{Claim, IsVerdict, claim_of}
 use Rattle.waff_check.specs.declared.verdict.Verdict.TheVariants as verdict
 
--- the work of messages
-abbrev pub work_for : List Message → Work
-work_for messages = work_of (timings_of messages)
-
 -- the claim of a plan that tells these starts, workers and chain as they are
 abbrev pub claim_told : List Node → List ℕ
     → List Message → Version → Option ℕ → (ℕ → ℕ) → (ℕ → Option ℕ) → List ℕ → Claim
 claim_told tree assigned messages version workers start worker chain =
     claim_of tree assigned messages
-    (plan_told version tree assigned (work_for messages) workers start worker chain)
+    (plan_told version tree assigned (work_of_messages messages) workers start worker chain)
 
 -- each message has one of k workers, and no two messages of one worker run at a common tick
 pub record AreManned (work : Work) (start : ℕ → ℕ) (worker : ℕ → Option ℕ) (k : ℕ) : Type 0 where
@@ -41,10 +36,10 @@ abbrev pub OwnPlanIsShortest : List Node
     → List ℕ → List Message → Version → (ℕ → ℕ) → List ℕ → Type 0
 OwnPlanIsShortest tree assigned messages version start chain =
     length assigned ≡ length messages
-    → Obeys (IsOrdered tree assigned) (work_for messages) start
-    → IsChain (IsOrdered tree assigned) (work_for messages) chain
-    → chain_release (work_for messages) chain + chain_cost (work_for messages) chain
-    ≡ length_of (work_for messages) start
+    → Obeys (IsOrdered tree assigned) (work_of_messages messages) start
+    → IsChain (IsOrdered tree assigned) (work_of_messages messages) chain
+    → chain_release (work_of_messages messages) chain + chain_cost (work_of_messages messages) chain
+    ≡ length_of (work_of_messages messages) start
     → IsVerdict (claim_told tree assigned messages version None start no_worker chain)
     verdict.Shortest
 
@@ -54,10 +49,10 @@ abbrev pub OwnPlanIsWithinBound : List Node
     → List ℕ → List Message → Version → ℕ → (ℕ → ℕ) → (ℕ → Option ℕ) → List ℕ → Type 0
 OwnPlanIsWithinBound tree assigned messages version k start worker chain =
     length assigned ≡ length messages
-    → IsWorkerPlan (IsOrdered tree assigned) (work_for messages) k start
-    → AreManned (work_for messages) start worker k
-    → IsChain (IsOrdered tree assigned) (work_for messages) chain
-    → IsWithinBound (work_for messages) k start chain
+    → IsWorkerPlan (IsOrdered tree assigned) (work_of_messages messages) k start
+    → AreManned (work_of_messages messages) start worker k
+    → IsChain (IsOrdered tree assigned) (work_of_messages messages) chain
+    → IsWithinBound (work_of_messages messages) k start chain
     → IsVerdict (claim_told tree assigned messages version
     (Some k) start worker chain) verdict.Shortest
     ⊎ IsVerdict (claim_told tree assigned messages version

@@ -6,8 +6,8 @@ use Rattle.waff_plan.specs.Obeys.{Obeys}
 use Rattle.waff_plan.specs.Work.{IsNumber, Work, length_of}
 use Rattle.waff_plan.specs.Workers.{IsWorkerPlan}
 use Rattle.waff_check.specs.Faults.{RunTogether}
-use Rattle.waff_check.specs.Verdicts.{Claim, before_of, chain_in, start_in, work_in, worker_in}
-use Rattle.waff_check.specs.Verdicts.{workers_in}
+use Rattle.waff_check.specs.Verdicts.{Claim, before_of, chain_in, start_in, work_of_claim}
+use Rattle.waff_check.specs.Verdicts.{worker_in, workers_in}
 use Rattle.waff_check.specs.declared.verdict.Verdict.{Verdict}
 use Rattle.waff_check.specs.declared.verdict.Verdict.TheVariants as verdict
 
@@ -27,12 +27,13 @@ Accepts (verdict.Early message) = ⊥
 
 -- the starts obey
 abbrev pub PromisesObeys : Claim → Verdict → Type 0
-PromisesObeys claim v = Accepts v → Obeys (before_of claim) (work_in claim) (start_in claim)
+PromisesObeys claim v = Accepts v → Obeys (before_of claim) (work_of_claim claim) (start_in claim)
 
 -- with k workers the starts are a worker plan for k
 abbrev pub PromisesWorkerPlan : Claim → Verdict → Type 0
-PromisesWorkerPlan claim v = Accepts v → (k : ℕ)
-    → workers_in claim ≡ Some k → IsWorkerPlan (before_of claim) (work_in claim) k (start_in claim)
+PromisesWorkerPlan claim v =
+    Accepts v → (k : ℕ) → workers_in claim ≡ Some k
+    → IsWorkerPlan (before_of claim) (work_of_claim claim) k (start_in claim)
 
 -- each message has one of k workers, and no two messages of one worker run at a common tick
 pub record AreOneAtATime (work : Work) (start : ℕ → ℕ)
@@ -46,29 +47,30 @@ pub record AreOneAtATime (work : Work) (start : ℕ → ℕ)
 abbrev pub PromisesOneAtATime : Claim → Verdict → Type 0
 PromisesOneAtATime claim v =
     Accepts v → (k : ℕ) → workers_in claim ≡ Some k
-    → AreOneAtATime (work_in claim) (start_in claim) (worker_in claim.plan) k
+    → AreOneAtATime (work_of_claim claim) (start_in claim) (worker_in claim.plan) k
 
 -- the chain of the text is a chain
 abbrev pub PromisesChain : Claim → Verdict → Type 0
-PromisesChain claim v = Accepts v → IsChain (before_of claim) (work_in claim) (chain_in claim)
+PromisesChain claim v = Accepts v → IsChain (before_of claim) (work_of_claim claim) (chain_in claim)
 
 -- no obeying plan is shorter
 abbrev pub PromisesShortest : Claim → Verdict → Type 0
 PromisesShortest claim v =
-    v ≡ verdict.Shortest → (other : ℕ → ℕ) → Obeys (before_of claim) (work_in claim) other
-    → length_of (work_in claim) (start_in claim) ≤ length_of (work_in claim) other
+    v ≡ verdict.Shortest → (other : ℕ → ℕ) → Obeys (before_of claim) (work_of_claim claim) other
+    → length_of (work_of_claim claim) (start_in claim) ≤ length_of (work_of_claim claim) other
 
 -- within a bound for k workers, by this chain: so within twice the length of every worker plan for
 -- k, and within 2k - 1 parts of k where all releases are 0
 pub record IsWithin (claim : Claim) (k : ℕ) : Type 0 where
   pub workers : workers_in claim ≡ Some k
-  pub bound : IsWithinBound (work_in claim) k (start_in claim) (chain_in claim)
-  pub twice : (other : ℕ → ℕ) → IsWorkerPlan (before_of claim) (work_in claim) k other
-      → k * length_of (work_in claim) (start_in claim) ≤ 2 * k * length_of (work_in claim) other
-  pub ratio : ((m : ℕ) → IsNumber (work_in claim) m → (work_in claim).release m ≡ 0)
-      → (other : ℕ → ℕ) → IsWorkerPlan (before_of claim) (work_in claim) k other
-      → k * length_of (work_in claim) (start_in claim)
-      ≤ (2 * k - 1) * length_of (work_in claim) other
+  pub bound : IsWithinBound (work_of_claim claim) k (start_in claim) (chain_in claim)
+  pub twice : (other : ℕ → ℕ) → IsWorkerPlan (before_of claim) (work_of_claim claim) k other
+      → k * length_of (work_of_claim claim) (start_in claim)
+      ≤ 2 * k * length_of (work_of_claim claim) other
+  pub ratio : ((m : ℕ) → IsNumber (work_of_claim claim) m → (work_of_claim claim).release m ≡ 0)
+      → (other : ℕ → ℕ) → IsWorkerPlan (before_of claim) (work_of_claim claim) k other
+      → k * length_of (work_of_claim claim) (start_in claim)
+      ≤ (2 * k - 1) * length_of (work_of_claim claim) other
 
 abbrev pub PromisesBound : Claim → Verdict → Type 0
 PromisesBound claim v = v ≡ verdict.WithinBound → (k : ℕ) × IsWithin claim k

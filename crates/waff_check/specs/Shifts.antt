@@ -18,8 +18,8 @@ abbrev pub Shift : Type 0
 Shift = ℕ × ℕ × ℕ
 
 -- the message has this worker and this start, and runs at a tick
-pub record IsShift (work : Work) (start : ℕ
-    → ℕ) (worker : ℕ → Option ℕ) (shift : Shift) : Type 0 where
+pub record IsShift (work : Work) (start : ℕ → ℕ) (worker : ℕ → Option ℕ)
+    (shift : Shift) : Type 0 where
   pub number : IsNumber work shift.2
   pub same_worker : worker shift.2 ≡ Some shift.0
   pub same_start : start shift.2 ≡ shift.1
@@ -36,8 +36,8 @@ abbrev pub shift_at : List Shift → ℕ → Shift
 shift_at shifts i = slice_index_or shifts i (0, 0, 0)
 
 -- all shifts, each once, by worker and then by start
-pub record AreShifts (work : Work) (start : ℕ
-    → ℕ) (worker : ℕ → Option ℕ) (shifts : List Shift) : Type 0 where
+pub record AreShifts (work : Work) (start : ℕ → ℕ) (worker : ℕ → Option ℕ)
+    (shifts : List Shift) : Type 0 where
   pub each : (n w : ℕ) → IsNumber work n → worker n ≡ Some w
       → start n < finish_of work start n → Contains shifts (w, start n, n)
   pub only : All (IsShift work start worker) shifts

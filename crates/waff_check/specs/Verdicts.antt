@@ -1,12 +1,12 @@
 -- The verdict on a plan that is given: the first fault, or else how good the plan is.
-use Rattle.std.specs.Prelude.{◌≡◌, ℕ, ◌+◌, List, map, Option, Some, None}
+use Rattle.std.specs.Prelude.{◌≡◌, ℕ, ◌+◌, ◌<◌, List, length, map, All, Option, Some, None}
 use Rattle.waff_model.specs.Tree.{Node, name_of}
 use Rattle.waff_model.specs.declared.message.Message.{Message}
-use Rattle.waff_assign.specs.Order.{IsOrdered, affinity_of}
+use Rattle.waff_assign.specs.Order.{IsOrdered, Relation, affinity_of}
 use Rattle.waff_plan.specs.Bound.{IsWithinBound}
 use Rattle.waff_plan.specs.Chain.{chain_cost, chain_release}
-use Rattle.waff_plan.specs.Timetable.{timings_of}
-use Rattle.waff_plan.specs.Timing.{start_of, work_of}
+use Rattle.waff_plan.specs.Timetable.{work_of_messages}
+use Rattle.waff_plan.specs.Timing.{start_of}
 use Rattle.waff_plan.specs.Work.{Work, length_of}
 use Rattle.waff_plan_text.specs.Given.{Given, SummaryLines, row_at}
 use Rattle.waff_check.specs.Faults.{AreLinked, HasTotals, HasWrongFinish, HasWrongName}
@@ -26,12 +26,18 @@ abbrev pub claim_of : List Node → List ℕ → List Message → Given → Clai
 claim_of tree assigned messages plan =
     record { tree = tree; assigned = assigned; messages = messages; plan = plan }
 
+-- the assignment, the rows and the messages are as many, and the affinities are those of the tree
+pub record IsClaim (claim : Claim) : Type 0 where
+  pub lengths : length claim.messages ≡ length claim.assigned
+  pub rows : length claim.plan.rows ≡ length claim.messages
+  pub known : All (λ a. a < length claim.tree) claim.assigned
+
 -- the ordered pairs, the work and the starts
-abbrev pub before_of : Claim → ℕ → ℕ → Type 0
+abbrev pub before_of : Claim → Relation
 before_of claim = IsOrdered claim.tree claim.assigned
 
-abbrev pub work_in : Claim → Work
-work_in claim = work_of (timings_of claim.messages)
+abbrev pub work_of_claim : Claim → Work
+work_of_claim claim = work_of_messages claim.messages
 
 abbrev pub starts_of : Given → List ℕ
 starts_of plan = map (λ row. row.start) plan.rows
@@ -61,31 +67,31 @@ abbrev pub name_in : List Node → List ℕ → ℕ → List ℕ
 name_in tree assigned n = name_of tree (affinity_of assigned n)
 
 -- the faults
-abbrev pub PairOverlaps : Claim → ℕ → ℕ → Type 0
-PairOverlaps claim = Overlaps (before_of claim) (work_in claim) (start_in claim)
+abbrev pub PairOverlaps : Claim → Relation
+PairOverlaps claim = Overlaps (before_of claim) (work_of_claim claim) (start_in claim)
 
 abbrev pub TickIsCrowded : Claim → ℕ → Type 0
-TickIsCrowded claim = IsCrowded (work_in claim) (start_in claim) (workers_in claim)
+TickIsCrowded claim = IsCrowded (work_of_claim claim) (start_in claim) (workers_in claim)
 
 abbrev pub WorkerIsWrong : Claim → ℕ → Type 0
 WorkerIsWrong claim =
-    HasWrongWorker (work_in claim) (start_in claim) (worker_in claim.plan) (workers_in claim)
+    HasWrongWorker (work_of_claim claim) (start_in claim) (worker_in claim.plan) (workers_in claim)
 
 abbrev pub NameIsWrong : Claim → ℕ → Type 0
 NameIsWrong claim =
-    HasWrongName (work_in claim) (told_name claim.plan) (name_in claim.tree claim.assigned)
+    HasWrongName (work_of_claim claim) (told_name claim.plan) (name_in claim.tree claim.assigned)
 
 abbrev pub FinishIsWrong : Claim → ℕ → Type 0
-FinishIsWrong claim = HasWrongFinish (work_in claim) (start_in claim) (told_finish claim.plan)
+FinishIsWrong claim = HasWrongFinish (work_of_claim claim) (start_in claim) (told_finish claim.plan)
 
 abbrev pub SumsAreRight : Claim → Type 0
-SumsAreRight claim = HasTotals (work_in claim) (start_in claim) claim.plan.summary
+SumsAreRight claim = HasTotals (work_of_claim claim) (start_in claim) claim.plan.summary
 
 abbrev pub LinkIsBroken : Claim → ℕ → Type 0
 LinkIsBroken claim = IsBroken (before_of claim) (chain_in claim)
 
 abbrev pub StartIsEarly : Claim → ℕ → Type 0
-StartIsEarly claim = StartsEarly (work_in claim) (start_in claim)
+StartIsEarly claim = StartsEarly (work_of_claim claim) (start_in claim)
 
 -- how far a plan is free of faults, one kind after the other
 pub record IsOrderly (claim : Claim) : Type 0 where
@@ -149,12 +155,12 @@ IsPraise work start summary (verdict.NotAChain place) = ⊥
 IsPraise work start summary (verdict.Early message) = ⊥
 
 abbrev pub IsPraised : Claim → Verdict → Type 0
-IsPraised claim = IsPraise (work_in claim) (start_in claim) claim.plan.summary
+IsPraised claim = IsPraise (work_of_claim claim) (start_in claim) claim.plan.summary
 
 -- the verdict: each fault comes only where no earlier one is there
 abbrev pub IsVerdict : Claim → Verdict → Type 0
 IsVerdict claim (verdict.Overlap first second) =
-    IsFirstOverlap (before_of claim) (work_in claim) (start_in claim) first second
+    IsFirstOverlap (before_of claim) (work_of_claim claim) (start_in claim) first second
 IsVerdict claim (verdict.TooManyAt tick) = IsOrderly claim × IsLeastOf (TickIsCrowded claim) tick
 IsVerdict claim (verdict.Worker message) = IsRoomy claim × IsLeastOf (WorkerIsWrong claim) message
 IsVerdict claim (verdict.Affinity message) = IsManned claim × IsLeastOf (NameIsWrong claim) message

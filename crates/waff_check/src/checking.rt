@@ -1,8 +1,9 @@
 //! The check of a plan that is given.
 
 ghost use Rattle.waff_plan.specs.Timetable.{starts_in, work_in};
-ghost use Rattle.std.specs.Prelude.{◌≡◌, ◌<◌, length, All, IfOk};
-ghost use Rattle.waff_check.specs.Verdicts.{IsPraise, IsVerdict, claim_of};
+ghost use Rattle.std.specs.Prelude.{◌≡◌, length, IfOk};
+ghost use Rattle.waff_check.specs.Verdicts.{IsClaim, IsPraise, IsVerdict, claim_of};
+ghost use Rattle.waff_plan_text.specs.Given.{IsGiven};
 ghost use Rattle.waff_check.specs.Promises.{PromisesBound, PromisesChain, PromisesObeys};
 ghost use Rattle.waff_check.specs.Promises.{PromisesOneAtATime, PromisesShortest};
 ghost use Rattle.waff_check.specs.Promises.{PromisesWorkerPlan};
@@ -33,10 +34,8 @@ pub fn check<R: Threads + Sync>(
     trace: &Trace,
     given: &GivenPlan,
 ) -> Result<Verdict, AllocError>
-    requires lengths { length trace.now.messages ≡ length assigned.now }
-    requires rows { length given.now.rows ≡ length trace.now.messages }
+    requires claim { IsClaim (claim_of tree.now assigned.now trace.now.messages given.now) }
     requires version { given.now.version ≡ trace.now.version }
-    requires known { All (λ a. a < length tree.now) assigned.now }
     ensures verdict { IfOk result
         (IsVerdict (claim_of tree.now assigned.now trace.now.messages given.now)) }
     ensures obeys { IfOk result
@@ -52,7 +51,6 @@ pub fn check<R: Threads + Sync>(
     ensures bound { IfOk result
         (PromisesBound (claim_of tree.now assigned.now trace.now.messages given.now)) }
 {
-    let _rows = given.len();
     chains_are_within_length();
     bound_is_within_twice();
     bound_is_within_ratio();
@@ -69,11 +67,10 @@ fn find<R: Threads + Sync>(
     trace: &Trace,
     given: &GivenPlan,
 ) -> Result<Verdict, AllocError>
-    requires lengths { length trace.now.messages ≡ length assigned.now }
-    requires rows { length given.now.rows ≡ length trace.now.messages }
-    requires known { All (λ a. a < length tree.now) assigned.now }
-    ensures { IfOk result
+    requires claim { IsClaim (claim_of tree.now assigned.now trace.now.messages given.now) }
+    ensures verdict { IfOk result
         (IsVerdict (claim_of tree.now assigned.now trace.now.messages given.now)) }
+    ensures given { IfOk result (λ _. IsGiven given.now) }
 {
     let plan = given.plan(alloc, trace)?;
     let workers = given.workers();

@@ -15,9 +15,9 @@ pub(crate) fn broken_link(tree: &Tree, assigned: &Assigned, chain: &[u32]) -> Op
     ensures { MatchOption result (AreLinked (IsOrdered tree.now assigned.now) chain.now)
         (IsLeastOf (IsBroken (IsOrdered tree.now assigned.now) chain.now)) }
 {
-    for place in 1..chain.len() {
-        if !is_ordered(tree, assigned, chain[place - 1], chain[place]) {
-            return Some(place as u64 + 1);
+    for index in 1..chain.len() {
+        if !is_ordered(tree, assigned, chain[index - 1], chain[index]) {
+            return Some(index as u64 + 1);
         }
     }
     None

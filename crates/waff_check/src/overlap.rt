@@ -2,9 +2,11 @@
 
 ghost use Rattle.std.specs.Prelude.{◌≡◌, ◌+◌, ◌-◌, ◌<◌, ◌≤◌, ◌↔◌, ℕ, All, IfOk, IfSome, IsTrue};
 ghost use Rattle.std.specs.Prelude.{MatchOption, length};
+ghost use Rattle.waff_model.specs.declared.limits.TheConstants.{MAX_MESSAGES};
 ghost use Rattle.waff_assign.specs.Order.{IsOrdered};
 ghost use Rattle.waff_plan.specs.Timetable.{starts_in, work_in};
 ghost use Rattle.waff_plan.specs.Obeys.{IsAmong, KeepsOrder};
+ghost use Rattle.waff_plan.specs.Work.{IsAmongFirst};
 ghost use Rattle.waff_check.specs.Searches.{HasOverlap, IsFirstPlace, IsSearchable};
 ghost use Rattle.waff_check.specs.Faults.{IsFirstOverlap, IsLeastOf, NoneOf, Overlaps};
 
@@ -20,10 +22,8 @@ use waff_plan::ordered::keeps_order;
 fn overlaps(tree: &Tree, assigned: &Assigned, plan: &Plan, i: u32, j: u32) -> bool
     requires lengths { length plan.now.timings ≡ length assigned.now }
     requires known { All (λ a. a < length tree.now) assigned.now }
-    requires from { 1 ≤ i }
-    requires first { i ≤ length assigned.now }
-    requires to { 1 ≤ j }
-    requires second { j ≤ length assigned.now }
+    requires first { IsAmongFirst (length assigned.now) i }
+    requires second { IsAmongFirst (length assigned.now) j }
     ensures { IsTrue result ↔ Overlaps (IsOrdered tree.now assigned.now)
         (work_in plan.now) (starts_in plan.now) i j }
 {
@@ -34,8 +34,7 @@ fn overlaps(tree: &Tree, assigned: &Assigned, plan: &Plan, i: u32, j: u32) -> bo
 fn second_of(tree: &Tree, assigned: &Assigned, plan: &Plan, i: u32) -> Option<u32>
     requires lengths { length plan.now.timings ≡ length assigned.now }
     requires known { All (λ a. a < length tree.now) assigned.now }
-    requires from { 1 ≤ i }
-    requires to { i ≤ length assigned.now }
+    requires number { IsAmongFirst (length assigned.now) i }
     ensures { MatchOption result
         (NoneOf (Overlaps (IsOrdered tree.now assigned.now)
         (work_in plan.now) (starts_in plan.now) i))
@@ -94,8 +93,9 @@ fn first_place<R: Threads + Sync>(
     requires lengths { length plan.now.timings ≡ length assigned.now }
     requires known { All (λ a. a < length tree.now) assigned.now }
     requires many { from ≤ length assigned.now }
-    ensures { IsFirstPlace (λ i. HasOverlap tree.now assigned.now plan.now.timings plan.now.starts
-        (from + i)) (length assigned.now - from) result }
+    ensures few { length assigned.now ≤ MAX_MESSAGES }
+    ensures first { IsFirstPlace (λ i. HasOverlap tree.now assigned.now
+        plan.now.timings plan.now.starts (from + i)) (length assigned.now - from) result }
 {
     (from as usize..assigned.len() as usize)
         .into_par_iter()
@@ -129,7 +129,6 @@ fn first_pair<R: Threads + Sync>(
         (λ pair. IsFirstOverlap (IsOrdered tree.now assigned.now)
         (work_in plan.now) (starts_in plan.now) pair.0 pair.1) }
 {
-    let _messages = assigned.len();
     match first_place(rt, tree, assigned, plan, kept) {
         None => None,
         Some(place) => {

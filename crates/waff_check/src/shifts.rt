@@ -41,8 +41,7 @@ fn is_one_of(k: u32, worker: Option<u64>) -> bool
 // The shift of message `n`: none where its row tells no worker, or it runs at no tick.
 fn shift(plan: &Plan, given: &GivenPlan, n: u32) -> Option<(u64, u64, u32)>
     requires lengths { length given.now.rows ≡ length plan.now.timings }
-    requires from { 1 ≤ n }
-    requires to { n ≤ length plan.now.timings }
+    requires number { IsNumber (work_in plan.now) n }
     ensures { (many : ℕ) → n ≤ many → IsShiftOf (first_of (work_in plan.now) many)
         (starts_in plan.now) (worker_in given.now) n result }
 {
@@ -78,8 +77,7 @@ fn shifts(
 
 // Whether one shift has ended when the next begins, where both are of one worker.
 fn follows(plan: &Plan, one: (u64, u64, u32), next: (u64, u64, u32)) -> bool
-    requires from { 1 ≤ one.2 }
-    requires to { one.2 ≤ length plan.now.timings }
+    requires number { IsNumber (work_in plan.now) one.2 }
     ensures { IsTrue result
         ↔ Follows (work_in plan.now) (starts_in plan.now) one next }
 {
@@ -92,8 +90,8 @@ fn are_apart(plan: &Plan, shifts: &[(u64, u64, u32)]) -> bool
     ensures { IsTrue result
         ↔ AreApart (work_in plan.now) (starts_in plan.now) shifts.now }
 {
-    for place in 1..shifts.len() {
-        if !follows(plan, shifts[place - 1], shifts[place]) {
+    for index in 1..shifts.len() {
+        if !follows(plan, shifts[index - 1], shifts[index]) {
             return false;
         }
     }

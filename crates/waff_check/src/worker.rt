@@ -1,6 +1,7 @@
 //! Workers that rows tell.
 
 ghost use Rattle.waff_plan.specs.Timetable.{starts_in, work_in};
+ghost use Rattle.waff_plan.specs.Work.{IsNumber};
 ghost use Rattle.std.specs.Prelude.{◌≡◌, ◌<◌, ◌≤◌, ◌↔◌, ℕ, IfOk, IsTrue, MatchOption, Some, length};
 ghost use Rattle.waff_check.specs.Faults.{HasWrongWorker, IsLeastOf, IsMisplaced, IsTaken, NoneOf};
 ghost use Rattle.waff_check.specs.Faults.{RunTogether};
@@ -14,10 +15,8 @@ use waff_plan_text::GivenPlan;
 
 // Whether messages `i` and `j` run at a common tick.
 fn run_together(plan: &Plan, i: u32, j: u32) -> bool
-    requires from { 1 ≤ i }
-    requires first { i ≤ length plan.now.timings }
-    requires to { 1 ≤ j }
-    requires second { j ≤ length plan.now.timings }
+    requires first { IsNumber (work_in plan.now) i }
+    requires second { IsNumber (work_in plan.now) j }
     ensures { IsTrue result
         ↔ RunTogether (work_in plan.now) (starts_in plan.now) i j }
 {
@@ -55,8 +54,7 @@ fn is_taken(plan: &Plan, given: &GivenPlan, worker: u64, n: u32) -> bool
 // Whether the worker that the row of message `n` tells is wrong.
 fn is_misplaced(plan: &Plan, given: &GivenPlan, workers: Option<u32>, n: u32) -> bool
     requires lengths { length given.now.rows ≡ length plan.now.timings }
-    requires from { 1 ≤ n }
-    requires to { n ≤ length plan.now.timings }
+    requires number { IsNumber (work_in plan.now) n }
     ensures { IsTrue result ↔ IsMisplaced (work_in plan.now)
         (starts_in plan.now) (worker_in given.now) workers n (worker_in given.now n) }
 {

@@ -4,6 +4,7 @@ use Rattle.std.specs.Prelude.{slice_get, slice_index_or}
 use Rattle.std.specs.List.Sorted.{IsStrictlyIncreasing}
 use Rattle.waff_model.specs.Cells.{cells_of}
 use Rattle.waff_model.specs.Layout.{Hierarchy, Space, IsCell, IsLayout, owner_of}
+use Rattle.waff_model.specs.Numbers.{IsAmongFirst}
 use Rattle.waff_model.specs.declared.cell.Cell.{Cell}
 use Rattle.waff_model.specs.declared.limits.TheConstants.{MAX_OPS}
 use Rattle.waff_model.specs.declared.message.Message.{Message}
@@ -50,10 +51,9 @@ pub record ListsOwners (spaces : List Space) (ops : List Op) (owners : List ℕ)
 abbrev pub owners_of : List (List ℕ) → ℕ → List ℕ
 owners_of owners n = slice_index_or owners (n - 1) []
 
--- message n of the job
-pub record IsIn (job : JobValue) (n : ℕ) : Type 0 where
-  pub from : 1 ≤ n
-  pub to : n ≤ length job.ops
+-- n is the number of a message of the job
+abbrev pub IsIn : JobValue → ℕ → Type 0
+IsIn job n = IsAmongFirst (length job.ops) n
 
 -- a job: messages whose cells lie in the layout, each with the lowest affinity that covers its
 -- footprint and with the footprint's owners, with needs of theirs, and in an order

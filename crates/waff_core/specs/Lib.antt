@@ -1,3 +1,4 @@
+pub mod Seats
 pub mod Statuses
 pub mod Job
 pub mod Machine

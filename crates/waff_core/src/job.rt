@@ -10,7 +10,7 @@ ghost use Rattle.waff_assign.specs.Lowest.{IsAssignment};
 ghost use Rattle.waff_assign.specs.Order.{IsOrdered};
 ghost use Rattle.waff_order.specs.Needs.{AreNeeds, needs_of};
 ghost use Rattle.waff_cells.specs.Serial.{operations, ops_of};
-ghost use Rattle.waff_core.specs.Job.{IsJob, IsJobOf, IsOrder, owners_of};
+ghost use Rattle.waff_core.specs.Job.{IsIn, IsJob, IsJobOf, IsOrder, owners_of};
 ghost use Rattle.waff_core.specs.Owners.{AreOwners};
 
 use crate::order::is_order;
@@ -115,8 +115,7 @@ impl Job {
 
     /// The needs of message `n`, in rising order.
     pub fn needs(&self, n: u32) -> &[u32]
-        requires from { 1 ≤ n }
-        requires to { n ≤ length self.now.ops }
+        requires number { IsIn self.now n }
         ensures needs { result.now ≡ needs_of self.now.needs n }
         ensures earlier { All (λ i. (1 ≤ i) × (i < n)) result.now }
     {
@@ -126,8 +125,7 @@ impl Job {
     /// The numbers of the affinities that own a cell of the footprint of message `n`, in rising
     /// order.
     pub fn owners(&self, n: u32) -> &[u16]
-        requires from { 1 ≤ n }
-        requires to { n ≤ length self.now.ops }
+        requires number { IsIn self.now n }
         ensures owners { result.now ≡ owners_of self.now.owners n }
         ensures known { All (λ a. a < length self.now.layout.tree) result.now }
     {
@@ -136,8 +134,7 @@ impl Job {
 
     /// Message `n`.
     pub fn message(&self, n: u32) -> &Message
-        requires from { 1 ≤ n }
-        requires to { n ≤ length self.now.ops }
+        requires number { IsIn self.now n }
         ensures ops { result.now.ops ≡ ops_of self.now.ops n }
         ensures cells { All (IsCell self.now.layout.spaces) (cells_of result.now.ops) }
     {
@@ -153,10 +150,8 @@ impl Job {
 
     /// Whether messages `i` and `j` are an ordered pair.
     pub fn is_ordered(&self, i: u32, j: u32) -> bool
-        requires from { 1 ≤ i }
-        requires first { i ≤ length self.now.ops }
-        requires to { 1 ≤ j }
-        requires second { j ≤ length self.now.ops }
+        requires first { IsIn self.now i }
+        requires second { IsIn self.now j }
         ensures { IsTrue result ↔ IsOrdered self.now.layout.tree self.now.assigned i j }
     {
         is_ordered(self.layout.tree(), &self.assigned, i, j)

@@ -7,6 +7,7 @@ ghost use Rattle.waff_cells.specs.Grid.{HasSizes};
 ghost use Rattle.waff_core.specs.Job.{IsJob};
 ghost use Rattle.waff_core.specs.Machine.{Runs, opening};
 ghost use Rattle.waff_core.specs.Refused.{FailsFirst};
+ghost use Rattle.waff_core.specs.Seats.{IsSeats};
 ghost use Rattle.waff_core.specs.Settled.{CellsAreSerial};
 ghost use Rattle.waff_core.specs.Shown.{AreHome, Fits, IsSteady, core_in, core_of};
 
@@ -23,8 +24,7 @@ pub fn run_events(
     seats: u32,
     events: &[Event],
 ) -> Result<CoreState, CoreError>
-    requires some { 1 ≤ seats }
-    requires few { seats ≤ MAX_SEATS }
+    requires seats { IsSeats seats }
     ensures accepted { IfOk result
         (λ state. Runs job.now (opening seats) events.now (core_of state)) }
     ensures home { IfOk result (λ state. AreHome job.now (core_of state) state.home) }

@@ -4,7 +4,7 @@ use Rattle.std.specs.Prelude.{slice_range}
 use Rattle.std.proofs.lemmas.Bool.{cases_eq, cases_lt}
 use Rattle.std.proofs.lemmas.List.{get_or-set_same, get_or-set_other, get_or-replicate, get_or_past, length-set, length-drop, length-take, length-replicate, take-set-le, drop-set-lt, drop-set-add, drop-drop, get_or-take, get_or-drop, drop-replicate}
 use Rattle.std.proofs.Math.Seq.{take-add, take-set-lt, drop-cons}
-use Rattle.waff_model.specs.Later.{Order, IsOrder, latest_of, latest_in, value_at, IsNoted}
+use Rattle.waff_model.specs.Later.{Order, TellsLatest, latest_of, latest_in, value_at, IsNoted}
 use Rattle.waff_model.specs.Blocks.{spread_from, AreSummed}
 use Rattle.waff_model.proofs.LaterLemmas.{later_none, later_between, latest-append, latest-set}
 
@@ -44,7 +44,7 @@ module _ {T : Type 0} (order : Order T) where
     | inr past ↦ spread_past new_blocks new_places i (omega arith) ∙ sym (spread_past blocks places i past)
   ]
 
-  module _ (laws : IsOrder order) where
+  module _ (laws : TellsLatest order) where
     pub spread_none : (count blocks p : ℕ)
         → spread_from order (replicate blocks order.none) p (replicate count order.none) ≡ replicate count order.none
     spread_none zero blocks p = refl

@@ -2,7 +2,7 @@
 use Rattle.std.proofs.Common.{◌≡◌, ℕ, zero, suc, ◌+◌, ◌<◌, ◌≤◌, List, [], ◌∷◌, ◌++◌, length, get_or, set, take, replicate, inl, inr, arith, refl, sym, ap, ◌∙◌, subst}
 use Rattle.std.proofs.lemmas.Bool.{cases_lt}
 use Rattle.std.proofs.lemmas.List.{get_or-set_same, get_or-set_other, length-set, take_more}
-use Rattle.waff_model.specs.Later.{Order, IsOrder, latest_of, value_at, IsNoted}
+use Rattle.waff_model.specs.Later.{Order, TellsLatest, latest_of, value_at, IsNoted}
 
 module _ {T : Type 0} (order : Order T) where
   pub noted_none : (from : ℕ) (x : T) (values : List T) → IsNoted order from from x values values
@@ -41,7 +41,7 @@ module _ {T : Type 0} (order : Order T) where
         after = λ q late. get_or-set_other values p q entry order.none (λ same. omega arith);
       }
 
-  module _ (laws : IsOrder order) where
+  module _ (laws : TellsLatest order) where
     pub later_none : (x : T) → order.later x order.none ≡ x
     later_none x = laws.swaps x order.none ∙ laws.first x
 

@@ -120,35 +120,35 @@ module _ (spaces : List Space) where
   pub owner_of_number : (cell : Cell) → IsCell spaces cell → get_or (owners_in spaces) (cells_before spaces cell) 0 ≡ owner_of spaces cell
   owner_of_number cell is_cell = owner_stands spaces cell.space cell.index is_cell
 
-  -- a cell's place is below the size of its owner's parcel
-  pub place_within : (cell : Cell) → IsCell spaces cell → offset_of spaces cell < parcel_size spaces (owner_of spaces cell)
-  place_within cell is_cell = count_whole (owners_in spaces) (cells_before spaces cell) (owner_of spaces cell) (cells_before-all cell is_cell) (owner_of_number cell is_cell)
+  -- a cell's offset is below the size of its owner's parcel
+  pub offset_within : (cell : Cell) → IsCell spaces cell → offset_of spaces cell < parcel_size spaces (owner_of spaces cell)
+  offset_within cell is_cell = count_whole (owners_in spaces) (cells_before spaces cell) (owner_of spaces cell) (cells_before-all cell is_cell) (owner_of_number cell is_cell)
 
-  earlier_place : (one other : Cell) → IsCell spaces one → owner_of spaces one ≡ owner_of spaces other → cells_before spaces one < cells_before spaces other → offset_of spaces one < offset_of spaces other
-  earlier_place one other is_one same before =
+  earlier_offset : (one other : Cell) → IsCell spaces one → owner_of spaces one ≡ owner_of spaces other → cells_before spaces one < cells_before spaces other → offset_of spaces one < offset_of spaces other
+  earlier_offset one other is_one same before =
       subst (λ a. offset_of spaces one < count_of a (take (cells_before spaces other) (owners_in spaces))) same
       (count_less (owners_in spaces) (cells_before spaces one) (cells_before spaces other) (owner_of spaces one) before (cells_before-all one is_one) (owner_of_number one is_one))
 
-  -- two cells of one owner with one place are the same
-  pub same_place : (one other : Cell) → IsCell spaces one → IsCell spaces other → owner_of spaces one ≡ owner_of spaces other → offset_of spaces one ≡ offset_of spaces other → one ≡ other
-  same_place one other is_one is_other owner place =
+  -- two cells of one owner with one offset are the same
+  pub same_offset : (one other : Cell) → IsCell spaces one → IsCell spaces other → owner_of spaces one ≡ owner_of spaces other → offset_of spaces one ≡ offset_of spaces other → one ≡ other
+  same_offset one other is_one is_other owner offset =
       elim (cases_order (cells_before spaces one) (cells_before spaces other)) [
         | inl same ↦
             let both = same_number spaces one.space one.index other.space other.index is_one is_other same in
             let at : ℕ → ℕ → Cell = λ s i. record { space = s; index = i } in
             ap (λ s. at s one.index) both.0 ∙ ap (λ i. at other.space i) both.1
-        | inr (inl before) ↦ absurd (omega (arith, earlier_place one other is_one owner before))
-        | inr (inr after) ↦ absurd (omega (arith, earlier_place other one is_other (sym owner) after))
+        | inr (inl before) ↦ absurd (omega (arith, earlier_offset one other is_one owner before))
+        | inr (inr after) ↦ absurd (omega (arith, earlier_offset other one is_other (sym owner) after))
       ]
 
-  -- each number below the size of a parcel is the place of one of its cells
-  pub place_filled : (a n : ℕ) → n < parcel_size spaces a → (cell : Cell) × IsCell spaces cell × (owner_of spaces cell ≡ a) × (offset_of spaces cell ≡ n)
-  place_filled a n below =
+  -- each number below the size of a parcel is the offset of one of its cells
+  pub offset_filled : (a n : ℕ) → n < parcel_size spaces a → (cell : Cell) × IsCell spaces cell × (owner_of spaces cell ≡ a) × (offset_of spaces cell ≡ n)
+  offset_filled a n below =
       let (k, within, owned, count) = count_reached (owners_in spaces) a n below in
       let (cell, is_cell, number) = cell_numbered spaces k (omega (arith, length-owners_in spaces)) in
       let owner : owner_of spaces cell ≡ a = sym (owner_of_number cell is_cell) ∙ ap (λ n. get_or (owners_in spaces) n 0) number ∙ owned in
-      let place : offset_of spaces cell ≡ n = ap (λ a. count_of a (take (cells_before spaces cell) (owners_in spaces))) owner ∙ ap (λ k. count_of a (take k (owners_in spaces))) number ∙ count in
-      (cell, is_cell, owner, place)
+      let offset : offset_of spaces cell ≡ n = ap (λ a. count_of a (take (cells_before spaces cell) (owners_in spaces))) owner ∙ ap (λ k. count_of a (take k (owners_in spaces))) number ∙ count in
+      (cell, is_cell, owner, offset)
 
 -- cells from one on that have its owner are a run
 module _ (spaces : List Space) (first : Cell) (count : ℕ) (cells : first.index + count ≤ size_at spaces first.space)

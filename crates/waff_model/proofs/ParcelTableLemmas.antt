@@ -11,7 +11,7 @@ use Rattle.waff_model.specs.declared.parcels.Parcels.{Parcels}
 use Rattle.waff_model.specs.Tree.{Node}
 use Rattle.waff_model.specs.Layout.{Space, Hierarchy, IsSpace, IsCell, size_at, owner_at, owner_of}
 use Rattle.waff_model.specs.Parcel.{owners_in, cells_ahead, cells_before, count_of, parcel_size, offset_of}
-use Rattle.waff_model.specs.ParcelTable.{IsMapped, offset_at, parcel_sizes, AreParcels}
+use Rattle.waff_model.specs.ParcelTable.{IsMapped, offset_at, parcel_sizes, IsParcelTable}
 use Rattle.waff_model.proofs.ParcelLemmas.{count_more, cell_numbered, length-owners_in, owner_of_number, cells_before-all}
 
 space_below : (spaces : List Space) (s i : ℕ) → i < size_at spaces s → s < length spaces
@@ -84,7 +84,7 @@ pub counts_all : (owners counts : List ℕ) (n k : ℕ) → length counts ≡ n 
 counts_all owners counts n k long past counted =
     fill_by_all (λ a. count_of a owners) counts n 0 long (λ a below. counted a (omega arith) ∙ ap (count_of a) (take_all k owners past))
 
-module _ (layout : Hierarchy) (parcels : Parcels) (are : AreParcels layout.tree layout.spaces parcels) where
+module _ (layout : Hierarchy) (parcels : Parcels) (are : IsParcelTable layout.tree layout.spaces parcels) where
   -- the size of a parcel
   pub size_within : (a : ℕ) → a < length layout.tree → a < length parcels.sizes.items
   size_within a below = omega (arith, ap length are.sizes, length-map-range_with_len (λ a. count_of a (owners_in layout.spaces)) 0 (length layout.tree))
@@ -119,8 +119,8 @@ module _ (layout : Hierarchy) (parcels : Parcels) (are : AreParcels layout.tree 
       pub owner_within : number < length parcels.owners.items
       owner_within = omega (arith, number_within, ap length are.owners)
 
-      pub place_within : number < length parcels.places.items
-      place_within = omega (arith, number_within, ap length are.places, length-map-range_with_len (offset_at (owners_in layout.spaces)) 0 (length (owners_in layout.spaces)))
+      pub offset_within : number < length parcels.offsets.items
+      offset_within = omega (arith, number_within, ap length are.offsets, length-map-range_with_len (offset_at (owners_in layout.spaces)) 0 (length (owners_in layout.spaces)))
 
       owner_there : get_or (owners_in layout.spaces) number 0 ≡ owner_of layout.spaces cell
       owner_there = ap (λ k. get_or (owners_in layout.spaces) k 0) is ∙ owner_of_number layout.spaces cell is_cell
@@ -131,10 +131,10 @@ module _ (layout : Hierarchy) (parcels : Parcels) (are : AreParcels layout.tree 
           ∙ ap (λ xs. get_or xs number 0) are.owners
           ∙ owner_there
 
-      pub place_is : (place : ℕ) → place ≡ get_or parcels.places.items number place → place ≡ offset_of layout.spaces cell
-      place_is place read =
-          get_or_read parcels.places.items number place place_within read 0
-          ∙ ap (λ xs. get_or xs number 0) are.places
+      pub offset_is : (offset : ℕ) → offset ≡ get_or parcels.offsets.items number offset → offset ≡ offset_of layout.spaces cell
+      offset_is offset read =
+          get_or_read parcels.offsets.items number offset offset_within read 0
+          ∙ ap (λ xs. get_or xs number 0) are.offsets
           ∙ get_or-map-range_with_len (offset_at (owners_in layout.spaces)) 0 (length (owners_in layout.spaces)) number number 0 number_within (zero-add number)
           ∙ ap (λ a. count_of a (take number (owners_in layout.spaces))) owner_there
           ∙ ap (λ k. count_of (owner_of layout.spaces cell) (take k (owners_in layout.spaces))) is

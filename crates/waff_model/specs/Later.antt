@@ -8,7 +8,7 @@ pub record Order (T : Type 0) : Type 0 where
   pub later : T → T → T
 
 -- nothing counts for nothing, and the latest of some values is the same in whatever order they come
-pub record IsOrder {T : Type 0} (order : Order T) : Type 0 where
+pub record TellsLatest {T : Type 0} (order : Order T) : Type 0 where
   pub first : (x : T) → order.later order.none x ≡ x
   pub joined : (x y z : T) → order.later x (order.later y z) ≡ order.later (order.later x y) z
   pub swaps : (x y : T) → order.later x y ≡ order.later y x

@@ -13,6 +13,7 @@ pub mod PackedOps
 pub mod Parcel
 pub mod ParcelTable
 pub mod ParcelLaws
+pub mod Numbers
 pub mod Messages
 pub mod Later
 pub mod LaterLaws

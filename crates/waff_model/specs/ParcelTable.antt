@@ -24,17 +24,17 @@ starts_of spaces = map (cells_ahead spaces) (range_with_len 0 (length spaces))
 abbrev pub offset_at : List ℕ → ℕ → ℕ
 offset_at owners k = count_of (slice_index owners k) (take k owners)
 
--- the places of the cells with these owners
-abbrev pub places_of : List ℕ → List ℕ
-places_of owners = map (offset_at owners) (range_with_len 0 (length owners))
+-- the offsets of the cells with these owners
+abbrev pub offsets_of : List ℕ → List ℕ
+offsets_of owners = map (offset_at owners) (range_with_len 0 (length owners))
 
 -- for each of so many affinities, how many of the cells with these owners it owns
 abbrev pub parcel_sizes : ℕ → List ℕ → List ℕ
 parcel_sizes affinities owners = map (λ a. count_of a owners) (range_with_len 0 affinities)
 
--- the start of each space, the owner and the place of each cell, and the size of each parcel
-pub record AreParcels (tree : List Node) (spaces : List Space) (parcels : Parcels) : Type 0 where
+-- the start of each space, the owner and the offset of each cell, and the size of each parcel
+pub record IsParcelTable (tree : List Node) (spaces : List Space) (parcels : Parcels) : Type 0 where
   pub starts : parcels.starts.items ≡ starts_of spaces
   pub owners : parcels.owners.items ≡ owners_in spaces
-  pub places : parcels.places.items ≡ places_of (owners_in spaces)
+  pub offsets : parcels.offsets.items ≡ offsets_of (owners_in spaces)
   pub sizes : parcels.sizes.items ≡ parcel_sizes (length tree) (owners_in spaces)

@@ -3,19 +3,19 @@
 
 ghost use Rattle.std.specs.Prelude.{List};
 ghost use Rattle.waff_model.specs.Layout.{Space};
-ghost use Rattle.waff_model.specs.ParcelLaws.{PlacesAreWithin, PlacesAreApart, PlacesAreFilled};
+ghost use Rattle.waff_model.specs.ParcelLaws.{OffsetsAreWithin, OffsetsAreApart, OffsetsAreFilled};
 
-/// The place of a cell is below the size of its owner's parcel.
+/// The offset of a cell is below the size of its owner's parcel.
 pub fn offsets_are_within()
-    ensures { (spaces : List Space) → PlacesAreWithin spaces }
+    ensures { (spaces : List Space) → OffsetsAreWithin spaces }
 {}
 
-/// No two cells share a place.
+/// Two cells of one parcel have different offsets.
 pub fn offsets_are_apart()
-    ensures { (spaces : List Space) → PlacesAreApart spaces }
+    ensures { (spaces : List Space) → OffsetsAreApart spaces }
 {}
 
-/// Every number below the size of a parcel is the place of one of its cells.
+/// Every number below the size of a parcel is the offset of one of its cells.
 pub fn offsets_are_filled()
-    ensures { (spaces : List Space) → PlacesAreFilled spaces }
+    ensures { (spaces : List Space) → OffsetsAreFilled spaces }
 {}

@@ -33,7 +33,7 @@ pub struct Layout {
 
 impl Model for Layout {
     ghost use Rattle.waff_model.specs.Layout.{Hierarchy, IsLayout};
-    ghost use Rattle.waff_model.specs.ParcelTable.{AreParcels};
+    ghost use Rattle.waff_model.specs.ParcelTable.{IsParcelTable};
 
     ghost Value = { Hierarchy };
 
@@ -41,7 +41,7 @@ impl Model for Layout {
 
     ghost invariant = { λ l.
         IsLayout (record { kind = l.kind; tree = l.tree; spaces = l.spaces.items })
-        × AreParcels l.tree l.spaces.items l.parcels };
+        × IsParcelTable l.tree l.spaces.items l.parcels };
 }
 
 impl Layout {
@@ -121,6 +121,7 @@ impl Layout {
         }
     }
 
+    /// The spaces, by number.
     pub(crate) fn spaces(&self) -> &[Space]
         ensures { result.now ≡ self.now.spaces }
     {
@@ -172,7 +173,7 @@ impl Layout {
     {
         let parcels = &self.parcels;
         let at = (parcels.starts[cell.space as usize] + cell.index) as usize;
-        (AffinityId(parcels.owners[at]), parcels.places[at])
+        (AffinityId(parcels.owners[at]), parcels.offsets[at])
     }
 
     /// How many cells from this one on are known to be a run: those up to the end of its unit, or
@@ -293,7 +294,7 @@ fn number(tree: &Tree, name: &str) -> u16
     }
 }
 
-/// The place of the space with this name.
+/// The number of the space with this name.
 fn position(spaces: &[Space], name: &str) -> Option<usize>
     ensures found { result ≡ space_named spaces.now name.now }
     ensures within { IfSome result (λ s. s < length spaces.now) }

@@ -7,6 +7,7 @@ use indexmap::IndexMap;
 use std::alloc::{AllocError, Global};
 use std::marker::Model;
 
+/// The nodes of a tree, by number: each has a name that no other has, and its parent.
 #[derive(Drop)]
 pub(crate) struct Nodes {
     parents: IndexMap<String, Option<u16>>,
@@ -23,6 +24,7 @@ impl Model for Nodes {
 }
 
 impl Nodes {
+    /// No node.
     pub(crate) fn new(alloc: Global) -> Self
         ensures { result ≡ [] }
     {
@@ -31,17 +33,19 @@ impl Nodes {
         }
     }
 
+    /// Where the nodes are kept.
     pub(crate) fn allocator(&self) -> Global {
         *self.parents.allocator()
     }
 
+    /// How many nodes there are.
     pub(crate) fn len(&self) -> usize
         ensures { result ≡ length self.now }
     {
         self.parents.len()
     }
 
-    /// The place of the node with this name.
+    /// The number of the node with this name.
     pub(crate) fn number(&self, name: &str) -> Option<usize>
         ensures found { result ≡ number_of self.now name.now }
         ensures within { IfSome result (λ at. at < length self.now) }
@@ -49,6 +53,7 @@ impl Nodes {
         self.parents.get_index_of(name)
     }
 
+    /// The name of the node with this number.
     pub(crate) fn name(&self, at: usize) -> &str
         requires { at < length self.now }
         ensures { result.now ≡ name_of self.now at }
@@ -57,6 +62,7 @@ impl Nodes {
         name.as_str()
     }
 
+    /// The number of the parent of the node with this number, which the root lacks.
     pub(crate) fn parent(&self, at: usize) -> Option<u16>
         requires { at < length self.now }
         ensures { result ≡ parent_of self.now at }

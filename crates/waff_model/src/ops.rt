@@ -47,6 +47,7 @@ impl Ops {
         })
     }
 
+    /// Appends an operation.
     #[inline(always)]
     pub fn push(&mut self, op: Op) -> Result<(), AllocError>
         ensures pushed { OnOk result (self.new ≡ self.old ++ op ∷ []) }
@@ -62,6 +63,7 @@ impl Ops {
         Ok(())
     }
 
+    /// How many operations there are.
     #[inline(always)]
     pub fn len(&self) -> usize
         ensures { result ≡ length self.now }
@@ -76,15 +78,15 @@ impl Ops {
         self.len() == 0
     }
 
-    /// The operation at a place, from 0.
+    /// The operation at an index, from 0.
     #[inline(always)]
-    pub fn get(&self, place: usize) -> Op
-        requires { place < length self.now }
-        ensures { slice_get self.now place ≡ Some result }
+    pub fn get(&self, index: usize) -> Op
+        requires { index < length self.now }
+        ensures { slice_get self.now index ≡ Some result }
     {
-        match self.packed.get(place) {
+        match self.packed.get(index) {
             Some(packed) => packed.op(),
-            None => self.plain[place - self.packed.len()],
+            None => self.plain[index - self.packed.len()],
         }
     }
 }

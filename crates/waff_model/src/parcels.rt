@@ -3,20 +3,20 @@
 ghost use Rattle.std.specs.Prelude.{◌≡◌, ◌<◌, ◌≤◌, ◌^◌, ◌++◌, length, replicate, sum_by, All, IfOk};
 ghost use Rattle.std.specs.Prelude.{OnOk};
 ghost use Rattle.waff_model.specs.Parcel.{owners_in};
-ghost use Rattle.waff_model.specs.ParcelTable.{IsMapped, owners_by, starts_of, places_of, parcel_sizes};
-ghost use Rattle.waff_model.specs.ParcelTable.{AreParcels};
+ghost use Rattle.waff_model.specs.ParcelTable.{IsMapped, IsParcelTable, offsets_of, owners_by};
+ghost use Rattle.waff_model.specs.ParcelTable.{parcel_sizes, starts_of};
 
 use crate::space::Space;
 use crate::tree::Tree;
 use std::alloc::{AllocError, Global};
 
-/// For each cell, in the order of cells, its owner and its place, and for each affinity the size of
-/// its parcel. The cells of a space start where `starts` says.
+/// For each cell, in the order of cells, its owner and its offset, and for each affinity the size
+/// of its parcel. The cells of a space start where `starts` says.
 #[derive(Drop)]
 pub(crate) struct Parcels {
     pub(crate) starts: Vec<u32>,
     pub(crate) owners: Vec<u16>,
-    pub(crate) places: Vec<u32>,
+    pub(crate) offsets: Vec<u32>,
     pub(crate) sizes: Vec<u32>,
 }
 
@@ -29,16 +29,16 @@ pub(crate) fn parcels_of(
     requires mapped { All IsMapped spaces.now }
     requires affinities { All (λ a. a < length tree.now) (owners_in spaces.now) }
     requires few { sum_by (λ s. s.size) spaces.now < 2 ^ 32 }
-    ensures { IfOk result (λ parcels. AreParcels tree.now spaces.now parcels) }
+    ensures { IfOk result (λ parcels. IsParcelTable tree.now spaces.now parcels) }
 {
     let starts = starts_of(alloc, spaces)?;
     let owners = owners_of(alloc, spaces)?;
     let mut sizes = vec![in alloc; 0; tree.len() as usize]?;
-    let places = places_of(alloc, &owners, &mut sizes)?;
+    let offsets = offsets_of(alloc, &owners, &mut sizes)?;
     Ok(Parcels {
         starts,
         owners,
-        places,
+        offsets,
         sizes,
     })
 }
@@ -88,19 +88,19 @@ fn add_owners(owners: &mut Vec<u16>, size: u32, unit: u32, to: &[u16]) -> Result
     Ok(())
 }
 
-/// The places of the cells with these owners, while the sizes of the parcels are counted.
-fn places_of(alloc: Global, owners: &[u16], sizes: &mut [u32]) -> Result<Vec<u32>, AllocError>
+/// The offsets of the cells with these owners, while the sizes of the parcels are counted.
+fn offsets_of(alloc: Global, owners: &[u16], sizes: &mut [u32]) -> Result<Vec<u32>, AllocError>
     requires owners { All (λ a. a < length sizes.old) owners.now }
     requires few { length owners.now < 2 ^ 32 }
     requires zeros { sizes.old ≡ replicate (length sizes.old) 0 }
-    ensures places { IfOk result (λ v. v.items ≡ places_of owners.now) }
+    ensures offsets { IfOk result (λ v. v.items ≡ offsets_of owners.now) }
     ensures sizes { OnOk result (sizes.new ≡ parcel_sizes (length sizes.old) owners.now) }
 {
-    let mut places = Vec::with_capacity(alloc, owners.len())?;
+    let mut offsets = Vec::with_capacity(alloc, owners.len())?;
     for owner in owners {
         let size = sizes[*owner as usize];
-        places.push(size)?;
+        offsets.push(size)?;
         sizes[*owner as usize] = size + 1;
     }
-    Ok(places)
+    Ok(offsets)
 }

@@ -6,6 +6,8 @@ ghost use Rattle.waff_model.specs.Layout.{owner_at};
 use crate::name::Text;
 use std::marker::Model;
 
+/// A space of cells: its name, how many cells it has, and its map, by which runs of `unit` cells go
+/// to the affinities of `to` in turn.
 #[derive(Drop)]
 pub(crate) struct Space {
     pub(crate) name: Text,
@@ -23,24 +25,28 @@ impl Model for Space {
 }
 
 impl Space {
+    /// The name.
     pub(crate) fn name(&self) -> &str
         ensures { result.now ≡ self.now.name }
     {
         self.name.as_str()
     }
 
+    /// How many cells there are.
     pub(crate) fn size(&self) -> u32
         ensures { result ≡ self.now.size }
     {
         self.size
     }
 
+    /// How many cells are a run.
     pub(crate) fn unit(&self) -> u32
         ensures { result ≡ self.now.unit }
     {
         self.unit
     }
 
+    /// The numbers of the affinities to which runs go in turn.
     pub(crate) fn to(&self) -> &[u16]
         ensures { result.now ≡ self.now.to }
     {

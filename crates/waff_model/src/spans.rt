@@ -5,7 +5,7 @@
 
 ghost use Rattle.std.specs.Prelude.{◌≡◌, ◌<◌, ◌≤◌, length, replicate, IfOk, OnOk, slice_set};
 ghost use Rattle.std.specs.Prelude.{slice_index_or};
-ghost use Rattle.waff_model.specs.Later.{Order, IsOrder, IsNoted, by_number};
+ghost use Rattle.waff_model.specs.Later.{Order, TellsLatest, IsNoted, by_number};
 ghost use Rattle.waff_model.specs.Later.{latest_of, latest_in, value_at};
 ghost use Rattle.waff_model.specs.Taken.{IsThinned, Takes};
 ghost use Rattle.waff_model.specs.LaterLaws.{number_laws};
@@ -28,7 +28,7 @@ pub trait Later: Copy + Drop {
     fn later(self, other: Self) -> Self
         ensures { result ≡ order.later self other };
 
-    ghost laws: { IsOrder order };
+    ghost laws: { TellsLatest order };
 }
 
 /// The number of a message, 0 for none.

@@ -54,6 +54,7 @@ impl Texts {
         &self.texts[i]
     }
 
+    /// The texts, in order.
     pub(crate) fn as_slice(&self) -> &[Text]
         ensures { result.now ≡ self.now }
     {

@@ -41,6 +41,7 @@ impl Model for Trace {
 
 impl Trace {
     ghost use Rattle.waff_model.specs.Messages.{sizes_of, IsMessage, IsTrace};
+    ghost use Rattle.waff_model.specs.Numbers.{IsAmongFirst};
     ghost use Rattle.waff_model.specs.declared.message.Version.TheVariants.{V1};
 
     /// A trace of the first version for cells of the layout, with no message.
@@ -103,8 +104,7 @@ impl Trace {
 
     /// The message with this number, from 1.
     pub fn message(&self, number: u32) -> &Message
-        requires from { 1 ≤ number }
-        requires to { number ≤ length self.now.messages }
+        requires number { IsAmongFirst (length self.now.messages) number }
         ensures message { slice_get self.now.messages (number - 1) ≡ Some result.now }
         ensures within { IsMessage self.now.version self.now.sizes result.now }
     {

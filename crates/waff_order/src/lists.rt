@@ -2,12 +2,13 @@
 
 ghost use Rattle.std.specs.Prelude.{◌≡◌, ◌-◌, ◌≤◌, [], length, slice_index_or, slice_range};
 ghost use Rattle.std.specs.List.Sorted.{IsStrictlyIncreasing};
+ghost use Rattle.waff_model.specs.Numbers.{IsAmongFirst};
 ghost use Rattle.waff_order.specs.Needs.{needs_of, AreLists};
 ghost use Rattle.waff_order.specs.Cuts.{parts, AreCuts};
 
 use std::marker::Model;
 
-/// A list for each message: one list of all elements, and the places where the parts end.
+/// A list for each message: one list of all elements, and where in it the parts end.
 #[derive(Drop)]
 pub struct Lists<T> {
     all: Vec<T>,
@@ -26,7 +27,7 @@ impl<T> Model for Lists<T> {
 }
 
 impl<T> Lists<T> {
-    /// The lists that stand one after another in `all` and end at these places.
+    /// The lists that stand one after another in `all` and end there.
     pub fn new(all: Vec<T>, ends: Vec<u32>) -> Self
         requires { AreCuts all.items 0 ends.items }
         ensures { result ≡ parts all.items 0 ends.items }
@@ -43,8 +44,7 @@ impl<T> Lists<T> {
 
     /// The list of message `n`, from 1.
     pub fn of(&self, n: u32) -> &[T]
-        requires from { 1 ≤ n }
-        requires to { n ≤ length self.now }
+        requires number { IsAmongFirst (length self.now) n }
         ensures { result.now ≡ slice_index_or self.now (n - 1) [] }
     {
         let (from, to) = bounds(self.all.as_slice(), self.ends.as_slice(), n);
@@ -55,19 +55,18 @@ impl<T> Lists<T> {
 /// Where the list of message `n` begins and ends.
 fn bounds<T>(all: &[T], ends: &[u32], n: u32) -> (usize, usize)
     requires cuts { AreCuts all.now 0 ends.now }
-    requires from { 1 ≤ n }
-    requires to { n ≤ length ends.now }
+    requires number { IsAmongFirst (length ends.now) n }
     ensures forward { result.0 ≤ result.1 }
     ensures within { result.1 ≤ length all.now }
     ensures part { slice_range all.now result.0 result.1
         ≡ slice_index_or (parts all.now 0 ends.now) (n - 1) [] }
 {
-    let place = n as usize - 1;
-    let to = ends[place] as usize;
-    if place == 0 {
+    let index = n as usize - 1;
+    let to = ends[index] as usize;
+    if index == 0 {
         return (0, to);
     }
-    (ends[place - 1] as usize, to)
+    (ends[index - 1] as usize, to)
 }
 
 /// The needs of each message of a trace: earlier messages that must have finished before it starts.
@@ -106,8 +105,7 @@ impl Needs {
 
     /// The needs of message `n`, from 1, in rising order.
     pub fn of(&self, n: u32) -> &[u32]
-        requires from { 1 ≤ n }
-        requires to { n ≤ length self.now }
+        requires number { IsAmongFirst (length self.now) n }
         ensures needs { result.now ≡ needs_of self.now n }
         ensures rising { IsStrictlyIncreasing result.now }
     {

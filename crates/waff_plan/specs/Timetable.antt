@@ -29,3 +29,7 @@ pub record IsTimetable (table : Timetable) : Type 0 where
 abbrev pub timings_of : List Message → List Timing
 timings_of messages =
     map (λ message. record { cost = message.cost; release = message.release }) messages
+
+-- the work of the messages of a trace
+abbrev pub work_of_messages : List Message → Work
+work_of_messages messages = work_of (timings_of messages)

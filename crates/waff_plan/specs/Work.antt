@@ -1,18 +1,14 @@
 -- Work to be done: messages numbered from 1, each with its cost in ticks and the tick of its
 -- release. A plan is a map from the number of a message to its start tick.
-use Rattle.std.specs.Prelude.{ℕ, ◌+◌, ◌≤◌, max, List, [], ◌∷◌, map, sum_by}
+use Rattle.std.specs.Prelude.{ℕ, ◌+◌, max, List, [], ◌∷◌, map, sum_by}
 use Rattle.std.specs.List.{range_with_len}
+pub use Rattle.waff_model.specs.Numbers.{IsAmongFirst}
 
 -- how many messages there are, how many ticks each runs, and the tick before which it may not start
 pub record Work : Type 0 where
   pub count : ℕ
   pub cost : ℕ → ℕ
   pub release : ℕ → ℕ
-
--- n is one of the first so many messages
-pub record IsAmongFirst (messages n : ℕ) : Type 0 where
-  pub from : 1 ≤ n
-  pub to : n ≤ messages
 
 -- m is the number of a message
 abbrev pub IsNumber : Work → ℕ → Type 0

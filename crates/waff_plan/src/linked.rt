@@ -25,6 +25,7 @@ impl Model for Chain {
 }
 
 impl Chain {
+    /// The chain of these messages, of this cost and with this release.
     pub(crate) fn new(messages: Vec<u32>, cost: u64, release: u64) -> Self
         ensures { result ≡ record { messages = messages.items; cost = cost; release = release } }
     {

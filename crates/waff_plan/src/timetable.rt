@@ -1,7 +1,7 @@
 //! Plans.
 
 ghost use Rattle.std.specs.Prelude.{◌≡◌, ◌+◌, ◌^◌, ◌<◌, ◌≤◌, length, All, IfOk};
-ghost use Rattle.waff_plan.specs.Work.{finish_of, length_of, total_of};
+ghost use Rattle.waff_plan.specs.Work.{IsAmongFirst, finish_of, length_of, total_of};
 ghost use Rattle.waff_plan.specs.Timing.{timing_of};
 ghost use Rattle.waff_plan.specs.Timetable.{work_in, starts_in};
 
@@ -64,8 +64,7 @@ impl Plan {
 
     /// The tick at which message `n` starts.
     pub fn start(&self, n: u32) -> u64
-        requires from { 1 ≤ n }
-        requires to { n ≤ length self.now.timings }
+        requires number { IsAmongFirst (length self.now.timings) n }
         ensures start { result ≡ starts_in self.now n }
         ensures printable { result ≤ MAX_TICK }
     {
@@ -74,8 +73,7 @@ impl Plan {
 
     /// The tick at which message `n` has finished.
     pub fn finish(&self, n: u32) -> u64
-        requires from { 1 ≤ n }
-        requires to { n ≤ length self.now.timings }
+        requires number { IsAmongFirst (length self.now.timings) n }
         ensures finish { result
             ≡ finish_of (work_in self.now) (starts_in self.now) n }
         ensures small { result < MAX_TICK + 2 ^ 32 }
@@ -85,8 +83,7 @@ impl Plan {
 
     /// The tick before which message `n` may not start.
     pub fn release(&self, n: u32) -> u64
-        requires from { 1 ≤ n }
-        requires to { n ≤ length self.now.timings }
+        requires number { IsAmongFirst (length self.now.timings) n }
         ensures release { result ≡ (timing_of self.now.timings n).release }
         ensures small { result < 2 ^ 32 }
     {
@@ -95,8 +92,7 @@ impl Plan {
 
     /// The running time of message `n`.
     pub fn cost(&self, n: u32) -> u64
-        requires from { 1 ≤ n }
-        requires to { n ≤ length self.now.timings }
+        requires number { IsAmongFirst (length self.now.timings) n }
         ensures cost { result ≡ (timing_of self.now.timings n).cost }
         ensures small { result < 2 ^ 32 }
     {

@@ -1,6 +1,7 @@
 //! The plan that a text gives.
 
 ghost use Rattle.std.specs.Prelude.{◌≡◌, map, ◌^◌, ◌<◌, ◌≤◌, length, All, IfOk, IfSome, option_map};
+ghost use Rattle.waff_model.specs.Numbers.{IsAmongFirst};
 ghost use Rattle.waff_plan_text.specs.Rows.{IsWithinLimit};
 
 use crate::row::Row;
@@ -56,8 +57,7 @@ impl GivenPlan {
 
     /// What the row of message `n` says.
     pub fn row(&self, n: u32) -> &Row
-        requires from { 1 ≤ n }
-        requires to { n ≤ length self.now.rows }
+        requires number { IsAmongFirst (length self.now.rows) n }
         ensures row { result.now ≡ row_at self.now.rows n }
         ensures within { IsWithinLimit result.now }
     {
@@ -66,8 +66,7 @@ impl GivenPlan {
 
     /// The tick at which message `n` starts by its row.
     pub fn start(&self, n: u32) -> u64
-        requires from { 1 ≤ n }
-        requires to { n ≤ length self.now.rows }
+        requires number { IsAmongFirst (length self.now.rows) n }
         ensures { result ≡ (row_at self.now.rows n).start }
     {
         self.rows[n as usize - 1].start
@@ -75,8 +74,7 @@ impl GivenPlan {
 
     /// The tick at which message `n` has finished by its row.
     pub fn finish(&self, n: u32) -> u64
-        requires from { 1 ≤ n }
-        requires to { n ≤ length self.now.rows }
+        requires number { IsAmongFirst (length self.now.rows) n }
         ensures { result ≡ (row_at self.now.rows n).finish }
     {
         self.rows[n as usize - 1].finish
@@ -87,6 +85,7 @@ impl GivenPlan {
         requires rows { length self.now.rows ≡ length trace.now.messages }
         ensures timings { IfOk result (λ plan. plan.timings ≡ timings_of trace.now.messages) }
         ensures starts { IfOk result (λ plan. plan.starts ≡ map (λ row. row.start) self.now.rows) }
+        ensures given { IfOk result (λ _. IsGiven self.now) }
     {
         let starts = self.starts(alloc)?;
         Plan::of_starts(alloc, trace, starts.as_slice())

@@ -98,8 +98,8 @@ pub(crate) fn chain(
     messages: u32,
     row: &StringRecord,
 ) -> Result<Vec<u32>, Stop<Refusal>>
-    ensures value { Gives (λ chain.
-        chain.items) result (summaries.chain_line messages (fields_of row.now)) }
+    ensures value { Gives (λ chain. chain.items) result
+        (summaries.chain_line messages (fields_of row.now)) }
     ensures within { IfOk result (λ chain. IsListed messages chain.items) }
 {
     let text = match value("chain", row) {

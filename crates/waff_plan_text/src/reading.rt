@@ -11,7 +11,6 @@ use crate::given::GivenPlan;
 use crate::lines::begins_summary;
 use crate::records::next_record;
 use crate::refusal::PlanTextError;
-use crate::row::read_row;
 use crate::slots::Slots;
 use crate::summary::read_summary;
 use csv::{Reader, StringRecord};
@@ -84,8 +83,8 @@ fn read_rows(
 ) -> Result<GivenPlan, Stop<PlanTextError>>
     requires reads { Reads rdr.old }
     requires room { length (records_left rdr.old) + 16 < 2 ^ 64 }
-    ensures value { Gives (λ plan.
-        plan) result (texts.plan_of_rows version messages (records_left rdr.old)) }
+    ensures value { Gives (λ plan. plan) result
+        (texts.plan_of_rows version messages (records_left rdr.old)) }
     ensures version { IfOk result (λ plan. plan.version ≡ version) }
     ensures messages { IfOk result (λ plan. length plan.rows ≡ messages) }
 {
@@ -95,7 +94,7 @@ fn read_rows(
         if begins_summary(row) {
             return read_end(alloc, version, slots, at, rdr, row);
         }
-        match read_row(alloc, &slots, row) {
+        match slots.read_row(alloc, row) {
             Ok(given) => slots.put(given),
             Err(Stop::Memory) => return Err(Stop::Memory),
             Err(Stop::Fault(refusal)) => return Err(Stop::Fault(refusal.at_record(at))),

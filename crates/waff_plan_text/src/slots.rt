@@ -2,15 +2,19 @@
 
 ghost use Rattle.std.specs.Prelude.{◌≡◌, ◌-◌, ◌≤◌, None, Some, All, IfOk, IfSome, is_some, length};
 ghost use Rattle.std.specs.Prelude.{replicate, slice_set};
+ghost use Rattle.csv.specs.Records.{fields_of};
+ghost use Rattle.waff_model.specs.Numbers.{IsAmongFirst};
 ghost use Rattle.waff_parse.specs.Stopping.{Gives};
+ghost use Rattle.waff_plan_text.specs.Rows as rows;
 ghost use Rattle.waff_plan_text.specs.Rows.{IsWithinLimit, slot_of};
 ghost use Rattle.waff_plan_text.specs.PlanTexts.{rows_in};
 
-use crate::refusal::PlanTextError;
-use crate::row::{NumberedRow, Row};
+use crate::refusal::{PlanTextError, Refusal};
+use crate::row::{NumberedRow, Row, is_row, read_fields};
+use csv::StringRecord;
 use std::alloc::{AllocError, Global};
 use std::marker::Model;
-use waff_parse::Stop;
+use waff_parse::{Stop, five_fields, number_within};
 
 /// One place for each message, with its row if it had one.
 #[derive(Drop)]
@@ -52,17 +56,43 @@ impl Slots {
 
     /// Whether message `n`, from 1, had a row.
     pub(crate) fn has(&self, n: u32) -> bool
-        requires from { 1 ≤ n }
-        requires to { n ≤ length self.now }
+        requires number { IsAmongFirst (length self.now) n }
         ensures { result ≡ is_some (slot_of self.now n) }
     {
         self.places[n as usize - 1].is_some()
     }
 
+    /// The row of a record, for a message that had none.
+    #[tactic(auto, unfolding(crate::specs::Rows::numbered_row_of))]
+    pub(crate) fn read_row(
+        &self,
+        alloc: Global,
+        line: &StringRecord,
+    ) -> Result<NumberedRow, Stop<Refusal>>
+        ensures value { Gives (λ row. row) result (rows.row_of self.now (fields_of line.now)) }
+        ensures within { IfOk result (λ given. IsWithinLimit given.row) }
+        ensures number { IfOk result (λ given. IsAmongFirst (length self.now) given.message) }
+    {
+        let Some((message, affinity, start, finish, worker)) = five_fields(line) else {
+            return Err(Stop::Fault(Refusal::Row));
+        };
+        let message = match number_within(message, 1, u64::from(self.len())) {
+            Some(message) => message as u32,
+            None => return Err(Stop::Fault(Refusal::Row)),
+        };
+        if !is_row(affinity, start, finish, worker) {
+            return Err(Stop::Fault(Refusal::Row));
+        }
+        if self.has(message) {
+            return Err(Stop::Fault(Refusal::Twice));
+        }
+        let row = read_fields(alloc, affinity, start, finish, worker)?;
+        Ok(NumberedRow { message, row })
+    }
+
     /// Puts a row in the place of its message.
     pub(crate) fn put(&mut self, given: NumberedRow)
-        requires from { 1 ≤ given.message }
-        requires to { given.message ≤ length self.old }
+        requires number { IsAmongFirst (length self.old) given.message }
         requires within { IsWithinLimit given.row }
         ensures { self.new ≡ slice_set self.old (given.message - 1) (Some given.row) }
     {

@@ -47,8 +47,8 @@ fn read_tick(
     row: &mut StringRecord,
 ) -> Result<u64, Stop<PlanTextError>>
     requires { Reads rdr.old }
-    ensures value { Gives (λ n.
-        n) result (summaries.next_line (summaries.tick_line name.now) at (records_left rdr.old)) }
+    ensures value { Gives (λ n. n) result
+        (summaries.next_line (summaries.tick_line name.now) at (records_left rdr.old)) }
     ensures left { OnOk result (records_left rdr.new ≡ drop 1 (records_left rdr.old)) }
     ensures reads { OnOk result (Reads rdr.new) }
 {
@@ -89,8 +89,8 @@ fn read_bound(
     row: &mut StringRecord,
 ) -> Result<(u64, u64), Stop<PlanTextError>>
     requires { Reads rdr.old }
-    ensures value { Gives (λ n.
-        n) result (summaries.next_line summaries.bound_line at (records_left rdr.old)) }
+    ensures value { Gives (λ n. n) result
+        (summaries.next_line summaries.bound_line at (records_left rdr.old)) }
     ensures left { OnOk result (records_left rdr.new ≡ drop 1 (records_left rdr.old)) }
     ensures reads { OnOk result (Reads rdr.new) }
 {

@@ -14,8 +14,8 @@ cells_of_more before ops i op is =
     ∙ ap (λ list. before ++ cells_of list)
     (sym (take_more ops i op (slice_get_within ops i op is) ∙ ap (λ x. take i ops ++ x ∷ []) (get_or_from_slice_get ops i op op is)))
 
-pub loop-place-preserved : goal.loop-place-preserved
-loop-place-preserved c =
+pub loop-index-preserved : goal.loop-index-preserved
+loop-index-preserved c =
     c.in_ok-push_cells_of_op.ensures
-    ∙ ap (λ cells. cells ++ cells_of_op c.get.result) c.loop-place.invariant
-    ∙ cells_of_more c.args.cells.now.items c.args.ops.now c.loop-place.place c.get.result c.get.ensures
+    ∙ ap (λ cells. cells ++ cells_of_op c.get.result) c.loop-index.invariant
+    ∙ cells_of_more c.args.cells.now.items c.args.ops.now c.loop-index.index c.get.result c.get.ensures

@@ -8,9 +8,9 @@ use Rattle.waff_cells.proofs.Holdings.{parcel_address, hold_parcels}
 use Rattle.waff_cells.proofs.parcels.get.Goals as goal
 
 -- the address that is found for the cell
-address_is : (spaces : List Space) (cell : Cell) (place owner : ℕ) → owner ≡ owner_of spaces cell → place ≡ offset_of spaces cell
-    → lies_at spaces cell ≡ (owner, place)
-address_is spaces cell place owner is_owner is_place = ap₂ {C = Address} (λ i j. (i, j)) (sym is_owner) (sym is_place)
+address_is : (spaces : List Space) (cell : Cell) (offset owner : ℕ) → owner ≡ owner_of spaces cell → offset ≡ offset_of spaces cell
+    → lies_at spaces cell ≡ (owner, offset)
+address_is spaces cell offset owner is_owner is_offset = ap₂ {C = Address} (λ i j. (i, j)) (sym is_owner) (sym is_offset)
 
 pub number_at-requires : goal.number_at-requires
 number_at-requires c =
@@ -19,8 +19,8 @@ number_at-requires c =
     let cell = c.args.cell in
     let rows = rows_of c.args.parcels.now in
     let owned : IsOwned spaces owners cell = c.if-is_owned.ensures.0 refl in
-    let place = c.place-place in
-    let at = address_is spaces cell place.result.1 place.result.0.0 place.ensures.owner place.ensures.place in
+    let found = c.place-offset in
+    let at = address_is spaces cell found.result.1 found.result.0.0 found.ensures.owner found.ensures.place in
     subst (IsWithin (map length rows)) at (parcel_address spaces owners rows c.requires cell owned)
 
 pub returns-then-is_owned-clause-number : goal.returns-then-is_owned-clause-number
@@ -30,6 +30,6 @@ returns-then-is_owned-clause-number c = λ cells parcels.
     let cell = c.args.cell in
     let rows = rows_of c.args.parcels.now in
     let owned : IsOwned spaces owners cell = c.if-is_owned.ensures.0 refl in
-    let place = c.place-place in
-    let at = address_is spaces cell place.result.1 place.result.0.0 place.ensures.owner place.ensures.place in
+    let found = c.place-offset in
+    let at = address_is spaces cell found.result.1 found.result.0.0 found.ensures.owner found.ensures.place in
     c.number_at.ensures ∙ ap (number_at rows) (sym at) ∙ hold_parcels spaces owners cells rows parcels cell owned

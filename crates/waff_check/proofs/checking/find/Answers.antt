@@ -6,8 +6,8 @@ use Rattle.waff_check.specs.Verdicts.{Claim, before_of, name_in, told_finish, to
 use Rattle.waff_check.proofs.VerdictLaws.{all-linked-found, faultless, linked, no-pair, none-found, praised}
 use Rattle.waff_check.proofs.checking.find.Goals as goal
 
-pub returns-in-Some-early_start : goal.returns-in-Some-early_start
-returns-in-Some-early_start g c =
+pub returns-in-Some-early_start-clause-verdict : goal.returns-in-Some-early_start-clause-verdict
+returns-in-Some-early_start-clause-verdict g c =
     let claim : Claim = record { tree = c.args.tree.now; assigned = c.args.assigned.now; messages = c.args.trace.now.messages; plan = c.args.given.now } in
     let p = c.in_ok-plan.ensures in
     let work = work_of c.in_ok-plan.plan.timings in
@@ -23,8 +23,8 @@ returns-in-Some-early_start g c =
     (all-linked-found (before_of claim) c.chain.result.now _ c.in_default-broken_link.not-Some c.broken_link.ensures) in
     (good, rw (p.timings, p.starts) at c.in-Some-early_start.ensures)
 
-pub returns : goal.returns
-returns g c =
+pub returns-clause-verdict : goal.returns-clause-verdict
+returns-clause-verdict g c =
     let claim : Claim = record { tree = c.args.tree.now; assigned = c.args.assigned.now; messages = c.args.trace.now.messages; plan = c.args.given.now } in
     let p = c.in_ok-plan.ensures in
     let work = work_of c.in_ok-plan.plan.timings in

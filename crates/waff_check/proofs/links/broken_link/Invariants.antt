@@ -3,5 +3,5 @@ use Rattle.waff_assign.specs.Order.{IsOrdered}
 use Rattle.waff_check.proofs.LinkLaws.{LinkedBelow}
 use Rattle.waff_check.proofs.links.broken_link.Given as goal
 
-abbrev pub invariant-loop-place : goal.invariant-loop-place
-invariant-loop-place l = LinkedBelow (IsOrdered l.tree l.assigned) l.chain (l.place + 1)
+abbrev pub invariant-loop-index : goal.invariant-loop-index
+invariant-loop-index l = LinkedBelow (IsOrdered l.tree l.assigned) l.chain (l.index + 1)

@@ -16,8 +16,8 @@ position_first-requires-clause-items g c κs =
     (λ i low high. record { lengths = r.lengths; known = r.known; few = few; below = omega (arith, c.len.ensures.count) }) in
     rw (ends.0, ends.1) (λ crossing. inside)
 
-pub returns : goal.returns
-returns g c =
+pub returns-clause-first : goal.returns-clause-first
+returns-clause-first g c =
     let ends = c.into_par_iter.ensures in
     let done = c.position_first.ensures in
     let n = length c.args.assigned.now - c.args.from in

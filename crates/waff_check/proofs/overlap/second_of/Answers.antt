@@ -4,7 +4,7 @@ use Rattle.waff_check.proofs.FirstLaws.{below-more, least-first, none-of, refute
 use Rattle.waff_check.proofs.overlap.second_of.Goals as goal
 
 pub loop-j-init : goal.loop-j-init
-loop-j-init c = λ m lt h. let e = h.ordered.earlier in let f = c.requires.from in omega arith
+loop-j-init c = λ m lt h. let e = h.ordered.earlier in let f = c.requires.number.from in omega arith
 
 pub returns-then-overlaps : goal.returns-then-overlaps
 returns-then-overlaps c = least-first _ _ c.loop-j.invariant (c.if-overlaps.ensures.0 refl)

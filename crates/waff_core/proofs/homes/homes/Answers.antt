@@ -8,21 +8,13 @@ use Rattle.waff_core.proofs.Lending.{home_idle, home_runs, home_all, running_in,
 use Rattle.waff_core.proofs.homes.homes.Goals as goal
 use Rattle.waff_core.proofs.homes.homes.Goals.{in-Running, in-Free}
 
-pub owners-requires-clause-from : goal.owners-requires-clause-from
-owners-requires-clause-from c =
+pub owners-requires : goal.owners-requires
+owners-requires c =
     let phases = c.args.machine.now.phases.items in
     let within : c.loop-at.at < length phases = omega (arith, c.args.machine.now.phases.ok.0) in
     let at : slice_get phases c.loop-at.at ≡ Some (Running c.in-Running.m)
     = slice_get_read phases (length phases) c.loop-at.at c.index.result.now refl within c.index.ensures ∙ ap (λ p. Some p) c.in-Running.is in
-    (running_in c.args.job.now (core_in c.args.machine.now) c.requires.steady c.loop-at.at c.in-Running.m at).from
-
-pub owners-requires-clause-to : goal.owners-requires-clause-to
-owners-requires-clause-to c =
-    let phases = c.args.machine.now.phases.items in
-    let within : c.loop-at.at < length phases = omega (arith, c.args.machine.now.phases.ok.0) in
-    let at : slice_get phases c.loop-at.at ≡ Some (Running c.in-Running.m)
-    = slice_get_read phases (length phases) c.loop-at.at c.index.result.now refl within c.index.ensures ∙ ap (λ p. Some p) c.in-Running.is in
-    (running_in c.args.job.now (core_in c.args.machine.now) c.requires.steady c.loop-at.at c.in-Running.m at).to
+    record { number = running_in c.args.job.now (core_in c.args.machine.now) c.requires.steady c.loop-at.at c.in-Running.m at }
 
 pub loop-at-preserved : goal.loop-at-preserved
 loop-at-preserved c =

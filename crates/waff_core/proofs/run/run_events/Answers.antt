@@ -13,7 +13,7 @@ pub new-requires : goal.new-requires
 new-requires c =
     let actors : length c.run.new.machine.phases.items ≡ c.args.seats
     = seats_stay c.args.job.now c.args.seats c.args.events.now (core_in c.run.new.machine) c.in-Ok-run.ensures.accepted in
-    omega (arith, actors, c.requires.few)
+    omega (arith, actors, c.requires.seats.few)
 
 pub returns-in-Ok-homes-clause-settled : goal.returns-in-Ok-homes-clause-settled
 returns-in-Ok-homes-clause-settled c =

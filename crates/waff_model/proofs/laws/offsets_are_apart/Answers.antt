@@ -1,5 +1,5 @@
-use Rattle.waff_model.proofs.ParcelLemmas.{same_place}
+use Rattle.waff_model.proofs.ParcelLemmas.{same_offset}
 use Rattle.waff_model.proofs.laws.offsets_are_apart.Goals as goal
 
 pub returns : goal.returns
-returns c = λ spaces. same_place spaces
+returns c = λ spaces. same_offset spaces

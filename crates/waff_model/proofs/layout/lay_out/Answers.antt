@@ -1,6 +1,6 @@
 use Rattle.std.proofs.Common.{subst, arith}
 use Rattle.waff_model.specs.Tree.{IsTree}
-use Rattle.waff_model.specs.ParcelTable.{AreParcels}
+use Rattle.waff_model.specs.ParcelTable.{IsParcelTable}
 use Rattle.waff_model.proofs.LayoutLemmas.{is_layout}
 use Rattle.waff_model.proofs.ParcelTableLemmas.{owners_are_affinities, are_mapped}
 use Rattle.waff_model.proofs.layout.lay_out.Goals as goal
@@ -24,4 +24,4 @@ pub invariant_of-result : goal.invariant_of-result
 invariant_of-result c =
     let laid = is_layout c.args.kind c.args.tree c.args.spaces.now c.args.maps.now (subst IsTree c.tree.view_is c.tree.invariant.0) c.requires in
     let parcels = c.in_ok-parcels.parcels in
-    (rw c.in_ok-spaces.ensures laid, subst (λ spaces. AreParcels c.args.tree spaces parcels) c.deref.ensures.value c.in_ok-parcels.ensures)
+    (rw c.in_ok-spaces.ensures laid, subst (λ spaces. IsParcelTable c.args.tree spaces parcels) c.deref.ensures.value c.in_ok-parcels.ensures)

@@ -2,6 +2,6 @@ use Rattle.std.proofs.Common.{length, ap, arith}
 use Rattle.waff_model.proofs.ParcelLemmas.{length-owners_in}
 use Rattle.waff_model.proofs.parcels.parcels_of.Goals as goal
 
-pub places_of-requires-clause-few : goal.places_of-requires-clause-few
-places_of-requires-clause-few c =
+pub offsets_of-requires-clause-few : goal.offsets_of-requires-clause-few
+offsets_of-requires-clause-few c =
     omega (arith, ap length c.deref.ensures.value, ap length c.in_ok-owners.ensures, length-owners_in c.args.spaces.now, c.requires.few)

@@ -1,6 +1,6 @@
 use Rattle.std.proofs.Common.{◌≡◌, ◌+◌, ◌<◌, ◌≤◌, Bool, List, All, Some, None, find, not, length, slice_index_or, false, arith, sym, ap, ◌∙◌, subst}
 use Rattle.waff_order.specs.Needs.{needs_of}
-use Rattle.waff_core.specs.Job.{JobValue}
+use Rattle.waff_core.specs.Job.{JobValue, IsIn}
 use Rattle.waff_board.specs.Calls.{LooksOver}
 use Rattle.waff_board.specs.Seats.{has_seen}
 use Rattle.waff_board.specs.Tokens.{BoardValue, Token}
@@ -11,8 +11,8 @@ use Rattle.waff_board.proofs.board.Board.clear.Goals as goal
 pub look_over-hand-requires-clause-known : goal.look_over-hand-requires-clause-known
 look_over-hand-requires-clause-known c =
     let J = c.self.inside.setup.job in
-    subst (λ (b : BoardValue). All (λ n. (1 ≤ n) × (n ≤ length b.job.ops)) c.needs-needs.result.now) c.self.view_is
-    (subst (λ xs. All (λ n. (1 ≤ n) × (n ≤ length J.ops)) xs) (sym c.needs-needs.ensures.needs)
+    subst (λ (b : BoardValue). All (IsIn b.job) c.needs-needs.result.now) c.self.view_is
+    (subst (λ xs. All (IsIn J) xs) (sym c.needs-needs.ensures.needs)
     (needs_known J c.self.invariant.job c.drawn.inside.message c.drawn.inside.from))
 
 pub first_unseen-requires : goal.first_unseen-requires

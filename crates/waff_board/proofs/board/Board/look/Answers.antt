@@ -9,9 +9,9 @@ load-word-requires c =
     let board = c.self.inside in
     let chair = c.args.hand.chair in
     let words = board.words in
-    let to = c.requires.to in (
+    let to = c.requires.number.to in (
       c.requires.of.0 ∙ sym (ap (λ (b : BoardValue). b.table) c.self.view_is),
       omega (arith, words, to, ap (λ (b : BoardValue). length b.job.ops) c.self.view_is),
       looks_at (λ parcel. parcel.items) board.table.shared.key board.table.shared.table_id.slots chair.id c.args.n chair.me.0 chair.me.1
-          (subst (λ (job : JobValue). IsIn job c.args.n) (sym c.requires.of.1) (record { from = c.requires.from; to = to })),
+          (subst (λ (job : JobValue). IsIn job c.args.n) (sym c.requires.of.1) c.requires.number),
     )

@@ -18,7 +18,7 @@ loop-n-preserved c =
     let known = c.requires.known k 0 c.loop-n-test.true in
     let job = inv.2.1 in
     let few : n < length before.chair.me.0.job.ops + 1
-    = subst (λ j. n < length j.ops + 1) (sym job) (let to = known.1 in omega (arith, to)) in
+    = subst (λ j. n < length j.ops + 1) (sym job) (let to = known.to in omega (arith, to)) in
     let long : length before.seen.items ≡ length before.chair.me.0.job.ops + 1
     = (let ok = before.seen.ok in let count = before.count in omega (arith, ok, count)) in
     let tells : has_seen before.chair.me.0 n ≡ c.index.result.now

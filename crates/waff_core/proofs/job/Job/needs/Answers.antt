@@ -5,4 +5,4 @@ use Rattle.waff_core.proofs.job.Job.needs.Goals as goal
 
 pub returns-clause-earlier : goal.returns-clause-earlier
 returns-clause-earlier c =
-    needs_earlier c.args.self.now (subst IsJob c.self.view_is c.self.invariant) c.args.n c.requires.from c.of.result.now (search rules)
+    needs_earlier c.args.self.now (subst IsJob c.self.view_is c.self.invariant) c.args.n c.requires.number.from c.of.result.now (search rules)

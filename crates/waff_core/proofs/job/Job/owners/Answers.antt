@@ -5,4 +5,4 @@ use Rattle.waff_core.proofs.job.Job.owners.Goals as goal
 
 pub returns-clause-known : goal.returns-clause-known
 returns-clause-known c =
-    owners_known c.args.self.now (subst IsJob c.self.view_is c.self.invariant) c.args.n (record { from = c.requires.from; to = c.requires.to }) c.of.result.now (search rules)
+    owners_known c.args.self.now (subst IsJob c.self.view_is c.self.invariant) c.args.n c.requires.number c.of.result.now (search rules)

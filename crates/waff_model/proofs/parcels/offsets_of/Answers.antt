@@ -3,7 +3,7 @@ use Rattle.std.specs.List.{range_with_len}
 use Rattle.std.proofs.lemmas.List.FromFn.{map-range_with_len_more}
 use Rattle.waff_model.specs.ParcelTable.{offset_at}
 use Rattle.waff_model.proofs.ParcelTableLemmas.{counts_more, counts_all}
-use Rattle.waff_model.proofs.parcels.places_of.Goals as goal
+use Rattle.waff_model.proofs.parcels.offsets_of.Goals as goal
 
 pub loop-owner-preserved : goal.loop-owner-preserved
 loop-owner-preserved c =
@@ -15,8 +15,8 @@ loop-owner-preserved c =
     let inside : a < length counts = omega (arith, c.requires.owners k 0 within, c.loop-owner.auto.sizes) in
     let size : get_or counts a 0 ≡ offset_at owners k = c.loop-owner.invariant.counts a inside in
     record {
-      places = c.in_ok-push.ensures.items
-          ∙ ap (λ xs. xs ++ get_or counts a 0 ∷ []) c.loop-owner.invariant.places
+      offsets = c.in_ok-push.ensures.items
+          ∙ ap (λ xs. xs ++ get_or counts a 0 ∷ []) c.loop-owner.invariant.offsets
           ∙ ap (λ n. map (offset_at owners) (range_with_len 0 k) ++ n ∷ []) size
           ∙ sym (map-range_with_len_more (offset_at owners) 0 k k (omega arith));
       counts = counts_more owners counts k a within refl inside c.loop-owner.invariant.counts;

@@ -2,10 +2,10 @@ use Rattle.std.proofs.Common.{◌≡◌, ℕ, ◌<◌, length, map, take, slice_
 use Rattle.std.specs.List.{range_with_len}
 use Rattle.waff_model.specs.Parcel.{count_of}
 use Rattle.waff_model.specs.ParcelTable.{offset_at}
-use Rattle.waff_model.proofs.parcels.places_of.Given as goal
+use Rattle.waff_model.proofs.parcels.offsets_of.Given as goal
 
 abbrev pub invariant-loop-owner : goal.invariant-loop-owner
 invariant-loop-owner l = record {
-  places : l.places.items ≡ map (offset_at l.owners) (range_with_len 0 l.owner-index);
+  offsets : l.offsets.items ≡ map (offset_at l.owners) (range_with_len 0 l.owner-index);
   counts : (a : ℕ) → a < length l.sizes → slice_index l.sizes a ≡ count_of a (take l.owner-index l.owners);
 }
