@@ -7,8 +7,8 @@ ghost use Rattle.waff_model.specs.declared.cell.Cell.{Cell};
 ghost use Rattle.waff_cells.specs.Grid.{cells_in, HasSizes};
 ghost use Rattle.waff_cells.specs.Serial.{serial};
 ghost use Rattle.waff_board.specs.Endings.{SeesAll};
-ghost use Rattle.waff_board.specs.Rule.{MAX_SEATS};
 ghost use Rattle.waff_board.specs.Tokens.{IsOf};
+ghost use Rattle.waff_core.specs.Seats.{IsSeats};
 
 use crate::gate::Gate;
 use crate::work::work;
@@ -30,8 +30,7 @@ pub fn replay<R: Threads + Wait + Sync, G: Gate>(
     workers: u32,
     gate: &G,
 ) -> Result<State, AllocError>
-    requires some { 1 ≤ workers }
-    requires few { workers ≤ MAX_SEATS }
+    requires workers { IsSeats workers }
     ensures sizes { IfOk result (λ state. HasSizes state (sizes_of job.layout.spaces)) }
     ensures cells { IfOk result (λ state. (cell : Cell)
         → cells_in state cell ≡ serial job.ops (length job.ops) cell) }
