@@ -52,6 +52,7 @@ impl<'a> Case<'a> {
         self.given.workers().unwrap_or(0)
     }
 
+    /// The release of a message, 0 where there is no such message.
     pub(crate) fn release(&self, n: u32) -> u64 {
         match self.message(n) {
             Some(message) => u64::from(message.release),
@@ -59,6 +60,7 @@ impl<'a> Case<'a> {
         }
     }
 
+    /// The start that the row of a message tells, 0 where there is no such row.
     pub(crate) fn start(&self, n: u32) -> u64 {
         match self.row(n) {
             Some(row) => row.start,

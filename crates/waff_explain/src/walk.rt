@@ -18,6 +18,7 @@ pub(crate) struct Walk<'a> {
 }
 
 impl<'a> Walk<'a> {
+    /// A walk over the records of these bytes, in front of the first.
     pub(crate) fn new(alloc: Global, bytes: &'a [u8]) -> Self {
         Walk {
             bytes,
