@@ -5,7 +5,7 @@ use Rattle.waff_plan.specs.Work.{numbers}
 use Rattle.waff_draw.specs.Bars.{affinity_bar, bar_where, worker_bar}
 use Rattle.waff_draw.specs.Events.{affinity_event, event_in, worker_event}
 use Rattle.waff_draw.specs.Kinds.{bars_of, events_of, process_of, row_in, shown_row}
-use Rattle.waff_draw.specs.Scene.{Scene, is_shown, work_in}
+use Rattle.waff_draw.specs.Scene.{Scene, is_shown, work_of_scene}
 use Rattle.waff_draw.specs.declared.lanes.LaneKind.{LaneKind}
 use Rattle.waff_draw.specs.declared.lanes.LaneKind.TheVariants.{Affinity, Worker}
 
@@ -31,12 +31,12 @@ shown_piece piece false row none = none
 abbrev pub kind_bar : Scene → LaneKind → ℕ → List ℕ
 kind_bar scene kind n = bar_where scene n (shown_row scene kind n)
 
-pub kind_bars : (scene : Scene) (kind : LaneKind) → flat_map (kind_bar scene kind) (numbers (work_in scene)) ≡ bars_of scene kind
+pub kind_bars : (scene : Scene) (kind : LaneKind) → flat_map (kind_bar scene kind) (numbers (work_of_scene scene)) ≡ bars_of scene kind
 kind_bars scene Affinity =
-    pieces_kept (affinity_bar scene) (kind_bar scene Affinity) (is_shown scene) (numbers (work_in scene))
+    pieces_kept (affinity_bar scene) (kind_bar scene Affinity) (is_shown scene) (numbers (work_of_scene scene))
     (λ n. shown_piece (bar_where scene n) (is_shown scene n) (row_in scene Affinity n) refl)
 kind_bars scene Worker =
-    pieces_kept (worker_bar scene) (kind_bar scene Worker) (is_shown scene) (numbers (work_in scene))
+    pieces_kept (worker_bar scene) (kind_bar scene Worker) (is_shown scene) (numbers (work_of_scene scene))
     (λ n. shown_piece (bar_where scene n) (is_shown scene n) (row_in scene Worker n) refl)
 
 -- its event
@@ -47,10 +47,10 @@ process_event scene process n (Some row) = event_in scene process row n
 abbrev pub kind_event : Scene → LaneKind → ℕ → List ℕ
 kind_event scene kind n = process_event scene (process_of kind) n (shown_row scene kind n)
 
-pub kind_events : (scene : Scene) (kind : LaneKind) → flat_map (kind_event scene kind) (numbers (work_in scene)) ≡ events_of scene kind
+pub kind_events : (scene : Scene) (kind : LaneKind) → flat_map (kind_event scene kind) (numbers (work_of_scene scene)) ≡ events_of scene kind
 kind_events scene Affinity =
-    pieces_kept (affinity_event scene) (kind_event scene Affinity) (is_shown scene) (numbers (work_in scene))
+    pieces_kept (affinity_event scene) (kind_event scene Affinity) (is_shown scene) (numbers (work_of_scene scene))
     (λ n. shown_piece (process_event scene 1 n) (is_shown scene n) (row_in scene Affinity n) refl)
 kind_events scene Worker =
-    pieces_kept (worker_event scene) (kind_event scene Worker) (is_shown scene) (numbers (work_in scene))
+    pieces_kept (worker_event scene) (kind_event scene Worker) (is_shown scene) (numbers (work_of_scene scene))
     (λ n. shown_piece (process_event scene 2 n) (is_shown scene n) (row_in scene Worker n) refl)

@@ -6,7 +6,7 @@ use Rattle.waff_plan.proofs.Longest.{finish_of-le-length_of}
 use Rattle.waff_draw.specs.Axis.{first_step, multiple_from, round_numbers, step_of}
 use Rattle.waff_draw.specs.Laws.{HasLines, IsOneOf, ShowsAll, ShowsTicksInPart, whole_part}
 use Rattle.waff_draw.specs.Parts.{end_from}
-use Rattle.waff_draw.specs.Scene.{Scene, end_in, finish_in, from_in, length_in, span_in, start_in, work_in}
+use Rattle.waff_draw.specs.Scene.{Scene, end_in, finish_in, from_in, length_in, span_in, start_in, work_of_scene}
 
 -- the ticks from a start for a cost, and those from one tick up to another
 cut : (start cost from end t : ℕ)
@@ -15,7 +15,7 @@ cut : (start cost from end t : ℕ)
 cut start cost from end t = grind arith
 
 pub shows_ticks_in_part : (scene : Scene) → ShowsTicksInPart scene
-shows_ticks_in_part scene n t = cut (start_in scene n) ((work_in scene).cost n) (from_in scene) (end_in scene) t
+shows_ticks_in_part scene n t = cut (start_in scene n) ((work_of_scene scene).cost n) (from_in scene) (end_in scene) t
 
 uncut_start : (start from : ℕ) → from ≡ 0 → max start from ≡ start
 uncut_start start from none = omega (arith, none)
@@ -28,10 +28,10 @@ whole_shows_all scene whole n number =
     let none : from_in scene ≡ 0 = ap (λ part. part.from) whole in
     let ends : end_in scene ≡ max (length_in scene) 1
     = ap (λ part. end_from (length_in scene) part.from part.to) whole in
-    let finished : finish_in scene n ≤ length_in scene = finish_of-le-length_of (work_in scene) (start_in scene) n number in
-    let within : start_in scene n + (work_in scene).cost n ≤ end_in scene = omega (arith, ends, finished) in (
+    let finished : finish_in scene n ≤ length_in scene = finish_of-le-length_of (work_of_scene scene) (start_in scene) n number in
+    let within : start_in scene n + (work_of_scene scene).cost n ≤ end_in scene = omega (arith, ends, finished) in (
       uncut_start (start_in scene n) (from_in scene) none,
-      uncut_ticks (start_in scene n) ((work_in scene).cost n) (from_in scene) (end_in scene) none within,
+      uncut_ticks (start_in scene n) ((work_of_scene scene).cost n) (from_in scene) (end_in scene) none within,
     )
 
 -- ten steps reach the length

@@ -3,16 +3,16 @@ use Rattle.std.specs.Prelude.{◌≡◌, ℕ, ◌^◌, ◌<◌, ◌≤◌, All, 
 use Rattle.std.specs.Prelude.{slice_index, slice_index_or}
 use Rattle.waff_plan.specs.Timetable.{Timetable, timings_of}
 use Rattle.waff_draw.specs.Lanes.{is_among, row_of}
-use Rattle.waff_draw.specs.Scene.{Scene, end_in, from_in, lanes_in, length_in, work_in}
+use Rattle.waff_draw.specs.Scene.{Scene, end_in, from_in, lanes_in, length_in, work_of_scene}
 use Rattle.waff_draw.specs.declared.lanes.Lane.{Lane}
 
 -- each message has its affinity and its row; the lanes, the plan, its length and where the part of
 -- it ends are those of the scene, with the row of each affinity and which numbers are on the chain
 pub record IsChart (scene : Scene) (lanes : List Lane) (plan : Timetable) (ticks end : ℕ)
     (rows : List ℕ) (links : List Bool) : Type 0 where
-  pub messages : length scene.messages ≡ (work_in scene).count
-  pub assigned : length scene.assigned ≡ (work_in scene).count
-  pub given : length scene.plan.rows ≡ (work_in scene).count
+  pub messages : length scene.messages ≡ (work_of_scene scene).count
+  pub assigned : length scene.assigned ≡ (work_of_scene scene).count
+  pub given : length scene.plan.rows ≡ (work_of_scene scene).count
   pub known : All (λ a. a < length scene.tree) scene.assigned
   pub shown : lanes ≡ lanes_in scene
   pub shown_known : All (λ lane. lane.affinity < length scene.tree) lanes
@@ -26,6 +26,6 @@ pub record IsChart (scene : Scene) (lanes : List Lane) (plan : Timetable) (ticks
   pub row_count : length rows ≡ length scene.tree
   pub each_row : (a : ℕ) → a < length scene.tree
       → slice_index rows a ≡ row_of (lanes_in scene) a
-  pub link_count : (work_in scene).count < length links
+  pub link_count : (work_of_scene scene).count < length links
   pub each_link : (n : ℕ) → n < length links
       → slice_index_or links n false ≡ is_among scene.plan.summary.chain n

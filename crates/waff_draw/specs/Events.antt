@@ -12,7 +12,7 @@ use Rattle.waff_draw.specs.Bars.{worker_row}
 use Rattle.waff_draw.specs.Lanes.{is_among, lane_of, row_of}
 use Rattle.waff_draw.specs.Pieces.{joined, worker_name}
 use Rattle.waff_draw.specs.Scene.{Scene, affinity_in, lanes_in, name_in, shown_in, shown_start}
-use Rattle.waff_draw.specs.Scene.{shown_ticks, work_in, workers_in}
+use Rattle.waff_draw.specs.Scene.{shown_ticks, work_of_scene, workers_in}
 use Rattle.waff_draw.specs.declared.events.Event.{Event}
 use Rattle.waff_draw.specs.declared.lanes.Lane.{Lane}
 
@@ -127,7 +127,7 @@ event_at scene process row n = record {
   thread = row + 1;
   start = shown_start scene n;
   ticks = shown_ticks scene n;
-  release = (work_in scene).release n;
+  release = (work_of_scene scene).release n;
   is_link = is_among scene.plan.summary.chain n;
 }
 

@@ -7,7 +7,7 @@ use Rattle.waff_plan.specs.Work.{IsNumber}
 use Rattle.waff_draw.specs.Axis.{step_of}
 use Rattle.waff_draw.specs.Lanes.{is_among, lane_of, lanes_of, row_of}
 use Rattle.waff_draw.specs.Scene.{Scene, end_in, from_in, shown_start, shown_ticks, span_in}
-use Rattle.waff_draw.specs.Scene.{start_in, work_in}
+use Rattle.waff_draw.specs.Scene.{start_in, work_of_scene}
 use Rattle.waff_draw.specs.Svg.{line_in}
 use Rattle.waff_draw.specs.declared.lanes.Lane.{Lane}
 use Rattle.waff_draw.specs.declared.parts.Part.{Part}
@@ -54,7 +54,7 @@ IsOneOf first count t = (first ≤ t) × (t < first + count)
 abbrev pub ShowsTicksInPart : Scene → Type 0
 ShowsTicksInPart scene =
     (n t : ℕ) → IsOneOf (shown_start scene n) (shown_ticks scene n) t
-    ↔ (IsOneOf (start_in scene n) ((work_in scene).cost n) t
+    ↔ (IsOneOf (start_in scene n) ((work_of_scene scene).cost n) t
     × IsOneOf (from_in scene) (span_in scene) t)
 
 -- the part that is the whole plan
@@ -64,8 +64,9 @@ whole_part = record { from = 0; to = None }
 -- each message is shown whole
 abbrev pub ShowsAll : Scene → Type 0
 ShowsAll scene =
-    (n : ℕ) → IsNumber (work_in scene) n
-    → (shown_start scene n ≡ start_in scene n) × (shown_ticks scene n ≡ (work_in scene).cost n)
+    (n : ℕ) → IsNumber (work_of_scene scene) n
+    → (shown_start scene n ≡ start_in scene n)
+    × (shown_ticks scene n ≡ (work_of_scene scene).cost n)
 
 -- the axis has a line at each multiple of its step that is in the part or at its end
 abbrev pub HasLines : Scene → Type 0

@@ -6,8 +6,8 @@ use Rattle.std.specs.List.{filter}
 use Rattle.waff_model.specs.Tree.{Node, name_of}
 use Rattle.waff_model.specs.declared.message.Message.{Message}
 use Rattle.waff_assign.specs.Order.{affinity_of}
-use Rattle.waff_plan.specs.Timetable.{timings_of}
-use Rattle.waff_plan.specs.Timing.{start_of, work_of}
+use Rattle.waff_plan.specs.Timetable.{work_of_messages}
+use Rattle.waff_plan.specs.Timing.{start_of}
 use Rattle.waff_plan.specs.Work.{Work, finish_of, length_of, numbers}
 use Rattle.waff_plan_text.specs.Given.{Given}
 use Rattle.waff_draw.specs.Lanes.{lanes_of}
@@ -27,17 +27,17 @@ scene_of tree assigned messages plan part =
     record { tree = tree; assigned = assigned; messages = messages; plan = plan; part = part }
 
 -- the work, the starts, the finishes and the length of the plan
-abbrev pub work_in : Scene → Work
-work_in scene = work_of (timings_of scene.messages)
+abbrev pub work_of_scene : Scene → Work
+work_of_scene scene = work_of_messages scene.messages
 
 abbrev pub start_in : Scene → ℕ → ℕ
 start_in scene = start_of (map (λ row. row.start) scene.plan.rows)
 
 abbrev pub finish_in : Scene → ℕ → ℕ
-finish_in scene = finish_of (work_in scene) (start_in scene)
+finish_in scene = finish_of (work_of_scene scene) (start_in scene)
 
 abbrev pub length_in : Scene → ℕ
-length_in scene = length_of (work_in scene) (start_in scene)
+length_in scene = length_of (work_of_scene scene) (start_in scene)
 
 -- where the part begins and ends that is shown, and how many ticks it has
 abbrev pub from_in : Scene → ℕ
@@ -61,7 +61,7 @@ abbrev pub is_shown : Scene → ℕ → Bool
 is_shown scene n = nat_lt 0 (shown_ticks scene n)
 
 abbrev pub shown_in : Scene → List ℕ
-shown_in scene = filter (is_shown scene) (numbers (work_in scene))
+shown_in scene = filter (is_shown scene) (numbers (work_of_scene scene))
 
 -- the lanes of affinities; below them a plan for k workers has k more
 abbrev pub lanes_in : Scene → List Lane

@@ -12,7 +12,7 @@ use Rattle.waff_draw.specs.Pieces.{document_end, grid_line, heading_end, heading
 use Rattle.waff_draw.specs.Pieces.{lane_start, legend_text, plan_start, style_text, tick_label}
 use Rattle.waff_draw.specs.Pieces.{top_start, worker_name}
 use Rattle.waff_draw.specs.Scene.{Scene, end_in, from_in, lanes_in, length_in, rows_in, span_in}
-use Rattle.waff_draw.specs.Scene.{work_in, workers_in}
+use Rattle.waff_draw.specs.Scene.{work_of_scene, workers_in}
 use Rattle.waff_draw.specs.Xml.{xml_text}
 use Rattle.waff_draw.specs.declared.lanes.Lane.{Lane}
 
@@ -69,7 +69,7 @@ plan_text rows span = plan_start (rows * 20) span (rows * 10)
 abbrev pub ground_text : Scene → List ℕ
 ground_text scene =
     top_text (rows_in scene)
-    ++ heading_text (length_in scene) (total_of (work_in scene)) scene.plan.summary.workers
+    ++ heading_text (length_in scene) (total_of (work_of_scene scene)) scene.plan.summary.workers
     ++ flat_map (affinity_lane scene.tree (lanes_in scene))
     (range_with_len 0 (length (lanes_in scene)))
     ++ flat_map (worker_lane (length (lanes_in scene))) (range_with_len 1 (workers_in scene))

@@ -4,7 +4,7 @@ ghost use Rattle.std.specs.Prelude.{◌≡◌, ◌≤◌, ◌++◌, OnOk, string
 ghost use Rattle.waff_plan.specs.Work.{IsNumber};
 ghost use Rattle.waff_draw.specs.Bars.{bar_at, bar_in, is_narrow, margin_of, mark_of};
 ghost use Rattle.waff_draw.specs.Kinds.{bars_of};
-ghost use Rattle.waff_draw.specs.Scene.{work_in};
+ghost use Rattle.waff_draw.specs.Scene.{work_of_scene};
 
 use crate::chart::Chart;
 use crate::lanes::LaneKind;
@@ -46,7 +46,7 @@ pub(crate) fn push_bars(
 
 /// Appends the bar of message `n` in this row.
 fn push_bar(text: &mut String, chart: &Chart<'_>, row: u64, n: u32) -> Result<(), AllocError>
-    requires { IsNumber (work_in chart.now) n }
+    requires { IsNumber (work_of_scene chart.now) n }
     ensures { OnOk result (string_bytes text.new ≡ string_bytes text.old
         ++ bar_in chart.now row n) }
 {
@@ -64,7 +64,7 @@ fn push_bar(text: &mut String, chart: &Chart<'_>, row: u64, n: u32) -> Result<()
 
 /// The bar of message `n` in this row.
 fn bar_of(chart: &Chart<'_>, row: u64, n: u32) -> Bar
-    requires { IsNumber (work_in chart.now) n }
+    requires { IsNumber (work_of_scene chart.now) n }
     ensures { result ≡ bar_at chart.now row n }
 {
     let width = chart.shown_ticks(n);

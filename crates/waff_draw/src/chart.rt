@@ -13,7 +13,7 @@ ghost use Rattle.waff_draw.specs.Lanes.{is_among, lane_of, row_of};
 ghost use Rattle.waff_draw.specs.Parts.{IsPart};
 ghost use Rattle.waff_draw.specs.Scene.{affinity_in, end_in, finish_in, from_in, is_shown};
 ghost use Rattle.waff_draw.specs.Scene.{lanes_in, length_in, name_in, rows_in, scene_of};
-ghost use Rattle.waff_draw.specs.Scene.{shown_start, shown_ticks, span_in, start_in, work_in};
+ghost use Rattle.waff_draw.specs.Scene.{shown_start, shown_ticks, span_in, start_in, work_of_scene};
 ghost use Rattle.waff_draw.specs.Scene.{workers_in};
 ghost use Rattle.waff_draw.specs.Svg.{line_in};
 
@@ -101,7 +101,7 @@ impl<'a> Chart<'a> {
 
     /// How many messages there are.
     pub(crate) fn len(&self) -> u32
-        ensures count { result ≡ (work_in self.now).count }
+        ensures count { result ≡ (work_of_scene self.now).count }
         ensures few { result ≤ MAX_MESSAGES }
     {
         self.plan.len()
@@ -109,7 +109,7 @@ impl<'a> Chart<'a> {
 
     /// The name of message `n`.
     pub(crate) fn name(&self, n: u32) -> &str
-        requires { IsNumber (work_in self.now) n }
+        requires { IsNumber (work_of_scene self.now) n }
         ensures { result.now ≡ name_in self.now n }
     {
         let trace = self.trace;
@@ -118,7 +118,7 @@ impl<'a> Chart<'a> {
 
     /// The name of its affinity.
     pub(crate) fn affinity_name(&self, n: u32) -> &str
-        requires { IsNumber (work_in self.now) n }
+        requires { IsNumber (work_of_scene self.now) n }
         ensures { result.now ≡ affinity_in self.now n }
     {
         let tree = self.tree;
@@ -128,7 +128,7 @@ impl<'a> Chart<'a> {
 
     /// The tick at which it starts.
     pub(crate) fn start(&self, n: u32) -> u64
-        requires { IsNumber (work_in self.now) n }
+        requires { IsNumber (work_of_scene self.now) n }
         ensures { result ≡ start_in self.now n }
     {
         self.plan.start(n)
@@ -136,7 +136,7 @@ impl<'a> Chart<'a> {
 
     /// The tick at which it has finished.
     pub(crate) fn finish(&self, n: u32) -> u64
-        requires { IsNumber (work_in self.now) n }
+        requires { IsNumber (work_of_scene self.now) n }
         ensures { result ≡ finish_in self.now n }
     {
         self.plan.finish(n)
@@ -144,15 +144,15 @@ impl<'a> Chart<'a> {
 
     /// The tick before which it may not start.
     pub(crate) fn release(&self, n: u32) -> u64
-        requires { IsNumber (work_in self.now) n }
-        ensures { result ≡ (work_in self.now).release n }
+        requires { IsNumber (work_of_scene self.now) n }
+        ensures { result ≡ (work_of_scene self.now).release n }
     {
         self.plan.release(n)
     }
 
     /// Whether it is on the chain of the plan.
     pub(crate) fn is_link(&self, n: u32) -> bool
-        requires { IsNumber (work_in self.now) n }
+        requires { IsNumber (work_of_scene self.now) n }
         ensures { result ≡ is_among self.now.plan.summary.chain n }
     {
         self.links[n as usize]
@@ -160,7 +160,7 @@ impl<'a> Chart<'a> {
 
     /// The tick from which it is shown.
     pub(crate) fn shown_start(&self, n: u32) -> u64
-        requires { IsNumber (work_in self.now) n }
+        requires { IsNumber (work_of_scene self.now) n }
         ensures start { result ≡ shown_start self.now n }
         ensures from { from_in self.now ≤ result }
     {
@@ -169,7 +169,7 @@ impl<'a> Chart<'a> {
 
     /// How many of its ticks are shown.
     pub(crate) fn shown_ticks(&self, n: u32) -> u64
-        requires { IsNumber (work_in self.now) n }
+        requires { IsNumber (work_of_scene self.now) n }
         ensures { result ≡ shown_ticks self.now n }
     {
         let finish = self.finish(n);
@@ -183,7 +183,7 @@ impl<'a> Chart<'a> {
 
     /// Its row among the lanes of this kind, if it is shown and has one there.
     pub(crate) fn shown_row(&self, kind: LaneKind, n: u32) -> Option<u64>
-        requires { IsNumber (work_in self.now) n }
+        requires { IsNumber (work_of_scene self.now) n }
         ensures { result ≡ shown_row self.now kind n }
     {
         if self.shown_ticks(n) > 0 {
@@ -195,7 +195,7 @@ impl<'a> Chart<'a> {
 
     /// Its row among the lanes of this kind, if it has one there.
     fn row(&self, kind: LaneKind, n: u32) -> Option<u64>
-        requires { IsNumber (work_in self.now) n }
+        requires { IsNumber (work_of_scene self.now) n }
         ensures { result ≡ row_in self.now kind n }
     {
         match kind {
@@ -206,7 +206,7 @@ impl<'a> Chart<'a> {
 
     /// The row of its affinity.
     fn affinity_row(&self, n: u32) -> u64
-        requires { IsNumber (work_in self.now) n }
+        requires { IsNumber (work_of_scene self.now) n }
         ensures { result ≡ row_of (lanes_in self.now) (affinity_of self.now.assigned n) }
     {
         let assigned = self.assigned;
@@ -216,7 +216,7 @@ impl<'a> Chart<'a> {
 
     /// The row of its worker, if it has one of the plan's.
     fn worker_row(&self, n: u32) -> Option<u64>
-        requires { IsNumber (work_in self.now) n }
+        requires { IsNumber (work_of_scene self.now) n }
         ensures { result ≡ worker_row (length (lanes_in self.now)) (workers_in self.now)
             (row_at self.now.plan.rows n).worker }
     {
@@ -294,7 +294,7 @@ impl<'a> Chart<'a> {
 
     /// The sum of all running times.
     pub(crate) fn total(&self) -> u64
-        ensures { result ≡ total_of (work_in self.now) }
+        ensures { result ≡ total_of (work_of_scene self.now) }
     {
         self.plan.total()
     }

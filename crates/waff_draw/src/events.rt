@@ -10,7 +10,7 @@ ghost use Rattle.waff_draw.specs.Events.{thread_name, thread_place, thread_text,
 ghost use Rattle.waff_draw.specs.Events.{worker_thread, worker_threads, workers_start};
 ghost use Rattle.waff_draw.specs.Kinds.{events_of, process_of};
 ghost use Rattle.waff_draw.specs.Parts.{IsPart};
-ghost use Rattle.waff_draw.specs.Scene.{lanes_in, scene_of, work_in};
+ghost use Rattle.waff_draw.specs.Scene.{lanes_in, scene_of, work_of_scene};
 
 use crate::chart::Chart;
 use crate::lanes::LaneKind;
@@ -243,7 +243,7 @@ fn process_of(kind: LaneKind) -> u32
 
 /// The event of message `n` in this row of a process.
 fn event_of(chart: &Chart<'_>, process: u32, row: u64, n: u32) -> Event
-    requires { IsNumber (work_in chart.now) n }
+    requires { IsNumber (work_of_scene chart.now) n }
     ensures { result ≡ event_at chart.now process row n }
 {
     Event {

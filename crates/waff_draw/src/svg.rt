@@ -6,7 +6,7 @@ ghost use Rattle.waff_plan.specs.Work.{total_of};
 ghost use Rattle.waff_plan_text.specs.Spelling.{worker_field};
 ghost use Rattle.waff_draw.specs.Parts.{IsPart};
 ghost use Rattle.waff_draw.specs.Scene.{end_in, from_in, lanes_in, length_in, rows_in, scene_of};
-ghost use Rattle.waff_draw.specs.Scene.{span_in, work_in, workers_in};
+ghost use Rattle.waff_draw.specs.Scene.{span_in, work_of_scene, workers_in};
 ghost use Rattle.waff_draw.specs.Svg.{affinity_lane, each_line, grid_text, ground_text};
 ghost use Rattle.waff_draw.specs.Svg.{heading_text, plan_text, svg_text, tick_text, top_text};
 ghost use Rattle.waff_draw.specs.Svg.{upto, worker_lane};
@@ -87,7 +87,7 @@ fn push_top(text: &mut String, chart: &Chart<'_>) -> Result<(), AllocError>
 /// Appends what is told of the plan.
 fn push_heading(text: &mut String, chart: &Chart<'_>) -> Result<(), AllocError>
     ensures { OnOk result (string_bytes text.new ≡ string_bytes text.old
-        ++ heading_text (length_in chart.now) (total_of (work_in chart.now))
+        ++ heading_text (length_in chart.now) (total_of (work_of_scene chart.now))
         chart.now.plan.summary.workers) }
 {
     let length = chart.length();

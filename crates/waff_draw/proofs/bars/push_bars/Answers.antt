@@ -2,7 +2,7 @@ use Rattle.std.proofs.Common.{◌≡◌, ◌-◌, ◌++◌, flat_map, string_byt
 use Rattle.std.specs.List.{range_with_len}
 use Rattle.waff_draw.specs.Bars.{bar_where}
 use Rattle.waff_draw.specs.Kinds.{shown_row}
-use Rattle.waff_draw.specs.Scene.{work_in}
+use Rattle.waff_draw.specs.Scene.{work_of_scene}
 use Rattle.waff_draw.proofs.KindLemmas.{kind_bar, kind_bars}
 use Rattle.waff_draw.proofs.TextLemmas.{append_none, more_numbers}
 use Rattle.waff_draw.proofs.bars.push_bars.Goals as goal
@@ -30,7 +30,7 @@ pub returns : goal.returns
 returns c =
     let scene = c.args.chart.now in
     let before = string_bytes c.args.text.now in
-    let all : c.loop-n.n - 1 ≡ (work_in scene).count
+    let all : c.loop-n.n - 1 ≡ (work_of_scene scene).count
     = omega (arith, c.loop-n-test.false, c.loop-n.auto.n-end, c.len-n-end.ensures.count) in
     c.loop-n.invariant ∙ ap (λ k. before ++ flat_map (kind_bar scene c.args.kind) (range_with_len 1 k)) all
     ∙ ap (λ text. before ++ text) (kind_bars scene c.args.kind)

@@ -2,7 +2,7 @@ use Rattle.std.proofs.Common.{◌++◌, flat_map, length, string_bytes}
 use Rattle.std.specs.List.{range_with_len}
 use Rattle.std.proofs.lemmas.Result.{on_ok_weaker}
 use Rattle.waff_plan.specs.Work.{total_of}
-use Rattle.waff_draw.specs.Scene.{lanes_in, length_in, rows_in, span_in, work_in, workers_in}
+use Rattle.waff_draw.specs.Scene.{lanes_in, length_in, rows_in, span_in, work_of_scene, workers_in}
 use Rattle.waff_draw.specs.Svg.{affinity_lane, each_line, grid_text, heading_text, plan_text, tick_text, top_text, worker_lane}
 use Rattle.waff_draw.proofs.TextLemmas.{behind}
 use Rattle.waff_draw.proofs.svg.push_ground.Goals as goal
@@ -14,7 +14,7 @@ returns c = on_ok_weaker c.push_grid.result
     let before = string_bytes c.args.text.now in
     let first = length (lanes_in scene) in
     let x1 = top_text (rows_in scene) in
-    let x2 = heading_text (length_in scene) (total_of (work_in scene)) scene.plan.summary.workers in
+    let x2 = heading_text (length_in scene) (total_of (work_of_scene scene)) scene.plan.summary.workers in
     let x3 = flat_map (affinity_lane scene.tree (lanes_in scene)) (range_with_len 0 first) in
     let x4 = flat_map (worker_lane first) (range_with_len 1 (workers_in scene)) in
     let x5 = each_line scene (tick_text scene) in
