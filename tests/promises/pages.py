@@ -7,6 +7,7 @@
   first words of each line of a block marked `tree` are functions or types.
 - docs/proof.md names nothing that the sources do not have, and each crate of the kit that they stand on.
 - docs/testing.md names each script, docs/architecture.md each crate with what its first lines say and what it stands on.
+- Each entry of docs/DECISIONS.md has its reason, and what it was chosen over.
 - README.md has the line of the kit that `dist/waff` was proved with.
 """
 import os
@@ -152,6 +153,12 @@ class Reader:
         for line in HEADER + crate_rows():
             self.tell(line in shown, page.name, f"no line {line[:60]}.. (tests/promises/run write)")
 
+    def read_decisions(self, page):
+        entries = re.split(r"^### ", page.path.read_text(), flags=re.M)[1:]
+        for entry in entries:
+            for word in ("*Because*", "*Instead of*"):
+                self.tell(word in " ".join(entry.split()), page.name, f"no {word}: {entry.splitlines()[0]}")
+
     def read_kit(self):
         kit = (ROOT / "dist" / "waff.sums").read_text().splitlines()[0]
         self.tell(kit in (ROOT / "README.md").read_text(), "README.md", f"no line of the kit: {kit}")
@@ -227,5 +234,6 @@ def read(crates):
     reader.read_proof(pages["docs/proof.md"])
     reader.read_scripts(pages["docs/testing.md"])
     reader.read_crates(pages["docs/architecture.md"])
+    reader.read_decisions(pages["docs/DECISIONS.md"])
     reader.read_kit()
     return reader.passed, reader.missing
