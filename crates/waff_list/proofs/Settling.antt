@@ -1,10 +1,10 @@
 -- A list plan while it is made: the steps from message to message and from tick to tick.
-use Rattle.std.proofs.Common.{◌≡◌, ℕ, zero, suc, ◌+◌, ◌<◌, ◌≤◌, ◌⊎◌, inl, inr, false, arith, refl, sym, ◌∙◌, subst, ⊎_elim}
+use Rattle.std.proofs.Common.{◌≡◌, ◌≢◌, ℕ, zero, suc, ◌+◌, ◌<◌, ◌≤◌, ◌⊎◌, inl, inr, false, arith, refl, sym, ◌∙◌, subst, ⊎_elim}
 use Rattle.std.proofs.lemmas.Bool.{cases_lt}
 use Rattle.waff_plan.specs.Work.{Work, IsNumber, finish_of}
 use Rattle.waff_plan.specs.Obeys.{IsForward}
 use Rattle.waff_plan.specs.Workers.{runs_at, running}
-use Rattle.waff_list.specs.ListRule.{IsReady, IsListPlan}
+use Rattle.waff_list.specs.ListRule.{IsReady, IsListPlan, arrival}
 use Rattle.waff_list.specs.Progress.{IsPassed, IsSettled}
 use Rattle.waff_list.specs.declared.progress.TheConstants.{NEVER}
 use Rattle.waff_list.proofs.Running.{AreSeatedAt, runs_parts, runs_before_start, runs_after_finish, runs_from, running_same, running_none, running_within}
@@ -172,7 +172,7 @@ module _ (before : ℕ → ℕ → Type 0) (work : Work) (k : ℕ) (forward : Is
 
   -- the plan in which all messages are placed is a list plan
   pub settled_plan : (start worker : ℕ → ℕ) (now : ℕ) → ((m : ℕ) → IsNumber work m → start m ≤ now)
-      → IsSettled before work k start worker now (work.count + 1) → IsListPlan before work k start
+      → IsSettled before work k start worker now (work.count + 1) → IsListPlan before arrival work k start
   settled_plan start worker now all h = record {
     within = record {
       obeys = record {
@@ -186,7 +186,10 @@ module _ (before : ℕ → ℕ → Type 0) (work : Work) (k : ℕ) (forward : Is
     };
     follows = record {
       busy = λ t m ready waits. h.busy t m (passed t m ready waits) ready waits;
-      in_turn = λ t m later ready waits less to. h.in_turn t m later (passed t m ready waits) ready waits less to;
+      in_turn = λ t m later ready waits number first. ⊎_elim {C = start later ≢ t}
+          (λ (higher : 0 < 0). absurd (omega arith))
+          (λ (behind : (0 ≡ 0) × (m < later)). h.in_turn t m later (passed t m ready waits) ready waits behind.1 number.to)
+          first;
     };
   }
     where

@@ -6,3 +6,5 @@ pub mod Seating
 pub mod Waiting
 pub mod Planning
 pub mod Unique
+pub mod Tails
+pub mod Rules

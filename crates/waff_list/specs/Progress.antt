@@ -7,7 +7,7 @@ use Rattle.waff_plan.specs.Workers.{running}
 use Rattle.waff_plan.specs.Timing.{start_of, work_of}
 use Rattle.waff_plan.specs.Timetable.{timings_of}
 use Rattle.waff_model.specs.declared.message.Message.{Message}
-use Rattle.waff_list.specs.ListRule.{IsReady, IsListPlan}
+use Rattle.waff_list.specs.ListRule.{IsReady, IsListPlan, arrival}
 use Rattle.waff_list.specs.Seats.{ComesBefore, IsSeated, IsInOrder}
 use Rattle.waff_model.specs.declared.limits.TheConstants.{MAX_TICK}
 use Rattle.waff_list.specs.declared.progress.TheConstants.{NEVER}
@@ -86,7 +86,7 @@ pub record IsMade (before : ℕ → ℕ
   pub starts_count : length starts ≡ work.count
   pub seats_count : length seats ≡ work.count
   pub printable : All (λ start. start ≤ MAX_TICK) starts
-  pub plan : IsListPlan before work k (start_of starts)
+  pub plan : IsListPlan before arrival work k (start_of starts)
   pub seated : (m : ℕ) → IsNumber work m → IsSeated work (start_of starts) (start_of seats) m
   pub known : All (λ w. (1 ≤ w) × (w ≤ k)) seats
   pub listed : IsInOrder work (start_of starts) order

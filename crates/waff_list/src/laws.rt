@@ -1,4 +1,5 @@
-//! What holds of the plans that follow the list rule, whoever made them. Each law is a function
+//! What holds of the plans that follow the list rule, whoever made them, and whatever the priority
+//! of the messages. Each law is a function
 //! that does nothing and whose contract is the law, for the ordered pairs of a tree of affinities
 //! and the affinities assigned to the messages.
 
@@ -21,7 +22,7 @@ pub fn list_plans_are_within_bound()
 /// pairs.
 pub fn needs_make_the_same_plans()
     ensures { (tree : List Node) (assigned : List ℕ)
-        (needs : List (List ℕ)) (work : Work) (k : ℕ) (start : ℕ → ℕ)
-        → AreNeeds tree assigned needs → IsListPlan (Path (IsNeed needs)) work k start
-        → IsListPlan (IsOrdered tree assigned) work k start }
+        (needs : List (List ℕ)) (work : Work) (priority : ℕ → ℕ) (k : ℕ) (start : ℕ → ℕ)
+        → AreNeeds tree assigned needs → IsListPlan (Path (IsNeed needs)) priority work k start
+        → IsListPlan (IsOrdered tree assigned) priority work k start }
 {}

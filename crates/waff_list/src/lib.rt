@@ -21,6 +21,7 @@ mod list;
 mod planner;
 mod progress;
 mod releases;
+mod rule;
 mod task;
 mod ticks;
 pub mod unique;
@@ -28,4 +29,5 @@ mod waiting;
 mod worker_plan;
 
 pub use list::{list_chain, list_plan};
+pub use rule::Rule;
 pub use worker_plan::WorkerPlan;

@@ -6,7 +6,7 @@ ghost use Rattle.waff_plan.specs.Chain.{IsChain, IsListed, IsPrinted, chain_cost
 ghost use Rattle.waff_plan.specs.Timetable.{starts_in, timings_of, work_in};
 ghost use Rattle.waff_order.specs.Needs.{IsNeed};
 ghost use Rattle.waff_list.specs.Bound.{ListBound, ListRatio, ListTwice};
-ghost use Rattle.waff_list.specs.ListRule.{IsListPlan};
+ghost use Rattle.waff_list.specs.ListRule.{IsListPlan, arrival};
 ghost use Rattle.waff_list.specs.Seats.{IsInOrder};
 ghost use Rattle.waff_list.specs.Seating.{worker_of};
 ghost use Rattle.waff_list.specs.Unique.{AreSeated};
@@ -35,7 +35,7 @@ pub fn list_plan(
     ensures timings { IfOk result (λ made. made.table.timings ≡ timings_of trace.now.messages) }
     ensures workers { IfOk result (λ made. made.workers ≡ k) }
     ensures follows { IfOk result (λ made. IsListPlan
-        (Path (IsNeed needs.now)) (work_in made.table) k (starts_in made.table)) }
+        (Path (IsNeed needs.now)) arrival (work_in made.table) k (starts_in made.table)) }
     ensures seated { IfOk result (λ made. AreSeated
         (work_in made.table) (starts_in made.table) (worker_of made.seats)) }
     ensures order { IfOk result (λ made.

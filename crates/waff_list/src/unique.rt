@@ -30,9 +30,9 @@ pub fn same_paths_have_the_same_plans()
         (assigned other_assigned : List ℕ) (work : Work)
         → ListPlansAreShared (IsOrdered tree assigned) (IsOrdered other_tree other_assigned) work }
     ensures needs { (tree : List Node) (assigned : List ℕ) (needs : List (List ℕ)) (work : Work)
-        (k : ℕ) (start : ℕ → ℕ) → AreNeeds tree assigned needs
-        → IsListPlan (Path (IsNeed needs)) work k start
-        ↔ IsListPlan (IsOrdered tree assigned) work k start }
+        (priority : ℕ → ℕ) (k : ℕ) (start : ℕ → ℕ) → AreNeeds tree assigned needs
+        → IsListPlan (Path (IsNeed needs)) priority work k start
+        ↔ IsListPlan (IsOrdered tree assigned) priority work k start }
 {}
 
 /// The workers of the messages of a plan are one.
