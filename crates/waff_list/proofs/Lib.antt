@@ -20,3 +20,5 @@ mod OrderingLemmas
 mod DependentLemmas
 pub mod Uniqueness
 pub mod SeatsUniqueness
+pub mod TailLemmas
+mod TailMaking

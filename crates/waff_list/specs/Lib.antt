@@ -6,3 +6,4 @@ pub mod Seating
 pub mod Waiting
 pub mod Planning
 pub mod Unique
+pub mod Tails

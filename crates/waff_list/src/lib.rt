@@ -21,6 +21,8 @@ mod list;
 mod planner;
 mod progress;
 mod releases;
+pub mod tail_laws;
+mod tails;
 mod task;
 mod ticks;
 pub mod unique;
