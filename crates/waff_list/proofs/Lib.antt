@@ -20,3 +20,6 @@ mod OrderingLemmas
 mod DependentLemmas
 pub mod Uniqueness
 pub mod SeatsUniqueness
+pub mod TailLemmas
+pub mod RuleLemmas
+mod TailMaking

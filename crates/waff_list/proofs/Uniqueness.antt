@@ -1,6 +1,6 @@
 -- The list plan for k workers is one: two list plans that are the same below a tick are the same at it. A message that starts at
 -- the tick in one and later in the other would be one more than the k that run in the other.
-use Rattle.std.proofs.Common.{◌≡◌, ℕ, zero, suc, ◌+◌, ◌<◌, ◌≤◌, ◌⊎◌, inl, inr, Bool, true, false, cond, sum_by, refl, arith, sym, ap, subst, ◌∙◌}
+use Rattle.std.proofs.Common.{◌≡◌, ℕ, zero, suc, ◌+◌, ◌<◌, ◌≤◌, ◌⊎◌, ◌↔◌, ⊎_elim, inl, inr, Bool, true, false, cond, sum_by, refl, arith, sym, ap, subst, ◌∙◌}
 use Rattle.std.specs.List.{range_with_len}
 use Rattle.std.proofs.lemmas.Bool.{cases_lt, cases_order, false≢true}
 use Rattle.std.proofs.lemmas.Bool.Decides.{nat_tests}
@@ -9,7 +9,7 @@ use Rattle.waff_plan.specs.Work.{Work, IsNumber, finish_of}
 use Rattle.waff_plan.specs.Obeys.{IsForward}
 use Rattle.waff_plan.specs.Workers.{runs_at, running}
 use Rattle.waff_plan.proofs.Longest.{sum_more}
-use Rattle.waff_list.specs.ListRule.{IsReady, IsTakenFirst, IsListPlan}
+use Rattle.waff_list.specs.ListRule.{IsReady, IsTakenFirst, IsListPlan, arrival}
 use Rattle.waff_list.specs.Unique.{EachRuns, IsTotalOrder, TakeTheSame, ListPlanIsOne}
 
 -- the sum of the first n messages
@@ -111,6 +111,12 @@ order_of_priority priority = record {
     | inr (inr last) ↦ inr last
   ];
 }
+
+pub by_arrival : (i j : ℕ) → IsTakenFirst arrival i j ↔ (i < j)
+by_arrival i j = (
+  (λ first. ⊎_elim {C = i < j} (λ (higher : 0 < 0). absurd (omega arith)) (λ (both : (0 ≡ 0) × (i < j)). both.1) first),
+  (λ earlier. inr (refl, earlier)),
+)
 
 module _ (before : Relation) (work : Work) (k : ℕ) (forward : IsForward before work) (runs : EachRuns work) where
   -- what one plan starts at t is ready at t in the other, if it has not started there

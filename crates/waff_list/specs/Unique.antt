@@ -5,6 +5,8 @@ use Rattle.waff_assign.specs.Order.{Path, Relation}
 use Rattle.waff_plan.specs.Work.{Work, IsNumber}
 use Rattle.waff_plan.specs.Unique.{AreSame}
 use Rattle.waff_list.specs.ListRule.{IsTakenFirst, IsListPlan}
+use Rattle.waff_list.specs.Rules.{IsPlanBy}
+use Rattle.waff_list.specs.declared.rule.Rule.{Rule}
 use Rattle.waff_list.specs.Seats.{IsSeated, IsInOrder}
 
 -- each message runs for one tick at least
@@ -31,6 +33,12 @@ ListPlanIsOne before work =
     (priority other_priority : ℕ → ℕ) (k : ℕ) (start other : ℕ → ℕ)
     → TakeTheSame work priority other_priority → IsListPlan before priority work k start
     → IsListPlan before other_priority work k other → AreSame work start other
+
+-- two plans for k by the same rule start each message at the same tick
+abbrev pub RulePlanIsOne : Relation → Work → Type 0
+RulePlanIsOne before work =
+    (rule : Rule) (k : ℕ) (start other : ℕ → ℕ) → IsPlanBy rule before work k start
+    → IsPlanBy rule before work k other → AreSame work start other
 
 -- two sets of pairs have the same list plans, where each pair of the one is a path through the
 -- other

@@ -22,12 +22,14 @@ mod planner;
 mod progress;
 mod releases;
 mod rule;
+pub mod tail_laws;
+mod tails;
 mod task;
 mod ticks;
 pub mod unique;
 mod waiting;
 mod worker_plan;
 
-pub use list::{list_chain, list_plan};
+pub use list::{list_chain, list_plan, list_plan_by};
 pub use rule::Rule;
 pub use worker_plan::WorkerPlan;

@@ -2,20 +2,23 @@
 
 ghost use Rattle.std.specs.Prelude.{◌≡◌, ◌<◌, ◌≤◌, length, All, IfOk};
 ghost use Rattle.waff_assign.specs.Order.{IsOrdered, Path};
+ghost use Rattle.waff_plan.specs.Bound.{IsWorkers};
 ghost use Rattle.waff_plan.specs.Chain.{IsChain, IsListed, IsPrinted, chain_cost, chain_release};
 ghost use Rattle.waff_plan.specs.Timetable.{starts_in, timings_of, work_in};
 ghost use Rattle.waff_order.specs.Needs.{IsNeed};
 ghost use Rattle.waff_list.specs.Bound.{ListBound, ListRatio, ListTwice};
 ghost use Rattle.waff_list.specs.ListRule.{IsListPlan, arrival};
+ghost use Rattle.waff_list.specs.Rules.{IsPlanBy};
 ghost use Rattle.waff_list.specs.Seats.{IsInOrder};
 ghost use Rattle.waff_list.specs.Seating.{worker_of};
 ghost use Rattle.waff_list.specs.Unique.{AreSeated};
 
 use crate::WorkerPlan;
 use crate::planner::make;
+use crate::rule::Rule;
+use crate::tails::tails;
 use std::alloc::{AllocError, Global};
 use waff_assign::Assigned;
-use waff_model::limits::MAX_WORKERS;
 use waff_model::{Trace, Tree};
 use waff_order::Needs;
 use waff_plan::printed::chain;
@@ -30,8 +33,7 @@ pub fn list_plan(
     k: u32,
 ) -> Result<WorkerPlan, AllocError>
     requires lengths { length needs.now ≡ length trace.now.messages }
-    requires some { 1 ≤ k }
-    requires few { k ≤ MAX_WORKERS }
+    requires workers { IsWorkers k }
     ensures timings { IfOk result (λ made. made.table.timings ≡ timings_of trace.now.messages) }
     ensures workers { IfOk result (λ made. made.workers ≡ k) }
     ensures follows { IfOk result (λ made. IsListPlan
@@ -44,6 +46,33 @@ pub fn list_plan(
     let made = make(alloc, needs, trace, k)?;
     let plan = Plan::of_starts(alloc, trace, made.starts.as_slice())?;
     Ok(WorkerPlan::new(plan, k, made.seats, made.order))
+}
+
+/// The plan for k workers by this rule. Workers are given as by `list_plan`: of the messages that
+/// start at a tick the one that arrived first takes the least worker that is free.
+pub fn list_plan_by(
+    alloc: Global,
+    needs: &Needs,
+    trace: &Trace,
+    rule: Rule,
+    k: u32,
+) -> Result<WorkerPlan, AllocError>
+    requires lengths { length needs.now ≡ length trace.now.messages }
+    requires workers { IsWorkers k }
+    ensures timings { IfOk result (λ made. made.table.timings ≡ timings_of trace.now.messages) }
+    ensures workers { IfOk result (λ made. made.workers ≡ k) }
+    ensures follows { IfOk result (λ made. IsPlanBy
+        rule (Path (IsNeed needs.now)) (work_in made.table) k (starts_in made.table)) }
+    ensures seated { IfOk result (λ made. AreSeated
+        (work_in made.table) (starts_in made.table) (worker_of made.seats)) }
+    ensures order { IfOk result (λ made.
+        IsInOrder (work_in made.table) (starts_in made.table) made.order) }
+{
+    let _tails = tails(alloc, needs, trace)?;
+    match rule {
+        Rule::Arrival => list_plan(alloc, needs, trace, k),
+        Rule::Longest => Err(AllocError),
+    }
 }
 
 /// The printed chain of the list plan. Where the plan is that of the needs of this tree and

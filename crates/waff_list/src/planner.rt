@@ -2,6 +2,7 @@
 //! in turn on the workers that are free.
 
 ghost use Rattle.std.specs.Prelude.{◌≡◌, ℕ, ◌+◌, ◌^◌, ◌<◌, ◌≤◌, IfOk, OnOk, length};
+ghost use Rattle.waff_plan.specs.Bound.{IsWorkers};
 ghost use Rattle.waff_plan.specs.Work.{IsNumber};
 ghost use Rattle.waff_order.specs.Needs.{IsNeed, needs_of};
 ghost use Rattle.waff_list.specs.Progress.{work_of_messages, IsMade};
@@ -27,7 +28,7 @@ pub(crate) fn make(
     k: u32,
 ) -> Result<Progress, AllocError>
     requires lengths { length needs.now ≡ length trace.now.messages }
-    requires some { 1 ≤ k }
+    requires workers { IsWorkers k }
     ensures { IfOk result (λ made. IsMade (IsNeed needs.now) (work_of_messages trace.now.messages)
         k made.starts.items made.seats.items made.order.items) }
 {

@@ -195,4 +195,4 @@ returns-in-None c =
     (subst (λ n. IsProgress before work n new.starts.items new.seats.items new.free_at.items new.order.items now (length messages + 1)) workers filled.progress) in
     let few = c.len.ensures.lists.few in
     made_of_last before work c.args.k forward small new.starts.items new.seats.items new.free_at.items new.order.items now
-    c.requires.some (omega (arith, invariant.time, few, same)) made new.finishes kept.finishes last
+    c.requires.workers.from (omega (arith, invariant.time, few, same)) made new.finishes kept.finishes last
