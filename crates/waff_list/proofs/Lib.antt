@@ -14,6 +14,8 @@ mod CountLemmas
 mod FinishLemmas
 mod IdleLemmas
 mod ReadyLemmas
+mod Choosing
+mod Starting
 mod WakingLemmas
 mod WakeLemmas
 mod OrderingLemmas

@@ -7,7 +7,6 @@ use Rattle.waff_plan.specs.Obeys.{IsForward}
 use Rattle.waff_order.specs.Needs.{IsNeed, AreNeeds}
 use Rattle.waff_list.specs.ListRule.{IsTakenFirst, IsListPlan, arrival}
 use Rattle.waff_list.specs.Rules.{IsPlanBy}
-use Rattle.waff_list.specs.Tails.{AreTails}
 use Rattle.waff_list.specs.Unique.{EachRuns, TakeTheSame, RulePlanIsOne}
 use Rattle.waff_list.specs.declared.rule.Rule.{Rule}
 use Rattle.waff_list.specs.declared.rule.Rule.TheVariants.{Arrival, Longest}

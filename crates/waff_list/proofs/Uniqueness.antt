@@ -90,12 +90,12 @@ taken_first priority i j = elim (cases_order (priority i) (priority j)) [
 ]
 
 -- no message is taken before itself
-not_itself : (priority : ℕ → ℕ) (i : ℕ) → IsTakenFirst priority i i → ⊥
+pub not_itself : (priority : ℕ → ℕ) (i : ℕ) → IsTakenFirst priority i i → ⊥
 not_itself priority i (inl higher) = omega arith
 not_itself priority i (inr (same, earlier)) = omega arith
 
 -- and what is taken before one is taken before all that that one is taken before
-onward : (priority : ℕ → ℕ) (i j k : ℕ) → IsTakenFirst priority i j → IsTakenFirst priority j k → IsTakenFirst priority i k
+pub onward : (priority : ℕ → ℕ) (i j k : ℕ) → IsTakenFirst priority i j → IsTakenFirst priority j k → IsTakenFirst priority i k
 onward priority i j k (inl higher) (inl more) = inl (omega arith)
 onward priority i j k (inl higher) (inr (same, later)) = inl (omega arith)
 onward priority i j k (inr (same, later)) (inl higher) = inl (omega arith)

@@ -12,6 +12,7 @@ ghost use Rattle.waff_list.specs.Rules.{IsPlanBy};
 ghost use Rattle.waff_list.specs.Seats.{IsInOrder};
 ghost use Rattle.waff_list.specs.Seating.{worker_of};
 ghost use Rattle.waff_list.specs.Unique.{AreSeated};
+ghost use Rattle.waff_list.specs.Waiting.{priority_of};
 
 use crate::WorkerPlan;
 use crate::planner::make;
@@ -43,9 +44,7 @@ pub fn list_plan(
     ensures order { IfOk result (λ made.
         IsInOrder (work_in made.table) (starts_in made.table) made.order) }
 {
-    let made = make(alloc, needs, trace, k)?;
-    let plan = Plan::of_starts(alloc, trace, made.starts.as_slice())?;
-    Ok(WorkerPlan::new(plan, k, made.seats, made.order))
+    list_plan_by(alloc, needs, trace, Rule::Arrival, k)
 }
 
 /// The plan for k workers by this rule. Workers are given as by `list_plan`: of the messages that
@@ -68,11 +67,35 @@ pub fn list_plan_by(
     ensures order { IfOk result (λ made.
         IsInOrder (work_in made.table) (starts_in made.table) made.order) }
 {
-    let _tails = tails(alloc, needs, trace)?;
-    match rule {
-        Rule::Arrival => list_plan(alloc, needs, trace, k),
-        Rule::Longest => Err(AllocError),
-    }
+    let priorities = match rule {
+        Rule::Arrival => Vec::new(alloc),
+        Rule::Longest => tails(alloc, needs, trace)?,
+    };
+    planned(alloc, needs, trace, k, priorities)
+}
+
+/// The plan for k workers by these priorities. A message that is not listed has the priority 0.
+fn planned(
+    alloc: Global,
+    needs: &Needs,
+    trace: &Trace,
+    k: u32,
+    priorities: Vec<u64>,
+) -> Result<WorkerPlan, AllocError>
+    requires lengths { length needs.now ≡ length trace.now.messages }
+    requires workers { IsWorkers k }
+    ensures timings { IfOk result (λ made. made.table.timings ≡ timings_of trace.now.messages) }
+    ensures workers { IfOk result (λ made. made.workers ≡ k) }
+    ensures follows { IfOk result (λ made. IsListPlan (Path (IsNeed needs.now))
+        (priority_of priorities.items) (work_in made.table) k (starts_in made.table)) }
+    ensures seated { IfOk result (λ made. AreSeated
+        (work_in made.table) (starts_in made.table) (worker_of made.seats)) }
+    ensures order { IfOk result (λ made.
+        IsInOrder (work_in made.table) (starts_in made.table) made.order) }
+{
+    let made = make(alloc, needs, trace, k, priorities)?;
+    let plan = Plan::of_starts(alloc, trace, made.starts.as_slice())?;
+    Ok(WorkerPlan::new(plan, k, made.seats, made.order))
 }
 
 /// The printed chain of the list plan. Where the plan is that of the needs of this tree and
