@@ -12,7 +12,7 @@ use Rattle.waff_plan.specs.Obeys.{IsForward}
 use Rattle.waff_plan.specs.Timing.{start_of}
 use Rattle.waff_list.specs.Seats.{IsSeated}
 use Rattle.waff_list.specs.Progress.{IsProgress, IsSmall, GoesOn, IsNextTick, IsLastTick, IsMade}
-use Rattle.waff_list.specs.declared.progress.TheConstants.{NEVER}
+use Rattle.waff_list.specs.declared.work.TheConstants.{NEVER}
 use Rattle.waff_list.specs.Waiting.{Runs, AreFinishes}
 use Rattle.waff_list.proofs.Settling.{settled_all, settled_plan}
 

@@ -7,7 +7,7 @@ use Rattle.waff_plan.specs.Timing.{start_of}
 use Rattle.waff_list.specs.ListRule.{IsReady}
 use Rattle.waff_list.specs.Progress.{GoesOn}
 use Rattle.waff_list.proofs.Freeing.{IsLeastFree}
-use Rattle.waff_list.specs.declared.progress.TheConstants.{NEVER}
+use Rattle.waff_list.specs.declared.work.TheConstants.{NEVER}
 use Rattle.waff_list.proofs.Settling.{IsPassedOver}
 use Rattle.waff_list.proofs.Progressing.{progress_skip, progress_filled, progress_place}
 

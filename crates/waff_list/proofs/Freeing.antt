@@ -9,7 +9,7 @@ use Rattle.waff_plan.specs.Obeys.{IsForward}
 use Rattle.waff_plan.specs.Workers.{running}
 use Rattle.waff_list.specs.Seats.{ComesBefore, IsSeated}
 use Rattle.waff_list.specs.Progress.{IsSettled, AreFreeAt, IsOrderSoFar}
-use Rattle.waff_list.specs.declared.progress.TheConstants.{NEVER}
+use Rattle.waff_list.specs.declared.work.TheConstants.{NEVER}
 use Rattle.waff_list.proofs.Running.{runs_parts, runs_from, running_all, running_fewer}
 use Rattle.waff_list.proofs.Settling.{seated_at}
 use Rattle.waff_list.proofs.Placing.{IsMovedTo, placed_is_other, placed_cases}

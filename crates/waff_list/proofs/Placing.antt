@@ -8,7 +8,7 @@ use Rattle.waff_plan.specs.Workers.{runs_at, running}
 use Rattle.waff_list.specs.ListRule.{IsReady}
 use Rattle.waff_list.specs.Seats.{ComesBefore, HoldsWorker, IsSeated}
 use Rattle.waff_list.specs.Progress.{IsSettled}
-use Rattle.waff_list.specs.declared.progress.TheConstants.{NEVER}
+use Rattle.waff_list.specs.declared.work.TheConstants.{NEVER}
 use Rattle.waff_list.proofs.Running.{runs_parts, runs_from, runs_before_start, runs_same, running_same}
 use Rattle.waff_list.proofs.Settling.{first_number, second_number}
 

@@ -12,7 +12,7 @@ use Rattle.waff_list.specs.ListRule.{IsReady}
 use Rattle.waff_list.specs.Progress.{IsProgress}
 use Rattle.waff_list.proofs.Freeing.{IsLeastFree, none_free, one_free, seated_here, free_more, order_more}
 use Rattle.waff_list.specs.Waiting.{AreFinishes}
-use Rattle.waff_list.specs.declared.progress.TheConstants.{NEVER}
+use Rattle.waff_list.specs.declared.work.TheConstants.{NEVER}
 use Rattle.waff_list.proofs.Settling.{IsPassedOver, settled_skip, settled_filled, settled_advance}
 use Rattle.waff_list.proofs.Placing.{IsMovedTo, settled_place}
 

@@ -13,7 +13,7 @@ use Rattle.waff_list.proofs.Freeing.{IsLeastFree}
 use Rattle.waff_order.specs.Needs.{IsNeed}
 use Rattle.waff_list.specs.ListRule.{IsReady, IsTakenFirst}
 use Rattle.waff_list.specs.Waiting.{Joins, Leaves, AreIdle, IsFree, AreReady, AreFinishes, AreLeft}
-use Rattle.waff_list.specs.declared.progress.TheConstants.{NEVER}
+use Rattle.waff_list.specs.declared.work.TheConstants.{NEVER}
 use Rattle.waff_list.proofs.Placing.{ready_back}
 use Rattle.waff_list.proofs.Progressing.{moved_by_set}
 use Rattle.waff_list.proofs.CountLemmas.{left_place}

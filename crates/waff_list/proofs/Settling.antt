@@ -7,7 +7,7 @@ use Rattle.waff_plan.specs.Obeys.{IsForward}
 use Rattle.waff_plan.specs.Workers.{runs_at, running}
 use Rattle.waff_list.specs.ListRule.{IsReady, IsTakenFirst, IsListPlan}
 use Rattle.waff_list.specs.Progress.{IsSettled}
-use Rattle.waff_list.specs.declared.progress.TheConstants.{NEVER}
+use Rattle.waff_list.specs.declared.work.TheConstants.{NEVER}
 use Rattle.waff_list.proofs.Running.{AreSeatedAt, runs_parts, runs_before_start, runs_after_finish, runs_from, running_same, running_none, running_within}
 
 -- messages that run have been placed, so they have their workers

@@ -14,7 +14,7 @@ use Rattle.waff_list.specs.Choosing.{AreChosen, AreParted}
 use Rattle.waff_list.specs.ListRule.{IsTakenFirst}
 use Rattle.waff_list.specs.Progress.{IsProgress, GoesOn}
 use Rattle.waff_list.specs.Waiting.{AreReady, AreFinishes, AreLeft}
-use Rattle.waff_list.specs.declared.progress.TheConstants.{NEVER}
+use Rattle.waff_list.specs.declared.work.TheConstants.{NEVER}
 use Rattle.waff_list.proofs.Filling.{goes_skip, goes_filled}
 use Rattle.waff_list.proofs.IdleLemmas.{none_idle}
 use Rattle.waff_list.proofs.Progressing.{moved_by_set, progress_full}

@@ -6,7 +6,7 @@ use Rattle.waff_plan.specs.Work.{Work, IsNumber, finish_of}
 use Rattle.waff_plan.specs.Obeys.{IsForward}
 use Rattle.waff_order.specs.Needs.{IsNeed}
 use Rattle.waff_list.specs.Waiting.{Ready, Joins, IsFree, AreReady, AreFinishes, AreLeft, AreReleases, ArePassed, Admits, IsNextRelease, left_of}
-use Rattle.waff_list.specs.declared.progress.TheConstants.{NEVER}
+use Rattle.waff_list.specs.declared.work.TheConstants.{NEVER}
 use Rattle.waff_list.proofs.CountLemmas.{left_finished, left_over}
 
 -- a message that is released by the next tick is one of those passed before, or one of those passed since

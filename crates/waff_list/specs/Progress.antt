@@ -11,7 +11,7 @@ use Rattle.waff_model.specs.declared.message.Message.{Message}
 use Rattle.waff_list.specs.ListRule.{IsReady, IsTakenFirst, IsListPlan}
 use Rattle.waff_list.specs.Seats.{ComesBefore, IsSeated, IsInOrder}
 use Rattle.waff_model.specs.declared.limits.TheConstants.{MAX_TICK}
-use Rattle.waff_list.specs.declared.progress.TheConstants.{NEVER}
+use Rattle.waff_list.specs.declared.work.TheConstants.{NEVER}
 
 -- the messages that are placed have started by now, and at now they are below the message turn; they
 -- obey, have their workers, and follow the list rule at each tick before end

@@ -7,7 +7,7 @@ use Rattle.waff_assign.specs.Order.{Relation}
 use Rattle.waff_plan.specs.Work.{Work, IsNumber, finish_of}
 use Rattle.waff_order.specs.Needs.{needs_of}
 use Rattle.waff_list.specs.ListRule.{IsTakenFirst}
-use Rattle.waff_list.specs.declared.progress.TheConstants.{NEVER}
+use Rattle.waff_list.specs.declared.work.TheConstants.{NEVER}
 
 -- the messages that are ready, and the priority of each message of the trace
 pub record Ready : Type 0 where

@@ -10,7 +10,7 @@
 //!   `progress` (the plan while it is made), `finishes` (when the messages that run finish), `idle`
 //!   (the workers that are free), `waiting` (how many needs of each message have not finished, and
 //!   the `candidates`, those that are ready, by their priorities), `chosen` (those that start at a
-//!   tick), `releases` and `ticks` (when something happens).
+//!   tick), `releases` and `ticks` (when something happens), `work` (costs and releases).
 //! - `tails`: the tail of each message, which is its priority under the rule of the longest tail.
 //! - `laws`: the bound, and that needs make the same plans as all pairs; `tail_laws`: what tails
 //!   are; `unique`: that there is one list plan.
@@ -33,6 +33,7 @@ mod task;
 mod ticks;
 pub mod unique;
 mod waiting;
+mod work;
 mod worker_plan;
 
 pub use list::{list_chain, list_plan, list_plan_by};

@@ -13,11 +13,12 @@ ghost use Rattle.waff_list.specs.Planning.{AreCounted, IsBegun, IsFilled, IsKept
 use crate::chosen::Chosen;
 use crate::finishes::Finishes;
 use crate::idle::Idle;
-use crate::progress::{NEVER, Progress};
+use crate::progress::Progress;
 use crate::releases::Releases;
 use crate::task::Task;
 use crate::ticks::next_tick;
 use crate::waiting::Waiting;
+use crate::work::{NEVER, cost_of};
 use std::alloc::{AllocError, Global};
 use waff_model::Trace;
 use waff_order::Needs;
@@ -95,7 +96,7 @@ fn fill(
     )?;
     for at in 0..chosen.messages.len() {
         let m = chosen.messages[at];
-        progress.place(m, chosen.workers[at], now, task.cost_of(m))?;
+        progress.place(m, chosen.workers[at], now, cost_of(task.trace, m))?;
     }
     Ok(())
 }

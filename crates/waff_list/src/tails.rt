@@ -6,6 +6,7 @@ ghost use Rattle.waff_order.specs.Needs.{IsNeed};
 ghost use Rattle.waff_list.specs.Progress.{work_of_messages};
 ghost use Rattle.waff_list.specs.Tails.{tail_of, AreTails, AreRaised};
 
+use crate::work::cost_of;
 use std::alloc::{AllocError, Global};
 use waff_model::Trace;
 use waff_order::Needs;
@@ -27,17 +28,6 @@ pub(crate) fn tails(alloc: Global, needs: &Needs, trace: &Trace) -> Result<Vec<u
         raise(&mut tails, needs.of(m), tail);
     }
     Ok(tails)
-}
-
-/// How many ticks message `m` runs.
-fn cost_of(trace: &Trace, m: u32) -> u64
-    requires from { 1 ≤ m }
-    requires to { m ≤ length trace.now.messages }
-    ensures cost { result ≡ (work_of_messages trace.now.messages).cost m }
-    ensures some { 1 ≤ result }
-    ensures small { result < 2 ^ 32 }
-{
-    u64::from(trace.message(m).cost)
 }
 
 /// Raises the tails of these messages to at least this one.

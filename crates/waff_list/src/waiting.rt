@@ -6,7 +6,7 @@ ghost use Rattle.waff_list.specs.Progress.{work_of_messages};
 ghost use Rattle.waff_list.specs.Waiting.{left_of};
 
 use crate::candidates::Candidates;
-use crate::ticks::release_of;
+use crate::work::release_of;
 use std::alloc::{AllocError, Global};
 use waff_model::Trace;
 use waff_order::Needs;

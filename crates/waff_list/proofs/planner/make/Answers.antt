@@ -7,7 +7,7 @@ use Rattle.waff_order.specs.Needs.{IsNeed}
 use Rattle.waff_list.specs.Progress.{work_of_messages, IsProgress, IsNextTick, IsLastTick, GoesOn}
 use Rattle.waff_list.specs.Planning.{IsKept, Wakes}
 use Rattle.waff_list.specs.Waiting.{priority_of, AreFirst, AreFreed, Runs, AreReady, AreReleases, ArePassed, Admits, FallAlike, AreLeft, AreFinishes}
-use Rattle.waff_list.specs.declared.progress.TheConstants.{NEVER}
+use Rattle.waff_list.specs.declared.work.TheConstants.{NEVER}
 use Rattle.waff_list.proofs.TraceWork.{count_is, needs_forward}
 use Rattle.waff_list.proofs.Progressing.{progress_none, progress_advance}
 use Rattle.waff_list.proofs.CountLemmas.{left_none, left_fall}
