@@ -22,11 +22,11 @@ pub record IsCosted (tree : List Node) (assigned : List ℕ) (work : Work) (star
   pub release : chain.release ≡ chain_release work chain.messages
 
 module _ (tree : List Node) (assigned : List ℕ) (work : Work) (same : length assigned ≡ work.count) (k : ℕ) (some : 1 ≤ k) (start : ℕ → ℕ)
-    (needs : List (List ℕ)) (are : AreNeeds tree assigned needs) (plan : IsListPlan (Path (IsNeed needs)) work k start)
+    (needs : List (List ℕ)) (priority : ℕ → ℕ) (are : AreNeeds tree assigned needs) (plan : IsListPlan (Path (IsNeed needs)) priority work k start)
     (chain : CostedChain) (h : IsCosted tree assigned work start chain) where
   within : IsWithinBound work k start chain.messages
-  within = list_plans_are_within_bound (IsOrdered tree assigned) work (IsOrdered_forward tree assigned work same) k start chain.messages some
-      (plan_over_pairs tree assigned needs work k start are plan) h.printed
+  within = list_plans_are_within_bound (IsOrdered tree assigned) work (IsOrdered_forward tree assigned work same) priority k start chain.messages some
+      (plan_over_pairs tree assigned needs work priority k start are plan) h.printed
 
   pub chain_bound : k * length_of work start ≤ total_of work + k * chain.release + (k - 1) * chain.cost
   chain_bound =

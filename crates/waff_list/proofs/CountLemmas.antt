@@ -10,7 +10,7 @@ use Rattle.waff_plan.specs.Work.{Work, IsNumber, finish_of}
 use Rattle.waff_plan.specs.Obeys.{IsForward}
 use Rattle.waff_order.specs.Needs.{needs_of, IsNeed}
 use Rattle.waff_list.specs.Waiting.{Runs, AreFinishes, AreLeft, FallAlike, left_of, times, unplaced_needs, running_needs}
-use Rattle.waff_list.specs.declared.progress.TheConstants.{NEVER}
+use Rattle.waff_list.specs.declared.work.TheConstants.{NEVER}
 
 -- where no element adds to a sum, it is 0
 sum_none : {X : Type 0} (f : X → ℕ) (xs : List X) → ((x : X) → Contains xs x → f x ≡ 0) → sum_by f xs ≡ 0

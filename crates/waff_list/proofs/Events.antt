@@ -6,12 +6,13 @@ use Rattle.std.proofs.lemmas.List.{get_or_default}
 use Rattle.std.proofs.lemmas.List.Elements.{All-contains}
 use Rattle.std.proofs.lemmas.List.FromFn.{length-range_with_len}
 use Rattle.std.proofs.lemmas.List.Sums.{sum_by-cons, count_by-le-length}
+use Rattle.waff_assign.specs.Order.{Relation}
 use Rattle.waff_plan.specs.Work.{Work, IsNumber, numbers, finish_of}
 use Rattle.waff_plan.specs.Obeys.{IsForward}
 use Rattle.waff_plan.specs.Timing.{start_of}
 use Rattle.waff_list.specs.Seats.{IsSeated}
 use Rattle.waff_list.specs.Progress.{IsProgress, IsSmall, GoesOn, IsNextTick, IsLastTick, IsMade}
-use Rattle.waff_list.specs.declared.progress.TheConstants.{NEVER}
+use Rattle.waff_list.specs.declared.work.TheConstants.{NEVER}
 use Rattle.waff_list.specs.Waiting.{Runs, AreFinishes}
 use Rattle.waff_list.proofs.Settling.{settled_all, settled_plan}
 
@@ -72,10 +73,10 @@ on_time_none work start =
     let long : length (numbers work) ≡ work.count = length-range_with_len 1 work.count in
     omega (arith, finishes, releases, long)
 
-module _ (before : ℕ → ℕ → Type 0) (work : Work) (k : ℕ) (forward : IsForward before work) (small : IsSmall work)
-    (old starts seats free_at order : List ℕ) (now next turn : ℕ)
+module _ (before : Relation) (priority : ℕ → ℕ) (work : Work) (k : ℕ) (forward : IsForward before work) (small : IsSmall work)
+    (old starts seats free_at order : List ℕ) (now next turn end : ℕ)
     (placed : (m : ℕ) → IsNumber work m → (start_of old m ≤ now) ⊎ (start_of old m ≡ NEVER))
-    (on : GoesOn before work k old starts seats free_at order now turn) (finishes : List (ℕ × ℕ)) (running : AreFinishes work (start_of starts) now finishes)
+    (on : GoesOn before priority work k old starts seats free_at order now turn end) (finishes : List (ℕ × ℕ)) (running : AreFinishes work (start_of starts) now finishes)
     (tick : IsNextTick work finishes now next) where
   -- a finish after the next tick came after now before
   finish_back : (m : ℕ) → IsNumber work m → now < finish_of work (start_of starts) m → now < finish_of work (start_of old) m
@@ -151,11 +152,11 @@ module _ (before : ℕ → ℕ → Type 0) (work : Work) (k : ℕ) (forward : Is
   on_time_next h = omega (arith, h, next_is_near, events_fewer)
 
 -- where no event is left, all messages are placed
-pub made_of_last : (before : ℕ → ℕ → Type 0) (work : Work) (k : ℕ) → IsForward before work → IsSmall work
+pub made_of_last : (before : Relation) (priority : ℕ → ℕ) (work : Work) (k : ℕ) → IsForward before work → IsSmall work
     → (starts seats free_at order : List ℕ) (now : ℕ) → 1 ≤ k → now ≤ 2 ^ 49
-    → IsProgress before work k starts seats free_at order now (work.count + 1)
-    → (finishes : List (ℕ × ℕ)) → AreFinishes work (start_of starts) now finishes → IsLastTick work finishes now → IsMade before work k starts seats order
-made_of_last before work k forward small starts seats free_at order now some early h finishes running last =
+    → IsProgress before priority work k starts seats free_at order now (work.count + 1) (now + 1)
+    → (finishes : List (ℕ × ℕ)) → AreFinishes work (start_of starts) now finishes → IsLastTick work finishes now → IsMade before priority work k starts seats order
+made_of_last before priority work k forward small starts seats free_at order now some early h finishes running last =
     let start = start_of starts in
     let done = λ (m : ℕ) (number : IsNumber work m) (begun : start_of starts m ≤ now).
     ⊎_elim {C = finish_of work (start_of starts) m ≤ now}
@@ -167,7 +168,7 @@ made_of_last before work k forward small starts seats free_at order now some ear
     (λ (is : finish_of work (start_of starts) m ≤ now). is)
     (cases_lt now (finish_of work (start_of starts) m)) in
     let all = λ (m : ℕ) (number : IsNumber work m).
-    settled_all before work k forward start (start_of seats) now some (omega arith) done last.releases h.settled (suc m) m (omega arith) number in
+    settled_all before priority work k forward start (start_of seats) now some (omega arith) done last.releases h.settled (suc m) m (omega arith) number in
     let number_at = λ (i : ℕ) (inside : i < work.count).
     let number : IsNumber work (i + 1) = record { from = omega arith; to = omega arith } in number in
     record {
@@ -177,7 +178,7 @@ made_of_last before work k forward small starts seats free_at order now some ear
           let same : get_or starts i d ≡ get_or starts (i + 1 - 1) 0 = get_or_default starts i d 0 inside ∙ ap (λ v. get_or starts v 0) (omega arith) in
           let begun : start_of starts (i + 1) ≤ now = all (i + 1) (number_at i (omega (arith, h.starts_count))) in
           omega arith;
-      plan = settled_plan before work k forward start (start_of seats) now all h.settled;
+      plan = settled_plan before priority work k forward start (start_of seats) now all h.settled;
       seated = λ m number. h.settled.seated m number (all m number);
       known = λ i d inside.
           let number = number_at i (omega (arith, h.seats_count)) in

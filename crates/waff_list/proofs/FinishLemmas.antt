@@ -8,7 +8,7 @@ use Rattle.std.proofs.lemmas.List.Elements.{All-nil, All-cons, All-contains, All
 use Rattle.std.proofs.lemmas.List.Sorted.{Contains-permutation, All-permutation}
 use Rattle.waff_plan.specs.Work.{Work, IsNumber, finish_of}
 use Rattle.waff_list.specs.Waiting.{Runs, AreFinishes, HaveFinished}
-use Rattle.waff_list.specs.declared.progress.TheConstants.{NEVER}
+use Rattle.waff_list.specs.declared.work.TheConstants.{NEVER}
 
 -- an element of a list, or of a list of others by what is inside them
 pub contains_rest_of : {X : Type 0} (x y : X) (xs : List X) → Contains (x ∷ xs) y → Contains xs y ⊎ (y ≡ x)

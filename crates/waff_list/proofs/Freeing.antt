@@ -3,12 +3,13 @@ use Rattle.std.proofs.Common.{◌≡◌, ◌≢◌, ℕ, ◌+◌, ◌-◌, ◌<�
 use Rattle.std.proofs.lemmas.Bool.{cases_lt, cases_eq}
 use Rattle.std.proofs.lemmas.List.Elements.{All-push, All-weaker, All-get_or, Contains-append_left, Contains-push}
 use Rattle.std.proofs.lemmas.List.Quantifiers.{all_pairs_push}
+use Rattle.waff_assign.specs.Order.{Relation}
 use Rattle.waff_plan.specs.Work.{Work, IsNumber, finish_of}
 use Rattle.waff_plan.specs.Obeys.{IsForward}
 use Rattle.waff_plan.specs.Workers.{running}
 use Rattle.waff_list.specs.Seats.{ComesBefore, IsSeated}
 use Rattle.waff_list.specs.Progress.{IsSettled, AreFreeAt, IsOrderSoFar}
-use Rattle.waff_list.specs.declared.progress.TheConstants.{NEVER}
+use Rattle.waff_list.specs.declared.work.TheConstants.{NEVER}
 use Rattle.waff_list.proofs.Running.{runs_parts, runs_from, running_all, running_fewer}
 use Rattle.waff_list.proofs.Settling.{seated_at}
 use Rattle.waff_list.proofs.Placing.{IsMovedTo, placed_is_other, placed_cases}
@@ -20,11 +21,11 @@ pub record IsLeastFree (free_at : List ℕ) (now w : ℕ) : Type 0 where
   pub free : get_or free_at (w - 1) 0 ≤ now
   pub least : (v : ℕ) → 1 ≤ v → v < w → now < get_or free_at (v - 1) 0
 
-module _ (before : ℕ → ℕ → Type 0) (work : Work) (k : ℕ) (start worker : ℕ → ℕ) (now turn : ℕ) (free_at : List ℕ)
-    (count : length free_at ≡ k) (settled : IsSettled before work k start worker now turn) (free : AreFreeAt work start worker now free_at) where
+module _ (before : Relation) (priority : ℕ → ℕ) (work : Work) (k : ℕ) (start worker : ℕ → ℕ) (now turn end : ℕ) (free_at : List ℕ)
+    (count : length free_at ≡ k) (settled : IsSettled before priority work k start worker now turn end) (free : AreFreeAt work start worker now free_at) where
   -- where no worker is free, k run
   pub none_free : All (λ f. now < f) free_at → running work start now ≡ k
-  none_free all = running_all work k start worker now (seated_at before work k start worker now turn now settled (omega arith))
+  none_free all = running_all work k start worker now (seated_at before priority work k start worker now turn end now settled (omega arith))
       (λ w some less.
       let busy : now < get_or free_at (w - 1) 0 = all (w - 1) 0 (omega arith) in
       let there = free.holder w some (omega arith) busy in
@@ -33,7 +34,7 @@ module _ (before : ℕ → ℕ → Type 0) (work : Work) (k : ℕ) (start worker
 
   -- where a worker is free, fewer run
   pub one_free : (w : ℕ) → 1 ≤ w → w ≤ k → get_or free_at (w - 1) 0 ≤ now → running work start now < k
-  one_free w some less is_free = running_fewer work k start worker now (seated_at before work k start worker now turn now settled (omega arith)) w some less
+  one_free w some less is_free = running_fewer work k start worker now (seated_at before priority work k start worker now turn end now settled (omega arith)) w some less
       (λ m number runs same.
       let parts : (start m ≤ now) × (now < start m + work.cost m) = runs_parts work start now m runs in
       let still : now < start m + work.cost m = parts.1 in
@@ -44,16 +45,16 @@ module _ (before : ℕ → ℕ → Type 0) (work : Work) (k : ℕ) (start worker
       omega arith)
       (free.held m number parts.0))
 
-module _ (before : ℕ → ℕ → Type 0) (work : Work) (k : ℕ) (forward : IsForward before work)
+module _ (before : Relation) (priority : ℕ → ℕ) (work : Work) (k : ℕ) (forward : IsForward before work)
     (start worker later seats : ℕ → ℕ) (now x w : ℕ) (number : IsNumber work x) (short : now < NEVER) (cost : 1 ≤ work.cost x)
     (moved : IsMovedTo start later x now) (sat : IsMovedTo worker seats x w)
-    (unplaced : now < start x) (settled : IsSettled before work k start worker now x)
+    (unplaced : now < start x) (settled : IsSettled before priority work k start worker now x now)
     (free_at : List ℕ) (free : AreFreeAt work start worker now free_at) (least_free : IsLeastFree free_at now w) where
   other_of : (m : ℕ) → start m ≤ now → m ≢ x
-  other_of = placed_is_other before work k forward start worker later seats now x w number short cost moved sat unplaced settled
+  other_of = placed_is_other before priority work k forward start worker later seats now x w number short cost moved sat unplaced settled
 
   cases_of : (m : ℕ) → IsNumber work m → later m ≤ now → (m ≡ x) ⊎ ((m ≢ x) × (start m ≤ now))
-  cases_of = placed_cases before work k forward start worker later seats now x w number short cost moved sat unplaced settled
+  cases_of = placed_cases before priority work k forward start worker later seats now x w number short cost moved sat unplaced settled
 
   kept : (m : ℕ) → IsNumber work m → m ≢ x → later m ≡ start m
   kept m m_number other = moved.others m m_number.from other

@@ -6,6 +6,7 @@ use Rattle.std.proofs.lemmas.Bool.Decides.{nat_tests}
 use Rattle.std.proofs.lemmas.List.FromFn.{length-range_with_len, get_or-range_with_len}
 use Rattle.std.proofs.lemmas.List.Sums.{sum_by-cons, sum_by-le-sum_by, get_or-le-sum_by}
 use Rattle.std.proofs.Math.Nat.{mul-le-mul_left}
+use Rattle.waff_assign.specs.Order.{Relation}
 use Rattle.waff_plan.specs.Work.{Work, IsNumber, numbers, finish_of, length_of, total_of}
 use Rattle.waff_plan.specs.Obeys.{IsForward}
 use Rattle.waff_plan.specs.Chain.{LeadsToEnd, chain_cost}
@@ -38,7 +39,7 @@ running_one work start t m number runs =
     (subst (λ x. runs_at work start t x ≡ true) (sym (place ∙ same)) runs)
 
 -- the first message of what leads to the end is a message
-leads_from_number : (before : ℕ → ℕ → Type 0) (work : Work) → IsForward before work → (start : ℕ → ℕ) (m : ℕ) (rest : List ℕ)
+leads_from_number : (before : Relation) (work : Work) → IsForward before work → (start : ℕ → ℕ) (m : ℕ) (rest : List ℕ)
     → LeadsToEnd before work start m rest → IsNumber work m
 leads_from_number before work forward start m [] h = h.one
 leads_from_number before work forward start m (next ∷ rest) h =
@@ -58,10 +59,10 @@ used_cons work start k t m rest (inr (some, one)) =
     inr (some, omega (arith, one, sum_by-cons (λ x. cond (runs_at work start t x) 1 0) m rest))
 
 -- from a tick on at which m may start, each tick is used until m has finished
-used_until_finish : (before : ℕ → ℕ → Type 0) (work : Work) (k : ℕ) (start : ℕ → ℕ) → FollowsListRule before work k start
+used_until_finish : (before : Relation) (priority : ℕ → ℕ) (work : Work) (k : ℕ) (start : ℕ → ℕ) → FollowsListRule before priority work k start
     → (m : ℕ) (rest : List ℕ) (s : ℕ) → IsNumber work m → work.release m ≤ s → ((i : ℕ) → before i m → finish_of work start i ≤ s)
     → (t : ℕ) → s ≤ t → IsUsed work start k t (m ∷ rest) ⊎ (finish_of work start m ≤ t)
-used_until_finish before work k start follows m rest s number released free t late =
+used_until_finish before priority work k start follows m rest s number released free t late =
     ⊎_elim {C = IsUsed work start k t (m ∷ rest) ⊎ (finish_of work start m ≤ t)}
     (λ (waiting : t < start m).
     let ready : IsReady before work start t m = record {
@@ -81,25 +82,25 @@ used_until_finish before work k start follows m rest s number released free t la
     (cases_lt t (start m))
 
 -- from a tick on at which the first message may start, each tick up to the length is used
-leads_used : (before : ℕ → ℕ → Type 0) (work : Work) (k : ℕ) (start : ℕ → ℕ) → IsForward before work → FollowsListRule before work k start
+leads_used : (before : Relation) (priority : ℕ → ℕ) (work : Work) (k : ℕ) (start : ℕ → ℕ) → IsForward before work → FollowsListRule before priority work k start
     → (m : ℕ) (rest : List ℕ) (s : ℕ) → LeadsToEnd before work start m rest → work.release m ≤ s
     → ((i : ℕ) → before i m → finish_of work start i ≤ s)
     → (t : ℕ) → s ≤ t → t < length_of work start → IsUsed work start k t (m ∷ rest)
-leads_used before work k start forward follows m [] s leads released free t late short =
+leads_used before priority work k start forward follows m [] s leads released free t late short =
     ⊎_elim {C = IsUsed work start k t (m ∷ [])}
     (λ (used : IsUsed work start k t (m ∷ [])). used)
     (λ (finished : finish_of work start m ≤ t).
     let within : length_of work start ≤ finish_of work start m = length_of-le work start (finish_of work start m) leads.latest in
     absurd (omega arith))
-    (used_until_finish before work k start follows m [] s leads.one released free t late)
-leads_used before work k start forward follows m (next ∷ rest) s leads released free t late short =
+    (used_until_finish before priority work k start follows m [] s leads.one released free t late)
+leads_used before priority work k start forward follows m (next ∷ rest) s leads released free t late short =
     ⊎_elim {C = IsUsed work start k t (m ∷ next ∷ rest)}
     (λ (used : IsUsed work start k t (m ∷ next ∷ rest)). used)
     (λ (finished : finish_of work start m ≤ t).
     let waited : work.release next < finish_of work start m = leads.1 in
     used_cons work start k t m (next ∷ rest)
-    (leads_used before work k start forward follows next rest (finish_of work start m) leads.2 (omega arith) leads.0.latest t finished short))
-    (used_until_finish before work k start follows m (next ∷ rest) s
+    (leads_used before priority work k start forward follows next rest (finish_of work start m) leads.2 (omega arith) leads.0.latest t finished short))
+    (used_until_finish before priority work k start follows m (next ∷ rest) s
     (leads_from_number before work forward start m (next ∷ rest) leads) released free t late)
 
 -- a tick that is used adds at least k to k - 1 times the work of the chain and the work of all
@@ -152,13 +153,13 @@ bound_from_used k length total cost r ran chain_ran some within done less less_c
     let whole : k * length ≡ k * ((length - r) + r) = ap (λ n. k * n) split in
     omega arith
 
-pub list_plans_are_within_bound : (before : ℕ → ℕ → Type 0) (work : Work) → IsForward before work → ListPlansAreWithinBound before work
-list_plans_are_within_bound before work forward k start [] some plan none =
+pub list_plans_are_within_bound : (before : Relation) (work : Work) → IsForward before work → ListPlansAreWithinBound before work
+list_plans_are_within_bound before work forward priority k start [] some plan none =
     let bound : length_of work start ≤ 0
     = length_of-le work start 0 (λ m h. let from : 1 ≤ m = h.from in let to : m ≤ work.count = h.to in absurd (omega (arith, none))) in
     let nothing : k * length_of work start ≤ k * 0 = mul-le-mul_left k bound in
     omega (arith, mul-zero k)
-list_plans_are_within_bound before work forward k start (m ∷ rest) some plan printed =
+list_plans_are_within_bound before work forward priority k start (m ∷ rest) some plan printed =
     let r = work.release m in
     let number : IsNumber work m = leads_from_number before work forward start m rest printed.1 in
     let released : work.release m ≤ start m = plan.within.obeys.released m number in
@@ -166,7 +167,7 @@ list_plans_are_within_bound before work forward k start (m ∷ rest) some plan p
     let within : work.release m ≤ length_of work start = omega arith in
     let end : work.release m + (length_of work start - work.release m) ≡ length_of work start = omega arith in
     let done = used_sum work start k (m ∷ rest) (work.release m) (length_of work start - work.release m) some
-    (λ t late short. leads_used before work k start forward plan.follows m rest (work.release m) printed.1 (omega arith) printed.0 t late (omega arith)) in
+    (λ t late short. leads_used before priority work k start forward plan.follows m rest (work.release m) printed.1 (omega arith) printed.0 t late (omega arith)) in
     bound_from_used k (length_of work start) (total_of work) (chain_cost work (m ∷ rest)) (work.release m)
     (run_below work start (work.release m + (length_of work start - work.release m)) (numbers work))
     (run_below work start (work.release m + (length_of work start - work.release m)) (m ∷ rest))

@@ -26,8 +26,8 @@ idle_none free_at idle now h = record { only = h.only; each = λ w from to free.
 
 module _ (free_at : List ℕ) (now : ℕ) (old : List ℕ) (w : ℕ) (new : List ℕ) (leaves : Leaves old w new) (h : AreIdle free_at now old) where
   -- the least that is idle is the least that is free, where it is free
-  pub idle_least : get_or free_at (w - 1) 0 ≤ now → IsLeastFree free_at now w
-  idle_least free =
+  pub idle_least : ((v : ℕ) → Contains new v → w ≤ v) → get_or free_at (w - 1) 0 ≤ now → IsLeastFree free_at now w
+  idle_least smallest free =
       let within = h.only w leaves.one in
       record {
         from = within.0;
@@ -39,7 +39,7 @@ module _ (free_at : List ℕ) (now : ℕ) (old : List ℕ) (w : ℕ) (new : List
             let to : w ≤ length free_at = within.1 in
             ⊎_elim {C = now < get_or free_at (v - 1) 0}
             (λ (same : v ≡ w). absurd (omega arith))
-            (λ (there : Contains new v). let least : w ≤ v = leaves.least v there in absurd (omega arith))
+            (λ (there : Contains new v). let least : w ≤ v = smallest v there in absurd (omega arith))
             (leaves.others v (h.each v from (omega arith) early)))
             (cases_lt now (get_or free_at (v - 1) 0));
       }

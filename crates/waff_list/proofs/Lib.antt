@@ -14,9 +14,14 @@ mod CountLemmas
 mod FinishLemmas
 mod IdleLemmas
 mod ReadyLemmas
+mod Choosing
+mod Starting
 mod WakingLemmas
 mod WakeLemmas
 mod OrderingLemmas
 mod DependentLemmas
 pub mod Uniqueness
 pub mod SeatsUniqueness
+pub mod TailLemmas
+pub mod RuleLemmas
+mod TailMaking

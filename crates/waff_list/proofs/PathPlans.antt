@@ -1,7 +1,7 @@
 -- Pairs with the same paths have the same list plans.
 use Rattle.std.proofs.Common.{ℕ, zero, suc, ◌+◌, ◌≤◌, List, arith}
 use Rattle.waff_model.specs.Tree.{Node}
-use Rattle.waff_assign.specs.Order.{IsOrdered, PathBy, Path}
+use Rattle.waff_assign.specs.Order.{IsOrdered, PathBy, Path, Relation}
 use Rattle.waff_plan.specs.Work.{Work, finish_of}
 use Rattle.waff_order.specs.Needs.{IsNeed, AreNeeds}
 use Rattle.waff_order.proofs.NeedLemmas.{path_one, path_weaker}
@@ -10,7 +10,7 @@ use Rattle.waff_list.specs.Bound.{SamePathsSamePlans}
 use Rattle.waff_list.specs.Unique.{ListPlansAreShared}
 
 -- along a path that a plan keeps, the last starts only when the first has finished
-path_by_ordered : (before : ℕ → ℕ → Type 0) (work : Work) (start : ℕ → ℕ) → ((i j : ℕ) → before i j → finish_of work start i ≤ start j)
+path_by_ordered : (before : Relation) (work : Work) (start : ℕ → ℕ) → ((i j : ℕ) → before i j → finish_of work start i ≤ start j)
     → (n i j : ℕ) → PathBy before n i j → finish_of work start i ≤ start j
 path_by_ordered before work start ordered zero i j h = ordered i j h
 path_by_ordered before work start ordered (suc n) i j (m, first, rest) =
@@ -19,7 +19,7 @@ path_by_ordered before work start ordered (suc n) i j (m, first, rest) =
     omega arith
 
 -- along a path whose last pairs have finished by t, the first has
-path_by_free : (before : ℕ → ℕ → Type 0) (work : Work) (start : ℕ → ℕ) (t m : ℕ) → ((i j : ℕ) → before i j → finish_of work start i ≤ start j)
+path_by_free : (before : Relation) (work : Work) (start : ℕ → ℕ) (t m : ℕ) → ((i j : ℕ) → before i j → finish_of work start i ≤ start j)
     → ((i : ℕ) → before i m → finish_of work start i ≤ t) → (n i : ℕ) → PathBy before n i m → finish_of work start i ≤ t
 path_by_free before work start t m ordered free zero i h = free i h
 path_by_free before work start t m ordered free (suc n) i (j, first, rest) =
@@ -27,15 +27,15 @@ path_by_free before work start t m ordered free (suc n) i (j, first, rest) =
     let others : start j + work.cost j ≤ t = path_by_free before work start t m ordered free n j rest in
     omega arith
 
-pub same_paths_same_plans : (near before : ℕ → ℕ → Type 0) (work : Work) → SamePathsSamePlans near before work
-same_paths_same_plans near before work to from k start h = record {
+pub same_paths_same_plans : (near before : Relation) (work : Work) → SamePathsSamePlans near before work
+same_paths_same_plans near before work to from priority k start h = record {
   within = record {
     obeys = record { released = h.within.obeys.released; ordered = ordered };
     within = h.within.within;
   };
   follows = record {
     busy = λ t m ready. h.follows.busy t m (ready_near t m ready);
-    in_turn = λ t m later ready. h.follows.in_turn t m later (ready_near t m ready);
+    in_turn = λ t m other ready. h.follows.in_turn t m other (ready_near t m ready);
   };
 }
   where
@@ -50,26 +50,26 @@ same_paths_same_plans near before work to from k start h = record {
       free = λ i pair. let path = from i m pair in path_by_free before work start t m ordered ready.free path.0 i path.1;
     }
 
-pub shared_plans : (near before : ℕ → ℕ → Type 0) (work : Work) → ListPlansAreShared near before work
-shared_plans near before work to from k start =
-    (same_paths_same_plans near before work to from k start, same_paths_same_plans before near work from to k start)
+pub shared_plans : (near before : Relation) (work : Work) → ListPlansAreShared near before work
+shared_plans near before work to from priority k start =
+    (same_paths_same_plans near before work to from priority k start, same_paths_same_plans before near work from to priority k start)
 
 -- needs and the paths through them
-pub plan_over_paths : (near : ℕ → ℕ → Type 0) (work : Work) (k : ℕ) (start : ℕ → ℕ) → IsListPlan near work k start → IsListPlan (Path near) work k start
-plan_over_paths near work k start h =
-    same_paths_same_plans near (Path near) work (λ i j path. path) (λ i j pair. path_one (Path near) i j (path_one near i j pair)) k start h
+pub plan_over_paths : (near : Relation) (work : Work) (priority : ℕ → ℕ) (k : ℕ) (start : ℕ → ℕ) → IsListPlan near priority work k start → IsListPlan (Path near) priority work k start
+plan_over_paths near work priority k start h =
+    same_paths_same_plans near (Path near) work (λ i j path. path) (λ i j pair. path_one (Path near) i j (path_one near i j pair)) priority k start h
 
 -- paths through needs and the ordered pairs
-pub plan_over_pairs : (tree : List Node) (assigned : List ℕ) (needs : List (List ℕ)) (work : Work) (k : ℕ) (start : ℕ → ℕ) → AreNeeds tree assigned needs
-    → IsListPlan (Path (IsNeed needs)) work k start → IsListPlan (IsOrdered tree assigned) work k start
-plan_over_pairs tree assigned needs work k start are h =
+pub plan_over_pairs : (tree : List Node) (assigned : List ℕ) (needs : List (List ℕ)) (work : Work) (priority : ℕ → ℕ) (k : ℕ) (start : ℕ → ℕ) → AreNeeds tree assigned needs
+    → IsListPlan (Path (IsNeed needs)) priority work k start → IsListPlan (IsOrdered tree assigned) priority work k start
+plan_over_pairs tree assigned needs work priority k start are h =
     same_paths_same_plans (Path (IsNeed needs)) (IsOrdered tree assigned) work
     (λ i j pair. path_one (Path (IsNeed needs)) i j (are.paths i j pair))
-    (λ i j path. path_weaker (IsNeed needs) (IsOrdered tree assigned) are.ordered i j path) k start h
+    (λ i j path. path_weaker (IsNeed needs) (IsOrdered tree assigned) are.ordered i j path) priority k start h
 
-pub plan_over_needs : (tree : List Node) (assigned : List ℕ) (needs : List (List ℕ)) (work : Work) (k : ℕ) (start : ℕ → ℕ) → AreNeeds tree assigned needs
-    → IsListPlan (IsOrdered tree assigned) work k start → IsListPlan (Path (IsNeed needs)) work k start
-plan_over_needs tree assigned needs work k start are h =
+pub plan_over_needs : (tree : List Node) (assigned : List ℕ) (needs : List (List ℕ)) (work : Work) (priority : ℕ → ℕ) (k : ℕ) (start : ℕ → ℕ) → AreNeeds tree assigned needs
+    → IsListPlan (IsOrdered tree assigned) priority work k start → IsListPlan (Path (IsNeed needs)) priority work k start
+plan_over_needs tree assigned needs work priority k start are h =
     same_paths_same_plans (IsOrdered tree assigned) (Path (IsNeed needs)) work
     (λ i j path. path_weaker (IsNeed needs) (IsOrdered tree assigned) are.ordered i j path)
-    (λ i j pair. path_one (Path (IsNeed needs)) i j (are.paths i j pair)) k start h
+    (λ i j pair. path_one (Path (IsNeed needs)) i j (are.paths i j pair)) priority k start h

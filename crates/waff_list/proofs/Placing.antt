@@ -1,13 +1,14 @@
 -- A list plan while it is made: one more message is placed.
 use Rattle.std.proofs.Common.{◌≡◌, ◌≢◌, ℕ, ◌+◌, ◌<◌, ◌≤◌, ◌⊎◌, inl, inr, arith, ap, sym, ◌∙◌, subst, ⊎_elim}
 use Rattle.std.proofs.lemmas.Bool.{cases_eq}
+use Rattle.waff_assign.specs.Order.{Relation}
 use Rattle.waff_plan.specs.Work.{Work, IsNumber, finish_of}
 use Rattle.waff_plan.specs.Obeys.{IsForward}
 use Rattle.waff_plan.specs.Workers.{runs_at, running}
 use Rattle.waff_list.specs.ListRule.{IsReady}
 use Rattle.waff_list.specs.Seats.{ComesBefore, HoldsWorker, IsSeated}
 use Rattle.waff_list.specs.Progress.{IsSettled}
-use Rattle.waff_list.specs.declared.progress.TheConstants.{NEVER}
+use Rattle.waff_list.specs.declared.work.TheConstants.{NEVER}
 use Rattle.waff_list.proofs.Running.{runs_parts, runs_from, runs_before_start, runs_same, running_same}
 use Rattle.waff_list.proofs.Settling.{first_number, second_number}
 
@@ -31,10 +32,10 @@ holds_same work start later i m same_i same_m h =
       runs = runs_from work later (later m) i (omega arith) (omega arith);
     }
 
-module _ (before : ℕ → ℕ → Type 0) (work : Work) (k : ℕ) (forward : IsForward before work)
+module _ (before : Relation) (priority : ℕ → ℕ) (work : Work) (k : ℕ) (forward : IsForward before work)
     (start worker later seats : ℕ → ℕ) (now x w : ℕ) (number : IsNumber work x) (short : now < NEVER) (cost : 1 ≤ work.cost x)
     (moved : IsMovedTo start later x now) (sat : IsMovedTo worker seats x w)
-    (unplaced : now < start x) (settled : IsSettled before work k start worker now x) where
+    (unplaced : now < start x) (settled : IsSettled before priority work k start worker now x now) where
   never : start x ≡ NEVER
   never = ⊎_elim {C = start x ≡ NEVER} (λ (early : start x ≤ now). absurd (omega arith)) (λ (is : start x ≡ NEVER). is) (settled.placed x number)
 
@@ -111,7 +112,7 @@ module _ (before : ℕ → ℕ → Type 0) (work : Work) (k : ℕ) (forward : Is
           waits = omega arith;
           released = ready.released;
           free = λ i pair.
-              let i_number = first_number before work k forward i m pair in
+              let i_number = first_number before priority work k forward i m pair in
               let done : later i + work.cost i ≤ t = ready.free i pair in
               ⊎_elim {C = start i + work.cost i ≤ t}
               (λ (same : i ≡ x).
@@ -136,7 +137,7 @@ module _ (before : ℕ → ℕ → Type 0) (work : Work) (k : ℕ) (forward : Is
 
   -- x is placed at now on the worker w, where fewer than k ran
   pub settled_place : work.release x ≤ now → ((i : ℕ) → before i x → finish_of work start i ≤ now) → running work start now < k
-      → IsSeated work later seats x → w ≤ k → IsSettled before work k later seats now (x + 1)
+      → IsSeated work later seats x → w ≤ k → IsSettled before priority work k later seats now (x + 1) now
   settled_place released free room seat within = record {
     placed = λ m m_number. ⊎_elim {C = (later m ≤ now) ⊎ (later m ≡ NEVER)}
         (λ (same : m ≡ x). let at : later m ≡ now = ap later same ∙ at_x in inl (omega arith))
@@ -154,8 +155,8 @@ module _ (before : ℕ → ℕ → Type 0) (work : Work) (k : ℕ) (forward : Is
         omega arith)
         (placed_cases m m_number early);
     ordered = λ i j pair early.
-        let i_number = first_number before work k forward i j pair in
-        let j_number = second_number before work k forward i j pair in
+        let i_number = first_number before priority work k forward i j pair in
+        let j_number = second_number before priority work k forward i j pair in
         let sooner : i < j = forward.earlier i j pair in
         ⊎_elim {C = later i + work.cost i ≤ later j}
         (λ (same : j ≡ x).
@@ -183,34 +184,13 @@ module _ (before : ℕ → ℕ → Type 0) (work : Work) (k : ℕ) (forward : Is
         let there : worker m ≤ k = settled.within m m_number both.1 in
         omega arith)
         (placed_cases m m_number early);
-    busy = λ t m passed ready waits. ⊎_elim {C = running work later t ≡ k}
-        (λ (past : t < now).
+    busy = λ t m soon ready waits.
         let was = ready_back t m (omega arith) ready waits in
-        running_back t past ∙ settled.busy t m (inl past) was.0 was.1)
-        (λ (here : (t ≡ now) × (m < x + 1)). absurd (full t m here ready waits))
-        passed;
-    in_turn = λ t m other passed ready waits less to is. ⊎_elim {C = ⊥}
-        (λ (past : t < now).
+        running_back t soon ∙ settled.busy t m soon was.0 was.1;
+    in_turn = λ t m other soon ready waits other_number first is.
         let was = ready_back t m (omega arith) ready waits in
-        let other_number : IsNumber work other = record { from = omega arith; to = to } in
         ⊎_elim {C = ⊥}
         (λ (same : other ≡ x). let at : later other ≡ now = ap later same ∙ at_x in omega arith)
-        (λ (apart : other ≢ x).
-        settled.in_turn t m other (inl past) was.0 was.1 less to (sym (kept other other_number apart) ∙ is))
-        (cases_eq other x))
-        (λ (here : (t ≡ now) × (m < x + 1)). full t m here ready waits)
-        passed;
+        (λ (apart : other ≢ x). settled.in_turn t m other soon was.0 was.1 other_number first (sym (kept other other_number apart) ∙ is))
+        (cases_eq other x);
   }
-    where
-      full : (t m : ℕ) → (t ≡ now) × (m < x + 1) → IsReady before work later t m → t < later m → ⊥
-      full t m here ready waits =
-          let at_now : t ≡ now = here.0 in
-          let turn : m < x + 1 = here.1 in
-          ⊎_elim {C = ⊥}
-          (λ (same : m ≡ x). let at : later m ≡ now = ap later same ∙ at_x in omega arith)
-          (λ (other : m ≢ x).
-          let was = ready_back t m (omega arith) ready waits in
-          let all : running work start t ≡ k = settled.busy t m (inr (at_now, omega arith)) was.0 was.1 in
-          let same_tick : running work start t ≡ running work start now = ap (λ y. running work start y) at_now in
-          omega arith)
-          (cases_eq m x)

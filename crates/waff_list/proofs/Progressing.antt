@@ -3,6 +3,7 @@ use Rattle.std.proofs.Common.{◌≡◌, ◌≢◌, ℕ, ◌+◌, ◌-◌, ◌^�
 use Rattle.std.proofs.lemmas.Bool.{cases_lt}
 use Rattle.std.proofs.lemmas.List.{get_or-replicate, length-replicate}
 use Rattle.std.proofs.lemmas.List.Elements.{All-nil, All-contains}
+use Rattle.waff_assign.specs.Order.{Relation}
 use Rattle.waff_plan.specs.Work.{Work, IsNumber, finish_of}
 use Rattle.waff_plan.specs.Obeys.{IsForward}
 use Rattle.waff_plan.specs.Workers.{running}
@@ -11,8 +12,8 @@ use Rattle.waff_list.specs.ListRule.{IsReady}
 use Rattle.waff_list.specs.Progress.{IsProgress}
 use Rattle.waff_list.proofs.Freeing.{IsLeastFree, none_free, one_free, seated_here, free_more, order_more}
 use Rattle.waff_list.specs.Waiting.{AreFinishes}
-use Rattle.waff_list.specs.declared.progress.TheConstants.{NEVER}
-use Rattle.waff_list.proofs.Settling.{settled_skip, settled_advance}
+use Rattle.waff_list.specs.declared.work.TheConstants.{NEVER}
+use Rattle.waff_list.proofs.Settling.{IsPassedOver, settled_skip, settled_filled, settled_advance}
 use Rattle.waff_list.proofs.Placing.{IsMovedTo, settled_place}
 
 -- a list with one number changed
@@ -22,9 +23,9 @@ moved_by_set xs x y from to = record {
   others = λ i i_from other. let apart : i - 1 ≢ x - 1 = omega arith in get_or-set_other xs (x - 1) (i - 1) y 0 apart;
 }
 
-module _ (before : ℕ → ℕ → Type 0) (work : Work) (k : ℕ) (forward : IsForward before work) where
+module _ (before : Relation) (priority : ℕ → ℕ) (work : Work) (k : ℕ) (forward : IsForward before work) where
   -- nothing is placed yet
-  pub progress_none : work.count ≤ 2 ^ 32 → IsProgress before work k (replicate work.count NEVER) (replicate work.count 0) (replicate k 0) [] 0 1
+  pub progress_none : work.count ≤ 2 ^ 32 → IsProgress before priority work k (replicate work.count NEVER) (replicate work.count 0) (replicate k 0) [] 0 1 0
   progress_none few =
       let never = λ (m : ℕ) (number : IsNumber work m).
       let from : 1 ≤ m = number.from in
@@ -49,14 +50,8 @@ module _ (before : ℕ → ℕ → Type 0) (work : Work) (k : ℕ) (forward : Is
               absurd (not_placed j (record { from = omega arith; to = forward.to i j pair }) early);
           seated = λ m number early. absurd (not_placed m number early);
           within = λ m number early. absurd (not_placed m number early);
-          busy = λ t m passed ready waits. ⊎_elim {C = running work (start_of (replicate work.count NEVER)) t ≡ k}
-              (λ (past : t < 0). absurd (omega arith))
-              (λ (here : (t ≡ 0) × (m < 1)). let number = ready.number in let from : 1 ≤ m = number.from in absurd (omega (arith, here.1)))
-              passed;
-          in_turn = λ t m later passed ready waits less to is. ⊎_elim {C = ⊥}
-              (λ (past : t < 0). omega arith)
-              (λ (here : (t ≡ 0) × (m < 1)). let number = ready.number in let from : 1 ≤ m = number.from in omega (arith, here.1))
-              passed;
+          busy = λ t m soon ready waits. absurd (omega arith);
+          in_turn = λ t m other soon ready waits number first is. omega arith;
         };
         workers = record {
           held = λ m number early. absurd (not_placed m number early);
@@ -75,28 +70,39 @@ module _ (before : ℕ → ℕ → Type 0) (work : Work) (k : ℕ) (forward : Is
       }
 
   module _ (starts seats free_at order : List ℕ) (now : ℕ) where
-    -- messages that are not ready are passed over
+    -- the turn goes on
     pub progress_skip : (turn next : ℕ) → turn ≤ next
-        → ((m : ℕ) → turn ≤ m → m < next → IsReady before work (start_of starts) now m → now < start_of starts m → running work (start_of starts) now ≡ k)
-        → IsProgress before work k starts seats free_at order now turn → IsProgress before work k starts seats free_at order now next
-    progress_skip turn next on skip h = record {
+        → IsProgress before priority work k starts seats free_at order now turn now → IsProgress before priority work k starts seats free_at order now next now
+    progress_skip turn next on h = record {
       starts_count = h.starts_count;
       seats_count = h.seats_count;
       workers_count = h.workers_count;
-      settled = settled_skip before work k forward (start_of starts) (start_of seats) now turn next on skip h.settled;
+      settled = settled_skip before priority work k forward (start_of starts) (start_of seats) now turn next now on h.settled;
+      workers = h.workers;
+      listed = h.listed;
+    }
+
+    -- the tick has been filled
+    pub progress_filled : (turn : ℕ) → IsPassedOver before priority work k forward (start_of starts) now
+        → IsProgress before priority work k starts seats free_at order now turn now → IsProgress before priority work k starts seats free_at order now turn (now + 1)
+    progress_filled turn over h = record {
+      starts_count = h.starts_count;
+      seats_count = h.seats_count;
+      workers_count = h.workers_count;
+      settled = settled_filled before priority work k forward (start_of starts) (start_of seats) now turn over h.settled;
       workers = h.workers;
       listed = h.listed;
     }
 
     -- no worker is free, so k run
-    pub progress_full : (turn : ℕ) → All (λ f. now < f) free_at → IsProgress before work k starts seats free_at order now turn
+    pub progress_full : (turn end : ℕ) → All (λ f. now < f) free_at → IsProgress before priority work k starts seats free_at order now turn end
         → running work (start_of starts) now ≡ k
-    progress_full turn all h = none_free before work k (start_of starts) (start_of seats) now turn free_at h.workers_count h.settled h.workers all
+    progress_full turn end all h = none_free before priority work k (start_of starts) (start_of seats) now turn end free_at h.workers_count h.settled h.workers all
 
     -- a message is placed on the least free worker
     pub progress_place : (x w : ℕ) → IsNumber work x → now < NEVER → 1 ≤ work.cost x → IsLeastFree free_at now w
-        → IsReady before work (start_of starts) now x → now < start_of starts x → IsProgress before work k starts seats free_at order now x
-        → IsProgress before work k (set starts (x - 1) now) (set seats (x - 1) w) (set free_at (w - 1) (now + work.cost x)) (order ++ x ∷ []) now (x + 1)
+        → IsReady before work (start_of starts) now x → now < start_of starts x → IsProgress before priority work k starts seats free_at order now x now
+        → IsProgress before priority work k (set starts (x - 1) now) (set seats (x - 1) w) (set free_at (w - 1) (now + work.cost x)) (order ++ x ∷ []) now (x + 1) now
     progress_place x w number short cost free ready waits h =
         let from : 1 ≤ x = number.from in
         let to : x ≤ work.count = number.to in
@@ -108,18 +114,18 @@ module _ (before : ℕ → ℕ → Type 0) (work : Work) (k : ℕ) (forward : Is
         let moved = moved_by_set starts x now from (omega arith) in
         let sat = moved_by_set seats x w from (omega arith) in
         let room : running work (start_of starts) now < k
-        = one_free before work k (start_of starts) (start_of seats) now x free_at workers_long h.settled h.workers w w_from (omega arith) free.free in
-        let seat = seated_here before work k forward (start_of starts) (start_of seats) (start_of (set starts (x - 1) now)) (start_of (set seats (x - 1) w))
+        = one_free before priority work k (start_of starts) (start_of seats) now x now free_at workers_long h.settled h.workers w w_from (omega arith) free.free in
+        let seat = seated_here before priority work k forward (start_of starts) (start_of seats) (start_of (set starts (x - 1) now)) (start_of (set seats (x - 1) w))
         now x w number short cost moved sat waits h.settled free_at h.workers free in
         record {
           starts_count = length-set starts (x - 1) now ∙ starts_long;
           seats_count = length-set seats (x - 1) w ∙ seats_long;
           workers_count = length-set free_at (w - 1) (now + work.cost x) ∙ workers_long;
-          settled = settled_place before work k forward (start_of starts) (start_of seats) (start_of (set starts (x - 1) now)) (start_of (set seats (x - 1) w))
+          settled = settled_place before priority work k forward (start_of starts) (start_of seats) (start_of (set starts (x - 1) now)) (start_of (set seats (x - 1) w))
               now x w number short cost moved sat waits h.settled ready.released ready.free room seat (omega arith);
-          workers = free_more before work k forward (start_of starts) (start_of seats) (start_of (set starts (x - 1) now)) (start_of (set seats (x - 1) w))
+          workers = free_more before priority work k forward (start_of starts) (start_of seats) (start_of (set starts (x - 1) now)) (start_of (set seats (x - 1) w))
               now x w number short cost moved sat waits h.settled free_at h.workers free;
-          listed = order_more before work k forward (start_of starts) (start_of seats) (start_of (set starts (x - 1) now)) (start_of (set seats (x - 1) w))
+          listed = order_more before priority work k forward (start_of starts) (start_of seats) (start_of (set starts (x - 1) now)) (start_of (set seats (x - 1) w))
               now x w number short cost moved sat waits h.settled free_at h.workers free order h.listed;
         }
 
@@ -127,7 +133,7 @@ module _ (before : ℕ → ℕ → Type 0) (work : Work) (k : ℕ) (forward : Is
     pub progress_advance : (next : ℕ) (finishing : List (ℕ × ℕ)) → now < next → next < NEVER
         → AreFinishes work (start_of starts) now finishing → All (λ r. next ≤ r.0) finishing
         → ((m : ℕ) → IsNumber work m → (work.release m ≤ now) ⊎ (next ≤ work.release m))
-        → IsProgress before work k starts seats free_at order now (work.count + 1) → IsProgress before work k starts seats free_at order next 1
+        → IsProgress before priority work k starts seats free_at order now (work.count + 1) (now + 1) → IsProgress before priority work k starts seats free_at order next 1 next
     progress_advance next finishing later short run least releases h =
         let settled = h.settled in
         let start = start_of starts in
@@ -153,7 +159,7 @@ module _ (before : ℕ → ℕ → Type 0) (work : Work) (k : ℕ) (forward : Is
           starts_count = h.starts_count;
           seats_count = h.seats_count;
           workers_count = h.workers_count;
-          settled = settled_advance before work k forward start worker now next later short finishes releases h.settled;
+          settled = settled_advance before priority work k forward start worker now next later short finishes releases h.settled;
           workers = record {
             held = λ m number is. ⊎_elim {C = (finish_of work start m ≤ next) ⊎ (finish_of work start m ≡ get_or free_at (worker m - 1) 0)}
                 (λ (done : finish_of work start m ≤ now). inl (omega arith))

@@ -1,22 +1,21 @@
 -- The messages that are ready, as messages join and leave them.
-use Rattle.std.proofs.Common.{◌≡◌, ◌≢◌, ℕ, zero, suc, ◌+◌, ◌-◌, ◌<◌, ◌≤◌, ◌⊎◌, inl, inr, List, [], ◌∷◌, length, get_or, set, All, Contains, arith, refl, ap, sym, ◌∙◌, subst, ⊎_elim, ◌++◌}
+use Rattle.std.proofs.Common.{◌≡◌, ◌≢◌, ℕ, zero, suc, ◌+◌, ◌-◌, ◌<◌, ◌≤◌, ◌⊎◌, inl, inr, List, [], ◌∷◌, length, get_or, set, Contains, arith, refl, ap, sym, ◌∙◌, subst, ⊎_elim, ◌++◌}
 use Rattle.std.specs.List.Sorted.{IsPermutation}
 use Rattle.std.proofs.lemmas.Bool.{cases_lt}
-use Rattle.std.proofs.lemmas.List.Elements.{All-contains}
-use Rattle.std.proofs.lemmas.List.Sorted.{IsPermutation-sym, Contains-permutation, length_permutation}
+use Rattle.std.proofs.lemmas.List.Sorted.{IsPermutation-refl, IsPermutation-sym, Contains-permutation, length_permutation}
+use Rattle.waff_assign.specs.Order.{Relation}
 use Rattle.waff_plan.specs.Work.{Work, IsNumber}
 use Rattle.waff_plan.specs.Obeys.{IsForward}
-use Rattle.waff_plan.specs.Workers.{running}
 use Rattle.waff_plan.specs.Timing.{start_of}
 use Rattle.waff_list.specs.Progress.{IsProgress, GoesOn}
-use Rattle.waff_list.proofs.Filling.{IsWaiting, goes_place}
-use Rattle.waff_list.proofs.Freeing.{IsLeastFree, one_free}
+use Rattle.waff_list.proofs.Filling.{IsWaiting, goes_skip, goes_place}
+use Rattle.waff_list.proofs.Freeing.{IsLeastFree}
 use Rattle.waff_order.specs.Needs.{IsNeed}
-use Rattle.waff_list.specs.ListRule.{IsReady}
+use Rattle.waff_list.specs.ListRule.{IsReady, IsTakenFirst}
 use Rattle.waff_list.specs.Waiting.{Joins, Leaves, AreIdle, IsFree, AreReady, AreFinishes, AreLeft}
-use Rattle.waff_list.specs.declared.progress.TheConstants.{NEVER}
+use Rattle.waff_list.specs.declared.work.TheConstants.{NEVER}
 use Rattle.waff_list.proofs.Placing.{ready_back}
-use Rattle.waff_list.proofs.Progressing.{moved_by_set, progress_skip}
+use Rattle.waff_list.proofs.Progressing.{moved_by_set}
 use Rattle.waff_list.proofs.CountLemmas.{left_place}
 use Rattle.waff_list.proofs.IdleLemmas.{idle_least, idle_place}
 use Rattle.waff_list.proofs.FinishLemmas.{finishes_place}
@@ -36,19 +35,26 @@ joins_of old m new same = record {
   more = let long : length new ≡ length (m ∷ old) = length_permutation (m ∷ old) new same in omega arith;
 }
 
-pub leaves_of : (old : List ℕ) (m : ℕ) (new : List ℕ) → IsPermutation old (m ∷ new) → All (λ x. m ≤ x) new → Leaves old m new
-leaves_of old m new same least =
+pub leaves_of : (old : List ℕ) (m : ℕ) (new : List ℕ) → IsPermutation old (m ∷ new) → Leaves old m new
+leaves_of old m new same =
     let back = IsPermutation-sym old (m ∷ new) same in
     record {
       one = Contains-permutation (m ∷ new) old m back (0, omega arith, refl);
       others = λ x there. ⊎_elim {C = (x ≡ m) ⊎ Contains new x} (λ (in_new : Contains new x). inr in_new) (λ (is : x ≡ m). inl is)
           (contains_rest m x new (Contains-permutation old (m ∷ new) x same there));
       only = λ x there. Contains-permutation (m ∷ new) old x back (contains_more m x new there);
-      least = λ x there. All-contains (λ y. m ≤ y) new x least there;
       fewer = let long : length (m ∷ new) ≡ length old = length_permutation old (m ∷ new) same in omega arith;
     }
 
-module _ (before : ℕ → ℕ → Type 0) (work : Work) (start : ℕ → ℕ) (now m : ℕ) where
+-- the one of the highest priority, and of these the least number, is taken first
+pub first_of : (priority : ℕ → ℕ) (p m q x : ℕ) → p ≡ priority m → q ≡ priority x → (q < p) ⊎ ((p ≡ q) × (m ≤ x)) → (x ≡ m) ⊎ IsTakenFirst priority m x
+first_of priority p m q x top at (inl lower) = inr (inl (omega arith))
+first_of priority p m q x top at (inr (same, earlier)) = elim (cases_lt m x) [
+  | inl less ↦ inr (inr (sym top ∙ same ∙ at, less))
+  | inr not_less ↦ inl (omega arith)
+]
+
+module _ (before : Relation) (work : Work) (start : ℕ → ℕ) (now m : ℕ) where
   pub waiting_is_free : IsWaiting before work start now m → IsFree before work start now (now + 1) m
   waiting_is_free waiting =
       let released : work.release m ≤ now = waiting.0.released in
@@ -60,7 +66,7 @@ module _ (before : ℕ → ℕ → Type 0) (work : Work) (start : ℕ → ℕ) (
       let ready : IsReady before work start now m = record { number = h.number; waits = omega arith; released = omega arith; free = h.free } in
       (ready, late)
 
-module _ (before : ℕ → ℕ → Type 0) (work : Work) (start : ℕ → ℕ) (now : ℕ) (old : List ℕ) (m : ℕ) (new : List ℕ)
+module _ (before : Relation) (work : Work) (start : ℕ → ℕ) (now : ℕ) (old : List ℕ) (m : ℕ) (new : List ℕ)
     (leaves : Leaves old m new) (h : AreReady before work start now (now + 1) old) where
   -- one that has been placed is dropped
   pub ready_drop : start m ≤ now → AreReady before work start now (now + 1) new
@@ -94,95 +100,58 @@ module _ (before : ℕ → ℕ → Type 0) (work : Work) (start : ℕ → ℕ) (
         leaves.others x (h.each x (waiting_is_free before work start now x waiting) waiting.1));
   }
 
-  -- it is the first that waits
-  pub first_waits : (x : ℕ) → IsWaiting before work start now x → (x ≡ m) ⊎ (m ≤ x)
-  first_waits x waiting = ⊎_elim {C = (x ≡ m) ⊎ (m ≤ x)}
-      (λ (same : x ≡ m). inl same)
-      (λ (there : Contains new x). inr (leaves.least x there))
-      (leaves.others x (h.each x (waiting_is_free before work start now x waiting) waiting.1))
-
 -- where none is ready, no message waits
-pub none_waits : (before : ℕ → ℕ → Type 0) (work : Work) (start : ℕ → ℕ) (now : ℕ) (ready : List ℕ) → ready ≡ []
+pub none_waits : (before : Relation) (work : Work) (start : ℕ → ℕ) (now : ℕ) (ready : List ℕ) → ready ≡ []
     → AreReady before work start now (now + 1) ready → (x : ℕ) → IsWaiting before work start now x → ⊥
 none_waits before work start now ready none h x waiting =
     let there = subst (λ xs. Contains xs x) none (h.each x (waiting_is_free before work start now x waiting) waiting.1) in
     let within = there.1 in
     omega (arith, within)
 
-module _ (before : ℕ → ℕ → Type 0) (work : Work) (k : ℕ) (forward : IsForward before work) (old starts seats free_at order : List ℕ) (now : ℕ) where
-  -- the turn comes to the first message that waits, where a worker is free
-  pub goes_to_first : (turn m w : ℕ) → IsLeastFree free_at now w → IsWaiting before work (start_of starts) now m
-      → ((x : ℕ) → IsWaiting before work (start_of starts) now x → (x ≡ m) ⊎ (m ≤ x))
-      → GoesOn before work k old starts seats free_at order now turn → GoesOn before work k old starts seats free_at order now m
-  goes_to_first turn m w free waiting first h =
-      ⊎_elim {C = GoesOn before work k old starts seats free_at order now m}
-      (λ (past : m < turn).
-      let p = h.progress in
-      let all : running work (start_of starts) now ≡ k = p.settled.busy now m (inr (refl, past)) waiting.0 waiting.1 in
-      let workers : length free_at ≡ k = p.workers_count in
-      let to : w ≤ length free_at = free.to in
-      let room : running work (start_of starts) now < k
-      = one_free before work k (start_of starts) (start_of seats) now turn free_at p.workers_count p.settled p.workers w free.from (omega arith) free.free in
-      absurd (omega arith))
-      (λ (on : turn ≤ m). record {
-        progress = progress_skip before work k forward starts seats free_at order now turn m on
-            (λ n low high ready waits. ⊎_elim {C = running work (start_of starts) now ≡ k}
-            (λ (same : n ≡ m). absurd (omega arith))
-            (λ (late : m ≤ n). absurd (omega arith))
-            (first n (ready, waits)))
-            h.progress;
-        kept = h.kept;
-      })
-      (cases_lt m turn)
-
-  -- the turn comes to the end where no message waits
-  pub goes_to_end : (turn next : ℕ) → turn ≤ next → ((x : ℕ) → IsWaiting before work (start_of starts) now x → ⊥)
-      → GoesOn before work k old starts seats free_at order now turn → GoesOn before work k old starts seats free_at order now next
-  goes_to_end turn next on none h = record {
-    progress = progress_skip before work k forward starts seats free_at order now turn next on
-        (λ n low high ready waits. absurd (none n (ready, waits))) h.progress;
-    kept = h.kept;
-  }
-
+module _ (before : Relation) (priority : ℕ → ℕ) (work : Work) (k : ℕ) (forward : IsForward before work) (old starts seats free_at order : List ℕ) (now : ℕ) where
   -- what waits when one more is placed waited before
   pub waiting_back : (x w : ℕ) → IsNumber work x → now < NEVER → 1 ≤ work.cost x → now < start_of starts x
-      → IsProgress before work k starts seats free_at order now x → w ≤ length free_at
+      → IsProgress before priority work k starts seats free_at order now x now → w ≤ length free_at
       → (y : ℕ) → IsWaiting before work (start_of (set starts (x - 1) now)) now y → IsWaiting before work (start_of starts) now y
   waiting_back x w number short cost unplaced h inside y waiting =
       let from : 1 ≤ x = number.from in
       let to : x ≤ work.count = number.to in
       let starts_long : length starts ≡ work.count = h.starts_count in
       let seats_long : length seats ≡ work.count = h.seats_count in
-      let back = ready_back before work k forward (start_of starts) (start_of seats) (start_of (set starts (x - 1) now)) (start_of (set seats (x - 1) w))
+      let back = ready_back before priority work k forward (start_of starts) (start_of seats) (start_of (set starts (x - 1) now)) (start_of (set seats (x - 1) w))
       now x w number short cost (moved_by_set starts x now from (omega arith)) (moved_by_set seats x w from (omega arith)) unplaced h.settled now y (omega arith) waiting.0 waiting.1 in
       (back.0, back.1)
 
--- what is kept while the messages that wait are placed
-pub record IsFilling (needs : List (List ℕ)) (work : Work) (k : ℕ) (old starts seats free_at order : List ℕ) (finishes : List (ℕ × ℕ)) (idle left ready : List ℕ) (now : ℕ) : Type 0 where
-  pub turn : ℕ
+-- the first of a list leaves it
+pub leaves_head : (m : ℕ) (xs : List ℕ) → Leaves (m ∷ xs) m xs
+leaves_head m xs = leaves_of (m ∷ xs) m xs (IsPermutation-refl (m ∷ xs))
+
+-- what is kept while the chosen messages are placed, where messages are to be placed on workers
+pub record IsFilling (needs : List (List ℕ)) (priority : ℕ → ℕ) (work : Work) (k : ℕ) (old starts seats free_at order : List ℕ) (finishes : List (ℕ × ℕ)) (idle left ready : List ℕ) (now turn : ℕ) : Type 0 where
   pub to : turn ≤ work.count + 1
-  pub on : GoesOn (IsNeed needs) work k old starts seats free_at order now turn
+  pub on : GoesOn (IsNeed needs) priority work k old starts seats free_at order now turn now
   pub running : AreFinishes work (start_of starts) now finishes
   pub workers : AreIdle free_at now idle
   pub counts : AreLeft needs (start_of starts) finishes left
   pub waiting : AreReady (IsNeed needs) work (start_of starts) now (now + 1) ready
 
-module _ (needs : List (List ℕ)) (work : Work) (k : ℕ) (forward : IsForward (IsNeed needs) work) (same : length needs ≡ work.count) (old starts seats free_at order : List ℕ)
-    (finishes : List (ℕ × ℕ)) (idle left ready : List ℕ) (now : ℕ) (h : IsFilling needs work k old starts seats free_at order finishes idle left ready now)
-    (m : ℕ) (new : List ℕ) (leaves : Leaves ready m new) where
-  -- the first that waits is placed
-  pub filling_place : (w : ℕ) (others : List ℕ) (more : List (ℕ × ℕ)) → now < NEVER → 1 ≤ work.cost m → Leaves idle w others → get_or free_at (w - 1) 0 ≤ now → now < start_of starts m
+module _ (needs : List (List ℕ)) (priority : ℕ → ℕ) (work : Work) (k : ℕ) (forward : IsForward (IsNeed needs) work) (same : length needs ≡ work.count) (old starts seats free_at order : List ℕ)
+    (finishes : List (ℕ × ℕ)) (idle left ready : List ℕ) (now turn m w : ℕ)
+    (h : IsFilling needs priority work k old starts seats free_at order finishes (w ∷ idle) left (m ∷ ready) now turn) where
+  -- a message is placed on the least worker that is free
+  pub filling_place : (more : List (ℕ × ℕ)) → now < NEVER → 1 ≤ work.cost m → turn ≤ m → ((v : ℕ) → Contains idle v → w ≤ v) → get_or free_at (w - 1) 0 ≤ now → now < start_of starts m
       → IsPermutation ((now + work.cost m, m) ∷ finishes) more
-      → IsFilling needs work k old (set starts (m - 1) now) (set seats (m - 1) w) (set free_at (w - 1) (now + work.cost m)) (order ++ m ∷ []) more others left new now
-  filling_place w others more short cost taken is_free unplaced pushed =
-      let least : IsLeastFree free_at now w = idle_least free_at now idle w others taken h.workers is_free in
+      → IsFilling needs priority work k old (set starts (m - 1) now) (set seats (m - 1) w) (set free_at (w - 1) (now + work.cost m)) (order ++ m ∷ []) more idle left ready now (m + 1)
+  filling_place more short cost up smallest is_free unplaced pushed =
+      let leaves = leaves_head m ready in
+      let taken = leaves_head w idle in
+      let least : IsLeastFree free_at now w = idle_least free_at now (w ∷ idle) w idle taken h.workers smallest is_free in
       let free = h.waiting.only m leaves.one in
       let is = free_is_waiting (IsNeed needs) work (start_of starts) now m free unplaced in
       let number : IsNumber work m = free.number in
       let from : 1 ≤ m = number.from in
       let to : m ≤ work.count = number.to in
-      let at = goes_to_first (IsNeed needs) work k forward old starts seats free_at order now h.turn m w least is
-      (first_waits (IsNeed needs) work (start_of starts) now ready m new leaves h.waiting) h.on in
+      let at = goes_skip (IsNeed needs) priority work k forward old starts seats free_at order now turn m up h.on in
       let p = at.progress in
       let starts_long : length starts ≡ work.count = p.starts_count in
       let moved = moved_by_set starts m now from (omega arith) in
@@ -190,39 +159,12 @@ module _ (needs : List (List ℕ)) (work : Work) (k : ℕ) (forward : IsForward 
       let never : start_of starts m ≡ NEVER = ⊎_elim {C = start_of starts m ≡ NEVER}
       (λ (early : start_of starts m ≤ now). absurd (omega arith)) (λ (is_never : start_of starts m ≡ NEVER). is_never) (p.settled.placed m number) in
       record {
-        turn = m + 1;
         to = omega arith;
-        on = goes_place (IsNeed needs) work k forward old starts seats free_at order now m w number short cost least is at;
+        on = goes_place (IsNeed needs) priority work k forward old starts seats free_at order now m w number short cost least is at;
         running = finishes_place work (start_of starts) (start_of (set starts (m - 1) now)) now m finishes more number unplaced here cost moved.others pushed h.running;
-        workers = idle_place free_at now idle w others taken h.workers (now + work.cost m) (omega arith);
+        workers = idle_place free_at now (w ∷ idle) w idle taken h.workers (now + work.cost m) (omega arith);
         counts = left_place needs work forward same (start_of starts) (start_of (set starts (m - 1) now)) m (now + work.cost m) finishes more left never
             (λ again. omega (arith, here, again)) moved.others pushed h.counts;
-        waiting = ready_place (IsNeed needs) work (start_of starts) now ready m new leaves h.waiting forward (start_of (set starts (m - 1) now)) unplaced here moved.others
-            (waiting_back (IsNeed needs) work k forward old starts seats free_at order now m w number short cost unplaced p least.to);
+        waiting = ready_place (IsNeed needs) work (start_of starts) now (m ∷ ready) m ready leaves h.waiting forward (start_of (set starts (m - 1) now)) unplaced here moved.others
+            (waiting_back (IsNeed needs) priority work k forward old starts seats free_at order now m w number short cost unplaced p least.to);
       }
-
-  -- one that has been placed is dropped
-  pub filling_drop : start_of starts m ≤ now → IsFilling needs work k old starts seats free_at order finishes idle left new now
-  filling_drop early = record {
-    turn = h.turn;
-    to = h.to;
-    on = h.on;
-    running = h.running;
-    workers = h.workers;
-    counts = h.counts;
-    waiting = ready_drop (IsNeed needs) work (start_of starts) now ready m new leaves h.waiting early;
-  }
-
--- the workers that are idle, where they change alone
-pub filling_idle : (needs : List (List ℕ)) (work : Work) (k : ℕ) (old starts seats free_at order : List ℕ) (finishes : List (ℕ × ℕ)) (idle others left ready : List ℕ) (now : ℕ)
-    → AreIdle free_at now others → IsFilling needs work k old starts seats free_at order finishes idle left ready now
-    → IsFilling needs work k old starts seats free_at order finishes others left ready now
-filling_idle needs work k old starts seats free_at order finishes idle others left ready now are h = record {
-  turn = h.turn;
-  to = h.to;
-  on = h.on;
-  running = h.running;
-  workers = are;
-  counts = h.counts;
-  waiting = h.waiting;
-}

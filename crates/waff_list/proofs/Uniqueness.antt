@@ -1,15 +1,16 @@
 -- The list plan for k workers is one: two list plans that are the same below a tick are the same at it. A message that starts at
 -- the tick in one and later in the other would be one more than the k that run in the other.
-use Rattle.std.proofs.Common.{◌≡◌, ℕ, zero, suc, ◌+◌, ◌<◌, ◌≤◌, inl, inr, Bool, true, false, cond, sum_by, refl, arith, sym, ap, subst}
+use Rattle.std.proofs.Common.{◌≡◌, ℕ, zero, suc, ◌+◌, ◌<◌, ◌≤◌, ◌⊎◌, ◌↔◌, ⊎_elim, inl, inr, Bool, true, false, cond, sum_by, refl, arith, sym, ap, subst, ◌∙◌}
 use Rattle.std.specs.List.{range_with_len}
 use Rattle.std.proofs.lemmas.Bool.{cases_lt, cases_order, false≢true}
 use Rattle.std.proofs.lemmas.Bool.Decides.{nat_tests}
+use Rattle.waff_assign.specs.Order.{Relation}
 use Rattle.waff_plan.specs.Work.{Work, IsNumber, finish_of}
 use Rattle.waff_plan.specs.Obeys.{IsForward}
 use Rattle.waff_plan.specs.Workers.{runs_at, running}
 use Rattle.waff_plan.proofs.Longest.{sum_more}
-use Rattle.waff_list.specs.ListRule.{IsReady, IsListPlan}
-use Rattle.waff_list.specs.Unique.{EachRuns, ListPlanIsOne}
+use Rattle.waff_list.specs.ListRule.{IsReady, IsTakenFirst, IsListPlan, arrival}
+use Rattle.waff_list.specs.Unique.{EachRuns, IsTotalOrder, TakeTheSame, ListPlanIsOne}
 
 -- the sum of the first n messages
 abbrev sum_to : (ℕ → ℕ) → ℕ → ℕ
@@ -76,11 +77,52 @@ pub record AreSameBelow (work : Work) (start other : ℕ → ℕ) (t : ℕ) : Ty
 turned : (work : Work) (start other : ℕ → ℕ) (t : ℕ) → AreSameBelow work start other t → AreSameBelow work other start t
 turned work start other t same = record { there = same.back; back = same.there }
 
-module _ (before : ℕ → ℕ → Type 0) (work : Work) (k : ℕ) (forward : IsForward before work) (runs : EachRuns work) where
+-- of two messages one is taken first
+taken_first : (priority : ℕ → ℕ) (i j : ℕ) → (i ≡ j) ⊎ (IsTakenFirst priority i j ⊎ IsTakenFirst priority j i)
+taken_first priority i j = elim (cases_order (priority i) (priority j)) [
+  | inl same ↦ elim (cases_order i j) [
+    | inl one ↦ inl one
+    | inr (inl earlier) ↦ inr (inl (inr (same, earlier)))
+    | inr (inr later) ↦ inr (inr (inr (sym same, later)))
+  ]
+  | inr (inl lower) ↦ inr (inr (inl lower))
+  | inr (inr higher) ↦ inr (inl (inl higher))
+]
+
+-- no message is taken before itself
+pub not_itself : (priority : ℕ → ℕ) (i : ℕ) → IsTakenFirst priority i i → ⊥
+not_itself priority i (inl higher) = omega arith
+not_itself priority i (inr (same, earlier)) = omega arith
+
+-- and what is taken before one is taken before all that that one is taken before
+pub onward : (priority : ℕ → ℕ) (i j k : ℕ) → IsTakenFirst priority i j → IsTakenFirst priority j k → IsTakenFirst priority i k
+onward priority i j k (inl higher) (inl more) = inl (omega arith)
+onward priority i j k (inl higher) (inr (same, later)) = inl (omega arith)
+onward priority i j k (inr (same, later)) (inl higher) = inl (omega arith)
+onward priority i j k (inr (same, later)) (inr (alike, last)) = inr (same ∙ alike, omega arith)
+
+pub order_of_priority : (priority : ℕ → ℕ) → IsTotalOrder (IsTakenFirst priority)
+order_of_priority priority = record {
+  apart = not_itself priority;
+  onward = onward priority;
+  any = λ i j other. elim (taken_first priority i j) [
+    | inl same ↦ absurd (other same)
+    | inr (inl first) ↦ inl first
+    | inr (inr last) ↦ inr last
+  ];
+}
+
+pub by_arrival : (i j : ℕ) → IsTakenFirst arrival i j ↔ (i < j)
+by_arrival i j = (
+  (λ first. ⊎_elim {C = i < j} (λ (higher : 0 < 0). absurd (omega arith)) (λ (both : (0 ≡ 0) × (i < j)). both.1) first),
+  (λ earlier. inr (refl, earlier)),
+)
+
+module _ (before : Relation) (work : Work) (k : ℕ) (forward : IsForward before work) (runs : EachRuns work) where
   -- what one plan starts at t is ready at t in the other, if it has not started there
-  ready_in_other : (start other : ℕ → ℕ) (t m : ℕ) → IsListPlan before work k start → AreSameBelow work start other t → IsNumber work m
+  ready_in_other : (priority : ℕ → ℕ) (start other : ℕ → ℕ) (t m : ℕ) → IsListPlan before priority work k start → AreSameBelow work start other t → IsNumber work m
       → start m ≡ t → t ≤ other m → IsReady before work other t m
-  ready_in_other start other t m plan same number here waits = record {
+  ready_in_other priority start other t m plan same number here waits = record {
     number = number;
     waits = waits;
     released = let released : work.release m ≤ start m = plan.within.obeys.released m number in omega arith;
@@ -95,31 +137,32 @@ module _ (before : ℕ → ℕ → Type 0) (work : Work) (k : ℕ) (forward : Is
         omega arith;
   }
 
+module _ (before : Relation) (first second : ℕ → ℕ) (work : Work) (k : ℕ)
+    (forward : IsForward before work) (runs : EachRuns work) (alike : TakeTheSame work first second) where
   -- where m starts at t in one plan and later in the other, what the other starts at t the one does too
-  starts_too : (start other : ℕ → ℕ) (t m i : ℕ) → IsListPlan before work k start → IsListPlan before work k other
+  starts_too : (start other : ℕ → ℕ) (t m i : ℕ) → IsListPlan before first work k start → IsListPlan before second work k other
       → AreSameBelow work start other t → IsNumber work m → start m ≡ t → t < other m → IsNumber work i → other i ≡ t → start i ≡ t
   starts_too start other t m i plan other_plan same number here later i_number i_here =
       elim (cases_order (start i) t) [
         | inl at ↦ at
         | inr (inl sooner) ↦ let at : other i ≡ start i = same.there i i_number sooner in absurd (omega arith)
-        | inr (inr late) ↦ elim (cases_order i m) [
+        | inr (inr late) ↦ elim (taken_first first i m) [
           | inl one ↦ let at : other i ≡ other m = ap other one in absurd (omega arith)
-          | inr (inl first) ↦
-              let to : m ≤ work.count = number.to in
-              let ready = ready_in_other other start t i other_plan (turned work start other t same) i_number i_here (omega arith) in
-              absurd (plan.follows.in_turn t i m ready late first to here)
+          | inr (inl sooner) ↦
+              let ready = ready_in_other before work k forward runs second other start t i other_plan (turned work start other t same) i_number i_here (omega arith) in
+              absurd (plan.follows.in_turn t i m ready late number sooner here)
           | inr (inr last) ↦
-              let to : i ≤ work.count = i_number.to in
-              let ready = ready_in_other start other t m plan same number here (omega arith) in
-              absurd (other_plan.follows.in_turn t m i ready later last to i_here)
+              let ready = ready_in_other before work k forward runs first start other t m plan same number here (omega arith) in
+              let both = alike m i number i_number in
+              absurd (other_plan.follows.in_turn t m i ready later i_number (both.0 last) i_here)
         ]
       ]
 
   -- so it would be one too many
-  not_later : (start other : ℕ → ℕ) (t m : ℕ) → IsListPlan before work k start → IsListPlan before work k other
+  not_later : (start other : ℕ → ℕ) (t m : ℕ) → IsListPlan before first work k start → IsListPlan before second work k other
       → AreSameBelow work start other t → IsNumber work m → start m ≡ t → t < other m → ⊥
   not_later start other t m plan other_plan same number here later =
-      let ready = ready_in_other start other t m plan same number here (omega arith) in
+      let ready = ready_in_other before work k forward runs first start other t m plan same number here (omega arith) in
       let full : running work other t ≡ k = other_plan.follows.busy t m ready later in
       let within : running work start t ≤ k = plan.within.within t in
       let some : 1 ≤ work.cost m = runs m number in
@@ -138,7 +181,7 @@ module _ (before : ℕ → ℕ → Type 0) (work : Work) (k : ℕ) (forward : Is
       = more_run work start other t m each number (not_started work other t m later) (is_running work start t m (omega arith) (omega arith)) in
       omega arith
 
-  at_tick : (start other : ℕ → ℕ) (t m : ℕ) → IsListPlan before work k start → IsListPlan before work k other
+  at_tick : (start other : ℕ → ℕ) (t m : ℕ) → IsListPlan before first work k start → IsListPlan before second work k other
       → AreSameBelow work start other t → IsNumber work m → start m ≡ t → other m ≡ start m
   at_tick start other t m plan other_plan same number here = elim (cases_order (other m) t) [
     | inl at ↦ omega arith
@@ -146,7 +189,9 @@ module _ (before : ℕ → ℕ → Type 0) (work : Work) (k : ℕ) (forward : Is
     | inr (inr later) ↦ absurd (not_later start other t m plan other_plan same number here later)
   ]
 
-  same_below : (start other : ℕ → ℕ) → IsListPlan before work k start → IsListPlan before work k other → (t : ℕ) → AreSameBelow work start other t
+module _ (before : Relation) (first second : ℕ → ℕ) (work : Work) (k : ℕ)
+    (forward : IsForward before work) (runs : EachRuns work) (alike : TakeTheSame work first second) where
+  same_below : (start other : ℕ → ℕ) → IsListPlan before first work k start → IsListPlan before second work k other → (t : ℕ) → AreSameBelow work start other t
   same_below start other plan other_plan zero = record {
     there = λ m number sooner. absurd (omega arith);
     back = λ m number sooner. absurd (omega arith);
@@ -156,15 +201,15 @@ module _ (before : ℕ → ℕ → Type 0) (work : Work) (k : ℕ) (forward : Is
       record {
         there = λ m number sooner. elim (cases_lt (start m) t) [
           | inl before_t ↦ same.there m number before_t
-          | inr not_before ↦ at_tick start other t m plan other_plan same number (omega arith)
+          | inr not_before ↦ at_tick before first second work k forward runs alike start other t m plan other_plan same number (omega arith)
         ];
         back = λ m number sooner. elim (cases_lt (other m) t) [
           | inl before_t ↦ same.back m number before_t
-          | inr not_before ↦ at_tick other start t m other_plan plan (turned work start other t same) number (omega arith)
+          | inr not_before ↦ at_tick before second first work k forward runs (λ i j i_number j_number. let both = alike i j i_number j_number in (both.1, both.0)) other start t m other_plan plan (turned work start other t same) number (omega arith)
         ];
       }
 
-pub list_plan_is_one : (before : ℕ → ℕ → Type 0) (work : Work) → IsForward before work → EachRuns work → ListPlanIsOne before work
-list_plan_is_one before work forward runs k start other plan other_plan m number =
-    let same = same_below before work k forward runs start other plan other_plan (suc (start m)) in
+pub list_plan_is_one : (before : Relation) (work : Work) → IsForward before work → EachRuns work → ListPlanIsOne before work
+list_plan_is_one before work forward runs priority other_priority k start other alike plan other_plan m number =
+    let same = same_below before priority other_priority work k forward runs alike start other plan other_plan (suc (start m)) in
     sym (same.there m number (omega arith))

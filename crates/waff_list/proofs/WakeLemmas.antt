@@ -5,8 +5,8 @@ use Rattle.std.proofs.lemmas.List.{get_or_default}
 use Rattle.waff_plan.specs.Work.{Work, IsNumber, finish_of}
 use Rattle.waff_plan.specs.Obeys.{IsForward}
 use Rattle.waff_order.specs.Needs.{IsNeed}
-use Rattle.waff_list.specs.Waiting.{Joins, IsFree, AreReady, AreFinishes, AreLeft, AreReleases, ArePassed, Admits, IsNextRelease, left_of}
-use Rattle.waff_list.specs.declared.progress.TheConstants.{NEVER}
+use Rattle.waff_list.specs.Waiting.{Ready, Joins, IsFree, AreReady, AreFinishes, AreLeft, AreReleases, ArePassed, Admits, IsNextRelease, left_of}
+use Rattle.waff_list.specs.declared.work.TheConstants.{NEVER}
 use Rattle.waff_list.proofs.CountLemmas.{left_finished, left_over}
 
 -- a message that is released by the next tick is one of those passed before, or one of those passed since
@@ -91,14 +91,14 @@ module _ (needs : List (List ℕ)) (work : Work) (forward : IsForward (IsNeed ne
   }
 
   -- and those that are released and need nothing more
-  pub ready_pass : (now end : ℕ) (finishes releases : List (ℕ × ℕ)) (left ready ready_after : List ℕ) (passed more : ℕ) → end ≤ now + 1
+  pub ready_pass : (now end : ℕ) (finishes releases : List (ℕ × ℕ)) (left : List ℕ) (ready ready_after : Ready) (passed more : ℕ) → end ≤ now + 1
       → AreKnown needs work start now finishes left → AreReleases work releases
       → ((i : ℕ) (d : ℕ × ℕ) → i < passed → i < length releases → (get_or releases i d).0 < end)
       → ArePassed releases more now → Admits releases passed more left ready ready_after
-      → AreReady (IsNeed needs) work start now end ready → AreReady (IsNeed needs) work start now (now + 1) ready_after
+      → AreReady (IsNeed needs) work start now end ready.messages → AreReady (IsNeed needs) work start now (now + 1) ready_after.messages
   ready_pass now end finishes releases left ready ready_after passed more within known are before after admits h = record {
     only = λ m there. ⊎_elim {C = IsFree (IsNeed needs) work start now (now + 1) m}
-        (λ (was : Contains ready m).
+        (λ (was : Contains ready.messages m).
         let free = h.only m was in
         let released : work.release m < end = free.released in
         record { number = free.number; released = omega arith; free = free.free })
@@ -113,12 +113,12 @@ module _ (needs : List (List ℕ)) (work : Work) (forward : IsForward (IsNeed ne
         let number : IsNumber work m = free.number in
         let released : work.release m < now + 1 = free.released in
         let none : left_of left m ≡ 0 = over now finishes left known m number free.free in
-        ⊎_elim {C = Contains ready_after m}
+        ⊎_elim {C = Contains ready_after.messages m}
         (λ (early : work.release m < end).
         let was : IsFree (IsNeed needs) work start now end m = record { number = number; released = early; free = free.free } in
         admits.kept m (h.each m was late))
         (λ (there : (i : ℕ) × (passed ≤ i) × (i < more) × ((get_or releases i (0, 0)).1 ≡ m)).
-        subst (λ x. Contains ready_after x) there.3
+        subst (λ x. Contains ready_after.messages x) there.3
         (admits.added there.0 there.1 there.2 (subst (λ x. left_of left x ≡ 0) (sym there.3) none)))
         (released_by work releases passed more now m (work.release m < end) are
         (λ i early inside release. let is : (get_or releases i (work.release m, m)).0 < end = before i (work.release m, m) early inside in omega (arith, release))
@@ -189,36 +189,38 @@ passed_more releases passed more now on within released next h = record {
 }
 
 -- one release more has been passed, of a message that needs nothing more or of another
-module _ (releases : List (ℕ × ℕ)) (from at : ℕ) (left old ready : List ℕ) (inside : at < length releases) (h : Admits releases from at left old ready) where
-  pub admits_one : (m : ℕ) (new : List ℕ) → m ≡ (get_or releases at (0, 0)).1 → left_of left m ≡ 0 → Joins ready m new → Admits releases from (at + 1) left old new
-  admits_one m new is none joins = record {
+module _ (releases : List (ℕ × ℕ)) (from at : ℕ) (left : List ℕ) (old ready : Ready) (inside : at < length releases) (h : Admits releases from at left old ready) where
+  pub admits_one : (m : ℕ) (new : Ready) → m ≡ (get_or releases at (0, 0)).1 → left_of left m ≡ 0 → Joins ready.messages m new.messages → new.priorities ≡ ready.priorities → Admits releases from (at + 1) left old new
+  admits_one m new is none joins alike = record {
+    same = alike ∙ h.same;
     kept = λ x there. joins.kept x (h.kept x there);
-    added = λ i from_i before here. ⊎_elim {C = Contains new (get_or releases i (0, 0)).1}
-        (λ (same : i ≡ at). subst (λ j. Contains new (get_or releases j (0, 0)).1) (sym same) (subst (λ x. Contains new x) is joins.here))
+    added = λ i from_i before here. ⊎_elim {C = Contains new.messages (get_or releases i (0, 0)).1}
+        (λ (same : i ≡ at). subst (λ j. Contains new.messages (get_or releases j (0, 0)).1) (sym same) (subst (λ x. Contains new.messages x) is joins.here))
         (λ (other : i ≢ at). joins.kept (get_or releases i (0, 0)).1 (h.added i from_i (omega arith) here))
         (cases_eq i at);
-    only = λ x there. ⊎_elim {C = Contains old x ⊎ ((i : ℕ) × (i < at + 1) × (i < length releases) × (x ≡ (get_or releases i (0, 0)).1) × (left_of left x ≡ 0))}
-        (λ (was : Contains ready x). earlier x was)
+    only = λ x there. ⊎_elim {C = Contains old.messages x ⊎ ((i : ℕ) × (i < at + 1) × (i < length releases) × (x ≡ (get_or releases i (0, 0)).1) × (left_of left x ≡ 0))}
+        (λ (was : Contains ready.messages x). earlier x was)
         (λ (same : x ≡ m). inr (at, omega arith, inside, same ∙ is, subst (λ y. left_of left y ≡ 0) (sym same) none))
         (joins.only x there);
   }
     where
-      earlier : (x : ℕ) → Contains ready x → Contains old x ⊎ ((i : ℕ) × (i < at + 1) × (i < length releases) × (x ≡ (get_or releases i (0, 0)).1) × (left_of left x ≡ 0))
-      earlier x was = ⊎_elim {C = Contains old x ⊎ ((i : ℕ) × (i < at + 1) × (i < length releases) × (x ≡ (get_or releases i (0, 0)).1) × (left_of left x ≡ 0))}
-          (λ (first : Contains old x). inl first)
+      earlier : (x : ℕ) → Contains ready.messages x → Contains old.messages x ⊎ ((i : ℕ) × (i < at + 1) × (i < length releases) × (x ≡ (get_or releases i (0, 0)).1) × (left_of left x ≡ 0))
+      earlier x was = ⊎_elim {C = Contains old.messages x ⊎ ((i : ℕ) × (i < at + 1) × (i < length releases) × (x ≡ (get_or releases i (0, 0)).1) × (left_of left x ≡ 0))}
+          (λ (first : Contains old.messages x). inl first)
           (λ (one : (i : ℕ) × (i < at) × (i < length releases) × (x ≡ (get_or releases i (0, 0)).1) × (left_of left x ≡ 0)).
           let before = one.1 in inr (one.0, omega (arith, before), one.2, one.3, one.4))
           (h.only x was)
 
   pub admits_other : left_of left (get_or releases at (0, 0)).1 ≢ 0 → Admits releases from (at + 1) left old ready
   admits_other some = record {
+    same = h.same;
     kept = h.kept;
-    added = λ i from_i before here. ⊎_elim {C = Contains ready (get_or releases i (0, 0)).1}
+    added = λ i from_i before here. ⊎_elim {C = Contains ready.messages (get_or releases i (0, 0)).1}
         (λ (same : i ≡ at). absurd (some (subst (λ j. left_of left (get_or releases j (0, 0)).1 ≡ 0) same here)))
         (λ (other : i ≢ at). h.added i from_i (omega arith) here)
         (cases_eq i at);
-    only = λ x there. ⊎_elim {C = Contains old x ⊎ ((i : ℕ) × (i < at + 1) × (i < length releases) × (x ≡ (get_or releases i (0, 0)).1) × (left_of left x ≡ 0))}
-        (λ (first : Contains old x). inl first)
+    only = λ x there. ⊎_elim {C = Contains old.messages x ⊎ ((i : ℕ) × (i < at + 1) × (i < length releases) × (x ≡ (get_or releases i (0, 0)).1) × (left_of left x ≡ 0))}
+        (λ (first : Contains old.messages x). inl first)
         (λ (one : (i : ℕ) × (i < at) × (i < length releases) × (x ≡ (get_or releases i (0, 0)).1) × (left_of left x ≡ 0)).
         let before = one.1 in inr (one.0, omega (arith, before), one.2, one.3, one.4))
         (h.only x there);

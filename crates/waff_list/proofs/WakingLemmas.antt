@@ -11,14 +11,15 @@ wakes_join work now a b c first second = record {
   count = second.count ∙ first.count;
   fewer = λ m. omega (arith, first.fewer m, second.fewer m);
   kept = λ m there. second.kept m (first.kept m there);
-  woken = λ m number some none released. ⊎_elim {C = Contains c.ready m}
+  same = second.same ∙ first.same;
+  woken = λ m number some none released. ⊎_elim {C = Contains c.ready.messages m}
       (λ (over : left_of b.left.items m < 1). second.kept m (first.woken m number some (omega arith) released))
       (λ (more : 1 ≤ left_of b.left.items m). second.woken m number more none released)
       (cases_lt (left_of b.left.items m) 1);
-  only = λ m there. ⊎_elim {C = Contains a.ready m ⊎ (IsNumber work m × (left_of c.left.items m ≡ 0) × (work.release m ≤ now))}
-      (λ (before : Contains b.ready m).
-      ⊎_elim {C = Contains a.ready m ⊎ (IsNumber work m × (left_of c.left.items m ≡ 0) × (work.release m ≤ now))}
-      (λ (was : Contains a.ready m). inl was)
+  only = λ m there. ⊎_elim {C = Contains a.ready.messages m ⊎ (IsNumber work m × (left_of c.left.items m ≡ 0) × (work.release m ≤ now))}
+      (λ (before : Contains b.ready.messages m).
+      ⊎_elim {C = Contains a.ready.messages m ⊎ (IsNumber work m × (left_of c.left.items m ≡ 0) × (work.release m ≤ now))}
+      (λ (was : Contains a.ready.messages m). inl was)
       (λ (one : IsNumber work m × (left_of b.left.items m ≡ 0) × (work.release m ≤ now)).
       let none : left_of b.left.items m ≡ 0 = one.1 in
       inr (one.0, omega (arith, second.fewer m, none), one.2))
@@ -52,11 +53,12 @@ module _ (work : Work) (left : List ℕ) (m : ℕ) (number : IsNumber work m) (l
 -- one message is told
 pub wakes_one : (work : Work) (now m : ℕ) (old new : Waiting) → IsNumber work m → length old.left.items ≡ work.count → 1 ≤ left_of old.left.items m
     → new.left.items ≡ set old.left.items (m - 1) (left_of old.left.items m - 1)
-    → ((x : ℕ) → Contains old.ready x → Contains new.ready x)
-    → (left_of old.left.items m ≡ 1 → work.release m ≤ now → Contains new.ready m)
-    → ((x : ℕ) → Contains new.ready x → Contains old.ready x ⊎ ((x ≡ m) × (left_of old.left.items m ≡ 1) × (work.release m ≤ now)))
+    → new.ready.priorities ≡ old.ready.priorities
+    → ((x : ℕ) → Contains old.ready.messages x → Contains new.ready.messages x)
+    → (left_of old.left.items m ≡ 1 → work.release m ≤ now → Contains new.ready.messages m)
+    → ((x : ℕ) → Contains new.ready.messages x → Contains old.ready.messages x ⊎ ((x ≡ m) × (left_of old.left.items m ≡ 1) × (work.release m ≤ now)))
     → Wakes work now old new
-wakes_one work now m old new number long some is kept woken only =
+wakes_one work now m old new number long some is same_priorities kept woken only =
     let left = old.left.items in
     let from : 1 ≤ m = number.from in
     record {
@@ -71,17 +73,18 @@ wakes_one work now m old new number long some is kept woken only =
           omega arith)
           (less_at work left m number long x);
       kept = kept;
-      woken = λ x x_number more none released. ⊎_elim {C = Contains new.ready x}
+      same = same_priorities;
+      woken = λ x x_number more none released. ⊎_elim {C = Contains new.ready.messages x}
           (λ (same : x ≡ m).
           let at : left_of new.left.items m ≡ left_of left m - 1 = ap (λ xs. left_of xs m) is ∙ less_here work left m number long in
           let over : left_of new.left.items m ≡ 0 = subst (λ y. left_of new.left.items y ≡ 0) same none in
-          subst (λ y. Contains new.ready y) (sym same) (woken (omega arith) (subst (λ y. work.release y ≤ now) same released)))
+          subst (λ y. Contains new.ready.messages y) (sym same) (woken (omega arith) (subst (λ y. work.release y ≤ now) same released)))
           (λ (other : x ≢ m).
           let at : left_of new.left.items x ≡ left_of left x = ap (λ xs. left_of xs x) is ∙ less_other work left m number long x x_number.from other in
           absurd (omega arith))
           (cases_eq x m);
-      only = λ x there. ⊎_elim {C = Contains old.ready x ⊎ (IsNumber work x × (left_of new.left.items x ≡ 0) × (work.release x ≤ now))}
-          (λ (was : Contains old.ready x). inl was)
+      only = λ x there. ⊎_elim {C = Contains old.ready.messages x ⊎ (IsNumber work x × (left_of new.left.items x ≡ 0) × (work.release x ≤ now))}
+          (λ (was : Contains old.ready.messages x). inl was)
           (λ (one : (x ≡ m) × (left_of left m ≡ 1) × (work.release m ≤ now)).
           let at : left_of new.left.items m ≡ left_of left m - 1 = ap (λ xs. left_of xs m) is ∙ less_here work left m number long in
           let last : left_of left m ≡ 1 = one.1 in

@@ -4,5 +4,8 @@ pub mod Bound
 pub mod Progress
 pub mod Seating
 pub mod Waiting
+pub mod Choosing
 pub mod Planning
 pub mod Unique
+pub mod Tails
+pub mod Rules

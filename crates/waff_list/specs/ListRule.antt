@@ -1,26 +1,37 @@
--- The list rule for k workers (Graham 1969), with ties by arrival: whenever a worker is free and
--- messages are ready, the ready message that arrived first starts.
-use Rattle.std.specs.Prelude.{◌≡◌, ◌≢◌, ℕ, ◌<◌, ◌≤◌}
+-- The list rule for k workers (Graham 1969), for any priority of the messages: whenever a worker is
+-- free and messages are ready, the ready message that is taken first starts.
+use Rattle.std.specs.Prelude.{◌≡◌, ◌≢◌, ℕ, ◌<◌, ◌≤◌, ◌⊎◌}
+use Rattle.waff_assign.specs.Order.{Relation}
 use Rattle.waff_plan.specs.Work.{Work, IsNumber, finish_of}
 use Rattle.waff_plan.specs.Workers.{running, IsWorkerPlan}
 
+-- of two ready messages i is taken first: its priority is higher, or they have the same and i
+-- arrived first
+abbrev pub IsTakenFirst : (ℕ → ℕ) → Relation
+IsTakenFirst priority i j = (priority j < priority i) ⊎ ((priority i ≡ priority j) × (i < j))
+
+-- by arrival: all messages have the same priority
+abbrev pub arrival : ℕ → ℕ
+arrival m = 0
+
 -- m is ready at the tick t: it has not started before t, its release is no later than t, and each
 -- message that is before it has finished by t
-pub record IsReady (before : ℕ → ℕ → Type 0) (work : Work) (start : ℕ → ℕ) (t m : ℕ) : Type 0 where
+pub record IsReady (before : Relation) (work : Work) (start : ℕ → ℕ) (t m : ℕ) : Type 0 where
   pub number : IsNumber work m
   pub waits : t ≤ start m
   pub released : work.release m ≤ t
   pub free : (i : ℕ) → before i m → finish_of work start i ≤ t
 
--- where a message is ready at t and starts later, k messages run at t, and no message that arrived
--- later starts at t
-pub record FollowsListRule (before : ℕ → ℕ
-    → Type 0) (work : Work) (k : ℕ) (start : ℕ → ℕ) : Type 0 where
+-- where a message is ready at t and starts later, k messages run at t, and none that it is taken
+-- before starts at t
+pub record FollowsListRule (before : Relation) (priority : ℕ → ℕ)
+    (work : Work) (k : ℕ) (start : ℕ → ℕ) : Type 0 where
   pub busy : (t m : ℕ) → IsReady before work start t m → t < start m → running work start t ≡ k
-  pub in_turn : (t m later : ℕ) → IsReady before work start t m
-      → t < start m → m < later → later ≤ work.count → start later ≢ t
+  pub in_turn : (t m other : ℕ) → IsReady before work start t m → t < start m
+      → IsNumber work other → IsTakenFirst priority m other → start other ≢ t
 
 -- a list plan for k: a worker plan for k that follows the list rule
-pub record IsListPlan (before : ℕ → ℕ → Type 0) (work : Work) (k : ℕ) (start : ℕ → ℕ) : Type 0 where
+pub record IsListPlan (before : Relation) (priority : ℕ → ℕ)
+    (work : Work) (k : ℕ) (start : ℕ → ℕ) : Type 0 where
   pub within : IsWorkerPlan before work k start
-  pub follows : FollowsListRule before work k start
+  pub follows : FollowsListRule before priority work k start

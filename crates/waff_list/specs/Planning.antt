@@ -12,16 +12,17 @@ use Rattle.waff_list.specs.declared.progress.Progress.{Progress}
 use Rattle.waff_list.specs.declared.waiting.Waiting.{Waiting}
 
 -- the plan has been made up to the tick now and no message at now
-abbrev pub IsBegun : List (List ℕ) → List Message → Progress → ℕ → Type 0
-IsBegun needs messages p now =
-    IsProgress (IsNeed needs) (work_of_messages messages) (length p.free_at.items)
-    p.starts.items p.seats.items p.free_at.items p.order.items now 1
+abbrev pub IsBegun : List (List ℕ) → (ℕ → ℕ) → List Message → Progress → ℕ → Type 0
+IsBegun needs priority messages p now =
+    IsProgress (IsNeed needs) priority (work_of_messages messages) (length p.free_at.items)
+    p.starts.items p.seats.items p.free_at.items p.order.items now 1 now
 
 -- it has been made up to the last message at now, and what was placed before stays placed
-abbrev pub IsFilled : List (List ℕ) → List Message → Progress → Progress → ℕ → Type 0
-IsFilled needs messages old new now =
-    GoesOn (IsNeed needs) (work_of_messages messages) (length old.free_at.items) old.starts.items
-    new.starts.items new.seats.items new.free_at.items new.order.items now (length messages + 1)
+abbrev pub IsFilled : List (List ℕ) → (ℕ → ℕ) → List Message → Progress → Progress → ℕ → Type 0
+IsFilled needs priority messages old new now =
+    GoesOn (IsNeed needs) priority (work_of_messages messages) (length old.free_at.items)
+    old.starts.items new.starts.items new.seats.items new.free_at.items new.order.items
+    now (length messages + 1) (now + 1)
 
 -- what is kept of the messages that run and of those that wait, where the releases before the tick
 -- end have been passed
@@ -32,7 +33,7 @@ pub record IsKept (needs : List (List ℕ)) (messages : List Message)
   pub idle : AreIdle p.free_at.items now p.idle
   pub left : AreLeft needs (start_of p.starts.items) p.finishes w.left.items
   pub ready : AreReady (IsNeed needs)
-      (work_of_messages messages) (start_of p.starts.items) now end w.ready
+      (work_of_messages messages) (start_of p.starts.items) now end w.ready.messages
 
 -- each message that runs is one of the trace, and is counted wherever it is a need
 pub record AreCounted (needs : List (List ℕ)) (messages : List Message)
@@ -64,8 +65,9 @@ pub record IsPlaced (old : Progress) (message worker now cost : ℕ) (new : Prog
 pub record Wakes (work : Work) (now : ℕ) (old new : Waiting) : Type 0 where
   pub count : length new.left.items ≡ length old.left.items
   pub fewer : (m : ℕ) → left_of new.left.items m ≤ left_of old.left.items m
-  pub kept : (m : ℕ) → Contains old.ready m → Contains new.ready m
+  pub kept : (m : ℕ) → Contains old.ready.messages m → Contains new.ready.messages m
   pub woken : (m : ℕ) → IsNumber work m → 1 ≤ left_of old.left.items m
-      → left_of new.left.items m ≡ 0 → work.release m ≤ now → Contains new.ready m
-  pub only : (m : ℕ) → Contains new.ready m → Contains old.ready m
+      → left_of new.left.items m ≡ 0 → work.release m ≤ now → Contains new.ready.messages m
+  pub only : (m : ℕ) → Contains new.ready.messages m → Contains old.ready.messages m
       ⊎ (IsNumber work m × (left_of new.left.items m ≡ 0) × (work.release m ≤ now))
+  pub same : new.ready.priorities ≡ old.ready.priorities

@@ -1,27 +1,52 @@
--- One thing each: the list plan for k workers, the workers of its messages, and its order.
-use Rattle.std.specs.Prelude.{◌≡◌, ℕ, ◌≤◌, ◌↔◌, List}
-use Rattle.waff_assign.specs.Order.{Path}
+-- One thing each: of two messages the one that is taken first, the list plan for k workers, the
+-- workers of its messages, and its order.
+use Rattle.std.specs.Prelude.{◌≡◌, ◌≢◌, ℕ, ◌≤◌, ◌⊎◌, ◌↔◌, List}
+use Rattle.waff_assign.specs.Order.{Path, Relation}
 use Rattle.waff_plan.specs.Work.{Work, IsNumber}
 use Rattle.waff_plan.specs.Unique.{AreSame}
-use Rattle.waff_list.specs.ListRule.{IsListPlan}
+use Rattle.waff_list.specs.ListRule.{IsTakenFirst, IsListPlan}
+use Rattle.waff_list.specs.Rules.{IsPlanBy}
+use Rattle.waff_list.specs.declared.rule.Rule.{Rule}
 use Rattle.waff_list.specs.Seats.{IsSeated, IsInOrder}
 
 -- each message runs for one tick at least
 abbrev pub EachRuns : Work → Type 0
 EachRuns work = (m : ℕ) → IsNumber work m → 1 ≤ work.cost m
 
--- two list plans for k start each message at the same tick
-abbrev pub ListPlanIsOne : (ℕ → ℕ → Type 0) → Work → Type 0
+-- a priority orders all messages: none is taken before itself, whatever is taken before one is taken
+-- before what that one is taken before, and of any two one is
+pub record IsTotalOrder (first : Relation) : Type 0 where
+  pub apart : (i : ℕ) → first i i → ⊥
+  pub onward : (i j k : ℕ) → first i j → first j k → first i k
+  pub any : (i j : ℕ) → i ≢ j → first i j ⊎ first j i
+
+-- two priorities of which each takes the same one of two messages first
+abbrev pub TakeTheSame : Work → (ℕ → ℕ) → (ℕ → ℕ) → Type 0
+TakeTheSame work priority other =
+    (i j : ℕ) → IsNumber work i → IsNumber work j
+    → IsTakenFirst priority i j ↔ IsTakenFirst other i j
+
+-- two list plans for k, by priorities that take the same messages first, start each message at the
+-- same tick
+abbrev pub ListPlanIsOne : Relation → Work → Type 0
 ListPlanIsOne before work =
-    (k : ℕ) (start other : ℕ → ℕ) → IsListPlan before work k start → IsListPlan before work k other
-    → AreSame work start other
+    (priority other_priority : ℕ → ℕ) (k : ℕ) (start other : ℕ → ℕ)
+    → TakeTheSame work priority other_priority → IsListPlan before priority work k start
+    → IsListPlan before other_priority work k other → AreSame work start other
+
+-- two plans for k by the same rule start each message at the same tick
+abbrev pub RulePlanIsOne : Relation → Work → Type 0
+RulePlanIsOne before work =
+    (rule : Rule) (k : ℕ) (start other : ℕ → ℕ) → IsPlanBy rule before work k start
+    → IsPlanBy rule before work k other → AreSame work start other
 
 -- two sets of pairs have the same list plans, where each pair of the one is a path through the
 -- other
-abbrev pub ListPlansAreShared : (ℕ → ℕ → Type 0) → (ℕ → ℕ → Type 0) → Work → Type 0
+abbrev pub ListPlansAreShared : Relation → Relation → Work → Type 0
 ListPlansAreShared near before work =
     ((i j : ℕ) → before i j → Path near i j) → ((i j : ℕ) → near i j → Path before i j)
-    → (k : ℕ) (start : ℕ → ℕ) → IsListPlan near work k start ↔ IsListPlan before work k start
+    → (priority : ℕ → ℕ) (k : ℕ) (start : ℕ → ℕ)
+    → IsListPlan near priority work k start ↔ IsListPlan before priority work k start
 
 -- each message has the least worker that is free
 abbrev pub AreSeated : Work → (ℕ → ℕ) → (ℕ → ℕ) → Type 0

@@ -3,9 +3,20 @@
 -- be released; and of those that run, when they finish.
 use Rattle.std.specs.Prelude.{◌≡◌, ◌≢◌, ℕ, ◌+◌, ◌-◌, ◌<◌, ◌≤◌, ◌⊎◌, List, length, All, AllPairs}
 use Rattle.std.specs.Prelude.{Contains, slice_index, slice_index_or, count_by, sum_by, ◌==◌}
+use Rattle.waff_assign.specs.Order.{Relation}
 use Rattle.waff_plan.specs.Work.{Work, IsNumber, finish_of}
 use Rattle.waff_order.specs.Needs.{needs_of}
-use Rattle.waff_list.specs.declared.progress.TheConstants.{NEVER}
+use Rattle.waff_list.specs.ListRule.{IsTakenFirst}
+use Rattle.waff_list.specs.declared.work.TheConstants.{NEVER}
+
+-- the messages that are ready, and the priority of each message of the trace
+pub record Ready : Type 0 where
+  pub messages : List ℕ
+  pub priorities : List ℕ
+
+-- the priority of message m, from 1; 0 where none is listed
+abbrev pub priority_of : List ℕ → ℕ → ℕ
+priority_of priorities m = slice_index priorities (m - 1)
 
 -- m has joined a heap
 pub record Joins (old : List ℕ) (m : ℕ) (new : List ℕ) : Type 0 where
@@ -14,13 +25,24 @@ pub record Joins (old : List ℕ) (m : ℕ) (new : List ℕ) : Type 0 where
   pub only : (x : ℕ) → Contains new x → Contains old x ⊎ (x ≡ m)
   pub more : length new ≡ length old + 1
 
--- m, the least number of a heap, has left it
+-- m has left a heap
 pub record Leaves (old : List ℕ) (m : ℕ) (new : List ℕ) : Type 0 where
   pub one : Contains old m
   pub others : (x : ℕ) → Contains old x → (x ≡ m) ⊎ Contains new x
   pub only : (x : ℕ) → Contains new x → Contains old x
-  pub least : (x : ℕ) → Contains new x → m ≤ x
   pub fewer : length new + 1 ≡ length old
+
+-- m, the least number of a heap, has left it
+pub record LeavesLeast (old : List ℕ) (m : ℕ) (new : List ℕ) : Type 0 where
+  pub leaves : Leaves old m new
+  pub least : (x : ℕ) → Contains new x → m ≤ x
+
+-- m, which is taken before all others, has left those that are ready
+pub record LeavesFirst (old : Ready) (m : ℕ) (new : Ready) : Type 0 where
+  pub leaves : Leaves old.messages m new.messages
+  pub first : (x : ℕ) → Contains new.messages x
+      → (x ≡ m) ⊎ IsTakenFirst (priority_of old.priorities) m x
+  pub same : new.priorities ≡ old.priorities
 
 -- the numbers from 1 to n
 pub record AreFirst (n : ℕ) (xs : List ℕ) : Type 0 where
@@ -34,14 +56,14 @@ pub record AreIdle (free_at : List ℕ) (now : ℕ) (idle : List ℕ) : Type 0 w
       → Contains idle w
 
 -- m is released before the tick end, and each message that is before it has finished by now
-pub record IsFree (before : ℕ → ℕ
-    → Type 0) (work : Work) (start : ℕ → ℕ) (now end m : ℕ) : Type 0 where
+pub record IsFree (before : Relation) (work : Work)
+    (start : ℕ → ℕ) (now end m : ℕ) : Type 0 where
   pub number : IsNumber work m
   pub released : work.release m < end
   pub free : (i : ℕ) → before i m → finish_of work start i ≤ now
 
 -- the messages that are ready: each that is free and has not been placed, and none that is not free
-pub record AreReady (before : ℕ → ℕ → Type 0) (work : Work) (start : ℕ → ℕ)
+pub record AreReady (before : Relation) (work : Work) (start : ℕ → ℕ)
     (now end : ℕ) (ready : List ℕ) : Type 0 where
   pub only : (m : ℕ) → Contains ready m → IsFree before work start now end m
   pub each : (m : ℕ) → IsFree before work start now end m → now < start m → Contains ready m
@@ -141,9 +163,11 @@ released_at releases i = (slice_index_or releases i (0, 0)).1
 
 -- the messages that are released from one place to another have joined those that are ready, where
 -- they need nothing more
-pub record Admits (releases : List (ℕ × ℕ)) (from to : ℕ) (left old new : List ℕ) : Type 0 where
-  pub kept : (m : ℕ) → Contains old m → Contains new m
+pub record Admits (releases : List (ℕ × ℕ)) (from to : ℕ) (left : List ℕ)
+    (old new : Ready) : Type 0 where
+  pub kept : (m : ℕ) → Contains old.messages m → Contains new.messages m
   pub added : (i : ℕ) → from ≤ i → i < to → left_of left (released_at releases i) ≡ 0
-      → Contains new (released_at releases i)
-  pub only : (m : ℕ) → Contains new m → Contains old m ⊎ ((i : ℕ) × (i < to)
+      → Contains new.messages (released_at releases i)
+  pub only : (m : ℕ) → Contains new.messages m → Contains old.messages m ⊎ ((i : ℕ) × (i < to)
       × (i < length releases) × (m ≡ released_at releases i) × (left_of left m ≡ 0))
+  pub same : new.priorities ≡ old.priorities

@@ -1,53 +1,79 @@
-//! The candidates for a free worker: the messages that are ready, the first to arrive first.
+//! The candidates for a free worker: the messages that are ready, the one that is taken first first.
 
-ghost use Rattle.std.specs.Prelude.{◌≡◌, [], OnOk, MatchOption};
-ghost use Rattle.waff_list.specs.Waiting.{Joins, Leaves};
+ghost use Rattle.std.specs.Prelude.{◌≡◌, ◌≤◌, [], OnOk, MatchOption};
+ghost use Rattle.waff_list.specs.Waiting.{Joins, LeavesFirst, priority_of};
 
 use std::alloc::{AllocError, Global};
 use std::cmp::Reverse;
 use std::collections::BinaryHeap;
 use std::marker::Model;
 
+/// The messages that are ready, each with its priority, and the priorities of all messages.
 #[derive(Drop)]
 pub(crate) struct Candidates {
-    heap: BinaryHeap<Reverse<u32>>,
+    heap: BinaryHeap<(u64, Reverse<u32>)>,
+    priorities: Vec<u64>,
 }
 
 impl Model for Candidates {
-    ghost use Rattle.std.specs.Prelude.{List, ℕ, map};
-    ghost use Rattle.std.specs.Ordering.{nat_cmp};
+    ghost use Rattle.std.specs.Prelude.{◌≡◌, ℕ, map, All};
+    ghost use Rattle.std.specs.Ordering.{nat_cmp, ordering_then};
     ghost use Rattle.std.specs.BinaryHeap.{IsHeap, heap_items};
+    ghost use Rattle.waff_list.specs.Waiting.{Ready, priority_of};
 
-    ghost Value = { List ℕ };
+    ghost Value = { Ready };
 
-    ghost view = { λ c. map (λ r. r.0) (heap_items c.heap) };
+    ghost view = { λ c. record {
+      messages = map (λ r. r.1.0) (heap_items c.heap);
+      priorities = c.priorities.items;
+    } };
 
-    ghost invariant = { λ c. IsHeap (λ x y. nat_cmp y.0 x.0) (heap_items c.heap) };
+    ghost invariant = { λ c. IsHeap (λ x y. ordering_then (nat_cmp x.0 y.0) (nat_cmp y.1.0 x.1.0))
+        (heap_items c.heap)
+        × All (λ r. r.0 ≡ priority_of c.priorities.items r.1.0) (heap_items c.heap) };
 }
 
 impl Candidates {
-    pub fn new(alloc: Global) -> Self
-        ensures { result ≡ [] }
+    /// No message is ready. A message that is not listed has the priority 0.
+    pub fn none(alloc: Global, priorities: Vec<u64>) -> Self
+        ensures messages { result.messages ≡ [] }
+        ensures priorities { result.priorities ≡ priorities.items }
     {
         Candidates {
             heap: BinaryHeap::new(alloc),
+            priorities,
         }
     }
 
-    pub fn push(&mut self, m: u32) -> Result<(), AllocError>
-        ensures { OnOk result (Joins self.old m self.new) }
+    /// The priority of message `m`.
+    fn priority(&self, m: u32) -> u64
+        requires { 1 ≤ m }
+        ensures { result ≡ priority_of self.now.priorities m }
     {
-        self.heap.push(Reverse(m))?;
+        match self.priorities.get(m as usize - 1) {
+            Some(priority) => *priority,
+            None => 0,
+        }
+    }
+
+    /// Message `m` is ready.
+    pub fn push(&mut self, m: u32) -> Result<(), AllocError>
+        requires { 1 ≤ m }
+        ensures joins { OnOk result (Joins self.old.messages m self.new.messages) }
+        ensures priorities { OnOk result (self.new.priorities ≡ self.old.priorities) }
+    {
+        let priority = self.priority(m);
+        self.heap.push((priority, Reverse(m)))?;
         Ok(())
     }
 
-    /// Takes out the message that arrived first.
+    /// Takes out the message that is taken first.
     pub fn pop(&mut self) -> Option<u32>
-        ensures { MatchOption result ((self.old ≡ [])
-            × (self.new ≡ [])) (λ m. Leaves self.old m self.new) }
+        ensures { MatchOption result ((self.old.messages ≡ [])
+            × (self.new ≡ self.old)) (λ m. LeavesFirst self.old m self.new) }
     {
         match self.heap.pop() {
-            Some(Reverse(m)) => Some(m),
+            Some((_, Reverse(m))) => Some(m),
             None => None,
         }
     }

@@ -1,7 +1,7 @@
 //! The workers that are free, the least first.
 
 ghost use Rattle.std.specs.Prelude.{◌≡◌, [], OnOk, IfOk, MatchOption};
-ghost use Rattle.waff_list.specs.Waiting.{AreFirst, Joins, Leaves};
+ghost use Rattle.waff_list.specs.Waiting.{AreFirst, Joins, LeavesLeast};
 
 use std::alloc::{AllocError, Global};
 use std::cmp::Reverse;
@@ -57,7 +57,7 @@ impl Idle {
     /// Takes out the least worker.
     pub fn pop(&mut self) -> Option<u32>
         ensures { MatchOption result ((self.old ≡ [])
-            × (self.new ≡ [])) (λ w. Leaves self.old w self.new) }
+            × (self.new ≡ [])) (λ w. LeavesLeast self.old w self.new) }
     {
         match self.heap.pop() {
             Some(Reverse(worker)) => Some(worker),

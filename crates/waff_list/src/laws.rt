@@ -1,4 +1,5 @@
-//! What holds of the plans that follow the list rule, whoever made them. Each law is a function
+//! What holds of the plans that follow the list rule, whoever made them, and whatever the priority
+//! of the messages. Each law is a function
 //! that does nothing and whose contract is the law, for the ordered pairs of a tree of affinities
 //! and the affinities assigned to the messages.
 
@@ -7,8 +8,9 @@ ghost use Rattle.waff_model.specs.Tree.{Node};
 ghost use Rattle.waff_assign.specs.Order.{IsOrdered, Path};
 ghost use Rattle.waff_plan.specs.Work.{Work};
 ghost use Rattle.waff_order.specs.Needs.{IsNeed, AreNeeds};
-ghost use Rattle.waff_list.specs.ListRule.{IsListPlan};
+ghost use Rattle.waff_list.specs.Rules.{IsPlanBy};
 ghost use Rattle.waff_list.specs.Bound.{ListPlansAreWithinBound};
+ghost use Rattle.waff_list.specs.declared.rule.Rule.{Rule};
 
 /// The list bound: k times the length of a list plan is at most the total, k times the release of
 /// its printed chain, and k - 1 times the cost of that chain.
@@ -17,11 +19,11 @@ pub fn list_plans_are_within_bound()
         → ListPlansAreWithinBound (IsOrdered tree assigned) work }
 {}
 
-/// A list plan over the paths through the needs of messages is a list plan over their ordered
-/// pairs.
+/// The plan by a rule over the paths through the needs of messages is the plan by that rule over
+/// their ordered pairs.
 pub fn needs_make_the_same_plans()
     ensures { (tree : List Node) (assigned : List ℕ)
-        (needs : List (List ℕ)) (work : Work) (k : ℕ) (start : ℕ → ℕ)
-        → AreNeeds tree assigned needs → IsListPlan (Path (IsNeed needs)) work k start
-        → IsListPlan (IsOrdered tree assigned) work k start }
+        (needs : List (List ℕ)) (work : Work) (rule : Rule) (k : ℕ) (start : ℕ → ℕ)
+        → AreNeeds tree assigned needs → IsPlanBy rule (Path (IsNeed needs)) work k start
+        → IsPlanBy rule (IsOrdered tree assigned) work k start }
 {}

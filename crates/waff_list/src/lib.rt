@@ -1,18 +1,23 @@
-//! The plan of a trace for k workers by the list rule, and the bound on its length.
+//! The plan of a trace for k workers by a list rule, and the bound on its length.
 //!
-//! At each tick each free worker takes the ready message that arrived first. Such a plan is within
-//! the bound of Graham (1969): `k * length <= total + k * release + (k - 1) * cost`, with the
-//! release and the cost of its printed chain.
-//! - `list`: the plan and its printed chain; `worker_plan`: plans for k workers.
+//! At each tick each free worker takes a message that is ready: the one that arrived first, or the
+//! one of the longest tail. Such a plan is within the bound of Graham (1969), whichever is taken:
+//! `k * length <= total + k * release + (k - 1) * cost`, with the release and the cost of its
+//! printed chain.
+//! - `list`: the plans and their printed chain; `rule`: the two rules; `worker_plan`: plans for k
+//!   workers.
 //! - `planner`, over `task` (the messages with their needs, and the `dependents` of each),
 //!   `progress` (the plan while it is made), `finishes` (when the messages that run finish), `idle`
 //!   (the workers that are free), `waiting` (how many needs of each message have not finished, and
-//!   the `candidates`, those that are ready), `releases` and `ticks` (when something happens).
-//! - `laws`: the bound, and that needs make the same plans as all pairs; `unique`: that there is
-//!   one list plan.
+//!   the `candidates`, those that are ready, by their priorities), `chosen` (those that start at a
+//!   tick), `releases` and `ticks` (when something happens), `work` (costs and releases).
+//! - `tails`: the tail of each message, which is its priority under the rule of the longest tail.
+//! - `laws`: the bound, and that needs make the same plans as all pairs; `tail_laws`: what tails
+//!   are; `unique`: that there is one list plan.
 #![tactic(auto)]
 
 mod candidates;
+mod chosen;
 mod dependents;
 mod finishes;
 mod idle;
@@ -21,11 +26,16 @@ mod list;
 mod planner;
 mod progress;
 mod releases;
+mod rule;
+pub mod tail_laws;
+mod tails;
 mod task;
 mod ticks;
 pub mod unique;
 mod waiting;
+mod work;
 mod worker_plan;
 
-pub use list::{list_chain, list_plan};
+pub use list::{list_chain, list_plan, list_plan_by};
+pub use rule::Rule;
 pub use worker_plan::WorkerPlan;

@@ -2,20 +2,24 @@
 
 ghost use Rattle.std.specs.Prelude.{◌≡◌, ◌<◌, ◌≤◌, length, All, IfOk};
 ghost use Rattle.waff_assign.specs.Order.{IsOrdered, Path};
+ghost use Rattle.waff_plan.specs.Bound.{IsWorkers};
 ghost use Rattle.waff_plan.specs.Chain.{IsChain, IsListed, IsPrinted, chain_cost, chain_release};
 ghost use Rattle.waff_plan.specs.Timetable.{starts_in, timings_of, work_in};
 ghost use Rattle.waff_order.specs.Needs.{IsNeed};
 ghost use Rattle.waff_list.specs.Bound.{ListBound, ListRatio, ListTwice};
-ghost use Rattle.waff_list.specs.ListRule.{IsListPlan};
+ghost use Rattle.waff_list.specs.ListRule.{IsListPlan, arrival};
+ghost use Rattle.waff_list.specs.Rules.{IsPlanBy};
 ghost use Rattle.waff_list.specs.Seats.{IsInOrder};
 ghost use Rattle.waff_list.specs.Seating.{worker_of};
 ghost use Rattle.waff_list.specs.Unique.{AreSeated};
+ghost use Rattle.waff_list.specs.Waiting.{priority_of};
 
 use crate::WorkerPlan;
 use crate::planner::make;
+use crate::rule::Rule;
+use crate::tails::tails;
 use std::alloc::{AllocError, Global};
 use waff_assign::Assigned;
-use waff_model::limits::MAX_WORKERS;
 use waff_model::{Trace, Tree};
 use waff_order::Needs;
 use waff_plan::printed::chain;
@@ -30,18 +34,66 @@ pub fn list_plan(
     k: u32,
 ) -> Result<WorkerPlan, AllocError>
     requires lengths { length needs.now ≡ length trace.now.messages }
-    requires some { 1 ≤ k }
-    requires few { k ≤ MAX_WORKERS }
+    requires workers { IsWorkers k }
     ensures timings { IfOk result (λ made. made.table.timings ≡ timings_of trace.now.messages) }
     ensures workers { IfOk result (λ made. made.workers ≡ k) }
     ensures follows { IfOk result (λ made. IsListPlan
-        (Path (IsNeed needs.now)) (work_in made.table) k (starts_in made.table)) }
+        (Path (IsNeed needs.now)) arrival (work_in made.table) k (starts_in made.table)) }
     ensures seated { IfOk result (λ made. AreSeated
         (work_in made.table) (starts_in made.table) (worker_of made.seats)) }
     ensures order { IfOk result (λ made.
         IsInOrder (work_in made.table) (starts_in made.table) made.order) }
 {
-    let made = make(alloc, needs, trace, k)?;
+    list_plan_by(alloc, needs, trace, Rule::Arrival, k)
+}
+
+/// The plan for k workers by this rule. Workers are given as by `list_plan`: of the messages that
+/// start at a tick the one that arrived first takes the least worker that is free.
+pub fn list_plan_by(
+    alloc: Global,
+    needs: &Needs,
+    trace: &Trace,
+    rule: Rule,
+    k: u32,
+) -> Result<WorkerPlan, AllocError>
+    requires lengths { length needs.now ≡ length trace.now.messages }
+    requires workers { IsWorkers k }
+    ensures timings { IfOk result (λ made. made.table.timings ≡ timings_of trace.now.messages) }
+    ensures workers { IfOk result (λ made. made.workers ≡ k) }
+    ensures follows { IfOk result (λ made. IsPlanBy
+        rule (Path (IsNeed needs.now)) (work_in made.table) k (starts_in made.table)) }
+    ensures seated { IfOk result (λ made. AreSeated
+        (work_in made.table) (starts_in made.table) (worker_of made.seats)) }
+    ensures order { IfOk result (λ made.
+        IsInOrder (work_in made.table) (starts_in made.table) made.order) }
+{
+    let priorities = match rule {
+        Rule::Arrival => Vec::new(alloc),
+        Rule::Longest => tails(alloc, needs, trace)?,
+    };
+    planned(alloc, needs, trace, k, priorities)
+}
+
+/// The plan for k workers by these priorities. A message that is not listed has the priority 0.
+fn planned(
+    alloc: Global,
+    needs: &Needs,
+    trace: &Trace,
+    k: u32,
+    priorities: Vec<u64>,
+) -> Result<WorkerPlan, AllocError>
+    requires lengths { length needs.now ≡ length trace.now.messages }
+    requires workers { IsWorkers k }
+    ensures timings { IfOk result (λ made. made.table.timings ≡ timings_of trace.now.messages) }
+    ensures workers { IfOk result (λ made. made.workers ≡ k) }
+    ensures follows { IfOk result (λ made. IsListPlan (Path (IsNeed needs.now))
+        (priority_of priorities.items) (work_in made.table) k (starts_in made.table)) }
+    ensures seated { IfOk result (λ made. AreSeated
+        (work_in made.table) (starts_in made.table) (worker_of made.seats)) }
+    ensures order { IfOk result (λ made.
+        IsInOrder (work_in made.table) (starts_in made.table) made.order) }
+{
+    let made = make(alloc, needs, trace, k, priorities)?;
     let plan = Plan::of_starts(alloc, trace, made.starts.as_slice())?;
     Ok(WorkerPlan::new(plan, k, made.seats, made.order))
 }

@@ -1,44 +1,51 @@
-//! The planner: at each tick at which a message finishes or is released, the ready messages start
-//! in turn on the workers that are free.
+//! The planner: at each tick at which a message finishes or is released, ready messages start on the
+//! workers that are free, those first that are taken first.
 
 ghost use Rattle.std.specs.Prelude.{◌≡◌, ℕ, ◌+◌, ◌^◌, ◌<◌, ◌≤◌, IfOk, OnOk, length};
+ghost use Rattle.waff_plan.specs.Bound.{IsWorkers};
 ghost use Rattle.waff_plan.specs.Work.{IsNumber};
 ghost use Rattle.waff_order.specs.Needs.{IsNeed, needs_of};
 ghost use Rattle.waff_list.specs.Progress.{work_of_messages, IsMade};
-ghost use Rattle.waff_list.specs.Waiting.{AreFreed, FallAlike, HaveFinished, left_of, times};
+ghost use Rattle.waff_list.specs.Waiting.{AreFreed, FallAlike, HaveFinished};
+ghost use Rattle.waff_list.specs.Waiting.{left_of, priority_of, times};
 ghost use Rattle.waff_list.specs.Planning.{AreCounted, IsBegun, IsFilled, IsKept, Wakes};
 
+use crate::chosen::Chosen;
 use crate::finishes::Finishes;
 use crate::idle::Idle;
-use crate::progress::{NEVER, Progress};
+use crate::progress::Progress;
 use crate::releases::Releases;
 use crate::task::Task;
 use crate::ticks::next_tick;
 use crate::waiting::Waiting;
+use crate::work::{NEVER, cost_of};
 use std::alloc::{AllocError, Global};
 use waff_model::Trace;
 use waff_order::Needs;
 
-/// Makes the plan for k workers.
+/// Makes the plan for k workers by these priorities. A message that is not listed has the priority 0.
 pub(crate) fn make(
     alloc: Global,
     needs: &Needs,
     trace: &Trace,
     k: u32,
+    priorities: Vec<u64>,
 ) -> Result<Progress, AllocError>
     requires lengths { length needs.now ≡ length trace.now.messages }
-    requires some { 1 ≤ k }
-    ensures { IfOk result (λ made. IsMade (IsNeed needs.now) (work_of_messages trace.now.messages)
-        k made.starts.items made.seats.items made.order.items) }
+    requires workers { IsWorkers k }
+    ensures { IfOk result (λ made. IsMade (IsNeed needs.now) (priority_of priorities.items)
+        (work_of_messages trace.now.messages) k
+        made.starts.items made.seats.items made.order.items) }
 {
     let task = Task::new(alloc, needs, trace)?;
+    let mut chosen = Chosen::none(alloc);
     let mut releases = Releases::new(alloc, trace)?;
     let mut progress = Progress::new(alloc, needs.len(), k)?;
-    let mut waiting = Waiting::new(alloc, needs)?;
+    let mut waiting = Waiting::new(alloc, needs, priorities)?;
     let mut now = 0;
     releases.pass(now, waiting.left.as_slice(), &mut waiting.ready)?;
     loop {
-        fill(&task, now, &mut progress, &mut waiting)?;
+        fill(&task, now, &mut chosen, &mut progress, &mut waiting)?;
         match next_tick(&releases, &progress.finishes, now) {
             Some(next) => {
                 wake(
@@ -58,39 +65,38 @@ pub(crate) fn make(
     }
 }
 
-/// Starts messages that are ready, in the order of arrival, as long as workers are free.
+/// Starts messages that are ready, as long as workers are free. Of the messages that start the one
+/// that arrived first takes the least worker.
 fn fill(
     task: &Task,
     now: u64,
+    chosen: &mut Chosen,
     progress: &mut Progress,
     waiting: &mut Waiting,
 ) -> Result<(), AllocError>
     requires tick { now + 2 ^ 32 < NEVER }
-    requires begun { IsBegun task.now.needs.now task.now.trace.now.messages progress.old now }
+    requires begun { IsBegun task.now.needs.now (priority_of waiting.old.ready.priorities)
+        task.now.trace.now.messages progress.old now }
     requires kept { IsKept task.now.needs.now task.now.trace.now.messages
         progress.old waiting.old now (now + 1) }
-    ensures filled { IfOk result (λ _. IsFilled task.now.needs.now task.now.trace.now.messages
+    ensures filled { IfOk result (λ _. IsFilled task.now.needs.now
+        (priority_of waiting.old.ready.priorities) task.now.trace.now.messages
         progress.old progress.new now) }
     ensures kept { IfOk result (λ _. IsKept task.now.needs.now task.now.trace.now.messages
         progress.new waiting.new now (now + 1)) }
+    ensures priorities { IfOk result (λ _.
+        waiting.new.ready.priorities ≡ waiting.old.ready.priorities) }
 {
-    while let Some(worker) = progress.idle.pop() {
-        if progress.free_at[worker as usize - 1] > now {
-            continue;
-        }
-        match waiting.ready.pop() {
-            Some(m) => {
-                if progress.starts[m as usize - 1] > now {
-                    progress.place(m, worker, now, task.cost_of(m))?;
-                } else {
-                    progress.idle.push(worker)?;
-                }
-            }
-            None => {
-                progress.idle.push(worker)?;
-                return Ok(());
-            }
-        }
+    chosen.choose(
+        now,
+        progress.starts.as_slice(),
+        progress.free_at.as_slice(),
+        &mut progress.idle,
+        &mut waiting.ready,
+    )?;
+    for at in 0..chosen.messages.len() {
+        let m = chosen.messages[at];
+        progress.place(m, chosen.workers[at], now, cost_of(task.trace, m))?;
     }
     Ok(())
 }

@@ -6,10 +6,8 @@ ghost use Rattle.waff_list.specs.Waiting.{AreFirst};
 
 use crate::finishes::Finishes;
 use crate::idle::Idle;
+use crate::work::NEVER;
 use std::alloc::{AllocError, Global};
-
-/// The start of a message that is not placed yet.
-pub(crate) const NEVER: u64 = u64::MAX;
 
 /// The messages that are placed so far.
 #[derive(Drop)]

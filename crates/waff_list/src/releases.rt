@@ -7,8 +7,7 @@ ghost use Rattle.waff_list.specs.Progress.{work_of_messages, IsSmall};
 ghost use Rattle.waff_list.specs.Waiting.{AreReleases, ArePassed, IsNextRelease, Admits};
 
 use crate::candidates::Candidates;
-use crate::progress::NEVER;
-use crate::ticks::release_of;
+use crate::work::{NEVER, release_of};
 use std::alloc::{AllocError, Global};
 use waff_model::Trace;
 

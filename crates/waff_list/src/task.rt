@@ -35,15 +35,4 @@ impl<'a> Task<'a> {
             dependents,
         })
     }
-
-    /// How many ticks message `m` runs.
-    pub fn cost_of(&self, m: u32) -> u64
-        requires from { 1 ≤ m }
-        requires to { m ≤ length self.now.trace.now.messages }
-        ensures cost { result ≡ (work_of_messages self.now.trace.now.messages).cost m }
-        ensures some { 1 ≤ result }
-        ensures small { result < 2 ^ 32 }
-    {
-        u64::from(self.trace.message(m).cost)
-    }
 }

@@ -6,19 +6,8 @@ ghost use Rattle.waff_list.specs.Progress.{work_of_messages, IsSmall, IsNextTick
 ghost use Rattle.waff_list.specs.Waiting.{AreReleases, ArePassed};
 
 use crate::finishes::Finishes;
-use crate::progress::NEVER;
 use crate::releases::Releases;
-use waff_model::Trace;
-
-/// The tick before which message `m` may not start.
-pub(crate) fn release_of(trace: &Trace, m: u32) -> u64
-    requires from { 1 ≤ m }
-    requires to { m ≤ length trace.now.messages }
-    ensures release { result ≡ (work_of_messages trace.now.messages).release m }
-    ensures small { result < 2 ^ 32 }
-{
-    u64::from(trace.message(m).release)
-}
+use crate::work::NEVER;
 
 /// The least tick after `now` at which a message finishes or is released.
 pub(crate) fn next_tick(releases: &Releases, finishes: &Finishes, now: u64) -> Option<u64>

@@ -1,17 +1,24 @@
 //! That the definitions leave no choice. Each law is a function that does nothing and whose
 //! contract is the law.
 
-ghost use Rattle.std.specs.Prelude.{◌≡◌, ℕ, ◌↔◌, List, length};
+ghost use Rattle.std.specs.Prelude.{◌≡◌, ℕ, ◌<◌, ◌↔◌, List, length};
 ghost use Rattle.waff_model.specs.Tree.{Node};
 ghost use Rattle.waff_assign.specs.Order.{IsOrdered, Path};
 ghost use Rattle.waff_plan.specs.Work.{Work};
 ghost use Rattle.waff_order.specs.Needs.{IsNeed, AreNeeds};
-ghost use Rattle.waff_list.specs.ListRule.{IsListPlan};
-ghost use Rattle.waff_list.specs.Unique.{EachRuns, ListPlanIsOne, ListPlansAreShared, SeatsAreOne};
-ghost use Rattle.waff_list.specs.Unique.{OrderIsOne};
+ghost use Rattle.waff_list.specs.ListRule.{IsTakenFirst, IsListPlan, arrival};
+ghost use Rattle.waff_list.specs.Unique.{EachRuns, IsTotalOrder, ListPlanIsOne, RulePlanIsOne};
+ghost use Rattle.waff_list.specs.Unique.{ListPlansAreShared, SeatsAreOne, OrderIsOne};
 
-/// The list plan for a number of workers is one: over the ordered pairs, and over the paths through
-/// needs, whichever needs they are.
+/// Of two messages one is taken first, whatever their priority; by arrival it is the one that arrived
+/// first.
+pub fn one_is_taken_first()
+    ensures order { (priority : ℕ → ℕ) → IsTotalOrder (IsTakenFirst priority) }
+    ensures arrival { (i j : ℕ) → IsTakenFirst arrival i j ↔ (i < j) }
+{}
+
+/// The list plan for a number of workers is one: over the ordered pairs, over the paths through
+/// needs, whichever needs they are, and by each of the rules.
 pub fn list_plan_is_one()
     ensures pairs { (tree : List Node) (assigned : List ℕ) (work : Work)
         → length assigned ≡ work.count
@@ -19,6 +26,9 @@ pub fn list_plan_is_one()
     ensures needs { (tree : List Node) (assigned : List ℕ) (needs : List (List ℕ)) (work : Work)
         → length assigned ≡ work.count → EachRuns work → AreNeeds tree assigned needs
         → ListPlanIsOne (Path (IsNeed needs)) work }
+    ensures rules { (tree : List Node) (assigned : List ℕ) (work : Work)
+        → length assigned ≡ work.count
+        → EachRuns work → RulePlanIsOne (IsOrdered tree assigned) work }
 {}
 
 /// Pairs with the same paths have the same list plans: any two sets of pairs, each given as lists
@@ -30,9 +40,9 @@ pub fn same_paths_have_the_same_plans()
         (assigned other_assigned : List ℕ) (work : Work)
         → ListPlansAreShared (IsOrdered tree assigned) (IsOrdered other_tree other_assigned) work }
     ensures needs { (tree : List Node) (assigned : List ℕ) (needs : List (List ℕ)) (work : Work)
-        (k : ℕ) (start : ℕ → ℕ) → AreNeeds tree assigned needs
-        → IsListPlan (Path (IsNeed needs)) work k start
-        ↔ IsListPlan (IsOrdered tree assigned) work k start }
+        (priority : ℕ → ℕ) (k : ℕ) (start : ℕ → ℕ) → AreNeeds tree assigned needs
+        → IsListPlan (Path (IsNeed needs)) priority work k start
+        ↔ IsListPlan (IsOrdered tree assigned) priority work k start }
 {}
 
 /// The workers of the messages of a plan are one.

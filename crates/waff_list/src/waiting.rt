@@ -6,7 +6,7 @@ ghost use Rattle.waff_list.specs.Progress.{work_of_messages};
 ghost use Rattle.waff_list.specs.Waiting.{left_of};
 
 use crate::candidates::Candidates;
-use crate::ticks::release_of;
+use crate::work::release_of;
 use std::alloc::{AllocError, Global};
 use waff_model::Trace;
 use waff_order::Needs;
@@ -23,10 +23,12 @@ pub(crate) struct Waiting {
 impl Waiting {
     ghost use Rattle.waff_list.specs.Planning.{Wakes};
 
-    /// No need has finished yet.
-    pub fn new(alloc: Global, needs: &Needs) -> Result<Self, AllocError>
+    /// No need has finished yet, and no message is ready.
+    pub fn new(alloc: Global, needs: &Needs, priorities: Vec<u64>) -> Result<Self, AllocError>
         ensures left { IfOk result (λ waiting. waiting.left.items ≡ map length needs.now) }
-        ensures ready { IfOk result (λ waiting. waiting.ready ≡ []) }
+        ensures ready { IfOk result (λ waiting. waiting.ready.messages ≡ []) }
+        ensures priorities { IfOk result (λ waiting.
+            waiting.ready.priorities ≡ priorities.items) }
     {
         let mut left = Vec::with_capacity(alloc, needs.len() as usize)?;
         for m in 1..needs.len() + 1 {
@@ -34,7 +36,7 @@ impl Waiting {
         }
         Ok(Waiting {
             left,
-            ready: Candidates::new(alloc),
+            ready: Candidates::none(alloc, priorities),
         })
     }
 

@@ -23,8 +23,8 @@ returns-clause-bound c =
     let some = c.plan.ensures.seating.some in
     costed c.args.tree.now c.args.assigned.now table _ c.chain.result
     (rw c.plan.ensures.plan at c.chain.ensures.printed) (rw c.plan.ensures.plan at c.chain.ensures.cost) (rw c.plan.ensures.plan at c.chain.ensures.release)
-    (λ chain h needs are plan. chain_bound c.args.tree.now c.args.assigned.now (work_of table.timings) (sym c.requires.lengths) c.args.made.now.workers some
-    (start_of table.starts) needs are plan chain h)
+    (λ chain h needs priority are plan. chain_bound c.args.tree.now c.args.assigned.now (work_of table.timings) (sym c.requires.lengths) c.args.made.now.workers some
+    (start_of table.starts) needs priority are plan chain h)
 
 pub returns-clause-twice : goal.returns-clause-twice
 returns-clause-twice c =
@@ -32,8 +32,8 @@ returns-clause-twice c =
     let some = c.plan.ensures.seating.some in
     costed c.args.tree.now c.args.assigned.now table _ c.chain.result
     (rw c.plan.ensures.plan at c.chain.ensures.printed) (rw c.plan.ensures.plan at c.chain.ensures.cost) (rw c.plan.ensures.plan at c.chain.ensures.release)
-    (λ chain h needs other are plan. chain_twice c.args.tree.now c.args.assigned.now (work_of table.timings) (sym c.requires.lengths) c.args.made.now.workers some
-    (start_of table.starts) needs are plan chain h other)
+    (λ chain h needs priority other are plan. chain_twice c.args.tree.now c.args.assigned.now (work_of table.timings) (sym c.requires.lengths) c.args.made.now.workers some
+    (start_of table.starts) needs priority are plan chain h other)
 
 pub returns-clause-ratio : goal.returns-clause-ratio
 returns-clause-ratio c =
@@ -41,5 +41,5 @@ returns-clause-ratio c =
     let some = c.plan.ensures.seating.some in
     costed c.args.tree.now c.args.assigned.now table _ c.chain.result
     (rw c.plan.ensures.plan at c.chain.ensures.printed) (rw c.plan.ensures.plan at c.chain.ensures.cost) (rw c.plan.ensures.plan at c.chain.ensures.release)
-    (λ chain h needs other are none plan. chain_ratio c.args.tree.now c.args.assigned.now (work_of table.timings) (sym c.requires.lengths) c.args.made.now.workers some
-    (start_of table.starts) needs are plan chain h other none)
+    (λ chain h needs priority other are none plan. chain_ratio c.args.tree.now c.args.assigned.now (work_of table.timings) (sym c.requires.lengths) c.args.made.now.workers some
+    (start_of table.starts) needs priority are plan chain h other none)

@@ -6,8 +6,8 @@ use Rattle.waff_plan.specs.Timing.{start_of}
 use Rattle.waff_order.specs.Needs.{IsNeed}
 use Rattle.waff_list.specs.Progress.{work_of_messages, IsProgress, IsNextTick, IsLastTick, GoesOn}
 use Rattle.waff_list.specs.Planning.{IsKept, Wakes}
-use Rattle.waff_list.specs.Waiting.{AreFirst, AreFreed, Runs, AreReady, AreReleases, ArePassed, Admits, FallAlike, AreLeft, AreFinishes}
-use Rattle.waff_list.specs.declared.progress.TheConstants.{NEVER}
+use Rattle.waff_list.specs.Waiting.{priority_of, AreFirst, AreFreed, Runs, AreReady, AreReleases, ArePassed, Admits, FallAlike, AreLeft, AreFinishes}
+use Rattle.waff_list.specs.declared.work.TheConstants.{NEVER}
 use Rattle.waff_list.proofs.TraceWork.{count_is, needs_forward}
 use Rattle.waff_list.proofs.Progressing.{progress_none, progress_advance}
 use Rattle.waff_list.proofs.CountLemmas.{left_none, left_fall}
@@ -32,6 +32,7 @@ pub loop-waiting-init : goal.loop-waiting-init
 loop-waiting-init c =
     let needs = c.args.needs.now in
     let before = IsNeed needs in
+    let priority = priority_of c.args.priorities.items in
     let work = work_of_messages c.args.trace.now.messages in
     let same : length needs ≡ work.count = c.requires.lengths ∙ sym (count_is c.args.trace.now.messages) in
     let forward = needs_forward needs work c.len.ensures.lists same in
@@ -57,10 +58,11 @@ loop-waiting-init c =
     let ready = ready_pass needs work forward same start 0 0 [] sorted left c.in_ok-waiting.waiting.ready c.pass.new.ready c.in_ok-releases.releases.passed c.pass.new.self.passed
     (omega arith) known are (λ i d early inside. absurd (omega (arith, none))) passed admits
     (subst (λ xs. AreReady before work start 0 0 xs) (sym c.in_ok-waiting.ensures.ready) (ready_none before work start)) in
-    let progress : IsProgress before work c.args.k p.starts.items p.seats.items p.free_at.items p.order.items 0 1
-    = rw (h.starts, h.seats, h.free_at, h.order, count) (progress_none before work c.args.k forward (omega (arith, few))) in
+    let progress : IsProgress before priority work c.args.k p.starts.items p.seats.items p.free_at.items p.order.items 0 1 0
+    = rw (h.starts, h.seats, h.free_at, h.order, count) (progress_none before priority work c.args.k forward (omega (arith, few))) in
     record {
       progress = progress;
+      priorities = pass.admits.same ∙ c.in_ok-waiting.ensures.priorities;
       time = on_time_none work start;
       kept = record {
         finishes = subst (λ (xs : List (ℕ × ℕ)). AreFinishes work start 0 xs) (sym h.finishes) running;
@@ -99,12 +101,13 @@ loop-waiting-smaller c =
     let now = c.loop-waiting.now in
     let small = c.in_ok-releases.ensures.small in
     let kept : IsKept needs messages new c.fill.new.waiting now (now + 1) = rw (c.in_ok-task.ensures.needs, c.in_ok-task.ensures.trace) at c.in_ok-fill.ensures.kept in
-    let filled : GoesOn before work (length old.free_at.items) old.starts.items new.starts.items new.seats.items new.free_at.items new.order.items now (length messages + 1)
-    = rw (c.in_ok-task.ensures.needs, c.in_ok-task.ensures.trace) at c.in_ok-fill.ensures.filled in
+    let priority = priority_of c.args.priorities.items in
+    let filled : GoesOn before priority work (length old.free_at.items) old.starts.items new.starts.items new.seats.items new.free_at.items new.order.items now (length messages + 1) (now + 1)
+    = rw (c.in_ok-task.ensures.needs, c.in_ok-task.ensures.trace, c.loop-waiting.invariant.priorities) at c.in_ok-fill.ensures.filled in
     let tick : IsNextTick work new.finishes now c.in-Some.next
     = c.in-Some.ensures work small c.loop-waiting.invariant.releases c.loop-waiting.invariant.passed (runs_late work (start_of new.starts.items) now new.finishes kept.finishes) in
-    events_fewer before work (length old.free_at.items) forward small old.starts.items new.starts.items new.seats.items new.free_at.items new.order.items
-    now c.in-Some.next (length messages + 1) c.loop-waiting.invariant.progress.settled.placed filled new.finishes kept.finishes tick
+    events_fewer before priority work (length old.free_at.items) forward small old.starts.items new.starts.items new.seats.items new.free_at.items new.order.items
+    now c.in-Some.next (length messages + 1) (now + 1) c.loop-waiting.invariant.progress.settled.placed filled new.finishes kept.finishes tick
 
 pub loop-waiting-preserved : goal.loop-waiting-preserved
 loop-waiting-preserved c =
@@ -123,17 +126,18 @@ loop-waiting-preserved c =
     let sorted = c.loop-waiting.releases.sorted.items in
     let small = c.in_ok-releases.ensures.small in
     let kept : IsKept needs messages new c.fill.new.waiting now (now + 1) = rw (c.in_ok-task.ensures.needs, c.in_ok-task.ensures.trace) at c.in_ok-fill.ensures.kept in
-    let filled : GoesOn before work (length old.free_at.items) old.starts.items new.starts.items new.seats.items new.free_at.items new.order.items now (length messages + 1)
-    = rw (c.in_ok-task.ensures.needs, c.in_ok-task.ensures.trace) at c.in_ok-fill.ensures.filled in
+    let priority = priority_of c.args.priorities.items in
+    let filled : GoesOn before priority work (length old.free_at.items) old.starts.items new.starts.items new.seats.items new.free_at.items new.order.items now (length messages + 1) (now + 1)
+    = rw (c.in_ok-task.ensures.needs, c.in_ok-task.ensures.trace, c.loop-waiting.invariant.priorities) at c.in_ok-fill.ensures.filled in
     let tick : IsNextTick work new.finishes now next
     = c.in-Some.ensures work small invariant.releases invariant.passed (runs_late work start now new.finishes kept.finishes) in
     let later : now < next = tick.later in
     let workers : length old.free_at.items ≡ c.args.k = invariant.progress.workers_count in
     let end : length messages + 1 ≡ work.count + 1 = ap (λ n. n + 1) (sym (count_is messages)) in
-    let made : IsProgress before work c.args.k new.starts.items new.seats.items new.free_at.items new.order.items now (work.count + 1)
-    = subst (λ n. IsProgress before work c.args.k new.starts.items new.seats.items new.free_at.items new.order.items now n) end
-    (subst (λ n. IsProgress before work n new.starts.items new.seats.items new.free_at.items new.order.items now (length messages + 1)) workers filled.progress) in
-    let advanced = progress_advance before work c.args.k forward new.starts.items new.seats.items new.free_at.items new.order.items now next new.finishes
+    let made : IsProgress before priority work c.args.k new.starts.items new.seats.items new.free_at.items new.order.items now (work.count + 1) (now + 1)
+    = subst (λ n. IsProgress before priority work c.args.k new.starts.items new.seats.items new.free_at.items new.order.items now n (now + 1)) end
+    (subst (λ n. IsProgress before priority work n new.starts.items new.seats.items new.free_at.items new.order.items now (length messages + 1) (now + 1)) workers filled.progress) in
+    let advanced = progress_advance before priority work c.args.k forward new.starts.items new.seats.items new.free_at.items new.order.items now next new.finishes
     tick.later tick.tick kept.finishes tick.first tick.releases made in
     let counts : FallAlike needs new.finishes c.fill.new.waiting.left.items c.wake.new.finishes c.wake.new.waiting.left.items
     = rw c.in_ok-task.ensures.needs at c.in_ok-wake-in-Some.ensures.counts in
@@ -151,7 +155,7 @@ loop-waiting-preserved c =
     let second : AreKnown needs work start next c.wake.new.finishes c.wake.new.waiting.left.items
     = record { short = tick.tick; running = running; counts = left; placed = advanced.settled.placed } in
     let woken = ready_wake needs work forward same start now next new.finishes c.wake.new.finishes c.fill.new.waiting.left.items c.wake.new.waiting.left.items
-    c.fill.new.waiting.ready c.wake.new.waiting.ready later first second wakes.kept wakes.woken wakes.only kept.ready in
+    c.fill.new.waiting.ready.messages c.wake.new.waiting.ready.messages later first second wakes.kept wakes.woken wakes.only kept.ready in
     let pass = c.in_ok-pass-in-Some.ensures in
     let passed : ArePassed sorted c.pass-in-Some.new.self.passed next
     = pass.passed (λ i d early inside. let is : (get_or sorted i d).0 ≤ now = invariant.passed.before i d early inside in omega arith) in
@@ -163,8 +167,9 @@ loop-waiting-preserved c =
     (λ i d early inside. let is : (get_or sorted i d).0 ≤ now = invariant.passed.before i d early inside in omega arith) passed admits woken in
     record {
       progress = advanced;
-      time = on_time_next before work (length old.free_at.items) forward small old.starts.items new.starts.items new.seats.items new.free_at.items
-          new.order.items now next (length messages + 1) invariant.progress.settled.placed filled new.finishes kept.finishes tick invariant.time;
+      priorities = pass.admits.same ∙ wakes.same ∙ c.in_ok-fill.ensures.priorities ∙ invariant.priorities;
+      time = on_time_next before priority work (length old.free_at.items) forward small old.starts.items new.starts.items new.seats.items new.free_at.items
+          new.order.items now next (length messages + 1) (now + 1) invariant.progress.settled.placed filled new.finishes kept.finishes tick invariant.time;
       kept = record { finishes = running; idle = idle; left = left; ready = ready };
       releases = subst (λ xs. AreReleases work xs) (sym pass.sorted) invariant.releases;
       passed = subst (λ xs. ArePassed xs c.pass-in-Some.new.self.passed next) (sym pass.sorted) passed;
@@ -184,15 +189,16 @@ returns-in-None c =
     let invariant = c.loop-waiting.invariant in
     let small = c.in_ok-releases.ensures.small in
     let kept : IsKept needs messages new c.fill.new.waiting now (now + 1) = rw (c.in_ok-task.ensures.needs, c.in_ok-task.ensures.trace) at c.in_ok-fill.ensures.kept in
-    let filled : GoesOn before work (length old.free_at.items) old.starts.items new.starts.items new.seats.items new.free_at.items new.order.items now (length messages + 1)
-    = rw (c.in_ok-task.ensures.needs, c.in_ok-task.ensures.trace) at c.in_ok-fill.ensures.filled in
+    let priority = priority_of c.args.priorities.items in
+    let filled : GoesOn before priority work (length old.free_at.items) old.starts.items new.starts.items new.seats.items new.free_at.items new.order.items now (length messages + 1) (now + 1)
+    = rw (c.in_ok-task.ensures.needs, c.in_ok-task.ensures.trace, c.loop-waiting.invariant.priorities) at c.in_ok-fill.ensures.filled in
     let last : IsLastTick work new.finishes now
     = c.in-None.ensures work small invariant.releases invariant.passed (runs_late work (start_of new.starts.items) now new.finishes kept.finishes) in
     let workers : length old.free_at.items ≡ c.args.k = invariant.progress.workers_count in
     let end : length messages + 1 ≡ work.count + 1 = ap (λ n. n + 1) (sym (count_is messages)) in
-    let made : IsProgress before work c.args.k new.starts.items new.seats.items new.free_at.items new.order.items now (work.count + 1)
-    = subst (λ n. IsProgress before work c.args.k new.starts.items new.seats.items new.free_at.items new.order.items now n) end
-    (subst (λ n. IsProgress before work n new.starts.items new.seats.items new.free_at.items new.order.items now (length messages + 1)) workers filled.progress) in
+    let made : IsProgress before priority work c.args.k new.starts.items new.seats.items new.free_at.items new.order.items now (work.count + 1) (now + 1)
+    = subst (λ n. IsProgress before priority work c.args.k new.starts.items new.seats.items new.free_at.items new.order.items now n (now + 1)) end
+    (subst (λ n. IsProgress before priority work n new.starts.items new.seats.items new.free_at.items new.order.items now (length messages + 1) (now + 1)) workers filled.progress) in
     let few = c.len.ensures.lists.few in
-    made_of_last before work c.args.k forward small new.starts.items new.seats.items new.free_at.items new.order.items now
-    c.requires.some (omega (arith, invariant.time, few, same)) made new.finishes kept.finishes last
+    made_of_last before priority work c.args.k forward small new.starts.items new.seats.items new.free_at.items new.order.items now
+    c.requires.workers.from (omega (arith, invariant.time, few, same)) made new.finishes kept.finishes last

@@ -7,5 +7,6 @@ pub returns : goal.returns
 returns c = record {
   sets = λ needs others work. shared_plans (IsNeed needs) (IsNeed others) work;
   hierarchies = λ tree other_tree assigned other_assigned work. shared_plans (IsOrdered tree assigned) (IsOrdered other_tree other_assigned) work;
-  needs = λ tree assigned needs work k start are. (plan_over_pairs tree assigned needs work k start are, plan_over_needs tree assigned needs work k start are);
+  needs = λ tree assigned needs work priority k start are.
+      (plan_over_pairs tree assigned needs work priority k start are, plan_over_needs tree assigned needs work priority k start are);
 }

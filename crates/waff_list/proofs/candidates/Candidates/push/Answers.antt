@@ -1,11 +1,22 @@
-use Rattle.std.proofs.Common.{map, subst}
+use Rattle.std.proofs.Common.{◌≡◌, ℕ, map, sym, ◌∙◌, ap, subst}
 use Rattle.std.specs.BinaryHeap.{heap_items}
-use Rattle.std.proofs.lemmas.List.Sorted.{IsPermutation-map}
-use Rattle.waff_list.specs.Waiting.{Joins}
+use Rattle.std.specs.declared.cmp.Reverse.{Reverse}
+use Rattle.std.proofs.lemmas.List.Elements.{All-cons}
+use Rattle.std.proofs.lemmas.List.Sorted.{IsPermutation-map, All-permutation}
+use Rattle.waff_list.specs.Waiting.{Ready, Joins, priority_of}
 use Rattle.waff_list.proofs.ReadyLemmas.{joins_of}
 use Rattle.waff_list.proofs.candidates.Candidates.push.Goals as goal
 
-pub returns : goal.returns
-returns c =
-    subst (λ xs. Joins xs c.args.m (map (λ (r : _). r.0) (heap_items c.push.new.self))) c.self.view_is
-    (joins_of _ _ _ (IsPermutation-map (λ (r : _). r.0) _ _ c.in_ok-push.ensures.permutation))
+pub invariant_of-self-2 : goal.invariant_of-self-2
+invariant_of-self-2 c =
+    let listed = c.self.inside.priorities.items in
+    let same : c.priority-priority.result ≡ priority_of listed c.args.m = c.priority-priority.ensures ∙ ap (λ (r : Ready). priority_of r.priorities c.args.m) (sym c.self.view_is) in (
+      c.in_ok-push.ensures.heap_order c.self.invariant.0,
+      All-permutation (λ (r : ℕ × Reverse ℕ). r.0 ≡ priority_of listed r.1.0) _ _ c.in_ok-push.ensures.permutation
+          (All-cons (λ (r : ℕ × Reverse ℕ). r.0 ≡ priority_of listed r.1.0) _ _ same c.self.invariant.1),
+    )
+
+pub returns-clause-joins : goal.returns-clause-joins
+returns-clause-joins c =
+    subst (λ (r : Ready). Joins r.messages c.args.m (map (λ (r : ℕ × Reverse ℕ). r.1.0) (heap_items c.push.new.self))) c.self.view_is
+    (joins_of _ _ _ (IsPermutation-map (λ (r : ℕ × Reverse ℕ). r.1.0) _ _ c.in_ok-push.ensures.permutation))

@@ -5,7 +5,7 @@ use Rattle.std.specs.declared.cmp.Reverse.{Reverse}
 use Rattle.std.proofs.lemmas.List.{nil_from_length}
 use Rattle.std.proofs.lemmas.List.Elements.{All-map, All-weaker, All-from_recursion, All-contains, All-nil}
 use Rattle.std.proofs.lemmas.List.Sorted.{IsPermutation-map, Contains-permutation}
-use Rattle.waff_list.specs.declared.progress.TheConstants.{NEVER}
+use Rattle.waff_list.specs.declared.work.TheConstants.{NEVER}
 use Rattle.waff_list.proofs.OrderingLemmas.{not_less_first}
 use Rattle.waff_list.proofs.FinishLemmas.{contains_rest_of}
 use Rattle.waff_list.proofs.finishes.Finishes.pop_by.Goals as goal

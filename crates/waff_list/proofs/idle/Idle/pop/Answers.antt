@@ -2,9 +2,9 @@ use Rattle.std.proofs.Common.{◌≡◌, ℕ, ◌≤◌, [], map, All, sym, ◌�
 use Rattle.std.specs.BinaryHeap.{heap_items}
 use Rattle.std.specs.declared.cmp.Reverse.{Reverse}
 use Rattle.std.proofs.lemmas.List.{nil_from_length}
-use Rattle.std.proofs.lemmas.List.Elements.{All-map, All-weaker, All-from_recursion}
+use Rattle.std.proofs.lemmas.List.Elements.{All-map, All-weaker, All-from_recursion, All-contains}
 use Rattle.std.proofs.lemmas.List.Sorted.{IsPermutation-map}
-use Rattle.waff_list.specs.Waiting.{Leaves}
+use Rattle.waff_list.specs.Waiting.{LeavesLeast}
 use Rattle.waff_list.proofs.ReadyLemmas.{leaves_of}
 use Rattle.waff_list.proofs.OrderingLemmas.{not_less}
 use Rattle.waff_list.proofs.idle.Idle.pop.Goals as goal
@@ -18,9 +18,11 @@ returns c = elim c.match-pop.branch [
       let above = All-from_recursion _ new (w.in-Some.ensures.below_top c.self.invariant) in
       let least : All (λ (r : Reverse ℕ). m ≤ r.0) new = All-weaker _ (λ (r : Reverse ℕ). m ≤ r.0) (λ r h. not_less r.0 m h) new above in
       rw w.result-is
-      (subst (λ xs. Leaves xs m (map (λ (r : Reverse ℕ). r.0) new)) c.self.view_is
-      (leaves_of _ m _ (IsPermutation-map (λ (r : Reverse ℕ). r.0) _ _ w.in-Some.ensures.permutation)
-      (All-map (λ x. m ≤ x) (λ (r : Reverse ℕ). r.0) new least)))
+      (subst (λ xs. LeavesLeast xs m (map (λ (r : Reverse ℕ). r.0) new)) c.self.view_is
+      (record {
+        leaves = leaves_of _ m _ (IsPermutation-map (λ (r : Reverse ℕ). r.0) _ _ w.in-Some.ensures.permutation);
+        least = λ x there. All-contains (λ y. m ≤ y) (map (λ (r : Reverse ℕ). r.0) new) x (All-map (λ y. m ≤ y) (λ (r : Reverse ℕ). r.0) new least) there;
+      }))
   | in-None w ↦
       let none : heap_items c.self.inside.heap ≡ [] = search (rules, nil_from_length) in
       rw w.result-is (

@@ -33,7 +33,7 @@ loop-self-preserved c =
       admits = elim c.if-left-m-eq0.branch [
         | then-left-m-eq0+in_ok-push w ↦ rw w.ready-is
             (admits_one sorted c.args.self.now.passed passed left c.args.ready.now c.loop-self.ready inside h.admits c.index-in-loop-self.result.now.1 w.push.new.self message
-            w.if-left-m-eq0.true w.in_ok-push.ensures)
+            w.if-left-m-eq0.true w.in_ok-push.ensures.joins w.in_ok-push.ensures.priorities)
         | else-left-m-eq0 w ↦ rw w.ready-is
             (admits_other sorted c.args.self.now.passed passed left c.args.ready.now c.loop-self.ready inside h.admits
             (λ none. w.if-left-m-eq0.false (subst (λ x. left_of left x ≡ 0) (sym message) none)))

@@ -25,10 +25,10 @@ returns-in_ok-push-clause-wakes c =
     let some = c.requires.some in
     let last : left_of left m ≡ 1 = omega (arith, read, again, none, some) in
     let released : work.release m ≤ now = omega (arith, c.release_of.ensures.release, c.if-release_of-now.true) in
-    let joins = c.in_ok-push.ensures in
+    let joins = c.in_ok-push.ensures.joins in
     wakes_one work now m c.args.self.now _ c.requires.number (c.requires.count ∙ sym count) some
-    (ap (λ x. set left (m - 1) (x - 1)) read) joins.kept (λ one early. joins.here)
-    (λ x there. ⊎_elim {C = Contains c.args.self.now.ready x ⊎ ((x ≡ m) × (left_of left m ≡ 1) × (work.release m ≤ now))}
-    (λ (was : Contains c.args.self.now.ready x). inl was)
+    (ap (λ x. set left (m - 1) (x - 1)) read) c.in_ok-push.ensures.priorities joins.kept (λ one early. joins.here)
+    (λ x there. ⊎_elim {C = Contains c.args.self.now.ready.messages x ⊎ ((x ≡ m) × (left_of left m ≡ 1) × (work.release m ≤ now))}
+    (λ (was : Contains c.args.self.now.ready.messages x). inl was)
     (λ (same : x ≡ m). inr (same, last, released))
     (joins.only x there))

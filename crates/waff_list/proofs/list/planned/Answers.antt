@@ -2,14 +2,15 @@ use Rattle.std.proofs.Common.{◌∙◌, ap}
 use Rattle.waff_plan.specs.Timing.{start_of}
 use Rattle.waff_order.specs.Needs.{IsNeed}
 use Rattle.waff_list.specs.Progress.{work_of_messages}
+use Rattle.waff_list.specs.Waiting.{priority_of}
 use Rattle.waff_list.proofs.PathPlans.{plan_over_paths}
-use Rattle.waff_list.proofs.list.list_plan.Goals as goal
+use Rattle.waff_list.proofs.list.planned.Goals as goal
 
 pub returns-clause-follows : goal.returns-clause-follows
 returns-clause-follows c =
     let timings = ap (λ (made : _). made.table.timings) c.new.ensures ∙ c.in_ok-plan.ensures.timings in
     let starts = ap (λ (made : _). made.table.starts) c.new.ensures ∙ c.in_ok-plan.ensures.starts ∙ c.as_slice.ensures.value in
-    let plan = plan_over_paths (IsNeed c.args.needs.now) (work_of_messages c.args.trace.now.messages) c.args.k (start_of c.in_ok-made.made.starts.items) c.in_ok-made.ensures.plan in
+    let plan = plan_over_paths (IsNeed c.args.needs.now) (work_of_messages c.args.trace.now.messages) (priority_of c.args.priorities.items) c.args.k (start_of c.in_ok-made.made.starts.items) c.in_ok-made.ensures.plan in
     rw (timings, starts) plan
 
 pub returns-clause-seated : goal.returns-clause-seated

@@ -1,0 +1,140 @@
+-- Tails of messages: each message has one, the greatest cost of a chain that begins with it, and pairs with the same paths have the
+-- same tails.
+use Rattle.std.proofs.Common.{◌≡◌, ℕ, zero, suc, ◌+◌, ◌<◌, ◌≤◌, ◌↔◌, inl, inr, List, [], ◌∷◌, arith, sym}
+use Rattle.std.proofs.lemmas.List.Sums.{sum_by-cons}
+use Rattle.waff_model.specs.Tree.{Node}
+use Rattle.waff_assign.specs.Order.{Relation, IsOrdered, PathBy, Path}
+use Rattle.waff_plan.specs.Work.{Work, IsNumber}
+use Rattle.waff_plan.specs.Obeys.{IsForward}
+use Rattle.waff_plan.specs.Chain.{LinksOn, IsChain, chain_cost}
+use Rattle.waff_order.specs.Needs.{IsNeed, AreNeeds}
+use Rattle.waff_order.proofs.NeedLemmas.{path_one, path_weaker}
+use Rattle.waff_list.specs.Tails.{AreTails, TailsAreOne, TailIsGreatestChain, TailsAreShared}
+
+-- the later message of a pair is a message
+later_is_number : (before : Relation) (work : Work) → IsForward before work → (m later : ℕ) → before m later → IsNumber work later
+later_is_number before work forward m later pair =
+    let from : 1 ≤ m = forward.from m later pair in
+    let earlier : m < later = forward.earlier m later pair in
+    record { from = omega arith; to = forward.to m later pair }
+
+-- where the tails of later messages are the same, so is the tail of a message
+tail_le : (before : Relation) (work : Work) (tail other : ℕ → ℕ) → AreTails before work tail → AreTails before work other → (m : ℕ) → IsNumber work m
+    → ((later : ℕ) → before m later → tail later ≡ other later) → tail m ≤ other m
+tail_le before work tail other tails others m number same = elim (tails.one m number) [
+  | inl (none, is) ↦ elim (others.one m number) [
+    | inl (_, other_is) ↦ omega arith
+    | inr (later, pair, _) ↦ absurd (none later pair)
+  ]
+  | inr (later, pair, is) ↦
+      let within : work.cost m + other later ≤ other m = others.each m later pair in
+      let later_same : tail later ≡ other later = same later pair in
+      omega arith
+]
+
+-- the last n messages have one tail each
+same_from : (before : Relation) (work : Work) → IsForward before work → (tail other : ℕ → ℕ) → AreTails before work tail → AreTails before work other
+    → (n m : ℕ) → IsNumber work m → work.count < m + n → tail m ≡ other m
+same_from before work forward tail other tails others zero m number last = let to : m ≤ work.count = number.to in absurd (omega arith)
+same_from before work forward tail other tails others (suc n) m number last =
+    let rest : (later : ℕ) → before m later → tail later ≡ other later = λ later pair.
+    let earlier : m < later = forward.earlier m later pair in
+    same_from before work forward tail other tails others n later (later_is_number before work forward m later pair) (omega arith) in
+    let there : tail m ≤ other m = tail_le before work tail other tails others m number rest in
+    let back : other m ≤ tail m = tail_le before work other tail others tails m number (λ later pair. sym (rest later pair)) in
+    omega arith
+
+pub tails_are_one : (before : Relation) (work : Work) → IsForward before work → TailsAreOne before work
+tails_are_one before work forward tail other tails others m number =
+    let from : 1 ≤ m = number.from in
+    same_from before work forward tail other tails others work.count m number (omega arith)
+
+-- no chain from a message costs more than its tail
+chain_within : (before : Relation) (work : Work) (tail : ℕ → ℕ) → AreTails before work tail → (m : ℕ) (rest : List ℕ) → LinksOn before work m rest
+    → chain_cost work (m ∷ rest) ≤ tail m
+chain_within before work tail tails m [] number = elim (tails.one m number) [
+  | inl (_, is) ↦ omega (arith, sum_by-cons work.cost m [])
+  | inr (later, _, is) ↦ omega (arith, sum_by-cons work.cost m [])
+]
+chain_within before work tail tails m (next ∷ rest) h =
+    let within : chain_cost work (next ∷ rest) ≤ tail next = chain_within before work tail tails next rest h.2 in
+    let pair : work.cost m + tail next ≤ tail m = tails.each m next h.1 in
+    omega (arith, sum_by-cons work.cost m (next ∷ rest))
+
+-- one costs as much
+chain_from : (before : Relation) (work : Work) → IsForward before work → (tail : ℕ → ℕ) → AreTails before work tail → (n m : ℕ) → IsNumber work m
+    → work.count < m + n → (rest : List ℕ) × IsChain before work (m ∷ rest) × (chain_cost work (m ∷ rest) ≡ tail m)
+chain_from before work forward tail tails zero m number last = let to : m ≤ work.count = number.to in absurd (omega arith)
+chain_from before work forward tail tails (suc n) m number last = elim (tails.one m number) [
+  | inl (_, is) ↦ ([], number, omega (arith, sum_by-cons work.cost m []))
+  | inr (later, pair, is) ↦
+      let earlier : m < later = forward.earlier m later pair in
+      let chain = chain_from before work forward tail tails n later (later_is_number before work forward m later pair) (omega arith) in
+      let costs : chain_cost work (later ∷ chain.0) ≡ tail later = chain.2 in
+      (later ∷ chain.0, (number, pair, chain.1), omega (arith, sum_by-cons work.cost m (later ∷ chain.0)))
+]
+
+pub tail_is_greatest_chain : (before : Relation) (work : Work) → IsForward before work → TailIsGreatestChain before work
+tail_is_greatest_chain before work forward tail m tails number = record {
+  each = λ rest chain. chain_within before work tail tails m rest chain;
+  one = let from : 1 ≤ m = number.from in chain_from before work forward tail tails work.count m number (omega arith);
+}
+
+-- along a path the tails fall by the cost of its first message or more
+path_by_falls : (before : Relation) (work : Work) (tail : ℕ → ℕ) → ((i j : ℕ) → before i j → work.cost i + tail j ≤ tail i) → (n i j : ℕ)
+    → PathBy before n i j → work.cost i + tail j ≤ tail i
+path_by_falls before work tail falls zero i j pair = falls i j pair
+path_by_falls before work tail falls (suc n) i j (m, first, rest) =
+    let one : work.cost i + tail m ≤ tail i = falls i m first in
+    let others : work.cost m + tail j ≤ tail m = path_by_falls before work tail falls n m j rest in
+    omega arith
+
+-- a path begins with a pair
+path_by_first : (before : Relation) (n i j : ℕ) → PathBy before n i j → (m : ℕ) × before i m
+path_by_first before zero i j pair = (j, pair)
+path_by_first before (suc n) i j (m, first, rest) = (m, first)
+
+-- where the tail of a message goes on along a path, it goes on with the path's first pair
+path_by_one : (before : Relation) (work : Work) (tail : ℕ → ℕ) → ((i j : ℕ) → before i j → work.cost i + tail j ≤ tail i) → (n i j : ℕ)
+    → PathBy before n i j → tail i ≡ work.cost i + tail j → (later : ℕ) × before i later × (tail i ≡ work.cost i + tail later)
+path_by_one before work tail falls zero i j pair is = (j, pair, is)
+path_by_one before work tail falls (suc n) i j (m, first, rest) is =
+    let one : work.cost i + tail m ≤ tail i = falls i m first in
+    let others : work.cost m + tail j ≤ tail m = path_by_falls before work tail falls n m j rest in
+    (m, first, omega arith)
+
+pub same_paths_same_tails : (near before : Relation) (work : Work) → ((i j : ℕ) → before i j → Path near i j) → ((i j : ℕ) → near i j → Path before i j)
+    → (tail : ℕ → ℕ) → AreTails near work tail → AreTails before work tail
+same_paths_same_tails near before work to from tail tails = record {
+  each = falls;
+  one = λ m number. elim (tails.one m number) [
+    | inl (none, is) ↦ inl ((λ later pair. let path = to m later pair in let first = path_by_first near path.0 m later path.1 in none first.0 first.1), is)
+    | inr (later, pair, is) ↦ let path = from m later pair in inr (path_by_one before work tail falls path.0 m later path.1 is)
+  ];
+}
+  where
+    falls : (i j : ℕ) → before i j → work.cost i + tail j ≤ tail i
+    falls i j pair = let path = to i j pair in path_by_falls near work tail tails.each path.0 i j path.1
+
+pub tails_are_shared : (near before : Relation) (work : Work) → TailsAreShared near before work
+tails_are_shared near before work to from tail =
+    (same_paths_same_tails near before work to from tail, same_paths_same_tails before near work from to tail)
+
+-- pairs and the paths through them
+pub tails_over_paths : (near : Relation) (work : Work) (tail : ℕ → ℕ) → AreTails near work tail → AreTails (Path near) work tail
+tails_over_paths near work tail =
+    same_paths_same_tails near (Path near) work (λ i j path. path) (λ i j pair. path_one (Path near) i j (path_one near i j pair)) tail
+
+module _ (tree : List Node) (assigned : List ℕ) (needs : List (List ℕ)) (work : Work) (tail : ℕ → ℕ) (are : AreNeeds tree assigned needs) where
+  -- needs and the ordered pairs
+  pub needs_share_tails : AreTails (IsNeed needs) work tail ↔ AreTails (IsOrdered tree assigned) work tail
+  needs_share_tails =
+      tails_are_shared (IsNeed needs) (IsOrdered tree assigned) work are.paths
+      (λ i j need. path_one (IsOrdered tree assigned) i j (are.ordered i j need)) tail
+
+  -- paths through needs and the ordered pairs
+  pub paths_share_tails : AreTails (Path (IsNeed needs)) work tail ↔ AreTails (IsOrdered tree assigned) work tail
+  paths_share_tails =
+      tails_are_shared (Path (IsNeed needs)) (IsOrdered tree assigned) work
+      (λ i j pair. path_one (Path (IsNeed needs)) i j (are.paths i j pair))
+      (λ i j path. path_weaker (IsNeed needs) (IsOrdered tree assigned) are.ordered i j path) tail

@@ -1,0 +1,263 @@
+-- The tails of messages while they are made, from the last message to the first. A message that has not had its turn holds the greatest
+-- tail of those that it is before, of the ones that have.
+use Rattle.std.proofs.Common.{◌≡◌, ◌≢◌, ℕ, ◌+◌, ◌-◌, ◌*◌, ◌^◌, ◌<◌, ◌≤◌, ◌⊎◌, inl, inr, max, List, [], ◌∷◌, ◌++◌, length, get_or, set, take, All, Contains, arith, refl, sym, ◌∙◌, ap, subst, get_or-set_same, get_or-set_other}
+use Rattle.std.proofs.lemmas.Bool.{cases_eq, cases_lt, cases_order}
+use Rattle.std.proofs.lemmas.List.{get_or_default, length-set, take_more}
+use Rattle.std.proofs.lemmas.List.Elements.{Contains-append_left, Contains-push, Contains-push_cases}
+use Rattle.waff_assign.specs.Order.{Relation}
+use Rattle.waff_plan.specs.Work.{Work, IsNumber}
+use Rattle.waff_plan.specs.Obeys.{IsForward}
+use Rattle.waff_order.specs.Needs.{needs_of, IsNeed}
+use Rattle.waff_list.specs.Tails.{tail_of, IsBeforeNone, AreTails, AreRaised}
+
+-- the messages after message n have had their turns
+pub record AreTailsAfter (before : Relation) (work : Work) (tail : ℕ → ℕ) (n : ℕ) : Type 0 where
+  pub each : (m later : ℕ) → before m later → n < m → work.cost m + tail later ≤ tail m
+  pub one : (m : ℕ) → IsNumber work m → n < m → (IsBeforeNone before m × (tail m ≡ work.cost m))
+      ⊎ ((later : ℕ) × before m later × (tail m ≡ work.cost m + tail later))
+  pub best : (m later : ℕ) → before m later → m ≤ n → n < later → tail later ≤ tail m
+  pub best_one : (m : ℕ) → IsNumber work m → m ≤ n → (((later : ℕ) → before m later → later ≤ n) × (tail m ≡ 0))
+      ⊎ ((later : ℕ) × before m later × (n < later) × (tail m ≡ tail later))
+  pub small : (m : ℕ) → IsNumber work m → tail m ≤ (work.count - n) * 2 ^ 32
+
+-- message n has had its turn
+pub record TakesTurn (before : Relation) (work : Work) (old new : ℕ → ℕ) (n : ℕ) : Type 0 where
+  pub here : new n ≡ old n + work.cost n
+  pub later : (m : ℕ) → n < m → new m ≡ old m
+  pub each : (m : ℕ) → before m n → new n ≤ new m
+  pub kept : (m : ℕ) → 1 ≤ m → m < n → old m ≤ new m
+  pub one : (m : ℕ) → 1 ≤ m → m < n → (new m ≡ old m) ⊎ (before m n × (new m ≡ new n))
+
+module _ (before : Relation) (work : Work) (forward : IsForward before work) where
+  -- no message has had its turn
+  pub tails_none : (tail : ℕ → ℕ) → ((m : ℕ) → tail m ≡ 0) → AreTailsAfter before work tail work.count
+  tails_none tail none = record {
+    each = λ m later pair after.
+        let earlier : m < later = forward.earlier m later pair in
+        let to : later ≤ work.count = forward.to m later pair in
+        absurd (omega arith);
+    one = λ m number after. let to : m ≤ work.count = number.to in absurd (omega arith);
+    best = λ m later pair to after. let within : later ≤ work.count = forward.to m later pair in absurd (omega arith);
+    best_one = λ m number to. inl (forward.to m, none m);
+    small = λ m number. omega (arith, none m);
+  }
+
+  -- all have
+  pub tails_all : (tail : ℕ → ℕ) → AreTailsAfter before work tail 0 → AreTails before work tail
+  tails_all tail h = record {
+    each = λ m later pair. let from : 1 ≤ m = forward.from m later pair in h.each m later pair (omega arith);
+    one = λ m number. let from : 1 ≤ m = number.from in h.one m number (omega arith);
+  }
+
+  module _ (old new : ℕ → ℕ) (n : ℕ) (number : IsNumber work n) (some : 1 ≤ work.cost n) (little : work.cost n < 2 ^ 32)
+      (h : AreTailsAfter before work old n) (turn : TakesTurn before work old new n) where
+    from : 1 ≤ n
+    from = number.from
+
+    to : n ≤ work.count
+    to = number.to
+
+    each_more : (m later : ℕ) → before m later → n - 1 < m → work.cost m + new later ≤ new m
+    each_more m later pair after =
+        let earlier : m < later = forward.earlier m later pair in
+        let kept : new later ≡ old later = turn.later later (omega arith) in
+        elim (cases_eq m n) [
+          | inl here ↦
+              let best : old later ≤ old m = h.best m later pair (omega arith) (omega arith) in
+              let is : new m ≡ old m + work.cost m = subst (λ x. new x ≡ old x + work.cost x) (sym here) turn.here in
+              omega arith
+          | inr other ↦
+              let is : new m ≡ old m = turn.later m (omega arith) in
+              let was : work.cost m + old later ≤ old m = h.each m later pair (omega arith) in
+              omega arith
+        ]
+
+    one_here : (IsBeforeNone before n × (new n ≡ work.cost n)) ⊎ ((later : ℕ) × before n later × (new n ≡ work.cost n + new later))
+    one_here = let is : new n ≡ old n + work.cost n = turn.here in elim (h.best_one n number (omega arith)) [
+      | inl (none, zero) ↦
+          inl ((λ later pair. let earlier : n < later = forward.earlier n later pair in let within : later ≤ n = none later pair in absurd (omega arith)), omega arith)
+      | inr (later, pair, after, was) ↦ let kept : new later ≡ old later = turn.later later after in inr (later, pair, omega arith)
+    ]
+
+    one_after : (m : ℕ) → IsNumber work m → n < m
+        → (IsBeforeNone before m × (new m ≡ work.cost m)) ⊎ ((later : ℕ) × before m later × (new m ≡ work.cost m + new later))
+    one_after m m_number after = let is : new m ≡ old m = turn.later m after in elim (h.one m m_number after) [
+      | inl (none, was) ↦ inl (none, omega arith)
+      | inr (later, pair, was) ↦
+          let earlier : m < later = forward.earlier m later pair in
+          let kept : new later ≡ old later = turn.later later (omega arith) in
+          inr (later, pair, omega arith)
+    ]
+
+    one_more : (m : ℕ) → IsNumber work m → n - 1 < m
+        → (IsBeforeNone before m × (new m ≡ work.cost m)) ⊎ ((later : ℕ) × before m later × (new m ≡ work.cost m + new later))
+    one_more m m_number after = elim (cases_eq m n) [
+      | inl here ↦ subst (λ x. (IsBeforeNone before x × (new x ≡ work.cost x)) ⊎ ((later : ℕ) × before x later × (new x ≡ work.cost x + new later))) (sym here) one_here
+      | inr other ↦ one_after m m_number (omega arith)
+    ]
+
+    best_more : (m later : ℕ) → before m later → m ≤ n - 1 → n - 1 < later → new later ≤ new m
+    best_more m later pair early after = elim (cases_eq later n) [
+      | inl here ↦
+          let least : new n ≤ new m = turn.each m (subst (λ x. before m x) here pair) in
+          subst (λ x. new x ≤ new m) (sym here) least
+      | inr other ↦
+          let m_from : 1 ≤ m = forward.from m later pair in
+          let is : new later ≡ old later = turn.later later (omega arith) in
+          let was : old later ≤ old m = h.best m later pair (omega arith) (omega arith) in
+          let kept : old m ≤ new m = turn.kept m m_from (omega arith) in
+          omega arith
+    ]
+
+    best_one_more : (m : ℕ) → IsNumber work m → m ≤ n - 1
+        → (((later : ℕ) → before m later → later ≤ n - 1) × (new m ≡ 0)) ⊎ ((later : ℕ) × before m later × (n - 1 < later) × (new m ≡ new later))
+    best_one_more m m_number early = elim (turn.one m m_number.from (omega arith)) [
+      | inl kept ↦ elim (h.best_one m m_number (omega arith)) [
+        | inl (none, zero) ↦ inl (
+          (λ later pair. elim (cases_eq later n) [
+            | inl here ↦
+                let least : new n ≤ new m = turn.each m (subst (λ x. before m x) here pair) in
+                let is : new n ≡ old n + work.cost n = turn.here in
+                absurd (omega arith)
+            | inr other ↦ let within : later ≤ n = none later pair in omega arith
+          ]),
+          omega arith,
+        )
+        | inr (later, pair, after, was) ↦ let is : new later ≡ old later = turn.later later after in inr (later, pair, omega arith, omega arith)
+      ]
+      | inr (pair, is) ↦ inr (n, pair, omega arith, is)
+    ]
+
+    small_more : (m : ℕ) → IsNumber work m → new m ≤ (work.count - (n - 1)) * 2 ^ 32
+    small_more m m_number =
+        let m_from : 1 ≤ m = m_number.from in
+        let was : old m ≤ (work.count - n) * 2 ^ 32 = h.small m m_number in
+        let here_was : old n ≤ (work.count - n) * 2 ^ 32 = h.small n number in
+        let here : new n ≡ old n + work.cost n = turn.here in
+        let most : (work.count - (n - 1)) * 2 ^ 32 ≡ (work.count - n) * 2 ^ 32 + 2 ^ 32 = omega arith in
+        elim (cases_order m n) [
+          | inl same ↦ subst (λ x. new x ≤ (work.count - (n - 1)) * 2 ^ 32) (sym same) (omega arith)
+          | inr (inl early) ↦ elim (turn.one m m_from early) [
+            | inl kept ↦ omega arith
+            | inr (_, is) ↦ omega arith
+          ]
+          | inr (inr after) ↦ let is : new m ≡ old m = turn.later m after in omega arith
+        ]
+
+    pub tails_more : AreTailsAfter before work new (n - 1)
+    tails_more = record { each = each_more; one = one_more; best = best_more; best_one = best_one_more; small = small_more }
+
+  -- no tail is great
+  pub tails_small : (tails : List ℕ) → length tails ≡ work.count → work.count ≤ 65536 → AreTailsAfter before work (tail_of tails) 0
+      → All (λ tail. tail ≤ 2 ^ 48) tails
+  tails_small tails count few h = λ k d within.
+      let here : get_or tails (k + 1 - 1) 0 ≤ (work.count - 0) * 2 ^ 32 = h.small (k + 1) (record { from = omega arith; to = omega arith }) in
+      let at : k + 1 - 1 ≡ k = omega arith in
+      let is : get_or tails (k + 1 - 1) 0 ≡ get_or tails k d = ap (λ i. get_or tails i 0) at ∙ get_or_default tails k 0 d within in
+      omega arith
+
+-- no tail has been raised yet
+pub raised_none : (tails : List ℕ) (tail : ℕ) → AreRaised tails [] tail tails
+raised_none tails tail = record {
+  count = refl;
+  each = λ m there. let within = there.1 in absurd (omega (arith, within));
+  kept = λ m. omega arith;
+  one = λ m from. inl refl;
+}
+
+-- the tail of one message more has been raised
+module _ (old new messages : List ℕ) (tail at : ℕ) (inside : at < length messages) (from : 1 ≤ get_or messages at 0) (to : get_or messages at 0 ≤ length new)
+    (h : AreRaised old (take at messages) tail new) where
+  abbrev x : ℕ
+  x = get_or messages at 0
+
+  abbrev after : List ℕ
+  after = set new (x - 1) (max (tail_of new x) tail)
+
+  more : take (at + 1) messages ≡ take at messages ++ x ∷ []
+  more = take_more messages at 0 inside
+
+  here : tail_of after x ≡ max (tail_of new x) tail
+  here = get_or-set_same new (x - 1) (max (tail_of new x) tail) 0 (omega arith)
+
+  there : (m : ℕ) → m - 1 ≢ x - 1 → tail_of after m ≡ tail_of new m
+  there m other = get_or-set_other new (x - 1) (m - 1) (max (tail_of new x) tail) 0 other
+
+  rises : (m : ℕ) → tail_of new m ≤ tail_of after m
+  rises m = elim (cases_eq (m - 1) (x - 1)) [
+    | inl same ↦ subst (λ i. get_or new i 0 ≤ get_or after i 0) (sym same) (omega (arith, here))
+    | inr other ↦ omega (arith, there m other)
+  ]
+
+  raised : (m : ℕ) → Contains (take (at + 1) messages) m → tail ≤ tail_of after m
+  raised m listed = elim (Contains-push_cases (take at messages) x m (subst (λ xs. Contains xs m) more listed)) [
+    | inl was ↦ let least : tail ≤ tail_of new m = h.each m was in omega (arith, rises m)
+    | inr is ↦ subst (λ y. tail ≤ tail_of after y) is (omega (arith, here))
+  ]
+
+  listed_here : Contains (take (at + 1) messages) x
+  listed_here = subst (λ xs. Contains xs x) (sym more) (Contains-push (take at messages) x)
+
+  listed_more : (m : ℕ) → Contains (take at messages) m → Contains (take (at + 1) messages) m
+  listed_more m was = subst (λ xs. Contains xs m) (sym more) (Contains-append_left (take at messages) (x ∷ []) m was)
+
+  one_was : (m : ℕ) → tail_of after m ≡ tail_of new m → (tail_of new m ≡ tail_of old m) ⊎ (Contains (take at messages) m × (tail_of new m ≡ tail))
+      → (tail_of after m ≡ tail_of old m) ⊎ (Contains (take (at + 1) messages) m × (tail_of after m ≡ tail))
+  one_was m is (inl kept) = inl (is ∙ kept)
+  one_was m is (inr (was, raised_was)) = inr (listed_more m was, is ∙ raised_was)
+
+  one : (m : ℕ) → 1 ≤ m → (tail_of after m ≡ tail_of old m) ⊎ (Contains (take (at + 1) messages) m × (tail_of after m ≡ tail))
+  one m m_from = elim (cases_eq m x) [
+    | inl same ↦ subst (λ y. (tail_of after y ≡ tail_of old y) ⊎ (Contains (take (at + 1) messages) y × (tail_of after y ≡ tail))) (sym same) (elim (cases_lt (tail_of new x) tail) [
+      | inl less ↦ inr (listed_here, omega (arith, here))
+      | inr least ↦ one_was x (omega (arith, here)) (h.one x from)
+    ])
+    | inr other ↦ one_was m (there m (omega arith)) (h.one m m_from)
+  ]
+
+  pub raised_more : AreRaised old (take (at + 1) messages) tail (set new (get_or messages at 0 - 1) (max (get_or new (get_or messages at 0 - 1) 0) tail))
+  raised_more = record {
+    count = length-set new (x - 1) (max (tail_of new x) tail) ∙ h.count;
+    each = raised;
+    kept = λ m. let was : tail_of old m ≤ tail_of new m = h.kept m in omega (arith, rises m);
+    one = one;
+  }
+
+-- a message that has its cost, and whose needs have been raised to its tail, has had its turn
+module _ (needs : List (List ℕ)) (work : Work) (forward : IsForward (IsNeed needs) work) (old new : List ℕ) (n tail : ℕ) (from : 1 ≤ n) (to : n ≤ length old)
+    (sum : tail ≡ tail_of old n + work.cost n) (h : AreRaised (set old (n - 1) tail) (needs_of needs n) tail new) where
+  set_here : tail_of (set old (n - 1) tail) n ≡ tail
+  set_here = get_or-set_same old (n - 1) tail 0 (omega arith)
+
+  set_other : (m : ℕ) → 1 ≤ m → m ≢ n → tail_of (set old (n - 1) tail) m ≡ tail_of old m
+  set_other m m_from other = let apart : m - 1 ≢ n - 1 = omega arith in get_or-set_other old (n - 1) (m - 1) tail 0 apart
+
+  tail_is : tail_of new n ≡ tail
+  tail_is = elim (h.one n from) [
+    | inl kept ↦ kept ∙ set_here
+    | inr (_, is) ↦ is
+  ]
+
+  is_need : (m : ℕ) → Contains (needs_of needs n) m → IsNeed needs m n
+  is_need m listed = record { from = from; listed = listed }
+
+  is_later : (m : ℕ) → n < m → tail_of new m ≡ tail_of old m
+  is_later m after = elim (h.one m (omega arith)) [
+    | inl kept ↦ kept ∙ set_other m (omega arith) (omega arith)
+    | inr (listed, _) ↦ let earlier : m < n = forward.earlier m n (is_need m listed) in absurd (omega arith)
+  ]
+
+  pub takes_turn : TakesTurn (IsNeed needs) work (tail_of old) (tail_of new) n
+  takes_turn = record {
+    here = tail_is ∙ sum;
+    later = is_later;
+    each = λ m need. let least : tail ≤ tail_of new m = h.each m need.listed in omega (arith, tail_is);
+    kept = λ m m_from early.
+        let other : m ≢ n = omega arith in
+        let was : tail_of (set old (n - 1) tail) m ≤ tail_of new m = h.kept m in
+        omega (arith, set_other m m_from other);
+    one = λ m m_from early. elim (h.one m m_from) [
+      | inl kept ↦ let other : m ≢ n = omega arith in inl (kept ∙ set_other m m_from other)
+      | inr (listed, is) ↦ inr (is_need m listed, is ∙ sym tail_is)
+    ];
+  }
