@@ -13,10 +13,10 @@ and prints the plan of both.";
 
 /// What the rules are, and when which is better.
 pub const RULE: &str = "\
-Which of the ready messages start first: by arrival those that arrived
-first, by longest those on which the longest chain of work hangs.
-Without --rule it is arrival. A plan by longest is mostly shorter, by
-arrival each message waits less for later ones";
+Which ready messages start first: by arrival those that arrived first,
+by longest those on which the longest chain of work hangs. Without
+--rule it is arrival. Mostly the plan is shorter by longest, and the
+greatest latencies are less by arrival";
 
 pub const ASSIGN: &str = "\
 Example: waff assign hier.toml trace.csv
