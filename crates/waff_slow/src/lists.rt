@@ -53,10 +53,14 @@ pub fn arrivals(alloc: Global, work: &Work) -> Result<Vec<u64>, AllocError> {
 
 /// The tail of each message: its cost, and the greatest tail of a later message that waits for it.
 pub fn tails(alloc: Global, work: &Work) -> Result<Vec<u64>, AllocError> {
+    let mut costs = Vec::new(alloc);
+    for (m, times) in (1u32..).zip(&work.times) {
+        costs.push((m, times.cost))?;
+    }
     let mut tails = Vec::new(alloc);
-    for (m, times) in (1..MESSAGES + 1).rev().zip(work.times.iter().rev()) {
-        let behind = longest_behind(work, &tails, m);
-        tails.push(times.cost.saturating_add(behind))?;
+    for (m, cost) in costs.iter().rev() {
+        let behind = longest_behind(work, &tails, *m);
+        tails.push(cost.saturating_add(behind))?;
     }
     tails.reverse();
     Ok(tails)
