@@ -26,6 +26,7 @@ WORDS = (
     "assign {H} {T}",
     "plan {H} {T}",
     "plan {H} {T} --workers 2",
+    "plan {H} {T} --workers 2 --rule longest",
     "check {H} {T} {P}",
     "check {H} {T} {K}",
     "check {H} {T} {F}",

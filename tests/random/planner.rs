@@ -1,6 +1,7 @@
 //! A plain planner with no proof, on the standard library alone: what `tests/random/run` compares the built program with.
 //!
-//! It reads files that are right (nothing is refused), and prints the texts of assign, plan, check and compare.
+//! It reads files that are right (nothing is refused), and prints the texts of assign, plan, check and compare. A plan by the
+//! longest tails is made tick by tick, over all pairs.
 use std::cmp::Reverse;
 use std::collections::{BTreeMap, BinaryHeap, HashMap};
 use std::fmt::Write as _;
@@ -314,6 +315,46 @@ fn listed(trace: &Trace, needs: &[Vec<u32>], k: usize) -> Plan {
     Plan { starts, workers }
 }
 
+/// The tail of each message: its cost, and the greatest tail of a later message that excludes it.
+fn tails(h: &Hierarchy, trace: &Trace, assigned: &[usize]) -> Vec<u64> {
+    let count = assigned.len();
+    let mut tails = vec![0; count];
+    for n in (0..count).rev() {
+        let later = (n + 1..count).filter(|&m| excludes(h, assigned[n], assigned[m]));
+        tails[n] = trace.messages[n].cost + later.map(|m| tails[m]).max().unwrap_or(0);
+    }
+    tails
+}
+
+/// The plan for k workers of which the messages of the longest tails start first.
+fn longest(h: &Hierarchy, trace: &Trace, assigned: &[usize], k: usize) -> Plan {
+    let count = assigned.len();
+    let tails = tails(h, trace, assigned);
+    let (mut starts, mut workers) = (vec![None; count], vec![0; count]);
+    let mut next = Some(0);
+    while let Some(now) = next {
+        let finish = |n: usize| starts[n].map(|start: u64| start + trace.messages[n].cost);
+        let runs = |n: usize| finish(n).is_some_and(|it| it > now);
+        let waits = |n: usize, i: usize| excludes(h, assigned[i], assigned[n]) && finish(i).is_none_or(|it| it > now);
+        let is_ready = |n: &usize| {
+            starts[*n].is_none() && trace.messages[*n].release <= now && !(0..*n).any(|i| waits(*n, i))
+        };
+        let is_free = |worker: &usize| !(0..count).any(|n| workers[n] == *worker && runs(n));
+        let free: Vec<usize> = (1..=k).filter(is_free).collect();
+        let mut ready: Vec<usize> = (0..count).filter(is_ready).collect();
+        ready.sort_by_key(|&n| (Reverse(tails[n]), n));
+        ready.truncate(free.len());
+        ready.sort();
+        for (n, worker) in ready.into_iter().zip(free) {
+            (starts[n], workers[n]) = (Some(now), worker);
+        }
+        let finishes = (0..count).filter_map(|n| Some(starts[n]? + trace.messages[n].cost));
+        let releases = trace.messages.iter().map(|message| message.release);
+        next = finishes.chain(releases).filter(|&tick| tick > now).min();
+    }
+    Plan { starts: starts.into_iter().map(Option::unwrap).collect(), workers }
+}
+
 /// The chain of a plan: from its greatest finish back, always the greatest finish before.
 fn chain(trace: &Trace, needs: &[Vec<u32>], plan: &Plan) -> Vec<usize> {
     let finish = |n: usize| plan.starts[n] + trace.messages[n].cost;
@@ -362,10 +403,17 @@ pub fn assign_text(h: &Hierarchy, trace: &Trace, assigned: &[usize]) -> String {
     text
 }
 
-pub fn plan_text(h: &Hierarchy, trace: &Trace, assigned: &[usize], k: Option<u64>) -> String {
+pub fn plan_text(
+    h: &Hierarchy,
+    trace: &Trace,
+    assigned: &[usize],
+    k: Option<u64>,
+    is_longest: bool,
+) -> String {
     let needs = needs(h, assigned);
     let plan = match k {
         None => unlimited(trace, &needs),
+        Some(k) if is_longest => longest(h, trace, assigned, k as usize),
         Some(k) => listed(trace, &needs, k as usize),
     };
     let mut text = String::from("message,affinity,start,finish,worker\n");
@@ -550,9 +598,11 @@ fn refines(assignments: &[(&Hierarchy, Vec<usize>)]) -> bool {
 
 fn main() {
     let words: Vec<String> = std::env::args().skip(1).collect();
-    let workers = words.iter().position(|word| word == "--workers");
-    let k: Option<u64> = workers.map(|at| words[at + 1].parse().unwrap());
-    let files = &words[1..workers.unwrap_or(words.len())];
+    let value = |name: &str| words.iter().position(|word| word == name).map(|at| words[at + 1].as_str());
+    let k: Option<u64> = value("--workers").map(|it| it.parse().unwrap());
+    let is_longest = value("--rule") == Some("longest");
+    let options = words.iter().position(|word| word.starts_with("--"));
+    let files = &words[1..options.unwrap_or(words.len())];
     let file = |at: usize| std::fs::read_to_string(&files[at]).unwrap();
     let h = read_hierarchy(&file(0));
     let text = if words[0] == "compare" {
@@ -564,7 +614,7 @@ fn main() {
         let assigned = assign(&h, &trace);
         match words[0].as_str() {
             "assign" => assign_text(&h, &trace, &assigned),
-            "plan" => plan_text(&h, &trace, &assigned, k),
+            "plan" => plan_text(&h, &trace, &assigned, k, is_longest),
             "check" => {
                 let plan = file(2);
                 let mut rest = record(&plan, &mut vec![]);

@@ -13,8 +13,8 @@ use waff_cli::{Asked, Drawing};
 use waff_core::limits::MAX_SEATS;
 use waff_tool::{
     MAX_RANKED, Part, Picture, assign_text, check_text, compare_text, draw_text, explain_text,
-    explained_status, plan_text, rank_text, rate_text, replay_text, split_input, sweep_text,
-    sweep_workers, verdict_status, waits_text, where_text,
+    explained_status, plan_text, plan_text_by, rank_text, rate_text, replay_text, split_input,
+    sweep_text, sweep_workers, verdict_status, waits_text, where_text,
 };
 
 /// Prints what is asked for of these files, and gives the exit status.
@@ -34,8 +34,8 @@ pub fn answer<R: Runtime + Threads + Wait + Sync>(
         (Asked::Compare(k), [first, second, trace]) => {
             compare_text(alloc, first, second, trace, *k, &mut io::writer(rt))?;
         }
-        (Asked::Rank(k), [trace, hierarchies @ ..]) if hierarchies.len() <= MAX_RANKED => {
-            rank_text(alloc, hierarchies, trace, *k, &mut io::writer(rt))?;
+        (Asked::Rank(k, rule), [trace, hierarchies @ ..]) if hierarchies.len() <= MAX_RANKED => {
+            rank_text(alloc, hierarchies, trace, *k, *rule, &mut io::writer(rt))?;
         }
         (_, [hierarchy, trace]) => print_of_trace(rt, alloc, asked, hierarchy, trace)?,
         (_, [hierarchy, trace, plan]) => {
@@ -64,13 +64,15 @@ fn print_of_trace<R: Runtime + Threads + Wait + Sync>(
     let mut out = io::writer(rt);
     match asked {
         Asked::Assign => assign_text(alloc, hierarchy, trace, &mut out)?,
-        Asked::Plan(workers) => plan_text(alloc, hierarchy, trace, *workers, &mut out)?,
-        Asked::Sweep(given) => {
-            sweep_text(alloc, hierarchy, trace, swept(given), &mut out)?;
+        Asked::Plan(workers, rule) => {
+            plan_text_by(alloc, hierarchy, trace, *workers, *rule, &mut out)?;
+        }
+        Asked::Sweep(given, rule) => {
+            sweep_text(alloc, hierarchy, trace, swept(given), *rule, &mut out)?;
         }
         Asked::Where(by_name) => where_text(alloc, hierarchy, trace, *by_name, &mut out)?,
-        Asked::Waits(workers, by_name) => {
-            waits_text(alloc, hierarchy, trace, *workers, *by_name, &mut out)?;
+        Asked::Waits(workers, rule, by_name) => {
+            waits_text(alloc, hierarchy, trace, *workers, *rule, *by_name, &mut out)?;
         }
         Asked::Replay(workers) => {
             let workers = threads(rt, *workers);

@@ -32,6 +32,8 @@ pub enum OptionWord {
     SweepWorkers,
     /// `--workers` for threads of a replay.
     Threads,
+    /// `--rule`.
+    Rule,
     /// `--names`, with its help.
     Names(&'static str),
     /// `--as`.
@@ -50,6 +52,9 @@ pub const MAX_RANKED: usize = 64;
 
 /// Numbers of workers of a sweep.
 pub const MAX_SWEPT: usize = 64;
+
+/// The rules by which a free worker takes a message.
+pub static RULES: [&str; 2] = ["arrival", "longest"];
 
 /// What a plan is drawn as.
 pub static PICTURES: [&str; 2] = ["svg", "events"];
@@ -107,7 +112,7 @@ pub static COMMANDS: [CommandWords; 12] = [
         name: "plan",
         about: "Prints a shortest plan, or a plan for a number of workers",
         files: &[HIERARCHY, TRACE],
-        options: &[OptionWord::PlanWorkers(false)],
+        options: &[OptionWord::PlanWorkers(false), OptionWord::Rule],
         help: help::PLAN,
     },
     CommandWords {
@@ -145,7 +150,7 @@ pub static COMMANDS: [CommandWords; 12] = [
         name: "sweep",
         about: "Prints how long the trace takes, by the number of workers",
         files: &[HIERARCHY, TRACE],
-        options: &[OptionWord::SweepWorkers],
+        options: &[OptionWord::SweepWorkers, OptionWord::Rule],
         help: help::SWEEP,
     },
     CommandWords {
@@ -161,6 +166,7 @@ pub static COMMANDS: [CommandWords; 12] = [
         files: &[HIERARCHY, TRACE],
         options: &[
             OptionWord::PlanWorkers(false),
+            OptionWord::Rule,
             OptionWord::Names("By the names of messages too"),
         ],
         help: help::WAITS,
@@ -197,7 +203,7 @@ pub static COMMANDS: [CommandWords; 12] = [
         name: "rank",
         about: "Prints how several trees serve one trace",
         files: &[TRACE, RANKED],
-        options: &[OptionWord::PlanWorkers(true)],
+        options: &[OptionWord::PlanWorkers(true), OptionWord::Rule],
         help: help::RANK,
     },
 ];

@@ -1,4 +1,5 @@
-//! What the long help of each command ends with: an example, what is printed, and the exit statuses.
+//! What the long help of each command ends with: an example, what is printed, and the exit statuses;
+//! and the long help of an option that takes more than a line.
 
 /// What the long help of the program ends with.
 pub const WAFF: &str = "\
@@ -9,6 +10,13 @@ prints. One of them may be -, standard input.
 
 Without words waff reads standard input, a hierarchy, a line ---, and a trace,
 and prints the plan of both.";
+
+/// What the rules are, and when which is better.
+pub const RULE: &str = "\
+Which ready messages start first: by arrival those that arrived first,
+by longest those on which the longest chain of work hangs. Without
+--rule it is arrival. Mostly the plan is shorter by longest, and the
+greatest latencies are less by arrival";
 
 pub const ASSIGN: &str = "\
 Example: waff assign hier.toml trace.csv

@@ -1,5 +1,5 @@
 //! The parser of the table of commands.
-use crate::commands::{COMMANDS, CommandWords, FileWord, OptionWord, PICTURES};
+use crate::commands::{COMMANDS, CommandWords, FileWord, OptionWord, PICTURES, RULES};
 use crate::help;
 use crate::version::LONG_VERSION;
 use clap::{Arg, ArgAction, Command, value_parser};
@@ -85,6 +85,7 @@ fn option<'a>(alloc: Global, word: OptionWord) -> Arg<'a> {
         OptionWord::Threads => workers_up_to(alloc, MAX_SEATS)
             .value_name("W")
             .help("How many threads, from 1 to 16; else one a processor"),
+        OptionWord::Rule => rule(alloc),
         OptionWord::Names(help) => Arg::new(alloc, "names")
             .long("names")
             .action(ArgAction::SetTrue)
@@ -104,6 +105,18 @@ fn workers_up_to<'a>(alloc: Global, most: u32) -> Arg<'a> {
     Arg::new(alloc, "workers")
         .long("workers")
         .value_parser(value_parser!(u32).range(1..=i64::from(most)))
+}
+
+/// Which of the messages that are ready start first.
+fn rule<'a>(alloc: Global) -> Arg<'a> {
+    Arg::new(alloc, "rule")
+        .long("rule")
+        .value_name("RULE")
+        .value_parser(RULES.as_slice())
+        .default_value("arrival")
+        .hide_default_value(true)
+        .help("Who starts first")
+        .long_help(help::RULE)
 }
 
 fn picture<'a>(alloc: Global) -> Arg<'a> {

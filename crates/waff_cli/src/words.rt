@@ -9,6 +9,7 @@ use crate::refusal::Refusal;
 use clap::ArgMatches;
 use std::alloc::{AllocError, Global};
 use waff_core::limits::MAX_SEATS;
+use waff_list::Rule;
 use waff_model::limits::MAX_WORKERS;
 
 /// What the words ask for.
@@ -25,8 +26,8 @@ pub enum Asked {
     /// No words: the plan of the hierarchy and the trace in one file, standard input.
     PlanOfInput,
     Assign,
-    /// A plan for this number of workers, or a shortest one where there is no number.
-    Plan(Option<u32>),
+    /// A plan for this number of workers by this rule, or a shortest one where there is no number.
+    Plan(Option<u32>, Rule),
     /// The verdict on the plan.
     Check,
     /// The state that the trace leaves, replayed by this number of workers, or by as many as there
@@ -36,17 +37,19 @@ pub enum Asked {
     Compare(u32),
     /// How good the plan is.
     Rate,
-    /// How long the trace takes, for each of these numbers of workers, or for the usual ones.
-    Sweep(Option<Vec<u32>>),
+    /// How long the trace takes by this rule, for each of these numbers of workers, or for the usual
+    /// ones.
+    Sweep(Option<Vec<u32>>, Rule),
     /// Where the time goes, by the names of messages or by affinity.
     Where(bool),
-    /// Who waits for whom, by the names of messages or not, in the plan for this number of workers
-    /// or in a shortest one.
-    Waits(Option<u32>, bool),
+    /// Who waits for whom, in the plan for this number of workers by this rule or in a shortest one,
+    /// by the names of messages or not.
+    Waits(Option<u32>, Rule, bool),
     /// This part of the plan drawn as this picture.
     Draw(Drawing, Part),
-    /// How several hierarchies serve the trace, for this number of workers. The trace comes first.
-    Rank(u32),
+    /// How several hierarchies serve the trace, for this number of workers by this rule. The trace
+    /// comes first.
+    Rank(u32, Rule),
     /// The first fault, or the verdict, of a hierarchy, of a trace where there is one, and of a
     /// plan where there is one.
     Explain,
@@ -131,17 +134,17 @@ fn asked_of(
 {
     match command {
         "assign" => Ok(Asked::Assign),
-        "plan" => Ok(Asked::Plan(workers(matches, MAX_WORKERS)?)),
+        "plan" => plan_of(matches),
         "check" => Ok(Asked::Check),
         "explain" => Ok(Asked::Explain),
         "rate" => Ok(Asked::Rate),
-        "sweep" => Ok(Asked::Sweep(swept_workers(rt, alloc, matches)?)),
+        "sweep" => sweep_of(rt, alloc, matches),
         "where" => Ok(Asked::Where(matches.get_flag("names"))),
         "waits" => waits_of(matches),
         "draw" => Ok(Asked::Draw(drawn_as(matches)?, part_of(rt, matches)?)),
         "replay" => Ok(Asked::Replay(workers(matches, MAX_SEATS)?)),
         "compare" => Ok(Asked::Compare(wanted_workers(matches, MAX_WORKERS)?)),
-        "rank" => Ok(Asked::Rank(wanted_workers(matches, MAX_WORKERS)?)),
+        "rank" => rank_of(matches),
         _ => Err(Refusal::NoWords),
     }
 }
@@ -230,12 +233,46 @@ fn number_of_workers(word: &str) -> Result<u32, Refusal>
     }
 }
 
+/// The rule by which messages start.
+fn rule_of(matches: &ArgMatches<'_>) -> Result<Rule, Refusal> {
+    match matches.get_str("rule") {
+        Some("arrival") => Ok(Rule::Arrival),
+        Some("longest") => Ok(Rule::Longest),
+        _ => Err(Refusal::NoWords),
+    }
+}
+
+/// Which plan is printed.
+fn plan_of(matches: &ArgMatches<'_>) -> Result<Asked, Refusal>
+    ensures { IfOk result IsWithinLimits }
+{
+    let rule = rule_of(matches)?;
+    Ok(Asked::Plan(workers(matches, MAX_WORKERS)?, rule))
+}
+
+/// Of which plans a sweep tells.
+fn sweep_of(rt: &impl Eprint, alloc: Global, matches: &ArgMatches<'_>) -> Result<Asked, Refusal>
+    ensures { IfOk result IsWithinLimits }
+{
+    let rule = rule_of(matches)?;
+    Ok(Asked::Sweep(swept_workers(rt, alloc, matches)?, rule))
+}
+
 /// Of which plan, and how, waits are told.
 fn waits_of(matches: &ArgMatches<'_>) -> Result<Asked, Refusal>
     ensures { IfOk result IsWithinLimits }
 {
+    let rule = rule_of(matches)?;
     let workers = workers(matches, MAX_WORKERS)?;
-    Ok(Asked::Waits(workers, matches.get_flag("names")))
+    Ok(Asked::Waits(workers, rule, matches.get_flag("names")))
+}
+
+/// By which plans hierarchies are ranked.
+fn rank_of(matches: &ArgMatches<'_>) -> Result<Asked, Refusal>
+    ensures { IfOk result IsWithinLimits }
+{
+    let rule = rule_of(matches)?;
+    Ok(Asked::Rank(wanted_workers(matches, MAX_WORKERS)?, rule))
 }
 
 /// The part of a plan that is drawn.

@@ -95,7 +95,8 @@ fn opening(rt: &impl Abort, alloc: Global, layout: &Layout, trace: &Trace, seats
         times: times_of(alloc, trace).expect(rt, "times"),
     };
     drop(assigned);
-    let started = lists::list(alloc, &work, seats).expect(rt, "a plan");
+    let arrivals = lists::arrivals(alloc, &work).expect(rt, "priorities");
+    let started = lists::list(alloc, &work, &arrivals, seats).expect(rt, "a plan");
     let order = lists::order(alloc, &started).expect(rt, "an order");
     Machine::opening(alloc, work.pairs, order, seats).expect(rt, "a machine")
 }

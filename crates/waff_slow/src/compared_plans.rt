@@ -1,6 +1,7 @@
 //! Plans of random traces, beside those of the plain slow programs.
 
 use crate::dice::Dice;
+use crate::lists::{Started, finished};
 use crate::pairs::{depth, needed, ordered, paths};
 use crate::plans::{Work, times_of};
 use crate::traces::{HIERARCHIES, MESSAGES, TRACES, random_trace};
@@ -8,7 +9,7 @@ use crate::{lists, plans};
 use std::alloc::{AllocError, Global};
 use std::process::Abort;
 use waff_assign::assign;
-use waff_list::{WorkerPlan, list_chain, list_plan};
+use waff_list::{Rule, WorkerPlan, list_chain, list_plan_by};
 use waff_model::Tree;
 use waff_order::predecessors::needs;
 use waff_plan::printed::chain;
@@ -18,6 +19,8 @@ use waff_read::{read_hierarchy, read_trace};
 
 /// Numbers of workers.
 const WORKERS: [u32; 4] = [1, 2, 3, 64];
+
+const RULES: [Rule; 2] = [Rule::Arrival, Rule::Longest];
 
 /// When each message of the plan starts.
 fn starts(alloc: Global, plan: &Plan) -> Result<Vec<u64>, AllocError> {
@@ -46,19 +49,29 @@ fn is_of(rt: &impl Abort, alloc: Global, work: &Work, wanted: &[u64], plan: &Pla
     );
 }
 
-/// The plan has to be the list plan of the work, and that of the work with needs for pairs, and the
-/// chain that of all ordered pairs.
+/// The messages in the order in which k workers start them by this rule.
+fn started(alloc: Global, work: &Work, rule: Rule, k: u32) -> Result<Vec<Started>, AllocError> {
+    let priorities = match rule {
+        Rule::Arrival => lists::arrivals(alloc, work)?,
+        Rule::Longest => lists::tails(alloc, work)?,
+    };
+    lists::list(alloc, work, &priorities, k)
+}
+
+/// The plan has to be the list plan of the work by this rule, and that of the work with needs for
+/// pairs, and the chain that of all ordered pairs.
 fn is_list(
     rt: &impl Abort,
     alloc: Global,
-    work: &Work,
-    needed: &Work,
+    works: (&Work, &Work),
+    rule: Rule,
     made: &WorkerPlan,
     chain: &Chain,
 ) {
-    let started = lists::list(alloc, work, made.workers()).expect(rt, "a plan");
-    let starts = lists::starts(alloc, &started, work.times.len()).expect(rt, "starts");
-    let again = lists::list(alloc, needed, made.workers()).expect(rt, "a plan");
+    let (work, needed) = works;
+    let started_by_all = started(alloc, work, rule, made.workers()).expect(rt, "a plan");
+    let starts = lists::starts(alloc, &started_by_all, work.times.len()).expect(rt, "starts");
+    let again = started(alloc, needed, rule, made.workers()).expect(rt, "a plan");
     let again = lists::starts(alloc, &again, work.times.len()).expect(rt, "starts");
     assert_eq!(rt;
         again.as_slice(),
@@ -67,10 +80,51 @@ fn is_list(
         work.number
     );
     is_of(rt, alloc, work, &starts, made.plan(), chain);
-    let order = lists::order(alloc, &started).expect(rt, "an order");
+    let order = lists::order(alloc, &started_by_all).expect(rt, "an order");
     assert_eq!(rt; made.order(), order.as_slice(), "trace {}", work.number);
-    let seats = lists::seats(alloc, &started, work.times.len()).expect(rt, "seats");
+    let seats = lists::seats(alloc, &started_by_all, work.times.len()).expect(rt, "seats");
     assert_eq!(rt; made.seats(), seats.as_slice(), "trace {}", work.number);
+    obeys(rt, work, &started_by_all, made.workers());
+    is_within_bound(rt, work, made, chain);
+}
+
+/// No message may start before its release or before one for which it waits has finished, and no
+/// more than k may run at once.
+fn obeys(rt: &impl Abort, work: &Work, started: &[Started], k: u32) {
+    for it in started {
+        let at = it.message.wrapping_sub(1) as usize;
+        let (set, release) = match (work.pairs.get(at), work.times.get(at)) {
+            (Some(set), Some(times)) => (*set, times.release),
+            _ => (u64::MAX, u64::MAX),
+        };
+        let waits = set & !finished(started, it.start) == 0 && release <= it.start;
+        assert!(rt; waits, "trace {}: {}", work.number, it.message);
+        let running = started
+            .iter()
+            .filter(|other| other.start <= it.start && it.start < other.finish)
+            .count();
+        assert!(rt;
+            running <= k as usize,
+            "trace {}: {}",
+            work.number,
+            it.start
+        );
+    }
+}
+
+/// The plan has to be within the bound of its chain.
+fn is_within_bound(rt: &impl Abort, work: &Work, made: &WorkerPlan, chain: &Chain) {
+    let k = u64::from(made.workers());
+    let total = work
+        .times
+        .iter()
+        .fold(0, |sum: u64, it| sum.saturating_add(it.cost));
+    let (cost, release) = plans::cost_and_release(work, chain.messages());
+    let right = total
+        .saturating_add(k.saturating_mul(release))
+        .saturating_add(k.saturating_sub(1).saturating_mul(cost));
+    let left = k.saturating_mul(made.plan().length());
+    assert!(rt; left <= right, "trace {}: {left}, {right}", work.number);
 }
 
 /// The messages from which paths through the needs lead to a message have to be those from which
@@ -117,11 +171,13 @@ fn agree(rt: &impl Abort, alloc: Global, number: u32, hierarchy: &str, trace: &s
     drop(chain);
     for k in WORKERS {
         assert!(rt; 1 <= k && k <= 64);
-        let made = list_plan(alloc, &needs, &trace, k).expect(rt, "a plan");
-        let chain = list_chain(alloc, layout.tree(), &assigned, &made).expect(rt, "a chain");
-        is_list(rt, alloc, &work, &needed, &made, &chain);
-        drop(made);
-        drop(chain);
+        for rule in RULES {
+            let made = list_plan_by(alloc, &needs, &trace, rule, k).expect(rt, "a plan");
+            let chain = list_chain(alloc, layout.tree(), &assigned, &made).expect(rt, "a chain");
+            is_list(rt, alloc, (&work, &needed), rule, &made, &chain);
+            drop(made);
+            drop(chain);
+        }
     }
     drop(needs);
     drop(assigned);

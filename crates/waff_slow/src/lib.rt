@@ -2,7 +2,7 @@
 //! runs fast, on random traces.
 //! - `dice`, `traces`: random traces, the same in each run, and the hierarchies.
 //! - `pairs`: for each message the earlier ones that exclude it, by all pairs; paths.
-//! - `plans`: the least plan and the printed chain; `lists`: the list plan.
+//! - `plans`: the least plan and the printed chain; `lists`: the list plan by any priority, and tails.
 //! - `machine`: the core machine; `cells`: what operations do.
 //! - `compared_plans`, `compared_machines`: the comparisons.
 #![tactic(auto)]

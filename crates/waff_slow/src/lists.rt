@@ -1,7 +1,8 @@
-//! The list plan, from one tick at which something happens to the next.
+//! The list plan by a priority of the messages, from one tick at which something happens to the
+//! next; and the tails of messages.
 
 use crate::pairs::{has, only};
-use crate::plans::Work;
+use crate::plans::{Work, greatest};
 use crate::traces::MESSAGES;
 use std::alloc::{AllocError, Global};
 
@@ -14,34 +15,108 @@ pub struct Started {
     pub worker: u32,
 }
 
-/// The messages in the order in which k workers start them: at each tick at which a message has
-/// finished or is released, in the order of arrival, each that is ready starts on the least worker
-/// that is free.
-pub fn list(alloc: Global, work: &Work, k: u32) -> Result<Vec<Started>, AllocError> {
+/// The messages in the order in which k workers start them. At each tick at which a message has
+/// finished or is released, as many of those that are ready start as workers are free: the ones of
+/// the highest priorities, of equal ones the one that arrived first. In the order of arrival each
+/// takes the least worker that is free.
+pub fn list(
+    alloc: Global,
+    work: &Work,
+    priorities: &[u64],
+    k: u32,
+) -> Result<Vec<Started>, AllocError> {
     let mut started = Vec::new(alloc);
     let mut tick = Some(0);
     for _ in 0..2 * MESSAGES + 1 {
         let Some(now) = tick else {
             break;
         };
-        start_at(&mut started, work, k, now)?;
+        let taken = taken(
+            ready(&started, work, now),
+            priorities,
+            free(&started, now, k),
+        );
+        start(&mut started, work, taken, k, now)?;
         tick = next(&started, work, now);
     }
     Ok(started)
 }
 
-/// Starts what is ready at this tick. No message that starts now has finished now.
-fn start_at(started: &mut Vec<Started>, work: &Work, k: u32, now: u64) -> Result<(), AllocError> {
+/// By arrival: all messages have the same priority.
+pub fn arrivals(alloc: Global, work: &Work) -> Result<Vec<u64>, AllocError> {
+    let mut priorities = Vec::new(alloc);
+    for _ in &work.pairs {
+        priorities.push(0)?;
+    }
+    Ok(priorities)
+}
+
+/// The tail of each message: its cost, and the greatest tail of a later message that waits for it.
+pub fn tails(alloc: Global, work: &Work) -> Result<Vec<u64>, AllocError> {
+    let mut costs = Vec::new(alloc);
+    for (m, times) in (1u32..).zip(&work.times) {
+        costs.push((m, times.cost))?;
+    }
+    let mut tails = Vec::new(alloc);
+    for (m, cost) in costs.iter().rev() {
+        let behind = longest_behind(work, &tails, *m);
+        tails.push(cost.saturating_add(behind))?;
+    }
+    tails.reverse();
+    Ok(tails)
+}
+
+/// The greatest of these tails, from that of the last message on, of a message that waits for `m`.
+fn longest_behind(work: &Work, tails: &[u64], m: u32) -> u64 {
+    let mut longest: u64 = 0;
+    for (set, tail) in work.pairs.iter().rev().zip(tails) {
+        if has(*set, m) {
+            longest = longest.max(*tail);
+        }
+    }
+    longest
+}
+
+/// The messages that are ready at this tick. No message that starts now has finished now.
+fn ready(started: &[Started], work: &Work, now: u64) -> u64 {
     let done = finished(started, now);
     let begun = finished(started, u64::MAX);
+    let mut ready = 0;
     for (message, (set, times)) in (1u32..).zip(work.pairs.iter().zip(&work.times)) {
         if !has(begun, message) && *set & !done == 0 && times.release <= now {
+            ready |= only(message);
+        }
+    }
+    ready
+}
+
+/// So many messages of the set, those of the highest priorities.
+fn taken(set: u64, priorities: &[u64], count: u32) -> u64 {
+    let mut taken = 0;
+    for _ in 0..count {
+        let Some((message, _)) = greatest(priorities, set & !taken) else {
+            break;
+        };
+        taken |= only(message);
+    }
+    taken
+}
+
+/// Starts these messages at this tick.
+fn start(
+    started: &mut Vec<Started>,
+    work: &Work,
+    taken: u64,
+    k: u32,
+    now: u64,
+) -> Result<(), AllocError> {
+    for (message, times) in (1u32..).zip(&work.times) {
+        if has(taken, message) {
             if let Some(worker) = free_worker(started, now, k) {
-                let (start, finish) = (now, now.saturating_add(times.cost));
                 started.push(Started {
                     message,
-                    start,
-                    finish,
+                    start: now,
+                    finish: now.saturating_add(times.cost),
                     worker,
                 })?;
             }
@@ -58,7 +133,7 @@ fn next(started: &[Started], work: &Work, now: u64) -> Option<u64> {
 }
 
 /// The messages that have finished by this tick.
-fn finished(started: &[Started], tick: u64) -> u64 {
+pub fn finished(started: &[Started], tick: u64) -> u64 {
     let mut set = 0;
     for it in started {
         if it.finish <= tick {
@@ -68,14 +143,25 @@ fn finished(started: &[Started], tick: u64) -> u64 {
     set
 }
 
-/// The least worker that runs nothing at this tick.
-fn free_worker(started: &[Started], tick: u64, k: u32) -> Option<u32> {
+/// The workers that run something at this tick.
+fn busy(started: &[Started], tick: u64) -> u64 {
     let mut busy = 0;
     for it in started {
         if tick < it.finish {
             busy |= only(it.worker);
         }
     }
+    busy
+}
+
+/// How many workers run nothing at this tick.
+fn free(started: &[Started], tick: u64, k: u32) -> u32 {
+    k.saturating_sub(busy(started, tick).count_ones())
+}
+
+/// The least worker that runs nothing at this tick.
+fn free_worker(started: &[Started], tick: u64, k: u32) -> Option<u32> {
+    let busy = busy(started, tick);
     for worker in (1u32..).take(k as usize) {
         if !has(busy, worker) {
             return Some(worker);

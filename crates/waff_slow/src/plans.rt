@@ -40,7 +40,7 @@ pub fn least(alloc: Global, work: &Work) -> Result<Vec<u64>, AllocError> {
     let mut starts = Vec::new(alloc);
     let mut finishes = Vec::new(alloc);
     for (set, times) in work.pairs.iter().zip(&work.times) {
-        let start = match last(&finishes, *set) {
+        let start = match greatest(&finishes, *set) {
             Some((_, finish)) => finish.max(times.release),
             None => times.release,
         };
@@ -50,15 +50,15 @@ pub fn least(alloc: Global, work: &Work) -> Result<Vec<u64>, AllocError> {
     Ok(starts)
 }
 
-/// The message of the set that finishes last, of several the first, and when it does.
-fn last(finishes: &[u64], set: u64) -> Option<(u32, u64)> {
-    let mut last: Option<(u32, u64)> = None;
-    for (m, finish) in (1u32..).zip(finishes) {
-        if has(set, m) && last.is_none_or(|(_, latest)| latest < *finish) {
-            last = Some((m, *finish));
+/// The message of the set that has the greatest value, of several the first, and that value.
+pub fn greatest(values: &[u64], set: u64) -> Option<(u32, u64)> {
+    let mut found: Option<(u32, u64)> = None;
+    for (m, value) in (1u32..).zip(values) {
+        if has(set, m) && found.is_none_or(|(_, greatest)| greatest < *value) {
+            found = Some((m, *value));
         }
     }
-    last
+    found
 }
 
 /// When each message finishes.
@@ -74,7 +74,7 @@ pub fn finishes(alloc: Global, times: &[Times], starts: &[u64]) -> Result<Vec<u6
 pub fn chain(alloc: Global, work: &Work, starts: &[u64]) -> Result<Vec<u32>, AllocError> {
     let finishes = finishes(alloc, &work.times, starts)?;
     let mut chain = Vec::new(alloc);
-    let mut next = last(&finishes, u64::MAX);
+    let mut next = greatest(&finishes, u64::MAX);
     for _ in &work.times {
         let Some((m, _)) = next else {
             break;
@@ -89,10 +89,22 @@ pub fn chain(alloc: Global, work: &Work, starts: &[u64]) -> Result<Vec<u32>, All
 /// What stands before message `m` in the chain, and when it finishes.
 fn before(work: &Work, finishes: &[u64], m: u32) -> Option<(u32, u64)> {
     let at = m.wrapping_sub(1) as usize;
-    let (i, finish) = last(finishes, *work.pairs.get(at)?)?;
+    let (i, finish) = greatest(finishes, *work.pairs.get(at)?)?;
     if work.times.get(at)?.release < finish {
         Some((i, finish))
     } else {
         None
     }
+}
+
+/// The sum of the costs of the chain, and the release of its first message.
+pub fn cost_and_release(work: &Work, chain: &[u32]) -> (u64, u64) {
+    let (mut cost, mut release): (u64, Option<u64>) = (0, None);
+    for m in chain {
+        if let Some(times) = work.times.get(m.wrapping_sub(1) as usize) {
+            cost = cost.saturating_add(times.cost);
+            release = release.or(Some(times.release));
+        }
+    }
+    (cost, release.unwrap_or(0))
 }

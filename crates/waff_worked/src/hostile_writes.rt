@@ -7,6 +7,7 @@ use std::io::{self, Read, Write};
 use std::process::Abort;
 use std::sync::Wait;
 use std::thread::Threads;
+use waff_list::Rule;
 use waff_samples::{
     ASSIGN_H1_X1, C1, COMPARE_C1_H1_X1, H1, PLAN_H1_HEADER_ALONE, PLAN_H1_X1, PLAN_H1_X1_WORKERS2,
     STATE_H1_X1, X1,
@@ -74,7 +75,16 @@ fn write_text<R: Threads + Wait + Sync>(
         Call::PlanForTwo => plan_text(alloc, hierarchy, trace, Some(2), writer),
         Call::Compare => compare_text(alloc, C1.as_bytes(), hierarchy, trace, 2, writer),
         Call::Replay => replay_text(rt, alloc, hierarchy, trace, 2, writer),
-        Call::Sweep => sweep_text(alloc, hierarchy, trace, sweep_workers(), writer),
+        Call::Sweep => {
+            sweep_text(
+                alloc,
+                hierarchy,
+                trace,
+                sweep_workers(),
+                Rule::Arrival,
+                writer,
+            )
+        }
         Call::Affinities => where_text(alloc, hierarchy, trace, false, writer),
         Call::Names => where_text(alloc, hierarchy, trace, true, writer),
         _ => write_of_plan(rt, alloc, call, writer),

@@ -6,6 +6,7 @@ ghost use Rattle.waff_plan.specs.Bound.{IsWorkers};
 use crate::same::are_same;
 use std::alloc::Global;
 use std::process::Abort;
+use waff_list::Rule;
 use waff_samples::{H1, X1, X2};
 use waff_tool::{sweep_text, sweep_workers, where_text};
 
@@ -65,6 +66,14 @@ const SWEEP_H1_X1_TWICE: &str =
     3,9,1.88,0.62,9,1.00,17,5.66,5,9,9\n\
     -,9,1.88,-,9,1.00,17,5.66,5,9,9\n";
 
+/// By the longest tails. The last line is that of the unlimited plan, by whichever rule.
+const SWEEP_H1_X1_LONGEST: &str =
+    "workers,length,speedup,busy,least,over,waits,mean,p50,p99,latency\n\
+    1,17,1.00,1.00,17,1.00,54,11.83,12,17,17\n\
+    2,10,1.70,0.85,9,1.12,24,6.83,7,10,10\n\
+    3,9,1.88,0.62,9,1.00,17,5.66,5,9,9\n\
+    -,9,1.88,-,9,1.00,17,5.66,5,9,9\n";
+
 /// Where the time of the first trace goes, by affinities.
 pub const WHERE_H1_X1: &str = "affinity,parent,messages,cost,below,chain\n\
     Serial,-,1,1,17,1\n\
@@ -84,14 +93,21 @@ pub const WHERE_H1_X1_NAMES: &str = "name,messages,cost,chain\n\
     m5,1,1,1\n\
     m6,1,2,2\n";
 
-/// The sweep of the trace has to be this.
-fn is_swept(rt: &impl Abort, alloc: Global, trace: &str, workers: &[u32], text: &str)
+/// The sweep of the trace by this rule has to be this.
+fn is_swept_by(rt: &impl Abort, alloc: Global, trace: &str, rule: Rule, workers: &[u32], text: &str)
     requires { All IsWorkers workers.now }
 {
     let mut written = Vec::new(alloc);
     let (hierarchy, trace) = (H1.as_bytes(), trace.as_bytes());
-    sweep_text(alloc, hierarchy, trace, workers, &mut written).expect(rt, "a text");
+    sweep_text(alloc, hierarchy, trace, workers, rule, &mut written).expect(rt, "a text");
     are_same(rt, written.as_slice(), text.as_bytes());
+}
+
+/// The sweep of the trace by arrival has to be this.
+fn is_swept(rt: &impl Abort, alloc: Global, trace: &str, workers: &[u32], text: &str)
+    requires { All IsWorkers workers.now }
+{
+    is_swept_by(rt, alloc, trace, Rule::Arrival, workers, text);
 }
 
 #[test]
@@ -106,6 +122,12 @@ fn of_workers(rt: HostRuntime) {
         SWEEP_OF_NONE,
     );
     is_swept(&rt, rt.alloc(), X1, &[3, 1, 3], SWEEP_H1_X1_TWICE);
+}
+
+#[test]
+fn by_the_longest_tails(rt: HostRuntime) {
+    let text = SWEEP_H1_X1_LONGEST;
+    is_swept_by(&rt, rt.alloc(), X1, Rule::Longest, &[1, 2, 3], text);
 }
 
 #[test]

@@ -6,6 +6,7 @@ ghost use Rattle.waff_plan.specs.Bound.{IsWorkers};
 use crate::same::are_same;
 use std::alloc::Global;
 use std::process::Abort;
+use waff_list::Rule;
 use waff_samples::{H1, X1, X2};
 use waff_tool::waits_text;
 
@@ -21,6 +22,15 @@ pub const WAITS_H1_X1_WORKERS2: &str = "affinity,for,messages,ticks,longest\n\
     Serial,B1,1,8,8\n\
     VolA,A0,1,4,4\n\
     B1,-,1,3,3\n";
+
+/// By the longest tails the fourth message starts at once, and the second and the third wait for a
+/// worker.
+const WAITS_H1_X1_LONGEST: &str = "affinity,for,messages,ticks,longest\n\
+    A0,Serial,1,8,8\n\
+    Serial,B0,1,7,7\n\
+    B0,-,1,4,4\n\
+    VolA,A0,1,4,4\n\
+    VolA,-,1,1,1\n";
 
 /// Of the second trace, whose third message is released when the first has long finished.
 const WAITS_H1_X2: &str = "affinity,for,messages,ticks,longest\n\
@@ -77,12 +87,27 @@ const WAITS_SHARED: &str = "affinity,for,messages,ticks,longest\n\
     VolA,A0,2,11,7\n\
     A0,VolA,1,6,6\n";
 
-/// The text of who waits for whom has to be this.
+/// The text of who waits for whom, by arrival, has to be this.
 fn is_waited(
     rt: &impl Abort,
     alloc: Global,
     files: (&str, &str),
     workers: Option<u32>,
+    by_name: bool,
+    text: &str,
+)
+    requires { IfSome workers IsWorkers }
+{
+    is_waited_by(rt, alloc, files, workers, Rule::Arrival, by_name, text);
+}
+
+/// The text of who waits for whom, by this rule, has to be this.
+fn is_waited_by(
+    rt: &impl Abort,
+    alloc: Global,
+    files: (&str, &str),
+    workers: Option<u32>,
+    rule: Rule,
     by_name: bool,
     text: &str,
 )
@@ -95,6 +120,7 @@ fn is_waited(
         hierarchy.as_bytes(),
         trace.as_bytes(),
         workers,
+        rule,
         by_name,
         &mut written,
     )
@@ -110,6 +136,13 @@ fn of_the_samples(rt: HostRuntime) {
     is_waited(&rt, alloc, (H1, X2), None, false, WAITS_H1_X2);
     let empty = "message,cost,ops\n";
     is_waited(&rt, alloc, (H1, empty), None, false, WAITS_OF_NONE);
+}
+
+#[test]
+fn by_the_longest_tails(rt: HostRuntime) {
+    let (alloc, files, rule) = (rt.alloc(), (H1, X1), Rule::Longest);
+    is_waited_by(&rt, alloc, files, Some(2), rule, false, WAITS_H1_X1_LONGEST);
+    is_waited_by(&rt, alloc, files, None, rule, true, WAITS_H1_X1_NAMES);
 }
 
 #[test]

@@ -1,7 +1,6 @@
 //! Plans for workers.
 
-ghost use Rattle.std.specs.Prelude.{◌≤◌};
-ghost use Rattle.waff_model.specs.declared.limits.TheConstants.{MAX_WORKERS};
+ghost use Rattle.waff_plan.specs.Bound.{IsWorkers};
 
 use crate::same::{are_same, is_same};
 use crate::words::push_numbers;
@@ -9,19 +8,28 @@ use std::alloc::{AllocError, Global};
 use std::fmt::Write;
 use std::process::Abort;
 use waff_assign::assign;
-use waff_list::{WorkerPlan, list_chain, list_plan};
+use waff_list::{Rule, WorkerPlan, list_chain, list_plan, list_plan_by};
 use waff_model::limits::MAX_TICK;
 use waff_order::Needs;
 use waff_order::predecessors::needs;
 use waff_plan::{Chain, Plan};
 use waff_read::{read_hierarchy, read_trace};
-use waff_samples::{H1, PLAN_H1_X1_WORKERS2, X1, X2};
-use waff_tool::plan_text;
+use waff_samples::{H1, PLAN_H1_X1, PLAN_H1_X1_WORKERS2, X1, X2};
+use waff_tool::{plan_text, plan_text_by};
 
-/// The text of the plan for k workers has to be this.
-fn has_text(rt: &impl Abort, alloc: Global, trace: &str, k: u32, text: &str)
-    requires some { 1 ≤ k }
-    requires few { k ≤ MAX_WORKERS }
+/// The text of the plan for k workers by this rule has to be this.
+fn has_text(rt: &impl Abort, alloc: Global, trace: &str, rule: Rule, k: u32, text: &str)
+    requires { IsWorkers k }
+{
+    let (hierarchy, trace) = (H1.as_bytes(), trace.as_bytes());
+    let mut written = Vec::new(alloc);
+    plan_text_by(alloc, hierarchy, trace, Some(k), rule, &mut written).expect(rt, "a text");
+    are_same(rt, written.as_slice(), text.as_bytes());
+}
+
+/// The text of the plan for k workers by arrival has to be this, where no rule is named.
+fn has_text_without_rule(rt: &impl Abort, alloc: Global, trace: &str, k: u32, text: &str)
+    requires { IsWorkers k }
 {
     let (hierarchy, trace) = (H1.as_bytes(), trace.as_bytes());
     let mut written = Vec::new(alloc);
@@ -58,17 +66,20 @@ fn push_workers(told: &mut String, made: &WorkerPlan) -> Result<(), AllocError> 
     Ok(())
 }
 
-/// The plan of a trace for k workers under the hierarchical sample has to be told so, with its
-/// chain.
-fn is_told(rt: &impl Abort, alloc: Global, trace: &str, k: u32, wanted: &str)
-    requires some { 1 ≤ k }
-    requires few { k ≤ MAX_WORKERS }
+/// The plan of a trace for k workers by this rule, under the hierarchical sample, has to be told so,
+/// with its chain.
+fn is_told(rt: &impl Abort, alloc: Global, trace: &str, rule: Rule, k: u32, wanted: &str)
+    requires { IsWorkers k }
 {
     let layout = read_hierarchy(alloc, H1.as_bytes()).expect(rt, "a hierarchy");
     let trace = read_trace(alloc, &layout, trace.as_bytes()).expect(rt, "a trace");
     let assigned = assign(alloc, &layout, &trace).expect(rt, "affinities");
     let needs = needs(alloc, layout.tree(), &assigned).expect(rt, "needs");
-    let made = list_plan(alloc, &needs, &trace, k).expect(rt, "a plan");
+    let made = match rule {
+        Rule::Arrival => list_plan(alloc, &needs, &trace, k),
+        Rule::Longest => list_plan_by(alloc, &needs, &trace, rule, k),
+    }
+    .expect(rt, "a plan");
     let chain = list_chain(alloc, layout.tree(), &assigned, &made).expect(rt, "a chain");
     let told = told(alloc, &made, &chain).expect(rt, "words");
     is_same(rt, told.as_str(), wanted);
@@ -83,7 +94,12 @@ fn is_told(rt: &impl Abort, alloc: Global, trace: &str, k: u32, wanted: &str)
 const AS_LONG_AS_THE_BOUND: &str =
     "message,cost,ops\nm1,1,read f:0\nm2,1,read g:0\nm3,2,read g:4\n";
 
-/// Traces with a number of workers, what is told of their plans, and the text.
+/// Two workers: the tails are 2, 3, 5, 2 and 2. By the longest tails 3 and 2 start first, then 1
+/// before 4, whose tail is as long.
+const OF_EQUAL_TAILS: &str =
+    "message,cost,ops\nm1,2,read g:0\nm2,1,read f:0\nm3,3,read f:2\nm4,2,set f:1 4\nm5,2,set f:3 5\n";
+
+/// Traces with a number of workers, what is told of their plans by arrival, and the text.
 const CASES: &[(&str, u32, &str, &str)] = &[
     (
         X1,
@@ -132,6 +148,68 @@ const CASES: &[(&str, u32, &str, &str)] = &[
             4,B1,7,12,1\n5,Serial,14,15,1\nworkers,1\ntotal,15\nlength,15\nchain,3 5\nrelease,10\n\
             cost,3\nbound,15,25\n",
     ),
+    (
+        OF_EQUAL_TAILS,
+        2,
+        "starts 0 0 1 2 4 workers 1 2 2 1 1 order 1 2 3 4 5 length 6 \
+            chain 3 5 cost 5 release 0",
+        "message,affinity,start,finish,worker\n1,B0,0,2,1\n2,A0,0,1,2\n3,A1,1,4,2\n4,A0,2,4,1\n\
+            5,A1,4,6,1\nworkers,2\ntotal,10\nlength,6\nchain,3 5\ncost,5\nbound,12,15\n",
+    ),
+];
+
+/// And by the longest tails.
+const LONGEST: &[(&str, u32, &str, &str)] = &[
+    (
+        X1,
+        2,
+        "starts 0 4 5 0 7 8 workers 1 1 2 2 1 1 order 1 4 2 3 5 6 length 10 \
+            chain 2 5 6 cost 6 release 0",
+        "message,affinity,start,finish,worker\n1,A0,0,4,1\n2,B0,4,7,1\n3,VolA,5,7,2\n\
+            4,B1,0,5,2\n5,Serial,7,8,1\n6,A0,8,10,1\nworkers,2\ntotal,17\nlength,10\nchain,2 5 6\n\
+            cost,6\nbound,20,23\n",
+    ),
+    (
+        X1,
+        1,
+        "starts 0 9 12 4 14 15 workers 1 1 1 1 1 1 order 1 4 2 3 5 6 length 17 \
+            chain 1 3 5 6 cost 9 release 0",
+        "message,affinity,start,finish,worker\n1,A0,0,4,1\n2,B0,9,12,1\n3,VolA,12,14,1\n\
+            4,B1,4,9,1\n5,Serial,14,15,1\n6,A0,15,17,1\nworkers,1\ntotal,17\nlength,17\n\
+            chain,1 3 5 6\ncost,9\nbound,17,17\n",
+    ),
+    (
+        "message,cost,ops\n",
+        2,
+        "starts workers order length 0 chain cost 0 release 0",
+        "message,affinity,start,finish,worker\nworkers,2\ntotal,0\nlength,0\nchain,\ncost,0\nbound,0,0\n",
+    ),
+    (
+        X2,
+        2,
+        "starts 0 4 10 0 12 workers 1 1 1 2 1 order 1 4 2 3 5 length 13 \
+            chain 3 5 cost 3 release 10",
+        "message,affinity,start,finish,worker\n1,A0,0,4,1\n2,B0,4,7,1\n3,VolA,10,12,1\n\
+            4,B1,0,5,2\n5,Serial,12,13,1\nworkers,2\ntotal,15\nlength,13\nchain,3 5\nrelease,10\n\
+            cost,3\nbound,26,38\n",
+    ),
+    (
+        X2,
+        1,
+        "starts 0 9 12 4 14 workers 1 1 1 1 1 order 1 4 2 3 5 length 15 \
+            chain 3 5 cost 3 release 10",
+        "message,affinity,start,finish,worker\n1,A0,0,4,1\n2,B0,9,12,1\n3,VolA,12,14,1\n\
+            4,B1,4,9,1\n5,Serial,14,15,1\nworkers,1\ntotal,15\nlength,15\nchain,3 5\nrelease,10\n\
+            cost,3\nbound,15,25\n",
+    ),
+    (
+        OF_EQUAL_TAILS,
+        2,
+        "starts 1 0 0 3 3 workers 1 1 2 1 2 order 2 3 1 4 5 length 5 \
+            chain 2 4 cost 3 release 0",
+        "message,affinity,start,finish,worker\n1,B0,1,3,1\n2,A0,0,1,1\n3,A1,0,3,2\n4,A0,3,5,1\n\
+            5,A1,3,5,2\nworkers,2\ntotal,10\nlength,5\nchain,2 4\ncost,3\nbound,10,13\n",
+    ),
 ];
 
 #[test]
@@ -139,8 +217,31 @@ fn are_as_worked_by_hand(rt: HostRuntime) {
     for (trace, k, wanted, text) in CASES {
         let k = *k;
         assert!(rt; 1 <= k && k <= 64);
-        is_told(&rt, rt.alloc(), trace, k, wanted);
-        has_text(&rt, rt.alloc(), trace, k, text);
+        is_told(&rt, rt.alloc(), trace, Rule::Arrival, k, wanted);
+        has_text(&rt, rt.alloc(), trace, Rule::Arrival, k, text);
+        has_text_without_rule(&rt, rt.alloc(), trace, k, text);
+    }
+}
+
+#[test]
+fn start_the_longest_tails_first(rt: HostRuntime) {
+    for (trace, k, wanted, text) in LONGEST {
+        let k = *k;
+        assert!(rt; 1 <= k && k <= 64);
+        is_told(&rt, rt.alloc(), trace, Rule::Longest, k, wanted);
+        has_text(&rt, rt.alloc(), trace, Rule::Longest, k, text);
+    }
+}
+
+/// A shortest plan is one whatever rule is named.
+#[test]
+fn change_by_no_rule_without_workers(rt: HostRuntime) {
+    let (hierarchy, trace) = (H1.as_bytes(), X1.as_bytes());
+    for rule in [Rule::Arrival, Rule::Longest] {
+        let mut written = Vec::new(rt.alloc());
+        let out = &mut written;
+        plan_text_by(rt.alloc(), hierarchy, trace, None, rule, out).expect(&rt, "a text");
+        are_same(&rt, written.as_slice(), PLAN_H1_X1.as_bytes());
     }
 }
 
