@@ -5,9 +5,8 @@ use Rattle.std.specs.Prelude.{Contains, slice_index}
 use Rattle.waff_assign.specs.Order.{Relation}
 use Rattle.waff_plan.specs.Work.{Work, IsNumber, finish_of}
 use Rattle.waff_plan.specs.Workers.{running}
-use Rattle.waff_plan.specs.Timing.{start_of, work_of}
-use Rattle.waff_plan.specs.Timetable.{timings_of}
-use Rattle.waff_model.specs.declared.message.Message.{Message}
+use Rattle.waff_plan.specs.Timing.{start_of}
+pub use Rattle.waff_plan.specs.Timetable.{work_of_messages}
 use Rattle.waff_list.specs.ListRule.{IsReady, IsTakenFirst, IsListPlan}
 use Rattle.waff_list.specs.Seats.{ComesBefore, IsSeated, IsInOrder}
 use Rattle.waff_model.specs.declared.limits.TheConstants.{MAX_TICK}
@@ -91,7 +90,3 @@ pub record IsSmall (work : Work) : Type 0 where
   pub some_cost : (m : ℕ) → IsNumber work m → 1 ≤ work.cost m
   pub cost : (m : ℕ) → IsNumber work m → work.cost m < 2 ^ 32
   pub release : (m : ℕ) → IsNumber work m → work.release m < 2 ^ 32
-
--- the work of the messages of a trace
-abbrev pub work_of_messages : List Message → Work
-work_of_messages messages = work_of (timings_of messages)

@@ -2,6 +2,7 @@
 
 ghost use Rattle.std.specs.Prelude.{◌≡◌, ℕ, ◌+◌, ◌-◌, ◌<◌, ◌≤◌, [], ◌∷◌, ◌++◌, length, replicate};
 ghost use Rattle.std.specs.Prelude.{All, IfOk, OnOk, slice_set};
+ghost use Rattle.waff_model.specs.Numbers.{IsAmongFirst};
 ghost use Rattle.waff_order.specs.Needs.{needs_of, AreLists};
 ghost use Rattle.waff_list.specs.Waiting.{AreDependents, Grows, times};
 
@@ -36,8 +37,7 @@ impl Dependents {
 
     /// The messages that need message `i`, from 1.
     pub fn of(&self, i: u32) -> &[u32]
-        requires from { 1 ≤ i }
-        requires to { i ≤ length self.now }
+        requires number { IsAmongFirst (length self.now) i }
         ensures { result.now ≡ needs_of self.now i }
     {
         self.lists[i as usize - 1].as_slice()
@@ -45,8 +45,7 @@ impl Dependents {
 
     /// Message `m` needs message `i`.
     fn add(&mut self, i: u32, m: u32) -> Result<(), AllocError>
-        requires from { 1 ≤ i }
-        requires to { i ≤ length self.old }
+        requires number { IsAmongFirst (length self.old) i }
         ensures { OnOk result (self.new
             ≡ slice_set self.old (i - 1) (needs_of self.old i ++ m ∷ [])) }
     {
@@ -57,7 +56,7 @@ impl Dependents {
 
     /// Message `m` needs these messages.
     fn add_all(&mut self, needed: &[u32], m: u32) -> Result<(), AllocError>
-        requires { All (λ i. (1 ≤ i) × (i ≤ length self.old)) needed.now }
+        requires { All (IsAmongFirst (length self.old)) needed.now }
         ensures grows { OnOk result (Grows self.old m self.new) }
         ensures added { OnOk result ((i : ℕ) → 1 ≤ i → times m (needs_of self.new i)
             ≡ times m (needs_of self.old i) + times i needed.now) }

@@ -1,6 +1,7 @@
 //! Plans for k workers.
 
 ghost use Rattle.std.specs.Prelude.{◌≡◌, ◌≤◌, length, All};
+ghost use Rattle.waff_model.specs.Numbers.{IsAmongFirst};
 ghost use Rattle.waff_plan.specs.Timetable.{work_in};
 ghost use Rattle.waff_plan.specs.Work.{IsNumber};
 ghost use Rattle.waff_list.specs.Seating.{worker_of};
@@ -81,8 +82,7 @@ impl WorkerPlan {
 
     /// The worker of message `n`.
     pub fn worker(&self, n: u32) -> u32
-        requires from { 1 ≤ n }
-        requires to { n ≤ length self.now.table.timings }
+        requires number { IsAmongFirst (length self.now.table.timings) n }
         ensures worker { result ≡ worker_of self.now.seats n }
         ensures some { 1 ≤ result }
         ensures within { result ≤ self.now.workers }

@@ -35,8 +35,8 @@ loop-at-init c =
 least_of : (workers idle same : List ℕ) → same ≡ idle → ((v w : ℕ) → Contains workers v → Contains idle w → v ≤ w) → (v w : ℕ) → Contains workers v → Contains same w → v ≤ w
 least_of workers idle same is least = subst (λ xs. (v w : ℕ) → Contains workers v → Contains xs w → v ≤ w) (sym is) least
 
-pub cost_of-requires-clause-from : goal.cost_of-requires-clause-from
-cost_of-requires-clause-from c =
+pub cost_of-requires : goal.cost_of-requires
+cost_of-requires c =
     let i = c.loop-at.invariant in
     let task = c.args.task.now in
     let work = work_of_messages task.trace.now.messages in
@@ -47,7 +47,7 @@ cost_of-requires-clause-from c =
     let is : c.index-m.result.now ≡ get_or messages c.loop-at.at 0 = get_or_read messages c.loop-at.at c.index-m.result.now inside c.index-m.ensures 0 in
     let known = message_known task.needs.now (priority_of c.args.waiting.now.ready.priorities) work _ (needs_forward task.needs.now work task.lists same) same _ _ _ _ _ _ _ _ _ _ messages _ c.loop-at.at
     c.in_ok-choose.ensures.rising chosen.rising chosen.count (least_of _ _ _ i.idle chosen.least) i.on inside in
-    omega (arith, is, known.0)
+    record { number = record { from = omega (arith, is, known.0); to = omega (arith, is, known.1, count_is task.trace.now.messages) } }
 
 pub place-requires-clause-inside : goal.place-requires-clause-inside
 place-requires-clause-inside c =

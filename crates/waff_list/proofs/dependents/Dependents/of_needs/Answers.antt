@@ -15,7 +15,7 @@ add_all-requires c = λ k d within.
     let there = subst (λ ys. Contains ys (get_or xs k d)) c.of.ensures.needs (Contains-get_or xs k d within) in
     let inside = needs_inside c.args.needs.now c.loop-m.m c.len.ensures.lists (omega arith) (get_or xs k d) there in
     let to : get_or xs k d ≤ length c.args.needs.now = inside.1 in
-    (inside.0, omega (arith, c.loop-m.invariant.count, to))
+    record { from = inside.0; to = omega (arith, c.loop-m.invariant.count, to) }
 
 pub loop-m-preserved : goal.loop-m-preserved
 loop-m-preserved c =
