@@ -15,7 +15,6 @@ use Rattle.waff_plan.specs.Work.{length_of}
 use Rattle.waff_list.specs.declared.rule.Rule.{Rule}
 use Rattle.waff_plan_text.specs.Lines.{text_of}
 use Rattle.waff_figures.specs.Sweep.{IsListed, quality_fields}
-use Rattle.waff_figures.specs.declared.figures.Figures.{Figures}
 use Rattle.waff_inputs.specs.Inputs.{Accepts, TellsOfFiles}
 use Rattle.waff_inputs.specs.declared.fault.ToolError.{ToolError}
 use Rattle.waff_inputs.specs.declared.fault.ToolError.TheVariants as tool
