@@ -26,8 +26,8 @@ least_of (Some k) total shortest = least_for k total shortest
 
 -- the figures of a plan with these starts, for this number of workers or without a limit, where the
 -- least plan is this long
-pub record AreFigures (limit : Option ℕ) (work : Work) (shortest : ℕ) (start : ℕ
-    → ℕ) (figures : Figures) : Type 0 where
+pub record AreFigures (limit : Option ℕ) (work : Work) (shortest : ℕ) (start : ℕ → ℕ)
+    (figures : Figures) : Type 0 where
   pub workers : figures.workers ≡ limit
   pub messages : figures.messages ≡ work.count
   pub total : figures.total ≡ total_of work

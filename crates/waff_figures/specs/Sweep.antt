@@ -1,10 +1,12 @@
 -- The lines of a sweep: how long the trace takes, by the number of workers (own).
 use Rattle.std.specs.Prelude.{◌≡◌, ℕ, ◌*◌, ◌≤◌, List, [], ◌∷◌, ◌++◌, Option, Some, None, All, map}
 use Rattle.std.specs.Prelude.{codes, decimal}
+use Rattle.waff_assign.specs.Order.{Relation}
 use Rattle.waff_plan.specs.Timing.{start_of}
 use Rattle.waff_plan.specs.Work.{Work, length_of}
 use Rattle.waff_plan.specs.Workers.{IsWorkerPlan}
-use Rattle.waff_list.specs.ListRule.{IsListPlan}
+use Rattle.waff_list.specs.Rules.{IsPlanBy}
+use Rattle.waff_list.specs.declared.rule.Rule.{Rule}
 use Rattle.waff_plan_text.specs.Spelling.{worker_field}
 use Rattle.waff_figures.specs.Figures.{AreFigures}
 use Rattle.waff_figures.specs.Ratio.{ratio_field, ratio_up_field}
@@ -51,19 +53,19 @@ sweep_row figures =
 abbrev pub sweep_lines : List Figures → Figures → List (List (List ℕ))
 sweep_lines listed unlimited = sweep_header ∷ map sweep_row listed ++ sweep_row unlimited ∷ []
 
--- the figures of a list plan for k workers, where the least plan is this long; no plan for k
--- workers is shorter than `least`
-pub record IsListed (before : ℕ → ℕ
-    → Type 0) (work : Work) (shortest : ℕ) (figures : Figures) : Type 0 where
+-- the figures of the plan by this rule for k workers, where the least plan is this long; no plan for
+-- k workers is shorter than `least`
+pub record IsListed (rule : Rule) (before : Relation) (work : Work) (shortest : ℕ)
+    (figures : Figures) : Type 0 where
   pub k : ℕ
   pub starts : List ℕ
-  pub list : IsListPlan before work k (start_of starts)
+  pub list : IsPlanBy rule before work k (start_of starts)
   pub figures_are : AreFigures (Some k) work shortest (start_of starts) figures
   pub least : (other : ℕ → ℕ) → IsWorkerPlan before work k other
       → figures.least ≤ length_of work other
 
--- the figures of the list plans for these numbers of workers, for each in turn
-pub record AreListed (before : ℕ → ℕ → Type 0) (work : Work) (shortest : ℕ) (workers : List ℕ)
-    (listed : List Figures) : Type 0 where
+-- the figures of the plans by this rule for these numbers of workers, for each in turn
+pub record AreListed (rule : Rule) (before : Relation) (work : Work) (shortest : ℕ)
+    (workers : List ℕ) (listed : List Figures) : Type 0 where
   pub in_turn : map (λ figures. figures.workers) listed ≡ map Some workers
-  pub each : All (IsListed before work shortest) listed
+  pub each : All (IsListed rule before work shortest) listed

@@ -20,7 +20,7 @@ use crate::ratio::Ratio;
 use std::alloc::{AllocError, Global};
 use waff_assign::Assigned;
 use waff_list::laws::needs_make_the_same_plans;
-use waff_list::list_plan;
+use waff_list::{Rule, list_plan_by};
 use waff_model::{Trace, Tree};
 use waff_order::Needs;
 use waff_order::predecessors::needs;
@@ -38,14 +38,15 @@ pub fn sweep_workers() -> &'static [u32]
     &SWEEP_WORKERS
 }
 
-/// The figures of the list plans for these numbers of workers, in their order, where this is the
-/// unlimited plan.
+/// The figures of the list plans by this rule for these numbers of workers, in their order, where
+/// this is the unlimited plan.
 pub fn list_figures(
     alloc: Global,
     tree: &Tree,
     assigned: &Assigned,
     trace: &Trace,
     unlimited: &Plan,
+    rule: Rule,
     workers: &[u32],
 ) -> Result<Vec<Figures>, AllocError>
     requires lengths { length assigned.now ≡ length trace.now.messages }
@@ -55,20 +56,21 @@ pub fn list_figures(
         (work_in unlimited.now) (starts_in unlimited.now) }
     requires workers { All IsWorkers workers.now }
     ensures { IfOk result (λ listed.
-        AreListed (IsOrdered tree.now assigned.now) (work_in unlimited.now)
+        AreListed rule (IsOrdered tree.now assigned.now) (work_in unlimited.now)
         (length_of (work_in unlimited.now) (starts_in unlimited.now)) workers.now listed.items) }
 {
     let needs = needs(alloc, tree, assigned)?;
-    figures_for_all(alloc, trace, unlimited, &needs, workers)
+    figures_for_all(alloc, trace, unlimited, &needs, rule, workers)
 }
 
-/// The figures of the list plan for k workers, where this is the unlimited plan.
+/// The figures of the list plan by this rule for k workers, where this is the unlimited plan.
 pub fn list_figures_for(
     alloc: Global,
     tree: &Tree,
     assigned: &Assigned,
     trace: &Trace,
     unlimited: &Plan,
+    rule: Rule,
     k: u32,
 ) -> Result<Figures, AllocError>
     requires lengths { length assigned.now ≡ length trace.now.messages }
@@ -78,21 +80,22 @@ pub fn list_figures_for(
         (work_in unlimited.now) (starts_in unlimited.now) }
     requires workers { IsWorkers k }
     ensures workers { IfOk result (λ figures. figures.workers ≡ Some k) }
-    ensures listed { IfOk result (IsListed (IsOrdered tree.now assigned.now)
+    ensures listed { IfOk result (IsListed rule (IsOrdered tree.now assigned.now)
         (work_in unlimited.now)
         (length_of (work_in unlimited.now) (starts_in unlimited.now))) }
 {
     let needs = needs(alloc, tree, assigned)?;
-    let figures = figures_for(alloc, trace, unlimited, &needs, k)?;
+    let figures = figures_for(alloc, trace, unlimited, &needs, rule, k)?;
     Ok(figures)
 }
 
-/// The figures of the list plans for these numbers of workers.
+/// The figures of the list plans by this rule for these numbers of workers.
 fn figures_for_all(
     alloc: Global,
     trace: &Trace,
     unlimited: &Plan,
     needs: &Needs,
+    rule: Rule,
     workers: &[u32],
 ) -> Result<Vec<Figures>, AllocError>
     requires lengths { length needs.now ≡ length trace.now.messages }
@@ -104,23 +107,24 @@ fn figures_for_all(
         → AreNeeds tree assigned needs.now
         → IsLeast (IsOrdered tree assigned) (work_in unlimited.now)
         (starts_in unlimited.now)
-        → All (IsListed (IsOrdered tree assigned) (work_in unlimited.now)
+        → All (IsListed rule (IsOrdered tree assigned) (work_in unlimited.now)
         (length_of (work_in unlimited.now) (starts_in unlimited.now))) listed.items) }
 {
     let mut listed = Vec::with_capacity(alloc, workers.len())?;
     for k in workers {
-        let figures = figures_for(alloc, trace, unlimited, needs, *k)?;
+        let figures = figures_for(alloc, trace, unlimited, needs, rule, *k)?;
         listed.push(figures)?;
     }
     Ok(listed)
 }
 
-/// The figures of the list plan for k workers.
+/// The figures of the list plan by this rule for k workers.
 fn figures_for(
     alloc: Global,
     trace: &Trace,
     unlimited: &Plan,
     needs: &Needs,
+    rule: Rule,
     k: u32,
 ) -> Result<Figures, AllocError>
     requires lengths { length needs.now ≡ length trace.now.messages }
@@ -131,10 +135,10 @@ fn figures_for(
         → AreNeeds tree assigned needs.now
         → IsLeast (IsOrdered tree assigned) (work_in unlimited.now)
         (starts_in unlimited.now)
-        → IsListed (IsOrdered tree assigned) (work_in unlimited.now)
+        → IsListed rule (IsOrdered tree assigned) (work_in unlimited.now)
         (length_of (work_in unlimited.now) (starts_in unlimited.now)) figures) }
 {
-    let made = list_plan(alloc, needs, trace, k)?;
+    let made = list_plan_by(alloc, needs, trace, rule, k)?;
     needs_make_the_same_plans();
     none_is_shorter();
     let figures = figures_of(alloc, made.plan(), Some(k), unlimited.length())?;

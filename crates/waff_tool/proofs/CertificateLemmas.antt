@@ -2,7 +2,7 @@
 use Rattle.std.proofs.Common.{◌≡◌, ℕ, ◌≤◌, List, length, sym, ◌∙◌}
 use Rattle.waff_model.specs.Tree.{Node}
 use Rattle.waff_model.specs.declared.message.Message.{Message}
-use Rattle.waff_assign.specs.Order.{IsOrdered}
+use Rattle.waff_assign.specs.Order.{IsOrdered, Relation}
 use Rattle.waff_plan.specs.Work.{Work}
 use Rattle.waff_plan.specs.Obeys.{IsForward, IsLeast}
 use Rattle.waff_plan.specs.Chain.{IsPrinted}
@@ -11,8 +11,10 @@ use Rattle.waff_plan.specs.Timing.{work_of}
 use Rattle.waff_plan.proofs.Chains.{chains_are_within_length, least_is_shortest, printed_is_as_long, printed_is_chain}
 use Rattle.waff_plan.proofs.Forward.{IsOrdered_forward}
 use Rattle.waff_plan.proofs.Ratios.{bound_is_within_ratio, bound_is_within_twice}
-use Rattle.waff_list.specs.ListRule.{IsListPlan}
+use Rattle.waff_list.specs.Rules.{IsPlanBy}
+use Rattle.waff_list.specs.declared.rule.Rule.{Rule}
 use Rattle.waff_list.proofs.Graham.{list_plans_are_within_bound}
+use Rattle.waff_list.proofs.RuleLemmas.{plan_by_priority}
 use Rattle.waff_list.proofs.TraceWork.{count_is}
 use Rattle.waff_tool.specs.Certificates.{IsBounded, IsCertified}
 
@@ -22,7 +24,7 @@ pub pairs_forward : (tree : List Node) (assigned : List ℕ) (messages : List Me
 pairs_forward tree assigned messages same =
     IsOrdered_forward tree assigned (work_of (timings_of messages)) (same ∙ sym (count_is messages))
 
-pub certified : (before : ℕ → ℕ → Type 0) (work : Work) (start : ℕ → ℕ) (chain : List ℕ) → IsForward before work → IsLeast before work start
+pub certified : (before : Relation) (work : Work) (start : ℕ → ℕ) (chain : List ℕ) → IsForward before work → IsLeast before work start
     → IsPrinted before work start chain → IsCertified before work start chain
 certified before work start chain forward least printed = record {
   least = least;
@@ -33,13 +35,15 @@ certified before work start chain forward least printed = record {
   certificate = chains_are_within_length before work;
 }
 
-pub bounded : (before : ℕ → ℕ → Type 0) (work : Work) (k : ℕ) (start : ℕ → ℕ) (chain : List ℕ) → 1 ≤ k → IsForward before work
-    → IsListPlan before work k start → IsPrinted before work start chain → IsBounded before work k start chain
-bounded before work k start chain some forward list printed =
+pub bounded : (rule : Rule) (before : Relation) (work : Work) (k : ℕ) (start : ℕ → ℕ) (chain : List ℕ) → 1 ≤ k → IsForward before work
+    → IsPlanBy rule before work k start → IsPrinted before work start chain → IsBounded rule before work k start chain
+bounded rule before work k start chain some forward planned printed =
+    let by = plan_by_priority rule before work k start planned in
+    let list = by.1 in
     let is_chain = printed_is_chain before work forward start chain printed in
-    let bound = list_plans_are_within_bound before work forward k start chain some list printed in
+    let bound = list_plans_are_within_bound before work forward by.0 k start chain some list printed in
     record {
-      list = list;
+      list = planned;
       obeys = list.within.obeys;
       at_once = list.within.within;
       printed = printed;

@@ -4,15 +4,16 @@ use Rattle.std.proofs.lemmas.List.{same_lists, get_or-map, length-map}
 use Rattle.std.proofs.lemmas.Option.{same_Some}
 use Rattle.waff_model.specs.Layout.{Hierarchy}
 use Rattle.waff_model.specs.Messages.{Arrivals}
-use Rattle.waff_assign.specs.Order.{IsOrdered}
+use Rattle.waff_assign.specs.Order.{IsOrdered, Relation}
 use Rattle.waff_plan.specs.Chain.{IsPrinted}
 use Rattle.waff_plan.specs.Obeys.{IsForward, IsLeast}
 use Rattle.waff_plan.specs.Timing.{start_of}
 use Rattle.waff_plan.specs.Work.{Work, length_of}
 use Rattle.waff_plan.proofs.Uniqueness.{least_is_one, printed_is_one, same_length}
-use Rattle.waff_list.specs.ListRule.{IsListPlan}
+use Rattle.waff_list.specs.Rules.{IsPlanBy}
+use Rattle.waff_list.specs.declared.rule.Rule.{Rule}
 use Rattle.waff_list.specs.Unique.{EachRuns}
-use Rattle.waff_list.proofs.Uniqueness.{list_plan_is_one}
+use Rattle.waff_list.proofs.RuleLemmas.{rule_plan_is_one}
 use Rattle.waff_plan_text.specs.Lines.{text_of}
 use Rattle.waff_figures.specs.ByAffinity.{AreCostsBelow, affinities_lines, affinities_header, affinity_row, parent_field, tally_row, runs_in}
 use Rattle.waff_model.specs.Tree.{name_of, parent_of}
@@ -30,19 +31,16 @@ use Rattle.waff_tool.proofs.CertificateLemmas.{pairs_forward}
 use Rattle.waff_inputs.proofs.SameInput.{moved_back, same_input}
 use Rattle.waff_tool.proofs.TextUniqueness.{trace_runs}
 
--- the figures of list plans for the same number of workers are the same
-abbrev IsListPlanFor : (ℕ → ℕ → Type 0) → Work → ℕ → List ℕ → Type 0
-IsListPlanFor before work k starts = IsListPlan before work k (start_of starts)
-
-pub listed_same : (before : ℕ → ℕ → Type 0) (work : Work) → IsForward before work → EachRuns work → (shortest : ℕ) (one other : Figures)
-    → IsListed before work shortest one → IsListed before work shortest other → one.workers ≡ other.workers → one ≡ other
-listed_same before work forward runs shortest one other p q workers =
+-- the figures of plans by the same rule for the same number of workers are the same
+pub listed_same : (rule : Rule) (before : Relation) (work : Work) → IsForward before work → EachRuns work → (shortest : ℕ) (one other : Figures)
+    → IsListed rule before work shortest one → IsListed rule before work shortest other → one.workers ≡ other.workers → one ≡ other
+listed_same rule before work forward runs shortest one other p q workers =
     let first : one.workers ≡ Some p.k = p.figures_are.workers in
     let second : other.workers ≡ Some q.k = q.figures_are.workers in
     let same_k : p.k ≡ q.k = same_Some p.k q.k (sym first ∙ workers ∙ second) in
-    let list = subst (λ k. IsListPlanFor before work k q.starts) (sym same_k) q.list in
+    let list = subst (λ k. IsPlanBy rule before work k (start_of q.starts)) (sym same_k) q.list in
     let figures = subst (λ k. AreFigures (Some k) work shortest (start_of q.starts) other) (sym same_k) q.figures_are in
-    let same = list_plan_is_one before work forward runs p.k (start_of p.starts) (start_of q.starts) p.list list in
+    let same = rule_plan_is_one before work forward runs rule p.k (start_of p.starts) (start_of q.starts) p.list list in
     figures_are_one work (Some p.k) shortest (start_of p.starts) (start_of q.starts) one other same p.figures_are figures
 
 -- there is one for each number of workers, in its place
@@ -59,44 +57,44 @@ workers_at listed workers in_turn i d e inside =
     ∙ get_or-map (λ (k : ℕ). Some k) workers i e None there
 
 -- the list of them is one
-pub listed_is_one : (before : ℕ → ℕ → Type 0) (work : Work) → IsForward before work → EachRuns work → (shortest : ℕ) (workers : List ℕ) (one other : List Figures)
-    → AreListed before work shortest workers one → AreListed before work shortest workers other → one ≡ other
-listed_is_one before work forward runs shortest workers one other p q =
+pub listed_is_one : (rule : Rule) (before : Relation) (work : Work) → IsForward before work → EachRuns work → (shortest : ℕ) (workers : List ℕ) (one other : List Figures)
+    → AreListed rule before work shortest workers one → AreListed rule before work shortest workers other → one ≡ other
+listed_is_one rule before work forward runs shortest workers one other p q =
     let long : length one ≡ length other = count_of one workers p.in_turn ∙ sym (count_of other workers q.in_turn) in
     same_lists one other long (λ i d inside.
     let there : i < length other = subst (λ n. i < n) long inside in
     let same : (get_or one i d).workers ≡ (get_or other i d).workers
     = workers_at one workers p.in_turn i d 0 inside ∙ sym (workers_at other workers q.in_turn i d 0 there) in
-    listed_same before work forward runs shortest (get_or one i d) (get_or other i d) (p.each i d inside) (q.each i d there) same)
+    listed_same rule before work forward runs shortest (get_or one i d) (get_or other i d) (p.each i d inside) (q.each i d there) same)
 
 -- the sweep
-abbrev pub IsSwept : List ℕ → List ℕ → List Figures → Figures → Hierarchy → Arrivals → List ℕ → Type 0
-IsSwept workers starts listed unlimited layout trace assigned =
+abbrev pub IsSwept : Rule → List ℕ → List ℕ → List Figures → Figures → Hierarchy → Arrivals → List ℕ → Type 0
+IsSwept rule workers starts listed unlimited layout trace assigned =
     IsLeast (IsOrdered layout.tree assigned) (work_in trace) (start_of starts)
-    × AreListed (IsOrdered layout.tree assigned) (work_in trace) (length_of (work_in trace) (start_of starts)) workers listed
+    × AreListed rule (IsOrdered layout.tree assigned) (work_in trace) (length_of (work_in trace) (start_of starts)) workers listed
     × AreFigures None (work_in trace) (length_of (work_in trace) (start_of starts)) (start_of starts) unlimited
 
-one_sweep : (layout : Hierarchy) (trace : Arrivals) (assigned : List ℕ) → IsForward (IsOrdered layout.tree assigned) (work_in trace) → EachRuns (work_in trace)
+one_sweep : (rule : Rule) (layout : Hierarchy) (trace : Arrivals) (assigned : List ℕ) → IsForward (IsOrdered layout.tree assigned) (work_in trace) → EachRuns (work_in trace)
     → (workers starts others : List ℕ) (listed more : List Figures) (unlimited another : Figures)
-    → IsSwept workers starts listed unlimited layout trace assigned → IsSwept workers others more another layout trace assigned
+    → IsSwept rule workers starts listed unlimited layout trace assigned → IsSwept rule workers others more another layout trace assigned
     → text_of (sweep_lines listed unlimited) ≡ text_of (sweep_lines more another)
-one_sweep layout trace assigned forward runs workers starts others listed more unlimited another p q =
+one_sweep rule layout trace assigned forward runs workers starts others listed more unlimited another p q =
     let before = IsOrdered layout.tree assigned in
     let work = work_in trace in
     let same = least_is_one before work (start_of starts) (start_of others) p.0 q.0 in
     let lengths = same_length work (start_of starts) (start_of others) same in
-    let lists = listed_is_one before work forward runs (length_of work (start_of starts)) workers listed more p.1
-    (subst (λ n. AreListed before work n workers more) (sym lengths) q.1) in
+    let lists = listed_is_one rule before work forward runs (length_of work (start_of starts)) workers listed more p.1
+    (subst (λ n. AreListed rule before work n workers more) (sym lengths) q.1) in
     let last = figures_are_one work None (length_of work (start_of starts)) (start_of starts) (start_of others) unlimited another same p.2
     (subst (λ n. AreFigures None work n (start_of others) another) (sym lengths) q.2) in
     ap (λ fs. text_of (sweep_lines fs unlimited)) lists ∙ ap (λ f. text_of (sweep_lines more f)) last
 
-pub sweep_text_is_one : (hierarchy_file trace_file workers : List ℕ) → SweepTextIsOne hierarchy_file trace_file workers
-sweep_text_is_one hierarchy_file trace_file workers text other p q =
+pub sweep_text_is_one : (rule : Rule) (hierarchy_file trace_file workers : List ℕ) → SweepTextIsOne rule hierarchy_file trace_file workers
+sweep_text_is_one rule hierarchy_file trace_file workers text other p q =
     let same = same_input hierarchy_file trace_file p.layout q.layout p.trace q.trace p.assigned q.assigned p.accepts q.accepts in
-    let told = moved_back (IsSwept workers q.starts q.listed q.unlimited) p.layout q.layout p.trace q.trace p.assigned q.assigned same (q.least, q.are_listed, q.are_unlimited) in
+    let told = moved_back (IsSwept rule workers q.starts q.listed q.unlimited) p.layout q.layout p.trace q.trace p.assigned q.assigned same (q.least, q.are_listed, q.are_unlimited) in
     p.lines
-    ∙ one_sweep p.layout p.trace p.assigned (pairs_forward p.layout.tree p.assigned p.trace.messages p.accepts.assignment.count)
+    ∙ one_sweep rule p.layout p.trace p.assigned (pairs_forward p.layout.tree p.assigned p.trace.messages p.accepts.assignment.count)
     (trace_runs p.layout trace_file p.trace p.accepts.is_trace) workers p.starts q.starts p.listed q.listed p.unlimited q.unlimited
     (p.least, p.are_listed, p.are_unlimited) told
     ∙ sym q.lines

@@ -20,7 +20,7 @@ use Rattle.waff_model.specs.declared.message.Version.TheVariants.{V1}
 use Rattle.waff_read.proofs.FaultLaws.{trace_is_exact}
 use Rattle.waff_read.proofs.LimitLaws.{layout_is_within_limits, trace_is_within_limits}
 use Rattle.waff_read.proofs.NamedLaws.{affinities_are_named}
-use Rattle.waff_assign.specs.Order.{IsOrdered, affinity_of}
+use Rattle.waff_assign.specs.Order.{IsOrdered, Relation, affinity_of}
 use Rattle.waff_assign.proofs.Knowing.{affinity_known}
 use Rattle.waff_plan.specs.Bound.{IsWorkers, left_side, right_side}
 use Rattle.waff_plan.specs.Chain.{IsChain, IsListed, chain_cost, chain_release}
@@ -38,7 +38,9 @@ use Rattle.waff_plan.proofs.Ratios.{bound_is_within_ratio, bound_is_within_twice
 use Rattle.waff_plan.proofs.Ticks.{sum_by-numbers-le}
 use Rattle.waff_list.specs.Seating.{worker_of}
 use Rattle.waff_list.specs.Seats.{ComesBefore, HoldsWorker, IsSeated}
+use Rattle.waff_list.specs.declared.rule.Rule.{Rule}
 use Rattle.waff_list.proofs.Pigeonhole.{runs_on_all}
+use Rattle.waff_list.proofs.RuleLemmas.{plan_by_priority}
 use Rattle.waff_plan_text.specs.Given.{Given, IsGiven}
 use Rattle.waff_plan_text.specs.Laws.{IsTellable, plan_told, row_told}
 use Rattle.waff_plan_text.specs.PlanTexts.{plan_of}
@@ -108,7 +110,7 @@ few_costs f (x ∷ xs) each =
     let rest = few_costs f xs (All-tail (λ m. f m ≤ MAX_COST) x xs each) in
     omega (arith, first, rest, sum_by-cons f x xs)
 
-module _ (version : Version) (before : ℕ → ℕ → Type 0) (work : Work) (modest : IsModest version work) (forward : IsForward before work)
+module _ (version : Version) (before : Relation) (work : Work) (modest : IsModest version work) (forward : IsForward before work)
     (chain : List ℕ) (is_chain : IsChain before work chain) where
   chain_listed : IsListed work.count chain
   chain_listed = record {
@@ -386,16 +388,16 @@ own_plan_passes hierarchy_file trace_file text told =
     told.certified.least.obeys is_chain told.certified.as_long)
 
 -- the workers of a plan for k workers
-crew_of : (hierarchy_file trace_file : List ℕ) (k : ℕ) (text : List ℕ) (told : IsWorkerPlanText hierarchy_file trace_file k text)
+crew_of : (rule : Rule) (hierarchy_file trace_file : List ℕ) (k : ℕ) (text : List ℕ) (told : IsWorkerPlanText rule hierarchy_file trace_file k text)
     → AreManned (work_in told.trace) (start_of told.starts) (seat_of told.workers) k
-crew_of hierarchy_file trace_file k text told =
+crew_of rule hierarchy_file trace_file k text told =
     let small = within_limits hierarchy_file trace_file told.layout told.trace told.assigned told.accepts in
     manned (work_in told.trace) (start_of told.starts) told.workers k small.some_cost told.seated told.bounded.at_once
 
-pub own_worker_plan_told : (hierarchy_file trace_file : List ℕ) (k : ℕ) (text : List ℕ) → IsWorkers k
-    → (told : IsWorkerPlanText hierarchy_file trace_file k text)
+pub own_worker_plan_told : (rule : Rule) (hierarchy_file trace_file : List ℕ) (k : ℕ) (text : List ℕ) → IsWorkers k
+    → (told : IsWorkerPlanText rule hierarchy_file trace_file k text)
     → IsTold told.layout told.trace told.assigned text (Some k) told.starts (seat_of told.workers) told.chain
-own_worker_plan_told hierarchy_file trace_file k text workers told =
+own_worker_plan_told rule hierarchy_file trace_file k text workers told =
     let before = IsOrdered told.layout.tree told.assigned in
     let work = work_in told.trace in
     let start = start_of told.starts in
@@ -416,7 +418,7 @@ own_worker_plan_told hierarchy_file trace_file k text workers told =
     let left : left_side work k start ≤ MAX_TICK = omega (arith, bound, right) in
     let once : 1 * length_of work start ≤ k * length_of work start = mul-le-mul from (omega arith) in
     let short : length_of work start ≤ MAX_TICK = omega (arith, once, left) in
-    let crew = crew_of hierarchy_file trace_file k text told in
+    let crew = crew_of rule hierarchy_file trace_file k text told in
     let can = tellable version before work small forward told.chain is_chain told.layout.tree told.assigned (Some k) start (seat_of told.workers)
     (named hierarchy_file trace_file told.layout told.trace told.assigned told.accepts)
     (λ n number. let one = crew.each n number in let last = one.1 in omega (arith, to, last)) workers short left right in
@@ -424,14 +426,16 @@ own_worker_plan_told hierarchy_file trace_file k text workers told =
     ∙ written_is_read version told.layout.tree told.assigned work (Some k) start (seat_of told.workers) told.chain can in
     (can, read)
 
-pub own_worker_plan_passes : (hierarchy_file trace_file : List ℕ) (k : ℕ) (text : List ℕ) → OwnWorkerPlanPasses hierarchy_file trace_file k text
-own_worker_plan_passes hierarchy_file trace_file k text workers told =
-    let is = own_worker_plan_told hierarchy_file trace_file k text workers told in
+pub own_worker_plan_passes : (rule : Rule) (hierarchy_file trace_file : List ℕ) (k : ℕ) (text : List ℕ) → OwnWorkerPlanPasses rule hierarchy_file trace_file k text
+own_worker_plan_passes rule hierarchy_file trace_file k text workers told =
+    let is = own_worker_plan_told rule hierarchy_file trace_file k text workers told in
     let is_chain = told.bounded.is_chain in
+    let by = plan_by_priority rule (IsOrdered told.layout.tree told.assigned) (work_in told.trace) k (start_of told.starts) told.bounded.list in
+    let list = by.1 in
     let passes = checked hierarchy_file trace_file told.layout told.trace told.assigned told.accepts text (Some k) (start_of told.starts) (seat_of told.workers) told.chain is_chain
     is.0 is.1 in
     elim (own_plan_is_within_bound told.layout.tree told.assigned told.trace.messages told.trace.version k (start_of told.starts) (seat_of told.workers) told.chain
-    told.accepts.assignment.count told.bounded.list.within (crew_of hierarchy_file trace_file k text told) is_chain told.bounded.bound) [
+    told.accepts.assignment.count list.within (crew_of rule hierarchy_file trace_file k text told) is_chain told.bounded.bound) [
       | inl shortest ↦ inl (passes verdict.Shortest shortest)
       | inr within ↦ inr (passes verdict.WithinBound within)
     ]

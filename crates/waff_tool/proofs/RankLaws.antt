@@ -16,6 +16,7 @@ use Rattle.waff_plan.specs.Timing.{start_of}
 use Rattle.waff_plan.specs.Work.{length_of}
 use Rattle.waff_plan.proofs.Uniqueness.{least_is_one, same_length}
 use Rattle.waff_list.specs.Unique.{EachRuns}
+use Rattle.waff_list.specs.declared.rule.Rule.{Rule}
 use Rattle.waff_plan_text.specs.Lines.{text_of}
 use Rattle.waff_figures.specs.Sweep.{AreListed, IsListed}
 use Rattle.waff_figures.specs.declared.figures.Figures.{Figures}
@@ -33,9 +34,9 @@ use Rattle.waff_tool.proofs.RankLemmas.{ranked_admit}
 use Rattle.waff_tool.proofs.TextUniqueness.{trace_runs}
 
 -- what is told under a hierarchy is one
-under_is_one : (layout : Hierarchy) (trace : Arrivals) (assigned : List ℕ) (k : ℕ) (one other : Ranked) → IsForward (IsOrdered layout.tree assigned) (work_in trace)
-    → EachRuns (work_in trace) → IsRankedUnder layout trace assigned k one → IsRankedUnder layout trace assigned k other → one ≡ other
-under_is_one layout trace assigned k one other forward runs p q =
+under_is_one : (rule : Rule) (layout : Hierarchy) (trace : Arrivals) (assigned : List ℕ) (k : ℕ) (one other : Ranked) → IsForward (IsOrdered layout.tree assigned) (work_in trace)
+    → EachRuns (work_in trace) → IsRankedUnder rule layout trace assigned k one → IsRankedUnder rule layout trace assigned k other → one ≡ other
+under_is_one rule layout trace assigned k one other forward runs p q =
     let before = IsOrdered layout.tree assigned in
     let work = work_in trace in
     let told : Kind → ℕ → ℕ → Figures → Ranked = λ kind affinities length listed. record {
@@ -46,33 +47,33 @@ under_is_one layout trace assigned k one other forward runs p q =
     } in
     let same = least_is_one before work (start_of p.starts) (start_of q.starts) p.least q.least in
     let lengths : one.length ≡ other.length = p.shortest ∙ same_length work (start_of p.starts) (start_of q.starts) same ∙ sym q.shortest in
-    let listed : one.listed ≡ other.listed = listed_same before work forward runs one.length one.listed other.listed p.listed
-    (subst (λ n. IsListed before work n other.listed) (sym lengths) q.listed) (p.workers ∙ sym q.workers) in
+    let listed : one.listed ≡ other.listed = listed_same rule before work forward runs one.length one.listed other.listed p.listed
+    (subst (λ n. IsListed rule before work n other.listed) (sym lengths) q.listed) (p.workers ∙ sym q.workers) in
     ap (λ kind. told kind one.affinities one.length one.listed) (p.kind ∙ sym q.kind)
     ∙ ap (λ n. told other.kind n one.length one.listed) (p.affinities ∙ sym q.affinities)
     ∙ ap (λ n. told other.kind other.affinities n one.listed) lengths
     ∙ ap (told other.kind other.affinities other.length) listed
 
-ranked_is_one : (trace_file : List ℕ) (k : ℕ) (file : List ℕ) (one other : Ranked) → IsRanked trace_file k file one → IsRanked trace_file k file other → one ≡ other
-ranked_is_one trace_file k file one other p q =
+ranked_is_one : (rule : Rule) (trace_file : List ℕ) (k : ℕ) (file : List ℕ) (one other : Ranked) → IsRanked rule trace_file k file one → IsRanked rule trace_file k file other → one ≡ other
+ranked_is_one rule trace_file k file one other p q =
     let same = same_input file trace_file p.layout q.layout p.trace q.trace p.assigned q.assigned p.accepts q.accepts in
-    let told = moved_back (λ layout trace assigned. IsRankedUnder layout trace assigned k other) p.layout q.layout p.trace q.trace p.assigned q.assigned same q.under in
-    under_is_one p.layout p.trace p.assigned k one other (pairs_forward p.layout.tree p.assigned p.trace.messages p.accepts.assignment.count)
+    let told = moved_back (λ layout trace assigned. IsRankedUnder rule layout trace assigned k other) p.layout q.layout p.trace q.trace p.assigned q.assigned same q.under in
+    under_is_one rule p.layout p.trace p.assigned k one other (pairs_forward p.layout.tree p.assigned p.trace.messages p.accepts.assignment.count)
     (trace_runs p.layout trace_file p.trace p.accepts.is_trace) p.under told
 
-ranks_are_one : (trace_file : List ℕ) (k : ℕ) (files : List (List ℕ)) (ranks others : List Ranked) → AllZip (IsRanked trace_file k) files ranks
-    → AllZip (IsRanked trace_file k) files others → ranks ≡ others
-ranks_are_one trace_file k [] [] [] p q = refl
-ranks_are_one trace_file k [] [] (other ∷ others) p q = absurd q
-ranks_are_one trace_file k [] (one ∷ ranks) others p q = absurd p
-ranks_are_one trace_file k (file ∷ files) [] others p q = absurd p
-ranks_are_one trace_file k (file ∷ files) (one ∷ ranks) [] p q = absurd q
-ranks_are_one trace_file k (file ∷ files) (one ∷ ranks) (other ∷ others) p q =
-    ap (λ r. r ∷ ranks) (ranked_is_one trace_file k file one other p.0 q.0) ∙ ap (λ rs. other ∷ rs) (ranks_are_one trace_file k files ranks others p.1 q.1)
+ranks_are_one : (rule : Rule) (trace_file : List ℕ) (k : ℕ) (files : List (List ℕ)) (ranks others : List Ranked) → AllZip (IsRanked rule trace_file k) files ranks
+    → AllZip (IsRanked rule trace_file k) files others → ranks ≡ others
+ranks_are_one rule trace_file k [] [] [] p q = refl
+ranks_are_one rule trace_file k [] [] (other ∷ others) p q = absurd q
+ranks_are_one rule trace_file k [] (one ∷ ranks) others p q = absurd p
+ranks_are_one rule trace_file k (file ∷ files) [] others p q = absurd p
+ranks_are_one rule trace_file k (file ∷ files) (one ∷ ranks) [] p q = absurd q
+ranks_are_one rule trace_file k (file ∷ files) (one ∷ ranks) (other ∷ others) p q =
+    ap (λ r. r ∷ ranks) (ranked_is_one rule trace_file k file one other p.0 q.0) ∙ ap (λ rs. other ∷ rs) (ranks_are_one rule trace_file k files ranks others p.1 q.1)
 
-pub rank_text_is_one : (files : List (List ℕ)) (trace_file : List ℕ) (k : ℕ) → RankTextIsOne files trace_file k
-rank_text_is_one files trace_file k text other p q =
-    p.lines ∙ ap (λ rs. text_of (rank_header ∷ rank_rows 1 rs)) (ranks_are_one trace_file k files p.ranks q.ranks p.each q.each) ∙ sym q.lines
+pub rank_text_is_one : (rule : Rule) (files : List (List ℕ)) (trace_file : List ℕ) (k : ℕ) → RankTextIsOne rule files trace_file k
+rank_text_is_one rule files trace_file k text other p q =
+    p.lines ∙ ap (λ rs. text_of (rank_header ∷ rank_rows 1 rs)) (ranks_are_one rule trace_file k files p.ranks q.ranks p.each q.each) ∙ sym q.lines
 
 -- what a file before the first one has
 before_first : (P : List ℕ → Type 0) (files : List (List ℕ)) (i at : ℕ) → i < at → at < length files → All P (take at files) → P (file_at files i)
@@ -154,31 +155,31 @@ none_refused files trace_file tool.ModelsSame tells admit p = p
 none_refused files trace_file tool.Write tells admit p = absurd tells
 none_refused files trace_file tool.Memory tells admit p = absurd tells
 
-pub ranked_is_not_refused : (files : List (List ℕ)) (trace_file : List ℕ) → RankedIsNotRefused files trace_file
-ranked_is_not_refused files trace_file k text error ranked tells refused =
-    none_refused files trace_file error tells (ranked_admit trace_file k files ranked.ranks ranked.each) refused
+pub ranked_is_not_refused : (rule : Rule) (files : List (List ℕ)) (trace_file : List ℕ) → RankedIsNotRefused rule files trace_file
+ranked_is_not_refused rule files trace_file k text error ranked tells refused =
+    none_refused files trace_file error tells (ranked_admit rule trace_file k files ranked.ranks ranked.each) refused
 
 -- the list plan alone, as a sweep tells of it
-swept_alone : (layout : Hierarchy) (trace : Arrivals) (assigned : List ℕ) (k : ℕ) (ranked : Ranked) (starts : List ℕ) (listed : List Figures) (unlimited : Figures)
-    → IsForward (IsOrdered layout.tree assigned) (work_in trace) → EachRuns (work_in trace) → IsRankedUnder layout trace assigned k ranked
-    → IsSwept (k ∷ []) starts listed unlimited layout trace assigned → listed ≡ ranked.listed ∷ []
-swept_alone layout trace assigned k ranked starts listed unlimited forward runs p q =
+swept_alone : (rule : Rule) (layout : Hierarchy) (trace : Arrivals) (assigned : List ℕ) (k : ℕ) (ranked : Ranked) (starts : List ℕ) (listed : List Figures) (unlimited : Figures)
+    → IsForward (IsOrdered layout.tree assigned) (work_in trace) → EachRuns (work_in trace) → IsRankedUnder rule layout trace assigned k ranked
+    → IsSwept rule (k ∷ []) starts listed unlimited layout trace assigned → listed ≡ ranked.listed ∷ []
+swept_alone rule layout trace assigned k ranked starts listed unlimited forward runs p q =
     let before = IsOrdered layout.tree assigned in
     let work = work_in trace in
     let same = least_is_one before work (start_of starts) (start_of p.starts) q.0 p.least in
     let lengths : length_of work (start_of starts) ≡ ranked.length = same_length work (start_of starts) (start_of p.starts) same ∙ sym p.shortest in
-    let alone : AreListed before work ranked.length (k ∷ []) (ranked.listed ∷ []) = record {
+    let alone : AreListed rule before work ranked.length (k ∷ []) (ranked.listed ∷ []) = record {
       in_turn = ap (λ w. w ∷ []) p.workers;
-      each = All-cons (IsListed before work ranked.length) ranked.listed [] p.listed (λ i d inside. absurd (omega (arith, inside)));
+      each = All-cons (IsListed rule before work ranked.length) ranked.listed [] p.listed (λ i d inside. absurd (omega (arith, inside)));
     } in
-    listed_is_one before work forward runs ranked.length (k ∷ []) listed (ranked.listed ∷ [])
-    (subst (λ n. AreListed before work n (k ∷ []) listed) lengths q.1) alone
+    listed_is_one rule before work forward runs ranked.length (k ∷ []) listed (ranked.listed ∷ [])
+    (subst (λ n. AreListed rule before work n (k ∷ []) listed) lengths q.1) alone
 
-pub is_ranked_as_swept : (hierarchy_file trace_file : List ℕ) → IsRankedAsSwept hierarchy_file trace_file
-is_ranked_as_swept hierarchy_file trace_file k ranked text p q =
+pub is_ranked_as_swept : (rule : Rule) (hierarchy_file trace_file : List ℕ) → IsRankedAsSwept rule hierarchy_file trace_file
+is_ranked_as_swept rule hierarchy_file trace_file k ranked text p q =
     let same = same_input hierarchy_file trace_file p.layout q.layout p.trace q.trace p.assigned q.assigned p.accepts q.accepts in
-    let told = moved_back (IsSwept (k ∷ []) q.starts q.listed q.unlimited) p.layout q.layout p.trace q.trace p.assigned q.assigned same
+    let told = moved_back (IsSwept rule (k ∷ []) q.starts q.listed q.unlimited) p.layout q.layout p.trace q.trace p.assigned q.assigned same
     (q.least, q.are_listed, q.are_unlimited) in
-    swept_alone p.layout p.trace p.assigned k ranked q.starts q.listed q.unlimited
+    swept_alone rule p.layout p.trace p.assigned k ranked q.starts q.listed q.unlimited
     (pairs_forward p.layout.tree p.assigned p.trace.messages p.accepts.assignment.count)
     (trace_runs p.layout trace_file p.trace p.accepts.is_trace) p.under told

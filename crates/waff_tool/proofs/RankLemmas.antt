@@ -6,6 +6,7 @@ use Rattle.std.proofs.lemmas.Grind.{flat_map-append}
 use Rattle.std.specs.List.{AllZip}
 use Rattle.waff_model.specs.Layout.{Hierarchy}
 use Rattle.waff_read.specs.Hierarchies.{hierarchy_of}
+use Rattle.waff_list.specs.declared.rule.Rule.{Rule}
 use Rattle.waff_plan_text.specs.Lines.{line_text, text_of}
 use Rattle.waff_inputs.specs.Inputs.{Refuses, RefusesHierarchy}
 use Rattle.waff_inputs.specs.declared.fault.ToolError.{ToolError}
@@ -56,10 +57,10 @@ pub read_are : (files : List (List ℕ)) (layouts : List Hierarchy) → AreRead 
 read_are files layouts are = zip_have (λ file layout. hierarchy_of file ≡ Ok layout) IsHierarchy (λ file layout read. (layout, read)) files layouts are
 
 -- files that are ranked admit the trace
-pub ranked_admit : (trace_file : List ℕ) (k : ℕ) (files : List (List ℕ)) (ranks : List Ranked) → AllZip (IsRanked trace_file k) files ranks
+pub ranked_admit : (rule : Rule) (trace_file : List ℕ) (k : ℕ) (files : List (List ℕ)) (ranks : List Ranked) → AllZip (IsRanked rule trace_file k) files ranks
     → All (Admits trace_file) files
-ranked_admit trace_file k files ranks are =
-    zip_have (IsRanked trace_file k) (Admits trace_file) (λ file ranked is. (is.layout, is.trace, is.accepts.is_layout, is.accepts.is_trace)) files ranks are
+ranked_admit rule trace_file k files ranks are =
+    zip_have (IsRanked rule trace_file k) (Admits trace_file) (λ file ranked is. (is.layout, is.trace, is.accepts.is_layout, is.accepts.is_trace)) files ranks are
 
 -- the first file that is no hierarchy
 pub first_refused : (files : List (List ℕ)) (trace_file : List ℕ) (i number : ℕ) (error : ToolError) → number ≡ i + 1 → i < length files

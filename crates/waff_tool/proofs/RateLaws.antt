@@ -8,15 +8,16 @@ use Rattle.waff_model.specs.Messages.{Arrivals}
 use Rattle.waff_model.specs.Tree.{Node}
 use Rattle.waff_model.specs.declared.message.Message.{Message}
 use Rattle.waff_model.specs.declared.message.Version.{Version}
-use Rattle.waff_assign.specs.Order.{IsOrdered}
+use Rattle.waff_assign.specs.Order.{IsOrdered, Relation}
 use Rattle.waff_plan.specs.Obeys.{IsLeast}
 use Rattle.waff_plan.specs.Timing.{start_of}
 use Rattle.waff_plan.specs.Unique.{AreSame}
 use Rattle.waff_plan.specs.Work.{Work, length_of, numbers}
 use Rattle.waff_plan.specs.declared.timing.Timing.{Timing}
 use Rattle.waff_plan.proofs.Uniqueness.{least_is_one, same_length}
-use Rattle.waff_list.specs.ListRule.{IsListPlan}
-use Rattle.waff_list.proofs.Uniqueness.{list_plan_is_one}
+use Rattle.waff_list.specs.Rules.{IsPlanBy}
+use Rattle.waff_list.specs.declared.rule.Rule.{Rule}
+use Rattle.waff_list.proofs.RuleLemmas.{rule_plan_is_one}
 use Rattle.waff_plan_text.specs.Given.{Given, no_row}
 use Rattle.waff_plan_text.specs.Laws.{plan_told, row_told}
 use Rattle.waff_plan_text.specs.Lines.{text_of}
@@ -47,7 +48,7 @@ IsRated plan_file given figures layout trace assigned =
     × AreRated (IsOrdered layout.tree assigned) (work_in trace) given.summary.workers (start_of (starts_of given)) figures
 
 -- figures of the same starts, against least plans, which have one length
-rated_same : (before : ℕ → ℕ → Type 0) (work : Work) (limit : Option ℕ) (start other : ℕ → ℕ) (one another : Figures) (starts : List ℕ)
+rated_same : (before : Relation) (work : Work) (limit : Option ℕ) (start other : ℕ → ℕ) (one another : Figures) (starts : List ℕ)
     → AreSame work start other → AreRated before work limit start one → IsLeast before work (start_of starts)
     → AreFigures limit work (length_of work (start_of starts)) other another → one ≡ another
 rated_same before work limit start other one another starts same p least q =
@@ -100,12 +101,12 @@ told_rated hierarchy_file trace_file plan_file v text layout trace assigned acce
     subst (λ (g : Given). AreRated (IsOrdered layout.tree assigned) (work_in trace) g.summary.workers (start_of (starts_of g)) rate.figures) (sym given_same) moved.1
 
 -- what is swept, for the input that a plan was told of
-told_swept : (hierarchy_file trace_file workers sweep : List ℕ) (layout : Hierarchy) (trace : Arrivals) (assigned : List ℕ)
-    → Accepts hierarchy_file trace_file layout trace assigned → (swept : IsSweepText hierarchy_file trace_file workers sweep)
-    → IsSwept workers swept.starts swept.listed swept.unlimited layout trace assigned
-told_swept hierarchy_file trace_file workers sweep layout trace assigned accepts swept =
+told_swept : (rule : Rule) (hierarchy_file trace_file workers sweep : List ℕ) (layout : Hierarchy) (trace : Arrivals) (assigned : List ℕ)
+    → Accepts hierarchy_file trace_file layout trace assigned → (swept : IsSweepText rule hierarchy_file trace_file workers sweep)
+    → IsSwept rule workers swept.starts swept.listed swept.unlimited layout trace assigned
+told_swept rule hierarchy_file trace_file workers sweep layout trace assigned accepts swept =
     let same = same_input hierarchy_file trace_file layout swept.layout trace swept.trace assigned swept.assigned accepts swept.accepts in
-    moved_back (IsSwept workers swept.starts swept.listed swept.unlimited) layout swept.layout trace swept.trace assigned swept.assigned same
+    moved_back (IsSwept rule workers swept.starts swept.listed swept.unlimited) layout swept.layout trace swept.trace assigned swept.assigned same
     (swept.least, swept.are_listed, swept.are_unlimited)
 
 -- as many messages are read as the work has
@@ -116,8 +117,8 @@ count_read trace text plan read =
     = length-map trace.messages (λ (message : Message). let t : Timing = record { cost = message.cost; release = message.release } in t) in
     ap (λ n. plan_of trace.version n text) (sym count) ∙ read
 
-pub own_plan_is_swept : (hierarchy_file trace_file : List ℕ) → OwnPlanIsSwept hierarchy_file trace_file
-own_plan_is_swept hierarchy_file trace_file plan_file workers text sweep v told rate swept =
+pub own_plan_is_swept : (rule : Rule) (hierarchy_file trace_file : List ℕ) → OwnPlanIsSwept rule hierarchy_file trace_file
+own_plan_is_swept rule hierarchy_file trace_file plan_file workers text sweep v told rate swept =
     let before = IsOrdered told.layout.tree told.assigned in
     let work = work_in told.trace in
     let start = start_of told.starts in
@@ -125,33 +126,33 @@ own_plan_is_swept hierarchy_file trace_file plan_file workers text sweep v told 
     let is = own_plan_told hierarchy_file trace_file plan_file told in
     let rated = told_rated hierarchy_file trace_file plan_file v text told.layout told.trace told.assigned told.accepts plan
     (count_read told.trace plan_file plan is.1) rate in
-    let moved = told_swept hierarchy_file trace_file workers sweep told.layout told.trace told.assigned told.accepts swept in
+    let moved = told_swept rule hierarchy_file trace_file workers sweep told.layout told.trace told.assigned told.accepts swept in
     let leasts = least_is_one before work start (start_of swept.starts) told.certified.least moved.0 in
     let rows = told_starts told.trace.version told.layout.tree told.assigned work None start no_worker told.chain in
     rated_same before work None (start_of (starts_of plan)) (start_of swept.starts) rate.figures swept.unlimited swept.starts
     (λ m number. rows m number ∙ leasts m number) rated moved.0 moved.2
 
-pub own_worker_plan_is_swept : (hierarchy_file trace_file : List ℕ) → OwnWorkerPlanIsSwept hierarchy_file trace_file
-own_worker_plan_is_swept hierarchy_file trace_file k plan_file workers text sweep v fits listed told rate swept =
+pub own_worker_plan_is_swept : (rule : Rule) (hierarchy_file trace_file : List ℕ) → OwnWorkerPlanIsSwept rule hierarchy_file trace_file
+own_worker_plan_is_swept rule hierarchy_file trace_file k plan_file workers text sweep v fits listed told rate swept =
     let before = IsOrdered told.layout.tree told.assigned in
     let work = work_in told.trace in
     let start = start_of told.starts in
     let seats = seat_of told.workers in
     let plan = plan_told told.trace.version told.layout.tree told.assigned work (Some k) start seats told.chain in
-    let is = own_worker_plan_told hierarchy_file trace_file k plan_file fits told in
+    let is = own_worker_plan_told rule hierarchy_file trace_file k plan_file fits told in
     let rated = told_rated hierarchy_file trace_file plan_file v text told.layout told.trace told.assigned told.accepts plan
     (count_read told.trace plan_file plan is.1) rate in
-    let moved = told_swept hierarchy_file trace_file workers sweep told.layout told.trace told.assigned told.accepts swept in
+    let moved = told_swept rule hierarchy_file trace_file workers sweep told.layout told.trace told.assigned told.accepts swept in
     let i = listed.0 in
     let inside : i < length swept.listed = subst (λ n. i < n) (sym (count_of swept.listed workers moved.1.in_turn)) listed.1 in
     let line = get_or swept.listed i rate.figures in
-    let one : IsListed before work (length_of work (start_of swept.starts)) line = moved.1.each i rate.figures inside in
+    let one : IsListed rule before work (length_of work (start_of swept.starts)) line = moved.1.each i rate.figures inside in
     let number : one.k ≡ k = same_Some one.k k
     (sym one.figures_are.workers ∙ workers_at swept.listed workers moved.1.in_turn i rate.figures k inside ∙ ap (λ n. Some n) listed.2) in
-    let list = subst (λ n. IsListPlan before work n (start_of one.starts)) number one.list in
+    let list = subst (λ n. IsPlanBy rule before work n (start_of one.starts)) number one.list in
     let figures = subst (λ n. AreFigures (Some n) work (length_of work (start_of swept.starts)) (start_of one.starts) line) number one.figures_are in
-    let plans = list_plan_is_one before work (pairs_forward told.layout.tree told.assigned told.trace.messages told.accepts.assignment.count)
-    (trace_runs told.layout trace_file told.trace told.accepts.is_trace) k start (start_of one.starts) told.bounded.list list in
+    let plans = rule_plan_is_one before work (pairs_forward told.layout.tree told.assigned told.trace.messages told.accepts.assignment.count)
+    (trace_runs told.layout trace_file told.trace told.accepts.is_trace) rule k start (start_of one.starts) told.bounded.list list in
     let rows = told_starts told.trace.version told.layout.tree told.assigned work (Some k) start seats told.chain in
     let same : rate.figures ≡ line = rated_same before work (Some k) (start_of (starts_of plan)) (start_of one.starts) rate.figures line swept.starts
     (λ m n. rows m n ∙ plans m n) rated moved.0 figures in

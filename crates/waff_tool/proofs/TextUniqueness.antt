@@ -18,12 +18,14 @@ use Rattle.waff_plan.specs.Totals.{totals_of}
 use Rattle.waff_plan.specs.Work.{Work, total_of}
 use Rattle.waff_plan.specs.declared.totals.Totals.{Totals}
 use Rattle.waff_plan.proofs.Uniqueness.{least_is_one, printed_is_one}
-use Rattle.waff_list.specs.ListRule.{IsListPlan}
+use Rattle.waff_list.specs.Rules.{IsPlanBy}
 use Rattle.waff_list.specs.Seating.{worker_of}
 use Rattle.waff_list.specs.Unique.{AreSeated, EachRuns}
+use Rattle.waff_list.specs.declared.rule.Rule.{Rule}
+use Rattle.waff_list.specs.declared.rule.Rule.TheVariants.{Arrival}
 use Rattle.waff_list.proofs.SeatsUniqueness.{seats_are_one}
 use Rattle.waff_list.proofs.TraceWork.{trace_is_small}
-use Rattle.waff_list.proofs.Uniqueness.{list_plan_is_one}
+use Rattle.waff_list.proofs.RuleLemmas.{rule_plan_is_one}
 use Rattle.waff_plan_text.specs.Lines.{text_of}
 use Rattle.waff_plan_text.specs.Spelling.{no_worker, seat_of, unlimited_lines, worker_lines}
 use Rattle.waff_plan.proofs.Uniqueness.{totals_same}
@@ -81,21 +83,21 @@ unlimited_text_is_one hierarchy_file trace_file text other p q =
     one_text p.layout p.trace p.assigned (pairs_forward p.layout.tree p.assigned p.trace.messages p.accepts.assignment.count)
     p.starts p.chain text q.starts q.chain other (p.certified.least, p.certified.printed, p.lines) told
 
--- the plan for k workers
-abbrev IsToldFor : ℕ → List ℕ → List ℕ → List ℕ → List ℕ → Hierarchy → Arrivals → List ℕ → Type 0
-IsToldFor k starts workers chain text layout trace assigned =
-    IsListPlan (IsOrdered layout.tree assigned) (work_in trace) k (start_of starts)
+-- the plan by a rule for k workers
+abbrev IsToldFor : Rule → ℕ → List ℕ → List ℕ → List ℕ → List ℕ → Hierarchy → Arrivals → List ℕ → Type 0
+IsToldFor rule k starts workers chain text layout trace assigned =
+    IsPlanBy rule (IsOrdered layout.tree assigned) (work_in trace) k (start_of starts)
     × AreSeated (work_in trace) (start_of starts) (worker_of workers)
     × IsPrinted (IsOrdered layout.tree assigned) (work_in trace) (start_of starts) chain
     × (text ≡ text_of (worker_lines trace.version layout.tree assigned (work_in trace) k (start_of starts) workers chain))
 
-one_text_for : (layout : Hierarchy) (trace : Arrivals) (assigned : List ℕ) (k : ℕ) → IsForward (IsOrdered layout.tree assigned) (work_in trace)
-    → EachRuns (work_in trace) → (starts workers chain text others seats links other : List ℕ) → IsToldFor k starts workers chain text layout trace assigned
-    → IsToldFor k others seats links other layout trace assigned → text ≡ other
-one_text_for layout trace assigned k forward runs starts workers chain text others seats links other p q =
+one_text_for : (rule : Rule) (layout : Hierarchy) (trace : Arrivals) (assigned : List ℕ) (k : ℕ) → IsForward (IsOrdered layout.tree assigned) (work_in trace)
+    → EachRuns (work_in trace) → (starts workers chain text others seats links other : List ℕ) → IsToldFor rule k starts workers chain text layout trace assigned
+    → IsToldFor rule k others seats links other layout trace assigned → text ≡ other
+one_text_for rule layout trace assigned k forward runs starts workers chain text others seats links other p q =
     let before = IsOrdered layout.tree assigned in
     let work = work_in trace in
-    let same = list_plan_is_one before work forward runs k (start_of starts) (start_of others) p.0 q.0 in
+    let same = rule_plan_is_one before work forward runs rule k (start_of starts) (start_of others) p.0 q.0 in
     let sat = seats_are_one work (start_of starts) (start_of others) (worker_of workers) (worker_of seats) same p.1 q.1 in
     let chains = printed_is_one before work forward (start_of starts) (start_of others) chain links same p.2 q.2 in
     p.3
@@ -103,19 +105,19 @@ one_text_for layout trace assigned k forward runs starts workers chain text othe
     ∙ ap (λ c. text_of (worker_lines trace.version layout.tree assigned work k (start_of others) seats c)) chains
     ∙ sym q.3
 
-worker_text_is_one : (hierarchy_file trace_file : List ℕ) (k : ℕ) (text other : List ℕ) → IsWorkerPlanText hierarchy_file trace_file k text
-    → IsWorkerPlanText hierarchy_file trace_file k other → text ≡ other
-worker_text_is_one hierarchy_file trace_file k text other p q =
+worker_text_is_one : (rule : Rule) (hierarchy_file trace_file : List ℕ) (k : ℕ) (text other : List ℕ) → IsWorkerPlanText rule hierarchy_file trace_file k text
+    → IsWorkerPlanText rule hierarchy_file trace_file k other → text ≡ other
+worker_text_is_one rule hierarchy_file trace_file k text other p q =
     let same = same_input hierarchy_file trace_file p.layout q.layout p.trace q.trace p.assigned q.assigned p.accepts q.accepts in
-    let told = moved_back (IsToldFor k q.starts q.workers q.chain other) p.layout q.layout p.trace q.trace p.assigned q.assigned same
+    let told = moved_back (IsToldFor rule k q.starts q.workers q.chain other) p.layout q.layout p.trace q.trace p.assigned q.assigned same
     (q.bounded.list, q.seated, q.bounded.printed, q.lines) in
-    one_text_for p.layout p.trace p.assigned k (pairs_forward p.layout.tree p.assigned p.trace.messages p.accepts.assignment.count)
+    one_text_for rule p.layout p.trace p.assigned k (pairs_forward p.layout.tree p.assigned p.trace.messages p.accepts.assignment.count)
     (trace_runs p.layout trace_file p.trace p.accepts.is_trace) p.starts p.workers p.chain text q.starts q.workers q.chain other
     (p.bounded.list, p.seated, p.bounded.printed, p.lines) told
 
-pub plan_text_is_one : (hierarchy_file trace_file : List ℕ) (workers : Option ℕ) → PlanTextIsOne hierarchy_file trace_file workers
-plan_text_is_one hierarchy_file trace_file None text other p q = unlimited_text_is_one hierarchy_file trace_file text other p q
-plan_text_is_one hierarchy_file trace_file (Some k) text other p q = worker_text_is_one hierarchy_file trace_file k text other p q
+pub plan_text_is_one : (rule : Rule) (hierarchy_file trace_file : List ℕ) (workers : Option ℕ) → PlanTextIsOne rule hierarchy_file trace_file workers
+plan_text_is_one rule hierarchy_file trace_file None text other p q = unlimited_text_is_one hierarchy_file trace_file text other p q
+plan_text_is_one rule hierarchy_file trace_file (Some k) text other p q = worker_text_is_one rule hierarchy_file trace_file k text other p q
 
 -- what is told of a trace under one hierarchy
 made_of : Kind → Totals → Totals → Measured
@@ -134,7 +136,7 @@ measured_is_one layout assigned work k one other forward runs p q =
     let before = IsOrdered layout.tree assigned in
     let same = least_is_one before work (start_of p.starts) (start_of q.starts) p.certified.least q.certified.least in
     let chains = printed_is_one before work forward (start_of p.starts) (start_of q.starts) p.chain q.chain same p.certified.printed q.certified.printed in
-    let same_list = list_plan_is_one before work forward runs k (start_of p.list_starts) (start_of q.list_starts) p.bounded.list q.bounded.list in
+    let same_list = rule_plan_is_one before work forward runs Arrival k (start_of p.list_starts) (start_of q.list_starts) p.bounded.list q.bounded.list in
     let list_chains = printed_is_one before work forward (start_of p.list_starts) (start_of q.list_starts) p.list_chain q.list_chain same_list
     p.bounded.printed q.bounded.printed in
     same_measured one other (p.kind ∙ sym q.kind)

@@ -4,7 +4,7 @@ use Rattle.waff_model.specs.Layout.{Hierarchy}
 use Rattle.waff_model.specs.Messages.{Arrivals}
 use Rattle.waff_model.specs.Tree.{Node}
 use Rattle.waff_model.specs.declared.message.Message.{Message}
-use Rattle.waff_assign.specs.Order.{IsOrdered}
+use Rattle.waff_assign.specs.Order.{IsOrdered, Relation}
 use Rattle.waff_plan.specs.Obeys.{IsForward, Obeys}
 use Rattle.waff_plan.specs.Timetable.{timings_of}
 use Rattle.waff_plan.specs.Timing.{start_of, work_of}
@@ -13,7 +13,8 @@ use Rattle.waff_plan.specs.Work.{Work}
 use Rattle.waff_plan.specs.declared.timing.Timing.{Timing}
 use Rattle.waff_plan.proofs.Uniqueness.{least_is_one}
 use Rattle.waff_list.specs.Unique.{EachRuns}
-use Rattle.waff_list.proofs.Uniqueness.{list_plan_is_one}
+use Rattle.waff_list.specs.declared.rule.Rule.{Rule}
+use Rattle.waff_list.proofs.RuleLemmas.{plan_by_priority, rule_plan_is_one}
 use Rattle.waff_plan_text.specs.Lines.{text_of}
 use Rattle.waff_figures.specs.ByName.{message_names}
 use Rattle.waff_figures.specs.Waits.{AreWaits}
@@ -38,18 +39,21 @@ IsTold by_name tree assigned messages timings starts text =
     × AreRows (are_alike by_name assigned (message_names messages)) waits rows
     × (text ≡ text_of (waits_lines by_name tree assigned (message_names messages) rows))
 
-planned_obeys : (before : ℕ → ℕ → Type 0) (work : Work) (workers : Option ℕ) (start : ℕ → ℕ) → IsPlanFor before work workers start
+planned_obeys : (rule : Rule) (before : Relation) (work : Work) (workers : Option ℕ) (start : ℕ → ℕ) → IsPlanFor rule before work workers start
     → Obeys before work start
-planned_obeys before work None start planned = planned.obeys
-planned_obeys before work (Some k) start planned = planned.within.obeys
+planned_obeys rule before work None start planned = planned.obeys
+planned_obeys rule before work (Some k) start planned =
+    let by = plan_by_priority rule before work k start planned in
+    let list = by.1 in
+    list.within.obeys
 
-pub told_text : (hierarchy_file trace_file : List ℕ) (workers : Option ℕ) (by_name : Bool) (layout : Hierarchy) (trace : Arrivals) (assigned starts text : List ℕ)
+pub told_text : (rule : Rule) (hierarchy_file trace_file : List ℕ) (workers : Option ℕ) (by_name : Bool) (layout : Hierarchy) (trace : Arrivals) (assigned starts text : List ℕ)
     → Accepts hierarchy_file trace_file layout trace assigned
     → TicksAddUp (IsOrdered layout.tree assigned) (work_in trace)
-    → IsPlanFor (IsOrdered layout.tree assigned) (work_in trace) workers (start_of starts)
+    → IsPlanFor rule (IsOrdered layout.tree assigned) (work_in trace) workers (start_of starts)
     → IsTold by_name layout.tree assigned trace.messages (timings_of trace.messages) starts text
-    → IsWaitsText hierarchy_file trace_file workers by_name text
-told_text hierarchy_file trace_file workers by_name layout trace assigned starts text accepts adds planned told = record {
+    → IsWaitsText rule hierarchy_file trace_file workers by_name text
+told_text rule hierarchy_file trace_file workers by_name layout trace assigned starts text accepts adds planned told = record {
   layout = layout;
   trace = trace;
   assigned = assigned;
@@ -61,34 +65,34 @@ told_text hierarchy_file trace_file workers by_name layout trace assigned starts
   are_waits = told.2;
   are_rows = told.3;
   adds_up = adds (are_alike by_name assigned (message_names trace.messages)) (start_of starts) told.0 told.1 told.2
-      (planned_obeys (IsOrdered layout.tree assigned) (work_in trace) workers (start_of starts) planned) told.3;
+      (planned_obeys rule (IsOrdered layout.tree assigned) (work_in trace) workers (start_of starts) planned) told.3;
   lines = told.4;
 }
 
 -- the plan is one
-same_plan : (before : ℕ → ℕ → Type 0) (work : Work) → IsForward before work → EachRuns work → (workers : Option ℕ) (start other : ℕ → ℕ)
-    → IsPlanFor before work workers start → IsPlanFor before work workers other → AreSame work start other
-same_plan before work forward runs None start other p q = least_is_one before work start other p q
-same_plan before work forward runs (Some k) start other p q = list_plan_is_one before work forward runs k start other p q
+same_plan : (rule : Rule) (before : Relation) (work : Work) → IsForward before work → EachRuns work → (workers : Option ℕ) (start other : ℕ → ℕ)
+    → IsPlanFor rule before work workers start → IsPlanFor rule before work workers other → AreSame work start other
+same_plan rule before work forward runs None start other p q = least_is_one before work start other p q
+same_plan rule before work forward runs (Some k) start other p q = rule_plan_is_one before work forward runs rule k start other p q
 
 -- the parts of a text
-abbrev IsWaited : Option ℕ → Bool → List ℕ → List Wait → List Row → List ℕ → Hierarchy → Arrivals → List ℕ → Type 0
-IsWaited workers by_name starts waits rows text layout trace assigned =
-    IsPlanFor (IsOrdered layout.tree assigned) (work_in trace) workers (start_of starts)
+abbrev IsWaited : Rule → Option ℕ → Bool → List ℕ → List Wait → List Row → List ℕ → Hierarchy → Arrivals → List ℕ → Type 0
+IsWaited rule workers by_name starts waits rows text layout trace assigned =
+    IsPlanFor rule (IsOrdered layout.tree assigned) (work_in trace) workers (start_of starts)
     × AreWaits (IsOrdered layout.tree assigned) (work_in trace) (start_of starts) waits
     × AreRows (are_alike by_name assigned (message_names trace.messages)) waits rows
     × (text ≡ text_of (waits_lines by_name layout.tree assigned (message_names trace.messages) rows))
 
-pub waits_text_is_one : (hierarchy_file trace_file : List ℕ) (workers : Option ℕ) (by_name : Bool) → WaitsTextIsOne hierarchy_file trace_file workers by_name
-waits_text_is_one hierarchy_file trace_file workers by_name text other p q =
+pub waits_text_is_one : (rule : Rule) (hierarchy_file trace_file : List ℕ) (workers : Option ℕ) (by_name : Bool) → WaitsTextIsOne rule hierarchy_file trace_file workers by_name
+waits_text_is_one rule hierarchy_file trace_file workers by_name text other p q =
     let same = same_input hierarchy_file trace_file p.layout q.layout p.trace q.trace p.assigned q.assigned p.accepts q.accepts in
-    let told = moved_back (IsWaited workers by_name q.starts q.waits q.rows other) p.layout q.layout p.trace q.trace p.assigned q.assigned same
+    let told = moved_back (IsWaited rule workers by_name q.starts q.waits q.rows other) p.layout q.layout p.trace q.trace p.assigned q.assigned same
     (q.planned, q.are_waits, q.are_rows, q.lines) in
     let before = IsOrdered p.layout.tree p.assigned in
     let work = work_in p.trace in
     let names = message_names p.trace.messages in
     let forward = pairs_forward p.layout.tree p.assigned p.trace.messages p.accepts.assignment.count in
-    let plans = same_plan before work forward (trace_runs p.layout trace_file p.trace p.accepts.is_trace) workers (start_of p.starts) (start_of q.starts)
+    let plans = same_plan rule before work forward (trace_runs p.layout trace_file p.trace p.accepts.is_trace) workers (start_of p.starts) (start_of q.starts)
     p.planned told.0 in
     let rows = rows_are_one before work forward (are_alike by_name p.assigned names) (start_of p.starts) (start_of q.starts) p.waits q.waits p.rows q.rows
     (alike_laws by_name p.assigned names) plans p.are_waits told.1 p.are_rows told.2 in

@@ -15,6 +15,7 @@ use Rattle.waff_plan.specs.Timing.{start_of}
 use Rattle.waff_plan.specs.Totals.{totals_of}
 use Rattle.waff_plan.specs.Work.{Work, total_of}
 use Rattle.waff_plan.specs.declared.totals.Totals.{Totals}
+use Rattle.waff_list.specs.declared.rule.Rule.TheVariants.{Arrival}
 use Rattle.waff_inputs.specs.Inputs.{RefusesHierarchy}
 use Rattle.waff_tool.specs.Certificates.{IsBounded, IsCertified}
 use Rattle.waff_tool.specs.PlanText.{work_in}
@@ -23,16 +24,17 @@ use Rattle.waff_inputs.specs.declared.fault.ToolError.{ToolError}
 use Rattle.waff_inputs.specs.declared.fault.ToolError.TheVariants as tool
 use Rattle.waff_tool.specs.declared.measures.Measured.{Measured}
 
--- what is told of a trace under one hierarchy: of its least plan, and of its list plan for k
+-- what is told of a trace under one hierarchy: of its least plan, and of its plan by arrival for k
 -- workers, each with its printed chain
-pub record IsMeasured (layout : Hierarchy)
-    (assigned : List ℕ) (work : Work) (k : ℕ) (measured : Measured) : Type 0 where
+pub record IsMeasured (layout : Hierarchy) (assigned : List ℕ) (work : Work) (k : ℕ)
+    (measured : Measured) : Type 0 where
   pub starts : List ℕ
   pub chain : List ℕ
   pub list_starts : List ℕ
   pub list_chain : List ℕ
   pub certified : IsCertified (IsOrdered layout.tree assigned) work (start_of starts) chain
-  pub bounded : IsBounded (IsOrdered layout.tree assigned) work k (start_of list_starts) list_chain
+  pub bounded : IsBounded Arrival (IsOrdered layout.tree assigned)
+      work k (start_of list_starts) list_chain
   pub kind : measured.kind ≡ layout.kind
   pub unlimited : measured.unlimited ≡ totals_of None work (start_of starts) chain
   pub listed : measured.listed ≡ totals_of (Some k) work (start_of list_starts) list_chain

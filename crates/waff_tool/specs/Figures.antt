@@ -7,6 +7,7 @@ use Rattle.waff_assign.specs.Order.{IsOrdered}
 use Rattle.waff_plan.specs.Obeys.{IsLeast}
 use Rattle.waff_plan.specs.Timing.{start_of}
 use Rattle.waff_plan.specs.Work.{length_of}
+use Rattle.waff_list.specs.declared.rule.Rule.{Rule}
 use Rattle.waff_plan_text.specs.Lines.{text_of}
 use Rattle.waff_figures.specs.ByAffinity.{AreCostsBelow, affinities_lines}
 use Rattle.waff_figures.specs.ByName.{message_names, names_lines}
@@ -18,9 +19,10 @@ use Rattle.waff_tool.specs.Certificates.{IsCertified}
 use Rattle.waff_inputs.specs.Inputs.{Accepts}
 use Rattle.waff_tool.specs.PlanText.{work_in}
 
--- the text of a sweep: the figures of the list plan for each of these numbers of workers, none of
--- which is beaten by more than `least` allows, and those of the least plan
-pub record IsSweepText (hierarchy_file trace_file workers text : List ℕ) : Type 0 where
+-- the text of a sweep: the figures of the plan by this rule for each of these numbers of workers,
+-- none of which is beaten by more than `least` allows, and those of the least plan
+pub record IsSweepText (rule : Rule) (hierarchy_file trace_file workers text : List ℕ)
+    : Type 0 where
   pub layout : Hierarchy
   pub trace : Arrivals
   pub assigned : List ℕ
@@ -29,7 +31,7 @@ pub record IsSweepText (hierarchy_file trace_file workers text : List ℕ) : Typ
   pub unlimited : Figures
   pub accepts : Accepts hierarchy_file trace_file layout trace assigned
   pub least : IsLeast (IsOrdered layout.tree assigned) (work_in trace) (start_of starts)
-  pub are_listed : AreListed (IsOrdered layout.tree assigned)
+  pub are_listed : AreListed rule (IsOrdered layout.tree assigned)
       (work_in trace) (length_of (work_in trace) (start_of starts)) workers listed
   pub are_unlimited : AreFigures None (work_in trace)
       (length_of (work_in trace) (start_of starts)) (start_of starts) unlimited
@@ -71,11 +73,12 @@ abbrev pub IsWhereText : List ℕ → List ℕ → Bool → List ℕ → Type 0
 IsWhereText hierarchy_file trace_file false text = IsAffinitiesText hierarchy_file trace_file text
 IsWhereText hierarchy_file trace_file true text = IsNamesText hierarchy_file trace_file text
 
--- two texts of a sweep of a hierarchy and a trace for the same numbers of workers are equal
-abbrev pub SweepTextIsOne : List ℕ → List ℕ → List ℕ → Type 0
-SweepTextIsOne hierarchy_file trace_file workers =
-    (text other : List ℕ) → IsSweepText hierarchy_file trace_file workers text
-    → IsSweepText hierarchy_file trace_file workers other
+-- two texts of a sweep of a hierarchy and a trace by the same rule for the same numbers of workers
+-- are equal
+abbrev pub SweepTextIsOne : Rule → List ℕ → List ℕ → List ℕ → Type 0
+SweepTextIsOne rule hierarchy_file trace_file workers =
+    (text other : List ℕ) → IsSweepText rule hierarchy_file trace_file workers text
+    → IsSweepText rule hierarchy_file trace_file workers other
     → text ≡ other
 
 -- two texts of where the time of a hierarchy and a trace goes are equal

@@ -5,12 +5,13 @@ use Rattle.waff_model.specs.Tree.{Node}
 use Rattle.waff_assign.specs.Order.{IsOrdered}
 use Rattle.waff_plan.specs.Timetable.{timings_of}
 use Rattle.waff_plan.specs.Timing.{work_of}
-use Rattle.waff_list.specs.ListRule.{IsListPlan}
+use Rattle.waff_list.specs.ListRule.{IsListPlan, arrival}
 use Rattle.waff_list.specs.Seats.{IsInOrder}
 
--- the messages of the trace in the order of their list plan for k workers
+-- the messages of the trace in the order of their list plan by arrival for k workers
 pub record IsListOrder (tree : List Node) (assigned : List ℕ) (trace : Arrivals) (k : ℕ)
     (order : List ℕ) : Type 0 where
   pub start : ℕ → ℕ
-  pub plan : IsListPlan (IsOrdered tree assigned) (work_of (timings_of trace.messages)) k start
+  pub plan : IsListPlan (IsOrdered tree assigned) arrival
+      (work_of (timings_of trace.messages)) k start
   pub listed : IsInOrder (work_of (timings_of trace.messages)) start order

@@ -1,6 +1,7 @@
 -- The plans that are printed pass the check, whoever made them.
 use Rattle.std.specs.Prelude.{ℕ, ◌⊎◌, List}
 use Rattle.waff_plan.specs.Bound.{IsWorkers}
+use Rattle.waff_list.specs.declared.rule.Rule.{Rule}
 use Rattle.waff_check.specs.declared.verdict.Verdict.TheVariants as verdict
 use Rattle.waff_tool.specs.CheckText.{IsCheckText}
 use Rattle.waff_tool.specs.PlanText.{IsPlanText, IsWorkerPlanText}
@@ -11,9 +12,9 @@ OwnPlanPasses hierarchy_file trace_file text =
     IsPlanText hierarchy_file trace_file text
     → IsCheckText hierarchy_file trace_file text verdict.Shortest
 
--- the text of a plan for k workers is read, and found shortest or within the bound
-abbrev pub OwnWorkerPlanPasses : List ℕ → List ℕ → ℕ → List ℕ → Type 0
-OwnWorkerPlanPasses hierarchy_file trace_file k text =
-    IsWorkers k → IsWorkerPlanText hierarchy_file trace_file k text
+-- the text of a plan by a rule for k workers is read, and found shortest or within the bound
+abbrev pub OwnWorkerPlanPasses : Rule → List ℕ → List ℕ → ℕ → List ℕ → Type 0
+OwnWorkerPlanPasses rule hierarchy_file trace_file k text =
+    IsWorkers k → IsWorkerPlanText rule hierarchy_file trace_file k text
     → IsCheckText hierarchy_file trace_file text verdict.Shortest
     ⊎ IsCheckText hierarchy_file trace_file text verdict.WithinBound

@@ -8,6 +8,7 @@ use Rattle.waff_plan.specs.Timing.{work_of, start_of}
 use Rattle.waff_plan.specs.Work.{Work, IsNumber}
 use Rattle.waff_list.specs.Seating.{worker_of}
 use Rattle.waff_list.specs.Seats.{IsSeated}
+use Rattle.waff_list.specs.declared.rule.Rule.{Rule}
 use Rattle.waff_plan_text.specs.Lines.{text_of}
 use Rattle.waff_inputs.specs.Inputs.{Accepts}
 use Rattle.waff_tool.specs.Certificates.{IsBounded, IsCertified}
@@ -31,10 +32,10 @@ pub record IsPlanText (hierarchy_file trace_file text : List ℕ) : Type 0 where
   pub lines : text ≡ text_of
       (unlimited_lines trace.version layout.tree assigned (work_in trace) (start_of starts) chain)
 
--- the text of the list plan of a hierarchy and a trace for k workers, with the chain that bounds
--- its length
-pub record IsWorkerPlanText (hierarchy_file trace_file : List ℕ)
-    (k : ℕ) (text : List ℕ) : Type 0 where
+-- the text of the plan by this rule of a hierarchy and a trace for k workers, with the chain that
+-- bounds its length
+pub record IsWorkerPlanText (rule : Rule) (hierarchy_file trace_file : List ℕ) (k : ℕ)
+    (text : List ℕ) : Type 0 where
   pub layout : Hierarchy
   pub trace : Arrivals
   pub assigned : List ℕ
@@ -42,15 +43,17 @@ pub record IsWorkerPlanText (hierarchy_file trace_file : List ℕ)
   pub workers : List ℕ
   pub chain : List ℕ
   pub accepts : Accepts hierarchy_file trace_file layout trace assigned
-  pub bounded : IsBounded (IsOrdered layout.tree assigned) (work_in trace) k (start_of starts) chain
+  pub bounded : IsBounded rule (IsOrdered layout.tree assigned)
+      (work_in trace) k (start_of starts) chain
   pub seated : (m : ℕ) → IsNumber (work_in trace) m
       → IsSeated (work_in trace) (start_of starts) (worker_of workers) m
   pub lines : text ≡ text_of
       (worker_lines trace.version layout.tree assigned
       (work_in trace) k (start_of starts) workers chain)
 
--- the text of the plan for this number of workers, or of the least plan where there is no number
-abbrev pub IsPlanTextFor : List ℕ → List ℕ → Option ℕ → List ℕ → Type 0
-IsPlanTextFor hierarchy_file trace_file None text = IsPlanText hierarchy_file trace_file text
-IsPlanTextFor hierarchy_file trace_file (Some k) text =
-    IsWorkerPlanText hierarchy_file trace_file k text
+-- the text of the plan by this rule for this number of workers, or of the least plan, whatever the
+-- rule, where there is no number
+abbrev pub IsPlanTextFor : Rule → List ℕ → List ℕ → Option ℕ → List ℕ → Type 0
+IsPlanTextFor rule hierarchy_file trace_file None text = IsPlanText hierarchy_file trace_file text
+IsPlanTextFor rule hierarchy_file trace_file (Some k) text =
+    IsWorkerPlanText rule hierarchy_file trace_file k text

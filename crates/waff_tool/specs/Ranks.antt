@@ -12,9 +12,9 @@ use Rattle.waff_assign.specs.Order.{IsOrdered}
 use Rattle.waff_plan.specs.Obeys.{IsLeast}
 use Rattle.waff_plan.specs.Timing.{start_of}
 use Rattle.waff_plan.specs.Work.{length_of}
+use Rattle.waff_list.specs.declared.rule.Rule.{Rule}
 use Rattle.waff_plan_text.specs.Lines.{text_of}
 use Rattle.waff_figures.specs.Sweep.{IsListed, quality_fields}
-use Rattle.waff_figures.specs.declared.figures.Figures.{Figures}
 use Rattle.waff_inputs.specs.Inputs.{Accepts, TellsOfFiles}
 use Rattle.waff_inputs.specs.declared.fault.ToolError.{ToolError}
 use Rattle.waff_inputs.specs.declared.fault.ToolError.TheVariants as tool
@@ -24,25 +24,26 @@ use Rattle.waff_tool.specs.PlanText.{work_in}
 use Rattle.waff_tool.specs.declared.ranks.Ranked.{Ranked}
 
 -- what is told of a trace under a hierarchy: its model, how many affinities it has, how long its
--- least plan is, and the figures of the list plan for k workers
-pub record IsRankedUnder (layout : Hierarchy) (trace : Arrivals) (assigned : List ℕ) (k : ℕ)
-    (ranked : Ranked) : Type 0 where
+-- least plan is, and the figures of the plan by this rule for k workers
+pub record IsRankedUnder (rule : Rule) (layout : Hierarchy) (trace : Arrivals) (assigned : List ℕ)
+    (k : ℕ) (ranked : Ranked) : Type 0 where
   pub starts : List ℕ
   pub kind : ranked.kind ≡ layout.kind
   pub affinities : ranked.affinities ≡ length layout.tree
   pub least : IsLeast (IsOrdered layout.tree assigned) (work_in trace) (start_of starts)
   pub shortest : ranked.length ≡ length_of (work_in trace) (start_of starts)
-  pub listed : IsListed (IsOrdered layout.tree assigned) (work_in trace) ranked.length ranked.listed
+  pub listed : IsListed rule (IsOrdered layout.tree assigned)
+      (work_in trace) ranked.length ranked.listed
   pub workers : ranked.listed.workers ≡ Some k
 
 -- what is told of the bytes of a trace under those of a hierarchy
-pub record IsRanked (trace_file : List ℕ) (k : ℕ) (hierarchy_file : List ℕ)
+pub record IsRanked (rule : Rule) (trace_file : List ℕ) (k : ℕ) (hierarchy_file : List ℕ)
     (ranked : Ranked) : Type 0 where
   pub layout : Hierarchy
   pub trace : Arrivals
   pub assigned : List ℕ
   pub accepts : Accepts hierarchy_file trace_file layout trace assigned
-  pub under : IsRankedUnder layout trace assigned k ranked
+  pub under : IsRankedUnder rule layout trace assigned k ranked
 
 abbrev pub rank_header : List (List ℕ)
 rank_header =
@@ -66,10 +67,10 @@ rank_rows number [] = []
 rank_rows number (ranked ∷ more) = rank_row number ranked ∷ rank_rows (number + 1) more
 
 -- the text of the hierarchies of these files, in their order, that serve a trace
-pub record IsRankText (files : List (List ℕ)) (trace_file : List ℕ) (k : ℕ)
+pub record IsRankText (rule : Rule) (files : List (List ℕ)) (trace_file : List ℕ) (k : ℕ)
     (text : List ℕ) : Type 0 where
   pub ranks : List Ranked
-  pub each : AllZip (IsRanked trace_file k) files ranks
+  pub each : AllZip (IsRanked rule trace_file k) files ranks
   pub lines : text ≡ text_of (rank_header ∷ rank_rows 1 ranks)
 
 -- files that are these hierarchies
@@ -123,11 +124,11 @@ RefusesRank files trace_file tool.Write = Unit {0}
 RefusesRank files trace_file tool.Memory = Unit {0}
 RefusesRank files trace_file error = ⊥
 
--- two texts of the same hierarchies and trace are equal
-abbrev pub RankTextIsOne : List (List ℕ) → List ℕ → ℕ → Type 0
-RankTextIsOne files trace_file k =
-    (text other : List ℕ) → IsRankText files trace_file k text
-    → IsRankText files trace_file k other → text ≡ other
+-- two texts of the same hierarchies and trace by the same rule are equal
+abbrev pub RankTextIsOne : Rule → List (List ℕ) → List ℕ → ℕ → Type 0
+RankTextIsOne rule files trace_file k =
+    (text other : List ℕ) → IsRankText rule files trace_file k text
+    → IsRankText rule files trace_file k other → text ≡ other
 
 -- two errors that tell why hierarchies and a trace are refused are equal
 abbrev pub RankRefusalIsOne : List (List ℕ) → List ℕ → Type 0
@@ -136,14 +137,14 @@ RankRefusalIsOne files trace_file =
     → RefusesRank files trace_file one → RefusesRank files trace_file other → one ≡ other
 
 -- files that have a text are refused for no error that tells of them
-abbrev pub RankedIsNotRefused : List (List ℕ) → List ℕ → Type 0
-RankedIsNotRefused files trace_file =
-    (k : ℕ) (text : List ℕ) (error : ToolError) → IsRankText files trace_file k text
+abbrev pub RankedIsNotRefused : Rule → List (List ℕ) → List ℕ → Type 0
+RankedIsNotRefused rule files trace_file =
+    (k : ℕ) (text : List ℕ) (error : ToolError) → IsRankText rule files trace_file k text
     → TellsOfFiles error → ¬ RefusesRank files trace_file error
 
--- the figures of a hierarchy are those that a sweep for as many workers tells of it
-abbrev pub IsRankedAsSwept : List ℕ → List ℕ → Type 0
-IsRankedAsSwept hierarchy_file trace_file =
-    (k : ℕ) (ranked : Ranked) (text : List ℕ) → IsRanked trace_file k hierarchy_file ranked
-    → (swept : IsSweepText hierarchy_file trace_file (k ∷ []) text)
+-- the figures of a hierarchy are those that a sweep for as many workers by the same rule tells of it
+abbrev pub IsRankedAsSwept : Rule → List ℕ → List ℕ → Type 0
+IsRankedAsSwept rule hierarchy_file trace_file =
+    (k : ℕ) (ranked : Ranked) (text : List ℕ) → IsRanked rule trace_file k hierarchy_file ranked
+    → (swept : IsSweepText rule hierarchy_file trace_file (k ∷ []) text)
     → swept.listed ≡ ranked.listed ∷ []

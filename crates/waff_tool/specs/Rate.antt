@@ -5,6 +5,7 @@ use Rattle.waff_plan.specs.Bound.{IsWorkers}
 use Rattle.waff_plan.specs.Obeys.{IsLeast}
 use Rattle.waff_plan.specs.Timing.{start_of}
 use Rattle.waff_plan.specs.Work.{Work, length_of}
+use Rattle.waff_list.specs.declared.rule.Rule.{Rule}
 use Rattle.waff_plan_text.specs.Lines.{text_of}
 use Rattle.waff_check.specs.Verdicts.{starts_of}
 use Rattle.waff_check.specs.declared.verdict.Verdict.{Verdict}
@@ -50,20 +51,21 @@ RatedIsChecked hierarchy_file trace_file plan_file =
     → IsRateText hierarchy_file trace_file plan_file one text
     → IsCheckText hierarchy_file trace_file plan_file other → one ≡ other
 
--- of the text of a plan without workers the figures are those of the last line of a sweep
-abbrev pub OwnPlanIsSwept : List ℕ → List ℕ → Type 0
-OwnPlanIsSwept hierarchy_file trace_file =
+-- of the text of a plan without workers the figures are those of the last line of a sweep, whatever
+-- its rule
+abbrev pub OwnPlanIsSwept : Rule → List ℕ → List ℕ → Type 0
+OwnPlanIsSwept rule hierarchy_file trace_file =
     (plan_file workers text sweep : List ℕ) (v : Verdict)
     → IsPlanText hierarchy_file trace_file plan_file
     → (rate : IsRateText hierarchy_file trace_file plan_file v text)
-    → (swept : IsSweepText hierarchy_file trace_file workers sweep)
+    → (swept : IsSweepText rule hierarchy_file trace_file workers sweep)
     → rate.figures ≡ swept.unlimited
 
--- of the text of a plan for k workers they are those of a line of a sweep
-abbrev pub OwnWorkerPlanIsSwept : List ℕ → List ℕ → Type 0
-OwnWorkerPlanIsSwept hierarchy_file trace_file =
+-- of the text of a plan for k workers they are those of a line of a sweep by the same rule
+abbrev pub OwnWorkerPlanIsSwept : Rule → List ℕ → List ℕ → Type 0
+OwnWorkerPlanIsSwept rule hierarchy_file trace_file =
     (k : ℕ) (plan_file workers text sweep : List ℕ) (v : Verdict) → IsWorkers k
-    → Contains workers k → IsWorkerPlanText hierarchy_file trace_file k plan_file
+    → Contains workers k → IsWorkerPlanText rule hierarchy_file trace_file k plan_file
     → (rate : IsRateText hierarchy_file trace_file plan_file v text)
-    → (swept : IsSweepText hierarchy_file trace_file workers sweep)
+    → (swept : IsSweepText rule hierarchy_file trace_file workers sweep)
     → Contains swept.listed rate.figures

@@ -1,6 +1,7 @@
 -- One text, one verdict or one fault for each input: of the same bytes every command has one text,
 -- and files are refused for one error.
 use Rattle.std.specs.Prelude.{◌≡◌, ℕ, List, Option}
+use Rattle.waff_list.specs.declared.rule.Rule.{Rule}
 use Rattle.waff_inputs.specs.Inputs.{TellsOfFiles}
 use Rattle.waff_inputs.specs.declared.fault.ToolError.{ToolError}
 use Rattle.waff_tool.specs.AssignText.{IsAssignText}
@@ -19,11 +20,12 @@ AssignTextIsOne hierarchy_file trace_file =
     → IsAssignText hierarchy_file trace_file other
     → text ≡ other
 
--- two texts of the plan of a hierarchy and a trace are equal, for a number of workers or without
-abbrev pub PlanTextIsOne : List ℕ → List ℕ → Option ℕ → Type 0
-PlanTextIsOne hierarchy_file trace_file workers =
-    (text other : List ℕ) → IsPlanTextFor hierarchy_file trace_file workers text
-    → IsPlanTextFor hierarchy_file trace_file workers other → text ≡ other
+-- two texts of the plan of a hierarchy and a trace by the same rule are equal, for a number of
+-- workers or without
+abbrev pub PlanTextIsOne : Rule → List ℕ → List ℕ → Option ℕ → Type 0
+PlanTextIsOne rule hierarchy_file trace_file workers =
+    (text other : List ℕ) → IsPlanTextFor rule hierarchy_file trace_file workers text
+    → IsPlanTextFor rule hierarchy_file trace_file workers other → text ≡ other
 
 -- two texts of the comparison of two hierarchies on a trace are equal
 abbrev pub CompareTextIsOne : List ℕ → List ℕ → List ℕ → ℕ → Type 0

@@ -6,7 +6,8 @@ use Rattle.waff_assign.specs.Order.{IsOrdered, Relation}
 use Rattle.waff_plan.specs.Obeys.{IsLeast}
 use Rattle.waff_plan.specs.Timing.{start_of}
 use Rattle.waff_plan.specs.Work.{Work}
-use Rattle.waff_list.specs.ListRule.{IsListPlan}
+use Rattle.waff_list.specs.Rules.{IsPlanBy}
+use Rattle.waff_list.specs.declared.rule.Rule.{Rule}
 use Rattle.waff_plan_text.specs.Lines.{text_of}
 use Rattle.waff_figures.specs.ByName.{message_names}
 use Rattle.waff_figures.specs.Figures.{waits_of}
@@ -18,15 +19,17 @@ use Rattle.waff_figures.specs.declared.waits.Wait.{Wait}
 use Rattle.waff_inputs.specs.Inputs.{Accepts}
 use Rattle.waff_tool.specs.PlanText.{work_in}
 
--- the list plan for this number of workers, or the least plan where there is no number
-abbrev pub IsPlanFor : Relation → Work → Option ℕ → (ℕ → ℕ) → Type 0
-IsPlanFor before work None start = IsLeast before work start
-IsPlanFor before work (Some k) start = IsListPlan before work k start
+-- the plan by this rule for this number of workers, or the least plan, whatever the rule, where there
+-- is no number
+abbrev pub IsPlanFor : Rule → Relation → Work → Option ℕ → (ℕ → ℕ) → Type 0
+IsPlanFor rule before work None start = IsLeast before work start
+IsPlanFor rule before work (Some k) start = IsPlanBy rule before work k start
 
--- the text of who waits for whom in the plan for this number of workers or without: a line for each
--- kind of wait, by affinity or by name, whose ticks add up to how long all messages wait
-pub record IsWaitsText (hierarchy_file trace_file : List ℕ) (workers : Option ℕ) (by_name : Bool)
-    (text : List ℕ) : Type 0 where
+-- the text of who waits for whom in the plan by this rule for this number of workers or without: a
+-- line for each kind of wait, by affinity or by name, whose ticks add up to how long all messages
+-- wait
+pub record IsWaitsText (rule : Rule) (hierarchy_file trace_file : List ℕ) (workers : Option ℕ)
+    (by_name : Bool) (text : List ℕ) : Type 0 where
   pub layout : Hierarchy
   pub trace : Arrivals
   pub assigned : List ℕ
@@ -34,7 +37,7 @@ pub record IsWaitsText (hierarchy_file trace_file : List ℕ) (workers : Option 
   pub waits : List Wait
   pub rows : List Row
   pub accepts : Accepts hierarchy_file trace_file layout trace assigned
-  pub planned : IsPlanFor (IsOrdered layout.tree assigned)
+  pub planned : IsPlanFor rule (IsOrdered layout.tree assigned)
       (work_in trace) workers (start_of starts)
   pub are_waits : AreWaits (IsOrdered layout.tree assigned)
       (work_in trace) (start_of starts) waits
@@ -44,7 +47,7 @@ pub record IsWaitsText (hierarchy_file trace_file : List ℕ) (workers : Option 
       (waits_lines by_name layout.tree assigned (message_names trace.messages) rows)
 
 -- two texts of who waits for whom are equal
-abbrev pub WaitsTextIsOne : List ℕ → List ℕ → Option ℕ → Bool → Type 0
-WaitsTextIsOne hierarchy_file trace_file workers by_name =
-    (text other : List ℕ) → IsWaitsText hierarchy_file trace_file workers by_name text
-    → IsWaitsText hierarchy_file trace_file workers by_name other → text ≡ other
+abbrev pub WaitsTextIsOne : Rule → List ℕ → List ℕ → Option ℕ → Bool → Type 0
+WaitsTextIsOne rule hierarchy_file trace_file workers by_name =
+    (text other : List ℕ) → IsWaitsText rule hierarchy_file trace_file workers by_name text
+    → IsWaitsText rule hierarchy_file trace_file workers by_name other → text ≡ other

@@ -1,9 +1,10 @@
 //! The command that compares two hierarchies on one trace.
-ghost use Rattle.std.specs.Prelude.{◌≡◌, ◌≢◌, ◌≤◌, Ok, ℕ, List, IfOk, IfErr, IsErrOf, OnOk};
+ghost use Rattle.std.specs.Prelude.{◌≡◌, ◌≢◌, Ok, ℕ, List, IfOk, IfErr, IsErrOf, OnOk};
 ghost use Rattle.std.specs.Prelude.{string_bytes};
 ghost use Rattle.std.specs.Io.KnownBytes.{Appends, Keeps};
 ghost use Rattle.waff_model.specs.Layout.{SameSpaces};
 ghost use Rattle.waff_model.specs.Messages.{sizes_of};
+ghost use Rattle.waff_plan.specs.Bound.{IsWorkers};
 ghost use Rattle.waff_read.specs.Hierarchies.{hierarchy_of};
 ghost use Rattle.waff_tool.specs.Comparison.{AreHierarchies, AreModels, IsCompared, IsCompareText};
 ghost use Rattle.waff_tool.specs.Comparison.{RefusesComparison};
@@ -15,7 +16,6 @@ use std::alloc::{AllocError, Global};
 use std::io::Write;
 use waff_assign::assign;
 use waff_inputs::{ToolError, deliver, read_numbered};
-use waff_model::limits::MAX_WORKERS;
 use waff_model::{Kind, Layout, Trace};
 use waff_order::refines;
 use waff_plan::laws::refined_is_no_longer;
@@ -32,8 +32,7 @@ pub fn compare_text<W: Write>(
     workers: u32,
     writer: &mut W,
 ) -> Result<(), ToolError>
-    requires some { 1 ≤ workers }
-    requires few { workers ≤ MAX_WORKERS }
+    requires workers { IsWorkers workers }
     ensures { Delivers (λ _ text. IsCompareText first.now second.now trace.now workers text)
         (RefusesComparison first.now second.now trace.now) (W.contents writer.old) (W.contents writer.new) result }
 {
@@ -50,8 +49,7 @@ fn made_compare_text(
     trace: &[u8],
     workers: u32,
 ) -> Result<String, ToolError>
-    requires some { 1 ≤ workers }
-    requires few { workers ≤ MAX_WORKERS }
+    requires workers { IsWorkers workers }
     ensures { Makes (λ text. IsCompareText first.now second.now trace.now workers (string_bytes text))
         (RefusesComparison first.now second.now trace.now) result }
 {
@@ -69,8 +67,7 @@ fn text_with_second(
     trace: &[u8],
     k: u32,
 ) -> Result<String, ToolError>
-    requires some { 1 ≤ k }
-    requires few { k ≤ MAX_WORKERS }
+    requires workers { IsWorkers k }
     ensures made { IfOk result (λ text. (first_file : List ℕ)
         → hierarchy_of first_file ≡ Ok first.now
         → IsCompareText first_file second.now trace.now k (string_bytes text)) }
@@ -94,8 +91,7 @@ fn either_text(
     trace: &[u8],
     k: u32,
 ) -> Result<String, ToolError>
-    requires some { 1 ≤ k }
-    requires few { k ≤ MAX_WORKERS }
+    requires workers { IsWorkers k }
     ensures made { IfOk result (λ text. (first_file second_file : List ℕ)
         → AreHierarchies first_file second_file first.now second.now
         → IsCompareText first_file second_file trace.now k (string_bytes text)) }
@@ -124,8 +120,7 @@ fn models_text(
     k: u32,
 ) -> Result<String, ToolError>
     requires same_spaces { SameSpaces classical.now.spaces hierarchical.now.spaces }
-    requires some { 1 ≤ k }
-    requires few { k ≤ MAX_WORKERS }
+    requires workers { IsWorkers k }
     ensures made { IfOk result (λ text. (first_file second_file : List ℕ)
         → AreModels first_file second_file classical.now hierarchical.now
         → IsCompareText first_file second_file trace.now k (string_bytes text)) }
@@ -150,8 +145,7 @@ fn compared_text(
 ) -> Result<String, AllocError>
     requires fits { trace.now.sizes ≡ sizes_of classical.now.spaces }
     requires same_spaces { SameSpaces classical.now.spaces hierarchical.now.spaces }
-    requires some { 1 ≤ k }
-    requires few { k ≤ MAX_WORKERS }
+    requires workers { IsWorkers k }
     ensures { IfOk result (λ text.
         IsCompared classical.now hierarchical.now trace.now k (string_bytes text)) }
 {

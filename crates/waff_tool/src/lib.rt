@@ -6,7 +6,8 @@
 //! has taken a prefix of it. A plan is told with its printed chain as its *certificate*.
 //! - `assigns` (assign), `plans` (plan), `comparison` (compare, over `measures`), `sweeps` (sweep),
 //!   `wheres` (where), `waits` (waits), `ranks` (rank): commands that tell of a trace under
-//!   hierarchies.
+//!   hierarchies. Plans for k workers are by a rule, which `plans`, `sweeps`, `waits` and `ranks`
+//!   are told; the others have those by arrival.
 //! - `checks` (check, over `verdict_line`), `rates` (rate), `draws` (draw): a plan that is handed in,
 //!   tried; `replays` (replay, over `state_text`): the state that threads leave.
 //! - `explains` (explain): the fault or the verdict that the others find, in words.
@@ -38,7 +39,7 @@ pub use checks::{check_text, verdict_status};
 pub use comparison::compare_text;
 pub use draws::{Picture, draw_text};
 pub use explains::{Explained, explain_text, explained_status};
-pub use plans::plan_text;
+pub use plans::{plan_text, plan_text_by};
 pub use ranks::{MAX_RANKED, rank_text};
 pub use rates::rate_text;
 pub use replays::replay_text;
@@ -47,5 +48,6 @@ pub use waff_draw::Part;
 pub use waff_figures::sweep_workers;
 pub use waff_inputs::{ToolError, fault_status, fault_text};
 pub use waff_io::{ReadFault, read_whole, split_input};
+pub use waff_list::Rule;
 pub use waits::waits_text;
 pub use wheres::where_text;

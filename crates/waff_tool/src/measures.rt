@@ -1,8 +1,9 @@
 //! What is told of a trace under one hierarchy, and the text that tells it of two.
-ghost use Rattle.std.specs.Prelude.{◌≡◌, ◌<◌, ◌≤◌, [], ◌∷◌, ◌++◌, ℕ, All, IfOk, List, None, OnOk};
+ghost use Rattle.std.specs.Prelude.{◌≡◌, ◌<◌, [], ◌∷◌, ◌++◌, ℕ, All, IfOk, List, None, OnOk};
 ghost use Rattle.std.specs.Prelude.{Some, decimal, length, string_bytes};
 ghost use Rattle.waff_model.specs.declared.message.Version.TheVariants.{V1, V2};
 ghost use Rattle.waff_assign.specs.Order.{IsOrdered};
+ghost use Rattle.waff_plan.specs.Bound.{IsWorkers};
 ghost use Rattle.waff_plan.specs.Timetable.{timings_of};
 ghost use Rattle.waff_plan.specs.Timing.{start_of, work_of};
 ghost use Rattle.waff_plan.specs.Totals.{totals_of};
@@ -14,8 +15,7 @@ ghost use Rattle.waff_tool.specs.Comparison.{measures_header, plan_fields};
 use std::alloc::{AllocError, Global};
 use waff_assign::Assigned;
 use waff_list::laws::needs_make_the_same_plans;
-use waff_list::{list_chain, list_plan};
-use waff_model::limits::MAX_WORKERS;
+use waff_list::{Rule, list_chain, list_plan};
 use waff_model::{Kind, Layout, Trace, Version};
 use waff_order::predecessors::needs;
 use waff_plan::Totals;
@@ -40,8 +40,7 @@ pub fn measure(
 ) -> Result<Measured, AllocError>
     requires lengths { length assigned.now ≡ length trace.now.messages }
     requires known { All (λ a. a < length layout.now.tree) assigned.now }
-    requires some { 1 ≤ k }
-    requires few { k ≤ MAX_WORKERS }
+    requires workers { IsWorkers k }
     ensures { IfOk result
         (IsMeasured layout.now assigned.now (work_of (timings_of trace.now.messages)) k) }
 {
@@ -88,10 +87,9 @@ fn list_totals(
 ) -> Result<Totals, AllocError>
     requires lengths { length assigned.now ≡ length trace.now.messages }
     requires known { All (λ a. a < length layout.now.tree) assigned.now }
-    requires some { 1 ≤ k }
-    requires few { k ≤ MAX_WORKERS }
+    requires workers { IsWorkers k }
     ensures { IfOk result (λ totals. (starts : List ℕ) × (chain : List ℕ)
-        × IsBounded (IsOrdered layout.now.tree assigned.now)
+        × IsBounded Rule.Arrival (IsOrdered layout.now.tree assigned.now)
         (work_of (timings_of trace.now.messages)) k (start_of starts) chain
         × (totals ≡ totals_of (Some k) (work_of (timings_of trace.now.messages))
         (start_of starts) chain)) }

@@ -1,8 +1,9 @@
 //! The command `plan`: for a number of workers, or with no limit on them.
-ghost use Rattle.std.specs.Prelude.{◌≡◌, ◌≢◌, ◌<◌, ◌≤◌, ℕ, All, List, IfOk, IfErr, IsErrOf, IfSome};
+ghost use Rattle.std.specs.Prelude.{◌≡◌, ◌≢◌, ◌<◌, ℕ, All, List, IfOk, IfErr, IsErrOf, IfSome};
 ghost use Rattle.std.specs.Prelude.{OnOk, length, string_bytes};
 ghost use Rattle.std.specs.Io.KnownBytes.{Appends, Keeps};
 ghost use Rattle.waff_io.specs.Writing.{AppendsPart};
+ghost use Rattle.waff_plan.specs.Bound.{IsWorkers};
 ghost use Rattle.waff_inputs.specs.Deliveries.{Delivers, Makes};
 ghost use Rattle.waff_inputs.specs.Inputs.{Accepts, Refuses};
 ghost use Rattle.waff_tool.specs.PlanText.{IsPlanText, IsPlanTextFor, IsWorkerPlanText};
@@ -11,15 +12,15 @@ use std::alloc::{AllocError, Global};
 use std::io::Write;
 use waff_inputs::{Accepted, ToolError, accept, deliver};
 use waff_list::laws::needs_make_the_same_plans;
-use waff_list::{list_chain, list_plan};
-use waff_model::limits::MAX_WORKERS;
+use waff_list::{Rule, list_chain, list_plan_by};
 use waff_order::predecessors::needs;
 use waff_plan::printed::chain;
 use waff_plan::unlimited::plan;
 use waff_plan_text::{unlimited_text, worker_text};
 
 /// Writes the plan of the trace under the hierarchy for this number of workers, or with no limit on
-/// them where there is no number. Nothing is written before the whole text is made.
+/// them where there is no number. A worker that is free takes the message that arrived first.
+/// Nothing is written before the whole text is made.
 pub fn plan_text<W: Write>(
     alloc: Global,
     hierarchy: &[u8],
@@ -27,12 +28,32 @@ pub fn plan_text<W: Write>(
     workers: Option<u32>,
     writer: &mut W,
 ) -> Result<(), ToolError>
-    requires some { IfSome workers (λ k. 1 ≤ k) }
-    requires few { IfSome workers (λ k. k ≤ MAX_WORKERS) }
-    ensures { Delivers (λ _ text. IsPlanTextFor hierarchy.now trace.now workers text)
+    requires workers { IfSome workers IsWorkers }
+    ensures { Delivers (λ _ text.
+        IsPlanTextFor Rule.Arrival hierarchy.now trace.now workers text)
         (Refuses hierarchy.now trace.now) (W.contents writer.old) (W.contents writer.new) result }
 {
-    deliver(writer, made_plan_text(alloc, hierarchy, trace, workers))
+    plan_text_by(alloc, hierarchy, trace, workers, Rule::Arrival, writer)
+}
+
+/// Writes the plan by this rule. Without a number of workers each message starts as early as it
+/// can, whatever the rule.
+pub fn plan_text_by<W: Write>(
+    alloc: Global,
+    hierarchy: &[u8],
+    trace: &[u8],
+    workers: Option<u32>,
+    rule: Rule,
+    writer: &mut W,
+) -> Result<(), ToolError>
+    requires workers { IfSome workers IsWorkers }
+    ensures { Delivers (λ _ text. IsPlanTextFor rule hierarchy.now trace.now workers text)
+        (Refuses hierarchy.now trace.now) (W.contents writer.old) (W.contents writer.new) result }
+{
+    deliver(
+        writer,
+        made_plan_text(alloc, hierarchy, trace, workers, rule),
+    )
 }
 
 fn made_plan_text(
@@ -40,14 +61,14 @@ fn made_plan_text(
     hierarchy: &[u8],
     trace: &[u8],
     workers: Option<u32>,
+    rule: Rule,
 ) -> Result<String, ToolError>
-    requires some { IfSome workers (λ k. 1 ≤ k) }
-    requires few { IfSome workers (λ k. k ≤ MAX_WORKERS) }
-    ensures { Makes (λ text. IsPlanTextFor hierarchy.now trace.now workers (string_bytes text))
+    requires workers { IfSome workers IsWorkers }
+    ensures { Makes (λ text. IsPlanTextFor rule hierarchy.now trace.now workers (string_bytes text))
         (Refuses hierarchy.now trace.now) result }
 {
     let accepted = accept(alloc, hierarchy, trace)?;
-    let text = planned_text(alloc, &accepted, workers).map_err(ToolError::from);
+    let text = planned_text(alloc, &accepted, workers, rule).map_err(ToolError::from);
     drop(accepted);
     text
 }
@@ -57,16 +78,16 @@ fn planned_text(
     alloc: Global,
     accepted: &Accepted,
     workers: Option<u32>,
+    rule: Rule,
 ) -> Result<String, AllocError>
-    requires some { IfSome workers (λ k. 1 ≤ k) }
-    requires few { IfSome workers (λ k. k ≤ MAX_WORKERS) }
+    requires workers { IfSome workers IsWorkers }
     ensures { IfOk result (λ text. (hierarchy trace : List ℕ)
         → Accepts hierarchy trace accepted.now.layout accepted.now.trace accepted.now.assigned
-        → IsPlanTextFor hierarchy trace workers (string_bytes text)) }
+        → IsPlanTextFor rule hierarchy trace workers (string_bytes text)) }
 {
     match workers {
         None => made_unlimited_text(alloc, accepted),
-        Some(k) => made_worker_text(alloc, accepted, k),
+        Some(k) => made_worker_text(alloc, accepted, k, rule),
     }
 }
 
@@ -93,17 +114,21 @@ fn made_unlimited_text(alloc: Global, accepted: &Accepted) -> Result<String, All
     text
 }
 
-/// The text of the list plan for k workers.
-fn made_worker_text(alloc: Global, accepted: &Accepted, k: u32) -> Result<String, AllocError>
-    requires some { 1 ≤ k }
-    requires few { k ≤ MAX_WORKERS }
+/// The text of the list plan by this rule for k workers.
+fn made_worker_text(
+    alloc: Global,
+    accepted: &Accepted,
+    k: u32,
+    rule: Rule,
+) -> Result<String, AllocError>
+    requires workers { IsWorkers k }
     ensures { IfOk result (λ text. (hierarchy trace : List ℕ)
         → Accepts hierarchy trace accepted.now.layout accepted.now.trace accepted.now.assigned
-        → IsWorkerPlanText hierarchy trace k (string_bytes text)) }
+        → IsWorkerPlanText rule hierarchy trace k (string_bytes text)) }
 {
     let tree = accepted.layout.tree();
     let needs = needs(alloc, tree, &accepted.assigned)?;
-    let made = list_plan(alloc, &needs, &accepted.trace, k)?;
+    let made = list_plan_by(alloc, &needs, &accepted.trace, rule, k)?;
     drop(needs);
     let chain = list_chain(alloc, tree, &accepted.assigned, &made)?;
     let version = accepted.trace.version();

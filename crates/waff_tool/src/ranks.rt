@@ -6,6 +6,7 @@ ghost use Rattle.std.specs.Io.KnownBytes.{Appends, Keeps};
 ghost use Rattle.waff_model.specs.Messages.{sizes_of};
 ghost use Rattle.waff_read.specs.Hierarchies.{hierarchy_of};
 ghost use Rattle.waff_assign.specs.Lowest.{IsAssignment};
+ghost use Rattle.waff_plan.specs.Bound.{IsWorkers};
 ghost use Rattle.waff_plan_text.specs.Lines.{line_text, text_of};
 ghost use Rattle.waff_inputs.specs.Deliveries.{Delivers, Makes};
 ghost use Rattle.waff_inputs.specs.Inputs.{Refuses};
@@ -22,7 +23,7 @@ use std::io::Write;
 use waff_assign::{Assigned, assign};
 use waff_figures::{Figures, QualityFields, list_figures_for};
 use waff_inputs::{ToolError, deliver, read_numbered};
-use waff_model::limits::MAX_WORKERS;
+use waff_list::Rule;
 use waff_model::{Kind, Layout, Trace};
 use waff_plan::unlimited::plan;
 use waff_read::read_trace;
@@ -42,24 +43,27 @@ pub struct Ranked {
     pub listed: Figures,
 }
 
-/// Writes what the trace comes to under each of these hierarchies, for this number of workers.
-/// Nothing is written before the whole text is made.
+/// Writes what the trace comes to under each of these hierarchies, for this number of workers by
+/// this rule. Nothing is written before the whole text is made.
 pub fn rank_text<W: Write>(
     alloc: Global,
     hierarchies: &[Vec<u8>],
     trace: &[u8],
     workers: u32,
+    rule: Rule,
     writer: &mut W,
 ) -> Result<(), ToolError>
     requires files { length hierarchies.now ≤ MAX_RANKED }
-    requires some { 1 ≤ workers }
-    requires few { workers ≤ MAX_WORKERS }
+    requires workers { IsWorkers workers }
     ensures { Delivers (λ _ text.
-        IsRankText (map (λ file. file.items) hierarchies.now) trace.now workers text)
+        IsRankText rule (map (λ file. file.items) hierarchies.now) trace.now workers text)
         (RefusesRank (map (λ file. file.items) hierarchies.now) trace.now)
         (W.contents writer.old) (W.contents writer.new) result }
 {
-    deliver(writer, made_rank_text(alloc, hierarchies, trace, workers))
+    deliver(
+        writer,
+        made_rank_text(alloc, hierarchies, trace, workers, rule),
+    )
 }
 
 fn made_rank_text(
@@ -67,16 +71,16 @@ fn made_rank_text(
     hierarchies: &[Vec<u8>],
     trace: &[u8],
     workers: u32,
+    rule: Rule,
 ) -> Result<String, ToolError>
     requires files { length hierarchies.now ≤ MAX_RANKED }
-    requires some { 1 ≤ workers }
-    requires few { workers ≤ MAX_WORKERS }
-    ensures { Makes (λ text. IsRankText
+    requires workers { IsWorkers workers }
+    ensures { Makes (λ text. IsRankText rule
         (map (λ file. file.items) hierarchies.now) trace.now workers (string_bytes text))
         (RefusesRank (map (λ file. file.items) hierarchies.now) trace.now) result }
 {
     let layouts = read_hierarchies(alloc, hierarchies)?;
-    let text = text_under_all(alloc, layouts.as_slice(), trace, workers);
+    let text = text_under_all(alloc, layouts.as_slice(), trace, workers, rule);
     drop(layouts);
     text
 }
@@ -113,16 +117,16 @@ fn text_under_all(
     layouts: &[Layout],
     trace: &[u8],
     k: u32,
+    rule: Rule,
 ) -> Result<String, ToolError>
-    requires some { 1 ≤ k }
-    requires few { k ≤ MAX_WORKERS }
+    requires workers { IsWorkers k }
     ensures made { IfOk result (λ text. (files : List (List ℕ)) → AreRead files layouts.now
-        → IsRankText files trace.now k (string_bytes text)) }
+        → IsRankText rule files trace.now k (string_bytes text)) }
     ensures refused { IfErr result (λ e. (files : List (List ℕ)) → AreRead files layouts.now
         → RefusesRank files trace.now e) }
     ensures nothing { IfErr result (λ e. e ≢ ToolError.Write) }
 {
-    let ranks = rank_all(alloc, layouts, trace, k)?;
+    let ranks = rank_all(alloc, layouts, trace, k, rule)?;
     let text = ranks_text(alloc, ranks.as_slice());
     drop(ranks);
     text.map_err(ToolError::from)
@@ -134,18 +138,18 @@ fn rank_all(
     layouts: &[Layout],
     trace: &[u8],
     k: u32,
+    rule: Rule,
 ) -> Result<Vec<Ranked>, ToolError>
-    requires some { 1 ≤ k }
-    requires few { k ≤ MAX_WORKERS }
+    requires workers { IsWorkers k }
     ensures made { IfOk result (λ ranks. (files : List (List ℕ)) → AreRead files layouts.now
-        → AllZip (IsRanked trace.now k) files ranks.items) }
+        → AllZip (IsRanked rule trace.now k) files ranks.items) }
     ensures refused { IfErr result (λ e. (files : List (List ℕ)) → AreRead files layouts.now
         → RefusesRank files trace.now e) }
     ensures nothing { IfErr result (λ e. e ≢ ToolError.Write) }
 {
     let mut ranks = Vec::with_capacity(alloc, layouts.len())?;
     for layout in layouts {
-        let ranked = rank(alloc, layout, trace, k)?;
+        let ranked = rank(alloc, layout, trace, k, rule)?;
         keep_rank(&mut ranks, ranked)?;
     }
     Ok(ranks)
@@ -160,18 +164,23 @@ fn keep_rank(ranks: &mut Vec<Ranked>, ranked: Ranked) -> Result<(), AllocError>
 }
 
 /// What is told of the trace under a hierarchy.
-fn rank(alloc: Global, layout: &Layout, trace: &[u8], k: u32) -> Result<Ranked, ToolError>
-    requires some { 1 ≤ k }
-    requires few { k ≤ MAX_WORKERS }
+fn rank(
+    alloc: Global,
+    layout: &Layout,
+    trace: &[u8],
+    k: u32,
+    rule: Rule,
+) -> Result<Ranked, ToolError>
+    requires workers { IsWorkers k }
     ensures made { IfOk result (λ ranked. (file : List ℕ) → hierarchy_of file ≡ Ok layout.now
-        → IsRanked trace.now k file ranked) }
+        → IsRanked rule trace.now k file ranked) }
     ensures refused { IfErr result (λ e. (file : List ℕ) → hierarchy_of file ≡ Ok layout.now
         → Refuses file trace.now e) }
     ensures nothing { IfErr result (λ e. e ≢ ToolError.Write) }
 {
     match read_trace(alloc, layout, trace) {
         Ok(trace) => {
-            let ranked = rank_assigned(alloc, layout, &trace, k);
+            let ranked = rank_assigned(alloc, layout, &trace, k, rule);
             drop(trace);
             ranked.map_err(ToolError::from)
         }
@@ -185,16 +194,16 @@ fn rank_assigned(
     layout: &Layout,
     trace: &Trace,
     k: u32,
+    rule: Rule,
 ) -> Result<Ranked, AllocError>
     requires fits { trace.now.sizes ≡ sizes_of layout.now.spaces }
-    requires some { 1 ≤ k }
-    requires few { k ≤ MAX_WORKERS }
+    requires workers { IsWorkers k }
     ensures { IfOk result (λ ranked. (assigned : List ℕ)
         × IsAssignment layout.now trace.now.messages assigned
-        × IsRankedUnder layout.now trace.now assigned k ranked) }
+        × IsRankedUnder rule layout.now trace.now assigned k ranked) }
 {
     let assigned = assign(alloc, layout, trace)?;
-    let ranked = rank_planned(alloc, layout, &assigned, trace, k);
+    let ranked = rank_planned(alloc, layout, &assigned, trace, k, rule);
     drop(assigned);
     ranked
 }
@@ -206,16 +215,16 @@ fn rank_planned(
     assigned: &Assigned,
     trace: &Trace,
     k: u32,
+    rule: Rule,
 ) -> Result<Ranked, AllocError>
     requires lengths { length assigned.now ≡ length trace.now.messages }
     requires known { All (λ a. a < length layout.now.tree) assigned.now }
-    requires some { 1 ≤ k }
-    requires few { k ≤ MAX_WORKERS }
-    ensures { IfOk result (IsRankedUnder layout.now trace.now assigned.now k) }
+    requires workers { IsWorkers k }
+    ensures { IfOk result (IsRankedUnder rule layout.now trace.now assigned.now k) }
 {
     let tree = layout.tree();
     let plan = plan(alloc, tree, assigned, trace)?;
-    let listed = list_figures_for(alloc, tree, assigned, trace, &plan, k)?;
+    let listed = list_figures_for(alloc, tree, assigned, trace, &plan, rule, k)?;
     let ranked = Ranked {
         kind: layout.kind(),
         affinities: tree.len(),
@@ -270,10 +279,10 @@ fn push_ranked(text: &mut String, number: usize, ranked: &Ranked) -> Result<(), 
     )
 }
 
-/// The text of hierarchies that are ranked on a trace is one.
+/// The text of hierarchies that are ranked on a trace by a rule is one.
 pub fn rank_text_is_one()
-    ensures equal { (files : List (List ℕ)) (trace_file : List ℕ) (k : ℕ)
-        → RankTextIsOne files trace_file k }
+    ensures equal { (rule : Rule) (files : List (List ℕ)) (trace_file : List ℕ) (k : ℕ)
+        → RankTextIsOne rule files trace_file k }
 {}
 
 /// The error that tells why hierarchies and a trace are refused is one.
@@ -285,12 +294,13 @@ pub fn rank_refusal_is_one()
 /// Hierarchies that are ranked on a trace are not refused, but for want of memory or a writer's
 /// fault.
 pub fn ranked_is_not_refused()
-    ensures none { (files : List (List ℕ)) (trace_file : List ℕ)
-        → RankedIsNotRefused files trace_file }
+    ensures none { (rule : Rule) (files : List (List ℕ)) (trace_file : List ℕ)
+        → RankedIsNotRefused rule files trace_file }
 {}
 
-/// What is told of the list plan under a hierarchy is what a sweep for as many workers tells of it.
+/// What is told of the list plan under a hierarchy is what a sweep for as many workers by the same
+/// rule tells of it.
 pub fn is_ranked_as_swept()
-    ensures equal { (hierarchy_file trace_file : List ℕ)
-        → IsRankedAsSwept hierarchy_file trace_file }
+    ensures equal { (rule : Rule) (hierarchy_file trace_file : List ℕ)
+        → IsRankedAsSwept rule hierarchy_file trace_file }
 {}

@@ -5,6 +5,7 @@ ghost use Rattle.std.specs.Io.KnownBytes.{Appends, Keeps};
 ghost use Rattle.waff_assign.specs.Order.{IsOrdered};
 ghost use Rattle.waff_plan.specs.Timing.{start_of, work_of};
 ghost use Rattle.waff_plan.specs.Timetable.{timings_of};
+ghost use Rattle.waff_list.specs.declared.rule.Rule.{Rule};
 ghost use Rattle.waff_plan_text.specs.Lines.{text_of};
 ghost use Rattle.waff_check.specs.Verdicts.{starts_of};
 ghost use Rattle.waff_inputs.specs.Deliveries.{Delivers, Makes};
@@ -141,14 +142,16 @@ pub fn rated_is_checked()
         → RatedIsChecked hierarchy_file trace_file plan_file }
 {}
 
-/// The figures of the plan that is printed without workers are those of the last line of a sweep.
+/// The figures of the plan that is printed without workers are those of the last line of a sweep, by
+/// whichever rule.
 pub fn own_plan_is_swept()
-    ensures equal { (hierarchy_file trace_file : List ℕ)
-        → OwnPlanIsSwept hierarchy_file trace_file }
+    ensures equal { (rule : Rule) (hierarchy_file trace_file : List ℕ)
+        → OwnPlanIsSwept rule hierarchy_file trace_file }
 {}
 
-/// The figures of the plan that is printed for k workers are those of a line for k.
+/// The figures of the plan that is printed for k workers are those of a line for k of a sweep by the
+/// same rule.
 pub fn own_worker_plan_is_swept()
-    ensures equal { (hierarchy_file trace_file : List ℕ)
-        → OwnWorkerPlanIsSwept hierarchy_file trace_file }
+    ensures equal { (rule : Rule) (hierarchy_file trace_file : List ℕ)
+        → OwnWorkerPlanIsSwept rule hierarchy_file trace_file }
 {}

@@ -12,23 +12,28 @@ use std::alloc::{AllocError, Global};
 use std::io::Write;
 use waff_figures::{figures_of, figures_text, list_figures};
 use waff_inputs::{Accepted, ToolError, accept, deliver};
+use waff_list::Rule;
 use waff_plan::unlimited::plan;
 
 /// Writes how long the trace takes under the hierarchy for each of these numbers of workers and with
-/// no limit on them, how busy the workers are, and how long the messages wait. Nothing is written
-/// before the whole text is made.
+/// no limit on them, in the plans by this rule, how busy the workers are, and how long the messages
+/// wait. Nothing is written before the whole text is made.
 pub fn sweep_text<W: Write>(
     alloc: Global,
     hierarchy: &[u8],
     trace: &[u8],
     workers: &[u32],
+    rule: Rule,
     writer: &mut W,
 ) -> Result<(), ToolError>
     requires workers { All IsWorkers workers.now }
-    ensures { Delivers (λ _ text. IsSweepText hierarchy.now trace.now workers.now text)
+    ensures { Delivers (λ _ text. IsSweepText rule hierarchy.now trace.now workers.now text)
         (Refuses hierarchy.now trace.now) (W.contents writer.old) (W.contents writer.new) result }
 {
-    deliver(writer, made_sweep_text(alloc, hierarchy, trace, workers))
+    deliver(
+        writer,
+        made_sweep_text(alloc, hierarchy, trace, workers, rule),
+    )
 }
 
 fn made_sweep_text(
@@ -36,23 +41,30 @@ fn made_sweep_text(
     hierarchy: &[u8],
     trace: &[u8],
     workers: &[u32],
+    rule: Rule,
 ) -> Result<String, ToolError>
     requires workers { All IsWorkers workers.now }
-    ensures { Makes (λ text. IsSweepText hierarchy.now trace.now workers.now (string_bytes text))
+    ensures { Makes (λ text.
+        IsSweepText rule hierarchy.now trace.now workers.now (string_bytes text))
         (Refuses hierarchy.now trace.now) result }
 {
     let accepted = accept(alloc, hierarchy, trace)?;
-    let text = swept_text(alloc, &accepted, workers).map_err(ToolError::from);
+    let text = swept_text(alloc, &accepted, workers, rule).map_err(ToolError::from);
     drop(accepted);
     text
 }
 
 /// The text of a sweep of what was read.
-fn swept_text(alloc: Global, accepted: &Accepted, workers: &[u32]) -> Result<String, AllocError>
+fn swept_text(
+    alloc: Global,
+    accepted: &Accepted,
+    workers: &[u32],
+    rule: Rule,
+) -> Result<String, AllocError>
     requires workers { All IsWorkers workers.now }
     ensures { IfOk result (λ text. (hierarchy trace : List ℕ)
         → Accepts hierarchy trace accepted.now.layout accepted.now.trace accepted.now.assigned
-        → IsSweepText hierarchy trace workers.now (string_bytes text)) }
+        → IsSweepText rule hierarchy trace workers.now (string_bytes text)) }
 {
     let tree = accepted.layout.tree();
     let plan = plan(alloc, tree, &accepted.assigned, &accepted.trace)?;
@@ -62,6 +74,7 @@ fn swept_text(alloc: Global, accepted: &Accepted, workers: &[u32]) -> Result<Str
         &accepted.assigned,
         &accepted.trace,
         &plan,
+        rule,
         workers,
     )?;
     let unlimited = figures_of(alloc, &plan, None, plan.length())?;
@@ -71,8 +84,8 @@ fn swept_text(alloc: Global, accepted: &Accepted, workers: &[u32]) -> Result<Str
     text
 }
 
-/// The text of a sweep of a hierarchy and a trace for these numbers of workers is one.
+/// The text of a sweep of a hierarchy and a trace for these numbers of workers by a rule is one.
 pub fn sweep_text_is_one()
-    ensures equal { (hierarchy_file trace_file workers : List ℕ)
-        → SweepTextIsOne hierarchy_file trace_file workers }
+    ensures equal { (rule : Rule) (hierarchy_file trace_file workers : List ℕ)
+        → SweepTextIsOne rule hierarchy_file trace_file workers }
 {}

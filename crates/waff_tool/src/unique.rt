@@ -2,6 +2,7 @@
 //! its contract is the law.
 
 ghost use Rattle.std.specs.Prelude.{ℕ, List, Option};
+ghost use Rattle.waff_list.specs.declared.rule.Rule.{Rule};
 ghost use Rattle.waff_tool.specs.Unique.{AssignTextIsOne, CompareTextIsOne, ComparedIsNotRefused};
 ghost use Rattle.waff_tool.specs.Unique.{ComparisonRefusalIsOne, PlanTextIsOne};
 ghost use Rattle.waff_tool.specs.Unique.{CheckRefusalIsOne, CheckTextIsOne, CheckedIsNotRefused};
@@ -15,10 +16,11 @@ pub fn assign_text_is_one()
         → AssignTextIsOne hierarchy_file trace_file }
 {}
 
-/// The text of the plan of a hierarchy and a trace is one, for each number of workers and without.
+/// The text of the plan of a hierarchy and a trace by a rule is one, for each number of workers and
+/// without.
 pub fn plan_text_is_one()
-    ensures equal { (hierarchy_file trace_file : List ℕ) (workers : Option ℕ)
-        → PlanTextIsOne hierarchy_file trace_file workers }
+    ensures equal { (rule : Rule) (hierarchy_file trace_file : List ℕ) (workers : Option ℕ)
+        → PlanTextIsOne rule hierarchy_file trace_file workers }
 {}
 
 /// The text of the comparison of two hierarchies on a trace is one.

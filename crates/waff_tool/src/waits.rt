@@ -14,29 +14,31 @@ use waff_figures::wait_laws::ticks_add_up;
 use waff_figures::waiting_text;
 use waff_inputs::{Accepted, ToolError, accept, deliver};
 use waff_list::laws::needs_make_the_same_plans;
-use waff_list::list_plan;
+use waff_list::{Rule, list_plan_by};
 use waff_order::predecessors::needs;
 use waff_plan::unlimited::plan;
 
 /// Writes who waits for whom in the plan of the trace under the hierarchy for this number of
-/// workers, or with no limit on them: for each pair of affinities, or for each pair of names and
-/// affinities, how many messages of the one wait for messages of the other or for a worker, and how
-/// long. Nothing is written before the whole text is made.
+/// workers by this rule, or with no limit on them, where the rule changes nothing: for each pair of
+/// affinities, or for each pair of names and affinities, how many messages of the one wait for
+/// messages of the other or for a worker, and how long. Nothing is written before the whole text is
+/// made.
 pub fn waits_text<W: Write>(
     alloc: Global,
     hierarchy: &[u8],
     trace: &[u8],
     workers: Option<u32>,
+    rule: Rule,
     by_name: bool,
     writer: &mut W,
 ) -> Result<(), ToolError>
     requires { IfSome workers IsWorkers }
-    ensures { Delivers (λ _ text. IsWaitsText hierarchy.now trace.now workers by_name text)
+    ensures { Delivers (λ _ text. IsWaitsText rule hierarchy.now trace.now workers by_name text)
         (Refuses hierarchy.now trace.now) (W.contents writer.old) (W.contents writer.new) result }
 {
     deliver(
         writer,
-        made_waits_text(alloc, hierarchy, trace, workers, by_name),
+        made_waits_text(alloc, hierarchy, trace, workers, rule, by_name),
     )
 }
 
@@ -45,15 +47,16 @@ fn made_waits_text(
     hierarchy: &[u8],
     trace: &[u8],
     workers: Option<u32>,
+    rule: Rule,
     by_name: bool,
 ) -> Result<String, ToolError>
     requires { IfSome workers IsWorkers }
     ensures { Makes
-        (λ text. IsWaitsText hierarchy.now trace.now workers by_name (string_bytes text))
+        (λ text. IsWaitsText rule hierarchy.now trace.now workers by_name (string_bytes text))
         (Refuses hierarchy.now trace.now) result }
 {
     let accepted = accept(alloc, hierarchy, trace)?;
-    let text = waited_text(alloc, &accepted, workers, by_name).map_err(ToolError::from);
+    let text = waited_text(alloc, &accepted, workers, rule, by_name).map_err(ToolError::from);
     drop(accepted);
     text
 }
@@ -63,24 +66,25 @@ fn waited_text(
     alloc: Global,
     accepted: &Accepted,
     workers: Option<u32>,
+    rule: Rule,
     by_name: bool,
 ) -> Result<String, AllocError>
     requires { IfSome workers IsWorkers }
     ensures { IfOk result (λ text. (hierarchy trace : List ℕ)
         → Accepts hierarchy trace accepted.now.layout accepted.now.trace accepted.now.assigned
-        → IsWaitsText hierarchy trace workers by_name (string_bytes text)) }
+        → IsWaitsText rule hierarchy trace workers by_name (string_bytes text)) }
 {
     match workers {
         None => unlimited_waits(alloc, accepted, by_name),
-        Some(k) => worker_waits(alloc, accepted, k, by_name),
+        Some(k) => worker_waits(alloc, accepted, k, rule, by_name),
     }
 }
 
 /// The text of the unlimited plan.
 fn unlimited_waits(alloc: Global, accepted: &Accepted, by_name: bool) -> Result<String, AllocError>
-    ensures { IfOk result (λ text. (hierarchy trace : List ℕ)
+    ensures { IfOk result (λ text. (rule : Rule) (hierarchy trace : List ℕ)
         → Accepts hierarchy trace accepted.now.layout accepted.now.trace accepted.now.assigned
-        → IsWaitsText hierarchy trace None by_name (string_bytes text)) }
+        → IsWaitsText rule hierarchy trace None by_name (string_bytes text)) }
 {
     let tree = accepted.layout.tree();
     let plan = plan(alloc, tree, &accepted.assigned, &accepted.trace)?;
@@ -97,21 +101,22 @@ fn unlimited_waits(alloc: Global, accepted: &Accepted, by_name: bool) -> Result<
     text
 }
 
-/// The text of the list plan for k workers.
+/// The text of the list plan by this rule for k workers.
 fn worker_waits(
     alloc: Global,
     accepted: &Accepted,
     k: u32,
+    rule: Rule,
     by_name: bool,
 ) -> Result<String, AllocError>
     requires { IsWorkers k }
     ensures { IfOk result (λ text. (hierarchy trace : List ℕ)
         → Accepts hierarchy trace accepted.now.layout accepted.now.trace accepted.now.assigned
-        → IsWaitsText hierarchy trace (Some k) by_name (string_bytes text)) }
+        → IsWaitsText rule hierarchy trace (Some k) by_name (string_bytes text)) }
 {
     let tree = accepted.layout.tree();
     let needs = needs(alloc, tree, &accepted.assigned)?;
-    let made = list_plan(alloc, &needs, &accepted.trace, k)?;
+    let made = list_plan_by(alloc, &needs, &accepted.trace, rule, k)?;
     drop(needs);
     needs_make_the_same_plans();
     ticks_add_up();
@@ -129,6 +134,6 @@ fn worker_waits(
 
 /// The text of who waits for whom is one.
 pub fn waits_text_is_one()
-    ensures equal { (hierarchy_file trace_file : List ℕ) (workers : Option ℕ) (by_name : Bool)
-        → WaitsTextIsOne hierarchy_file trace_file workers by_name }
+    ensures equal { (rule : Rule) (hierarchy_file trace_file : List ℕ) (workers : Option ℕ)
+        (by_name : Bool) → WaitsTextIsOne rule hierarchy_file trace_file workers by_name }
 {}

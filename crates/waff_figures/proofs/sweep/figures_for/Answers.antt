@@ -10,7 +10,7 @@ returns-clause-listed c = λ tree assigned are least.
     let work = work_of c.args.unlimited.now.timings in
     let shortest = length_of work (start_of c.args.unlimited.now.starts) in
     let timings : made.table.timings ≡ c.args.unlimited.now.timings = c.in_ok-made.ensures.timings ∙ sym c.requires.timings in
-    let list = c.needs_make_the_same_plans.ensures tree assigned c.args.needs.now (work_of made.table.timings) c.args.k
+    let list = c.needs_make_the_same_plans.ensures tree assigned c.args.needs.now (work_of made.table.timings) c.args.rule c.args.k
     (start_of made.table.starts) are c.in_ok-made.ensures.follows in
     let told : AreFigures (Some c.args.k) work shortest (start_of made.table.starts) c.in_ok-figures.figures
     = rw (c.plan.ensures.plan, timings, c.length.ensures.length) at c.in_ok-figures.ensures in

@@ -24,6 +24,6 @@ loop-k-preserved c =
           ∙ sym (map_push (λ (k : ℕ). Some k) (take i workers) (get_or workers i 0))
           ∙ ap (map (λ (k : ℕ). Some k)) (sym (take_more workers i 0 c.loop-k-test.true));
       each = λ tree assigned are least.
-          subst (All (IsListed (IsOrdered tree assigned) work (length_of work start))) (sym items)
-          (All-push (IsListed (IsOrdered tree assigned) work (length_of work start)) listed figures (c.loop-k.invariant.each tree assigned are least) (c.in_ok-figures.ensures.listed tree assigned are least));
+          subst (All (IsListed c.args.rule (IsOrdered tree assigned) work (length_of work start))) (sym items)
+          (All-push (IsListed c.args.rule (IsOrdered tree assigned) work (length_of work start)) listed figures (c.loop-k.invariant.each tree assigned are least) (c.in_ok-figures.ensures.listed tree assigned are least));
     }

@@ -13,6 +13,6 @@ invariant-loop-k l = record {
   workers : map (λ figures. figures.workers) l.listed.items ≡ map Some (take l.k-index l.workers);
   each : (tree : List Node) (assigned : List ℕ) → AreNeeds tree assigned l.needs
       → IsLeast (IsOrdered tree assigned) (work_of l.unlimited.timings) (start_of l.unlimited.starts)
-      → All (IsListed (IsOrdered tree assigned) (work_of l.unlimited.timings)
+      → All (IsListed l.rule (IsOrdered tree assigned) (work_of l.unlimited.timings)
       (length_of (work_of l.unlimited.timings) (start_of l.unlimited.starts))) l.listed.items;
 }

@@ -23,7 +23,7 @@ returns c =
     let tree = c.tree-tree.ensures in
     let timings = c.in_ok-made.ensures.timings in
     let plan = c.needs_make_the_same_plans.ensures c.tree-tree.result.now assigned c.in_ok-needs.needs
-    (work_of made.table.timings) c.args.k (start_of made.table.starts) c.in_ok-needs.ensures.needs
+    (work_of made.table.timings) c.args.rule c.args.k (start_of made.table.starts) c.in_ok-needs.ensures.needs
     c.in_ok-made.ensures.follows in
     let list = rw (tree, timings) at plan in
     let printed = rw (tree, timings) at c.in_ok-chain.ensures.printed in
@@ -43,8 +43,8 @@ returns c =
       workers = made.seats;
       chain = chain.messages;
       accepts = accepts;
-      bounded = bounded (IsOrdered c.args.accepted.now.layout.tree assigned) (work_in c.args.accepted.now.trace) c.args.k
-          (start_of made.table.starts) chain.messages c.requires.some forward list printed;
+      bounded = bounded c.args.rule (IsOrdered c.args.accepted.now.layout.tree assigned) (work_in c.args.accepted.now.trace) c.args.k
+          (start_of made.table.starts) chain.messages c.requires.workers.from forward list printed;
       seated = rw timings at c.in_ok-made.ensures.seated;
       lines = lines ∙ ap (λ v. text_for v c.tree-tree.result.now c.plan.result.now.timings c.plan.result.now.starts c.seats.result.now c.messages.result.now) c.version-version.ensures
           ∙ ap (λ t. text_for version t c.plan.result.now.timings c.plan.result.now.starts c.seats.result.now c.messages.result.now) tree

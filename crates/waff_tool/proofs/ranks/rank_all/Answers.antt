@@ -16,7 +16,7 @@ beside files layouts i layout are inside is =
     (there, zip_at (λ file l. hierarchy_of file ≡ Ok l) files layouts i [] layout are there ∙ ap (λ l. Ok l) (sym is))
 
 pub loop-layout-init : goal.loop-layout-init
-loop-layout-init c = λ files are. subst (AllZip (IsRanked c.args.trace.now c.args.k) []) (sym c.in_ok-ranks.ensures.items) tt
+loop-layout-init c = λ files are. subst (AllZip (IsRanked c.args.rule c.args.trace.now c.args.k) []) (sym c.in_ok-ranks.ensures.items) tt
 
 pub returns-in_err-ranked-clause-refused : goal.returns-in_err-ranked-clause-refused
 returns-in_err-ranked-clause-refused c =
@@ -26,7 +26,7 @@ returns-in_err-ranked-clause-refused c =
     rw (p.1, p.2)
     (λ files are. let at = beside files c.args.layouts.now i c.layout-item.result are c.loop-layout-test.true c.layout-item.is in
     first_refuted files trace i c.layout-item.result c.in_err-ranked.field-0.0 (read_are files c.args.layouts.now are) at.0
-    (ranked_admit trace c.args.k (take i files) c.loop-layout.ranks.items (c.loop-layout.invariant files are)) at.1
+    (ranked_admit c.args.rule trace c.args.k (take i files) c.loop-layout.ranks.items (c.loop-layout.invariant files are)) at.1
     (c.in_err-ranked.ensures.refused (file_at files i) at.1))
 
 pub loop-layout-preserved : goal.loop-layout-preserved
@@ -35,13 +35,13 @@ loop-layout-preserved c =
     let i = c.loop-layout.layout-index in
     let ranks = c.loop-layout.ranks.items in
     λ files are. let at = beside files c.args.layouts.now i c.layout-item.result are c.loop-layout-test.true c.layout-item.is in
-    subst (λ front. AllZip (IsRanked trace c.args.k) front c.keep_rank.new.ranks.items) (sym (take_more files i [] at.0))
-    (subst (AllZip (IsRanked trace c.args.k) (take i files ++ file_at files i ∷ [])) (sym c.in_ok-keep_rank.ensures)
-    (zip_push (IsRanked trace c.args.k) (take i files) ranks (file_at files i) c.in_ok-ranked.ranked (c.loop-layout.invariant files are)
+    subst (λ front. AllZip (IsRanked c.args.rule trace c.args.k) front c.keep_rank.new.ranks.items) (sym (take_more files i [] at.0))
+    (subst (AllZip (IsRanked c.args.rule trace c.args.k) (take i files ++ file_at files i ∷ [])) (sym c.in_ok-keep_rank.ensures)
+    (zip_push (IsRanked c.args.rule trace c.args.k) (take i files) ranks (file_at files i) c.in_ok-ranked.ranked (c.loop-layout.invariant files are)
     (c.in_ok-ranked.ensures.made (file_at files i) at.1)))
 
 pub returns-clause-made : goal.returns-clause-made
 returns-clause-made c =
     let i = c.loop-layout.layout-index in
     λ files are. let over : length files ≤ i = subst (λ n. n ≤ i) (sym (zip_length (λ file l. hierarchy_of file ≡ Ok l) files c.args.layouts.now are)) c.loop-layout-test.false in
-    subst (λ front. AllZip (IsRanked c.args.trace.now c.args.k) front c.loop-layout.ranks.items) (take_all i files over) (c.loop-layout.invariant files are)
+    subst (λ front. AllZip (IsRanked c.args.rule c.args.trace.now c.args.k) front c.loop-layout.ranks.items) (take_all i files over) (c.loop-layout.invariant files are)

@@ -5,4 +5,4 @@ use Rattle.waff_tool.proofs.ranks.rank_all.Given as goal
 
 abbrev pub invariant-loop-layout : goal.invariant-loop-layout
 invariant-loop-layout l =
-    (files : List (List ℕ)) → AreRead files l.layouts → AllZip (IsRanked l.trace l.k) (take l.layout-index files) l.ranks.items
+    (files : List (List ℕ)) → AreRead files l.layouts → AllZip (IsRanked l.rule l.trace l.k) (take l.layout-index files) l.ranks.items

@@ -1,6 +1,7 @@
 use Rattle.std.proofs.Common.{◌≡◌, length, sym, ◌∙◌, ap, subst}
 use Rattle.waff_plan.specs.Timing.{start_of, work_of}
 use Rattle.waff_list.specs.Unique.{EachRuns}
+use Rattle.waff_list.specs.declared.rule.Rule.TheVariants.{Arrival}
 use Rattle.waff_list.proofs.TraceWork.{count_is, trace_is_small}
 use Rattle.waff_tool.proofs.OrderLemmas.{plan_order_is_order}
 use Rattle.waff_tool.proofs.replays.needs_and_plan.Goals as goal
@@ -19,7 +20,7 @@ returns-clause-order c =
     let runs : EachRuns work = subst (λ ts. EachRuns (work_of ts)) (sym is) small.some_cost in
     let same : length assigned ≡ work.count =
     c.requires.assignment.count ∙ sym (count_is trace.messages) ∙ sym (ap (λ ts. length ts) is) in
-    let plan = c.needs_make_the_same_plans.ensures c.tree.result.now assigned needs work c.args.k start
+    let plan = c.needs_make_the_same_plans.ensures c.tree.result.now assigned needs work Arrival c.args.k start
     c.in_ok-needs.ensures.needs c.in_ok-plan.ensures.follows in
     plan_order_is_order c.tree.result.now assigned needs work start c.in_ok-plan.plan.order c.in_ok-needs.ensures.needs same
     runs plan.within.obeys.ordered c.in_ok-plan.ensures.order
@@ -32,7 +33,7 @@ returns-clause-list c =
     let timings = c.in_ok-plan.plan.table.timings in
     let start = start_of c.in_ok-plan.plan.table.starts in
     let is = c.in_ok-plan.ensures.timings in
-    let plan = c.needs_make_the_same_plans.ensures tree assigned c.in_ok-needs.needs (work_of timings) c.args.k start
+    let plan = c.needs_make_the_same_plans.ensures tree assigned c.in_ok-needs.needs (work_of timings) Arrival c.args.k start
     c.in_ok-needs.ensures.needs c.in_ok-plan.ensures.follows in
     record {
       start = start;

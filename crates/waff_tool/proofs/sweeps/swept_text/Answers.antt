@@ -22,7 +22,7 @@ returns c =
     let told = rw (c.length.ensures.length, timings) at c.in_ok-unlimited.ensures in
     IfOk-weaker c.figures_text-text.result
     (λ text. string_bytes text ≡ text_of (sweep_lines c.as_slice.result.now unlimited))
-    (λ text. (hierarchy trace_file : List ℕ) → Accepts hierarchy trace_file layout trace assigned → IsSweepText hierarchy trace_file workers (string_bytes text))
+    (λ text. (hierarchy trace_file : List ℕ) → Accepts hierarchy trace_file layout trace assigned → IsSweepText c.args.rule hierarchy trace_file workers (string_bytes text))
     (λ text lines hierarchy trace_file accepts. record {
       layout = layout;
       trace = trace;

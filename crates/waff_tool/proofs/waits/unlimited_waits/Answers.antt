@@ -1,5 +1,6 @@
 use Rattle.std.proofs.Common.{ℕ, List, None, string_bytes, subst}
 use Rattle.std.proofs.lemmas.Result.{IfOk-weaker}
+use Rattle.waff_list.specs.declared.rule.Rule.{Rule}
 use Rattle.waff_inputs.specs.Inputs.{Accepts}
 use Rattle.waff_tool.specs.PlanText.{work_in}
 use Rattle.waff_tool.specs.WaitsText.{IsWaitsText}
@@ -19,10 +20,10 @@ returns c =
     let adds = c.ticks_add_up.ensures layout.tree assigned (work_in trace) in
     IfOk-weaker c.waiting_text-text.result
     (λ text. IsTold by_name c.tree-tree.result.now assigned trace.messages plan.timings plan.starts (string_bytes text))
-    (λ text. (hierarchy trace_file : List ℕ) → Accepts hierarchy trace_file layout trace assigned
-    → IsWaitsText hierarchy trace_file None by_name (string_bytes text))
-    (λ text told hierarchy trace_file accepts.
-    told_text hierarchy trace_file None by_name layout trace assigned plan.starts (string_bytes text) accepts adds least
+    (λ text. (rule : Rule) (hierarchy trace_file : List ℕ) → Accepts hierarchy trace_file layout trace assigned
+    → IsWaitsText rule hierarchy trace_file None by_name (string_bytes text))
+    (λ text told rule hierarchy trace_file accepts.
+    told_text rule hierarchy trace_file None by_name layout trace assigned plan.starts (string_bytes text) accepts adds least
     (subst (λ ts. IsTold by_name layout.tree assigned trace.messages ts plan.starts (string_bytes text)) timings
     (subst (λ t. IsTold by_name t assigned trace.messages plan.timings plan.starts (string_bytes text)) tree told)))
     c.waiting_text-text.ensures

@@ -16,19 +16,20 @@ returns c =
     let assigned = c.args.accepted.now.assigned in
     let by_name = c.args.by_name in
     let k = c.args.k in
+    let rule = c.args.rule in
     let tree = c.tree-tree.ensures in
     let timings = c.in_ok-made.ensures.timings in
     let plan = c.needs_make_the_same_plans.ensures c.tree-tree.result.now assigned c.in_ok-needs.needs
-    (work_of made.table.timings) k (start_of made.table.starts) c.in_ok-needs.ensures.needs
+    (work_of made.table.timings) rule k (start_of made.table.starts) c.in_ok-needs.ensures.needs
     c.in_ok-made.ensures.follows in
     let list = rw (tree, timings) at plan in
     let adds = c.ticks_add_up.ensures layout.tree assigned (work_in trace) in
     IfOk-weaker c.waiting_text-text.result
     (λ text. IsTold by_name c.tree-tree.result.now assigned trace.messages c.plan.result.now.timings c.plan.result.now.starts (string_bytes text))
     (λ text. (hierarchy trace_file : List ℕ) → Accepts hierarchy trace_file layout trace assigned
-    → IsWaitsText hierarchy trace_file (Some k) by_name (string_bytes text))
+    → IsWaitsText rule hierarchy trace_file (Some k) by_name (string_bytes text))
     (λ text told hierarchy trace_file accepts.
-    told_text hierarchy trace_file (Some k) by_name layout trace assigned made.table.starts (string_bytes text) accepts adds list
+    told_text rule hierarchy trace_file (Some k) by_name layout trace assigned made.table.starts (string_bytes text) accepts adds list
     (subst (λ ts. IsTold by_name layout.tree assigned trace.messages ts made.table.starts (string_bytes text)) timings
     (subst (λ (table : Timetable). IsTold by_name layout.tree assigned trace.messages table.timings table.starts (string_bytes text)) c.plan.ensures.plan
     (subst (λ t. IsTold by_name t assigned trace.messages c.plan.result.now.timings c.plan.result.now.starts (string_bytes text)) tree told))))
