@@ -2,6 +2,7 @@
 use crate::failure::Failure;
 use std::alloc::Global;
 use std::fmt::Display;
+use std::io::Read;
 use std::rt::{Files, Runtime};
 use std::{fs, io};
 use waff_cli::FAILED;
@@ -45,12 +46,15 @@ impl From<ReadFault> for Fault {
 impl Unread<'_> {
     /// The failure that this comes to. Where it is to be told in words, those are printed here: the
     /// name of the file, and what the system says.
-    pub fn failure(self, rt: &impl Eprint, in_words: bool) -> Failure {
+    pub fn failure<R: Eprint + Files>(self, rt: &R, in_words: bool) -> Failure {
         match self.fault {
             Fault::Memory => return Failure::Memory,
             _ if !in_words => return Failure::Read(self.place),
             Fault::Closed(error) => self.tell(rt, &error),
-            Fault::Failed => self.tell(rt, &"it could not be read"),
+            Fault::Failed => match read_error(rt, self.name) {
+                Some(error) => self.tell(rt, &error),
+                None => self.tell(rt, &"it could not be read"),
+            },
             Fault::TooLong => self.tell(rt, &"it has more than 268435456 bytes"),
         }
         Failure::Told(FAILED)
@@ -59,6 +63,17 @@ impl Unread<'_> {
     /// A line on standard error. Where that fails, the exit status has to do.
     fn tell(&self, rt: &impl Eprint, why: &impl Display) {
         let _ = eprintln!(rt; "waff: {}: {why}", self.name);
+    }
+}
+
+/// What the system says where the file of this name is open and can't be read.
+fn read_error(rt: &impl Files, name: &str) -> Option<io::Error> {
+    if name == INPUT {
+        return None;
+    }
+    match fs::open(rt, name) {
+        Ok(mut file) => file.read(&mut [0]).err(),
+        Err(error) => Some(error),
     }
 }
 

@@ -43,7 +43,7 @@ fn run<R: Runtime + AllocGlobal + Threads + Wait + Sync>(
 
 /// What is said where the program has no words, and waits for what somebody types.
 const WAITING: &str = "\
-waff: reads a hierarchy, a line ---, and a trace from standard input; waff --help tells more";
+waff: reads a hierarchy, a line ---, and a trace from standard input; waff --help says more";
 
 /// Does what these words ask for, and gives the exit status.
 fn run_words<R: Runtime + AllocGlobal + Threads + Wait + Sync>(

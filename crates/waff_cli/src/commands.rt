@@ -117,14 +117,14 @@ pub static COMMANDS: [CommandWords; 12] = [
     },
     CommandWords {
         name: "check",
-        about: "Tells the first fault of a plan, or how good the plan is",
+        about: "Prints the first fault of a plan, or how good the plan is",
         files: &[HIERARCHY, TRACE, PLAN],
         options: &[],
         help: help::CHECK,
     },
     CommandWords {
         name: "explain",
-        about: "Tells the first fault, or the verdict on the plan, in plain words",
+        about: "Explains the first fault, or the verdict on the plan, in plain words",
         files: &[
             HIERARCHY,
             FileWord {
@@ -180,14 +180,14 @@ pub static COMMANDS: [CommandWords; 12] = [
     },
     CommandWords {
         name: "replay",
-        about: "Runs the messages in threads, and prints the cells then",
+        about: "Runs the messages on threads, and prints the cells at the end",
         files: &[HIERARCHY, TRACE],
         options: &[OptionWord::Threads],
         help: help::REPLAY,
     },
     CommandWords {
         name: "compare",
-        about: "Prints what trees of both models make of one trace",
+        about: "Compares a classical and a hierarchical tree on one trace",
         files: &[
             FileWord {
                 help: "A hierarchy, a TOML file",

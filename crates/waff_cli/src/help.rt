@@ -18,6 +18,7 @@ by longest those on which the longest chain of work hangs. Without
 --rule it is arrival. Mostly the plan is shorter by longest, and the
 greatest latencies are less by arrival";
 
+/// What the long help of `waff assign` ends with.
 pub const ASSIGN: &str = "\
 Example: waff assign hier.toml trace.csv
 
@@ -32,6 +33,7 @@ Exit status:
   3  a file is refused
   4  something could not be read or written, or memory was refused";
 
+/// What the long help of `waff plan` ends with.
 pub const PLAN: &str = "\
 Example: waff plan hier.toml trace.csv --workers 8
 
@@ -49,9 +51,9 @@ Then a line each:
   chain     messages of which each excludes the one before
   release   of a trace with releases: that of the first of the chain
   cost      the cost of the chain
-  bound     without --workers the length, and what the chain takes, which no
-            plan is below; with --workers K times the length, and a sum that
-            this is never above
+  bound     two numbers, the left never above the right: without --workers the
+            length, and release + cost; with --workers K * length, and
+            total + K * release + (K - 1) * cost
 
 Exit status:
   0  done
@@ -59,6 +61,7 @@ Exit status:
   3  a file is refused
   4  something could not be read or written, or memory was refused";
 
+/// What the long help of `waff check` ends with.
 pub const CHECK: &str = "\
 Example: waff plan hier.toml trace.csv | waff check hier.toml trace.csv -
 
@@ -75,7 +78,7 @@ No fault:
   shortest     no plan is shorter
   withinbound  at most twice as long as any plan for so many workers
   obeys        nothing more is known
-waff explain tells the same in words.
+waff explain says the same in words.
 
 Exit status:
   0  no fault in the plan
@@ -84,13 +87,16 @@ Exit status:
   3  a file is refused
   4  something could not be read or written, or memory was refused";
 
+/// What the long help of `waff explain` ends with.
 pub const EXPLAIN: &str = "\
 Example: waff explain hier.toml trace.csv plan.csv
 
 The line that the other commands print, then:
   where    the file, and the place in it
+  message  each message that a verdict names
   found    what stands there
-  why      the way in the tree between two messages that exclude each other
+  why      of an overlap: the way in the tree from the lower affinity to the
+           other
   wanted   what should stand there
 
 Exit status, that of the fault or the verdict:
@@ -100,6 +106,7 @@ Exit status, that of the fault or the verdict:
   3  a file is refused
   4  something could not be read or written, or memory was refused";
 
+/// What the long help of `waff replay` ends with.
 pub const REPLAY: &str = "\
 Example: waff replay hier.toml trace.csv --workers 4
 
@@ -114,6 +121,7 @@ Exit status:
   3  a file is refused
   4  something could not be read or written, or memory was refused";
 
+/// What the long help of `waff compare` ends with.
 pub const COMPARE: &str = "\
 Example: waff compare classical.toml hier.toml trace.csv --workers 8
 
@@ -136,6 +144,7 @@ Exit status:
   3  a file is refused
   4  something could not be read or written, or memory was refused";
 
+/// What the long help of `waff rate` ends with.
 pub const RATE: &str = "\
 Example: waff rate hier.toml trace.csv plan.csv
 
@@ -146,7 +155,7 @@ A line each:
   length    the last finish
   speedup   the total / the length
   busy      the part of the workers' time that is work
-  least     a length that no plan that obeys is below
+  least     no plan that obeys is shorter than this
   over      the length / least, rounded up
   waits     the ticks that messages wait in all
   mean      the mean latency, from a release to the finish
@@ -160,6 +169,7 @@ Exit status:
   3  a file is refused
   4  something could not be read or written, or memory was refused";
 
+/// What the long help of `waff sweep` ends with.
 pub const SWEEP: &str = "\
 Example: waff sweep hier.toml trace.csv --workers 2,4,8
 
@@ -169,7 +179,7 @@ A line for each number of workers (without --workers 1, 2, 3, 4, 6, 8, 12, 16,
   length    the length of the plan in ticks
   speedup   the total cost / the length
   busy      the part of the workers' time that is work
-  least     a length that no such plan is below
+  least     no such plan is shorter than this
   over      the length / least, rounded up
   waits     the ticks that messages wait in all
   mean      the mean latency, from a release to the finish
@@ -182,6 +192,7 @@ Exit status:
   3  a file is refused
   4  something could not be read or written, or memory was refused";
 
+/// What the long help of `waff where` ends with.
 pub const WHERE: &str = "\
 Example: waff where hier.toml trace.csv --names
 
@@ -204,6 +215,7 @@ Exit status:
   3  a file is refused
   4  something could not be read or written, or memory was refused";
 
+/// What the long help of `waff waits` ends with.
 pub const WAITS: &str = "\
 Example: waff waits hier.toml trace.csv --workers 8
 
@@ -227,6 +239,7 @@ Exit status:
   3  a file is refused
   4  something could not be read or written, or memory was refused";
 
+/// What the long help of `waff draw` ends with.
 pub const DRAW: &str = "\
 Example: waff draw hier.toml trace.csv plan.csv --from 100 --to 200 >part.svg
 
@@ -240,6 +253,7 @@ Exit status:
   3  a file is refused
   4  something could not be read or written, or memory was refused";
 
+/// What the long help of `waff rank` ends with.
 pub const RANK: &str = "\
 Example: waff rank trace.csv one.toml two.toml --workers 8
 
@@ -249,7 +263,7 @@ A line for each hierarchy:
   affinities  how many it has
   length      of its shortest plan
   list        the length of its plan for K workers
-  least       a length that no plan for K workers is below
+  least       no plan for K workers is shorter than this
   over        list / least, rounded up
   waits       the ticks that messages wait in all
   mean        the mean latency, from a release to the finish

@@ -84,7 +84,7 @@ fn option<'a>(alloc: Global, word: OptionWord) -> Arg<'a> {
             .value_delimiter(','),
         OptionWord::Threads => workers_up_to(alloc, MAX_SEATS)
             .value_name("W")
-            .help("How many threads, from 1 to 16; else one a processor"),
+            .help("How many threads, from 1 to 16; else one per processor"),
         OptionWord::Rule => rule(alloc),
         OptionWord::Names(help) => Arg::new(alloc, "names")
             .long("names")

@@ -23,7 +23,7 @@ RefusesHierarchy number hierarchy_file (tool.Hier file fault) =
 RefusesHierarchy number hierarchy_file tool.Memory = Unit {0}
 RefusesHierarchy number hierarchy_file error = ⊥
 
--- an error tells the first file that is refused, and why; want of memory and a writer's fault tell
+-- an error tells the first file that is refused, and why; an allocation failure and a writer's fault tell
 -- nothing of the files
 abbrev pub Refuses : List ℕ → List ℕ → ToolError → Type 0
 Refuses hierarchy_file trace_file (tool.Hier file fault) =
@@ -37,7 +37,7 @@ Refuses hierarchy_file trace_file tool.ModelsSame = ⊥
 Refuses hierarchy_file trace_file tool.Write = Unit {0}
 Refuses hierarchy_file trace_file tool.Memory = Unit {0}
 
--- an error that tells of the files: neither want of memory nor a writer's fault
+-- an error that tells of the files: neither an allocation failure nor a writer's fault
 abbrev pub TellsOfFiles : ToolError → Type 0
 TellsOfFiles tool.Memory = ⊥
 TellsOfFiles tool.Write = ⊥

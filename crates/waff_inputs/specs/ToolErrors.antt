@@ -1,4 +1,4 @@
--- The errors of the readers, as errors of a command: want of memory is the same in all of them.
+-- The errors of the readers, as errors of a command: an allocation failure is the same in all of them.
 use Rattle.std.specs.Prelude.{ℕ}
 use Rattle.waff_read.specs.declared.hier_error.HierError.{HierError}
 use Rattle.waff_read.specs.declared.hier_error.HierError.TheVariants as hier

@@ -15,13 +15,13 @@ use waff_read::{HierError, TraceError};
 #[derive(Clone, Copy, Debug, PartialEq, Eq, Error)]
 pub enum ToolError {
     /// A hierarchy is refused; hierarchies are numbered from 1 in the order in which they are
-    /// given. The fault is never want of memory.
+    /// given. The fault is never an allocation failure.
     #[error("hierarchy {file}: {fault}")]
     Hier { file: u8, fault: HierError },
-    /// The trace is refused. The fault is never want of memory.
+    /// The trace is refused. The fault is never an allocation failure.
     #[error("trace: {0}")]
     Trace(TraceError),
-    /// The text of a plan is refused. The fault is never want of memory.
+    /// The text of a plan is refused. The fault is never an allocation failure.
     #[error("plan text: {0}")]
     PlanText(PlanTextError),
     /// The hierarchies that are compared have other spaces.

@@ -12,7 +12,7 @@
 //! - `unique`: one fault for each input.
 //!
 //! What each text is, the commands say; plan texts are read by those that take one. The limits of
-//! files are those of their readers, and want of memory is one fault wherever it comes from.
+//! files are those of their readers, and an allocation failure is one fault wherever it comes from.
 #![tactic(auto)]
 
 mod fault;

@@ -9,7 +9,7 @@ pub fn refusal_is_one()
         → RefusalIsOne hierarchy_file trace_file }
 {}
 
-/// A hierarchy and a trace that are accepted are not refused, but for want of memory or a writer's
+/// A hierarchy and a trace that are accepted are not refused, but for an allocation failure or a writer's
 /// fault.
 pub fn accepted_is_not_refused()
     ensures none { (hierarchy_file trace_file : List ℕ)

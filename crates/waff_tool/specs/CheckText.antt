@@ -76,7 +76,7 @@ pub record RefusesPlan (hierarchy_file trace_file plan_file : List ℕ)
   pub is_trace : trace_of layout.spaces trace_file ≡ Ok trace
   pub refused : plan_of trace.version (length trace.messages) plan_file ≡ Err fault
 
--- an error tells the first file that is refused, and why; want of memory and a writer's fault tell
+-- an error tells the first file that is refused, and why; an allocation failure and a writer's fault tell
 -- nothing of the files
 abbrev pub RefusesCheck : List ℕ → List ℕ → List ℕ → ToolError → Type 0
 RefusesCheck hierarchy_file trace_file plan_file (tool.PlanText fault) =

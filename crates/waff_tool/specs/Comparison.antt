@@ -140,7 +140,7 @@ RefusesModels first_file second_file error =
     ⊎ ((first : Hierarchy) × (hierarchy_of first_file ≡ Ok first)
     × RefusesHierarchy 2 second_file error)
 
--- an error tells the first of the faults: of the hierarchies, and then of the trace; want of memory
+-- an error tells the first of the faults: of the hierarchies, and then of the trace; an allocation failure
 -- and a writer's fault tell nothing of the files
 abbrev pub RefusesComparison : List ℕ → List ℕ → List ℕ → ToolError → Type 0
 RefusesComparison first_file second_file trace_file (tool.Trace fault) =

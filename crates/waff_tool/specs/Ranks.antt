@@ -116,7 +116,7 @@ pub record IsFirstRefuted (files : List (List ℕ)) (trace_file : List ℕ)
   pub refuted : Refutes trace_file fault (file_at files at)
 
 -- an error tells the first of the faults: of the hierarchies in their order, and then of the trace
--- under each in order; want of memory and a writer's fault tell nothing of the files
+-- under each in order; an allocation failure and a writer's fault tell nothing of the files
 abbrev pub RefusesRank : List (List ℕ) → List ℕ → ToolError → Type 0
 RefusesRank files trace_file (tool.Hier number fault) = IsFirstRefused files number fault
 RefusesRank files trace_file (tool.Trace fault) = IsFirstRefuted files trace_file fault

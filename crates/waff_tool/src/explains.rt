@@ -22,7 +22,7 @@ use waff_inputs::{ToolError, accept, fault_status, fault_text, read_numbered, wr
 pub enum Explained {
     /// The files are accepted, and there is no plan.
     Well,
-    /// The first file that is refused is refused for this fault, which is neither want of memory
+    /// The first file that is refused is refused for this fault, which is neither an allocation failure
     /// nor a failed write.
     Fault(ToolError),
     /// The verdict on the plan.
@@ -121,7 +121,7 @@ fn find_in_plan<R: Threads + Sync>(
     }
 }
 
-/// The fault of a reading as what is explained, unless it is want of memory.
+/// The fault of a reading as what is explained, unless it is an allocation failure.
 fn explained_fault(fault: ToolError) -> Result<Explained, AllocError>
     requires { fault ≢ ToolError.Write }
     ensures fault { IfOk result (λ explained. explained ≡ Explained.Fault fault) }

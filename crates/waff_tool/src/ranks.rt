@@ -291,7 +291,7 @@ pub fn rank_refusal_is_one()
         → RankRefusalIsOne files trace_file }
 {}
 
-/// Hierarchies that are ranked on a trace are not refused, but for want of memory or a writer's
+/// Hierarchies that are ranked on a trace are not refused, but for an allocation failure or a writer's
 /// fault.
 pub fn ranked_is_not_refused()
     ensures none { (rule : Rule) (files : List (List ℕ)) (trace_file : List ℕ)

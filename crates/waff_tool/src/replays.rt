@@ -7,6 +7,7 @@ ghost use Rattle.waff_model.specs.Messages.{IsTrace, sizes_of};
 ghost use Rattle.waff_assign.specs.Lowest.{IsAssignment};
 ghost use Rattle.waff_cells.specs.Serial.{operations};
 ghost use Rattle.waff_core.specs.Job.{IsOrder};
+ghost use Rattle.waff_core.specs.Seats.{IsSeats};
 ghost use Rattle.waff_io.specs.Writing.{AppendsPart};
 ghost use Rattle.waff_order.specs.Needs.{AreNeeds};
 ghost use Rattle.waff_plan_text.specs.Lines.{text_of};
@@ -21,7 +22,6 @@ use std::alloc::{AllocError, Global};
 use std::io::Write;
 use std::sync::Wait;
 use std::thread::Threads;
-use waff_core::limits::MAX_SEATS;
 use waff_core::{Job, JobError};
 use waff_inputs::{Accepted, ToolError, accept, deliver};
 use waff_list::laws::needs_make_the_same_plans;
@@ -42,8 +42,7 @@ pub fn replay_text<R: Threads + Wait + Sync, W: Write>(
     workers: u32,
     writer: &mut W,
 ) -> Result<(), ToolError>
-    requires some { 1 ≤ workers }
-    requires few { workers ≤ MAX_SEATS }
+    requires seats { IsSeats workers }
     ensures { Delivers (λ _ text. IsReplayText hierarchy.now trace.now text)
         (Refuses hierarchy.now trace.now) (W.contents writer.old) (W.contents writer.new) result }
 {
@@ -60,8 +59,7 @@ fn made_replay_text<R: Threads + Wait + Sync>(
     trace: &[u8],
     workers: u32,
 ) -> Result<String, ToolError>
-    requires some { 1 ≤ workers }
-    requires few { workers ≤ MAX_SEATS }
+    requires seats { IsSeats workers }
     ensures { Makes (λ text. IsReplayText hierarchy.now trace.now (string_bytes text))
         (Refuses hierarchy.now trace.now) result }
 {
@@ -91,8 +89,7 @@ fn replayed_text<R: Threads + Wait + Sync>(
     requires assignment { IsAssignment accepted.layout accepted.trace.messages accepted.assigned }
     requires printed { AreAllPrinted accepted.layout.spaces printed.now }
     requires few_printed { length printed.now ≤ MAX_SPACES }
-    requires some { 1 ≤ workers }
-    requires few { workers ≤ MAX_SEATS }
+    requires seats { IsSeats workers }
     ensures { IfOk result (λ text. string_bytes text
         ≡ text_of (state_lines accepted.layout.spaces (state_after accepted.trace))) }
 {
@@ -107,8 +104,7 @@ fn replayed_text<R: Threads + Wait + Sync>(
 fn job_in_list_order(alloc: Global, accepted: Accepted, k: u32) -> Result<Job, AllocError>
     requires trace { IsTrace accepted.trace }
     requires assignment { IsAssignment accepted.layout accepted.trace.messages accepted.assigned }
-    requires some { 1 ≤ k }
-    requires few { k ≤ MAX_SEATS }
+    requires seats { IsSeats k }
     ensures layout { IfOk result (λ job. job.layout ≡ accepted.layout) }
     ensures ops { IfOk result (λ job. job.ops ≡ operations accepted.trace.messages) }
     ensures order { IfOk result (λ job.
@@ -163,8 +159,7 @@ fn needs_and_plan(
     requires trace { IsTrace accepted.now.trace }
     requires assignment { IsAssignment accepted.now.layout
         accepted.now.trace.messages accepted.now.assigned }
-    requires some { 1 ≤ k }
-    requires few { k ≤ MAX_SEATS }
+    requires seats { IsSeats k }
     ensures needs { IfOk result (λ made.
         AreNeeds accepted.now.layout.tree accepted.now.assigned made.0) }
     ensures order { IfOk result (λ made. IsOrder made.0 made.1.order) }

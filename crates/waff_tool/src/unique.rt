@@ -35,7 +35,7 @@ pub fn comparison_refusal_is_one()
         → ComparisonRefusalIsOne first_file second_file trace_file }
 {}
 
-/// Files that are compared are not refused, but for want of memory or a writer's fault.
+/// Files that are compared are not refused, but for an allocation failure or a writer's fault.
 pub fn compared_is_not_refused()
     ensures none { (first_file second_file trace_file : List ℕ)
         → ComparedIsNotRefused first_file second_file trace_file }
@@ -53,7 +53,7 @@ pub fn check_refusal_is_one()
         → CheckRefusalIsOne hierarchy_file trace_file plan_file }
 {}
 
-/// Files on which there is a verdict are not refused, but for want of memory or a writer's fault.
+/// Files on which there is a verdict are not refused, but for an allocation failure or a writer's fault.
 pub fn checked_is_not_refused()
     ensures none { (hierarchy_file trace_file plan_file : List ℕ)
         → CheckedIsNotRefused hierarchy_file trace_file plan_file }
