@@ -8,7 +8,7 @@ use std::alloc::{AllocError, Global};
 use std::fmt::Write;
 use std::process::Abort;
 use waff_assign::assign;
-use waff_list::{Rule, WorkerPlan, list_chain, list_plan, list_plan_by};
+use waff_list::{Rule, WorkerPlan, list_chain, list_plan_by};
 use waff_model::limits::MAX_TICK;
 use waff_order::Needs;
 use waff_order::predecessors::needs;
@@ -75,11 +75,7 @@ fn is_told(rt: &impl Abort, alloc: Global, trace: &str, rule: Rule, k: u32, want
     let trace = read_trace(alloc, &layout, trace.as_bytes()).expect(rt, "a trace");
     let assigned = assign(alloc, &layout, &trace).expect(rt, "affinities");
     let needs = needs(alloc, layout.tree(), &assigned).expect(rt, "needs");
-    let made = match rule {
-        Rule::Arrival => list_plan(alloc, &needs, &trace, k),
-        Rule::Longest => list_plan_by(alloc, &needs, &trace, rule, k),
-    }
-    .expect(rt, "a plan");
+    let made = list_plan_by(alloc, &needs, &trace, rule, k).expect(rt, "a plan");
     let chain = list_chain(alloc, layout.tree(), &assigned, &made).expect(rt, "a chain");
     let told = told(alloc, &made, &chain).expect(rt, "words");
     is_same(rt, told.as_str(), wanted);
