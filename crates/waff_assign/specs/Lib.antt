@@ -2,3 +2,4 @@ pub mod Order
 pub mod Lowest
 pub mod Footprint
 pub mod Unique
+pub mod Case

@@ -1,7 +1,7 @@
 -- The order that a trace's messages keep: earlier before later, where their affinities exclude each
 -- other.
 use Rattle.std.specs.Prelude.{ℕ, zero, suc, ◌-◌, ◌<◌, ◌≤◌, List, length, map, slice_index}
-use Rattle.waff_model.specs.Tree.{Node, Excludes}
+use Rattle.waff_model.specs.Tree.{Node, Excludes, name_of}
 use Rattle.waff_model.specs.declared.tree.AffinityId.{AffinityId}
 
 -- the numbers of affinities
@@ -11,6 +11,10 @@ numbers_of affinities = map (λ a. a.0) affinities
 -- the affinity of message n, where `assigned` lists the affinities in the order of arrival
 abbrev pub affinity_of : List ℕ → ℕ → ℕ
 affinity_of assigned n = slice_index assigned (n - 1)
+
+-- its name
+abbrev pub affinity_name : List Node → List ℕ → ℕ → List ℕ
+affinity_name tree assigned n = name_of tree (affinity_of assigned n)
 
 -- an ordered pair: message i arrived before message j, and their affinities exclude each other
 pub record IsOrdered (tree : List Node) (assigned : List ℕ) (i j : ℕ) : Type 0 where

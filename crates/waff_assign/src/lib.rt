@@ -6,12 +6,14 @@
 //! - `footprints`: the footprint of a message; `covering`: the lowest affinity at or above all of
 //!   it.
 //! - `assignment`: the affinities of all messages, `assigned`.
+//! - `case`: a trace under a tree, with these affinities.
 //! - `order`: whether two messages are an ordered pair.
 //! - `unique`: that one footprint has one lowest affinity, and one trace one assignment.
 #![tactic(auto)]
 
 mod assigned;
 mod assignment;
+mod case;
 mod covering;
 mod footprints;
 mod order;
@@ -19,6 +21,7 @@ pub mod unique;
 
 pub use assigned::Assigned;
 pub use assignment::assign;
+pub use case::Case;
 pub use covering::lowest;
 pub use footprints::footprint;
 pub use order::is_ordered;

@@ -1,9 +1,8 @@
 //! Looking at the needs of a message.
 
-ghost use Rattle.std.specs.Prelude.{◌≡◌, ◌≤◌, ◌<◌, ℕ, All, Option, IfSome, find, false, length};
+ghost use Rattle.std.specs.Prelude.{◌≡◌, ◌<◌, All, Option, find, false, length};
 ghost use Rattle.std.specs.Prelude.{not, slice_index_or};
 ghost use Rattle.waff_core.specs.Job.{IsIn};
-ghost use Rattle.waff_order.specs.Needs.{needs_of};
 ghost use Rattle.waff_board.specs.Calls.{Looked, LooksOver, ClearTells};
 ghost use Rattle.waff_board.specs.Hands.{IsHandOf};
 ghost use Rattle.waff_board.specs.Tokens.{IsOf};

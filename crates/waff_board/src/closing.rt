@@ -26,7 +26,7 @@ use waff_cells::State;
 use waff_core::Job;
 
 /// Why a closed board gives no state.
-#[derive(Clone, Copy, Debug, PartialEq, Eq)]
+#[derive(Clone, Copy, Debug, PartialEq)]
 pub enum CloseError {
     /// The message is not done. It is the least such message.
     Unfinished { message: u32 },

@@ -1,6 +1,6 @@
 //! What every seat holds.
 
-ghost use Rattle.std.specs.Prelude.{◌≡◌, ◌+◌, ◌<◌, ◌≤◌, ℕ, false, length, slice_index_or, vec_len};
+ghost use Rattle.std.specs.Prelude.{◌≡◌, ◌+◌, ◌<◌, ℕ, false, length, slice_index_or, vec_len};
 ghost use Rattle.waff_board.specs.Seats.{has_seen};
 
 use crate::view::View;

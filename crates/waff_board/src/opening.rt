@@ -19,7 +19,7 @@ use waff_core::Job;
 use waff_model::{AffinityId, Layout};
 
 /// Why no board is made.
-#[derive(Clone, Copy, Debug, PartialEq, Eq)]
+#[derive(Clone, Copy, Debug)]
 pub enum BoardError {
     /// A growth of memory was refused.
     Memory,

@@ -1,12 +1,12 @@
 -- How faults that were looked for and not found make a verdict.
 use Rattle.std.proofs.Common.{◌≡◌, ℕ, List, Option, Some, None, refl, MatchOption}
+use Rattle.waff_assign.specs.Order.{affinity_name}
 use Rattle.waff_plan.specs.Timetable.{timings_of}
 use Rattle.waff_plan.specs.Timing.{start_of, work_of}
 use Rattle.waff_plan.specs.Work.{Work}
 use Rattle.waff_plan.specs.declared.timing.Timing.{Timing}
 use Rattle.waff_check.specs.Faults.{AreLinked, HasTotals, HasWrongFinish, HasWrongName, HasWrongWorker, IsBroken, IsCrowded, IsFirstOverlap, IsLeastOf, NoneOf, Overlaps, StartsEarly}
-use Rattle.waff_plan_text.specs.Given.{SummaryLines}
-use Rattle.waff_check.specs.Verdicts.{Claim, IsFaultless, IsLinked, IsPraised, IsPraise, IsVerdict, before_of, name_in, starts_of, told_finish, told_name, worker_in}
+use Rattle.waff_check.specs.Verdicts.{Claim, IsFaultless, IsLinked, IsPraised, IsPraise, IsSummed, IsVerdict, before_of, starts_of, told_finish, told_name, worker_in}
 use Rattle.waff_check.specs.declared.verdict.Verdict.{Verdict}
 use Rattle.waff_check.specs.declared.verdict.Verdict.TheVariants as verdict
 
@@ -27,41 +27,39 @@ no-pair before work start None not_some h = h
 no-pair before work start (Some x) not_some h = absurd (not_some x refl)
 
 module _ (claim : Claim) (timings : List Timing) (starts : List ℕ) (et : timings ≡ timings_of claim.messages) (es : starts ≡ starts_of claim.plan) where
-  -- none of the faults up to the chain
-  pub linked : (workers : Option ℕ) (summary : SummaryLines) (chain : List ℕ)
-      → workers ≡ claim.plan.summary.workers → summary ≡ claim.plan.summary → chain ≡ claim.plan.summary.chain
+  -- none of the faults before the chain
+  pub summed : (workers : Option ℕ) → workers ≡ claim.plan.summary.workers
       → ((i j : ℕ) → Overlaps (before_of claim) (work_of timings) (start_of starts) i j → ⊥)
       → NoneOf (IsCrowded (work_of timings) (start_of starts) workers)
       → NoneOf (HasWrongWorker (work_of timings) (start_of starts) (worker_in claim.plan) workers)
-      → NoneOf (HasWrongName (work_of timings) (told_name claim.plan) (name_in claim.tree claim.assigned))
+      → NoneOf (HasWrongName (work_of timings) (told_name claim.plan) (affinity_name claim.tree claim.assigned))
       → NoneOf (HasWrongFinish (work_of timings) (start_of starts) (told_finish claim.plan))
-      → HasTotals (work_of timings) (start_of starts) summary
-      → AreLinked (before_of claim) chain
-      → IsLinked claim
-  linked workers summary chain ew em ec pairs ticks seats names finishes sums links = record {
-    summed = record {
-      finished = record {
-        named = record {
-          manned = record {
-            roomy = record { orderly = record { pairs = rw (et, es) at pairs }; ticks = rw (et, es, ew) at ticks };
-            workers = rw (et, es, ew) at seats;
-          };
-          names = rw et at names;
+      → HasTotals (work_of timings) (start_of starts) claim.plan.summary
+      → IsSummed claim
+  summed workers ew pairs ticks seats names finishes sums = record {
+    finished = record {
+      named = record {
+        manned = record {
+          roomy = record { orderly = record { pairs = rw (et, es) at pairs }; ticks = rw (et, es, ew) at ticks };
+          workers = rw (et, es, ew) at seats;
         };
-        finishes = rw (et, es) at finishes;
+        names = rw et at names;
       };
-      sums = rw (et, es, em) at sums;
+      finishes = rw (et, es) at finishes;
     };
-    links = rw ec at links;
+    sums = rw (et, es) at sums;
   }
+
+  -- nor of the chain
+  pub linked : (chain : List ℕ) → chain ≡ claim.plan.summary.chain → IsSummed claim → AreLinked (before_of claim) chain → IsLinked claim
+  linked chain ec summed links = record { summed = summed; links = rw ec at links }
 
   pub faultless : IsLinked claim → NoneOf (StartsEarly (work_of timings) (start_of starts)) → IsFaultless claim
   faultless linked early = record { linked = linked; starts = rw (et, es) at early }
 
   -- a plan without a fault is praised
-  pub praised : (summary : SummaryLines) (v : Verdict) → summary ≡ claim.plan.summary → IsFaultless claim → IsPraise (work_of timings) (start_of starts) summary v
-      → IsVerdict claim v
-  praised summary v em good h = by v (rw (et, es, em) at h)
+  pub praised : (v : Verdict) → IsFaultless claim → IsPraise (work_of timings) (start_of starts) claim.plan.summary v → IsVerdict claim v
+  praised v good h = by v (rw (et, es) at h)
     where
       by : (v : Verdict) → IsPraised claim v → IsVerdict claim v
       by verdict.Shortest p = (good, p)

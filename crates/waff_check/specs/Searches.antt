@@ -1,25 +1,19 @@
 -- The search for the first overlap, place by place.
-use Rattle.std.specs.Prelude.{◌≡◌, ℕ, ◌+◌, ◌<◌, ◌≤◌, List, length, All, Option, Some, None}
-use Rattle.waff_model.specs.Tree.{Node}
+use Rattle.std.specs.Prelude.{ℕ, ◌+◌, ◌<◌, ◌≤◌, Option, Some, None}
 use Rattle.waff_model.specs.declared.limits.TheConstants.{MAX_MESSAGES}
-use Rattle.waff_assign.specs.Order.{IsOrdered}
-use Rattle.waff_plan.specs.Timing.{start_of, work_of}
-use Rattle.waff_plan.specs.declared.timing.Timing.{Timing}
+use Rattle.waff_plan.specs.Planned.{planned_pairs, planned_starts, planned_work}
+use Rattle.waff_plan.specs.declared.planned.Planned.{Planned}
 use Rattle.waff_check.specs.Faults.{Overlaps}
 
--- the affinities are those of the tree, one for each message, and i is the place of a message, from
--- 0
-pub record IsSearchable (tree : List Node)
-    (assigned : List ℕ) (timings : List Timing) (i : ℕ) : Type 0 where
-  pub lengths : length timings ≡ length assigned
-  pub known : All (λ a. a < length tree) assigned
-  pub few : length assigned ≤ MAX_MESSAGES
-  pub below : i < length assigned
+-- i is the place, from 0, of one of the messages, of which there are at most MAX_MESSAGES
+pub record IsSearchable (planned : Planned) (i : ℕ) : Type 0 where
+  pub few : (planned_work planned).count ≤ MAX_MESSAGES
+  pub below : i < (planned_work planned).count
 
 -- the message at the place i, from 0, overlaps with another one
-abbrev pub HasOverlap : List Node → List ℕ → List Timing → List ℕ → ℕ → Type 0
-HasOverlap tree assigned timings starts i =
-    (j : ℕ) × Overlaps (IsOrdered tree assigned) (work_of timings) (start_of starts) (i + 1) j
+abbrev pub HasOverlap : Planned → ℕ → Type 0
+HasOverlap planned i = (j : ℕ)
+    × Overlaps (planned_pairs planned) (planned_work planned) (planned_starts planned) (i + 1) j
 
 -- the first of n places at which P holds, if there is one
 abbrev pub IsFirstPlace : (ℕ → Type 0) → ℕ → Option ℕ → Type 0

@@ -1,8 +1,8 @@
 -- The verdict on a plan that is given: the first fault, or else how good the plan is.
 use Rattle.std.specs.Prelude.{◌≡◌, ℕ, ◌+◌, ◌<◌, List, length, map, All, Option, Some, None}
-use Rattle.waff_model.specs.Tree.{Node, name_of}
+use Rattle.waff_model.specs.Tree.{Node}
 use Rattle.waff_model.specs.declared.message.Message.{Message}
-use Rattle.waff_assign.specs.Order.{IsOrdered, Relation, affinity_of}
+use Rattle.waff_assign.specs.Order.{IsOrdered, Relation, affinity_name}
 use Rattle.waff_plan.specs.Bound.{IsWithinBound}
 use Rattle.waff_plan.specs.Chain.{chain_cost, chain_release}
 use Rattle.waff_plan.specs.Timetable.{work_of_messages}
@@ -62,10 +62,6 @@ told_name plan n = (row_at plan.rows n).affinity
 abbrev pub told_finish : Given → ℕ → ℕ
 told_finish plan n = (row_at plan.rows n).finish
 
--- the name of the affinity of a message
-abbrev pub name_in : List Node → List ℕ → ℕ → List ℕ
-name_in tree assigned n = name_of tree (affinity_of assigned n)
-
 -- the faults
 abbrev pub PairOverlaps : Claim → Relation
 PairOverlaps claim = Overlaps (before_of claim) (work_of_claim claim) (start_in claim)
@@ -79,7 +75,8 @@ WorkerIsWrong claim =
 
 abbrev pub NameIsWrong : Claim → ℕ → Type 0
 NameIsWrong claim =
-    HasWrongName (work_of_claim claim) (told_name claim.plan) (name_in claim.tree claim.assigned)
+    HasWrongName (work_of_claim claim) (told_name claim.plan)
+    (affinity_name claim.tree claim.assigned)
 
 abbrev pub FinishIsWrong : Claim → ℕ → Type 0
 FinishIsWrong claim = HasWrongFinish (work_of_claim claim) (start_in claim) (told_finish claim.plan)

@@ -1,13 +1,14 @@
 //! The check of a plan that is given.
 
-ghost use Rattle.waff_plan.specs.Timetable.{starts_in, work_in};
 ghost use Rattle.std.specs.Prelude.{◌≡◌, length, IfOk};
+ghost use Rattle.waff_plan.specs.Planned.{planned_starts, planned_work};
 ghost use Rattle.waff_check.specs.Verdicts.{IsClaim, IsPraise, IsVerdict, claim_of};
 ghost use Rattle.waff_plan_text.specs.Given.{IsGiven};
 ghost use Rattle.waff_check.specs.Promises.{PromisesBound, PromisesChain, PromisesObeys};
 ghost use Rattle.waff_check.specs.Promises.{PromisesOneAtATime, PromisesShortest};
 ghost use Rattle.waff_check.specs.Promises.{PromisesWorkerPlan};
 
+use crate::claim::Claim;
 use crate::crowd::crowded;
 use crate::links::broken_link;
 use crate::overlap::first_overlap;
@@ -17,9 +18,9 @@ use crate::verdict::Verdict;
 use crate::worker::wrong_worker;
 use std::alloc::{AllocError, Global};
 use std::thread::Threads;
-use waff_assign::Assigned;
+use waff_assign::{Assigned, Case};
 use waff_model::{Trace, Tree};
-use waff_plan::Plan;
+use waff_plan::Planned;
 use waff_plan::laws::{bound_is_within_ratio, bound_is_within_twice, chains_are_within_length};
 use waff_plan_text::GivenPlan;
 
@@ -54,61 +55,68 @@ pub fn check<R: Threads + Sync>(
     chains_are_within_length();
     bound_is_within_twice();
     bound_is_within_ratio();
-    let verdict = find(rt, alloc, tree, assigned, trace, given)?;
+    let case = Case {
+        tree,
+        assigned,
+        trace,
+    };
+    let verdict = find(rt, alloc, &case, given)?;
     Ok(verdict)
 }
 
 // The verdict: each fault is looked for where no earlier one is there.
-fn find<R: Threads + Sync>(
+fn find<'a, R: Threads + Sync>(
     rt: &R,
     alloc: Global,
-    tree: &Tree,
-    assigned: &Assigned,
-    trace: &Trace,
-    given: &GivenPlan,
+    case: &Case<'a>,
+    given: &'a GivenPlan,
 ) -> Result<Verdict, AllocError>
-    requires claim { IsClaim (claim_of tree.now assigned.now trace.now.messages given.now) }
-    ensures verdict { IfOk result
-        (IsVerdict (claim_of tree.now assigned.now trace.now.messages given.now)) }
+    requires rows { length given.now.rows ≡ length case.now.trace.now.messages }
+    ensures verdict { IfOk result (IsVerdict (claim_of case.now.tree.now case.now.assigned.now
+        case.now.trace.now.messages given.now)) }
     ensures given { IfOk result (λ _. IsGiven given.now) }
 {
-    let plan = given.plan(alloc, trace)?;
+    let plan = given.plan(alloc, case.trace)?;
+    let planned = Planned {
+        case: *case,
+        plan: &plan,
+    };
+    let claim = Claim { planned, given };
     let workers = given.workers();
-    if let Some((first, second)) = first_overlap(rt, alloc, tree, assigned, &plan)? {
+    if let Some((first, second)) = first_overlap(rt, alloc, &planned)? {
         return Ok(Verdict::Overlap { first, second });
     }
     if let Some(tick) = crowded(alloc, &plan, workers)? {
         return Ok(Verdict::TooManyAt { tick });
     }
-    if let Some(message) = wrong_worker(alloc, &plan, given, workers)? {
+    if let Some(message) = wrong_worker(alloc, &claim, workers)? {
         return Ok(Verdict::Worker { message });
     }
-    if let Some(message) = wrong_name(tree, assigned, &plan, given) {
+    if let Some(message) = wrong_name(&claim) {
         return Ok(Verdict::Affinity { message });
     }
-    if let Some(message) = wrong_finish(&plan, given) {
+    if let Some(message) = wrong_finish(&claim) {
         return Ok(Verdict::Finish { message });
     }
-    if !has_totals(&plan, given) {
+    if !has_totals(&claim) {
         return Ok(Verdict::Totals);
     }
-    if let Some(place) = broken_link(tree, assigned, given.chain()) {
+    if let Some(place) = broken_link(case, given.chain()) {
         return Ok(Verdict::NotAChain { place });
     }
     if let Some(message) = early_start(&plan) {
         return Ok(Verdict::Early { message });
     }
-    Ok(praise(&plan, given))
+    Ok(praise(&claim))
 }
 
 // How good a plan without a fault is.
-fn praise(plan: &Plan, given: &GivenPlan) -> Verdict
-    requires rows { length given.now.rows ≡ length plan.now.timings }
-    ensures { IsPraise (work_in plan.now)
-        (starts_in plan.now) given.now.summary result }
+fn praise(claim: &Claim<'_>) -> Verdict
+    ensures { IsPraise (planned_work claim.now.planned)
+        (planned_starts claim.now.planned) claim.now.given.now.summary result }
 {
-    let summary = given.summary();
-    let totals = plan.totals(summary.workers, &summary.chain);
+    let summary = claim.given.summary();
+    let totals = claim.planned.plan.totals(summary.workers, &summary.chain);
     if totals.release + totals.cost == totals.length {
         return Verdict::Shortest;
     }

@@ -1,7 +1,6 @@
 //! Ticks at which more messages run than there are workers.
 
 ghost use Rattle.std.specs.Prelude.{◌≡◌, ℕ, Some, IfOk, MatchOption};
-ghost use Rattle.std.specs.List.Sorted.{IsNonDecreasing};
 ghost use Rattle.waff_plan.specs.Timetable.{starts_in, work_in};
 ghost use Rattle.waff_plan.specs.Work.{Work};
 ghost use Rattle.waff_check.specs.Crowds as crowds;
@@ -24,8 +23,6 @@ fn is_earlier(tick: u64, other: Option<u64>) -> bool
 
 // The first tick so far at which more than `k` messages run, with one more tick.
 fn with_tick(ticks: &Ticks, k: u32, first: Option<u64>, tick: u64) -> Option<u64>
-    requires starts { IsNonDecreasing ticks.now.starts.items }
-    requires finishes { IsNonDecreasing ticks.now.finishes.items }
     ensures { (work : Work) (start : ℕ → ℕ)
         → AreTicks work start ticks.now.starts.items ticks.now.finishes.items
         → result ≡ crowds.with_tick work start k first tick }

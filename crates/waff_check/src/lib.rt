@@ -2,7 +2,7 @@
 //!
 //! A check sorts, and uses the tables of the planner. It walks over pairs of messages only to name
 //! the second message of an overlap.
-//! - `verdict`: what a check finds.
+//! - `verdict`: what a check finds; `claim`: what it looks at.
 //! - `overlap`, `crowd`, `worker`, `told`, `totals`, `links`: one kind of fault each; `shifts`:
 //!   whether any worker is wrong; `ticks`: whether a tick is crowded.
 //! - `checking`: the check, over all kinds.
@@ -10,6 +10,7 @@
 #![tactic(auto)]
 
 mod checking;
+mod claim;
 mod crowd;
 mod links;
 mod overlap;

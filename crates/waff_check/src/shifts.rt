@@ -1,6 +1,7 @@
 //! Shifts: the messages that run, by worker and then by start.
 
-ghost use Rattle.std.specs.Prelude.{◌≡◌, ◌+◌, ◌<◌, ◌≤◌, ◌↔◌, ℕ, All, IfOk, IsTrue, Some, length};
+ghost use Rattle.std.specs.Prelude.{◌+◌, ◌<◌, ◌≤◌, ◌↔◌, ℕ, All, IfOk, IsTrue, Some};
+ghost use Rattle.waff_plan.specs.Planned.{planned_starts, planned_work};
 ghost use Rattle.waff_plan.specs.Timetable.{starts_in, work_in};
 ghost use Rattle.waff_plan.specs.Work.{IsNumber};
 ghost use Rattle.waff_check.specs.Faults.{HasWrongWorker, NoneOf};
@@ -8,20 +9,19 @@ ghost use Rattle.waff_check.specs.Shifts.{AreApart, AreShifts, Follows, IsOneOf,
 ghost use Rattle.waff_check.specs.Shifts.{first_of};
 ghost use Rattle.waff_check.specs.Verdicts.{worker_in};
 
+use crate::claim::Claim;
 use std::alloc::{AllocError, Global};
 use waff_plan::Plan;
-use waff_plan_text::GivenPlan;
 
 // Whether the row of each of the first messages tells one of `k` workers.
-fn are_seated(plan: &Plan, given: &GivenPlan, k: u32, many: u32) -> bool
-    requires lengths { length given.now.rows ≡ length plan.now.timings }
-    requires many { many ≤ length plan.now.timings }
-    ensures { IsTrue result ↔ ((n : ℕ) → IsNumber (first_of (work_in plan.now) many) n
-        → IsOneOf k (worker_in given.now n)) }
+fn are_seated(claim: &Claim<'_>, k: u32, many: u32) -> bool
+    requires many { many ≤ (planned_work claim.now.planned).count }
+    ensures { IsTrue result
+        ↔ ((n : ℕ) → IsNumber (first_of (planned_work claim.now.planned) many) n
+        → IsOneOf k (worker_in claim.now.given.now n)) }
 {
-    let _messages = plan.len();
     for n in 1..many + 1 {
-        if !is_one_of(k, given.row(n).worker) {
+        if !is_one_of(k, claim.given.row(n).worker) {
             return false;
         }
     }
@@ -39,35 +39,28 @@ fn is_one_of(k: u32, worker: Option<u64>) -> bool
 }
 
 // The shift of message `n`: none where its row tells no worker, or it runs at no tick.
-fn shift(plan: &Plan, given: &GivenPlan, n: u32) -> Option<(u64, u64, u32)>
-    requires lengths { length given.now.rows ≡ length plan.now.timings }
-    requires number { IsNumber (work_in plan.now) n }
-    ensures { (many : ℕ) → n ≤ many → IsShiftOf (first_of (work_in plan.now) many)
-        (starts_in plan.now) (worker_in given.now) n result }
+fn shift(claim: &Claim<'_>, n: u32) -> Option<(u64, u64, u32)>
+    requires number { IsNumber (planned_work claim.now.planned) n }
+    ensures { (many : ℕ) → n ≤ many
+        → IsShiftOf (first_of (planned_work claim.now.planned) many)
+        (planned_starts claim.now.planned) (worker_in claim.now.given.now) n result }
 {
-    let start = plan.start(n);
-    match given.row(n).worker {
-        Some(worker) if start < plan.finish(n) => Some((worker, start, n)),
+    let start = claim.planned.plan.start(n);
+    match claim.given.row(n).worker {
+        Some(worker) if start < claim.planned.plan.finish(n) => Some((worker, start, n)),
         _ => None,
     }
 }
 
 // The shifts of the first messages: each is a worker, a start and the number of a message.
-fn shifts(
-    alloc: Global,
-    plan: &Plan,
-    given: &GivenPlan,
-    many: u32,
-) -> Result<Vec<(u64, u64, u32)>, AllocError>
-    requires lengths { length given.now.rows ≡ length plan.now.timings }
-    requires many { many ≤ length plan.now.timings }
-    ensures { IfOk result (λ shifts. AreShifts (first_of (work_in plan.now) many)
-        (starts_in plan.now) (worker_in given.now) shifts.items) }
+fn shifts(alloc: Global, claim: &Claim<'_>, many: u32) -> Result<Vec<(u64, u64, u32)>, AllocError>
+    requires many { many ≤ (planned_work claim.now.planned).count }
+    ensures { IfOk result (λ shifts. AreShifts (first_of (planned_work claim.now.planned) many)
+        (planned_starts claim.now.planned) (worker_in claim.now.given.now) shifts.items) }
 {
-    let _messages = plan.len();
     let mut shifts = Vec::with_capacity(alloc, many as usize)?;
     for n in 1..many + 1 {
-        if let Some(shift) = shift(plan, given, n) {
+        if let Some(shift) = shift(claim, n) {
             shifts.push(shift)?;
         }
     }
@@ -102,20 +95,18 @@ fn are_apart(plan: &Plan, shifts: &[(u64, u64, u32)]) -> bool
 /// sorted, and only neighbours are looked at.
 pub(crate) fn are_right(
     alloc: Global,
-    plan: &Plan,
-    given: &GivenPlan,
+    claim: &Claim<'_>,
     k: u32,
     many: u32,
 ) -> Result<bool, AllocError>
-    requires lengths { length given.now.rows ≡ length plan.now.timings }
-    requires many { many ≤ length plan.now.timings }
+    requires many { many ≤ (planned_work claim.now.planned).count }
     ensures { IfOk result (λ right. IsTrue right
-        ↔ NoneOf (HasWrongWorker (first_of (work_in plan.now) many)
-        (starts_in plan.now) (worker_in given.now) (Some k))) }
+        ↔ NoneOf (HasWrongWorker (first_of (planned_work claim.now.planned) many)
+        (planned_starts claim.now.planned) (worker_in claim.now.given.now) (Some k))) }
 {
-    if !are_seated(plan, given, k, many) {
+    if !are_seated(claim, k, many) {
         return Ok(false);
     }
-    let shifts = shifts(alloc, plan, given, many)?;
-    Ok(are_apart(plan, shifts.as_slice()))
+    let shifts = shifts(alloc, claim, many)?;
+    Ok(are_apart(claim.planned.plan, shifts.as_slice()))
 }

@@ -15,15 +15,15 @@ use waff_plan::Plan;
 pub(crate) struct Ticks {
     starts: Vec<u64>,
     finishes: Vec<u64>,
+    ghost starts_rise: { IsNonDecreasing starts.items },
+    ghost finishes_rise: { IsNonDecreasing finishes.items },
 }
 
 impl Ticks {
     /// The ticks of a plan.
     pub fn new(alloc: Global, plan: &Plan) -> Result<Self, AllocError>
-        ensures ticks { IfOk result (λ ticks. AreTicks (work_in plan.now)
+        ensures { IfOk result (λ ticks. AreTicks (work_in plan.now)
             (starts_in plan.now) ticks.starts.items ticks.finishes.items) }
-        ensures starts { IfOk result (λ ticks. IsNonDecreasing ticks.starts.items) }
-        ensures finishes { IfOk result (λ ticks. IsNonDecreasing ticks.finishes.items) }
     {
         let mut starts = Vec::with_capacity(alloc, plan.len() as usize)?;
         let mut finishes = Vec::with_capacity(alloc, plan.len() as usize)?;
@@ -39,8 +39,6 @@ impl Ticks {
     /// Whether more than `k` messages run at a tick: more than `k` of those that have started by
     /// then have not finished.
     pub fn is_crowded(&self, k: u32, tick: u64) -> bool
-        requires starts { IsNonDecreasing self.now.starts.items }
-        requires finishes { IsNonDecreasing self.now.finishes.items }
         ensures { (work : Work) (start : ℕ → ℕ)
             → AreTicks work start self.now.starts.items self.now.finishes.items
             → result ≡ nat_lt k (workers.running work start tick) }

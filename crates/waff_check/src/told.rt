@@ -1,33 +1,26 @@
 //! Names, finishes and starts that rows tell.
 
+ghost use Rattle.std.specs.Prelude.{◌<◌, MatchOption};
+ghost use Rattle.waff_assign.specs.Order.{affinity_name};
+ghost use Rattle.waff_plan.specs.Planned.{planned_starts, planned_work};
 ghost use Rattle.waff_plan.specs.Timetable.{starts_in, work_in};
-ghost use Rattle.std.specs.Prelude.{◌≡◌, ◌<◌, ◌≤◌, All, MatchOption, length};
 ghost use Rattle.waff_check.specs.Faults.{HasWrongFinish, HasWrongName, IsLeastOf, NoneOf};
 ghost use Rattle.waff_check.specs.Faults.{StartsEarly};
-ghost use Rattle.waff_check.specs.Verdicts.{name_in, told_finish, told_name};
+ghost use Rattle.waff_check.specs.Verdicts.{told_finish, told_name};
 
-use waff_assign::Assigned;
-use waff_model::Tree;
+use crate::claim::Claim;
 use waff_plan::Plan;
-use waff_plan_text::GivenPlan;
 
 /// The first message whose row does not tell the name of its affinity.
-pub(crate) fn wrong_name(
-    tree: &Tree,
-    assigned: &Assigned,
-    plan: &Plan,
-    given: &GivenPlan,
-) -> Option<u32>
-    requires lengths { length plan.now.timings ≡ length assigned.now }
-    requires rows { length given.now.rows ≡ length plan.now.timings }
-    requires known { All (λ a. a < length tree.now) assigned.now }
-    ensures { MatchOption result (NoneOf (HasWrongName
-        (work_in plan.now) (told_name given.now) (name_in tree.now assigned.now)))
-        (IsLeastOf (HasWrongName (work_in plan.now)
-        (told_name given.now) (name_in tree.now assigned.now))) }
+pub(crate) fn wrong_name(claim: &Claim<'_>) -> Option<u32>
+    ensures { MatchOption result
+        (NoneOf (HasWrongName (planned_work claim.now.planned) (told_name claim.now.given.now)
+        (affinity_name claim.now.planned.case.tree.now claim.now.planned.case.assigned.now)))
+        (IsLeastOf (HasWrongName (planned_work claim.now.planned) (told_name claim.now.given.now)
+        (affinity_name claim.now.planned.case.tree.now claim.now.planned.case.assigned.now))) }
 {
-    for n in 1..plan.len() + 1 {
-        if given.row(n).affinity.as_str() != tree.name(assigned.of(n)) {
+    for n in 1..claim.planned.plan.len() + 1 {
+        if claim.given.row(n).affinity.as_str() != claim.planned.case.affinity_name(n) {
             return Some(n);
         }
     }
@@ -35,15 +28,16 @@ pub(crate) fn wrong_name(
 }
 
 /// The first message whose row does not tell the finish that its start and its cost make.
-pub(crate) fn wrong_finish(plan: &Plan, given: &GivenPlan) -> Option<u32>
-    requires rows { length given.now.rows ≡ length plan.now.timings }
-    ensures { MatchOption result (NoneOf (HasWrongFinish
-        (work_in plan.now) (starts_in plan.now) (told_finish given.now)))
-        (IsLeastOf (HasWrongFinish (work_in plan.now)
-        (starts_in plan.now) (told_finish given.now))) }
+pub(crate) fn wrong_finish(claim: &Claim<'_>) -> Option<u32>
+    ensures { MatchOption result
+        (NoneOf (HasWrongFinish (planned_work claim.now.planned)
+        (planned_starts claim.now.planned) (told_finish claim.now.given.now)))
+        (IsLeastOf (HasWrongFinish (planned_work claim.now.planned)
+        (planned_starts claim.now.planned) (told_finish claim.now.given.now))) }
 {
+    let plan = claim.planned.plan;
     for n in 1..plan.len() + 1 {
-        if given.finish(n) != plan.finish(n) {
+        if claim.given.finish(n) != plan.finish(n) {
             return Some(n);
         }
     }

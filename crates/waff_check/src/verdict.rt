@@ -2,7 +2,7 @@
 
 /// What a check finds of a plan that is given: the first fault of the first kind that there is, or
 /// else how good the plan is. Messages are numbered from 1, places of the chain too.
-#[derive(Clone, Copy, Debug, PartialEq, Eq)]
+#[derive(Clone, Copy, Debug, PartialEq)]
 pub enum Verdict {
     /// An ordered pair of messages the second of which starts before the first has finished.
     Overlap { first: u32, second: u32 },

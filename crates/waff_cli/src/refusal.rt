@@ -9,7 +9,7 @@ pub const REFUSED: u8 = 2;
 pub const FAILED: u8 = 4;
 
 /// Why the words ask for nothing.
-#[derive(Clone, Copy, Debug, PartialEq, Eq)]
+#[derive(Clone, Copy)]
 pub enum Refusal {
     /// They were refused, or ask for help. That was printed, and this is the exit status.
     Told(u8),

@@ -1,7 +1,7 @@
 //! Events.
 
 /// What an actor does. Actors are numbered from 1.
-#[derive(Clone, Copy, Debug, PartialEq, Eq)]
+#[derive(Clone, Copy, Debug)]
 pub enum Event {
     /// The actor takes the next message of the order, or has ended where none is left.
     Draw(u32),

@@ -1,6 +1,6 @@
 //! Which parcels are home.
 
-ghost use Rattle.std.specs.Prelude.{◌≡◌, ◌↔◌, ◌⊎◌, ◌<◌, ℕ, true, false, length, All, Contains};
+ghost use Rattle.std.specs.Prelude.{◌≡◌, ◌⊎◌, ◌<◌, ℕ, true, false, length, All, Contains};
 ghost use Rattle.std.specs.Prelude.{IfOk};
 ghost use Rattle.waff_core.specs.Job.{IsJob};
 ghost use Rattle.waff_core.specs.Shown.{AreHome, IsSteady, core_in, is_home};

@@ -1,7 +1,7 @@
 //! Phases of actors.
 
 /// What an actor is at. Messages are numbered from 1.
-#[derive(Clone, Copy, Debug, PartialEq, Eq)]
+#[derive(Clone, Copy)]
 pub enum Phase {
     /// It has no message, and may draw one.
     Free,

@@ -1,7 +1,7 @@
 //! Why a job or a list of events is refused.
 
 /// Why no job is made.
-#[derive(Clone, Copy, Debug, PartialEq, Eq)]
+#[derive(Clone, Copy, Debug, PartialEq)]
 pub enum JobError {
     /// The order is not a list of all messages, each once, in which each need stands before its
     /// message.
@@ -12,7 +12,7 @@ pub enum JobError {
 
 /// Why a list of events is refused: its first event that the machine does not allow. Places are
 /// counted from 1.
-#[derive(Clone, Copy, Debug, PartialEq, Eq)]
+#[derive(Clone, Copy, Debug, PartialEq)]
 pub enum CoreError {
     /// A draw by an actor that holds or runs a message.
     Busy { place: u64 },

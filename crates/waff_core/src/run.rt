@@ -9,7 +9,7 @@ ghost use Rattle.waff_core.specs.Machine.{Runs, opening};
 ghost use Rattle.waff_core.specs.Refused.{FailsFirst};
 ghost use Rattle.waff_core.specs.Seats.{IsSeats};
 ghost use Rattle.waff_core.specs.Settled.{CellsAreSerial};
-ghost use Rattle.waff_core.specs.Shown.{AreHome, Fits, IsSteady, core_in, core_of};
+ghost use Rattle.waff_core.specs.Shown.{AreHome, Fits, core_in, core_of};
 
 use crate::homes::homes;
 use crate::limits::MAX_SEATS;

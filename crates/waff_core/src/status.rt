@@ -1,7 +1,7 @@
 //! Statuses of messages.
 
 /// What has become of a message. Actors are numbered from 1.
-#[derive(Clone, Copy, Debug, PartialEq, Eq)]
+#[derive(Clone, Copy, Debug, PartialEq)]
 pub enum Status {
     /// No actor has drawn it.
     Waiting,

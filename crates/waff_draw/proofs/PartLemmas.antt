@@ -1,5 +1,5 @@
 -- What is shown of a message, and the lines of the axis.
-use Rattle.std.proofs.Common.{◌≡◌, ◌↔◌, ℕ, ◌+◌, ◌-◌, ◌*◌, ◌/◌, ◌<◌, ◌≤◌, inl, inr, max, min, Bool, true, false, cond, List, [], ◌∷◌, leb, arith, refl, sym, ◌∙◌, ap}
+use Rattle.std.proofs.Common.{◌≡◌, ◌↔◌, ℕ, ◌+◌, ◌-◌, ◌*◌, ◌/◌, ◌<◌, ◌≤◌, inl, inr, max, min, Bool, true, false, cond, List, [], ◌∷◌, Option, Some, None, IfSome, leb, arith, refl, sym, ◌∙◌, ap}
 use Rattle.std.proofs.lemmas.Bool.{cases_lt, leb-true}
 use Rattle.std.proofs.Math.Nat.{add-mul, div-lt_iff_lt-mul, lt-div-mul-add, mul-le-mul_right}
 use Rattle.waff_plan.proofs.Longest.{finish_of-le-length_of}
@@ -67,8 +67,14 @@ few_steps i step span some fit ten =
           absurd (omega (arith, some, fit, ten, eleven))
     ]
 
-pub axis_has_lines : (scene : Scene) → from_in scene < end_in scene → HasLines scene
-axis_has_lines scene inside k from to =
+-- a part that has a tick ends behind its first
+ends_behind : (length from : ℕ) (to : Option ℕ) → IfSome to (λ end. from < end) → from < end_from length from to
+ends_behind length from None some = omega arith
+ends_behind length from (Some to) some = some
+
+pub axis_has_lines : (scene : Scene) → HasLines scene
+axis_has_lines scene k from to =
+    let inside : from_in scene < end_in scene = ends_behind (length_in scene) scene.part.from scene.part.to scene.part.some in
     let step = step_of (span_in scene) in
     let q = (from_in scene + step - 1) / step in
     let ten : span_in scene ≤ 10 * step = reaches (span_in scene) round_numbers in

@@ -2,11 +2,11 @@
 use Rattle.std.specs.Prelude.{ℕ, ◌+◌, ◌-◌, ◌*◌, ◌&&◌, Bool, List, [], ◌++◌, Option, Some, None}
 use Rattle.std.specs.Prelude.{if◌then◌else◌, length, nat_le, nat_lt, codes}
 use Rattle.std.specs.List.{flat_map}
-use Rattle.waff_assign.specs.Order.{affinity_of}
+use Rattle.waff_assign.specs.Order.{affinity_name, affinity_of}
 use Rattle.waff_plan_text.specs.Given.{row_at}
 use Rattle.waff_draw.specs.Lanes.{is_among, row_of}
 use Rattle.waff_draw.specs.Pieces.{bar_end, bar_middle, bar_place, bar_size}
-use Rattle.waff_draw.specs.Scene.{Scene, affinity_in, finish_in, from_in, lanes_in, name_in}
+use Rattle.waff_draw.specs.Scene.{Scene, finish_in, from_in, lanes_in, name_in}
 use Rattle.waff_draw.specs.Scene.{shown_in, shown_start, shown_ticks, span_in, start_in, workers_in}
 use Rattle.waff_draw.specs.Xml.{xml_text}
 use Rattle.waff_draw.specs.declared.bars.Bar.{Bar}
@@ -48,7 +48,8 @@ bar_at scene row n = record {
 
 -- its text
 abbrev pub bar_in : Scene → ℕ → ℕ → List ℕ
-bar_in scene row n = bar_text (bar_at scene row n) (name_in scene n) (affinity_in scene n)
+bar_in scene row n =
+    bar_text (bar_at scene row n) (name_in scene n) (affinity_name scene.tree scene.assigned n)
 
 -- the bar of message n in the lane of its affinity
 abbrev pub affinity_bar : Scene → ℕ → List ℕ

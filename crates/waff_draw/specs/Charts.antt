@@ -6,14 +6,12 @@ use Rattle.waff_draw.specs.Lanes.{is_among, row_of}
 use Rattle.waff_draw.specs.Scene.{Scene, end_in, from_in, lanes_in, length_in, work_of_scene}
 use Rattle.waff_draw.specs.declared.lanes.Lane.{Lane}
 
--- each message has its affinity and its row; the lanes, the plan, its length and where the part of
--- it ends are those of the scene, with the row of each affinity and which numbers are on the chain
+-- each message has its row; the lanes, the plan, its length and where the part of it ends are those
+-- of the scene, with the row of each affinity and which numbers are on the chain
 pub record IsChart (scene : Scene) (lanes : List Lane) (plan : Timetable) (ticks end : ℕ)
     (rows : List ℕ) (links : List Bool) : Type 0 where
   pub messages : length scene.messages ≡ (work_of_scene scene).count
-  pub assigned : length scene.assigned ≡ (work_of_scene scene).count
   pub given : length scene.plan.rows ≡ (work_of_scene scene).count
-  pub known : All (λ a. a < length scene.tree) scene.assigned
   pub shown : lanes ≡ lanes_in scene
   pub shown_known : All (λ lane. lane.affinity < length scene.tree) lanes
   pub few : length lanes ≤ 65536

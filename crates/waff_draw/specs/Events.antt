@@ -6,12 +6,12 @@ use Rattle.std.specs.List.{flat_map, range_with_len}
 use Rattle.serde_json.specs.Data.{string}
 use Rattle.serde_json.specs.Written.{compact_text}
 use Rattle.waff_model.specs.Tree.{Node, name_of}
-use Rattle.waff_assign.specs.Order.{affinity_of}
+use Rattle.waff_assign.specs.Order.{affinity_name, affinity_of}
 use Rattle.waff_plan_text.specs.Given.{row_at}
 use Rattle.waff_draw.specs.Bars.{worker_row}
 use Rattle.waff_draw.specs.Lanes.{is_among, lane_of, row_of}
 use Rattle.waff_draw.specs.Pieces.{joined, worker_name}
-use Rattle.waff_draw.specs.Scene.{Scene, affinity_in, lanes_in, name_in, shown_in, shown_start}
+use Rattle.waff_draw.specs.Scene.{Scene, lanes_in, name_in, shown_in, shown_start}
 use Rattle.waff_draw.specs.Scene.{shown_ticks, work_of_scene, workers_in}
 use Rattle.waff_draw.specs.declared.events.Event.{Event}
 use Rattle.waff_draw.specs.declared.lanes.Lane.{Lane}
@@ -134,7 +134,8 @@ event_at scene process row n = record {
 -- its text
 abbrev pub event_in : Scene → ℕ → ℕ → ℕ → List ℕ
 event_in scene process row n =
-    event_text (event_at scene process row n) (name_in scene n) (affinity_in scene n)
+    event_text (event_at scene process row n) (name_in scene n)
+    (affinity_name scene.tree scene.assigned n)
 
 -- the event of message n in the lane of its affinity
 abbrev pub affinity_event : Scene → ℕ → List ℕ

@@ -59,7 +59,7 @@ ShowsTicksInPart scene =
 
 -- the part that is the whole plan
 abbrev pub whole_part : Part
-whole_part = record { from = 0; to = None }
+whole_part = record { from = 0; to = None; some = tt }
 
 -- each message is shown whole
 abbrev pub ShowsAll : Scene → Type 0

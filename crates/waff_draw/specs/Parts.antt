@@ -1,10 +1,6 @@
 -- The part of a plan that a picture shows.
-use Rattle.std.specs.Prelude.{ℕ, ◌+◌, ◌<◌, max, Option, Some, None, IfSome}
+use Rattle.std.specs.Prelude.{ℕ, ◌+◌, max, Option, Some, None}
 use Rattle.waff_draw.specs.declared.parts.Part.{Part}
-
--- a part has a tick
-abbrev pub IsPart : Part → Type 0
-IsPart part = IfSome part.to (λ to. part.from < to)
 
 -- where it ends, if no end is given: with a plan of this length, or with its first tick where the
 -- plan ended before

@@ -1,7 +1,7 @@
 -- The pieces of the document. None is unfolded where a text is put together.
 use Rattle.std.specs.Prelude.{ℕ, List, [], ◌∷◌, ◌++◌, codes, decimal}
 use Rattle.std.specs.List.{flat_map}
-use Rattle.waff_figures.specs.Ratio.{ratio_field}
+use Rattle.waff_plan_text.specs.Ratio.{ratio_field}
 
 -- pieces of text, one after the other
 abbrev pub joined : List (List ℕ) → List ℕ

@@ -3,9 +3,9 @@
 use Rattle.std.specs.Prelude.{ℕ, ◌+◌, ◌-◌, max, min, Bool, List, [], Option, Some, None, length}
 use Rattle.std.specs.Prelude.{map, nat_lt, slice_index_or}
 use Rattle.std.specs.List.{filter}
-use Rattle.waff_model.specs.Tree.{Node, name_of}
+use Rattle.waff_model.specs.Tree.{Node}
 use Rattle.waff_model.specs.declared.message.Message.{Message}
-use Rattle.waff_assign.specs.Order.{affinity_of}
+use Rattle.waff_assign.specs.declared.case.Case.{Case}
 use Rattle.waff_plan.specs.Timetable.{work_of_messages}
 use Rattle.waff_plan.specs.Timing.{start_of}
 use Rattle.waff_plan.specs.Work.{Work, finish_of, length_of, numbers}
@@ -25,6 +25,11 @@ pub record Scene : Type 0 where
 abbrev pub scene_of : List Node → List ℕ → List Message → Given → Part → Scene
 scene_of tree assigned messages plan part =
     record { tree = tree; assigned = assigned; messages = messages; plan = plan; part = part }
+
+-- that of a plan that is given for the messages of a case
+abbrev pub scene_of_case : Case → Given → Part → Scene
+scene_of_case case plan part =
+    scene_of case.tree.now case.assigned.now case.trace.now.messages plan part
 
 -- the work, the starts, the finishes and the length of the plan
 abbrev pub work_of_scene : Scene → Work
@@ -77,9 +82,6 @@ workers_in scene = worker_count scene.plan.summary.workers
 abbrev pub rows_in : Scene → ℕ
 rows_in scene = length (lanes_in scene) + workers_in scene
 
--- the names of message n and of its affinity
+-- the name of message n
 abbrev pub name_in : Scene → ℕ → List ℕ
 name_in scene n = slice_index_or (map (λ message. message.name) scene.messages) (n - 1) []
-
-abbrev pub affinity_in : Scene → ℕ → List ℕ
-affinity_in scene n = name_of scene.tree (affinity_of scene.assigned n)

@@ -1,7 +1,8 @@
 //! The bars of a picture.
 
-ghost use Rattle.std.specs.Prelude.{◌≡◌, ◌≤◌, ◌++◌, OnOk, string_bytes};
+ghost use Rattle.std.specs.Prelude.{◌≡◌, ◌≤◌, OnOk};
 ghost use Rattle.waff_plan.specs.Work.{IsNumber};
+ghost use Rattle.waff_plan_text.specs.Lines.{Adds};
 ghost use Rattle.waff_draw.specs.Bars.{bar_at, bar_in, is_narrow, margin_of, mark_of};
 ghost use Rattle.waff_draw.specs.Kinds.{bars_of};
 ghost use Rattle.waff_draw.specs.Scene.{work_of_scene};
@@ -33,8 +34,7 @@ pub(crate) fn push_bars(
     chart: &Chart<'_>,
     kind: LaneKind,
 ) -> Result<(), AllocError>
-    ensures { OnOk result (string_bytes text.new ≡ string_bytes text.old
-        ++ bars_of chart.now kind) }
+    ensures { OnOk result (Adds text.old text.new (bars_of chart.now kind)) }
 {
     for n in 1..chart.len() + 1 {
         if let Some(row) = chart.shown_row(kind, n) {
@@ -47,8 +47,7 @@ pub(crate) fn push_bars(
 /// Appends the bar of message `n` in this row.
 fn push_bar(text: &mut String, chart: &Chart<'_>, row: u64, n: u32) -> Result<(), AllocError>
     requires { IsNumber (work_of_scene chart.now) n }
-    ensures { OnOk result (string_bytes text.new ≡ string_bytes text.old
-        ++ bar_in chart.now row n) }
+    ensures { OnOk result (Adds text.old text.new (bar_in chart.now row n)) }
 {
     let bar = bar_of(chart, row, n);
     let mark = mark_of(bar.is_link, bar.is_thin);

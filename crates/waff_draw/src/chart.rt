@@ -1,31 +1,29 @@
 //! What a picture shows, made ready for drawing.
 
-ghost use Rattle.std.specs.Prelude.{◌≡◌, ◌^◌, ◌<◌, ◌≤◌, All, IfOk, IfSome, length};
+ghost use Rattle.std.specs.Prelude.{◌≡◌, ◌^◌, ◌<◌, ◌≤◌, IfOk, IfSome, length};
 ghost use Rattle.std.specs.Prelude.{slice_index_or};
 ghost use Rattle.waff_model.specs.Tree.{name_of};
-ghost use Rattle.waff_assign.specs.Order.{affinity_of};
+ghost use Rattle.waff_assign.specs.Order.{affinity_name, affinity_of};
 ghost use Rattle.waff_plan.specs.Bound.{IsWorkers};
 ghost use Rattle.waff_plan.specs.Work.{IsNumber, total_of};
 ghost use Rattle.waff_plan_text.specs.Given.{row_at};
 ghost use Rattle.waff_draw.specs.Bars.{worker_row};
 ghost use Rattle.waff_draw.specs.Kinds.{row_in, shown_row};
 ghost use Rattle.waff_draw.specs.Lanes.{is_among, lane_of, row_of};
-ghost use Rattle.waff_draw.specs.Parts.{IsPart};
-ghost use Rattle.waff_draw.specs.Scene.{affinity_in, end_in, finish_in, from_in, is_shown};
-ghost use Rattle.waff_draw.specs.Scene.{lanes_in, length_in, name_in, rows_in, scene_of};
-ghost use Rattle.waff_draw.specs.Scene.{shown_start, shown_ticks, span_in, start_in, work_of_scene};
-ghost use Rattle.waff_draw.specs.Scene.{workers_in};
+ghost use Rattle.waff_draw.specs.Scene.{end_in, finish_in, from_in, lanes_in, length_in};
+ghost use Rattle.waff_draw.specs.Scene.{name_in, rows_in, scene_of_case, shown_start, shown_ticks};
+ghost use Rattle.waff_draw.specs.Scene.{span_in, start_in, work_of_scene, workers_in};
 ghost use Rattle.waff_draw.specs.Svg.{line_in};
 
 use crate::axis::line_at;
 use crate::lanes::{Lane, LaneKind, lanes, rows};
 use crate::marks::marks;
-use crate::parts::{Part, end_of};
+use crate::parts::Part;
 use std::alloc::{AllocError, Global};
 use std::marker::Model;
-use waff_assign::Assigned;
+use waff_assign::Case;
+use waff_model::AffinityId;
 use waff_model::limits::{MAX_MESSAGES, MAX_WORKERS};
-use waff_model::{AffinityId, Trace, Tree};
 use waff_plan::Plan;
 use waff_plan_text::GivenPlan;
 
@@ -35,9 +33,7 @@ use waff_plan_text::GivenPlan;
 /// chain, by its number.
 #[derive(Drop)]
 pub(crate) struct Chart<'a> {
-    tree: &'a Tree,
-    assigned: &'a Assigned,
-    trace: &'a Trace,
+    case: Case<'a>,
     given: &'a GivenPlan,
     part: Part,
     lanes: Vec<Lane>,
@@ -49,16 +45,19 @@ pub(crate) struct Chart<'a> {
 }
 
 impl<'a> Model for Chart<'a> {
-    ghost use Rattle.waff_draw.specs.Scene.{Scene, scene_of};
+    ghost use Rattle.std.specs.Coded.{codes};
+    ghost use Rattle.waff_draw.specs.Scene.{Scene, scene_of_case};
     ghost use Rattle.waff_draw.specs.Charts.{IsChart};
+    ghost use Rattle.waff_draw.specs.contracts.parts.Part.{the_row};
 
     ghost Value = { Scene };
 
-    ghost view = { λ c.
-        scene_of c.tree.now c.assigned.now c.trace.now.messages c.given.now c.part };
+    // A part has a fact, so that its code has to be named.
+    ghost coded = { Prim.hlevel (codes, the_row.coded) };
 
-    ghost invariant = { λ c.
-        IsChart (scene_of c.tree.now c.assigned.now c.trace.now.messages c.given.now c.part)
+    ghost view = { λ c. scene_of_case c.case c.given.now c.part };
+
+    ghost invariant = { λ c. IsChart (scene_of_case c.case c.given.now c.part)
         c.lanes.items c.plan c.ticks c.end c.rows.items c.links.items };
 }
 
@@ -66,34 +65,26 @@ impl<'a> Chart<'a> {
     /// The chart of this part of a plan that is given.
     pub(crate) fn new(
         alloc: Global,
-        tree: &'a Tree,
-        assigned: &'a Assigned,
-        trace: &'a Trace,
+        case: &Case<'a>,
         given: &'a GivenPlan,
         part: Part,
     ) -> Result<Self, AllocError>
-        requires lengths { length assigned.now ≡ length trace.now.messages }
-        requires known { All (λ a. a < length tree.now) assigned.now }
-        requires rows { length given.now.rows ≡ length trace.now.messages }
-        requires part { IsPart part }
-        ensures { IfOk result (λ chart.
-            chart ≡ scene_of tree.now assigned.now trace.now.messages given.now part) }
+        requires rows { length given.now.rows ≡ length case.now.trace.now.messages }
+        ensures { IfOk result (λ chart. chart ≡ scene_of_case case.now given.now part) }
     {
-        let lanes = lanes(alloc, tree, assigned)?;
-        let plan = given.plan(alloc, trace)?;
+        let lanes = lanes(alloc, case)?;
+        let plan = given.plan(alloc, case.trace)?;
         let ticks = plan.length();
-        let rows = rows(alloc, tree.len() as usize, lanes.as_slice())?;
-        let links = marks(alloc, trace.len() as usize + 1, given.chain())?;
+        let rows = rows(alloc, case.tree.len() as usize, lanes.as_slice())?;
+        let links = marks(alloc, case.trace.len() as usize + 1, given.chain())?;
         Ok(Chart {
-            tree,
-            assigned,
-            trace,
+            case: *case,
             given,
             part,
             lanes,
             plan,
             ticks,
-            end: end_of(part, ticks),
+            end: part.end(ticks),
             rows,
             links,
         })
@@ -112,18 +103,16 @@ impl<'a> Chart<'a> {
         requires { IsNumber (work_of_scene self.now) n }
         ensures { result.now ≡ name_in self.now n }
     {
-        let trace = self.trace;
+        let trace = self.case.trace;
         trace.message(n).name.as_str()
     }
 
     /// The name of its affinity.
     pub(crate) fn affinity_name(&self, n: u32) -> &str
         requires { IsNumber (work_of_scene self.now) n }
-        ensures { result.now ≡ affinity_in self.now n }
+        ensures { result.now ≡ affinity_name self.now.tree self.now.assigned n }
     {
-        let tree = self.tree;
-        let assigned = self.assigned;
-        tree.name(assigned.of(n))
+        self.case.affinity_name(n)
     }
 
     /// The tick at which it starts.
@@ -209,7 +198,7 @@ impl<'a> Chart<'a> {
         requires { IsNumber (work_of_scene self.now) n }
         ensures { result ≡ row_of (lanes_in self.now) (affinity_of self.now.assigned n) }
     {
-        let assigned = self.assigned;
+        let assigned = self.case.assigned;
         let affinity = assigned.of(n);
         self.rows[affinity.0 as usize]
     }
@@ -251,7 +240,7 @@ impl<'a> Chart<'a> {
         ensures { result.now ≡ name_of self.now.tree
             (slice_index_or (lanes_in self.now) row (lane_of 0 0)).affinity }
     {
-        let tree = self.tree;
+        let tree = self.case.tree;
         let _affinities = tree.len();
         tree.name(AffinityId(self.lanes[row as usize].affinity as u16))
     }

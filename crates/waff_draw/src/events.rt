@@ -1,16 +1,16 @@
 //! The picture in the Trace Event Format, which Perfetto and the tracing page of Chromium open.
 
-ghost use Rattle.std.specs.Prelude.{◌≡◌, ◌<◌, ◌≤◌, ◌++◌, All, IfOk, OnOk, length, string_bytes};
+ghost use Rattle.std.specs.Prelude.{◌≡◌, ◌≤◌, IfOk, OnOk, length, string_bytes};
 ghost use Rattle.std.specs.List.{flat_map, range_with_len};
 ghost use Rattle.waff_plan.specs.Work.{IsNumber};
+ghost use Rattle.waff_plan_text.specs.Lines.{Adds};
 ghost use Rattle.waff_draw.specs.Events.{affinity_thread, category, document_end, document_start};
-ghost use Rattle.waff_draw.specs.Events.{event_args, event_at, event_in, event_start};
+ghost use Rattle.waff_draw.specs.Events.{event_args, event_at, event_start};
 ghost use Rattle.waff_draw.specs.Events.{event_text, event_thread, events_text, quoted};
 ghost use Rattle.waff_draw.specs.Events.{thread_name, thread_place, thread_text, threads_text};
 ghost use Rattle.waff_draw.specs.Events.{worker_thread, worker_threads, workers_start};
 ghost use Rattle.waff_draw.specs.Kinds.{events_of, process_of};
-ghost use Rattle.waff_draw.specs.Parts.{IsPart};
-ghost use Rattle.waff_draw.specs.Scene.{lanes_in, scene_of, work_of_scene};
+ghost use Rattle.waff_draw.specs.Scene.{lanes_in, scene_of_case, work_of_scene};
 
 use crate::chart::Chart;
 use crate::lanes::LaneKind;
@@ -18,8 +18,7 @@ use crate::parts::Part;
 use crate::pieces::push_worker_name;
 use serde_json::Value;
 use std::alloc::{AllocError, Global};
-use waff_assign::Assigned;
-use waff_model::{Trace, Tree};
+use waff_assign::Case;
 use waff_plan_text::GivenPlan;
 
 /// A message as it runs in a thread of a process, as far as it is shown.
@@ -38,20 +37,15 @@ pub struct Event {
 /// affinities.
 pub fn events_text(
     alloc: Global,
-    tree: &Tree,
-    assigned: &Assigned,
-    trace: &Trace,
+    case: &Case<'_>,
     given: &GivenPlan,
     part: Part,
 ) -> Result<String, AllocError>
-    requires lengths { length assigned.now ≡ length trace.now.messages }
-    requires known { All (λ a. a < length tree.now) assigned.now }
-    requires rows { length given.now.rows ≡ length trace.now.messages }
-    requires part { IsPart part }
-    ensures { IfOk result (λ text. string_bytes text
-        ≡ events_text (scene_of tree.now assigned.now trace.now.messages given.now part)) }
+    requires rows { length given.now.rows ≡ length case.now.trace.now.messages }
+    ensures { IfOk result (λ text.
+        string_bytes text ≡ events_text (scene_of_case case.now given.now part)) }
 {
-    let chart = Chart::new(alloc, tree, assigned, trace, given, part)?;
+    let chart = Chart::new(alloc, case, given, part)?;
     document(alloc, &chart)
 }
 
@@ -69,8 +63,7 @@ fn document(alloc: Global, chart: &Chart<'_>) -> Result<String, AllocError>
 
 /// Appends all that stands before the events of messages.
 fn push_threads(alloc: Global, text: &mut String, chart: &Chart<'_>) -> Result<(), AllocError>
-    ensures { OnOk result (string_bytes text.new ≡ string_bytes text.old
-        ++ threads_text chart.now) }
+    ensures { OnOk result (Adds text.old text.new (threads_text chart.now)) }
 {
     push_document_start(text)?;
     push_affinity_threads(alloc, text, chart)?;
@@ -79,7 +72,7 @@ fn push_threads(alloc: Global, text: &mut String, chart: &Chart<'_>) -> Result<(
 
 /// Appends the start of the document, with the process of the affinities.
 fn push_document_start(text: &mut String) -> Result<(), AllocError>
-    ensures { OnOk result (string_bytes text.new ≡ string_bytes text.old ++ document_start) }
+    ensures { OnOk result (Adds text.old text.new document_start) }
 {
     write!(
         text,
@@ -93,9 +86,9 @@ fn push_affinity_threads(
     text: &mut String,
     chart: &Chart<'_>,
 ) -> Result<(), AllocError>
-    ensures { OnOk result (string_bytes text.new ≡ string_bytes text.old
-        ++ flat_map (affinity_thread chart.now.tree (lanes_in chart.now))
-        (range_with_len 0 (length (lanes_in chart.now)))) }
+    ensures { OnOk result (Adds text.old text.new
+        (flat_map (affinity_thread chart.now.tree (lanes_in chart.now))
+        (range_with_len 0 (length (lanes_in chart.now))))) }
 {
     for row in 0..chart.lane_count() {
         push_thread(alloc, text, 1, u128::from(row) + 1, chart.lane_name(row))?;
@@ -109,8 +102,8 @@ fn push_worker_threads(
     text: &mut String,
     chart: &Chart<'_>,
 ) -> Result<(), AllocError>
-    ensures { OnOk result (string_bytes text.new ≡ string_bytes text.old
-        ++ worker_threads (length (lanes_in chart.now)) chart.now.plan.summary.workers) }
+    ensures { OnOk result (Adds text.old text.new
+        (worker_threads (length (lanes_in chart.now)) chart.now.plan.summary.workers)) }
 {
     match chart.workers() {
         Some(k) => {
@@ -129,8 +122,8 @@ fn push_threads_of(
     workers: u32,
 ) -> Result<(), AllocError>
     requires { workers ≤ 65536 }
-    ensures { OnOk result (string_bytes text.new ≡ string_bytes text.old
-        ++ flat_map (worker_thread first) (range_with_len 1 workers)) }
+    ensures { OnOk result (Adds text.old text.new
+        (flat_map (worker_thread first) (range_with_len 1 workers))) }
 {
     for worker in 1..workers + 1 {
         push_worker_thread(alloc, text, first, worker)?;
@@ -140,7 +133,7 @@ fn push_threads_of(
 
 /// Appends the process of the workers.
 fn push_workers_start(text: &mut String) -> Result<(), AllocError>
-    ensures { OnOk result (string_bytes text.new ≡ string_bytes text.old ++ workers_start) }
+    ensures { OnOk result (Adds text.old text.new workers_start) }
 {
     write!(
         text,
@@ -155,8 +148,7 @@ fn push_worker_thread(
     first: u64,
     worker: u32,
 ) -> Result<(), AllocError>
-    ensures { OnOk result (string_bytes text.new ≡ string_bytes text.old
-        ++ worker_thread first worker) }
+    ensures { OnOk result (Adds text.old text.new (worker_thread first worker)) }
 {
     let mut name = String::new(alloc);
     push_worker_name(&mut name, worker)?;
@@ -177,8 +169,7 @@ fn push_thread(
     thread: u128,
     name: &str,
 ) -> Result<(), AllocError>
-    ensures { OnOk result (string_bytes text.new ≡ string_bytes text.old
-        ++ thread_text process thread name.now) }
+    ensures { OnOk result (Adds text.old text.new (thread_text process thread name.now)) }
 {
     let name = json(alloc, name)?;
     push_thread_name(text, process, thread, name.as_str())?;
@@ -192,8 +183,7 @@ fn push_thread_name(
     thread: u128,
     name: &str,
 ) -> Result<(), AllocError>
-    ensures { OnOk result (string_bytes text.new ≡ string_bytes text.old
-        ++ thread_name process thread name.now) }
+    ensures { OnOk result (Adds text.old text.new (thread_name process thread name.now)) }
 {
     write!(
         text,
@@ -203,8 +193,7 @@ fn push_thread_name(
 
 /// Appends the place of a thread.
 fn push_thread_place(text: &mut String, process: u32, thread: u128) -> Result<(), AllocError>
-    ensures { OnOk result (string_bytes text.new ≡ string_bytes text.old
-        ++ thread_place process thread) }
+    ensures { OnOk result (Adds text.old text.new (thread_place process thread)) }
 {
     write!(
         text,
@@ -219,8 +208,7 @@ fn push_events(
     chart: &Chart<'_>,
     kind: LaneKind,
 ) -> Result<(), AllocError>
-    ensures { OnOk result (string_bytes text.new ≡ string_bytes text.old
-        ++ events_of chart.now kind) }
+    ensures { OnOk result (Adds text.old text.new (events_of chart.now kind)) }
 {
     for n in 1..chart.len() + 1 {
         if let Some(row) = chart.shown_row(kind, n) {
@@ -265,8 +253,7 @@ fn push_event(
     name: &str,
     affinity: &str,
 ) -> Result<(), AllocError>
-    ensures { OnOk result (string_bytes text.new ≡ string_bytes text.old
-        ++ event_text event.now name.now affinity.now) }
+    ensures { OnOk result (Adds text.old text.new (event_text event.now name.now affinity.now)) }
 {
     let name = json(alloc, name)?;
     let affinity = json(alloc, affinity)?;
@@ -290,8 +277,7 @@ fn push_event_start(
     start: u64,
     ticks: u64,
 ) -> Result<(), AllocError>
-    ensures { OnOk result (string_bytes text.new ≡ string_bytes text.old
-        ++ event_start name.now category.now start ticks) }
+    ensures { OnOk result (Adds text.old text.new (event_start name.now category.now start ticks)) }
 {
     write!(
         text,
@@ -301,8 +287,7 @@ fn push_event_start(
 
 /// Appends where it runs.
 fn push_event_thread(text: &mut String, process: u32, thread: u128) -> Result<(), AllocError>
-    ensures { OnOk result (string_bytes text.new ≡ string_bytes text.old
-        ++ event_thread process thread) }
+    ensures { OnOk result (Adds text.old text.new (event_thread process thread)) }
 {
     write!(text, "\"pid\":{process},\"tid\":{thread},")
 }
@@ -315,8 +300,8 @@ fn push_event_args(
     affinity: &str,
     release: u64,
 ) -> Result<(), AllocError>
-    ensures { OnOk result (string_bytes text.new ≡ string_bytes text.old
-        ++ event_args message name.now affinity.now release) }
+    ensures { OnOk result (Adds text.old text.new
+        (event_args message name.now affinity.now release)) }
 {
     write!(
         text,
@@ -340,7 +325,7 @@ fn json(alloc: Global, text: &str) -> Result<String, AllocError>
 
 /// Appends the end of the document.
 fn push_document_end(text: &mut String) -> Result<(), AllocError>
-    ensures { OnOk result (string_bytes text.new ≡ string_bytes text.old ++ document_end) }
+    ensures { OnOk result (Adds text.old text.new document_end) }
 {
     write!(text, "\n]}}\n")
 }

@@ -4,11 +4,11 @@ ghost use Rattle.std.specs.Prelude.{◌≡◌, ◌+◌, ◌^◌, ◌<◌, ◌≤
 ghost use Rattle.std.specs.Prelude.{false, length, map, replicate, set, slice_index};
 ghost use Rattle.std.specs.Prelude.{slice_index_or};
 ghost use Rattle.std.specs.List.{filter};
-ghost use Rattle.waff_draw.specs.Lanes.{families_of, lanes_of, preorder, row_of, walk_from};
+ghost use Rattle.waff_draw.specs.Lanes.{families_of, lanes_of, row_of, walk_from};
 
 use crate::marks::marks;
 use std::alloc::{AllocError, Global};
-use waff_assign::Assigned;
+use waff_assign::{Assigned, Case};
 use waff_model::{AffinityId, Tree};
 
 /// A lane: an affinity, and how many steps below the root it is.
@@ -26,18 +26,15 @@ pub enum LaneKind {
 }
 
 /// The lanes of the affinities that have a message.
-pub(crate) fn lanes(
-    alloc: Global,
-    tree: &Tree,
-    assigned: &Assigned,
-) -> Result<Vec<Lane>, AllocError>
-    requires { All (λ a. a < length tree.now) assigned.now }
-    ensures lanes { IfOk result (λ lanes. lanes.items ≡ lanes_of tree.now assigned.now) }
+pub(crate) fn lanes(alloc: Global, case: &Case<'_>) -> Result<Vec<Lane>, AllocError>
+    ensures lanes { IfOk result (λ lanes.
+        lanes.items ≡ lanes_of case.now.tree.now case.now.assigned.now) }
     ensures known { IfOk result (λ lanes.
-        All (λ lane. lane.affinity < length tree.now) lanes.items) }
+        All (λ lane. lane.affinity < length case.now.tree.now) lanes.items) }
     ensures few { IfOk result (λ lanes. length lanes.items ≤ 65536) }
 {
-    let affinities = affinities_of(alloc, assigned)?;
+    let tree = case.tree;
+    let affinities = affinities_of(alloc, case.assigned)?;
     let used = marks(alloc, tree.len() as usize, affinities.as_slice())?;
     let families = families(alloc, tree)?;
     let mut walked = Vec::with_capacity(alloc, tree.len() as usize)?;

@@ -1,12 +1,12 @@
 //! What holds of the lanes of every picture, of what is shown in them, and of the axis. Each law is
 //! a function that does nothing and whose contract is the law.
 
-ghost use Rattle.std.specs.Prelude.{◌≡◌, ◌<◌, ℕ, List};
+ghost use Rattle.std.specs.Prelude.{◌≡◌, ℕ, List};
 ghost use Rattle.waff_model.specs.Tree.{IsTree, Node};
 ghost use Rattle.waff_draw.specs.Lanes.{lanes_of};
 ghost use Rattle.waff_draw.specs.Laws.{DepthIsSteps, HasLines, IsPreorder, LaneIsOne};
 ghost use Rattle.waff_draw.specs.Laws.{RowIsOfLane, ShowsAll, ShowsTicksInPart, whole_part};
-ghost use Rattle.waff_draw.specs.Scene.{Scene, end_in, from_in};
+ghost use Rattle.waff_draw.specs.Scene.{Scene};
 
 /// An affinity that has a message has one lane, and no other affinity has any.
 pub fn lane_is_one()
@@ -43,5 +43,5 @@ pub fn whole_shows_all()
 
 /// The axis has a line at each multiple of its step that is in the part or at its end.
 pub fn axis_has_lines()
-    ensures { (scene : Scene) → from_in scene < end_in scene → HasLines scene }
+    ensures { (scene : Scene) → HasLines scene }
 {}

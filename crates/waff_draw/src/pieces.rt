@@ -1,14 +1,15 @@
 //! The pieces of the document, one function each.
 
-ghost use Rattle.std.specs.Prelude.{◌≡◌, ◌++◌, OnOk, string_bytes};
+ghost use Rattle.std.specs.Prelude.{◌≡◌, OnOk};
+ghost use Rattle.waff_plan_text.specs.Lines.{Adds};
 ghost use Rattle.waff_draw.specs.Pieces as pieces;
 
 use std::alloc::AllocError;
-use waff_figures::Ratio;
+use waff_plan_text::Ratio;
 
 /// Appends the colours, for light and for dark.
 pub(crate) fn push_style(text: &mut String) -> Result<(), AllocError>
-    ensures { OnOk result (string_bytes text.new ≡ string_bytes text.old ++ pieces.style_text) }
+    ensures { OnOk result (Adds text.old text.new pieces.style_text) }
 {
     write!(
         text,
@@ -18,7 +19,7 @@ pub(crate) fn push_style(text: &mut String) -> Result<(), AllocError>
 
 /// Appends what the bars are.
 pub(crate) fn push_legend(text: &mut String) -> Result<(), AllocError>
-    ensures { OnOk result (string_bytes text.new ≡ string_bytes text.old ++ pieces.legend_text) }
+    ensures { OnOk result (Adds text.old text.new pieces.legend_text) }
 {
     write!(
         text,
@@ -28,8 +29,7 @@ pub(crate) fn push_legend(text: &mut String) -> Result<(), AllocError>
 
 /// Appends the top of the document, of this height.
 pub(crate) fn push_top_start(text: &mut String, height: u64) -> Result<(), AllocError>
-    ensures { OnOk result (string_bytes text.new ≡ string_bytes text.old
-        ++ pieces.top_start height) }
+    ensures { OnOk result (Adds text.old text.new (pieces.top_start height)) }
 {
     writeln!(
         text,
@@ -46,8 +46,7 @@ pub(crate) fn push_heading_start(
 ) -> Result<(), AllocError>
     requires first { speedup.0 ≡ total }
     requires second { speedup.1 ≡ length }
-    ensures { OnOk result (string_bytes text.new ≡ string_bytes text.old
-        ++ pieces.heading_start length total) }
+    ensures { OnOk result (Adds text.old text.new (pieces.heading_start length total)) }
 {
     write!(
         text,
@@ -57,7 +56,7 @@ pub(crate) fn push_heading_start(
 
 /// Appends the end of what is told of the plan.
 pub(crate) fn push_heading_end(text: &mut String) -> Result<(), AllocError>
-    ensures { OnOk result (string_bytes text.new ≡ string_bytes text.old ++ pieces.heading_end) }
+    ensures { OnOk result (Adds text.old text.new pieces.heading_end) }
 {
     write!(text, "</text>\n")
 }
@@ -69,8 +68,7 @@ pub(crate) fn push_lane_start(
     left: u64,
     base: u64,
 ) -> Result<(), AllocError>
-    ensures { OnOk result (string_bytes text.new ≡ string_bytes text.old
-        ++ pieces.lane_start top left base) }
+    ensures { OnOk result (Adds text.old text.new (pieces.lane_start top left base)) }
 {
     write!(
         text,
@@ -80,15 +78,14 @@ pub(crate) fn push_lane_start(
 
 /// Appends the end of a lane, behind its name.
 pub(crate) fn push_lane_end(text: &mut String) -> Result<(), AllocError>
-    ensures { OnOk result (string_bytes text.new ≡ string_bytes text.old ++ pieces.lane_end) }
+    ensures { OnOk result (Adds text.old text.new pieces.lane_end) }
 {
     write!(text, "</text></g>\n")
 }
 
 /// Appends the name of a worker's lane.
 pub(crate) fn push_worker_name(text: &mut String, worker: u32) -> Result<(), AllocError>
-    ensures { OnOk result (string_bytes text.new ≡ string_bytes text.old
-        ++ pieces.worker_name worker) }
+    ensures { OnOk result (Adds text.old text.new (pieces.worker_name worker)) }
 {
     write!(text, "worker {worker}")
 }
@@ -100,8 +97,7 @@ pub(crate) fn push_tick_label(
     bottom: u64,
     tick: u128,
 ) -> Result<(), AllocError>
-    ensures { OnOk result (string_bytes text.new ≡ string_bytes text.old
-        ++ pieces.tick_label place bottom tick) }
+    ensures { OnOk result (Adds text.old text.new (pieces.tick_label place bottom tick)) }
 {
     writeln!(
         text,
@@ -116,8 +112,7 @@ pub(crate) fn push_plan_start(
     span: u128,
     units: u64,
 ) -> Result<(), AllocError>
-    ensures { OnOk result (string_bytes text.new ≡ string_bytes text.old
-        ++ pieces.plan_start height span units) }
+    ensures { OnOk result (Adds text.old text.new (pieces.plan_start height span units)) }
 {
     writeln!(
         text,
@@ -127,8 +122,7 @@ pub(crate) fn push_plan_start(
 
 /// Appends a line through all lanes.
 pub(crate) fn push_grid_line(text: &mut String, tick: u128, units: u64) -> Result<(), AllocError>
-    ensures { OnOk result (string_bytes text.new ≡ string_bytes text.old
-        ++ pieces.grid_line tick units) }
+    ensures { OnOk result (Adds text.old text.new (pieces.grid_line tick units)) }
 {
     writeln!(text, "<path d='M{tick} 0v{units}'/>")
 }
@@ -140,8 +134,7 @@ pub(crate) fn push_bar_place(
     left: u64,
     top: u128,
 ) -> Result<(), AllocError>
-    ensures { OnOk result (string_bytes text.new ≡ string_bytes text.old
-        ++ pieces.bar_place mark.now left top) }
+    ensures { OnOk result (Adds text.old text.new (pieces.bar_place mark.now left top)) }
 {
     write!(text, "<rect{mark} x='{left}' y='{top}'")
 }
@@ -153,30 +146,28 @@ pub(crate) fn push_bar_size(
     height: u32,
     message: u32,
 ) -> Result<(), AllocError>
-    ensures { OnOk result (string_bytes text.new ≡ string_bytes text.old
-        ++ pieces.bar_size width height message) }
+    ensures { OnOk result (Adds text.old text.new (pieces.bar_size width height message)) }
 {
     write!(text, " width='{width}' height='{height}'><title>{message} ")
 }
 
 /// Appends what stands between the names of a message and of its affinity.
 pub(crate) fn push_bar_middle(text: &mut String) -> Result<(), AllocError>
-    ensures { OnOk result (string_bytes text.new ≡ string_bytes text.old ++ pieces.bar_middle) }
+    ensures { OnOk result (Adds text.old text.new pieces.bar_middle) }
 {
     write!(text, " in ")
 }
 
 /// Appends the end of a bar, behind the name of the affinity.
 pub(crate) fn push_bar_end(text: &mut String, start: u64, finish: u64) -> Result<(), AllocError>
-    ensures { OnOk result (string_bytes text.new ≡ string_bytes text.old
-        ++ pieces.bar_end start finish) }
+    ensures { OnOk result (Adds text.old text.new (pieces.bar_end start finish)) }
 {
     writeln!(text, ": {start} to {finish}</title></rect>")
 }
 
 /// Appends the end of the document.
 pub(crate) fn push_document_end(text: &mut String) -> Result<(), AllocError>
-    ensures { OnOk result (string_bytes text.new ≡ string_bytes text.old ++ pieces.document_end) }
+    ensures { OnOk result (Adds text.old text.new pieces.document_end) }
 {
     write!(text, "</svg>\n</svg>\n")
 }

@@ -1,12 +1,12 @@
 //! The picture as a document in SVG.
 
-ghost use Rattle.std.specs.Prelude.{◌≡◌, ◌<◌, ◌≤◌, ◌++◌, All, IfOk, OnOk, length, string_bytes};
+ghost use Rattle.std.specs.Prelude.{◌≡◌, ◌<◌, ◌≤◌, IfOk, OnOk, length, string_bytes};
 ghost use Rattle.std.specs.List.{flat_map, range_with_len};
 ghost use Rattle.waff_plan.specs.Work.{total_of};
+ghost use Rattle.waff_plan_text.specs.Lines.{Adds};
 ghost use Rattle.waff_plan_text.specs.Spelling.{worker_field};
-ghost use Rattle.waff_draw.specs.Parts.{IsPart};
-ghost use Rattle.waff_draw.specs.Scene.{end_in, from_in, lanes_in, length_in, rows_in, scene_of};
-ghost use Rattle.waff_draw.specs.Scene.{span_in, work_of_scene, workers_in};
+ghost use Rattle.waff_draw.specs.Scene.{end_in, from_in, lanes_in, length_in, rows_in};
+ghost use Rattle.waff_draw.specs.Scene.{scene_of_case, span_in, work_of_scene, workers_in};
 ghost use Rattle.waff_draw.specs.Svg.{affinity_lane, each_line, grid_text, ground_text};
 ghost use Rattle.waff_draw.specs.Svg.{heading_text, plan_text, svg_text, tick_text, top_text};
 ghost use Rattle.waff_draw.specs.Svg.{upto, worker_lane};
@@ -22,29 +22,22 @@ use crate::pieces::{
 };
 use crate::xml::push_xml;
 use std::alloc::{AllocError, Global};
-use waff_assign::Assigned;
-use waff_figures::Ratio;
-use waff_model::{Trace, Tree};
-use waff_plan_text::GivenPlan;
+use waff_assign::Case;
+use waff_plan_text::{GivenPlan, Ratio};
 
 /// The picture of this part of a plan that is given for the messages of a trace with their
 /// affinities.
 pub fn svg_text(
     alloc: Global,
-    tree: &Tree,
-    assigned: &Assigned,
-    trace: &Trace,
+    case: &Case<'_>,
     given: &GivenPlan,
     part: Part,
 ) -> Result<String, AllocError>
-    requires lengths { length assigned.now ≡ length trace.now.messages }
-    requires known { All (λ a. a < length tree.now) assigned.now }
-    requires rows { length given.now.rows ≡ length trace.now.messages }
-    requires part { IsPart part }
-    ensures { IfOk result (λ text. string_bytes text
-        ≡ svg_text (scene_of tree.now assigned.now trace.now.messages given.now part)) }
+    requires rows { length given.now.rows ≡ length case.now.trace.now.messages }
+    ensures { IfOk result (λ text.
+        string_bytes text ≡ svg_text (scene_of_case case.now given.now part)) }
 {
-    let chart = Chart::new(alloc, tree, assigned, trace, given, part)?;
+    let chart = Chart::new(alloc, case, given, part)?;
     picture(alloc, &chart)
 }
 
@@ -62,8 +55,7 @@ fn picture(alloc: Global, chart: &Chart<'_>) -> Result<String, AllocError>
 
 /// Appends all that stands before the bars.
 fn push_ground(text: &mut String, chart: &Chart<'_>) -> Result<(), AllocError>
-    ensures { OnOk result (string_bytes text.new ≡ string_bytes text.old
-        ++ ground_text chart.now) }
+    ensures { OnOk result (Adds text.old text.new (ground_text chart.now)) }
 {
     push_top(text, chart)?;
     push_heading(text, chart)?;
@@ -76,8 +68,7 @@ fn push_ground(text: &mut String, chart: &Chart<'_>) -> Result<(), AllocError>
 
 /// Appends the top of the document.
 fn push_top(text: &mut String, chart: &Chart<'_>) -> Result<(), AllocError>
-    ensures { OnOk result (string_bytes text.new ≡ string_bytes text.old
-        ++ top_text (rows_in chart.now)) }
+    ensures { OnOk result (Adds text.old text.new (top_text (rows_in chart.now))) }
 {
     push_top_start(text, chart.row_count() * 20 + 112)?;
     push_style(text)?;
@@ -86,9 +77,9 @@ fn push_top(text: &mut String, chart: &Chart<'_>) -> Result<(), AllocError>
 
 /// Appends what is told of the plan.
 fn push_heading(text: &mut String, chart: &Chart<'_>) -> Result<(), AllocError>
-    ensures { OnOk result (string_bytes text.new ≡ string_bytes text.old
-        ++ heading_text (length_in chart.now) (total_of (work_of_scene chart.now))
-        chart.now.plan.summary.workers) }
+    ensures { OnOk result (Adds text.old text.new
+        (heading_text (length_in chart.now) (total_of (work_of_scene chart.now))
+        chart.now.plan.summary.workers)) }
 {
     let length = chart.length();
     let total = chart.total();
@@ -100,7 +91,7 @@ fn push_heading(text: &mut String, chart: &Chart<'_>) -> Result<(), AllocError>
 
 /// Appends a number of workers.
 fn push_workers(text: &mut String, workers: Option<u32>) -> Result<(), AllocError>
-    ensures { OnOk result (string_bytes text.new ≡ string_bytes text.old ++ worker_field workers) }
+    ensures { OnOk result (Adds text.old text.new (worker_field workers)) }
 {
     match workers {
         Some(k) => write!(text, "{k}"),
@@ -110,9 +101,9 @@ fn push_workers(text: &mut String, workers: Option<u32>) -> Result<(), AllocErro
 
 /// Appends the lanes of affinities.
 fn push_affinity_lanes(text: &mut String, chart: &Chart<'_>) -> Result<(), AllocError>
-    ensures { OnOk result (string_bytes text.new ≡ string_bytes text.old
-        ++ flat_map (affinity_lane chart.now.tree (lanes_in chart.now))
-        (range_with_len 0 (length (lanes_in chart.now)))) }
+    ensures { OnOk result (Adds text.old text.new
+        (flat_map (affinity_lane chart.now.tree (lanes_in chart.now))
+        (range_with_len 0 (length (lanes_in chart.now))))) }
 {
     for row in 0..chart.lane_count() {
         push_affinity_lane(text, chart, row)?;
@@ -123,8 +114,8 @@ fn push_affinity_lanes(text: &mut String, chart: &Chart<'_>) -> Result<(), Alloc
 /// Appends the lane of an affinity.
 fn push_affinity_lane(text: &mut String, chart: &Chart<'_>, row: u64) -> Result<(), AllocError>
     requires { row < length (lanes_in chart.now) }
-    ensures { OnOk result (string_bytes text.new ≡ string_bytes text.old
-        ++ affinity_lane chart.now.tree (lanes_in chart.now) row) }
+    ensures { OnOk result (Adds text.old text.new
+        (affinity_lane chart.now.tree (lanes_in chart.now) row)) }
 {
     let _lanes = chart.lane_count();
     let left = chart.lane_depth(row).min(12) * 8 + 8;
@@ -135,9 +126,9 @@ fn push_affinity_lane(text: &mut String, chart: &Chart<'_>, row: u64) -> Result<
 
 /// Appends the lanes of workers.
 fn push_worker_lanes(text: &mut String, chart: &Chart<'_>) -> Result<(), AllocError>
-    ensures { OnOk result (string_bytes text.new ≡ string_bytes text.old
-        ++ flat_map (worker_lane (length (lanes_in chart.now)))
-        (range_with_len 1 (workers_in chart.now))) }
+    ensures { OnOk result (Adds text.old text.new
+        (flat_map (worker_lane (length (lanes_in chart.now)))
+        (range_with_len 1 (workers_in chart.now)))) }
 {
     for worker in 1..chart.worker_count() + 1 {
         push_worker_lane(text, chart, worker)?;
@@ -148,8 +139,8 @@ fn push_worker_lanes(text: &mut String, chart: &Chart<'_>) -> Result<(), AllocEr
 /// Appends the lane of a worker.
 fn push_worker_lane(text: &mut String, chart: &Chart<'_>, worker: u32) -> Result<(), AllocError>
     requires { 1 ≤ worker }
-    ensures { OnOk result (string_bytes text.new ≡ string_bytes text.old
-        ++ worker_lane (length (lanes_in chart.now)) worker) }
+    ensures { OnOk result (Adds text.old text.new
+        (worker_lane (length (lanes_in chart.now)) worker)) }
 {
     let row = chart.lane_count() + u64::from(worker) - 1;
     push_lane_start(text, row * 20 + 80, 8, row * 20 + 94)?;
@@ -159,8 +150,7 @@ fn push_worker_lane(text: &mut String, chart: &Chart<'_>, worker: u32) -> Result
 
 /// Appends the numbers of ticks along the axis, above the lanes and below.
 fn push_ticks(text: &mut String, chart: &Chart<'_>) -> Result<(), AllocError>
-    ensures { OnOk result (string_bytes text.new ≡ string_bytes text.old
-        ++ each_line chart.now (tick_text chart.now)) }
+    ensures { OnOk result (Adds text.old text.new (each_line chart.now (tick_text chart.now))) }
 {
     for i in 0..11_u32 {
         push_tick(text, chart, chart.line(i))?;
@@ -171,8 +161,8 @@ fn push_ticks(text: &mut String, chart: &Chart<'_>) -> Result<(), AllocError>
 /// Appends a number of ticks, unless it is past the end of the part.
 fn push_tick(text: &mut String, chart: &Chart<'_>, tick: u128) -> Result<(), AllocError>
     requires { from_in chart.now ≤ tick }
-    ensures { OnOk result (string_bytes text.new ≡ string_bytes text.old
-        ++ upto (end_in chart.now) (tick_text chart.now) tick) }
+    ensures { OnOk result (Adds text.old text.new
+        (upto (end_in chart.now) (tick_text chart.now) tick)) }
 {
     if tick <= chart.end() {
         let place = (tick - u128::from(chart.from())) * 1000 / chart.span() + 320;
@@ -183,8 +173,8 @@ fn push_tick(text: &mut String, chart: &Chart<'_>, tick: u128) -> Result<(), All
 
 /// Appends the ground of the bars.
 fn push_plan(text: &mut String, chart: &Chart<'_>) -> Result<(), AllocError>
-    ensures { OnOk result (string_bytes text.new ≡ string_bytes text.old
-        ++ plan_text (rows_in chart.now) (span_in chart.now)) }
+    ensures { OnOk result (Adds text.old text.new
+        (plan_text (rows_in chart.now) (span_in chart.now))) }
 {
     let rows = chart.row_count();
     push_plan_start(text, rows * 20, chart.span(), rows * 10)
@@ -192,8 +182,7 @@ fn push_plan(text: &mut String, chart: &Chart<'_>) -> Result<(), AllocError>
 
 /// Appends the lines of the axis through all rows.
 fn push_grid(text: &mut String, chart: &Chart<'_>) -> Result<(), AllocError>
-    ensures { OnOk result (string_bytes text.new ≡ string_bytes text.old
-        ++ each_line chart.now (grid_text chart.now)) }
+    ensures { OnOk result (Adds text.old text.new (each_line chart.now (grid_text chart.now))) }
 {
     for i in 0..11_u32 {
         push_grid_at(text, chart, chart.line(i))?;
@@ -204,8 +193,8 @@ fn push_grid(text: &mut String, chart: &Chart<'_>) -> Result<(), AllocError>
 /// Appends a line through all rows, unless it is past the end of the part.
 fn push_grid_at(text: &mut String, chart: &Chart<'_>, tick: u128) -> Result<(), AllocError>
     requires { from_in chart.now ≤ tick }
-    ensures { OnOk result (string_bytes text.new ≡ string_bytes text.old
-        ++ upto (end_in chart.now) (grid_text chart.now) tick) }
+    ensures { OnOk result (Adds text.old text.new
+        (upto (end_in chart.now) (grid_text chart.now) tick)) }
 {
     if tick <= chart.end() {
         push_grid_line(

@@ -1,13 +1,14 @@
 //! Text in a document of markup.
 
-ghost use Rattle.std.specs.Prelude.{◌≡◌, ◌++◌, OnOk, string_bytes};
+ghost use Rattle.std.specs.Prelude.{OnOk};
+ghost use Rattle.waff_plan_text.specs.Lines.{Adds};
 ghost use Rattle.waff_draw.specs.Xml.{xml_char, xml_text};
 
 use std::alloc::AllocError;
 
 /// Appends the characters of a text, those of markup by their entities.
 pub(crate) fn push_xml(text: &mut String, added: &str) -> Result<(), AllocError>
-    ensures { OnOk result (string_bytes text.new ≡ string_bytes text.old ++ xml_text added.now) }
+    ensures { OnOk result (Adds text.old text.new (xml_text added.now)) }
 {
     for character in added.chars() {
         push_character(text, character)?;
@@ -17,7 +18,7 @@ pub(crate) fn push_xml(text: &mut String, added: &str) -> Result<(), AllocError>
 
 /// Appends one character, by its entity where it is one of markup.
 fn push_character(text: &mut String, character: char) -> Result<(), AllocError>
-    ensures { OnOk result (string_bytes text.new ≡ string_bytes text.old ++ xml_char character) }
+    ensures { OnOk result (Adds text.old text.new (xml_char character)) }
 {
     match character {
         '&' => text.push_str("&amp;"),

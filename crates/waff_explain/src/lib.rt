@@ -9,18 +9,17 @@
 //! - `plan_texts`: the text of a plan that is refused.
 //! - `fields`: a field that is no name, no number or no text.
 //! - `sizes`: how much there is where nothing is wrong.
-//! - `verdicts`: a verdict, over `case` (a plan that was given, with what it is a plan of).
+//! - `verdicts`: a verdict, over `hearing` (a case, and the plan that was given for it).
 //!
-//! `words` is a text that grows by pieces. `files` reads the files once more, `walk` goes over the
-//! records of CSV and tells where each stands. What is refused is the matter of the readers, which
-//! decide: these words look at the same bytes again and tell what the readers saw.
+//! `words` is a text that grows by pieces, `walk` goes over the records of CSV and tells where each
+//! stands. What is refused is the matter of the readers, which decide: these words look at the
+//! refused bytes again and tell what the readers saw. What was accepted is lent to them.
 #![tactic(auto)]
 
 mod affinities;
-mod case;
 mod document;
 mod fields;
-mod files;
+mod hearing;
 mod hierarchy;
 mod layouts;
 mod named;

@@ -1,12 +1,11 @@
 //! The text of a plan that is refused.
 
 use crate::fields::{push_no_name, push_no_number, push_no_text};
-use crate::files::{layout_of, trace_of};
 use crate::walk::{Walk, find_behind_header};
 use crate::words::Words;
 use std::alloc::{AllocError, Global};
 use waff_model::limits::{MAX_TICK, MAX_WORKERS};
-use waff_model::{Layout, Version, is_name};
+use waff_model::{Trace, Version, is_name};
 use waff_parse::{number, number_within};
 use waff_plan_text::PlanTextError;
 
@@ -14,41 +13,13 @@ use waff_plan_text::PlanTextError;
 /// is wanted.
 pub fn plan_text_words(
     alloc: Global,
-    hierarchy: &[u8],
-    trace: &[u8],
-    plan: &[u8],
-    fault: PlanTextError,
-) -> Result<String, AllocError> {
-    let layout = layout_of(alloc, hierarchy)?;
-    let text = refusal_text(alloc, &layout, trace, plan, fault);
-    drop(layout);
-    text
-}
-
-fn refusal_text(
-    alloc: Global,
-    layout: &Layout,
-    trace: &[u8],
+    trace: &Trace,
     plan: &[u8],
     fault: PlanTextError,
 ) -> Result<String, AllocError> {
     let mut words = Words::new(alloc);
-    push_under(&mut words, layout, trace, plan, fault);
+    push_refusal(&mut words, trace.version(), trace.len(), plan, fault);
     words.finish()
-}
-
-/// Appends what there is to tell of the plan under a hierarchy.
-fn push_under(
-    words: &mut Words,
-    layout: &Layout,
-    trace: &[u8],
-    bytes: &[u8],
-    fault: PlanTextError,
-) {
-    match trace_of(words.alloc(), layout, trace) {
-        Ok(trace) => push_refusal(words, trace.version(), trace.len(), bytes, fault),
-        Err(_) => words.refuse(),
-    }
 }
 
 /// Appends the record that has the fault, what was found and what is wanted.

@@ -1,28 +1,20 @@
 //! How much there is where nothing is wrong.
 
-use crate::files::{layout_of, trace_of};
 use crate::words::Words;
 use std::alloc::{AllocError, Global};
-use waff_model::Layout;
+use waff_model::{Layout, Trace};
 
 /// The line that tells how many affinities and cells a hierarchy has, and how many messages a
 /// trace, where there is one.
 pub fn sizes_words(
     alloc: Global,
-    hierarchy: &[u8],
-    trace: Option<&[u8]>,
+    layout: &Layout,
+    trace: Option<&Trace>,
 ) -> Result<String, AllocError> {
-    let layout = layout_of(alloc, hierarchy)?;
-    let text = sizes_text(alloc, &layout, trace);
-    drop(layout);
-    text
-}
-
-fn sizes_text(alloc: Global, layout: &Layout, trace: Option<&[u8]>) -> Result<String, AllocError> {
     let mut words = Words::new(alloc);
     push_sizes(&mut words, layout);
     if let Some(trace) = trace {
-        push_messages(&mut words, layout, trace);
+        words.number(", messages: ", u64::from(trace.len()));
     }
     words.text("\n");
     words.finish()
@@ -35,11 +27,4 @@ fn push_sizes(words: &mut Words, layout: &Layout) {
     }
     words.number("affinities: ", u64::from(layout.tree().len()));
     words.number(", cells: ", cells);
-}
-
-fn push_messages(words: &mut Words, layout: &Layout, trace: &[u8]) {
-    match trace_of(words.alloc(), layout, trace) {
-        Ok(trace) => words.number(", messages: ", u64::from(trace.len())),
-        Err(_) => words.refuse(),
-    }
 }

@@ -1,7 +1,6 @@
 //! A trace that is refused.
 
 use crate::fields::{push_no_name, push_no_number, push_no_text, push_too_many};
-use crate::files::layout_of;
 use crate::operations::flaw_of;
 use crate::walk::Walk;
 use crate::words::Words;
@@ -10,21 +9,9 @@ use waff_model::Layout;
 use waff_model::limits::{MAX_COST, MAX_MESSAGES, MAX_OPS, MAX_RELEASE};
 use waff_read::TraceError;
 
-/// Where the fault is for which the trace is refused under the hierarchy, what was found and what
-/// is wanted.
+/// Where the fault is for which the trace is refused under the layout, what was found and what is
+/// wanted.
 pub fn trace_words(
-    alloc: Global,
-    hierarchy: &[u8],
-    trace: &[u8],
-    fault: TraceError,
-) -> Result<String, AllocError> {
-    let layout = layout_of(alloc, hierarchy)?;
-    let text = refusal_text(alloc, &layout, trace, fault);
-    drop(layout);
-    text
-}
-
-fn refusal_text(
     alloc: Global,
     layout: &Layout,
     trace: &[u8],

@@ -7,7 +7,6 @@ pub mod AddingUp
 pub mod RowLemmas
 mod PercentileLemmas
 pub mod FigureLaws
-mod RatioLemmas
 mod NameLaws
 mod WaitLemmas
 mod WaitRowLemmas

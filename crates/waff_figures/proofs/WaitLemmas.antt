@@ -126,7 +126,6 @@ link_known tree assigned work start m (Some i) is =
     record { from = one.from; to = omega (arith, one.earlier, one.to) }
 
 pub links_known : (tree : List Node) (assigned : List ℕ) (work : Work) (start : ℕ → ℕ) (links : List (Option ℕ)) (n : ℕ) → n ≡ length assigned
-    → AreLinks (IsOrdered tree assigned) work start n links → (m : ℕ) → 1 ≤ m → m ≤ n → IfSome (get_or links (m - 1) None) (IsAmongFirst n)
+    → AreLinks (IsOrdered tree assigned) work start n links → (m : ℕ) → 1 ≤ m → m ≤ length assigned → IfSome (get_or links (m - 1) None) (IsAmongFirst (length assigned))
 links_known tree assigned work start links n count are m from to =
-    subst (λ k. IfSome (get_or links (m - 1) None) (IsAmongFirst k)) (sym count)
-    (link_known tree assigned work start m (get_or links (m - 1) None) (are m from to))
+    link_known tree assigned work start m (get_or links (m - 1) None) (are m from (omega (arith, to, count)))

@@ -1,4 +1,3 @@
-pub mod Ratio
 pub mod Percentile
 pub mod Figures
 pub mod Sweep

@@ -1,7 +1,7 @@
 -- The lines that tell how good one plan is (own).
 use Rattle.std.specs.Prelude.{ℕ, List, [], ◌∷◌, codes, decimal}
 use Rattle.waff_plan_text.specs.Spelling.{worker_field}
-use Rattle.waff_figures.specs.Ratio.{ratio_field, ratio_up_field}
+use Rattle.waff_plan_text.specs.Ratio.{ratio_field, ratio_up_field}
 use Rattle.waff_figures.specs.Sweep.{busy_field}
 use Rattle.waff_figures.specs.declared.figures.Figures.{Figures}
 

@@ -9,7 +9,7 @@ use Rattle.waff_list.specs.Rules.{IsPlanBy}
 use Rattle.waff_list.specs.declared.rule.Rule.{Rule}
 use Rattle.waff_plan_text.specs.Spelling.{worker_field}
 use Rattle.waff_figures.specs.Figures.{AreFigures}
-use Rattle.waff_figures.specs.Ratio.{ratio_field, ratio_up_field}
+use Rattle.waff_plan_text.specs.Ratio.{ratio_field, ratio_up_field}
 use Rattle.waff_figures.specs.declared.figures.Figures.{Figures}
 
 -- the numbers of workers that a sweep tells of where none are asked for

@@ -2,8 +2,8 @@
 use Rattle.std.specs.Prelude.{ℕ, ◌-◌, ◌==◌, ◌&&◌, Bool, true, false, List, [], ◌∷◌, Option, Some, None, map}
 use Rattle.std.specs.Prelude.{slice_index_or, codes, decimal}
 use Rattle.std.specs.Str.{bytes_eq}
-use Rattle.waff_model.specs.Tree.{Node, name_of}
-use Rattle.waff_assign.specs.Order.{affinity_of}
+use Rattle.waff_model.specs.Tree.{Node}
+use Rattle.waff_assign.specs.Order.{affinity_name, affinity_of}
 use Rattle.waff_figures.specs.declared.wait_rows.Row.{Row}
 
 -- the name of message m
@@ -20,10 +20,6 @@ abbrev pub are_alike : Bool → List ℕ → List (List ℕ) → ℕ → ℕ →
 are_alike false assigned names m n = same_affinity assigned m n
 are_alike true assigned names m n =
     bytes_eq (name_at names m) (name_at names n) && same_affinity assigned m n
-
--- the name of the affinity of message m
-abbrev pub affinity_field : List Node → List ℕ → ℕ → List ℕ
-affinity_field tree assigned m = name_of tree (affinity_of assigned m)
 
 -- a field of the message that is waited for, `-` for a worker
 abbrev pub for_field : (ℕ → List ℕ) → Option ℕ → List ℕ
@@ -42,13 +38,13 @@ waits_header true =
 -- how many wait so, their ticks and the most ticks of one
 abbrev pub waits_row : Bool → List Node → List ℕ → List (List ℕ) → Row → List (List ℕ)
 waits_row false tree assigned names row =
-    affinity_field tree assigned row.first.message
-    ∷ for_field (affinity_field tree assigned) row.first.on
+    affinity_name tree assigned row.first.message
+    ∷ for_field (affinity_name tree assigned) row.first.on
     ∷ decimal row.messages ∷ decimal row.ticks ∷ decimal row.longest ∷ []
 waits_row true tree assigned names row =
-    name_at names row.first.message ∷ affinity_field tree assigned row.first.message
+    name_at names row.first.message ∷ affinity_name tree assigned row.first.message
     ∷ for_field (name_at names) row.first.on
-    ∷ for_field (affinity_field tree assigned) row.first.on
+    ∷ for_field (affinity_name tree assigned) row.first.on
     ∷ decimal row.messages ∷ decimal row.ticks ∷ decimal row.longest ∷ []
 
 -- the lines of the rows

@@ -41,10 +41,9 @@ fn sum_up(tree: &Tree, sums: &mut [u64])
     ensures below { (a : ℕ) → a < length tree.now
         → IsSumBelow tree.now sums.old a (slice_index sums.new a) }
 {
-    let _affinities = tree.len();
-    for a in (0..sums.len()).rev() {
+    for a in (0..tree.len()).rev() {
         if let Some(parent) = tree.parent(AffinityId(a as u16)) {
-            sums[parent.0 as usize] += sums[a];
+            sums[parent.0 as usize] += sums[a as usize];
         }
     }
 }

@@ -1,48 +1,44 @@
 //! Where the time goes, by affinity.
 
-ghost use Rattle.std.specs.Prelude.{◌≡◌, ◌<◌, ◌++◌, ℕ, List, All, IfOk, OnOk, length, map};
-ghost use Rattle.std.specs.Prelude.{slice_index, slice_index_or, string_bytes};
+ghost use Rattle.std.specs.Prelude.{◌≡◌, ◌<◌, ℕ, List, IfOk, OnOk, length, map, string_bytes};
 ghost use Rattle.std.specs.List.{range_with_len};
-ghost use Rattle.waff_model.specs.Tree.{name_of, parent_of};
-ghost use Rattle.waff_plan.specs.Timetable.{work_in};
+ghost use Rattle.waff_model.specs.Tree.{parent_of};
 ghost use Rattle.waff_plan.specs.Chain.{IsListed};
-ghost use Rattle.waff_plan_text.specs.Lines.{line_text, text_of};
+ghost use Rattle.waff_plan.specs.Planned.{planned_work};
+ghost use Rattle.waff_plan_text.specs.Lines.{Adds, line_text, text_of};
 ghost use Rattle.waff_figures.specs.ByAffinity.{AreCostsBelow, affinities_lines, parent_field};
 ghost use Rattle.waff_figures.specs.ByAffinity.{tally_row, tallied_row};
-ghost use Rattle.waff_figures.specs.Tally.{no_tally};
 
 use crate::below::costs_below;
+use crate::grouped::Grouped;
 use crate::tally::{Tally, tallies};
 use std::alloc::{AllocError, Global};
 use waff_assign::Assigned;
 use waff_model::{AffinityId, Tree};
-use waff_plan::Plan;
+use waff_plan::Planned;
 
 /// The text that tells for each affinity how many messages run in it, and the sums of their costs.
 pub fn affinities_text(
     alloc: Global,
-    tree: &Tree,
-    assigned: &Assigned,
-    plan: &Plan,
+    planned: &Planned<'_>,
     chain: &[u32],
 ) -> Result<String, AllocError>
-    requires lengths { length assigned.now ≡ length plan.now.timings }
-    requires known { All (λ a. a < length tree.now) assigned.now }
-    requires chain { IsListed (length plan.now.timings) chain.now }
+    requires chain { IsListed (planned_work planned.now).count chain.now }
     ensures { IfOk result (λ text. (below : List ℕ)
-        × AreCostsBelow tree.now assigned.now (work_in plan.now) below
-        × (string_bytes text ≡ text_of
-        (affinities_lines tree.now assigned.now (work_in plan.now) chain.now below))) }
+        × AreCostsBelow planned.now.case.tree.now planned.now.case.assigned.now
+        (planned_work planned.now) below
+        × (string_bytes text ≡ text_of (affinities_lines planned.now.case.tree.now
+        planned.now.case.assigned.now (planned_work planned.now) chain.now below))) }
 {
-    let _total = plan.total();
-    let affinities = affinities_of(alloc, assigned)?;
-    let tallies = tallies(
-        alloc,
-        affinities.as_slice(),
-        tree.len() as usize,
-        plan,
-        chain,
-    )?;
+    let tree = planned.case.tree;
+    let _total = planned.plan.total();
+    let affinities = affinities_of(alloc, planned.case.assigned)?;
+    let grouped = Grouped {
+        plan: planned.plan,
+        groups: affinities.as_slice(),
+        count: tree.len() as usize,
+    };
+    let tallies = tallies(alloc, &grouped, chain)?;
     let below = costs_below(alloc, tree, tallies.as_slice())?;
     let mut text = String::new(alloc);
     text.push_str("affinity,parent,messages,cost,below,chain\n")?;
@@ -70,9 +66,9 @@ fn push_rows(
 ) -> Result<(), AllocError>
     requires tallies { length tallies.now ≡ length tree.now }
     requires below { length below.now ≡ length tree.now }
-    ensures { OnOk result (string_bytes text.new ≡ string_bytes text.old
-        ++ text_of (map (tallied_row tree.now tallies.now below.now)
-        (range_with_len 0 (length tree.now)))) }
+    ensures { OnOk result (Adds text.old text.new
+        (text_of (map (tallied_row tree.now tallies.now below.now)
+        (range_with_len 0 (length tree.now))))) }
 {
     for a in 0..tree.len() {
         let affinity = AffinityId(a as u16);
@@ -103,8 +99,8 @@ fn push_row(
     below: u64,
     tally: &Tally,
 ) -> Result<(), AllocError>
-    ensures { OnOk result (string_bytes text.new
-        ≡ string_bytes text.old ++ line_text (tally_row name.now parent.now below tally.now)) }
+    ensures { OnOk result (Adds text.old text.new
+        (line_text (tally_row name.now parent.now below tally.now))) }
 {
     let Tally {
         messages,

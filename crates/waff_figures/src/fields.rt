@@ -6,8 +6,8 @@ ghost use Rattle.waff_plan_text.specs.Spelling.{worker_field};
 ghost use Rattle.waff_figures.specs.Sweep.{busy_field, quality_fields};
 
 use crate::figures::Figures;
-use crate::ratio::{Mean, Ratio, RatioUp};
 use std::fmt;
+use waff_plan_text::{Mean, Ratio, RatioUp};
 
 /// A number of workers, `-` where there is none.
 #[derive(Clone, Copy)]

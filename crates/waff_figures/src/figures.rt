@@ -1,11 +1,10 @@
 //! What is told of one plan.
 
-ghost use Rattle.std.specs.Prelude.{◌≡◌, ◌^◌, ◌<◌, ◌≤◌, IfOk, IfSome, length, sum_by};
+ghost use Rattle.std.specs.Prelude.{◌≡◌, ◌^◌, ◌<◌, IfOk, IfSome, length, sum_by};
 ghost use Rattle.std.specs.List.Sorted.{IsNonDecreasing, IsPermutation};
 ghost use Rattle.waff_plan.specs.Timetable.{starts_in, work_in};
 ghost use Rattle.waff_plan.specs.Bound.{IsWorkers};
-ghost use Rattle.waff_plan.specs.Laws.{least_for};
-ghost use Rattle.waff_plan.specs.Work.{Work, greatest, numbers};
+ghost use Rattle.waff_plan.specs.Work.{IsAmongFirst, Work, greatest, numbers};
 ghost use Rattle.waff_figures.specs.Figures.{AreFigures, FiguresAreOne, latencies_of, latency_of};
 ghost use Rattle.waff_figures.specs.Figures.{least_of, waits_of};
 
@@ -91,8 +90,7 @@ fn waits(plan: &Plan) -> u128
 
 /// How long message `n` takes from its release to its finish, 0 where it finishes before that.
 fn latency(plan: &Plan, n: u32) -> u64
-    requires from { 1 ≤ n }
-    requires to { n ≤ length plan.now.timings }
+    requires number { IsAmongFirst (length plan.now.timings) n }
     ensures latency { result ≡ latency_of (work_in plan.now) (starts_in plan.now) n }
     ensures small { result < 2 ^ 64 }
 {

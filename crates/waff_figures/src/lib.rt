@@ -1,14 +1,14 @@
 //! Figures of a trace under a hierarchy: how long it takes by the number of workers, where the time
 //! goes, and who waits for whom.
 //!
-//! - `ratio`, `percentile`: ratios as they are printed, and percentiles.
-//! - `figures`, over `fields`: what is told of one plan, and how it is printed; `sweep`: of the list
-//!   plans for some numbers of workers; `rate`: of any plan.
-//! - `tally`: what is told of some of the messages; `below`: costs summed up the tree; `names`: the
-//!   distinct names.
+//! - `percentile`: percentiles.
+//! - `figures`: what is told of one plan; `fields`: how it is printed; `sweep`: of the list plans
+//!   for some numbers of workers; `rate`: of any plan.
+//! - `tally`, over `grouped`: what is told of the messages of each group; `below`: costs summed up
+//!   the tree; `names`: the distinct names.
 //! - `by_affinity`, `by_name`: the texts of these.
-//! - `waits`: the waits of a plan; `wait_rows`, over `wait_groups`: those of one kind told together;
-//!   `wait_text`: their text.
+//! - `waits`: the waits of a plan; `wait_groups`: the messages that are told of together;
+//!   `wait_rows`: the waits of one kind, told in one row; `wait_text`: their text.
 //! - `laws`, `wait_laws`: the columns of these texts add up.
 #![tactic(auto)]
 
@@ -17,11 +17,11 @@ mod by_affinity;
 mod by_name;
 mod fields;
 pub mod figures;
+mod grouped;
 pub mod laws;
 mod names;
 pub mod percentile;
 mod rate;
-mod ratio;
 mod sweep;
 mod tally;
 mod wait_groups;
@@ -35,7 +35,6 @@ pub use by_name::names_text;
 pub use fields::QualityFields;
 pub use figures::{Figures, figures_of};
 pub use rate::push_rate;
-pub use ratio::{Mean, Ratio, RatioUp};
 pub use sweep::{SWEEP_WORKERS, figures_text, list_figures, list_figures_for, sweep_workers};
 pub use tally::Tally;
 pub use wait_rows::Row;

@@ -1,18 +1,18 @@
 //! How good one plan is.
 
-ghost use Rattle.std.specs.Prelude.{◌≡◌, ◌++◌, OnOk, string_bytes};
-ghost use Rattle.waff_plan_text.specs.Lines.{text_of};
+ghost use Rattle.std.specs.Prelude.{OnOk};
+ghost use Rattle.waff_plan_text.specs.Lines.{Adds, text_of};
 ghost use Rattle.waff_figures.specs.Rate.{rate_lines};
 
 use crate::fields::{BusyField, WorkerField};
 use crate::figures::Figures;
-use crate::ratio::{Mean, Ratio, RatioUp};
 use std::alloc::AllocError;
+use waff_plan_text::{Mean, Ratio, RatioUp};
 
 /// Appends a line for each figure: its name and its value.
 pub fn push_rate(text: &mut String, figures: &Figures) -> Result<(), AllocError>
-    ensures { OnOk result (string_bytes text.new ≡ string_bytes text.old
-        ++ text_of (rate_lines figures.now)) }
+    ensures { OnOk result (Adds text.old text.new
+        (text_of (rate_lines figures.now))) }
 {
     let Figures {
         workers,

@@ -11,29 +11,27 @@ ghost use Rattle.waff_figures.specs.WaitText.{are_alike};
 use crate::names::names_of;
 use crate::wait_rows::Group;
 use std::alloc::{AllocError, Global};
-use waff_assign::Assigned;
-use waff_model::Trace;
+use waff_assign::{Assigned, Case};
 
 /// The group of each message: those of one affinity are together, by name those of one name and
 /// one affinity.
 pub(crate) fn groups(
     alloc: Global,
-    assigned: &Assigned,
-    trace: &Trace,
+    case: &Case<'_>,
     by_name: bool,
 ) -> Result<Vec<Group>, AllocError>
-    requires lengths { length assigned.now ≡ length trace.now.messages }
-    ensures count { IfOk result (λ groups. length groups.items ≡ length assigned.now) }
+    ensures count { IfOk result (λ groups. length groups.items ≡ length case.now.assigned.now) }
     ensures tell { IfOk result (λ groups. (m n : ℕ)
-        → IsAmongFirst (length assigned.now) m → IsAmongFirst (length assigned.now) n
-        → same_group groups.items m n
-        ≡ are_alike by_name assigned.now (message_names trace.now.messages) m n) }
+        → IsAmongFirst (length case.now.assigned.now) m
+        → IsAmongFirst (length case.now.assigned.now) n
+        → same_group groups.items m n ≡ are_alike by_name case.now.assigned.now
+        (message_names case.now.trace.now.messages) m n) }
 {
     if by_name {
-        let found = names_of(alloc, trace)?;
-        numbered_groups(alloc, assigned, found.places.as_slice())
+        let found = names_of(alloc, case.trace)?;
+        numbered_groups(alloc, case.assigned, found.places.as_slice())
     } else {
-        affinity_groups(alloc, assigned)
+        affinity_groups(alloc, case.assigned)
     }
 }
 

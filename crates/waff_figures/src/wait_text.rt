@@ -1,16 +1,16 @@
 //! The text that tells who waits for whom.
 
-ghost use Rattle.std.specs.Prelude.{◌≡◌, ◌<◌, ◌++◌, All, IfOk, IfSome, List, OnOk, false, length};
+ghost use Rattle.std.specs.Prelude.{◌≡◌, All, IfOk, IfSome, List, OnOk, false, length};
 ghost use Rattle.std.specs.Prelude.{map, string_bytes, true, []};
-ghost use Rattle.waff_assign.specs.Order.{IsOrdered};
-ghost use Rattle.waff_plan.specs.Timetable.{starts_in, timings_of, work_in};
+ghost use Rattle.waff_assign.specs.Order.{affinity_name};
+ghost use Rattle.waff_plan.specs.Planned.{planned_pairs, planned_starts, planned_work};
 ghost use Rattle.waff_plan.specs.Work.{IsAmongFirst};
-ghost use Rattle.waff_plan_text.specs.Lines.{line_text, text_of};
+ghost use Rattle.waff_plan_text.specs.Lines.{Adds, line_text, text_of};
 ghost use Rattle.waff_figures.specs.ByName.{message_names};
 ghost use Rattle.waff_figures.specs.Waits.{AreWaits, IsWaitAmong};
 ghost use Rattle.waff_figures.specs.WaitRows.{AreRows};
-ghost use Rattle.waff_figures.specs.WaitText.{affinity_field, are_alike, for_field, name_at};
-ghost use Rattle.waff_figures.specs.WaitText.{waits_header, waits_lines, waits_row};
+ghost use Rattle.waff_figures.specs.WaitText.{are_alike, for_field, name_at, waits_header};
+ghost use Rattle.waff_figures.specs.WaitText.{waits_lines, waits_row};
 ghost use Rattle.waff_figures.specs.declared.wait_rows.Row.{Row as RowOf};
 ghost use Rattle.waff_figures.specs.declared.waits.Wait.{Wait as WaitOf};
 
@@ -18,64 +18,50 @@ use crate::wait_groups::groups;
 use crate::wait_rows::{Row, rows};
 use crate::waits::waits;
 use std::alloc::{AllocError, Global};
-use waff_assign::Assigned;
-use waff_model::{Trace, Tree};
-use waff_plan::Plan;
+use waff_assign::Case;
+use waff_plan::Planned;
 
 /// The text that tells for each pair of affinities how long messages of the one wait for messages
 /// of the other, and by name for each pair of names and affinities.
 pub fn waiting_text(
     alloc: Global,
-    tree: &Tree,
-    assigned: &Assigned,
-    trace: &Trace,
-    plan: &Plan,
+    planned: &Planned<'_>,
     by_name: bool,
 ) -> Result<String, AllocError>
-    requires lengths { length assigned.now ≡ length trace.now.messages }
-    requires known { All (λ a. a < length tree.now) assigned.now }
-    requires timings { plan.now.timings ≡ timings_of trace.now.messages }
     ensures { IfOk result (λ text. (waits : List WaitOf) × (rows : List RowOf)
-        × AreWaits (IsOrdered tree.now assigned.now) (work_in plan.now) (starts_in plan.now) waits
-        × AreRows (are_alike by_name assigned.now (message_names trace.now.messages)) waits rows
-        × (string_bytes text ≡ text_of (waits_lines by_name tree.now assigned.now
-        (message_names trace.now.messages) rows))) }
+        × AreWaits (planned_pairs planned.now) (planned_work planned.now)
+        (planned_starts planned.now) waits
+        × AreRows (are_alike by_name planned.now.case.assigned.now
+        (message_names planned.now.case.trace.now.messages)) waits rows
+        × (string_bytes text ≡ text_of (waits_lines by_name planned.now.case.tree.now
+        planned.now.case.assigned.now (message_names planned.now.case.trace.now.messages) rows))) }
 {
-    let rows = waiting_rows(alloc, tree, assigned, trace, plan, by_name)?;
+    let rows = waiting_rows(alloc, planned, by_name)?;
     let mut text = String::new(alloc);
     push_header(&mut text, by_name)?;
-    push_rows(&mut text, tree, assigned, trace, by_name, rows.as_slice())?;
+    push_rows(&mut text, &planned.case, by_name, rows.as_slice())?;
     Ok(text)
 }
 
 /// What is told of the waits of the plan.
-fn waiting_rows(
-    alloc: Global,
-    tree: &Tree,
-    assigned: &Assigned,
-    trace: &Trace,
-    plan: &Plan,
-    by_name: bool,
-) -> Result<Vec<Row>, AllocError>
-    requires lengths { length assigned.now ≡ length trace.now.messages }
-    requires known { All (λ a. a < length tree.now) assigned.now }
-    requires timings { plan.now.timings ≡ timings_of trace.now.messages }
+fn waiting_rows(alloc: Global, planned: &Planned<'_>, by_name: bool) -> Result<Vec<Row>, AllocError>
     ensures rows { IfOk result (λ rows. (waits : List WaitOf)
-        × AreWaits (IsOrdered tree.now assigned.now) (work_in plan.now) (starts_in plan.now) waits
-        × AreRows (are_alike by_name assigned.now (message_names trace.now.messages)) waits
-        rows.items) }
+        × AreWaits (planned_pairs planned.now) (planned_work planned.now)
+        (planned_starts planned.now) waits
+        × AreRows (are_alike by_name planned.now.case.assigned.now
+        (message_names planned.now.case.trace.now.messages)) waits rows.items) }
     ensures among { IfOk result (λ rows.
-        All (λ row. IsWaitAmong (length assigned.now) row.first) rows.items) }
+        All (λ row. IsWaitAmong (length planned.now.case.assigned.now) row.first) rows.items) }
 {
-    let waits = waits(alloc, tree, assigned, plan)?;
-    let groups = groups(alloc, assigned, trace, by_name)?;
+    let waits = waits(alloc, planned)?;
+    let groups = groups(alloc, &planned.case, by_name)?;
     rows(alloc, waits.as_slice(), groups.as_slice())
 }
 
 /// Appends the first line.
 fn push_header(text: &mut String, by_name: bool) -> Result<(), AllocError>
-    ensures { OnOk result (string_bytes text.new
-        ≡ string_bytes text.old ++ line_text (waits_header by_name)) }
+    ensures { OnOk result (Adds text.old text.new
+        (line_text (waits_header by_name))) }
 {
     if by_name {
         text.push_str("name,affinity,forname,foraffinity,messages,ticks,longest\n")
@@ -87,62 +73,44 @@ fn push_header(text: &mut String, by_name: bool) -> Result<(), AllocError>
 /// Appends the lines of all rows.
 fn push_rows(
     text: &mut String,
-    tree: &Tree,
-    assigned: &Assigned,
-    trace: &Trace,
+    case: &Case<'_>,
     by_name: bool,
     rows: &[Row],
 ) -> Result<(), AllocError>
-    requires lengths { length assigned.now ≡ length trace.now.messages }
-    requires known { All (λ a. a < length tree.now) assigned.now }
-    requires among { All (λ row. IsWaitAmong (length assigned.now) row.first) rows.now }
-    ensures { OnOk result (string_bytes text.new ≡ string_bytes text.old ++ text_of
-        (map (waits_row by_name tree.now assigned.now (message_names trace.now.messages))
-        rows.now)) }
+    requires among { All (λ row. IsWaitAmong (length case.now.assigned.now) row.first) rows.now }
+    ensures { OnOk result (Adds text.old text.new
+        (text_of
+        (map (waits_row by_name case.now.tree.now case.now.assigned.now
+        (message_names case.now.trace.now.messages)) rows.now))) }
 {
     for row in rows {
-        push_row(text, tree, assigned, trace, by_name, row)?;
+        push_row(text, case, by_name, row)?;
     }
     Ok(())
 }
 
 /// Appends the line of a row.
-fn push_row(
-    text: &mut String,
-    tree: &Tree,
-    assigned: &Assigned,
-    trace: &Trace,
-    by_name: bool,
-    row: &Row,
-) -> Result<(), AllocError>
-    requires lengths { length assigned.now ≡ length trace.now.messages }
-    requires known { All (λ a. a < length tree.now) assigned.now }
-    requires among { IsWaitAmong (length assigned.now) row.now.first }
-    ensures { OnOk result (string_bytes text.new ≡ string_bytes text.old
-        ++ line_text (waits_row by_name tree.now assigned.now
-        (message_names trace.now.messages) row.now)) }
+fn push_row(text: &mut String, case: &Case<'_>, by_name: bool, row: &Row) -> Result<(), AllocError>
+    requires among { IsWaitAmong (length case.now.assigned.now) row.now.first }
+    ensures { OnOk result (Adds text.old text.new
+        (line_text (waits_row by_name case.now.tree.now case.now.assigned.now
+        (message_names case.now.trace.now.messages) row.now))) }
 {
     if by_name {
-        push_name_row(text, tree, assigned, trace, row)
+        push_name_row(text, case, row)
     } else {
-        push_affinity_row(text, tree, assigned, row)
+        push_affinity_row(text, case, row)
     }
 }
 
 /// Appends the line of a pair of affinities.
-fn push_affinity_row(
-    text: &mut String,
-    tree: &Tree,
-    assigned: &Assigned,
-    row: &Row,
-) -> Result<(), AllocError>
-    requires known { All (λ a. a < length tree.now) assigned.now }
-    requires among { IsWaitAmong (length assigned.now) row.now.first }
-    ensures { OnOk result (string_bytes text.new ≡ string_bytes text.old
-        ++ line_text (waits_row false tree.now assigned.now [] row.now)) }
+fn push_affinity_row(text: &mut String, case: &Case<'_>, row: &Row) -> Result<(), AllocError>
+    requires among { IsWaitAmong (length case.now.assigned.now) row.now.first }
+    ensures { OnOk result (Adds text.old text.new
+        (line_text (waits_row false case.now.tree.now case.now.assigned.now [] row.now))) }
 {
-    let affinity = affinity_name(tree, assigned, row.first.message);
-    let on = affinity_waited_for(tree, assigned, row.first.on);
+    let affinity = case.affinity_name(row.first.message);
+    let on = affinity_waited_for(case, row.first.on);
     let Row {
         messages,
         ticks,
@@ -153,24 +121,16 @@ fn push_affinity_row(
 }
 
 /// Appends the line of a pair of names and affinities.
-fn push_name_row(
-    text: &mut String,
-    tree: &Tree,
-    assigned: &Assigned,
-    trace: &Trace,
-    row: &Row,
-) -> Result<(), AllocError>
-    requires lengths { length assigned.now ≡ length trace.now.messages }
-    requires known { All (λ a. a < length tree.now) assigned.now }
-    requires among { IsWaitAmong (length assigned.now) row.now.first }
-    ensures { OnOk result (string_bytes text.new ≡ string_bytes text.old
-        ++ line_text (waits_row true tree.now assigned.now
-        (message_names trace.now.messages) row.now)) }
+fn push_name_row(text: &mut String, case: &Case<'_>, row: &Row) -> Result<(), AllocError>
+    requires among { IsWaitAmong (length case.now.assigned.now) row.now.first }
+    ensures { OnOk result (Adds text.old text.new
+        (line_text (waits_row true case.now.tree.now case.now.assigned.now
+        (message_names case.now.trace.now.messages) row.now))) }
 {
-    let name = message_name(trace, row.first.message);
-    let affinity = affinity_name(tree, assigned, row.first.message);
-    let on_name = name_waited_for(trace, row.first.on);
-    let on_affinity = affinity_waited_for(tree, assigned, row.first.on);
+    let name = message_name(case, row.first.message);
+    let affinity = case.affinity_name(row.first.message);
+    let on_name = name_waited_for(case, row.first.on);
+    let on_affinity = affinity_waited_for(case, row.first.on);
     let Row {
         messages,
         ticks,
@@ -183,42 +143,33 @@ fn push_name_row(
     )
 }
 
-/// The name of the affinity of message `n`.
-fn affinity_name<'a>(tree: &'a Tree, assigned: &Assigned, n: u32) -> &'a str
-    requires known { All (λ a. a < length tree.now) assigned.now }
-    requires message { IsAmongFirst (length assigned.now) n }
-    ensures { result.now ≡ affinity_field tree.now assigned.now n }
-{
-    tree.name(assigned.of(n))
-}
-
 /// The name of the affinity of what is waited for, `-` for a worker.
-fn affinity_waited_for<'a>(tree: &'a Tree, assigned: &Assigned, on: Option<u32>) -> &'a str
-    requires known { All (λ a. a < length tree.now) assigned.now }
-    requires message { IfSome on (IsAmongFirst (length assigned.now)) }
-    ensures { result.now ≡ for_field (affinity_field tree.now assigned.now) on }
+fn affinity_waited_for<'a>(case: &Case<'a>, on: Option<u32>) -> &'a str
+    requires message { IfSome on (IsAmongFirst (length case.now.assigned.now)) }
+    ensures { result.now ≡ for_field
+        (affinity_name case.now.tree.now case.now.assigned.now) on }
 {
     match on {
-        Some(n) => affinity_name(tree, assigned, n),
+        Some(n) => case.affinity_name(n),
         None => "-",
     }
 }
 
 /// The name of message `n`.
-fn message_name(trace: &Trace, n: u32) -> &str
-    requires { IsAmongFirst (length trace.now.messages) n }
-    ensures { result.now ≡ name_at (message_names trace.now.messages) n }
+fn message_name<'a>(case: &Case<'a>, n: u32) -> &'a str
+    requires message { IsAmongFirst (length case.now.assigned.now) n }
+    ensures { result.now ≡ name_at (message_names case.now.trace.now.messages) n }
 {
-    trace.message(n).name.as_str()
+    case.trace.message(n).name.as_str()
 }
 
 /// The name of the message that is waited for, `-` for a worker.
-fn name_waited_for(trace: &Trace, on: Option<u32>) -> &str
-    requires { IfSome on (IsAmongFirst (length trace.now.messages)) }
-    ensures { result.now ≡ for_field (name_at (message_names trace.now.messages)) on }
+fn name_waited_for<'a>(case: &Case<'a>, on: Option<u32>) -> &'a str
+    requires message { IfSome on (IsAmongFirst (length case.now.assigned.now)) }
+    ensures { result.now ≡ for_field (name_at (message_names case.now.trace.now.messages)) on }
 {
     match on {
-        Some(n) => message_name(trace, n),
+        Some(n) => message_name(case, n),
         None => "-",
     }
 }

@@ -1,16 +1,13 @@
 //! Who waits for whom: the waits of a plan.
 
-ghost use Rattle.std.specs.Prelude.{◌≡◌, ◌<◌, ◌++◌, All, IfOk, OnOk, IfSome, length};
-ghost use Rattle.waff_assign.specs.Order.{IsOrdered};
-ghost use Rattle.waff_plan.specs.Timetable.{starts_in, work_in};
-ghost use Rattle.waff_plan.specs.Work.{IsAmongFirst};
+ghost use Rattle.std.specs.Prelude.{◌≡◌, ◌++◌, All, IfOk, OnOk, IfSome, length};
 ghost use Rattle.std.specs.List.{AllPairs};
+ghost use Rattle.waff_plan.specs.Planned.{planned_pairs, planned_starts, planned_work};
+ghost use Rattle.waff_plan.specs.Work.{IsAmongFirst};
 ghost use Rattle.waff_figures.specs.Waits.{AreWaits, ComesFirst, IsWaitAmong, wait_of, waits_in};
 
 use std::alloc::{AllocError, Global};
-use waff_assign::Assigned;
-use waff_model::Tree;
-use waff_plan::Plan;
+use waff_plan::Planned;
 use waff_plan::links::links;
 
 /// How long a message waits for another one, or for a worker.
@@ -26,24 +23,18 @@ pub struct Wait {
 
 /// All waits of the plan, in the order of the messages; that for a message comes before that for a
 /// worker.
-pub(crate) fn waits(
-    alloc: Global,
-    tree: &Tree,
-    assigned: &Assigned,
-    plan: &Plan,
-) -> Result<Vec<Wait>, AllocError>
-    requires lengths { length plan.now.timings ≡ length assigned.now }
-    requires known { All (λ a. a < length tree.now) assigned.now }
-    ensures waits { IfOk result (λ waits. AreWaits (IsOrdered tree.now assigned.now)
-        (work_in plan.now) (starts_in plan.now) waits.items) }
+pub(crate) fn waits(alloc: Global, planned: &Planned<'_>) -> Result<Vec<Wait>, AllocError>
+    ensures waits { IfOk result (λ waits. AreWaits (planned_pairs planned.now)
+        (planned_work planned.now) (planned_starts planned.now) waits.items) }
     ensures order { IfOk result (λ waits. AllPairs ComesFirst waits.items) }
     ensures among { IfOk result (λ waits.
-        All (IsWaitAmong (length plan.now.timings)) waits.items) }
+        All (IsWaitAmong (length planned.now.case.assigned.now)) waits.items) }
 {
-    let links = links(alloc, tree, assigned, plan)?;
+    let plan = planned.plan;
+    let links = links(alloc, planned.case.tree, planned.case.assigned, plan)?;
     let mut waits = Vec::new(alloc);
     for m in 1..plan.len() + 1 {
-        push_waits(&mut waits, plan, m, links[m as usize - 1])?;
+        push_waits(&mut waits, planned, m, links[m as usize - 1])?;
     }
     Ok(waits)
 }
@@ -52,15 +43,16 @@ pub(crate) fn waits(
 /// worker until it starts.
 fn push_waits(
     waits: &mut Vec<Wait>,
-    plan: &Plan,
+    planned: &Planned<'_>,
     message: u32,
     link: Option<u32>,
 ) -> Result<(), AllocError>
-    requires message { IsAmongFirst (length plan.now.timings) message }
-    requires link { IfSome link (IsAmongFirst (length plan.now.timings)) }
+    requires message { IsAmongFirst (length planned.now.case.assigned.now) message }
+    requires link { IfSome link (IsAmongFirst (length planned.now.case.assigned.now)) }
     ensures { OnOk result (waits.new.items ≡ waits.old.items
-        ++ waits_in (work_in plan.now) (starts_in plan.now) message link) }
+        ++ waits_in (planned_work planned.now) (planned_starts planned.now) message link) }
 {
+    let plan = planned.plan;
     let release = plan.release(message);
     let ready = match link {
         Some(other) => plan.finish(other),

@@ -12,17 +12,17 @@ use waff_plan_text::PlanTextError;
 use waff_read::{HierError, TraceError};
 
 /// Why a command gave no text, or not all of it.
-#[derive(Clone, Copy, Debug, PartialEq, Eq, Error)]
+#[derive(Clone, Copy, Debug, PartialEq, Error)]
 pub enum ToolError {
     /// A hierarchy is refused; hierarchies are numbered from 1 in the order in which they are
     /// given. The fault is never an allocation failure.
-    #[error("hierarchy {file}: {fault}")]
+    #[error("hierarchy {file}")]
     Hier { file: u8, fault: HierError },
     /// The trace is refused. The fault is never an allocation failure.
-    #[error("trace: {0}")]
+    #[error("trace")]
     Trace(TraceError),
     /// The text of a plan is refused. The fault is never an allocation failure.
-    #[error("plan text: {0}")]
+    #[error("plan text")]
     PlanText(PlanTextError),
     /// The hierarchies that are compared have other spaces.
     #[error("the hierarchies have other spaces")]

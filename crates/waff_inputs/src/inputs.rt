@@ -7,7 +7,7 @@ ghost use Rattle.waff_inputs.specs.Inputs.{Accepts, Refuses, RefusesHierarchy};
 
 use crate::fault::ToolError;
 use std::alloc::{AllocError, Global};
-use waff_assign::{Assigned, assign};
+use waff_assign::{Assigned, Case, assign};
 use waff_model::{Layout, Trace};
 use waff_read::{read_hierarchy, read_trace};
 
@@ -20,6 +20,21 @@ pub struct Accepted {
     ghost lengths: { length assigned ≡ length trace.messages },
     ghost known: { All (λ affinity. affinity < length layout.tree) assigned },
     ghost fits: { trace.sizes ≡ sizes_of layout.spaces },
+}
+
+impl Accepted {
+    /// The trace under the tree of the hierarchy.
+    pub fn case(&self) -> Case<'_>
+        ensures tree { result.tree.now ≡ self.now.layout.tree }
+        ensures assigned { result.assigned.now ≡ self.now.assigned }
+        ensures trace { result.trace.now ≡ self.now.trace }
+    {
+        Case {
+            tree: self.layout.tree(),
+            assigned: &self.assigned,
+            trace: &self.trace,
+        }
+    }
 }
 
 /// Reads the hierarchy of this number.

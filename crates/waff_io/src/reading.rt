@@ -6,18 +6,15 @@ ghost use Rattle.waff_io.specs.declared.reading.ReadFault.TheVariants.{Memory};
 
 use std::alloc::{AllocError, Global};
 use std::io::Read;
-use thiserror::Error;
 
 /// Why an input was not read.
-#[derive(Clone, Copy, Debug, PartialEq, Eq, Error)]
+#[derive(Clone, Copy, Debug, PartialEq)]
 pub enum ReadFault {
     /// The reader gave an error; an interruption counts as one.
-    #[error("the input could not be read")]
     Failed,
     /// More bytes came than the limit, before an error or the end.
-    #[error("the input is too long")]
     TooLong,
-    #[error("out of memory")]
+    /// Out of memory.
     Memory,
 }
 

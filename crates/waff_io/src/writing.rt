@@ -4,11 +4,9 @@ ghost use Rattle.std.specs.Io.KnownBytes.{Appends};
 ghost use Rattle.waff_io.specs.Writing.{AppendsPart};
 
 use std::io::Write;
-use thiserror::Error;
 
 /// The writer gave an error, an interruption too, or took no byte of those that were left.
-#[derive(Clone, Copy, Debug, PartialEq, Eq, Error)]
-#[error("the text could not be written")]
+#[derive(Clone, Copy, Debug, PartialEq)]
 pub struct WriteFault;
 
 /// Writes all bytes. An interrupted write is not tried again.

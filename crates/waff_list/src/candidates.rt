@@ -16,7 +16,7 @@ pub(crate) struct Candidates {
 }
 
 impl Model for Candidates {
-    ghost use Rattle.std.specs.Prelude.{◌≡◌, ℕ, map, All};
+    ghost use Rattle.std.specs.Prelude.{◌≡◌, map, All};
     ghost use Rattle.std.specs.Ordering.{nat_cmp, ordering_then};
     ghost use Rattle.std.specs.BinaryHeap.{IsHeap, heap_items};
     ghost use Rattle.waff_list.specs.Waiting.{Ready, priority_of};

@@ -1,9 +1,8 @@
 //! What is to be planned: the messages of a trace with their needs.
 
-ghost use Rattle.std.specs.Prelude.{◌≡◌, ◌^◌, ◌<◌, ◌≤◌, length, IfOk};
+ghost use Rattle.std.specs.Prelude.{◌≡◌, ◌<◌, length, IfOk};
 ghost use Rattle.waff_order.specs.Needs.{AreLists};
 ghost use Rattle.waff_list.specs.Waiting.{AreDependents};
-ghost use Rattle.waff_list.specs.Progress.{work_of_messages};
 
 use crate::dependents::Dependents;
 use std::alloc::{AllocError, Global};

@@ -1,8 +1,8 @@
 //! The ticks at which something happens.
 
-ghost use Rattle.std.specs.Prelude.{◌≡◌, ◌^◌, ◌<◌, ◌≤◌, All, MatchOption, length};
+ghost use Rattle.std.specs.Prelude.{◌<◌, All, MatchOption};
 ghost use Rattle.waff_plan.specs.Work.{Work};
-ghost use Rattle.waff_list.specs.Progress.{work_of_messages, IsSmall, IsNextTick, IsLastTick};
+ghost use Rattle.waff_list.specs.Progress.{IsSmall, IsNextTick, IsLastTick};
 ghost use Rattle.waff_list.specs.Waiting.{AreReleases, ArePassed};
 
 use crate::finishes::Finishes;

@@ -2,7 +2,7 @@
 
 /// The model of affinities that a hierarchy is for. Here it is a label: the reader sees to it that
 /// a classical tree has at most two levels.
-#[derive(Clone, Copy, Debug, PartialEq, Eq)]
+#[derive(Clone, Copy, PartialEq)]
 pub enum Kind {
     Classical,
     Hierarchical,

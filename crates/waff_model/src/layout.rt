@@ -2,7 +2,7 @@
 
 ghost use Rattle.std.specs.List.{list_all, zip};
 ghost use Rattle.std.specs.Str.{bytes_eq};
-ghost use Rattle.std.specs.Prelude.{◌≡◌, ◌↔◌, ◌+◌, ◌<◌, ◌≤◌, ◌==◌, ◌&&◌, [], length, map, find};
+ghost use Rattle.std.specs.Prelude.{◌≡◌, ◌↔◌, ◌+◌, ◌<◌, ◌≤◌, ◌==◌, ◌&&◌, length, map, find};
 ghost use Rattle.std.specs.Prelude.{option_map, unwrap_or, None, Some, IsTrue, IfOk, IfErr, IfSome, OnOk};
 ghost use Rattle.waff_model.specs.Tree.{number_of};
 ghost use Rattle.waff_model.specs.Layout.{IsLayout, IsCell, SameSpaces, name_at, size_at};

@@ -10,10 +10,9 @@ use crate::limits::{MAX_CELLS, MAX_OWNERS, MAX_SIZE, MAX_SPACES, MAX_UNIT};
 use crate::name::{Text, is_name};
 use crate::texts::Texts;
 use crate::tree::Tree;
-use thiserror::Error;
 
 /// A space to be: its name, and its size in cells.
-#[derive(Debug, Drop)]
+#[derive(Drop)]
 pub struct SpaceSpec {
     pub name: Text,
     pub size: i64,
@@ -21,7 +20,7 @@ pub struct SpaceSpec {
 
 /// A map to be: the name of its space, how many cells in a row go to one affinity, and the names of
 /// the affinities that take turns.
-#[derive(Debug, Drop)]
+#[derive(Drop)]
 pub struct MapSpec {
     pub space: Text,
     pub unit: i64,
@@ -29,25 +28,25 @@ pub struct MapSpec {
 }
 
 /// Why rows give no layout. Where several hold, the first is answered.
-#[derive(Clone, Copy, Debug, PartialEq, Eq, Error)]
+#[derive(Clone, Copy, Debug, PartialEq)]
 pub enum LayoutError {
-    #[error("no space, too many, one whose name is not a name, or a map for no space")]
+    /// No space, too many, one whose name is not a name, or a map for no space.
     Space,
-    #[error("a size outside the limit")]
+    /// A size outside the limit.
     Size,
-    #[error("two spaces of one name")]
+    /// Two spaces of one name.
     SpaceTwice,
-    #[error("a space without map")]
+    /// A space without map.
     NoMap,
-    #[error("a space with two maps")]
+    /// A space with two maps.
     MapTwice,
-    #[error("a unit outside the limit")]
+    /// A unit outside the limit.
     Unit,
-    #[error("no owner in a map, too many, or one that is no affinity")]
+    /// No owner in a map, too many, or one that is no affinity.
     To,
-    #[error("too many cells over all spaces")]
+    /// Too many cells over all spaces.
     TooManyCells,
-    #[error("out of memory")]
+    /// Out of memory.
     Memory,
 }
 

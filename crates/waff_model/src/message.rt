@@ -4,14 +4,14 @@ use crate::name::Text;
 use crate::ops::Ops;
 
 /// The version of a trace: in the first every release is 0.
-#[derive(Clone, Copy, Debug, PartialEq, Eq)]
+#[derive(Clone, Copy, Debug, PartialEq)]
 pub enum Version {
     V1,
     V2,
 }
 
 /// A message of a trace.
-#[derive(Debug, Drop)]
+#[derive(Drop)]
 pub struct Message {
     /// A name; several messages may have it.
     pub name: Text,

@@ -31,12 +31,12 @@ fn is_name_byte(byte: u8) -> bool
 
 /// A text of its own. One that is as short as a name lies in the value itself, so that the names of
 /// many messages are not as many allocations.
-#[derive(Debug, Drop)]
+#[derive(Drop)]
 pub struct Text {
     kept: Kept,
 }
 
-#[derive(Debug, Drop)]
+#[derive(Drop)]
 enum Kept {
     Short(ArrayString<MAX_NAME>),
     Long(String),

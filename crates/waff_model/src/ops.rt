@@ -10,7 +10,7 @@ use std::marker::Model;
 
 /// The operations of a message, in the order in which they run. They are packed as far as the first
 /// one that has a large number.
-#[derive(Debug, Drop)]
+#[derive(Drop)]
 pub struct Ops {
     packed: Vec<PackedOp>,
     plain: Vec<Op>,

@@ -8,7 +8,7 @@ use crate::cell::Cell;
 use crate::op::Op;
 
 /// An operation whose spaces are below 2^8 and its value below 2^32.
-#[derive(Clone, Copy, Debug)]
+#[derive(Clone, Copy)]
 pub(crate) enum PackedOp {
     Set {
         space: u8,

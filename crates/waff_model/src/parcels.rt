@@ -1,6 +1,6 @@
 //! The table of parcels: where each cell stands among the cells of its owner.
 
-ghost use Rattle.std.specs.Prelude.{◌≡◌, ◌<◌, ◌≤◌, ◌^◌, ◌++◌, length, replicate, sum_by, All, IfOk};
+ghost use Rattle.std.specs.Prelude.{◌≡◌, ◌<◌, ◌^◌, ◌++◌, length, replicate, sum_by, All, IfOk};
 ghost use Rattle.std.specs.Prelude.{OnOk};
 ghost use Rattle.waff_model.specs.Parcel.{owners_in};
 ghost use Rattle.waff_model.specs.ParcelTable.{IsMapped, IsParcelTable, offsets_of, owners_by};

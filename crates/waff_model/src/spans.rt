@@ -4,7 +4,6 @@
 //! The places are cut into blocks, so that a long span is passed block by block.
 
 ghost use Rattle.std.specs.Prelude.{◌≡◌, ◌<◌, ◌≤◌, length, replicate, IfOk, OnOk, slice_set};
-ghost use Rattle.std.specs.Prelude.{slice_index_or};
 ghost use Rattle.waff_model.specs.Later.{Order, TellsLatest, IsNoted, by_number};
 ghost use Rattle.waff_model.specs.Later.{latest_of, latest_in, value_at};
 ghost use Rattle.waff_model.specs.Taken.{IsThinned, Takes};

@@ -13,29 +13,28 @@ use crate::nodes::Nodes;
 use crate::preorder::{Span, spans_of};
 use std::alloc::{AllocError, Global};
 use std::marker::Model;
-use thiserror::Error;
 
 /// An affinity, by its number: affinities are numbered from 0 in the order in which they were
 /// added.
-#[derive(Clone, Copy, Debug, PartialEq, Eq)]
+#[derive(Clone, Copy, Debug, PartialEq)]
 pub struct AffinityId(pub u16);
 
 /// Why an affinity was refused. Where several hold, the first is answered.
-#[derive(Clone, Copy, Debug, PartialEq, Eq, Error)]
+#[derive(Clone, Copy, Debug, PartialEq)]
 pub enum TreeError {
-    #[error("not a name")]
+    /// Not a name.
     Name,
-    #[error("an affinity of this name is there")]
+    /// An affinity of this name is there.
     Twice,
-    #[error("a second affinity without parent")]
+    /// A second affinity without parent.
     SecondRoot,
-    #[error("no affinity")]
+    /// No affinity.
     NoRoot,
-    #[error("the parent is no affinity that was added")]
+    /// The parent is no affinity that was added.
     ParentUnknown,
-    #[error("too many affinities")]
+    /// Too many affinities.
     TooMany,
-    #[error("out of memory")]
+    /// Out of memory.
     Memory,
 }
 

@@ -1,6 +1,6 @@
 //! Which of several faults is told: the one of least rank, the first of those of one rank.
 
-ghost use Rattle.std.specs.Prelude.{ℕ, ◌≡◌, ◌∷◌, [], IfOk, Result};
+ghost use Rattle.std.specs.Prelude.{ℕ, ◌≡◌, IfOk, Result};
 ghost use Rattle.waff_parse.specs.Refusals as refusals;
 
 use std::alloc::AllocError;

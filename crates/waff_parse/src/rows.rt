@@ -1,6 +1,6 @@
 //! Records of CSV, read one after the other as text.
 
-ghost use Rattle.std.specs.Prelude.{◌≡◌, IfOk, OnOk, Bool, true, false};
+ghost use Rattle.std.specs.Prelude.{◌≡◌, OnOk, true, false};
 ghost use Rattle.csv.specs.Records.{fields_of};
 ghost use Rattle.waff_parse.specs.Rows as rows;
 
@@ -9,7 +9,7 @@ use csv::{ErrorKind, Reader, ReaderBuilder, StringRecord};
 use std::alloc::Global;
 
 /// What is wrong with a record that has a field that is no text.
-#[derive(Clone, Copy, Debug, PartialEq, Eq)]
+#[derive(Clone, Copy, Debug)]
 pub struct NotText;
 
 /// A reader of all records of these bytes, none of them a header row of its own, of any number of

@@ -6,7 +6,7 @@ use csv::StringRecord;
 use std::test::Fail;
 
 // A fault that is its own rank.
-#[derive(Clone, Copy, Debug, PartialEq, Eq)]
+#[derive(Clone, Copy, Debug, PartialEq)]
 struct Fault(u32);
 
 impl Ranked for Fault {

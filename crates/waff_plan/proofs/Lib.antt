@@ -5,7 +5,7 @@ mod Steps
 pub mod Forward
 mod Latests
 mod Tables
-mod Planned
+mod LeastStarts
 mod OrderKept
 pub mod Linkings
 pub mod Ratios

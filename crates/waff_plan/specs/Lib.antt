@@ -14,3 +14,4 @@ pub mod CostedChain
 pub mod Bound
 pub mod Totals
 pub mod Unique
+pub mod Planned

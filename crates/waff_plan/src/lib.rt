@@ -25,6 +25,7 @@ mod least;
 mod linked;
 pub mod links;
 pub mod ordered;
+mod planned;
 pub mod printed;
 mod table;
 mod timetable;
@@ -34,6 +35,7 @@ pub mod unique;
 pub mod unlimited;
 
 pub use linked::Chain;
+pub use planned::Planned;
 pub use timetable::Plan;
 pub use timing::Timing;
 pub use totals::Totals;

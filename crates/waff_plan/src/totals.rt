@@ -3,7 +3,6 @@
 ghost use Rattle.std.specs.Prelude.{◌≡◌, ◌+◌, ◌^◌, ◌<◌, ◌≤◌, IfSome, length};
 ghost use Rattle.waff_plan.specs.Bound.{IsWorkers};
 ghost use Rattle.waff_plan.specs.Chain.{IsListed, chain_cost, chain_release};
-ghost use Rattle.waff_plan.specs.Timing.{timing_of};
 ghost use Rattle.waff_plan.specs.Totals.{totals_of};
 ghost use Rattle.waff_plan.specs.Timetable.{work_in, starts_in};
 

@@ -13,3 +13,4 @@ mod SpelledLaws
 pub mod SpelledLineLaws
 pub mod ExactLaws
 pub mod HeaderLaws
+mod RatioLemmas

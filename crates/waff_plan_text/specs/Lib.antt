@@ -13,3 +13,4 @@ pub mod SpelledLines
 pub mod Headers
 pub mod Exact
 pub mod Laws
+pub mod Ratio

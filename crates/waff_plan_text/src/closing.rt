@@ -5,7 +5,7 @@ ghost use Rattle.std.specs.Prelude.{◌≡◌};
 use waff_plan::Totals;
 
 /// The release and the cost of the chain, in ticks, and the two numbers that a summary compares.
-#[derive(Clone, Copy, Debug, PartialEq, Eq)]
+#[derive(Clone, Copy)]
 pub struct Closing {
     /// 0 in a text of the first version, which has no line for it.
     pub release: u64,

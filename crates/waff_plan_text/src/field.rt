@@ -1,7 +1,7 @@
 //! Fields of a plan text.
 
-ghost use Rattle.std.specs.Prelude.{◌≡◌, ◌≤◌, is_some, IfOk, IfSome, option_map};
-ghost use Rattle.waff_parse.specs.Texts.{number_of, small};
+ghost use Rattle.std.specs.Prelude.{◌≡◌, ◌≤◌, is_some, IfOk};
+ghost use Rattle.waff_parse.specs.Texts.{number_of};
 ghost use Rattle.waff_plan_text.specs.Fields as fields;
 
 use crate::refusal::Refusal;

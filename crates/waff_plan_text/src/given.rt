@@ -1,6 +1,6 @@
 //! The plan that a text gives.
 
-ghost use Rattle.std.specs.Prelude.{◌≡◌, map, ◌^◌, ◌<◌, ◌≤◌, length, All, IfOk, IfSome, option_map};
+ghost use Rattle.std.specs.Prelude.{◌≡◌, map, ◌<◌, length, IfOk};
 ghost use Rattle.waff_model.specs.Numbers.{IsAmongFirst};
 ghost use Rattle.waff_plan_text.specs.Rows.{IsWithinLimit};
 

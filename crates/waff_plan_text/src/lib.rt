@@ -5,7 +5,7 @@
 //! plan of anything.
 //!
 //! Writing:
-//! - `writing`: the text of a plan, with workers and without.
+//! - `writing`: the text of a plan, with workers and without; `ratio`: ratios as they are printed.
 //!
 //! Reading:
 //! - `refusal`: why a text is refused.
@@ -23,6 +23,7 @@ mod field;
 mod given;
 pub mod laws;
 mod lines;
+mod ratio;
 mod reading;
 mod records;
 mod refusal;
@@ -32,6 +33,7 @@ mod summary;
 mod writing;
 
 pub use given::GivenPlan;
+pub use ratio::{Mean, Ratio, RatioUp};
 pub use reading::read_plan;
 pub use refusal::PlanTextError;
 pub use row::Row;

@@ -1,6 +1,6 @@
 //! One line of a summary, by kind.
 
-ghost use Rattle.std.specs.Prelude.{◌≡◌, ◌≤◌, IfOk, IfSome, option_map, length};
+ghost use Rattle.std.specs.Prelude.{◌≡◌, IfOk, IfSome};
 ghost use Rattle.csv.specs.Records.{fields_of};
 ghost use Rattle.waff_parse.specs.Fields.{two_of, three_of};
 ghost use Rattle.waff_parse.specs.Stopping.{Gives};

@@ -1,6 +1,6 @@
 //! The reader of plan texts.
 
-ghost use Rattle.std.specs.Prelude.{◌≡◌, ◌+◌, ◌∷◌, true, ◌^◌, ◌<◌, ◌≤◌, length, drop, IfOk, OnOk};
+ghost use Rattle.std.specs.Prelude.{◌≡◌, ◌+◌, ◌∷◌, true, ◌^◌, ◌<◌, length, drop, IfOk, OnOk};
 ghost use Rattle.csv.specs.Records.{fields_of};
 ghost use Rattle.waff_parse.specs.Fields.{five_of};
 ghost use Rattle.waff_parse.specs.Rows.{Reads, is_text, records_left};

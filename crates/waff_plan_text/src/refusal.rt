@@ -3,10 +3,8 @@
 ghost use Rattle.std.specs.Prelude.{◌≡◌};
 ghost use Rattle.waff_plan_text.specs.Refusals as refusals;
 
-use thiserror::Error;
-
 /// What is wrong with a record of a plan text, in the order of the numbers that the errors have.
-#[derive(Clone, Copy, Debug, PartialEq, Eq)]
+#[derive(Clone, Copy)]
 pub enum Refusal {
     /// It is not CSV, or not text.
     Csv,
@@ -23,31 +21,23 @@ pub enum Refusal {
 }
 
 /// Why the text of a plan was refused; `at` is the number of the record, the header's being 1.
-#[derive(Clone, Copy, Debug, PartialEq, Eq, Error)]
+#[derive(Clone, Copy, Debug, PartialEq)]
 pub enum PlanTextError {
     /// CSV refuses the record, or one of its fields is not UTF-8.
-    #[error("record {at} is not CSV in UTF-8")]
     Csv { at: u64 },
     /// The first record is not the header, or there is none.
-    #[error("record {at} is not the header")]
     Header { at: u64 },
     /// A record before the summary is not a row.
-    #[error("record {at} is not a row")]
     Row { at: u64 },
     /// The message is the first without a row.
-    #[error("message {message} has no row")]
     Missing { message: u32 },
     /// The row is for a message that had one.
-    #[error("record {at} is a second row of its message")]
     Twice { at: u64 },
     /// The record is not the next line of the summary, which ends with the text.
-    #[error("record {at} is not the next line of the summary")]
     Summary { at: u64 },
     /// A number in the record is above the limit.
-    #[error("record {at} has a number above the limit")]
     TooLarge { at: u64 },
     /// A growth was refused.
-    #[error("out of memory")]
     Memory,
 }
 

@@ -11,7 +11,7 @@ use waff_model::{Text, is_name};
 use waff_parse::Stop;
 
 /// What a row says of its message: all times are ticks.
-#[derive(Debug, Drop)]
+#[derive(Drop)]
 pub struct Row {
     /// The name of the message's affinity.
     pub affinity: Text,
@@ -22,7 +22,7 @@ pub struct Row {
 }
 
 /// A row with the number of its message.
-#[derive(Debug, Drop)]
+#[derive(Drop)]
 pub struct NumberedRow {
     pub message: u32,
     pub row: Row,

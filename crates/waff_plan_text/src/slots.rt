@@ -1,6 +1,6 @@
 //! The rows so far of a plan text, by message.
 
-ghost use Rattle.std.specs.Prelude.{◌≡◌, ◌-◌, ◌≤◌, None, Some, All, IfOk, IfSome, is_some, length};
+ghost use Rattle.std.specs.Prelude.{◌≡◌, ◌-◌, None, Some, All, IfOk, IfSome, is_some, length};
 ghost use Rattle.std.specs.Prelude.{replicate, slice_set};
 ghost use Rattle.csv.specs.Records.{fields_of};
 ghost use Rattle.waff_model.specs.Numbers.{IsAmongFirst};

@@ -3,7 +3,6 @@
 ghost use Rattle.std.specs.Prelude.{◌≡◌, true, ◌+◌, ◌∷◌, ◌^◌, ◌<◌, drop, length, IfOk, IfSome};
 ghost use Rattle.std.specs.Prelude.{OnOk};
 ghost use Rattle.csv.specs.Records.{fields_of};
-ghost use Rattle.waff_parse.specs.Fields.{three_of};
 ghost use Rattle.waff_parse.specs.Rows.{Reads, records_left, is_text};
 ghost use Rattle.waff_parse.specs.Stopping.{Gives};
 ghost use Rattle.waff_plan.specs.Bound.{IsWorkers};

@@ -4,11 +4,10 @@ ghost use Rattle.std.specs.Prelude.{◌≡◌};
 ghost use Rattle.waff_read.specs.declared.hier_error.HierError.TheVariants.{Memory};
 
 use std::alloc::AllocError;
-use thiserror::Error;
 use waff_model::{AffinityId, LayoutError, TreeError};
 
 /// A key of a hierarchy file, in the order in which keys are told.
-#[derive(Clone, Copy, Debug, PartialEq, Eq)]
+#[derive(Clone, Copy, Debug, PartialEq)]
 pub enum Key {
     /// The array `affinity`.
     Affinities,
@@ -31,28 +30,21 @@ pub enum Key {
 }
 
 /// Why a hierarchy was refused. Where several hold, the first is answered.
-#[derive(Clone, Copy, Debug, PartialEq, Eq, Error)]
+#[derive(Clone, Copy, Debug, PartialEq)]
 pub enum HierError {
     /// The bytes are not TOML.
-    #[error("not TOML")]
     Toml,
     /// The model is missing, or neither `classical` nor `hierarchical`.
-    #[error("no model")]
     Model,
     /// A key is missing or of another type.
-    #[error("a key is missing or of another type: {key:?}")]
     Shape { key: Key },
     /// An affinity is refused.
-    #[error("{0}")]
     Tree(TreeError),
     /// The model is classical, and this affinity is below a child of the root.
-    #[error("an affinity of a third level in a classical hierarchy")]
     NotClassical { affinity: AffinityId },
     /// The spaces and maps are refused.
-    #[error("{0}")]
     Layout(LayoutError),
     /// A growth was refused.
-    #[error("out of memory")]
     Memory,
 }
 

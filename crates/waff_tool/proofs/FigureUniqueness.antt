@@ -25,7 +25,7 @@ use Rattle.waff_figures.specs.declared.figures.Figures.{Figures}
 use Rattle.waff_figures.proofs.FigureLaws.{figures_are_one}
 use Rattle.waff_figures.proofs.AddingUp.{cost_below_is_one}
 use Rattle.waff_figures.proofs.RowLemmas.{map_range_same}
-use Rattle.waff_tool.specs.PlanText.{work_in}
+use Rattle.waff_tool.specs.PlanText.{work_of_trace}
 use Rattle.waff_tool.specs.Figures.{IsAffinitiesText, IsNamesText, SweepTextIsOne, WhereTextIsOne}
 use Rattle.waff_tool.proofs.CertificateLemmas.{pairs_forward}
 use Rattle.waff_inputs.proofs.SameInput.{moved_back, same_input}
@@ -70,17 +70,17 @@ listed_is_one rule before work forward runs shortest workers one other p q =
 -- the sweep
 abbrev pub IsSwept : Rule → List ℕ → List ℕ → List Figures → Figures → Hierarchy → Arrivals → List ℕ → Type 0
 IsSwept rule workers starts listed unlimited layout trace assigned =
-    IsLeast (IsOrdered layout.tree assigned) (work_in trace) (start_of starts)
-    × AreListed rule (IsOrdered layout.tree assigned) (work_in trace) (length_of (work_in trace) (start_of starts)) workers listed
-    × AreFigures None (work_in trace) (length_of (work_in trace) (start_of starts)) (start_of starts) unlimited
+    IsLeast (IsOrdered layout.tree assigned) (work_of_trace trace) (start_of starts)
+    × AreListed rule (IsOrdered layout.tree assigned) (work_of_trace trace) (length_of (work_of_trace trace) (start_of starts)) workers listed
+    × AreFigures None (work_of_trace trace) (length_of (work_of_trace trace) (start_of starts)) (start_of starts) unlimited
 
-one_sweep : (rule : Rule) (layout : Hierarchy) (trace : Arrivals) (assigned : List ℕ) → IsForward (IsOrdered layout.tree assigned) (work_in trace) → EachRuns (work_in trace)
+one_sweep : (rule : Rule) (layout : Hierarchy) (trace : Arrivals) (assigned : List ℕ) → IsForward (IsOrdered layout.tree assigned) (work_of_trace trace) → EachRuns (work_of_trace trace)
     → (workers starts others : List ℕ) (listed more : List Figures) (unlimited another : Figures)
     → IsSwept rule workers starts listed unlimited layout trace assigned → IsSwept rule workers others more another layout trace assigned
     → text_of (sweep_lines listed unlimited) ≡ text_of (sweep_lines more another)
 one_sweep rule layout trace assigned forward runs workers starts others listed more unlimited another p q =
     let before = IsOrdered layout.tree assigned in
-    let work = work_in trace in
+    let work = work_of_trace trace in
     let same = least_is_one before work (start_of starts) (start_of others) p.0 q.0 in
     let lengths = same_length work (start_of starts) (start_of others) same in
     let lists = listed_is_one rule before work forward runs (length_of work (start_of starts)) workers listed more p.1
@@ -102,17 +102,17 @@ sweep_text_is_one rule hierarchy_file trace_file workers text other p q =
 -- where the time goes, by affinity
 abbrev IsParted : List ℕ → List ℕ → List ℕ → List ℕ → Hierarchy → Arrivals → List ℕ → Type 0
 IsParted starts chain below text layout trace assigned =
-    IsLeast (IsOrdered layout.tree assigned) (work_in trace) (start_of starts)
-    × IsPrinted (IsOrdered layout.tree assigned) (work_in trace) (start_of starts) chain
-    × AreCostsBelow layout.tree assigned (work_in trace) below
-    × (text ≡ text_of (affinities_lines layout.tree assigned (work_in trace) chain below))
+    IsLeast (IsOrdered layout.tree assigned) (work_of_trace trace) (start_of starts)
+    × IsPrinted (IsOrdered layout.tree assigned) (work_of_trace trace) (start_of starts) chain
+    × AreCostsBelow layout.tree assigned (work_of_trace trace) below
+    × (text ≡ text_of (affinities_lines layout.tree assigned (work_of_trace trace) chain below))
 
-one_part : (layout : Hierarchy) (trace : Arrivals) (assigned : List ℕ) → IsForward (IsOrdered layout.tree assigned) (work_in trace)
+one_part : (layout : Hierarchy) (trace : Arrivals) (assigned : List ℕ) → IsForward (IsOrdered layout.tree assigned) (work_of_trace trace)
     → (starts chain below text others links sums other : List ℕ) → IsParted starts chain below text layout trace assigned
     → IsParted others links sums other layout trace assigned → text ≡ other
 one_part layout trace assigned forward starts chain below text others links sums other p q =
     let tree = layout.tree in
-    let work = work_in trace in
+    let work = work_of_trace trace in
     let same = least_is_one (IsOrdered tree assigned) work (start_of starts) (start_of others) p.0 q.0 in
     let chains = printed_is_one (IsOrdered tree assigned) work forward (start_of starts) (start_of others) chain links same p.1 q.1 in
     let row = λ (a cost : ℕ). tally_row (name_of tree a) (parent_field tree (parent_of tree a)) cost (tally_of work chain (runs_in assigned a)) in
@@ -135,15 +135,15 @@ affinities_text_is_one hierarchy_file trace_file text other p q =
 -- by name
 abbrev IsNamed : List ℕ → List ℕ → List ℕ → Hierarchy → Arrivals → List ℕ → Type 0
 IsNamed starts chain text layout trace assigned =
-    IsLeast (IsOrdered layout.tree assigned) (work_in trace) (start_of starts)
-    × IsPrinted (IsOrdered layout.tree assigned) (work_in trace) (start_of starts) chain
-    × (text ≡ text_of (names_lines (message_names trace.messages) (work_in trace) chain))
+    IsLeast (IsOrdered layout.tree assigned) (work_of_trace trace) (start_of starts)
+    × IsPrinted (IsOrdered layout.tree assigned) (work_of_trace trace) (start_of starts) chain
+    × (text ≡ text_of (names_lines (message_names trace.messages) (work_of_trace trace) chain))
 
-one_named : (layout : Hierarchy) (trace : Arrivals) (assigned : List ℕ) → IsForward (IsOrdered layout.tree assigned) (work_in trace)
+one_named : (layout : Hierarchy) (trace : Arrivals) (assigned : List ℕ) → IsForward (IsOrdered layout.tree assigned) (work_of_trace trace)
     → (starts chain text others links other : List ℕ) → IsNamed starts chain text layout trace assigned → IsNamed others links other layout trace assigned
     → text ≡ other
 one_named layout trace assigned forward starts chain text others links other p q =
-    let work = work_in trace in
+    let work = work_of_trace trace in
     let same = least_is_one (IsOrdered layout.tree assigned) work (start_of starts) (start_of others) p.0 q.0 in
     let chains = printed_is_one (IsOrdered layout.tree assigned) work forward (start_of starts) (start_of others) chain links same p.1 q.1 in
     p.2 ∙ ap (λ c. text_of (names_lines (message_names trace.messages) work c)) chains ∙ sym q.2

@@ -3,6 +3,7 @@ pub mod CheckRefusals
 pub mod CheckUniqueness
 mod ComparisonLemmas
 mod ComparisonRefusals
+mod ExplainedFaults
 mod ExplainedLaws
 mod FigureUniqueness
 mod LineLaws

@@ -56,7 +56,7 @@ use Rattle.waff_check.proofs.OwnLaws.{own_plan_is_shortest, own_plan_is_within_b
 use Rattle.waff_check.proofs.PromiseLaws as promise
 use Rattle.waff_tool.specs.CheckText.{IsCheckText}
 use Rattle.waff_inputs.specs.Inputs as inputs
-use Rattle.waff_tool.specs.PlanText.{IsPlanText, IsWorkerPlanText, work_in}
+use Rattle.waff_tool.specs.PlanText.{IsPlanText, IsWorkerPlanText, work_of_trace}
 use Rattle.waff_tool.specs.OwnPlans.{OwnPlanPasses, OwnWorkerPlanPasses}
 use Rattle.waff_tool.proofs.CertificateLemmas.{pairs_forward}
 
@@ -75,24 +75,24 @@ timing_told : Message → Timing
 timing_told message = record { cost = message.cost; release = message.release }
 
 module _ (trace : Arrivals) (within : IsTrace trace) where
-  count_is : (work_in trace).count ≡ length trace.messages
+  count_is : (work_of_trace trace).count ≡ length trace.messages
   count_is = length-map trace.messages (λ (message : Message). let t : Timing = record { cost = message.cost; release = message.release } in t)
 
-  message_at : (m : ℕ) → IsNumber (work_in trace) m → IsMessage trace.version trace.sizes (get_or trace.messages (m - 1) nobody)
+  message_at : (m : ℕ) → IsNumber (work_of_trace trace) m → IsMessage trace.version trace.sizes (get_or trace.messages (m - 1) nobody)
   message_at m number =
       let from : 1 ≤ m = number.from in
-      let to : m ≤ (work_in trace).count = number.to in
+      let to : m ≤ (work_of_trace trace).count = number.to in
       within.messages (m - 1) nobody (omega (arith, count_is))
 
-  timing_at : (m : ℕ) → IsNumber (work_in trace) m → timing_of (timings_of trace.messages) m ≡ timing_told (get_or trace.messages (m - 1) nobody)
+  timing_at : (m : ℕ) → IsNumber (work_of_trace trace) m → timing_of (timings_of trace.messages) m ≡ timing_told (get_or trace.messages (m - 1) nobody)
   unfolding timing_told
   timing_at m number =
       let from : 1 ≤ m = number.from in
-      let to : m ≤ (work_in trace).count = number.to in
+      let to : m ≤ (work_of_trace trace).count = number.to in
       get_or-map (λ (message : Message). let t : Timing = record { cost = message.cost; release = message.release } in t) trace.messages (m - 1) nobody no_timing
       (omega (arith, count_is))
 
-  modest : IsModest trace.version (work_in trace)
+  modest : IsModest trace.version (work_of_trace trace)
   unfolding timing_told
   modest = record {
     few = omega (arith, count_is, within.few);
@@ -298,17 +298,17 @@ module _ (hierarchy_file trace_file : List ℕ) (layout : Hierarchy) (trace : Ar
   is_trace : IsTrace trace
   is_trace = trace_is_within_limits layout.spaces trace_file trace accepts.is_trace
 
-  within_limits : IsModest trace.version (work_in trace)
+  within_limits : IsModest trace.version (work_of_trace trace)
   within_limits = modest trace is_trace
 
-  forward_pairs : IsForward (IsOrdered layout.tree assigned) (work_in trace)
+  forward_pairs : IsForward (IsOrdered layout.tree assigned) (work_of_trace trace)
   forward_pairs = pairs_forward layout.tree assigned trace.messages accepts.assignment.count
 
   -- the affinities of messages have names
-  named : (n : ℕ) → IsNumber (work_in trace) n → is_name (name_of layout.tree (affinity_of assigned n)) ≡ true
+  named : (n : ℕ) → IsNumber (work_of_trace trace) n → is_name (name_of layout.tree (affinity_of assigned n)) ≡ true
   named n number =
       let from : 1 ≤ n = number.from in
-      let to : n ≤ (work_in trace).count = number.to in
+      let to : n ≤ (work_of_trace trace).count = number.to in
       let reads = (trace_is_exact layout.spaces trace_file trace).0 accepts.is_trace in
       let a = affinity_of assigned n in
       let no_node : Node = record { name = []; parent = None } in
@@ -320,19 +320,19 @@ module _ (hierarchy_file trace_file : List ℕ) (layout : Hierarchy) (trace : Ar
 
   -- a plan that is told is read, and a verdict on it is what the check prints
   module _ (text : List ℕ) (workers : Option ℕ) (start : ℕ → ℕ) (worker : ℕ → Option ℕ) (chain : List ℕ)
-      (is_chain : IsChain (IsOrdered layout.tree assigned) (work_in trace) chain)
-      (can : IsTellable trace.version layout.tree assigned (work_in trace) workers start worker chain) where
+      (is_chain : IsChain (IsOrdered layout.tree assigned) (work_of_trace trace) chain)
+      (can : IsTellable trace.version layout.tree assigned (work_of_trace trace) workers start worker chain) where
     abbrev plan : Given
-    plan = plan_told trace.version layout.tree assigned (work_in trace) workers start worker chain
+    plan = plan_told trace.version layout.tree assigned (work_of_trace trace) workers start worker chain
 
     abbrev claim : Claim
     claim = claim_of layout.tree assigned trace.messages plan
 
-    checked : plan_of trace.version (work_in trace).count text ≡ Ok plan → (v : Verdict) → IsVerdict claim v → IsCheckText hierarchy_file trace_file text v
+    checked : plan_of trace.version (work_of_trace trace).count text ≡ Ok plan → (v : Verdict) → IsVerdict claim v → IsCheckText hierarchy_file trace_file text v
     checked read v is =
         let before = IsOrdered layout.tree assigned in
-        let given = given_of trace.version before (work_in trace) within_limits forward_pairs chain is_chain layout.tree assigned workers start worker can in
-        let rows = length-map-range_with_len (row_told layout.tree assigned (work_in trace) start worker) 1 (work_in trace).count ∙ count_is trace is_trace in
+        let given = given_of trace.version before (work_of_trace trace) within_limits forward_pairs chain is_chain layout.tree assigned workers start worker can in
+        let rows = length-map-range_with_len (row_told layout.tree assigned (work_of_trace trace) start worker) 1 (work_of_trace trace).count ∙ count_is trace is_trace in
         let good = λ (a : Accepts v). promise.faultless-of claim v is a in
         record {
           layout = layout;
@@ -346,24 +346,24 @@ module _ (hierarchy_file trace_file : List ℕ) (layout : Hierarchy) (trace : Ar
           worker_plan = λ a k e. promise.worker-plan claim (good a) k e;
           one_at_a_time = λ a. promise.one-at-a-time claim (good a);
           chain = λ a. promise.chain-of claim given rows (good a);
-          shortest = λ same. promise.shortest claim (chains_are_within_length before (work_in trace)) given rows (subst (IsVerdict claim) same is);
-          bound = λ same. promise.bound claim (bound_is_within_twice before (work_in trace)) (bound_is_within_ratio before (work_in trace)) given rows
+          shortest = λ same. promise.shortest claim (chains_are_within_length before (work_of_trace trace)) given rows (subst (IsVerdict claim) same is);
+          bound = λ same. promise.bound claim (bound_is_within_twice before (work_of_trace trace)) (bound_is_within_ratio before (work_of_trace trace)) given rows
               (subst (IsVerdict claim) same is);
         }
 
 -- a text that tells a plan, and the plan that is read of it
 abbrev pub IsTold : Hierarchy → Arrivals → List ℕ → List ℕ → Option ℕ → List ℕ → (ℕ → Option ℕ) → List ℕ → Type 0
 IsTold layout trace assigned text workers starts worker chain =
-    IsTellable trace.version layout.tree assigned (work_in trace) workers (start_of starts) worker chain
-    × (plan_of trace.version (work_in trace).count text
-    ≡ Ok (plan_told trace.version layout.tree assigned (work_in trace) workers (start_of starts) worker chain))
+    IsTellable trace.version layout.tree assigned (work_of_trace trace) workers (start_of starts) worker chain
+    × (plan_of trace.version (work_of_trace trace).count text
+    ≡ Ok (plan_told trace.version layout.tree assigned (work_of_trace trace) workers (start_of starts) worker chain))
 
 -- that of a plan without workers
 pub own_plan_told : (hierarchy_file trace_file text : List ℕ) (told : IsPlanText hierarchy_file trace_file text)
     → IsTold told.layout told.trace told.assigned text None told.starts no_worker told.chain
 own_plan_told hierarchy_file trace_file text told =
     let before = IsOrdered told.layout.tree told.assigned in
-    let work = work_in told.trace in
+    let work = work_of_trace told.trace in
     let start = start_of told.starts in
     let small = within_limits hierarchy_file trace_file told.layout told.trace told.assigned told.accepts in
     let forward = forward_pairs hierarchy_file trace_file told.layout told.trace told.assigned told.accepts in
@@ -389,17 +389,17 @@ own_plan_passes hierarchy_file trace_file text told =
 
 -- the workers of a plan for k workers
 crew_of : (rule : Rule) (hierarchy_file trace_file : List ℕ) (k : ℕ) (text : List ℕ) (told : IsWorkerPlanText rule hierarchy_file trace_file k text)
-    → AreManned (work_in told.trace) (start_of told.starts) (seat_of told.workers) k
+    → AreManned (work_of_trace told.trace) (start_of told.starts) (seat_of told.workers) k
 crew_of rule hierarchy_file trace_file k text told =
     let small = within_limits hierarchy_file trace_file told.layout told.trace told.assigned told.accepts in
-    manned (work_in told.trace) (start_of told.starts) told.workers k small.some_cost told.seated told.bounded.at_once
+    manned (work_of_trace told.trace) (start_of told.starts) told.workers k small.some_cost told.seated told.bounded.at_once
 
 pub own_worker_plan_told : (rule : Rule) (hierarchy_file trace_file : List ℕ) (k : ℕ) (text : List ℕ) → IsWorkers k
     → (told : IsWorkerPlanText rule hierarchy_file trace_file k text)
     → IsTold told.layout told.trace told.assigned text (Some k) told.starts (seat_of told.workers) told.chain
 own_worker_plan_told rule hierarchy_file trace_file k text workers told =
     let before = IsOrdered told.layout.tree told.assigned in
-    let work = work_in told.trace in
+    let work = work_of_trace told.trace in
     let start = start_of told.starts in
     let small = within_limits hierarchy_file trace_file told.layout told.trace told.assigned told.accepts in
     let forward = forward_pairs hierarchy_file trace_file told.layout told.trace told.assigned told.accepts in
@@ -430,7 +430,7 @@ pub own_worker_plan_passes : (rule : Rule) (hierarchy_file trace_file : List ℕ
 own_worker_plan_passes rule hierarchy_file trace_file k text workers told =
     let is = own_worker_plan_told rule hierarchy_file trace_file k text workers told in
     let is_chain = told.bounded.is_chain in
-    let by = plan_by_priority rule (IsOrdered told.layout.tree told.assigned) (work_in told.trace) k (start_of told.starts) told.bounded.list in
+    let by = plan_by_priority rule (IsOrdered told.layout.tree told.assigned) (work_of_trace told.trace) k (start_of told.starts) told.bounded.list in
     let list = by.1 in
     let passes = checked hierarchy_file trace_file told.layout told.trace told.assigned told.accepts text (Some k) (start_of told.starts) (seat_of told.workers) told.chain is_chain
     is.0 is.1 in

@@ -25,7 +25,7 @@ use Rattle.waff_inputs.specs.declared.fault.ToolError.{ToolError}
 use Rattle.waff_inputs.specs.declared.fault.ToolError.TheVariants as tool
 use Rattle.waff_inputs.proofs.Refusals.{of_files, of_trace, refusal_is_one, refused_is}
 use Rattle.waff_inputs.proofs.SameInput.{moved_back, same_input}
-use Rattle.waff_tool.specs.PlanText.{work_in}
+use Rattle.waff_tool.specs.PlanText.{work_of_trace}
 use Rattle.waff_tool.specs.Ranks.{Admits, IsFirstRefused, IsFirstRefuted, IsHierarchy, IsRanked, IsRankedAsSwept, IsRankedUnder, RankRefusalIsOne, RankTextIsOne, RankedIsNotRefused, RefusesRank, Refutes, file_at, rank_header, rank_rows}
 use Rattle.waff_tool.specs.declared.ranks.Ranked.{Ranked}
 use Rattle.waff_tool.proofs.CertificateLemmas.{pairs_forward}
@@ -34,11 +34,11 @@ use Rattle.waff_tool.proofs.RankLemmas.{ranked_admit}
 use Rattle.waff_tool.proofs.TextUniqueness.{trace_runs}
 
 -- what is told under a hierarchy is one
-under_is_one : (rule : Rule) (layout : Hierarchy) (trace : Arrivals) (assigned : List ℕ) (k : ℕ) (one other : Ranked) → IsForward (IsOrdered layout.tree assigned) (work_in trace)
-    → EachRuns (work_in trace) → IsRankedUnder rule layout trace assigned k one → IsRankedUnder rule layout trace assigned k other → one ≡ other
+under_is_one : (rule : Rule) (layout : Hierarchy) (trace : Arrivals) (assigned : List ℕ) (k : ℕ) (one other : Ranked) → IsForward (IsOrdered layout.tree assigned) (work_of_trace trace)
+    → EachRuns (work_of_trace trace) → IsRankedUnder rule layout trace assigned k one → IsRankedUnder rule layout trace assigned k other → one ≡ other
 under_is_one rule layout trace assigned k one other forward runs p q =
     let before = IsOrdered layout.tree assigned in
-    let work = work_in trace in
+    let work = work_of_trace trace in
     let told : Kind → ℕ → ℕ → Figures → Ranked = λ kind affinities length listed. record {
       kind = kind;
       affinities = affinities;
@@ -161,11 +161,11 @@ ranked_is_not_refused rule files trace_file k text error ranked tells refused =
 
 -- the list plan alone, as a sweep tells of it
 swept_alone : (rule : Rule) (layout : Hierarchy) (trace : Arrivals) (assigned : List ℕ) (k : ℕ) (ranked : Ranked) (starts : List ℕ) (listed : List Figures) (unlimited : Figures)
-    → IsForward (IsOrdered layout.tree assigned) (work_in trace) → EachRuns (work_in trace) → IsRankedUnder rule layout trace assigned k ranked
+    → IsForward (IsOrdered layout.tree assigned) (work_of_trace trace) → EachRuns (work_of_trace trace) → IsRankedUnder rule layout trace assigned k ranked
     → IsSwept rule (k ∷ []) starts listed unlimited layout trace assigned → listed ≡ ranked.listed ∷ []
 swept_alone rule layout trace assigned k ranked starts listed unlimited forward runs p q =
     let before = IsOrdered layout.tree assigned in
-    let work = work_in trace in
+    let work = work_of_trace trace in
     let same = least_is_one before work (start_of starts) (start_of p.starts) q.0 p.least in
     let lengths : length_of work (start_of starts) ≡ ranked.length = same_length work (start_of starts) (start_of p.starts) same ∙ sym p.shortest in
     let alone : AreListed rule before work ranked.length (k ∷ []) (ranked.listed ∷ []) = record {

@@ -33,7 +33,7 @@ use Rattle.waff_figures.proofs.FigureLaws.{figures_are_one}
 use Rattle.waff_inputs.specs.Inputs.{Accepts}
 use Rattle.waff_inputs.proofs.SameInput.{moved_back, same_input, same_ok}
 use Rattle.waff_tool.specs.Figures.{IsSweepText}
-use Rattle.waff_tool.specs.PlanText.{work_in}
+use Rattle.waff_tool.specs.PlanText.{work_of_trace}
 use Rattle.waff_tool.specs.Rate.{AreRated, IsRateText, OwnPlanIsSwept, OwnWorkerPlanIsSwept, RateTextIsOne, RatedIsChecked, rated_lines}
 use Rattle.waff_tool.proofs.CertificateLemmas.{pairs_forward}
 use Rattle.waff_tool.proofs.CheckUniqueness.{check_text_is_one}
@@ -45,7 +45,7 @@ use Rattle.waff_tool.proofs.TextUniqueness.{trace_runs}
 abbrev IsRated : List ℕ → Given → Figures → Hierarchy → Arrivals → List ℕ → Type 0
 IsRated plan_file given figures layout trace assigned =
     (plan_of trace.version (length trace.messages) plan_file ≡ Ok given)
-    × AreRated (IsOrdered layout.tree assigned) (work_in trace) given.summary.workers (start_of (starts_of given)) figures
+    × AreRated (IsOrdered layout.tree assigned) (work_of_trace trace) given.summary.workers (start_of (starts_of given)) figures
 
 -- figures of the same starts, against least plans, which have one length
 rated_same : (before : Relation) (work : Work) (limit : Option ℕ) (start other : ℕ → ℕ) (one another : Figures) (starts : List ℕ)
@@ -66,7 +66,7 @@ rate_text_is_one hierarchy_file trace_file plan_file one other text another p q 
     let moved = moved_back (IsRated plan_file b.given q.figures) a.layout b.layout a.trace b.trace a.assigned b.assigned same (b.is_plan, q.rated) in
     let given = same_ok (plan_of a.trace.version (length a.trace.messages) plan_file) a.given b.given a.is_plan moved.0 in
     let before = IsOrdered a.layout.tree a.assigned in
-    let work = work_in a.trace in
+    let work = work_of_trace a.trace in
     let rated = subst (λ (g : Given). AreRated before work g.summary.workers (start_of (starts_of g)) q.figures) (sym given) moved.1 in
     let figures = rated_same before work a.given.summary.workers (start_of (starts_of a.given)) (start_of (starts_of a.given)) p.figures q.figures rated.starts
     (λ m number. refl) p.rated rated.least rated.are_figures in
@@ -92,13 +92,13 @@ module _ (version : Version) (tree : List Node) (assigned : List ℕ) (work : Wo
 told_rated : (hierarchy_file trace_file plan_file : List ℕ) (v : Verdict) (text : List ℕ) (layout : Hierarchy) (trace : Arrivals) (assigned : List ℕ)
     → Accepts hierarchy_file trace_file layout trace assigned → (given : Given) → plan_of trace.version (length trace.messages) plan_file ≡ Ok given
     → (rate : IsRateText hierarchy_file trace_file plan_file v text)
-    → AreRated (IsOrdered layout.tree assigned) (work_in trace) given.summary.workers (start_of (starts_of given)) rate.figures
+    → AreRated (IsOrdered layout.tree assigned) (work_of_trace trace) given.summary.workers (start_of (starts_of given)) rate.figures
 told_rated hierarchy_file trace_file plan_file v text layout trace assigned accepts given is_plan rate =
     let b = rate.checked in
     let same = same_input hierarchy_file trace_file layout b.layout trace b.trace assigned b.assigned accepts b.accepts in
     let moved = moved_back (IsRated plan_file b.given rate.figures) layout b.layout trace b.trace assigned b.assigned same (b.is_plan, rate.rated) in
     let given_same = same_ok (plan_of trace.version (length trace.messages) plan_file) given b.given is_plan moved.0 in
-    subst (λ (g : Given). AreRated (IsOrdered layout.tree assigned) (work_in trace) g.summary.workers (start_of (starts_of g)) rate.figures) (sym given_same) moved.1
+    subst (λ (g : Given). AreRated (IsOrdered layout.tree assigned) (work_of_trace trace) g.summary.workers (start_of (starts_of g)) rate.figures) (sym given_same) moved.1
 
 -- what is swept, for the input that a plan was told of
 told_swept : (rule : Rule) (hierarchy_file trace_file workers sweep : List ℕ) (layout : Hierarchy) (trace : Arrivals) (assigned : List ℕ)
@@ -110,17 +110,17 @@ told_swept rule hierarchy_file trace_file workers sweep layout trace assigned ac
     (swept.least, swept.are_listed, swept.are_unlimited)
 
 -- as many messages are read as the work has
-count_read : (trace : Arrivals) (text : List ℕ) (plan : Given) → plan_of trace.version (work_in trace).count text ≡ Ok plan
+count_read : (trace : Arrivals) (text : List ℕ) (plan : Given) → plan_of trace.version (work_of_trace trace).count text ≡ Ok plan
     → plan_of trace.version (length trace.messages) text ≡ Ok plan
 count_read trace text plan read =
-    let count : (work_in trace).count ≡ length trace.messages
+    let count : (work_of_trace trace).count ≡ length trace.messages
     = length-map trace.messages (λ (message : Message). let t : Timing = record { cost = message.cost; release = message.release } in t) in
     ap (λ n. plan_of trace.version n text) (sym count) ∙ read
 
 pub own_plan_is_swept : (rule : Rule) (hierarchy_file trace_file : List ℕ) → OwnPlanIsSwept rule hierarchy_file trace_file
 own_plan_is_swept rule hierarchy_file trace_file plan_file workers text sweep v told rate swept =
     let before = IsOrdered told.layout.tree told.assigned in
-    let work = work_in told.trace in
+    let work = work_of_trace told.trace in
     let start = start_of told.starts in
     let plan = plan_told told.trace.version told.layout.tree told.assigned work None start no_worker told.chain in
     let is = own_plan_told hierarchy_file trace_file plan_file told in
@@ -135,7 +135,7 @@ own_plan_is_swept rule hierarchy_file trace_file plan_file workers text sweep v 
 pub own_worker_plan_is_swept : (rule : Rule) (hierarchy_file trace_file : List ℕ) → OwnWorkerPlanIsSwept rule hierarchy_file trace_file
 own_worker_plan_is_swept rule hierarchy_file trace_file k plan_file workers text sweep v fits listed told rate swept =
     let before = IsOrdered told.layout.tree told.assigned in
-    let work = work_in told.trace in
+    let work = work_of_trace told.trace in
     let start = start_of told.starts in
     let seats = seat_of told.workers in
     let plan = plan_told told.trace.version told.layout.tree told.assigned work (Some k) start seats told.chain in

@@ -31,7 +31,7 @@ use Rattle.waff_plan_text.specs.Spelling.{no_worker, seat_of, unlimited_lines, w
 use Rattle.waff_plan.proofs.Uniqueness.{totals_same}
 use Rattle.waff_inputs.proofs.SameInput.{layout_tree, moved_back, same_input, same_ok, same_trace}
 use Rattle.waff_tool.specs.AssignText.{assign_lines}
-use Rattle.waff_tool.specs.PlanText.{IsPlanText, IsWorkerPlanText, work_in}
+use Rattle.waff_tool.specs.PlanText.{IsPlanText, IsWorkerPlanText, work_of_trace}
 use Rattle.waff_tool.specs.Comparison.{AreModels, IsCompared, IsMeasured, compare_lines}
 use Rattle.waff_tool.specs.Unique.{AssignTextIsOne, CompareTextIsOne, PlanTextIsOne}
 use Rattle.waff_tool.specs.declared.measures.Measured.{Measured}
@@ -39,7 +39,7 @@ use Rattle.waff_tool.proofs.CertificateLemmas.{pairs_forward}
 use Rattle.waff_tool.proofs.LineLaws.{lines_same}
 
 -- each message of a trace that is read runs
-pub trace_runs : (layout : Hierarchy) (file : List ℕ) (trace : Arrivals) → trace_of layout.spaces file ≡ Ok trace → EachRuns (work_in trace)
+pub trace_runs : (layout : Hierarchy) (file : List ℕ) (trace : Arrivals) → trace_of layout.spaces file ≡ Ok trace → EachRuns (work_of_trace trace)
 trace_runs layout file trace read =
     let small = trace_is_small trace (trace_is_within_limits layout.spaces file trace read) in
     small.some_cost
@@ -57,16 +57,16 @@ assign_text_is_one hierarchy_file trace_file text other p q =
 -- the plan without workers
 abbrev IsTold : List ℕ → List ℕ → List ℕ → Hierarchy → Arrivals → List ℕ → Type 0
 IsTold starts chain text layout trace assigned =
-    IsLeast (IsOrdered layout.tree assigned) (work_in trace) (start_of starts)
-    × IsPrinted (IsOrdered layout.tree assigned) (work_in trace) (start_of starts) chain
-    × (text ≡ text_of (unlimited_lines trace.version layout.tree assigned (work_in trace) (start_of starts) chain))
+    IsLeast (IsOrdered layout.tree assigned) (work_of_trace trace) (start_of starts)
+    × IsPrinted (IsOrdered layout.tree assigned) (work_of_trace trace) (start_of starts) chain
+    × (text ≡ text_of (unlimited_lines trace.version layout.tree assigned (work_of_trace trace) (start_of starts) chain))
 
-one_text : (layout : Hierarchy) (trace : Arrivals) (assigned : List ℕ) → IsForward (IsOrdered layout.tree assigned) (work_in trace)
+one_text : (layout : Hierarchy) (trace : Arrivals) (assigned : List ℕ) → IsForward (IsOrdered layout.tree assigned) (work_of_trace trace)
     → (starts chain text others links other : List ℕ) → IsTold starts chain text layout trace assigned → IsTold others links other layout trace assigned
     → text ≡ other
 one_text layout trace assigned forward starts chain text others links other p q =
     let before = IsOrdered layout.tree assigned in
-    let work = work_in trace in
+    let work = work_of_trace trace in
     let same = least_is_one before work (start_of starts) (start_of others) p.0 q.0 in
     let chains = printed_is_one before work forward (start_of starts) (start_of others) chain links same p.1 q.1 in
     p.2
@@ -86,17 +86,17 @@ unlimited_text_is_one hierarchy_file trace_file text other p q =
 -- the plan by a rule for k workers
 abbrev IsToldFor : Rule → ℕ → List ℕ → List ℕ → List ℕ → List ℕ → Hierarchy → Arrivals → List ℕ → Type 0
 IsToldFor rule k starts workers chain text layout trace assigned =
-    IsPlanBy rule (IsOrdered layout.tree assigned) (work_in trace) k (start_of starts)
-    × AreSeated (work_in trace) (start_of starts) (worker_of workers)
-    × IsPrinted (IsOrdered layout.tree assigned) (work_in trace) (start_of starts) chain
-    × (text ≡ text_of (worker_lines trace.version layout.tree assigned (work_in trace) k (start_of starts) workers chain))
+    IsPlanBy rule (IsOrdered layout.tree assigned) (work_of_trace trace) k (start_of starts)
+    × AreSeated (work_of_trace trace) (start_of starts) (worker_of workers)
+    × IsPrinted (IsOrdered layout.tree assigned) (work_of_trace trace) (start_of starts) chain
+    × (text ≡ text_of (worker_lines trace.version layout.tree assigned (work_of_trace trace) k (start_of starts) workers chain))
 
-one_text_for : (rule : Rule) (layout : Hierarchy) (trace : Arrivals) (assigned : List ℕ) (k : ℕ) → IsForward (IsOrdered layout.tree assigned) (work_in trace)
-    → EachRuns (work_in trace) → (starts workers chain text others seats links other : List ℕ) → IsToldFor rule k starts workers chain text layout trace assigned
+one_text_for : (rule : Rule) (layout : Hierarchy) (trace : Arrivals) (assigned : List ℕ) (k : ℕ) → IsForward (IsOrdered layout.tree assigned) (work_of_trace trace)
+    → EachRuns (work_of_trace trace) → (starts workers chain text others seats links other : List ℕ) → IsToldFor rule k starts workers chain text layout trace assigned
     → IsToldFor rule k others seats links other layout trace assigned → text ≡ other
 one_text_for rule layout trace assigned k forward runs starts workers chain text others seats links other p q =
     let before = IsOrdered layout.tree assigned in
-    let work = work_in trace in
+    let work = work_of_trace trace in
     let same = rule_plan_is_one before work forward runs rule k (start_of starts) (start_of others) p.0 q.0 in
     let sat = seats_are_one work (start_of starts) (start_of others) (worker_of workers) (worker_of seats) same p.1 q.1 in
     let chains = printed_is_one before work forward (start_of starts) (start_of others) chain links same p.2 q.2 in
@@ -147,9 +147,9 @@ measured_is_one layout assigned work k one other forward runs p q =
 
 -- the comparison
 compared_is_one : (classical hierarchical : Hierarchy) (trace : Arrivals) (k : ℕ) (text other : List ℕ) → IsTree classical.tree → IsTree hierarchical.tree
-    → EachRuns (work_in trace) → IsCompared classical hierarchical trace k text → IsCompared classical hierarchical trace k other → text ≡ other
+    → EachRuns (work_of_trace trace) → IsCompared classical hierarchical trace k text → IsCompared classical hierarchical trace k other → text ≡ other
 compared_is_one classical hierarchical trace k text other tree fine_tree runs p q =
-    let work = work_in trace in
+    let work = work_of_trace trace in
     let coarse = assignment_is_one classical trace.messages tree p.coarse q.coarse p.coarse_assignment q.coarse_assignment in
     let fine = assignment_is_one hierarchical trace.messages fine_tree p.fine q.fine p.fine_assignment q.fine_assignment in
     let of_classical = measured_is_one classical p.coarse work k p.of_classical q.of_classical

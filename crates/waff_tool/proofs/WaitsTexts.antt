@@ -26,7 +26,7 @@ use Rattle.waff_figures.specs.declared.waits.Wait.{Wait}
 use Rattle.waff_figures.proofs.WaitUnique.{alike_laws, rows_are_one}
 use Rattle.waff_inputs.specs.Inputs.{Accepts}
 use Rattle.waff_inputs.proofs.SameInput.{moved_back, same_input}
-use Rattle.waff_tool.specs.PlanText.{work_in}
+use Rattle.waff_tool.specs.PlanText.{work_of_trace}
 use Rattle.waff_tool.specs.WaitsText.{IsPlanFor, IsWaitsText, WaitsTextIsOne}
 use Rattle.waff_tool.proofs.CertificateLemmas.{pairs_forward}
 use Rattle.waff_tool.proofs.TextUniqueness.{trace_runs}
@@ -49,8 +49,8 @@ planned_obeys rule before work (Some k) start planned =
 
 pub told_text : (rule : Rule) (hierarchy_file trace_file : List ℕ) (workers : Option ℕ) (by_name : Bool) (layout : Hierarchy) (trace : Arrivals) (assigned starts text : List ℕ)
     → Accepts hierarchy_file trace_file layout trace assigned
-    → TicksAddUp (IsOrdered layout.tree assigned) (work_in trace)
-    → IsPlanFor rule (IsOrdered layout.tree assigned) (work_in trace) workers (start_of starts)
+    → TicksAddUp (IsOrdered layout.tree assigned) (work_of_trace trace)
+    → IsPlanFor rule (IsOrdered layout.tree assigned) (work_of_trace trace) workers (start_of starts)
     → IsTold by_name layout.tree assigned trace.messages (timings_of trace.messages) starts text
     → IsWaitsText rule hierarchy_file trace_file workers by_name text
 told_text rule hierarchy_file trace_file workers by_name layout trace assigned starts text accepts adds planned told = record {
@@ -65,7 +65,7 @@ told_text rule hierarchy_file trace_file workers by_name layout trace assigned s
   are_waits = told.2;
   are_rows = told.3;
   adds_up = adds (are_alike by_name assigned (message_names trace.messages)) (start_of starts) told.0 told.1 told.2
-      (planned_obeys rule (IsOrdered layout.tree assigned) (work_in trace) workers (start_of starts) planned) told.3;
+      (planned_obeys rule (IsOrdered layout.tree assigned) (work_of_trace trace) workers (start_of starts) planned) told.3;
   lines = told.4;
 }
 
@@ -78,8 +78,8 @@ same_plan rule before work forward runs (Some k) start other p q = rule_plan_is_
 -- the parts of a text
 abbrev IsWaited : Rule → Option ℕ → Bool → List ℕ → List Wait → List Row → List ℕ → Hierarchy → Arrivals → List ℕ → Type 0
 IsWaited rule workers by_name starts waits rows text layout trace assigned =
-    IsPlanFor rule (IsOrdered layout.tree assigned) (work_in trace) workers (start_of starts)
-    × AreWaits (IsOrdered layout.tree assigned) (work_in trace) (start_of starts) waits
+    IsPlanFor rule (IsOrdered layout.tree assigned) (work_of_trace trace) workers (start_of starts)
+    × AreWaits (IsOrdered layout.tree assigned) (work_of_trace trace) (start_of starts) waits
     × AreRows (are_alike by_name assigned (message_names trace.messages)) waits rows
     × (text ≡ text_of (waits_lines by_name layout.tree assigned (message_names trace.messages) rows))
 
@@ -89,7 +89,7 @@ waits_text_is_one rule hierarchy_file trace_file workers by_name text other p q 
     let told = moved_back (IsWaited rule workers by_name q.starts q.waits q.rows other) p.layout q.layout p.trace q.trace p.assigned q.assigned same
     (q.planned, q.are_waits, q.are_rows, q.lines) in
     let before = IsOrdered p.layout.tree p.assigned in
-    let work = work_in p.trace in
+    let work = work_of_trace p.trace in
     let names = message_names p.trace.messages in
     let forward = pairs_forward p.layout.tree p.assigned p.trace.messages p.accepts.assignment.count in
     let plans = same_plan rule before work forward (trace_runs p.layout trace_file p.trace p.accepts.is_trace) workers (start_of p.starts) (start_of q.starts)

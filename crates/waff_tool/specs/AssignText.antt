@@ -4,9 +4,9 @@ use Rattle.std.specs.Prelude.{codes, decimal, slice_get}
 use Rattle.std.specs.List.{range_with_len}
 use Rattle.waff_model.specs.Layout.{Hierarchy}
 use Rattle.waff_model.specs.Messages.{Arrivals}
-use Rattle.waff_model.specs.Tree.{Node, name_of}
+use Rattle.waff_model.specs.Tree.{Node}
 use Rattle.waff_model.specs.declared.message.Message.{Message}
-use Rattle.waff_assign.specs.Order.{affinity_of}
+use Rattle.waff_assign.specs.Order.{affinity_name}
 use Rattle.waff_plan_text.specs.Lines.{text_of}
 use Rattle.waff_inputs.specs.Inputs.{Accepts}
 
@@ -22,7 +22,7 @@ message_name messages n =
 -- the line of message n: its number, its name, and the name of its affinity
 abbrev pub assign_row : List Node → List Message → List ℕ → ℕ → List (List ℕ)
 assign_row tree messages assigned n =
-    decimal n ∷ message_name messages n ∷ name_of tree (affinity_of assigned n) ∷ []
+    decimal n ∷ message_name messages n ∷ affinity_name tree assigned n ∷ []
 
 -- the lines of an assignment
 abbrev pub assign_lines : List Node → List Message → List ℕ → List (List (List ℕ))

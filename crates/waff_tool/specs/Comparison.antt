@@ -18,7 +18,7 @@ use Rattle.waff_plan.specs.declared.totals.Totals.{Totals}
 use Rattle.waff_list.specs.declared.rule.Rule.TheVariants.{Arrival}
 use Rattle.waff_inputs.specs.Inputs.{RefusesHierarchy}
 use Rattle.waff_tool.specs.Certificates.{IsBounded, IsCertified}
-use Rattle.waff_tool.specs.PlanText.{work_in}
+use Rattle.waff_tool.specs.PlanText.{work_of_trace}
 use Rattle.waff_plan_text.specs.Lines.{text_of}
 use Rattle.waff_inputs.specs.declared.fault.ToolError.{ToolError}
 use Rattle.waff_inputs.specs.declared.fault.ToolError.TheVariants as tool
@@ -94,12 +94,12 @@ pub record IsCompared (classical hierarchical : Hierarchy)
   pub refined : Bool
   pub coarse_assignment : IsAssignment classical trace.messages coarse
   pub fine_assignment : IsAssignment hierarchical trace.messages fine
-  pub classical_measured : IsMeasured classical coarse (work_in trace) k of_classical
-  pub hierarchical_measured : IsMeasured hierarchical fine (work_in trace) k of_hierarchical
+  pub classical_measured : IsMeasured classical coarse (work_of_trace trace) k of_classical
+  pub hierarchical_measured : IsMeasured hierarchical fine (work_of_trace trace) k of_hierarchical
   pub told : IsTrue refined ↔ Refines hierarchical.tree fine classical.tree coarse
   pub no_longer : IsTrue refined → of_hierarchical.unlimited.length ≤ of_classical.unlimited.length
   pub lines : text ≡ text_of (compare_lines trace.version k
-      (total_of (work_in trace)) of_classical of_hierarchical refined)
+      (total_of (work_of_trace trace)) of_classical of_hierarchical refined)
 
 -- two files that are a classical and a hierarchical hierarchy, in either order, of the same spaces
 pub record AreModels (first_file second_file : List ℕ)

@@ -17,7 +17,7 @@ use Rattle.waff_figures.specs.Sweep.{AreListed, sweep_lines}
 use Rattle.waff_figures.specs.declared.figures.Figures.{Figures}
 use Rattle.waff_tool.specs.Certificates.{IsCertified}
 use Rattle.waff_inputs.specs.Inputs.{Accepts}
-use Rattle.waff_tool.specs.PlanText.{work_in}
+use Rattle.waff_tool.specs.PlanText.{work_of_trace}
 
 -- the text of a sweep: the figures of the plan by this rule for each of these numbers of workers,
 -- none of which is beaten by more than `least` allows, and those of the least plan
@@ -30,11 +30,11 @@ pub record IsSweepText (rule : Rule) (hierarchy_file trace_file workers text : L
   pub listed : List Figures
   pub unlimited : Figures
   pub accepts : Accepts hierarchy_file trace_file layout trace assigned
-  pub least : IsLeast (IsOrdered layout.tree assigned) (work_in trace) (start_of starts)
+  pub least : IsLeast (IsOrdered layout.tree assigned) (work_of_trace trace) (start_of starts)
   pub are_listed : AreListed rule (IsOrdered layout.tree assigned)
-      (work_in trace) (length_of (work_in trace) (start_of starts)) workers listed
-  pub are_unlimited : AreFigures None (work_in trace)
-      (length_of (work_in trace) (start_of starts)) (start_of starts) unlimited
+      (work_of_trace trace) (length_of (work_of_trace trace) (start_of starts)) workers listed
+  pub are_unlimited : AreFigures None (work_of_trace trace)
+      (length_of (work_of_trace trace) (start_of starts)) (start_of starts) unlimited
   pub lines : text ≡ text_of (sweep_lines listed unlimited)
 
 -- the text of where the time goes by affinity, with the printed chain of the least plan; its
@@ -48,11 +48,11 @@ pub record IsAffinitiesText (hierarchy_file trace_file text : List ℕ) : Type 0
   pub below : List ℕ
   pub accepts : Accepts hierarchy_file trace_file layout trace assigned
   pub certified : IsCertified (IsOrdered layout.tree assigned)
-      (work_in trace) (start_of starts) chain
-  pub are_below : AreCostsBelow layout.tree assigned (work_in trace) below
-  pub costs_add_up : CostsAddUp layout.tree assigned (work_in trace) chain
-  pub chain_adds_up : ChainAddsUp layout.tree assigned (work_in trace) chain
-  pub lines : text ≡ text_of (affinities_lines layout.tree assigned (work_in trace) chain below)
+      (work_of_trace trace) (start_of starts) chain
+  pub are_below : AreCostsBelow layout.tree assigned (work_of_trace trace) below
+  pub costs_add_up : CostsAddUp layout.tree assigned (work_of_trace trace) chain
+  pub chain_adds_up : ChainAddsUp layout.tree assigned (work_of_trace trace) chain
+  pub lines : text ≡ text_of (affinities_lines layout.tree assigned (work_of_trace trace) chain below)
 
 -- the text of where the time goes by the names of messages; its columns add up to the messages, the
 -- total and the cost of the chain
@@ -64,9 +64,9 @@ pub record IsNamesText (hierarchy_file trace_file text : List ℕ) : Type 0 wher
   pub chain : List ℕ
   pub accepts : Accepts hierarchy_file trace_file layout trace assigned
   pub certified : IsCertified (IsOrdered layout.tree assigned)
-      (work_in trace) (start_of starts) chain
-  pub names_add_up : NamesAddUp (message_names trace.messages) (work_in trace) chain
-  pub lines : text ≡ text_of (names_lines (message_names trace.messages) (work_in trace) chain)
+      (work_of_trace trace) (start_of starts) chain
+  pub names_add_up : NamesAddUp (message_names trace.messages) (work_of_trace trace) chain
+  pub lines : text ≡ text_of (names_lines (message_names trace.messages) (work_of_trace trace) chain)
 
 -- the text of where the time goes, by affinity or by name
 abbrev pub IsWhereText : List ℕ → List ℕ → Bool → List ℕ → Type 0

@@ -3,8 +3,7 @@ use Rattle.std.specs.Prelude.{ℕ, List}
 use Rattle.waff_model.specs.Messages.{Arrivals}
 use Rattle.waff_model.specs.Tree.{Node}
 use Rattle.waff_assign.specs.Order.{IsOrdered}
-use Rattle.waff_plan.specs.Timetable.{timings_of}
-use Rattle.waff_plan.specs.Timing.{work_of}
+use Rattle.waff_plan.specs.Timetable.{work_of_messages}
 use Rattle.waff_list.specs.ListRule.{IsListPlan, arrival}
 use Rattle.waff_list.specs.Seats.{IsInOrder}
 
@@ -13,5 +12,5 @@ pub record IsListOrder (tree : List Node) (assigned : List ℕ) (trace : Arrival
     (order : List ℕ) : Type 0 where
   pub start : ℕ → ℕ
   pub plan : IsListPlan (IsOrdered tree assigned) arrival
-      (work_of (timings_of trace.messages)) k start
-  pub listed : IsInOrder (work_of (timings_of trace.messages)) start order
+      (work_of_messages trace.messages) k start
+  pub listed : IsInOrder (work_of_messages trace.messages) start order

@@ -20,7 +20,7 @@ use Rattle.waff_inputs.specs.declared.fault.ToolError.{ToolError}
 use Rattle.waff_inputs.specs.declared.fault.ToolError.TheVariants as tool
 use Rattle.waff_tool.specs.Comparison.{kind_field}
 use Rattle.waff_tool.specs.Figures.{IsSweepText}
-use Rattle.waff_tool.specs.PlanText.{work_in}
+use Rattle.waff_tool.specs.PlanText.{work_of_trace}
 use Rattle.waff_tool.specs.declared.ranks.Ranked.{Ranked}
 
 -- what is told of a trace under a hierarchy: its model, how many affinities it has, how long its
@@ -30,10 +30,10 @@ pub record IsRankedUnder (rule : Rule) (layout : Hierarchy) (trace : Arrivals) (
   pub starts : List ℕ
   pub kind : ranked.kind ≡ layout.kind
   pub affinities : ranked.affinities ≡ length layout.tree
-  pub least : IsLeast (IsOrdered layout.tree assigned) (work_in trace) (start_of starts)
-  pub shortest : ranked.length ≡ length_of (work_in trace) (start_of starts)
+  pub least : IsLeast (IsOrdered layout.tree assigned) (work_of_trace trace) (start_of starts)
+  pub shortest : ranked.length ≡ length_of (work_of_trace trace) (start_of starts)
   pub listed : IsListed rule (IsOrdered layout.tree assigned)
-      (work_in trace) ranked.length ranked.listed
+      (work_of_trace trace) ranked.length ranked.listed
   pub workers : ranked.listed.workers ≡ Some k
 
 -- what is told of the bytes of a trace under those of a hierarchy

@@ -14,7 +14,7 @@ use Rattle.waff_figures.specs.Rate.{rate_lines}
 use Rattle.waff_figures.specs.declared.figures.Figures.{Figures}
 use Rattle.waff_tool.specs.CheckText.{IsCheckText, verdict_fields}
 use Rattle.waff_tool.specs.Figures.{IsSweepText}
-use Rattle.waff_tool.specs.PlanText.{IsPlanText, IsWorkerPlanText, work_in}
+use Rattle.waff_tool.specs.PlanText.{IsPlanText, IsWorkerPlanText, work_of_trace}
 
 -- the figures of a plan with these starts, whoever made it, against the least plan
 pub record AreRated (before : Relation) (work : Work) (limit : Option ℕ) (start : ℕ → ℕ)
@@ -33,7 +33,7 @@ pub record IsRateText (hierarchy_file trace_file plan_file : List ℕ) (v : Verd
     (text : List ℕ) : Type 0 where
   pub checked : IsCheckText hierarchy_file trace_file plan_file v
   pub figures : Figures
-  pub rated : AreRated (IsOrdered checked.layout.tree checked.assigned) (work_in checked.trace)
+  pub rated : AreRated (IsOrdered checked.layout.tree checked.assigned) (work_of_trace checked.trace)
       checked.given.summary.workers (start_of (starts_of checked.given)) figures
   pub lines : text ≡ text_of (rated_lines v figures)
 

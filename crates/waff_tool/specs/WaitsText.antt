@@ -17,7 +17,7 @@ use Rattle.waff_figures.specs.WaitText.{are_alike, waits_lines}
 use Rattle.waff_figures.specs.declared.wait_rows.Row.{Row}
 use Rattle.waff_figures.specs.declared.waits.Wait.{Wait}
 use Rattle.waff_inputs.specs.Inputs.{Accepts}
-use Rattle.waff_tool.specs.PlanText.{work_in}
+use Rattle.waff_tool.specs.PlanText.{work_of_trace}
 
 -- the plan by this rule for this number of workers, or the least plan, whatever the rule, where there
 -- is no number
@@ -38,11 +38,11 @@ pub record IsWaitsText (rule : Rule) (hierarchy_file trace_file : List ℕ) (wor
   pub rows : List Row
   pub accepts : Accepts hierarchy_file trace_file layout trace assigned
   pub planned : IsPlanFor rule (IsOrdered layout.tree assigned)
-      (work_in trace) workers (start_of starts)
+      (work_of_trace trace) workers (start_of starts)
   pub are_waits : AreWaits (IsOrdered layout.tree assigned)
-      (work_in trace) (start_of starts) waits
+      (work_of_trace trace) (start_of starts) waits
   pub are_rows : AreRows (are_alike by_name assigned (message_names trace.messages)) waits rows
-  pub adds_up : sum_by (λ row. row.ticks) rows ≡ waits_of (work_in trace) (start_of starts)
+  pub adds_up : sum_by (λ row. row.ticks) rows ≡ waits_of (work_of_trace trace) (start_of starts)
   pub lines : text ≡ text_of
       (waits_lines by_name layout.tree assigned (message_names trace.messages) rows)
 

@@ -1,17 +1,18 @@
 //! The check of a plan text.
-ghost use Rattle.std.specs.Prelude.{◌≡◌, ◌≢◌, ◌<◌, ℕ, All, List, IfOk, IfErr, IsErrOf, length};
+ghost use Rattle.std.specs.Prelude.{◌≡◌, ◌≢◌, Ok, ℕ, List, IfOk, IfErr, length};
 ghost use Rattle.std.specs.Prelude.{string_bytes};
-ghost use Rattle.std.specs.Io.KnownBytes.{Appends, Keeps};
 ghost use Rattle.waff_inputs.specs.Deliveries.{Delivers, Makes};
 ghost use Rattle.waff_inputs.specs.Inputs.{Accepts};
+ghost use Rattle.waff_model.specs.Layout.{Hierarchy};
+ghost use Rattle.waff_plan_text.specs.PlanTexts.{plan_of};
 ghost use Rattle.waff_tool.specs.CheckText.{IsCheckText, RefusesCheck, status_after, verdict_text};
-ghost use Rattle.waff_io.specs.Writing.{AppendsPart};
 
 use crate::verdict_line::VerdictFields;
 use std::alloc::{AllocError, Global};
 use std::io::Write;
 use std::thread::Threads;
-use waff_check::{Verdict, check, read_plan};
+use waff_assign::Case;
+use waff_check::{GivenPlan, Verdict, check, read_plan};
 use waff_inputs::{Accepted, ToolError, accept, write_text};
 
 /// Writes the verdict on the plan that the text gives for the trace under the hierarchy, and
@@ -68,11 +69,30 @@ fn verdict_on<R: Threads + Sync>(
         → RefusesCheck hierarchy trace plan.now e) }
     ensures nothing { IfErr result (λ e. e ≢ ToolError.Write) }
 {
-    let trace = &accepted.trace;
-    let given = read_plan(alloc, trace.version(), trace.len(), plan)?;
-    let tree = accepted.layout.tree();
-    let verdict = check(rt, alloc, tree, &accepted.assigned, trace, &given)?;
+    let case = accepted.case();
+    let given = read_plan(alloc, case.trace.version(), case.trace.len(), plan)?;
+    let verdict = verdict_of(rt, alloc, &case, &given)?;
     drop(given);
+    Ok(verdict)
+}
+
+/// The verdict on a plan that was read for a case.
+pub fn verdict_of<R: Threads + Sync>(
+    rt: &R,
+    alloc: Global,
+    case: &Case<'_>,
+    given: &GivenPlan,
+) -> Result<Verdict, AllocError>
+    requires rows { length given.now.rows ≡ length case.now.trace.now.messages }
+    requires version { given.now.version ≡ case.now.trace.now.version }
+    ensures { IfOk result (λ verdict. (hierarchy trace plan : List ℕ) (layout : Hierarchy)
+        → Accepts hierarchy trace layout case.now.trace.now case.now.assigned.now
+        → layout.tree ≡ case.now.tree.now
+        → plan_of case.now.trace.now.version (length case.now.trace.now.messages) plan
+        ≡ Ok given.now
+        → IsCheckText hierarchy trace plan verdict) }
+{
+    let verdict = check(rt, alloc, case.tree, case.assigned, case.trace, given)?;
     Ok(verdict)
 }
 

@@ -1,7 +1,6 @@
 //! The command that compares two hierarchies on one trace.
-ghost use Rattle.std.specs.Prelude.{◌≡◌, ◌≢◌, Ok, ℕ, List, IfOk, IfErr, IsErrOf, OnOk};
+ghost use Rattle.std.specs.Prelude.{◌≡◌, ◌≢◌, Ok, ℕ, List, IfOk, IfErr};
 ghost use Rattle.std.specs.Prelude.{string_bytes};
-ghost use Rattle.std.specs.Io.KnownBytes.{Appends, Keeps};
 ghost use Rattle.waff_model.specs.Layout.{SameSpaces};
 ghost use Rattle.waff_model.specs.Messages.{sizes_of};
 ghost use Rattle.waff_plan.specs.Bound.{IsWorkers};
@@ -9,12 +8,11 @@ ghost use Rattle.waff_read.specs.Hierarchies.{hierarchy_of};
 ghost use Rattle.waff_tool.specs.Comparison.{AreHierarchies, AreModels, IsCompared, IsCompareText};
 ghost use Rattle.waff_tool.specs.Comparison.{RefusesComparison};
 ghost use Rattle.waff_inputs.specs.Deliveries.{Delivers, Makes};
-ghost use Rattle.waff_io.specs.Writing.{AppendsPart};
 
 use crate::measures::{comparison_text, measure};
 use std::alloc::{AllocError, Global};
 use std::io::Write;
-use waff_assign::assign;
+use waff_assign::{Case, assign};
 use waff_inputs::{ToolError, deliver, read_numbered};
 use waff_model::{Kind, Layout, Trace};
 use waff_order::refines;
@@ -151,10 +149,25 @@ fn compared_text(
 {
     let coarse = assign(alloc, classical, trace)?;
     let fine = assign(alloc, hierarchical, trace)?;
-    let of_classical = measure(alloc, classical, &coarse, trace, k)?;
-    let of_hierarchical = measure(alloc, hierarchical, &fine, trace, k)?;
+    let under_classical = Case {
+        tree: classical.tree(),
+        assigned: &coarse,
+        trace,
+    };
+    let under_hierarchical = Case {
+        tree: hierarchical.tree(),
+        assigned: &fine,
+        trace,
+    };
+    let of_classical = measure(alloc, classical, &under_classical, k)?;
+    let of_hierarchical = measure(alloc, hierarchical, &under_hierarchical, k)?;
     refined_is_no_longer();
-    let refined = refines(hierarchical.tree(), &fine, classical.tree(), &coarse);
+    let refined = refines(
+        under_hierarchical.tree,
+        &fine,
+        under_classical.tree,
+        &coarse,
+    );
     let version = trace.version();
     comparison_text(alloc, version, k, &of_classical, &of_hierarchical, refined)
 }

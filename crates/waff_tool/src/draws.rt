@@ -1,25 +1,21 @@
 //! The picture of a plan.
-ghost use Rattle.std.specs.Prelude.{◌≡◌, ◌≢◌, ◌<◌, ℕ, All, List, IfOk, IfErr, IsErrOf, OnOk};
+ghost use Rattle.std.specs.Prelude.{◌≡◌, ◌≢◌, ℕ, List, IfOk, IfErr};
 ghost use Rattle.std.specs.Prelude.{length, string_bytes};
-ghost use Rattle.std.specs.Io.KnownBytes.{Appends, Keeps};
 ghost use Rattle.waff_inputs.specs.Deliveries.{Delivers, Makes};
 ghost use Rattle.waff_inputs.specs.Inputs.{Accepts};
 ghost use Rattle.waff_tool.specs.CheckText.{RefusesCheck};
-ghost use Rattle.waff_draw.specs.Parts.{IsPart};
 ghost use Rattle.waff_draw.specs.Scene.{scene_of};
 ghost use Rattle.waff_tool.specs.DrawText.{DrawTextIsOne, IsDrawText, picture_of};
-ghost use Rattle.waff_io.specs.Writing.{AppendsPart};
 
 use std::alloc::{AllocError, Global};
 use std::io::Write;
-use waff_assign::Assigned;
+use waff_assign::Case;
 use waff_check::{GivenPlan, read_plan};
 use waff_draw::{Part, events_text, svg_text};
 use waff_inputs::{Accepted, ToolError, accept, deliver};
-use waff_model::{Trace, Tree};
 
 /// As what a plan is drawn: a document in SVG for a browser, or events for a viewer of traces.
-#[derive(Clone, Copy, Debug, PartialEq, Eq)]
+#[derive(Clone, Copy)]
 pub enum Picture {
     Svg,
     TraceEvents,
@@ -36,7 +32,6 @@ pub fn draw_text<W: Write>(
     part: Part,
     writer: &mut W,
 ) -> Result<(), ToolError>
-    requires { IsPart part }
     ensures { Delivers (λ _ text. IsDrawText hierarchy.now trace.now plan.now picture part text)
         (RefusesCheck hierarchy.now trace.now plan.now) (W.contents writer.old) (W.contents writer.new) result }
 {
@@ -54,7 +49,6 @@ fn made_picture(
     picture: Picture,
     part: Part,
 ) -> Result<String, ToolError>
-    requires { IsPart part }
     ensures { Makes (λ text.
         IsDrawText hierarchy.now trace.now plan.now picture part (string_bytes text))
         (RefusesCheck hierarchy.now trace.now plan.now) result }
@@ -73,7 +67,6 @@ fn picture_on(
     picture: Picture,
     part: Part,
 ) -> Result<String, ToolError>
-    requires { IsPart part }
     ensures made { IfOk result (λ text. (hierarchy trace : List ℕ)
         → Accepts hierarchy trace accepted.now.layout accepted.now.trace accepted.now.assigned
         → IsDrawText hierarchy trace plan.now picture part (string_bytes text)) }
@@ -82,18 +75,9 @@ fn picture_on(
         → RefusesCheck hierarchy trace plan.now e) }
     ensures nothing { IfErr result (λ e. e ≢ ToolError.Write) }
 {
-    let trace = &accepted.trace;
-    let given = read_plan(alloc, trace.version(), trace.len(), plan)?;
-    let tree = accepted.layout.tree();
-    let text = pictured(
-        alloc,
-        tree,
-        &accepted.assigned,
-        trace,
-        &given,
-        picture,
-        part,
-    )?;
+    let case = accepted.case();
+    let given = read_plan(alloc, case.trace.version(), case.trace.len(), plan)?;
+    let text = pictured(alloc, &case, &given, picture, part)?;
     drop(given);
     Ok(text)
 }
@@ -101,23 +85,19 @@ fn picture_on(
 /// The picture of this part of a plan that is given.
 fn pictured(
     alloc: Global,
-    tree: &Tree,
-    assigned: &Assigned,
-    trace: &Trace,
+    case: &Case<'_>,
     given: &GivenPlan,
     picture: Picture,
     part: Part,
 ) -> Result<String, AllocError>
-    requires lengths { length assigned.now ≡ length trace.now.messages }
-    requires known { All (λ a. a < length tree.now) assigned.now }
-    requires rows { length given.now.rows ≡ length trace.now.messages }
-    requires part { IsPart part }
+    requires rows { length given.now.rows ≡ length case.now.trace.now.messages }
     ensures { IfOk result (λ text. string_bytes text
-        ≡ picture_of picture (scene_of tree.now assigned.now trace.now.messages given.now part)) }
+        ≡ picture_of picture (scene_of case.now.tree.now case.now.assigned.now
+        case.now.trace.now.messages given.now part)) }
 {
     match picture {
-        Picture::Svg => svg_text(alloc, tree, assigned, trace, given, part),
-        Picture::TraceEvents => events_text(alloc, tree, assigned, trace, given, part),
+        Picture::Svg => svg_text(alloc, case, given, part),
+        Picture::TraceEvents => events_text(alloc, case, given, part),
     }
 }
 

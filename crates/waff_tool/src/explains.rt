@@ -1,24 +1,30 @@
 //! The explanation of the first fault, or of the verdict.
-ghost use Rattle.std.specs.Prelude.{◌≡◌, ◌≢◌, ℕ, List, IfOk, IfErr, IsErrOf, OnOk, option_copied};
-ghost use Rattle.std.specs.Prelude.{string_bytes};
-ghost use Rattle.std.specs.Io.KnownBytes.{Appends, Keeps};
-ghost use Rattle.waff_tool.specs.Explanations.{BeginsWith, IsExplained, IsExplanation, OfHierarchy};
-ghost use Rattle.waff_tool.specs.Explanations.{OfPlan, OfTrace, RefusesWork};
-ghost use Rattle.waff_tool.specs.Explanations.{first_line, status_explained};
+ghost use Rattle.std.specs.Prelude.{◌≡◌, ℕ, List, Option, Some, IfOk, Ok};
+ghost use Rattle.std.specs.Prelude.{length, option_copied, string_bytes};
+ghost use Rattle.waff_model.specs.Layout.{Hierarchy};
+ghost use Rattle.waff_model.specs.Messages.{sizes_of};
+ghost use Rattle.waff_read.specs.HierRefusals.{Tells};
+ghost use Rattle.waff_read.specs.Hierarchies.{hierarchy_of};
+ghost use Rattle.waff_read.specs.Traces as traces;
+ghost use Rattle.waff_plan_text.specs.PlanTexts as texts;
 ghost use Rattle.waff_inputs.specs.Deliveries.{Delivers};
-ghost use Rattle.waff_inputs.specs.Inputs.{TellsOfFiles};
-ghost use Rattle.waff_io.specs.Writing.{AppendsPart};
+ghost use Rattle.waff_inputs.specs.Inputs.{Accepts};
+ghost use Rattle.waff_tool.specs.Explanations.{IsExplained, IsExplanation, RefusesWork};
+ghost use Rattle.waff_tool.specs.Explanations.{first_line, status_explained};
 
-use crate::checks::{made_line, made_verdict, verdict_status};
+use crate::checks::{made_line, verdict_of, verdict_status};
 use std::alloc::{AllocError, Global};
 use std::io::Write;
 use std::thread::Threads;
-use waff_check::Verdict;
+use waff_assign::{Case, assign};
+use waff_check::{GivenPlan, PlanTextError, Verdict, read_plan};
 use waff_explain::{hierarchy_words, plan_text_words, sizes_words, trace_words, verdict_words};
-use waff_inputs::{ToolError, accept, fault_status, fault_text, read_numbered, write_text};
+use waff_inputs::{ToolError, fault_status, fault_text, write_text};
+use waff_model::{Layout, Trace};
+use waff_read::{HierError, TraceError, read_hierarchy, read_trace};
 
 /// What was explained.
-#[derive(Clone, Copy, Debug, PartialEq, Eq)]
+#[derive(Clone, Copy, Debug, PartialEq)]
 pub enum Explained {
     /// The files are accepted, and there is no plan.
     Well,
@@ -40,6 +46,13 @@ pub fn explained_status(explained: &Explained) -> u8
     }
 }
 
+/// What was explained, and the text that tells it.
+#[derive(Drop)]
+struct Explanation {
+    explained: Explained,
+    text: String,
+}
+
 /// Writes in plain words where the first fault of the files is, what was found and what is wanted,
 /// or what the verdict on the plan tells; answers which fault or verdict that is. The text begins
 /// with the line that the other commands print. A plan without a trace is not looked at. Nothing is
@@ -56,101 +69,250 @@ pub fn explain_text<R: Threads + Sync, W: Write>(
         (option_copied plan.entry) explained text)
         RefusesWork (W.contents writer.old) (W.contents writer.new) result }
 {
-    let explained = find(rt, alloc, hierarchy, trace, plan)?;
-    let text = explanation(alloc, explained, hierarchy, trace, plan)?;
-    write_text(writer, text.as_bytes())?;
-    Ok(explained)
+    let made = explain(rt, alloc, hierarchy, trace, plan)?;
+    write_text(writer, made.text.as_bytes())?;
+    Ok(made.explained)
 }
 
-/// The first fault of the files, or the verdict on the plan.
-fn find<R: Threads + Sync>(
+/// The explanation of the files, of which the hierarchy is read first.
+fn explain<R: Threads + Sync>(
     rt: &R,
     alloc: Global,
     hierarchy: &[u8],
     trace: Option<&[u8]>,
     plan: Option<&[u8]>,
-) -> Result<Explained, AllocError>
-    ensures { IfOk result
-        (IsExplained hierarchy.now (option_copied trace.entry) (option_copied plan.entry)) }
+) -> Result<Explanation, AllocError>
+    ensures { IfOk result (λ made. IsExplanation hierarchy.now (option_copied trace.entry)
+        (option_copied plan.entry) made.explained (string_bytes made.text)) }
+{
+    match read_hierarchy(alloc, hierarchy) {
+        Ok(layout) => {
+            let made = explain_under(rt, alloc, &layout, trace, plan);
+            drop(layout);
+            made
+        }
+        Err(fault) => refuse_hierarchy(alloc, hierarchy, fault),
+    }
+}
+
+/// The explanation of a hierarchy that is refused.
+fn refuse_hierarchy(
+    alloc: Global,
+    hierarchy: &[u8],
+    fault: HierError,
+) -> Result<Explanation, AllocError>
+    requires { Tells fault (hierarchy_of hierarchy.now) }
+    ensures { IfOk result (λ made. (trace plan : Option (List ℕ))
+        → IsExplanation hierarchy.now trace plan made.explained (string_bytes made.text)) }
+{
+    let error = match fault {
+        HierError::Memory => return Err(AllocError),
+        _ => ToolError::Hier { file: 1, fault },
+    };
+    let words = hierarchy_words(alloc, hierarchy, fault)?;
+    tell(alloc, Explained::Fault(error), words)
+}
+
+/// The explanation under a hierarchy: of it alone, or of a trace and a plan.
+fn explain_under<R: Threads + Sync>(
+    rt: &R,
+    alloc: Global,
+    layout: &Layout,
+    trace: Option<&[u8]>,
+    plan: Option<&[u8]>,
+) -> Result<Explanation, AllocError>
+    ensures { IfOk result (λ made. (hierarchy : List ℕ)
+        → hierarchy_of hierarchy ≡ Ok layout.now
+        → IsExplanation hierarchy (option_copied trace.entry) (option_copied plan.entry)
+        made.explained (string_bytes made.text)) }
 {
     match trace {
-        None => find_in_hierarchy(alloc, hierarchy),
-        Some(trace) => match plan {
-            None => find_in_trace(alloc, hierarchy, trace),
-            Some(plan) => find_in_plan(rt, alloc, hierarchy, trace, plan),
-        },
+        Some(trace) => explain_trace(rt, alloc, layout, trace, plan),
+        None => tell(alloc, Explained::Well, sizes_words(alloc, layout, None)?),
     }
 }
 
-fn find_in_hierarchy(alloc: Global, hierarchy: &[u8]) -> Result<Explained, AllocError>
-    ensures { IfOk result (OfHierarchy hierarchy.now) }
-{
-    match read_numbered(alloc, 1, hierarchy) {
-        Ok(layout) => {
-            drop(layout);
-            Ok(Explained::Well)
-        }
-        Err(fault) => explained_fault(fault),
-    }
-}
-
-fn find_in_trace(alloc: Global, hierarchy: &[u8], trace: &[u8]) -> Result<Explained, AllocError>
-    ensures { IfOk result (OfTrace hierarchy.now trace.now) }
-{
-    match accept(alloc, hierarchy, trace) {
-        Ok(accepted) => {
-            drop(accepted);
-            Ok(Explained::Well)
-        }
-        Err(fault) => explained_fault(fault),
-    }
-}
-
-fn find_in_plan<R: Threads + Sync>(
+/// The explanation of a trace under a hierarchy, and of a plan.
+fn explain_trace<R: Threads + Sync>(
     rt: &R,
     alloc: Global,
-    hierarchy: &[u8],
+    layout: &Layout,
     trace: &[u8],
-    plan: &[u8],
-) -> Result<Explained, AllocError>
-    ensures { IfOk result (OfPlan hierarchy.now trace.now plan.now) }
-{
-    match made_verdict(rt, alloc, hierarchy, trace, plan) {
-        Ok(verdict) => Ok(Explained::Verdict(verdict)),
-        Err(fault) => explained_fault(fault),
-    }
-}
-
-/// The fault of a reading as what is explained, unless it is an allocation failure.
-fn explained_fault(fault: ToolError) -> Result<Explained, AllocError>
-    requires { fault ≢ ToolError.Write }
-    ensures fault { IfOk result (λ explained. explained ≡ Explained.Fault fault) }
-    ensures tells { OnOk result (TellsOfFiles fault) }
-{
-    match fault {
-        ToolError::Memory => Err(AllocError),
-        ToolError::Write => unreachable!(),
-        ToolError::Hier { .. }
-        | ToolError::Trace(_)
-        | ToolError::PlanText(_)
-        | ToolError::SpacesDiffer
-        | ToolError::ModelsSame => Ok(Explained::Fault(fault)),
-    }
-}
-
-/// The text of an explanation: the line of the fault or the verdict, and then the words.
-fn explanation(
-    alloc: Global,
-    explained: Explained,
-    hierarchy: &[u8],
-    trace: Option<&[u8]>,
     plan: Option<&[u8]>,
-) -> Result<String, AllocError>
-    ensures { IfOk result (λ text. BeginsWith (first_line explained) (string_bytes text)) }
+) -> Result<Explanation, AllocError>
+    ensures { IfOk result (λ made. (hierarchy : List ℕ)
+        → hierarchy_of hierarchy ≡ Ok layout.now
+        → IsExplanation hierarchy (Some trace.now) (option_copied plan.entry)
+        made.explained (string_bytes made.text)) }
+{
+    match read_trace(alloc, layout, trace) {
+        Ok(read) => {
+            let made = explain_read(rt, alloc, layout, &read, plan);
+            drop(read);
+            made
+        }
+        Err(fault) => refuse_trace(alloc, layout, trace, fault),
+    }
+}
+
+/// The explanation of a trace that is refused under a hierarchy.
+fn refuse_trace(
+    alloc: Global,
+    layout: &Layout,
+    trace: &[u8],
+    fault: TraceError,
+) -> Result<Explanation, AllocError>
+    requires { traces.Tells fault (traces.trace_of layout.now.spaces trace.now) }
+    ensures { IfOk result (λ made. (hierarchy : List ℕ) (plan : Option (List ℕ))
+        → hierarchy_of hierarchy ≡ Ok layout.now
+        → IsExplanation hierarchy (Some trace.now) plan
+        made.explained (string_bytes made.text)) }
+{
+    let error = match fault {
+        TraceError::Memory => return Err(AllocError),
+        _ => ToolError::Trace(fault),
+    };
+    let words = trace_words(alloc, layout, trace, fault)?;
+    tell(alloc, Explained::Fault(error), words)
+}
+
+/// The explanation of a trace that was read: of it alone, or of a plan.
+fn explain_read<R: Threads + Sync>(
+    rt: &R,
+    alloc: Global,
+    layout: &Layout,
+    trace: &Trace,
+    plan: Option<&[u8]>,
+) -> Result<Explanation, AllocError>
+    requires fits { trace.now.sizes ≡ sizes_of layout.now.spaces }
+    ensures { IfOk result (λ made. (hierarchy trace_file : List ℕ)
+        → hierarchy_of hierarchy ≡ Ok layout.now
+        → traces.trace_of layout.now.spaces trace_file ≡ Ok trace.now
+        → IsExplanation hierarchy (Some trace_file) (option_copied plan.entry)
+        made.explained (string_bytes made.text)) }
+{
+    match plan {
+        Some(plan) => explain_plan(rt, alloc, layout, trace, plan),
+        None => tell(
+            alloc,
+            Explained::Well,
+            sizes_words(alloc, layout, Some(trace))?,
+        ),
+    }
+}
+
+/// The explanation of a plan of a trace that was read.
+fn explain_plan<R: Threads + Sync>(
+    rt: &R,
+    alloc: Global,
+    layout: &Layout,
+    trace: &Trace,
+    plan: &[u8],
+) -> Result<Explanation, AllocError>
+    requires fits { trace.now.sizes ≡ sizes_of layout.now.spaces }
+    ensures { IfOk result (λ made. (hierarchy trace_file : List ℕ)
+        → hierarchy_of hierarchy ≡ Ok layout.now
+        → traces.trace_of layout.now.spaces trace_file ≡ Ok trace.now
+        → IsExplanation hierarchy (Some trace_file) (Some plan.now)
+        made.explained (string_bytes made.text)) }
+{
+    let assigned = assign(alloc, layout, trace)?;
+    let case = Case {
+        tree: layout.tree(),
+        assigned: &assigned,
+        trace,
+    };
+    let made = explain_case(rt, alloc, layout, &case, plan);
+    drop(assigned);
+    made
+}
+
+/// The explanation of a plan for a case under a hierarchy.
+fn explain_case<R: Threads + Sync>(
+    rt: &R,
+    alloc: Global,
+    layout: &Layout,
+    case: &Case<'_>,
+    plan: &[u8],
+) -> Result<Explanation, AllocError>
+    requires tree { layout.now.tree ≡ case.now.tree.now }
+    ensures { IfOk result (λ made. (hierarchy trace_file : List ℕ)
+        → Accepts hierarchy trace_file layout.now case.now.trace.now case.now.assigned.now
+        → IsExplanation hierarchy (Some trace_file) (Some plan.now)
+        made.explained (string_bytes made.text)) }
+{
+    let trace = case.trace;
+    match read_plan(alloc, trace.version(), trace.len(), plan) {
+        Ok(given) => {
+            let made = explain_verdict(rt, alloc, layout, case, &given, plan);
+            drop(given);
+            made
+        }
+        Err(fault) => refuse_plan(alloc, trace, plan, fault),
+    }
+}
+
+/// The explanation of a plan of a trace that is refused.
+fn refuse_plan(
+    alloc: Global,
+    trace: &Trace,
+    plan: &[u8],
+    fault: PlanTextError,
+) -> Result<Explanation, AllocError>
+    requires { texts.Tells fault
+        (texts.plan_of trace.now.version (length trace.now.messages) plan.now) }
+    ensures { IfOk result (λ made. (hierarchy trace_file : List ℕ) (layout : Hierarchy)
+        → hierarchy_of hierarchy ≡ Ok layout
+        → traces.trace_of layout.spaces trace_file ≡ Ok trace.now
+        → IsExplanation hierarchy (Some trace_file) (Some plan.now)
+        made.explained (string_bytes made.text)) }
+{
+    let error = match fault {
+        PlanTextError::Memory => return Err(AllocError),
+        _ => ToolError::PlanText(fault),
+    };
+    let words = plan_text_words(alloc, trace, plan, fault)?;
+    tell(alloc, Explained::Fault(error), words)
+}
+
+/// The explanation of a plan that was read: the verdict, and how much there is where it tells no
+/// fault.
+fn explain_verdict<R: Threads + Sync>(
+    rt: &R,
+    alloc: Global,
+    layout: &Layout,
+    case: &Case<'_>,
+    given: &GivenPlan,
+    plan: &[u8],
+) -> Result<Explanation, AllocError>
+    requires tree { layout.now.tree ≡ case.now.tree.now }
+    requires rows { length given.now.rows ≡ length case.now.trace.now.messages }
+    requires version { given.now.version ≡ case.now.trace.now.version }
+    requires plan { texts.plan_of case.now.trace.now.version
+        (length case.now.trace.now.messages) plan.now ≡ Ok given.now }
+    ensures { IfOk result (λ made. (hierarchy trace_file : List ℕ)
+        → Accepts hierarchy trace_file layout.now case.now.trace.now case.now.assigned.now
+        → IsExplanation hierarchy (Some trace_file) (Some plan.now)
+        made.explained (string_bytes made.text)) }
+{
+    let verdict = verdict_of(rt, alloc, case, given)?;
+    let mut words = verdict_words(alloc, case, given, plan, verdict)?;
+    if verdict_status(&verdict) == 0 {
+        words.push_str(sizes_words(alloc, layout, Some(case.trace))?.as_str())?;
+    }
+    tell(alloc, Explained::Verdict(verdict), words)
+}
+
+/// The explanation whose text is the line that tells what is explained, and then these words.
+fn tell(alloc: Global, explained: Explained, words: String) -> Result<Explanation, AllocError>
+    ensures { IfOk result (λ made. (hierarchy : List ℕ) (trace plan : Option (List ℕ))
+        → IsExplained hierarchy trace plan explained
+        → IsExplanation hierarchy trace plan made.explained (string_bytes made.text)) }
 {
     let mut text = made_first_line(alloc, explained)?;
-    text.push_str(words_of(alloc, explained, hierarchy, trace, plan)?.as_str())?;
-    Ok(text)
+    text.push_str(words.as_str())?;
+    drop(words);
+    Ok(Explanation { explained, text })
 }
 
 /// The line that the other commands print.
@@ -164,38 +326,5 @@ fn made_first_line(alloc: Global, explained: Explained) -> Result<String, AllocE
             format!(in alloc; "{}\n", line.as_str())
         }
         Explained::Verdict(verdict) => made_line(alloc, verdict),
-    }
-}
-
-/// The words of an explanation.
-fn words_of(
-    alloc: Global,
-    explained: Explained,
-    hierarchy: &[u8],
-    trace: Option<&[u8]>,
-    plan: Option<&[u8]>,
-) -> Result<String, AllocError> {
-    let trace_bytes = trace.unwrap_or(b"");
-    let plan_bytes = plan.unwrap_or(b"");
-    match explained {
-        Explained::Well => sizes_words(alloc, hierarchy, trace),
-        Explained::Verdict(verdict) => {
-            let mut words = verdict_words(alloc, hierarchy, trace_bytes, plan_bytes, verdict)?;
-            if verdict_status(&verdict) == 0 {
-                words.push_str(sizes_words(alloc, hierarchy, trace)?.as_str())?;
-            }
-            Ok(words)
-        }
-        Explained::Fault(ToolError::Hier { fault, .. }) => hierarchy_words(alloc, hierarchy, fault),
-        Explained::Fault(ToolError::Trace(fault)) => trace_words(
-            alloc,
-            hierarchy,
-            trace_bytes,
-            fault,
-        ),
-        Explained::Fault(ToolError::PlanText(fault)) => {
-            plan_text_words(alloc, hierarchy, trace_bytes, plan_bytes, fault)
-        }
-        Explained::Fault(_) => Ok(String::new(alloc)),
     }
 }

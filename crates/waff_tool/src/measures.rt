@@ -1,22 +1,22 @@
 //! What is told of a trace under one hierarchy, and the text that tells it of two.
-ghost use Rattle.std.specs.Prelude.{◌≡◌, ◌<◌, [], ◌∷◌, ◌++◌, ℕ, All, IfOk, List, None, OnOk};
-ghost use Rattle.std.specs.Prelude.{Some, decimal, length, string_bytes};
+ghost use Rattle.std.specs.Prelude.{◌≡◌, [], ◌∷◌, ◌++◌, ℕ, IfOk, List, None, OnOk};
+ghost use Rattle.std.specs.Prelude.{Some, decimal, string_bytes};
 ghost use Rattle.waff_model.specs.declared.message.Version.TheVariants.{V1, V2};
-ghost use Rattle.waff_assign.specs.Order.{IsOrdered};
+ghost use Rattle.waff_assign.specs.Case.{pairs_of};
 ghost use Rattle.waff_plan.specs.Bound.{IsWorkers};
-ghost use Rattle.waff_plan.specs.Timetable.{timings_of};
-ghost use Rattle.waff_plan.specs.Timing.{start_of, work_of};
+ghost use Rattle.waff_plan.specs.Timetable.{work_of_messages};
+ghost use Rattle.waff_plan.specs.Timing.{start_of};
 ghost use Rattle.waff_plan.specs.Totals.{totals_of};
-ghost use Rattle.waff_plan_text.specs.Lines.{line_text, text_of};
+ghost use Rattle.waff_plan_text.specs.Lines.{Adds, line_text, text_of};
 ghost use Rattle.waff_tool.specs.Certificates.{IsBounded, IsCertified};
 ghost use Rattle.waff_tool.specs.Comparison.{IsMeasured, compare_lines, kind_field, measured_line};
 ghost use Rattle.waff_tool.specs.Comparison.{measures_header, plan_fields};
 
 use std::alloc::{AllocError, Global};
-use waff_assign::Assigned;
+use waff_assign::Case;
 use waff_list::laws::needs_make_the_same_plans;
 use waff_list::{Rule, list_chain, list_plan};
-use waff_model::{Kind, Layout, Trace, Version};
+use waff_model::{Kind, Layout, Version};
 use waff_order::predecessors::needs;
 use waff_plan::Totals;
 use waff_plan::printed::chain;
@@ -30,22 +30,20 @@ pub struct Measured {
     pub listed: Totals,
 }
 
-/// What is told of the trace with these affinities, for k workers.
+/// What is told of the trace with its affinities under the tree of a hierarchy, for k workers.
 pub fn measure(
     alloc: Global,
     layout: &Layout,
-    assigned: &Assigned,
-    trace: &Trace,
+    case: &Case<'_>,
     k: u32,
 ) -> Result<Measured, AllocError>
-    requires lengths { length assigned.now ≡ length trace.now.messages }
-    requires known { All (λ a. a < length layout.now.tree) assigned.now }
+    requires tree { case.now.tree.now ≡ layout.now.tree }
     requires workers { IsWorkers k }
-    ensures { IfOk result
-        (IsMeasured layout.now assigned.now (work_of (timings_of trace.now.messages)) k) }
+    ensures { IfOk result (IsMeasured layout.now case.now.assigned.now
+        (work_of_messages case.now.trace.now.messages) k) }
 {
-    let unlimited = unlimited_totals(alloc, layout, assigned, trace)?;
-    let listed = list_totals(alloc, layout, assigned, trace, k)?;
+    let unlimited = unlimited_totals(alloc, case)?;
+    let listed = list_totals(alloc, case, k)?;
     Ok(Measured {
         kind: layout.kind(),
         unlimited,
@@ -54,23 +52,15 @@ pub fn measure(
 }
 
 /// What is told of the unlimited plan.
-fn unlimited_totals(
-    alloc: Global,
-    layout: &Layout,
-    assigned: &Assigned,
-    trace: &Trace,
-) -> Result<Totals, AllocError>
-    requires lengths { length assigned.now ≡ length trace.now.messages }
-    requires known { All (λ a. a < length layout.now.tree) assigned.now }
+fn unlimited_totals(alloc: Global, case: &Case<'_>) -> Result<Totals, AllocError>
     ensures { IfOk result (λ totals. (starts : List ℕ) × (chain : List ℕ)
-        × IsCertified (IsOrdered layout.now.tree assigned.now)
-        (work_of (timings_of trace.now.messages)) (start_of starts) chain
-        × (totals
-        ≡ totals_of None (work_of (timings_of trace.now.messages)) (start_of starts) chain)) }
+        × IsCertified (pairs_of case.now)
+        (work_of_messages case.now.trace.now.messages) (start_of starts) chain
+        × (totals ≡ totals_of None
+        (work_of_messages case.now.trace.now.messages) (start_of starts) chain)) }
 {
-    let tree = layout.tree();
-    let plan = plan(alloc, tree, assigned, trace)?;
-    let chain = chain(alloc, tree, assigned, &plan)?;
+    let plan = plan(alloc, case.tree, case.assigned, case.trace)?;
+    let chain = chain(alloc, case.tree, case.assigned, &plan)?;
     let totals = plan.totals(None, chain.messages());
     drop(chain);
     drop(plan);
@@ -78,27 +68,18 @@ fn unlimited_totals(
 }
 
 /// What is told of the list plan for k workers.
-fn list_totals(
-    alloc: Global,
-    layout: &Layout,
-    assigned: &Assigned,
-    trace: &Trace,
-    k: u32,
-) -> Result<Totals, AllocError>
-    requires lengths { length assigned.now ≡ length trace.now.messages }
-    requires known { All (λ a. a < length layout.now.tree) assigned.now }
+fn list_totals(alloc: Global, case: &Case<'_>, k: u32) -> Result<Totals, AllocError>
     requires workers { IsWorkers k }
     ensures { IfOk result (λ totals. (starts : List ℕ) × (chain : List ℕ)
-        × IsBounded Rule.Arrival (IsOrdered layout.now.tree assigned.now)
-        (work_of (timings_of trace.now.messages)) k (start_of starts) chain
-        × (totals ≡ totals_of (Some k) (work_of (timings_of trace.now.messages))
-        (start_of starts) chain)) }
+        × IsBounded Rule.Arrival (pairs_of case.now)
+        (work_of_messages case.now.trace.now.messages) k (start_of starts) chain
+        × (totals ≡ totals_of (Some k)
+        (work_of_messages case.now.trace.now.messages) (start_of starts) chain)) }
 {
-    let tree = layout.tree();
-    let needs = needs(alloc, tree, assigned)?;
-    let made = list_plan(alloc, &needs, trace, k)?;
+    let needs = needs(alloc, case.tree, case.assigned)?;
+    let made = list_plan(alloc, &needs, case.trace, k)?;
     drop(needs);
-    let chain = list_chain(alloc, tree, assigned, &made)?;
+    let chain = list_chain(alloc, case.tree, case.assigned, &made)?;
     let listed = made.plan();
     needs_make_the_same_plans();
     let totals = listed.totals(Some(k), chain.messages());
@@ -133,8 +114,8 @@ pub fn comparison_text(
 
 /// Appends the line that names what the lines of hierarchies tell.
 fn push_header(text: &mut String, version: Version) -> Result<(), AllocError>
-    ensures { OnOk result (string_bytes text.new ≡ string_bytes text.old
-        ++ line_text (measures_header version)) }
+    ensures { OnOk result (Adds text.old text.new
+        (line_text (measures_header version))) }
 {
     text.push_str(match version {
         Version::V1 => "model,length,chain,list,listchain,left,right\n",
@@ -144,8 +125,8 @@ fn push_header(text: &mut String, version: Version) -> Result<(), AllocError>
 
 /// Appends the line of one hierarchy.
 fn push_measured(text: &mut String, version: Version, measured: &Measured) -> Result<(), AllocError>
-    ensures { OnOk result (string_bytes text.new ≡ string_bytes text.old
-        ++ line_text (measured_line version measured.now)) }
+    ensures { OnOk result (Adds text.old text.new
+        (line_text (measured_line version measured.now))) }
 {
     let kind = kind_name(measured.kind);
     match version {
@@ -156,9 +137,9 @@ fn push_measured(text: &mut String, version: Version, measured: &Measured) -> Re
 
 /// Appends the line of one hierarchy for a trace of the first version.
 fn push_first(text: &mut String, kind: &str, plan: &Totals, list: &Totals) -> Result<(), AllocError>
-    ensures { OnOk result (string_bytes text.new ≡ string_bytes text.old
-        ++ line_text (kind.now ∷ plan_fields V1 plan.now ++ plan_fields V1 list.now
-        ++ decimal list.now.left ∷ decimal list.now.right ∷ [])) }
+    ensures { OnOk result (Adds text.old text.new
+        (line_text (kind.now ∷ plan_fields V1 plan.now ++ plan_fields V1 list.now
+        ++ decimal list.now.left ∷ decimal list.now.right ∷ []))) }
 {
     writeln!(
         text,
@@ -174,9 +155,9 @@ fn push_second(
     plan: &Totals,
     list: &Totals,
 ) -> Result<(), AllocError>
-    ensures { OnOk result (string_bytes text.new ≡ string_bytes text.old
-        ++ line_text (kind.now ∷ plan_fields V2 plan.now ++ plan_fields V2 list.now
-        ++ decimal list.now.left ∷ decimal list.now.right ∷ [])) }
+    ensures { OnOk result (Adds text.old text.new
+        (line_text (kind.now ∷ plan_fields V2 plan.now ++ plan_fields V2 list.now
+        ++ decimal list.now.left ∷ decimal list.now.right ∷ []))) }
 {
     writeln!(
         text,

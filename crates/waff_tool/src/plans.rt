@@ -1,8 +1,6 @@
 //! The command `plan`: for a number of workers, or with no limit on them.
-ghost use Rattle.std.specs.Prelude.{◌≡◌, ◌≢◌, ◌<◌, ℕ, All, List, IfOk, IfErr, IsErrOf, IfSome};
-ghost use Rattle.std.specs.Prelude.{OnOk, length, string_bytes};
-ghost use Rattle.std.specs.Io.KnownBytes.{Appends, Keeps};
-ghost use Rattle.waff_io.specs.Writing.{AppendsPart};
+ghost use Rattle.std.specs.Prelude.{◌<◌, ℕ, List, IfOk, IfSome};
+ghost use Rattle.std.specs.Prelude.{length, string_bytes};
 ghost use Rattle.waff_plan.specs.Bound.{IsWorkers};
 ghost use Rattle.waff_inputs.specs.Deliveries.{Delivers, Makes};
 ghost use Rattle.waff_inputs.specs.Inputs.{Accepts, Refuses};
@@ -14,6 +12,7 @@ use waff_inputs::{Accepted, ToolError, accept, deliver};
 use waff_list::laws::needs_make_the_same_plans;
 use waff_list::{Rule, list_chain, list_plan_by};
 use waff_order::predecessors::needs;
+use waff_plan::Planned;
 use waff_plan::printed::chain;
 use waff_plan::unlimited::plan;
 use waff_plan_text::{unlimited_text, worker_text};
@@ -97,18 +96,11 @@ fn made_unlimited_text(alloc: Global, accepted: &Accepted) -> Result<String, All
         → Accepts hierarchy trace accepted.now.layout accepted.now.trace accepted.now.assigned
         → IsPlanText hierarchy trace (string_bytes text)) }
 {
-    let tree = accepted.layout.tree();
-    let plan = plan(alloc, tree, &accepted.assigned, &accepted.trace)?;
-    let chain = chain(alloc, tree, &accepted.assigned, &plan)?;
-    let version = accepted.trace.version();
-    let text = unlimited_text(
-        alloc,
-        version,
-        tree,
-        &accepted.assigned,
-        &plan,
-        chain.messages(),
-    );
+    let case = accepted.case();
+    let plan = plan(alloc, case.tree, case.assigned, case.trace)?;
+    let chain = chain(alloc, case.tree, case.assigned, &plan)?;
+    let planned = Planned { case, plan: &plan };
+    let text = unlimited_text(alloc, &planned, chain.messages());
     drop(chain);
     drop(plan);
     text
@@ -126,23 +118,15 @@ fn made_worker_text(
         → Accepts hierarchy trace accepted.now.layout accepted.now.trace accepted.now.assigned
         → IsWorkerPlanText rule hierarchy trace k (string_bytes text)) }
 {
-    let tree = accepted.layout.tree();
-    let needs = needs(alloc, tree, &accepted.assigned)?;
-    let made = list_plan_by(alloc, &needs, &accepted.trace, rule, k)?;
+    let case = accepted.case();
+    let needs = needs(alloc, case.tree, case.assigned)?;
+    let made = list_plan_by(alloc, &needs, case.trace, rule, k)?;
     drop(needs);
-    let chain = list_chain(alloc, tree, &accepted.assigned, &made)?;
-    let version = accepted.trace.version();
+    let chain = list_chain(alloc, case.tree, case.assigned, &made)?;
     needs_make_the_same_plans();
-    let text = worker_text(
-        alloc,
-        version,
-        tree,
-        &accepted.assigned,
-        made.plan(),
-        k,
-        made.seats(),
-        chain.messages(),
-    );
+    let plan = made.plan();
+    let planned = Planned { case, plan };
+    let text = worker_text(alloc, &planned, k, made.seats(), chain.messages());
     drop(chain);
     drop(made);
     text

@@ -1,17 +1,14 @@
 //! The command that ranks several hierarchies on one trace.
-ghost use Rattle.std.specs.Prelude.{◌≡◌, ◌≢◌, ◌<◌, ◌≤◌, ◌+◌, ◌++◌, ◌∷◌, Ok, ℕ, All, List, IfOk, IfErr};
-ghost use Rattle.std.specs.Prelude.{[], IsErrOf, OnOk, length, map, string_bytes};
+ghost use Rattle.std.specs.Prelude.{◌≡◌, ◌≢◌, ◌<◌, ◌≤◌, ◌+◌, ◌++◌, ◌∷◌, Ok, ℕ, List, IfOk, IfErr};
+ghost use Rattle.std.specs.Prelude.{[], OnOk, length, map, string_bytes};
 ghost use Rattle.std.specs.List.{AllZip};
-ghost use Rattle.std.specs.Io.KnownBytes.{Appends, Keeps};
 ghost use Rattle.waff_model.specs.Messages.{sizes_of};
 ghost use Rattle.waff_read.specs.Hierarchies.{hierarchy_of};
 ghost use Rattle.waff_assign.specs.Lowest.{IsAssignment};
 ghost use Rattle.waff_plan.specs.Bound.{IsWorkers};
-ghost use Rattle.waff_plan_text.specs.Lines.{line_text, text_of};
+ghost use Rattle.waff_plan_text.specs.Lines.{Adds, line_text, text_of};
 ghost use Rattle.waff_inputs.specs.Deliveries.{Delivers, Makes};
 ghost use Rattle.waff_inputs.specs.Inputs.{Refuses};
-ghost use Rattle.waff_io.specs.Writing.{AppendsPart};
-ghost use Rattle.waff_tool.specs.Comparison.{kind_field};
 ghost use Rattle.waff_tool.specs.Ranks.{AreRead, IsRanked, IsRankedAsSwept, IsRankedUnder};
 ghost use Rattle.waff_tool.specs.Ranks.{IsRankText, RankRefusalIsOne, RankTextIsOne};
 ghost use Rattle.waff_tool.specs.Ranks.{RankedIsNotRefused, RefusesRank, rank_header, rank_row};
@@ -20,11 +17,12 @@ ghost use Rattle.waff_tool.specs.Ranks.{rank_rows};
 use crate::measures::kind_name;
 use std::alloc::{AllocError, Global};
 use std::io::Write;
-use waff_assign::{Assigned, assign};
+use waff_assign::{Case, assign};
 use waff_figures::{Figures, QualityFields, list_figures_for};
 use waff_inputs::{ToolError, deliver, read_numbered};
 use waff_list::Rule;
 use waff_model::{Kind, Layout, Trace};
+use waff_plan::Planned;
 use waff_plan::unlimited::plan;
 use waff_read::read_trace;
 
@@ -203,31 +201,38 @@ fn rank_assigned(
         × IsRankedUnder rule layout.now trace.now assigned k ranked) }
 {
     let assigned = assign(alloc, layout, trace)?;
-    let ranked = rank_planned(alloc, layout, &assigned, trace, k, rule);
+    let case = Case {
+        tree: layout.tree(),
+        assigned: &assigned,
+        trace,
+    };
+    let ranked = rank_planned(alloc, layout, &case, k, rule);
     drop(assigned);
     ranked
 }
 
-/// What is told of the trace with these affinities.
+/// What is told of the trace with its affinities under the tree of a hierarchy.
 fn rank_planned(
     alloc: Global,
     layout: &Layout,
-    assigned: &Assigned,
-    trace: &Trace,
+    case: &Case<'_>,
     k: u32,
     rule: Rule,
 ) -> Result<Ranked, AllocError>
-    requires lengths { length assigned.now ≡ length trace.now.messages }
-    requires known { All (λ a. a < length layout.now.tree) assigned.now }
+    requires tree { case.now.tree.now ≡ layout.now.tree }
     requires workers { IsWorkers k }
-    ensures { IfOk result (IsRankedUnder rule layout.now trace.now assigned.now k) }
+    ensures { IfOk result
+        (IsRankedUnder rule layout.now case.now.trace.now case.now.assigned.now k) }
 {
-    let tree = layout.tree();
-    let plan = plan(alloc, tree, assigned, trace)?;
-    let listed = list_figures_for(alloc, tree, assigned, trace, &plan, rule, k)?;
+    let plan = plan(alloc, case.tree, case.assigned, case.trace)?;
+    let planned = Planned {
+        case: *case,
+        plan: &plan,
+    };
+    let listed = list_figures_for(alloc, &planned, rule, k)?;
     let ranked = Ranked {
         kind: layout.kind(),
-        affinities: tree.len(),
+        affinities: case.tree.len(),
         length: plan.length(),
         listed,
     };
@@ -250,8 +255,8 @@ fn ranks_text(alloc: Global, ranks: &[Ranked]) -> Result<String, AllocError>
 
 /// Appends the lines of these hierarchies, numbered from 1.
 fn push_ranks(text: &mut String, ranks: &[Ranked]) -> Result<(), AllocError>
-    ensures { OnOk result (string_bytes text.new ≡ string_bytes text.old
-        ++ text_of (rank_rows 1 ranks.now)) }
+    ensures { OnOk result (Adds text.old text.new
+        (text_of (rank_rows 1 ranks.now))) }
 {
     for i in 0..ranks.len() {
         push_ranked(text, i + 1, &ranks[i])?;
@@ -261,8 +266,8 @@ fn push_ranks(text: &mut String, ranks: &[Ranked]) -> Result<(), AllocError>
 
 /// Appends the line of the hierarchy of this number.
 fn push_ranked(text: &mut String, number: usize, ranked: &Ranked) -> Result<(), AllocError>
-    ensures { OnOk result (string_bytes text.new ≡ string_bytes text.old
-        ++ line_text (rank_row number ranked.now)) }
+    ensures { OnOk result (Adds text.old text.new
+        (line_text (rank_row number ranked.now))) }
 {
     let Ranked {
         affinities,

@@ -1,16 +1,14 @@
 //! How good a plan is, whoever made it.
-ghost use Rattle.std.specs.Prelude.{◌≡◌, ◌≢◌, ◌<◌, ℕ, All, List, IfOk, IfErr, IsErrOf, OnOk};
+ghost use Rattle.std.specs.Prelude.{◌≡◌, ◌≢◌, ℕ, List, IfOk, IfErr};
 ghost use Rattle.std.specs.Prelude.{length, string_bytes};
-ghost use Rattle.std.specs.Io.KnownBytes.{Appends, Keeps};
-ghost use Rattle.waff_assign.specs.Order.{IsOrdered};
-ghost use Rattle.waff_plan.specs.Timing.{start_of, work_of};
-ghost use Rattle.waff_plan.specs.Timetable.{timings_of};
+ghost use Rattle.waff_assign.specs.Case.{pairs_of};
+ghost use Rattle.waff_plan.specs.Timing.{start_of};
+ghost use Rattle.waff_plan.specs.Timetable.{work_of_messages};
 ghost use Rattle.waff_list.specs.declared.rule.Rule.{Rule};
 ghost use Rattle.waff_plan_text.specs.Lines.{text_of};
 ghost use Rattle.waff_check.specs.Verdicts.{starts_of};
 ghost use Rattle.waff_inputs.specs.Deliveries.{Delivers, Makes};
 ghost use Rattle.waff_inputs.specs.Inputs.{Accepts};
-ghost use Rattle.waff_io.specs.Writing.{AppendsPart};
 ghost use Rattle.waff_tool.specs.CheckText.{RefusesCheck};
 ghost use Rattle.waff_tool.specs.Rate.{AreRated, IsRateText, OwnPlanIsSwept, OwnWorkerPlanIsSwept};
 ghost use Rattle.waff_tool.specs.Rate.{RateTextIsOne, RatedIsChecked, rated_lines};
@@ -19,11 +17,10 @@ use crate::verdict_line::VerdictFields;
 use std::alloc::{AllocError, Global};
 use std::io::Write;
 use std::thread::Threads;
-use waff_assign::Assigned;
+use waff_assign::Case;
 use waff_check::{GivenPlan, Verdict, check, read_plan};
 use waff_figures::{Figures, figures_of, push_rate};
 use waff_inputs::{Accepted, ToolError, accept, write_text};
-use waff_model::{Trace, Tree};
 use waff_plan::unlimited::plan;
 
 /// The verdict on a plan, and the text that tells how good the plan is.
@@ -85,11 +82,10 @@ fn rating_on<R: Threads + Sync>(
         → RefusesCheck hierarchy trace plan.now e) }
     ensures nothing { IfErr result (λ e. e ≢ ToolError.Write) }
 {
-    let trace = &accepted.trace;
-    let given = read_plan(alloc, trace.version(), trace.len(), plan)?;
-    let tree = accepted.layout.tree();
-    let verdict = check(rt, alloc, tree, &accepted.assigned, trace, &given)?;
-    let figures = given_figures(alloc, tree, &accepted.assigned, trace, &given)?;
+    let case = accepted.case();
+    let given = read_plan(alloc, case.trace.version(), case.trace.len(), plan)?;
+    let verdict = check(rt, alloc, case.tree, case.assigned, case.trace, &given)?;
+    let figures = given_figures(alloc, &case, &given)?;
     drop(given);
     let text = rated_text(alloc, verdict, &figures)?;
     Ok(Rating { verdict, text })
@@ -97,25 +93,17 @@ fn rating_on<R: Threads + Sync>(
 
 /// The figures of a plan that is given, of the starts in its rows, for the number of workers that
 /// its summary tells.
-fn given_figures(
-    alloc: Global,
-    tree: &Tree,
-    assigned: &Assigned,
-    trace: &Trace,
-    given: &GivenPlan,
-) -> Result<Figures, AllocError>
-    requires lengths { length assigned.now ≡ length trace.now.messages }
-    requires known { All (λ a. a < length tree.now) assigned.now }
-    requires rows { length given.now.rows ≡ length trace.now.messages }
-    ensures { IfOk result (AreRated (IsOrdered tree.now assigned.now)
-        (work_of (timings_of trace.now.messages))
+fn given_figures(alloc: Global, case: &Case<'_>, given: &GivenPlan) -> Result<Figures, AllocError>
+    requires rows { length given.now.rows ≡ length case.now.trace.now.messages }
+    ensures { IfOk result (AreRated (pairs_of case.now)
+        (work_of_messages case.now.trace.now.messages)
         given.now.summary.workers (start_of (starts_of given.now))) }
 {
     let _rows = given.len();
-    let unlimited = plan(alloc, tree, assigned, trace)?;
+    let unlimited = plan(alloc, case.tree, case.assigned, case.trace)?;
     let shortest = unlimited.length();
     drop(unlimited);
-    let handed = given.plan(alloc, trace)?;
+    let handed = given.plan(alloc, case.trace)?;
     let figures = figures_of(alloc, &handed, given.workers(), shortest)?;
     Ok(figures)
 }

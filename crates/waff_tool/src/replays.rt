@@ -1,14 +1,12 @@
 //! The replay of a trace.
 
-ghost use Rattle.std.specs.Prelude.{◌≡◌, ◌≢◌, ◌<◌, ◌≤◌, ℕ, All, List, IfErr, IfOk, IsErrOf, OnOk};
+ghost use Rattle.std.specs.Prelude.{◌≡◌, ◌<◌, ◌≤◌, IfOk};
 ghost use Rattle.std.specs.Prelude.{length, string_bytes};
-ghost use Rattle.std.specs.Io.KnownBytes.{Appends, Keeps};
-ghost use Rattle.waff_model.specs.Messages.{IsTrace, sizes_of};
+ghost use Rattle.waff_model.specs.Messages.{IsTrace};
 ghost use Rattle.waff_assign.specs.Lowest.{IsAssignment};
 ghost use Rattle.waff_cells.specs.Serial.{operations};
 ghost use Rattle.waff_core.specs.Job.{IsOrder};
 ghost use Rattle.waff_core.specs.Seats.{IsSeats};
-ghost use Rattle.waff_io.specs.Writing.{AppendsPart};
 ghost use Rattle.waff_order.specs.Needs.{AreNeeds};
 ghost use Rattle.waff_plan_text.specs.Lines.{text_of};
 ghost use Rattle.waff_inputs.specs.Deliveries.{Delivers, Makes};

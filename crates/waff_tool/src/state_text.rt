@@ -1,13 +1,13 @@
 //! The text of a state.
 
-ghost use Rattle.std.specs.Prelude.{◌≡◌, ℕ, ◌<◌, ◌≤◌, List, Some, [], ◌∷◌, ◌++◌, IfOk, OnOk};
-ghost use Rattle.std.specs.Prelude.{decimal, length, map, slice_index, slice_index_or};
+ghost use Rattle.std.specs.Prelude.{◌≡◌, ◌<◌, ◌≤◌, List, Some, [], ◌∷◌, IfOk, OnOk};
+ghost use Rattle.std.specs.Prelude.{decimal, length, map, slice_index};
 ghost use Rattle.std.specs.Prelude.{string_bytes};
 ghost use Rattle.std.specs.List.{join_with_byte};
 ghost use Rattle.waff_model.specs.Layout.{Space, name_at, size_at};
 ghost use Rattle.waff_cells.specs.Grid.{cells_in};
-ghost use Rattle.waff_plan_text.specs.Lines.{line_text, text_of};
-ghost use Rattle.waff_tool.specs.PrintedSpaces.{AreAllPrinted, ArePrinted};
+ghost use Rattle.waff_plan_text.specs.Lines.{Adds, line_text, text_of};
+ghost use Rattle.waff_tool.specs.PrintedSpaces.{AreAllPrinted};
 ghost use Rattle.waff_cells.specs.InOrder.{all_cells, cells_below};
 ghost use Rattle.waff_tool.specs.ReplayText.{cell_lines, state_lines};
 
@@ -62,8 +62,8 @@ fn push_spaces(text: &mut String, printed: &[PrintedSpace], state: &State) -> Re
     requires few { length printed.now ≤ MAX_SPACES }
     requires sizes { map length state.now ≡ map (λ space. space.size) printed.now }
     ensures { OnOk result ((spaces : List Space) → AreAllPrinted spaces printed.now
-        → string_bytes text.new ≡ string_bytes text.old
-        ++ text_of (cell_lines spaces (cells_in state.now) (all_cells spaces))) }
+        → Adds text.old text.new
+        (text_of (cell_lines spaces (cells_in state.now) (all_cells spaces)))) }
 {
     for s in 0..printed.len() {
         push_space(text, s as u32, &printed[s], state)?;
@@ -80,8 +80,8 @@ fn push_space(
 ) -> Result<(), AllocError>
     requires size { slice_index (map length state.now) s ≡ printed.now.size }
     ensures { OnOk result ((spaces : List Space) → name_at spaces s ≡ Some printed.now.name
-        → size_at spaces s ≡ printed.now.size → string_bytes text.new ≡ string_bytes text.old
-        ++ text_of (cell_lines spaces (cells_in state.now) (cells_below s printed.now.size))) }
+        → size_at spaces s ≡ printed.now.size → Adds text.old text.new
+        (text_of (cell_lines spaces (cells_in state.now) (cells_below s printed.now.size)))) }
 {
     for index in 0..printed.size {
         let value = state.get(Cell { space: s, index });
@@ -94,8 +94,8 @@ fn push_space(
 
 /// Appends the line of one cell.
 fn push_cell(text: &mut String, space: &str, index: u32, value: u64) -> Result<(), AllocError>
-    ensures { OnOk result (string_bytes text.new ≡ string_bytes text.old
-        ++ line_text (join_with_byte 58 (space.now ∷ decimal index ∷ []) ∷ decimal value ∷ [])) }
+    ensures { OnOk result (Adds text.old text.new
+        (line_text (join_with_byte 58 (space.now ∷ decimal index ∷ []) ∷ decimal value ∷ []))) }
 {
     writeln!(text, "{space}:{index},{value}")
 }

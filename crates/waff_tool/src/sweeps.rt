@@ -1,18 +1,17 @@
 //! The sweep over numbers of workers.
-ghost use Rattle.std.specs.Prelude.{◌≡◌, ◌≢◌, ◌<◌, ℕ, All, List, IfOk, IfErr, IsErrOf, OnOk};
+ghost use Rattle.std.specs.Prelude.{◌<◌, ℕ, All, List, IfOk};
 ghost use Rattle.std.specs.Prelude.{length, string_bytes};
-ghost use Rattle.std.specs.Io.KnownBytes.{Appends, Keeps};
 ghost use Rattle.waff_plan.specs.Bound.{IsWorkers};
 ghost use Rattle.waff_inputs.specs.Deliveries.{Delivers, Makes};
 ghost use Rattle.waff_inputs.specs.Inputs.{Accepts, Refuses};
 ghost use Rattle.waff_tool.specs.Figures.{IsSweepText, SweepTextIsOne};
-ghost use Rattle.waff_io.specs.Writing.{AppendsPart};
 
 use std::alloc::{AllocError, Global};
 use std::io::Write;
 use waff_figures::{figures_of, figures_text, list_figures};
 use waff_inputs::{Accepted, ToolError, accept, deliver};
 use waff_list::Rule;
+use waff_plan::Planned;
 use waff_plan::unlimited::plan;
 
 /// Writes how long the trace takes under the hierarchy for each of these numbers of workers and with
@@ -66,17 +65,9 @@ fn swept_text(
         → Accepts hierarchy trace accepted.now.layout accepted.now.trace accepted.now.assigned
         → IsSweepText rule hierarchy trace workers.now (string_bytes text)) }
 {
-    let tree = accepted.layout.tree();
-    let plan = plan(alloc, tree, &accepted.assigned, &accepted.trace)?;
-    let listed = list_figures(
-        alloc,
-        tree,
-        &accepted.assigned,
-        &accepted.trace,
-        &plan,
-        rule,
-        workers,
-    )?;
+    let case = accepted.case();
+    let plan = plan(alloc, case.tree, case.assigned, case.trace)?;
+    let listed = list_figures(alloc, &Planned { case, plan: &plan }, rule, workers)?;
     let unlimited = figures_of(alloc, &plan, None, plan.length())?;
     let text = figures_text(alloc, listed.as_slice(), &unlimited);
     drop(listed);

@@ -1,8 +1,6 @@
 //! Who waits for whom.
-ghost use Rattle.std.specs.Prelude.{◌≡◌, ◌≢◌, ◌<◌, ℕ, Bool, All, List, Option, IfOk, IfErr, IsErrOf};
-ghost use Rattle.std.specs.Prelude.{None, Some, OnOk, IfSome, length, string_bytes};
-ghost use Rattle.std.specs.Io.KnownBytes.{Appends, Keeps};
-ghost use Rattle.waff_io.specs.Writing.{AppendsPart};
+ghost use Rattle.std.specs.Prelude.{◌<◌, ℕ, Bool, List, Option, IfOk};
+ghost use Rattle.std.specs.Prelude.{None, Some, IfSome, length, string_bytes};
 ghost use Rattle.waff_plan.specs.Bound.{IsWorkers};
 ghost use Rattle.waff_inputs.specs.Deliveries.{Delivers, Makes};
 ghost use Rattle.waff_inputs.specs.Inputs.{Accepts, Refuses};
@@ -16,6 +14,7 @@ use waff_inputs::{Accepted, ToolError, accept, deliver};
 use waff_list::laws::needs_make_the_same_plans;
 use waff_list::{Rule, list_plan_by};
 use waff_order::predecessors::needs;
+use waff_plan::Planned;
 use waff_plan::unlimited::plan;
 
 /// Writes who waits for whom in the plan of the trace under the hierarchy for this number of
@@ -86,17 +85,10 @@ fn unlimited_waits(alloc: Global, accepted: &Accepted, by_name: bool) -> Result<
         → Accepts hierarchy trace accepted.now.layout accepted.now.trace accepted.now.assigned
         → IsWaitsText rule hierarchy trace None by_name (string_bytes text)) }
 {
-    let tree = accepted.layout.tree();
-    let plan = plan(alloc, tree, &accepted.assigned, &accepted.trace)?;
+    let case = accepted.case();
+    let plan = plan(alloc, case.tree, case.assigned, case.trace)?;
     ticks_add_up();
-    let text = waiting_text(
-        alloc,
-        tree,
-        &accepted.assigned,
-        &accepted.trace,
-        &plan,
-        by_name,
-    );
+    let text = waiting_text(alloc, &Planned { case, plan: &plan }, by_name);
     drop(plan);
     text
 }
@@ -114,20 +106,14 @@ fn worker_waits(
         → Accepts hierarchy trace accepted.now.layout accepted.now.trace accepted.now.assigned
         → IsWaitsText rule hierarchy trace (Some k) by_name (string_bytes text)) }
 {
-    let tree = accepted.layout.tree();
-    let needs = needs(alloc, tree, &accepted.assigned)?;
-    let made = list_plan_by(alloc, &needs, &accepted.trace, rule, k)?;
+    let case = accepted.case();
+    let needs = needs(alloc, case.tree, case.assigned)?;
+    let made = list_plan_by(alloc, &needs, case.trace, rule, k)?;
     drop(needs);
     needs_make_the_same_plans();
     ticks_add_up();
-    let text = waiting_text(
-        alloc,
-        tree,
-        &accepted.assigned,
-        &accepted.trace,
-        made.plan(),
-        by_name,
-    );
+    let plan = made.plan();
+    let text = waiting_text(alloc, &Planned { case, plan }, by_name);
     drop(made);
     text
 }

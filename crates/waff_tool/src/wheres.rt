@@ -1,18 +1,17 @@
 //! Where the time goes.
-ghost use Rattle.std.specs.Prelude.{◌≡◌, ◌≢◌, ◌<◌, ℕ, Bool, All, List, IfOk, IfErr, IsErrOf, OnOk};
+ghost use Rattle.std.specs.Prelude.{◌<◌, ℕ, Bool, List, IfOk};
 ghost use Rattle.std.specs.Prelude.{length, string_bytes};
-ghost use Rattle.std.specs.Io.KnownBytes.{Appends, Keeps};
 ghost use Rattle.waff_inputs.specs.Deliveries.{Delivers, Makes};
 ghost use Rattle.waff_inputs.specs.Inputs.{Accepts, Refuses};
 ghost use Rattle.waff_tool.specs.Figures.{IsAffinitiesText, IsNamesText, IsWhereText};
 ghost use Rattle.waff_tool.specs.Figures.{WhereTextIsOne};
-ghost use Rattle.waff_io.specs.Writing.{AppendsPart};
 
 use std::alloc::{AllocError, Global};
 use std::io::Write;
 use waff_figures::laws::{chain_adds_up, costs_add_up, names_add_up};
 use waff_figures::{affinities_text, names_text};
 use waff_inputs::{Accepted, ToolError, accept, deliver};
+use waff_plan::Planned;
 use waff_plan::printed::chain;
 use waff_plan::unlimited::plan;
 
@@ -66,13 +65,14 @@ fn made_affinities_text(alloc: Global, accepted: &Accepted) -> Result<String, Al
         → Accepts hierarchy trace accepted.now.layout accepted.now.trace accepted.now.assigned
         → IsAffinitiesText hierarchy trace (string_bytes text)) }
 {
-    let tree = accepted.layout.tree();
-    let _affinities = tree.len();
-    let plan = plan(alloc, tree, &accepted.assigned, &accepted.trace)?;
-    let chain = chain(alloc, tree, &accepted.assigned, &plan)?;
+    let case = accepted.case();
+    let _affinities = case.tree.len();
+    let plan = plan(alloc, case.tree, case.assigned, case.trace)?;
+    let chain = chain(alloc, case.tree, case.assigned, &plan)?;
     costs_add_up();
     chain_adds_up();
-    let text = affinities_text(alloc, tree, &accepted.assigned, &plan, chain.messages());
+    let planned = Planned { case, plan: &plan };
+    let text = affinities_text(alloc, &planned, chain.messages());
     drop(chain);
     drop(plan);
     text
@@ -84,11 +84,12 @@ fn made_names_text(alloc: Global, accepted: &Accepted) -> Result<String, AllocEr
         → Accepts hierarchy trace accepted.now.layout accepted.now.trace accepted.now.assigned
         → IsNamesText hierarchy trace (string_bytes text)) }
 {
-    let tree = accepted.layout.tree();
-    let plan = plan(alloc, tree, &accepted.assigned, &accepted.trace)?;
-    let chain = chain(alloc, tree, &accepted.assigned, &plan)?;
+    let case = accepted.case();
+    let plan = plan(alloc, case.tree, case.assigned, case.trace)?;
+    let chain = chain(alloc, case.tree, case.assigned, &plan)?;
     names_add_up();
-    let text = names_text(alloc, &accepted.trace, &plan, chain.messages());
+    let planned = Planned { case, plan: &plan };
+    let text = names_text(alloc, &planned, chain.messages());
     drop(chain);
     drop(plan);
     text

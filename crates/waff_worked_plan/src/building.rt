@@ -1,6 +1,6 @@
 //! Trees, layouts and traces made by hand, among them the hierarchical sample and its two traces.
 
-ghost use Rattle.std.specs.Prelude.{◌≡◌, ◌≤◌, IsTrue, All};
+ghost use Rattle.std.specs.Prelude.{IsTrue, All};
 ghost use Rattle.waff_model.specs.Layout.{IsCell};
 ghost use Rattle.waff_model.specs.Cells.{cells_of_op};
 

@@ -12,7 +12,7 @@ loop-n-preserved c =
     let work = work_of c.args.plan.now.timings in
     let start = start_of c.args.plan.now.starts in
     let more = found-more work start c.args.k c.loop-n.n c.loop-n.first c.loop-n.invariant in
-    rw (c.with_tick-first.ensures work start c.in_ok-ticks.ensures.ticks, c.start.ensures.start) more
+    rw (c.with_tick-first.ensures work start c.in_ok-ticks.ensures, c.start.ensures.start) more
 
 pub returns : goal.returns
 returns c = found-all (work_of c.args.plan.now.timings) (start_of c.args.plan.now.starts) c.args.k c.loop-n.n c.loop-n.first (omega (arith, c.len-n-end.ensures.count)) c.loop-n.invariant

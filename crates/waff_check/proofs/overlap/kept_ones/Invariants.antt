@@ -1,14 +1,13 @@
-use Rattle.std.proofs.Common.{◌-◌, ◌≤◌, length}
-use Rattle.waff_assign.specs.Order.{IsOrdered}
+use Rattle.std.proofs.Common.{◌-◌, ◌≤◌}
 use Rattle.waff_plan.specs.Obeys.{IsAmong, KeepsOrder}
-use Rattle.waff_plan.specs.Timing.{start_of, work_of}
+use Rattle.waff_plan.specs.Planned.{planned_pairs, planned_starts, planned_work}
 use Rattle.waff_check.proofs.overlap.kept_ones.Given as goal
 
 abbrev pub invariant-loop-kept : goal.invariant-loop-kept
 invariant-loop-kept l = record {
-  kept : KeepsOrder (IsAmong l.kept (IsOrdered l.tree l.assigned)) (work_of l.plan.timings) (start_of l.plan.starts);
+  kept : KeepsOrder (IsAmong l.kept (planned_pairs l.planned)) (planned_work l.planned) (planned_starts l.planned);
   rising : l.kept ≤ l.broken;
-  within : l.broken ≤ length l.assigned;
+  within : l.broken ≤ (planned_work l.planned).count;
 }
 
 abbrev pub decreases-loop-kept : goal.decreases-loop-kept

@@ -13,4 +13,4 @@ pub loop-j-preserved : goal.loop-j-preserved
 loop-j-preserved c = below-more _ _ c.loop-j.invariant (refuted c.if-overlaps.ensures.1)
 
 pub returns : goal.returns
-returns c = none-of _ _ c.loop-j.invariant (λ m le h. let e = h.ordered.to in omega (arith, c.len-messages.ensures.count))
+returns c = none-of _ _ c.loop-j.invariant (λ m le h. let e = h.ordered.to in omega (arith, c.len-messages.ensures.count, c.args.planned.now.lengths))

@@ -1,6 +1,6 @@
 -- One message after another, and all of them sorted.
 use Rattle.std.proofs.Common.{arith}
-use Rattle.waff_plan.specs.Timing.{start_of, work_of}
+use Rattle.waff_plan.specs.Planned.{planned_starts, planned_work}
 use Rattle.waff_check.specs.Shifts.{first_of}
 use Rattle.waff_check.specs.Verdicts.{worker_in}
 use Rattle.waff_check.proofs.ShiftSteps.{shifts-more, shifts-none, shifts-same, shifts-sorted}
@@ -8,13 +8,13 @@ use Rattle.waff_check.proofs.shifts.shifts.Goals as goal
 use Rattle.waff_check.proofs.shifts.shifts.Goals.{in-Some+in_ok-push, in_default}
 
 pub loop-n-init : goal.loop-n-init
-loop-n-init c = rw c.in_ok-shifts.ensures.items (shifts-none (first_of (work_of c.args.plan.now.timings) c.args.many) (start_of c.args.plan.now.starts) (worker_in c.args.given.now))
+loop-n-init c = rw c.in_ok-shifts.ensures.items (shifts-none (first_of (planned_work c.args.claim.now.planned) c.args.many) (planned_starts c.args.claim.now.planned) (worker_in c.args.claim.now.given.now))
 
 pub loop-n-preserved : goal.loop-n-preserved
 loop-n-preserved c =
-    let work = first_of (work_of c.args.plan.now.timings) c.args.many in
-    let start = start_of c.args.plan.now.starts in
-    let worker = worker_in c.args.given.now in
+    let work = first_of (planned_work c.args.claim.now.planned) c.args.many in
+    let start = planned_starts c.args.claim.now.planned in
+    let worker = worker_in c.args.claim.now.given.now in
     let n = c.loop-n.n in
     let so_far = c.loop-n.invariant in
     let is = c.shift.ensures c.args.many (omega arith) in
@@ -25,6 +25,6 @@ loop-n-preserved c =
 
 pub returns : goal.returns
 returns c =
-    shifts-sorted (first_of (work_of c.args.plan.now.timings) c.args.many) (start_of c.args.plan.now.starts) (worker_in c.args.given.now) c.loop-n.n c.loop-n.shifts.items c.sort_unstable.new.self.items
+    shifts-sorted (first_of (planned_work c.args.claim.now.planned) c.args.many) (planned_starts c.args.claim.now.planned) (worker_in c.args.claim.now.given.now) c.loop-n.n c.loop-n.shifts.items c.sort_unstable.new.self.items
     (omega arith) c.loop-n.invariant c.sort_unstable.ensures.permutation
     (λ i lt. c.sort_unstable.ensures.sorted i (0, 0, 0) (omega arith) lt)

@@ -1,6 +1,6 @@
 -- No earlier message has a wrong worker.
 use Rattle.std.proofs.Common.{arith, refl}
-use Rattle.waff_plan.specs.Timing.{start_of, work_of}
+use Rattle.waff_plan.specs.Planned.{planned_starts, planned_work}
 use Rattle.waff_check.specs.Verdicts.{worker_in}
 use Rattle.waff_check.proofs.ShiftLaws.{right-below}
 use Rattle.waff_check.proofs.FirstLaws.{below-more, least-first, none-of, refuted}
@@ -8,7 +8,7 @@ use Rattle.waff_check.proofs.worker.first_misplaced.Goals as goal
 
 pub loop-n-init : goal.loop-n-init
 loop-n-init c =
-    right-below (work_of c.args.plan.now.timings) (start_of c.args.plan.now.starts) (worker_in c.args.given.now) c.args.workers c.args.right c.requires.right
+    right-below (planned_work c.args.claim.now.planned) (planned_starts c.args.claim.now.planned) (worker_in c.args.claim.now.given.now) c.args.workers c.args.right c.requires.right
 
 pub returns-then-is_misplaced : goal.returns-then-is_misplaced
 returns-then-is_misplaced c =

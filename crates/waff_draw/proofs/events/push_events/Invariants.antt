@@ -1,9 +1,8 @@
-use Rattle.std.proofs.Common.{◌≡◌, ◌-◌, ◌++◌, flat_map, string_bytes}
+use Rattle.std.proofs.Common.{◌-◌, flat_map}
 use Rattle.std.specs.List.{range_with_len}
+use Rattle.waff_plan_text.specs.Lines.{Adds}
 use Rattle.waff_draw.proofs.KindLemmas.{kind_event}
 use Rattle.waff_draw.proofs.events.push_events.Given as goal
 
 abbrev pub invariant-loop-n : goal.invariant-loop-n
-invariant-loop-n l =
-    string_bytes l.text ≡ string_bytes l.initial.text
-    ++ flat_map (kind_event l.chart l.kind) (range_with_len 1 (l.n - 1))
+invariant-loop-n l = Adds l.initial.text l.text (flat_map (kind_event l.chart l.kind) (range_with_len 1 (l.n - 1)))

@@ -17,9 +17,9 @@ cost_count tallies = length-map tallies (λ (t : Tally). t.cost)
 
 pub costs_below-requires-clause-small : goal.costs_below-requires-clause-small
 costs_below-requires-clause-small c =
-    let tree = c.args.tree.now in
-    let assigned = c.args.assigned.now in
-    let work = work_of c.args.plan.now.timings in
+    let tree = c.args.planned.now.case.tree.now in
+    let assigned = c.args.planned.now.case.assigned.now in
+    let work = work_of c.args.planned.now.plan.now.timings in
     let chain = c.args.chain.now in
     let tallies = c.in_ok-tallies.tallies.items in
     let groups : c.as_slice.result.now ≡ assigned = c.as_slice.ensures.value ∙ c.in_ok-affinities.ensures in
@@ -27,15 +27,15 @@ costs_below-requires-clause-small c =
     let are : AreTalliesOf assigned work chain (length tree) tallies
     = subst (λ gs. AreTalliesOf gs work chain (length tree) tallies) groups
     (λ g low. c.in_ok-tallies.ensures.each g (omega (arith, low, c.len.ensures.count))) in
-    let sum = tallies_total tree assigned work chain tallies c.len.ensures.tree.filled c.requires.known count are in
+    let sum = tallies_total tree assigned work chain tallies c.len.ensures.tree.filled c.args.planned.now.case.known count are in
     subst (λ (ts : List Tally). sum_by (λ (t : Tally). t.cost) ts < 18446744073709551616) (sym c.as_slice-2.ensures.value)
     (omega (arith, sum, c.total-total.ensures.total, c.total-total.ensures.small))
 
 pub returns : goal.returns
 returns c =
-    let tree = c.args.tree.now in
-    let assigned = c.args.assigned.now in
-    let work = work_of c.args.plan.now.timings in
+    let tree = c.args.planned.now.case.tree.now in
+    let assigned = c.args.planned.now.case.assigned.now in
+    let work = work_of c.args.planned.now.plan.now.timings in
     let chain = c.args.chain.now in
     let tallies = c.in_ok-tallies.tallies.items in
     let below = c.in_ok-below.below.items in
@@ -50,7 +50,7 @@ returns c =
     let pushed = rw (c.as_slice-3.ensures.value, c.as_slice-4.ensures.value) at c.in_ok-push_rows.ensures in (
       below,
       (λ a low.
-          below_by_messages tree assigned work c.len.ensures.tree.filled c.requires.known (map (λ (t : Tally). t.cost) tallies)
+          below_by_messages tree assigned work c.len.ensures.tree.filled c.args.planned.now.case.known (map (λ (t : Tally). t.cost) tallies)
           (cost_count tallies ∙ count) (λ g inside. cost_at assigned work chain (length tree) tallies count are g inside) a (get_or below a 0)
           (subst (λ (ts : List Tally). IsSumBelow tree (map (λ (t : Tally). t.cost) ts) a (get_or below a 0)) c.as_slice-2.ensures.value
           (c.in_ok-below.ensures.below a low))),

@@ -11,15 +11,15 @@ use Rattle.waff_figures.proofs.by_name.names_text.Goals as goal
 
 pub returns : goal.returns
 returns c =
-    let names = message_names c.args.trace.now.messages in
-    let work = work_of c.args.plan.now.timings in
+    let names = message_names c.args.planned.now.case.trace.now.messages in
+    let work = work_of c.args.planned.now.plan.now.timings in
     let chain = c.args.chain.now in
     let keys = c.in_ok-found.found.names.keys in
     let texts : List (List ℕ) = map (λ (x : Bor (List ℕ)). x.now) keys in
     let places = c.in_ok-found.found.places.items in
     let tallies = c.in_ok-tallies.tallies.items in
     let long : length texts ≡ length keys = length-map keys (λ (x : Bor (List ℕ)). x.now) in
-    let count : work.count ≡ length c.args.trace.now.messages = ap length c.requires.timings ∙ length-map c.args.trace.now.messages _ in
+    let count : work.count ≡ length c.args.planned.now.case.trace.now.messages = ap length c.args.planned.now.timings ∙ length-map c.args.planned.now.case.trace.now.messages _ in
     let tally : (p : ℕ) → p < length keys → get_or tallies p no_tally ≡ tally_of work chain (is_named names (get_or texts p []))
     = λ p low.
     subst (λ gs. get_or tallies p no_tally ≡ tally_of work chain (is_in gs p)) c.as_slice.ensures.value

@@ -5,13 +5,15 @@ use Rattle.waff_figures.specs.Figures.{AreFigures}
 use Rattle.waff_figures.proofs.sweep.figures_for.Goals as goal
 
 pub returns-clause-listed : goal.returns-clause-listed
-returns-clause-listed c = λ tree assigned are least.
+returns-clause-listed c =
     let made = c.in_ok-made.made in
-    let work = work_of c.args.unlimited.now.timings in
-    let shortest = length_of work (start_of c.args.unlimited.now.starts) in
-    let timings : made.table.timings ≡ c.args.unlimited.now.timings = c.in_ok-made.ensures.timings ∙ sym c.requires.timings in
-    let list = c.needs_make_the_same_plans.ensures tree assigned c.args.needs.now (work_of made.table.timings) c.args.rule c.args.k
-    (start_of made.table.starts) are c.in_ok-made.ensures.follows in
+    let case = c.args.unlimited.now.case in
+    let plan = c.args.unlimited.now.plan.now in
+    let work = work_of plan.timings in
+    let shortest = length_of work (start_of plan.starts) in
+    let timings : made.table.timings ≡ plan.timings = c.in_ok-made.ensures.timings ∙ sym c.args.unlimited.now.timings in
+    let list = c.needs_make_the_same_plans.ensures case.tree.now case.assigned.now c.args.needs.now (work_of made.table.timings) c.args.rule c.args.k
+    (start_of made.table.starts) c.requires.needs c.in_ok-made.ensures.follows in
     let told : AreFigures (Some c.args.k) work shortest (start_of made.table.starts) c.in_ok-figures.figures
     = rw (c.plan.ensures.plan, timings, c.length.ensures.length) at c.in_ok-figures.ensures in
     record {
@@ -19,7 +21,7 @@ returns-clause-listed c = λ tree assigned are least.
       starts = made.table.starts;
       list = rw timings at list;
       figures_are = told;
-      least = λ other plan.
+      least = λ other is.
           subst (λ n. n ≤ length_of work other) (sym told.least)
-          (c.none_is_shorter.ensures tree assigned work c.args.k (start_of c.args.unlimited.now.starts) other c.requires.workers.from least plan);
+          (c.none_is_shorter.ensures case.tree.now case.assigned.now work c.args.k (start_of plan.starts) other c.requires.workers.from c.requires.least is);
     }

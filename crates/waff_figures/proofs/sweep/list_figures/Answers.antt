@@ -1,13 +1,27 @@
-use Rattle.std.proofs.Common.{Result, Ok, Err, IfOk}
+use Rattle.std.proofs.Common.{ℕ, ◌∷◌, [], ◌++◌, Some, All, map, take, get_or, sym, ◌∙◌, ap, subst}
+use Rattle.std.proofs.lemmas.List.{map_push, take_more}
+use Rattle.std.proofs.lemmas.List.Elements.{All-push}
+use Rattle.waff_plan.specs.Planned.{planned_pairs, planned_starts, planned_work}
+use Rattle.waff_plan.specs.Work.{length_of}
+use Rattle.waff_figures.specs.Sweep.{IsListed}
+use Rattle.waff_figures.specs.declared.figures.Figures.{Figures}
 use Rattle.waff_figures.proofs.sweep.list_figures.Goals as goal
 
-both : {A E : Type 0} (P Q R : A → Type 0) (r : Result A E) → IfOk r P → IfOk r Q → ((a : A) → P a → Q a → R a) → IfOk r R
-both P Q R (Ok a) p q f = f a p q
-both P Q R (Err e) p q f = tt
-
-pub returns : goal.returns
-returns c =
-    both _ _ _ c.figures_for_all.result c.figures_for_all.ensures.workers c.figures_for_all.ensures.each (λ listed workers each. record {
-      in_turn = workers;
-      each = each c.args.tree.now c.args.assigned.now c.in_ok-needs.ensures.needs c.requires.least;
-    })
+pub loop-k-preserved : goal.loop-k-preserved
+loop-k-preserved c =
+    let unlimited = c.args.unlimited.now in
+    let workers = c.args.workers.now in
+    let i = c.loop-k.k-index in
+    let listed = c.loop-k.listed.items in
+    let figures = c.in_ok-figures.figures in
+    let are : Figures → Type 0
+    = IsListed c.args.rule (planned_pairs unlimited) (planned_work unlimited) (length_of (planned_work unlimited) (planned_starts unlimited)) in
+    let items = c.in_ok-push.ensures.items in
+    record {
+      in_turn = ap (map (λ (f : Figures). f.workers)) items ∙ map_push (λ (f : Figures). f.workers) listed figures
+          ∙ ap (λ ws. ws ++ figures.workers ∷ []) c.loop-k.invariant.in_turn
+          ∙ ap (λ w. map (λ (k : ℕ). Some k) (take i workers) ++ w ∷ []) c.in_ok-figures.ensures.workers
+          ∙ sym (map_push (λ (k : ℕ). Some k) (take i workers) (get_or workers i 0))
+          ∙ ap (map (λ (k : ℕ). Some k)) (sym (take_more workers i 0 c.loop-k-test.true));
+      each = subst (All are) (sym items) (All-push are listed figures c.loop-k.invariant.each c.in_ok-figures.ensures.listed);
+    }

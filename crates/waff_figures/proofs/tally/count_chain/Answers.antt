@@ -9,8 +9,8 @@ use Rattle.waff_figures.proofs.tally.count_chain.Goals as goal
 
 pub loop-message-preserved : goal.loop-message-preserved
 loop-message-preserved c =
-    let work = work_of c.args.plan.now.timings in
-    let groups = c.args.groups.now in
+    let work = work_of c.args.grouped.now.plan.now.timings in
+    let groups = c.args.grouped.now.groups.now in
     let chain = c.args.chain.now in
     let tallies = c.loop-message.tallies.items in
     let i = c.loop-message.message-index in
@@ -20,8 +20,8 @@ loop-message-preserved c =
     let old = get_or tallies place no_tally in
     let listed = c.requires.chain.each i 0 low in
     let from : 1 ≤ n = listed.from in
-    let to : n ≤ length c.args.plan.now.timings = listed.to in
-    let known : place < length c.args.tallies.now.items = c.requires.known (n - 1) 0 (omega (arith, from, to, c.requires.lengths)) in
+    let to : n ≤ length c.args.grouped.now.plan.now.timings = listed.to in
+    let known : place < c.args.grouped.now.count = c.args.grouped.now.known (n - 1) 0 (omega (arith, from, to, c.args.grouped.now.lengths)) in
     let within : place < length tallies = omega (arith, known, c.loop-message.invariant.count) in
     let t : Tally = record {
       messages = c.index-tally.result.now.messages;

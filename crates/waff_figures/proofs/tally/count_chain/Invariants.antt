@@ -6,7 +6,7 @@ use Rattle.waff_figures.proofs.tally.count_chain.Given as goal
 
 abbrev pub invariant-loop-message : goal.invariant-loop-message
 invariant-loop-message l = record {
-  count : length l.tallies.items ≡ length l.fn.tallies.items;
-  are : AreTallies (work_of l.plan.timings) l.groups (numbers (work_of l.plan.timings)) (take l.message-index l.chain) l.tallies.items;
+  count : length l.tallies.items ≡ l.grouped.count;
+  are : AreTallies (work_of l.grouped.plan.now.timings) l.grouped.groups.now (numbers (work_of l.grouped.plan.now.timings)) (take l.message-index l.chain) l.tallies.items;
   small : All (λ tally. tally.chain ≤ 2 ^ 32 * l.message-index) l.tallies.items;
 }

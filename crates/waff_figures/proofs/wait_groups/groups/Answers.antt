@@ -13,15 +13,15 @@ use Rattle.waff_figures.proofs.wait_groups.groups.Goals as goal
 
 pub returns-in_ok-found-clause-count : goal.returns-in_ok-found-clause-count
 returns-in_ok-found-clause-count c =
-    let group : ℕ → ℕ × ℕ = λ m. (get_or c.as_slice.result.now (m - 1) 0, affinity_of c.args.assigned.now m) in
-    IfOk-weaker c.numbered_groups.result (λ groups. groups.items ≡ map group (range_with_len 1 (length c.args.assigned.now))) _
-    (λ groups are. ap length are ∙ length-map-range_with_len group 1 (length c.args.assigned.now)) c.numbered_groups.ensures
+    let group : ℕ → ℕ × ℕ = λ m. (get_or c.as_slice.result.now (m - 1) 0, affinity_of c.args.case.now.assigned.now m) in
+    IfOk-weaker c.numbered_groups.result (λ groups. groups.items ≡ map group (range_with_len 1 (length c.args.case.now.assigned.now))) _
+    (λ groups are. ap length are ∙ length-map-range_with_len group 1 (length c.args.case.now.assigned.now)) c.numbered_groups.ensures
 
 pub returns-in_ok-found-clause-tell : goal.returns-in_ok-found-clause-tell
 returns-in_ok-found-clause-tell c =
-    let assigned = c.args.assigned.now in
+    let assigned = c.args.case.now.assigned.now in
     let n = length assigned in
-    let names = message_names c.args.trace.now.messages in
+    let names = message_names c.args.case.now.trace.now.messages in
     let places = c.in_ok-found.found.places.items in
     let keys = c.in_ok-found.found.names.keys in
     let number : ℕ → ℕ = λ m. get_or places (m - 1) 0 in
@@ -32,23 +32,23 @@ returns-in_ok-found-clause-tell c =
     let are_numbered = subst (λ ps. groups.items ≡ map (λ m. (get_or ps (m - 1) 0, affinity_of assigned m)) (range_with_len 1 n)) c.as_slice.ensures.value are in
     groups_tell number (affinity_of assigned) groups.items n are_numbered i j first second
     ∙ ap (λ b. b && same_affinity assigned i j)
-    (names_tell names (map (λ name. name.now) keys) places n (length keys) (c.in_ok-found.ensures.places ∙ sym c.requires.lengths) c.in_ok-found.ensures.known
+    (names_tell names (map (λ name. name.now) keys) places n (length keys) (c.in_ok-found.ensures.places ∙ sym c.args.case.now.lengths) c.in_ok-found.ensures.known
     (subst (λ k. (g m : ℕ) → g < length keys → 1 ≤ m → m ≤ k → is_in places g m ≡ is_named names (get_or (map (λ name. name.now) keys) g []) m)
-    (sym c.requires.lengths) c.in_ok-found.ensures.each) i j first second)
+    (sym c.args.case.now.lengths) c.in_ok-found.ensures.each) i j first second)
     ∙ ap (λ b. are_alike b assigned names i j) (sym c.if-by_name.true))
     c.numbered_groups.ensures
 
 pub returns-else-by_name-clause-count : goal.returns-else-by_name-clause-count
 returns-else-by_name-clause-count c =
-    let group : ℕ → ℕ × ℕ = λ m. (0, affinity_of c.args.assigned.now m) in
-    IfOk-weaker c.affinity_groups.result (λ groups. groups.items ≡ map group (range_with_len 1 (length c.args.assigned.now))) _
-    (λ groups are. ap length are ∙ length-map-range_with_len group 1 (length c.args.assigned.now)) c.affinity_groups.ensures
+    let group : ℕ → ℕ × ℕ = λ m. (0, affinity_of c.args.case.now.assigned.now m) in
+    IfOk-weaker c.affinity_groups.result (λ groups. groups.items ≡ map group (range_with_len 1 (length c.args.case.now.assigned.now))) _
+    (λ groups are. ap length are ∙ length-map-range_with_len group 1 (length c.args.case.now.assigned.now)) c.affinity_groups.ensures
 
 pub returns-else-by_name-clause-tell : goal.returns-else-by_name-clause-tell
 returns-else-by_name-clause-tell c =
-    let assigned = c.args.assigned.now in
+    let assigned = c.args.case.now.assigned.now in
     let n = length assigned in
-    let names = message_names c.args.trace.now.messages in
+    let names = message_names c.args.case.now.trace.now.messages in
     IfOk-weaker c.affinity_groups.result
     (λ groups. groups.items ≡ map (λ m. (0, affinity_of assigned m)) (range_with_len 1 n))
     (λ groups. (i j : ℕ) → IsAmongFirst n i → IsAmongFirst n j → same_group groups.items i j ≡ are_alike c.args.by_name assigned names i j)

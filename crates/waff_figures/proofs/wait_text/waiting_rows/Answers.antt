@@ -1,10 +1,7 @@
-use Rattle.std.proofs.Common.{◌≡◌, ℕ, List, All, length, sym, ◌∙◌, ap, subst}
+use Rattle.std.proofs.Common.{List, All, length, sym, ◌∙◌, ap, subst}
 use Rattle.std.specs.List.{AllPairs}
-use Rattle.std.proofs.lemmas.List.{length-map}
 use Rattle.std.proofs.lemmas.Result.{IfOk-weaker}
-use Rattle.waff_model.specs.declared.message.Message.{Message}
-use Rattle.waff_assign.specs.Order.{IsOrdered}
-use Rattle.waff_plan.specs.Timetable.{Timetable, starts_in, timings_of, work_in}
+use Rattle.waff_plan.specs.Planned.{planned_pairs, planned_starts, planned_work}
 use Rattle.waff_figures.specs.ByName.{message_names}
 use Rattle.waff_figures.specs.Waits.{AreWaits, ComesFirst, IsWaitAmong}
 use Rattle.waff_figures.specs.WaitRows.{AreRows, same_group}
@@ -14,29 +11,21 @@ use Rattle.waff_figures.specs.declared.waits.Wait.{Wait}
 use Rattle.waff_figures.proofs.WaitGroups.{rows_among, rows_same}
 use Rattle.waff_figures.proofs.wait_text.waiting_rows.Goals as goal
 
--- the messages of the plan are those of the trace
-all_among : (plan : Timetable) (messages : List Message) (assigned : List ℕ) (waits : List Wait) → plan.timings ≡ timings_of messages
-    → length assigned ≡ length messages → All (IsWaitAmong (length plan.timings)) waits → All (IsWaitAmong (length assigned)) waits
-all_among plan messages assigned waits timings lengths among =
-    subst (λ n. All (IsWaitAmong n) waits) (ap length timings ∙ length-map messages _ ∙ sym lengths) among
-
 pub rows-requires-clause-order : goal.rows-requires-clause-order
 rows-requires-clause-order c = subst (AllPairs ComesFirst) (sym c.as_slice.ensures.value) c.in_ok-waits.ensures.order
 
 pub rows-requires-clause-among : goal.rows-requires-clause-among
 rows-requires-clause-among c =
-    let waits = c.in_ok-waits.waits.items in
-    let among = all_among c.args.plan.now c.args.trace.now.messages c.args.assigned.now waits c.requires.timings c.requires.lengths c.in_ok-waits.ensures.among in
     subst (λ n. All (IsWaitAmong n) c.as_slice.result.now) (sym (ap length c.as_slice-2.ensures.value ∙ c.in_ok-groups.ensures.count))
-    (subst (All (IsWaitAmong (length c.args.assigned.now))) (sym c.as_slice.ensures.value) among)
+    (subst (All (IsWaitAmong (length c.args.planned.now.case.assigned.now))) (sym c.as_slice.ensures.value) c.in_ok-waits.ensures.among)
 
 pub returns : goal.returns
 returns c =
-    let assigned = c.args.assigned.now in
+    let assigned = c.args.planned.now.case.assigned.now in
     let waits = c.in_ok-waits.waits.items in
     let groups = c.in_ok-groups.groups.items in
-    let alike = are_alike c.args.by_name assigned (message_names c.args.trace.now.messages) in
-    let among = all_among c.args.plan.now c.args.trace.now.messages assigned waits c.requires.timings c.requires.lengths c.in_ok-waits.ensures.among in
+    let alike = are_alike c.args.by_name assigned (message_names c.args.planned.now.case.trace.now.messages) in
+    let among = c.in_ok-waits.ensures.among in
     let told : (rows : List Row) → AreRows (same_group c.as_slice-2.result.now) c.as_slice.result.now rows → AreRows (same_group groups) waits rows
     = λ rows are.
     subst (λ gs. AreRows (same_group gs) waits rows) c.as_slice-2.ensures.value
@@ -44,7 +33,7 @@ returns c =
     record {
       rows = IfOk-weaker c.rows.result (λ rows. AreRows (same_group c.as_slice-2.result.now) c.as_slice.result.now rows.items)
           (λ rows. (ws : List Wait)
-          × AreWaits (IsOrdered c.args.tree.now assigned) (work_in c.args.plan.now) (starts_in c.args.plan.now) ws × AreRows alike ws rows.items)
+          × AreWaits (planned_pairs c.args.planned.now) (planned_work c.args.planned.now) (planned_starts c.args.planned.now) ws × AreRows alike ws rows.items)
           (λ rows are. (
             waits,
             c.in_ok-waits.ensures.waits,

@@ -1,7 +1,10 @@
 use Rattle.std.proofs.Common.{◌≡◌, ℕ, ◌+◌, ◌-◌, ◌≤◌, ◌++◌, List, Option, get_or, length, None, IfSome, arith, sym, ◌∙◌, ap, subst}
 use Rattle.std.proofs.lemmas.List.{get_or_read}
+use Rattle.waff_plan.specs.Links.{AreLinks}
+use Rattle.waff_plan.specs.Planned.{planned_pairs, planned_starts, planned_work}
 use Rattle.waff_plan.specs.Timetable.{Timetable, starts_in, work_in}
 use Rattle.waff_plan.specs.Work.{IsAmongFirst}
+use Rattle.waff_plan.specs.declared.planned.Planned.{Planned}
 use Rattle.waff_figures.proofs.WaitLemmas.{AreSoFar, links_known, upto_more, upto_so_far, waits_upto}
 use Rattle.waff_figures.specs.Waits.{waits_in}
 use Rattle.waff_figures.specs.declared.waits.Wait.{Wait}
@@ -9,21 +12,22 @@ use Rattle.waff_figures.proofs.waits.waits.Goals as goal
 
 pub push_waits-requires-clause-link : goal.push_waits-requires-clause-link
 push_waits-requires-clause-link c =
-    let plan = c.args.plan.now in
+    let planned = c.args.planned.now in
+    let plan = planned.plan.now in
+    let assigned = planned.case.assigned.now in
     let links = c.in_ok-links.links.items in
     let m = c.loop-m.m in
     let from : 1 ≤ m = c.loop-m.auto.m in
-    let to : m ≤ length plan.timings = omega (arith, c.loop-m-test.true, c.len-m-end.ensures.count) in
+    let to : m ≤ length assigned = omega (arith, c.loop-m-test.true, c.len-m-end.ensures.count, planned.lengths) in
     let read : c.index.result.now ≡ get_or links (m - 1) None
-    = get_or_read links (m - 1) c.index.result.now (omega (arith, from, to, c.in_ok-links.ensures.count)) c.index.ensures None in
-    subst (λ link. IfSome link (IsAmongFirst (length plan.timings))) (sym read)
-    (links_known c.args.tree.now c.args.assigned.now (work_in plan) (starts_in plan) links (length plan.timings) c.requires.lengths
-    c.in_ok-links.ensures.links m from to)
+    = get_or_read links (m - 1) c.index.result.now (omega (arith, from, to, c.in_ok-links.ensures.count, planned.lengths)) c.index.ensures None in
+    subst (λ link. IfSome link (IsAmongFirst (length assigned))) (sym read)
+    (links_known planned.case.tree.now assigned (work_in plan) (starts_in plan) links (length plan.timings) planned.lengths c.in_ok-links.ensures.links m from to)
 
 pub loop-m-preserved : goal.loop-m-preserved
 loop-m-preserved c =
-    let work = work_in c.args.plan.now in
-    let start = starts_in c.args.plan.now in
+    let work = work_in c.args.planned.now.plan.now in
+    let start = starts_in c.args.planned.now.plan.now in
     let links = c.in_ok-links.links.items in
     let m = c.loop-m.m in
     let from : 1 ≤ m = c.loop-m.auto.m in
@@ -47,28 +51,28 @@ pub returns-clause-waits : goal.returns-clause-waits
 returns-clause-waits c = record {
   links = c.in_ok-links.links.items;
   are_links = c.in_ok-links.ensures.links;
-  waits_are = all_waits c.args.plan.now c.in_ok-links.links.items c.loop-m.waits.items c.loop-m.m c.loop-m.auto.m
+  waits_are = all_waits c.args.planned.now.plan.now c.in_ok-links.links.items c.loop-m.waits.items c.loop-m.m c.loop-m.auto.m
       (omega (arith, c.loop-m-test.false, c.len-m-end.ensures.count, c.loop-m.auto.m, c.loop-m.auto.m-end)) c.loop-m.invariant;
 }
 
+-- they come in order, and are of these messages
+are_so_far : (planned : Planned) (links : List (Option ℕ)) (waits : List Wait) (m : ℕ) → 1 ≤ m → m ≡ length planned.plan.now.timings + 1
+    → waits ≡ waits_upto (planned_work planned) (planned_starts planned) links (m - 1)
+    → AreLinks (planned_pairs planned) (planned_work planned) (planned_starts planned) (length planned.plan.now.timings) links
+    → AreSoFar (length planned.case.assigned.now) (length planned.plan.now.timings) waits
+are_so_far planned links waits m from end is are =
+    let n = length planned.plan.now.timings in
+    let count = length planned.case.assigned.now in
+    subst (AreSoFar count n) (sym (all_waits planned.plan.now links waits m from end is))
+    (upto_so_far (planned_work planned) (planned_starts planned) links count n (omega (arith, planned.lengths))
+    (links_known planned.case.tree.now planned.case.assigned.now (planned_work planned) (planned_starts planned) links n planned.lengths are))
+
 pub returns-clause-order : goal.returns-clause-order
 returns-clause-order c =
-    let plan = c.args.plan.now in
-    let links = c.in_ok-links.links.items in
-    let n = length plan.timings in
-    let all = all_waits plan links c.loop-m.waits.items c.loop-m.m c.loop-m.auto.m
-    (omega (arith, c.loop-m-test.false, c.len-m-end.ensures.count, c.loop-m.auto.m, c.loop-m.auto.m-end)) c.loop-m.invariant in
-    let known = links_known c.args.tree.now c.args.assigned.now (work_in plan) (starts_in plan) links n c.requires.lengths c.in_ok-links.ensures.links in
-    let so_far = upto_so_far (work_in plan) (starts_in plan) links n n (omega arith) known in
-    (subst (AreSoFar n n) (sym all) so_far).order
+    (are_so_far c.args.planned.now c.in_ok-links.links.items c.loop-m.waits.items c.loop-m.m c.loop-m.auto.m
+    (omega (arith, c.loop-m-test.false, c.len-m-end.ensures.count, c.loop-m.auto.m, c.loop-m.auto.m-end)) c.loop-m.invariant c.in_ok-links.ensures.links).order
 
 pub returns-clause-among : goal.returns-clause-among
 returns-clause-among c =
-    let plan = c.args.plan.now in
-    let links = c.in_ok-links.links.items in
-    let n = length plan.timings in
-    let all = all_waits plan links c.loop-m.waits.items c.loop-m.m c.loop-m.auto.m
-    (omega (arith, c.loop-m-test.false, c.len-m-end.ensures.count, c.loop-m.auto.m, c.loop-m.auto.m-end)) c.loop-m.invariant in
-    let known = links_known c.args.tree.now c.args.assigned.now (work_in plan) (starts_in plan) links n c.requires.lengths c.in_ok-links.ensures.links in
-    let so_far = upto_so_far (work_in plan) (starts_in plan) links n n (omega arith) known in
-    (subst (AreSoFar n n) (sym all) so_far).among
+    (are_so_far c.args.planned.now c.in_ok-links.links.items c.loop-m.waits.items c.loop-m.m c.loop-m.auto.m
+    (omega (arith, c.loop-m-test.false, c.len-m-end.ensures.count, c.loop-m.auto.m, c.loop-m.auto.m-end)) c.loop-m.invariant c.in_ok-links.ensures.links).among

@@ -6,7 +6,7 @@ use Rattle.waff_plan.specs.Timing.{work_of, start_of}
 use Rattle.waff_plan.specs.Table.{message_span, IsTable}
 use Rattle.waff_plan.proofs.Forward.{IsOrdered_forward}
 use Rattle.waff_plan.proofs.Steps.{IsLeastUpTo, up_to_all}
-use Rattle.waff_plan.proofs.Planned.{planned_none, found_at, start_early, planned_next, early_is_printable}
+use Rattle.waff_plan.proofs.LeastStarts.{planned_none, found_at, start_early, planned_next, early_is_printable}
 use Rattle.waff_plan.proofs.least.least_starts.Goals as goal
 
 pub overflow_add-finish : goal.overflow_add-finish

@@ -1,6 +1,6 @@
 use Rattle.std.proofs.Common.{◌≡◌, ◌-◌, length}
 use Rattle.waff_plan.specs.Timing.{work_of}
-use Rattle.waff_plan.proofs.Planned.{IsPlanned}
+use Rattle.waff_plan.proofs.LeastStarts.{IsPlanned}
 use Rattle.waff_plan.proofs.least.least_starts.Given as goal
 
 abbrev pub invariant-loop-m : goal.invariant-loop-m

@@ -7,7 +7,7 @@ use Rattle.waff_plan.specs.Table.{message_span, IsTable}
 use Rattle.waff_plan.specs.Links.{IsLink, link_of}
 use Rattle.waff_plan.specs.Timetable.{work_in, starts_in}
 use Rattle.waff_plan.proofs.Linkings.{is_link, links_more}
-use Rattle.waff_plan.proofs.Planned.{found_at}
+use Rattle.waff_plan.proofs.LeastStarts.{found_at}
 use Rattle.waff_plan.proofs.links.links.Goals as goal
 
 pub loop-m-init : goal.loop-m-init

@@ -7,7 +7,7 @@ use Rattle.waff_plan_text.proofs.writing.push_unlimited_rows.Goals as goal
 pub loop-n-preserved : goal.loop-n-preserved
 loop-n-preserved c =
     rows_further
-    (message_row c.args.tree.now c.args.assigned.now (work_of c.args.plan.now.timings) (start_of c.args.plan.now.starts) no_worker)
+    (message_row c.args.planned.now.case.tree.now c.args.planned.now.case.assigned.now (work_of c.args.planned.now.plan.now.timings) (start_of c.args.planned.now.plan.now.starts) no_worker)
     c.loop-n.n (string_bytes c.args.text.now) (string_bytes c.loop-n.text) (string_bytes c.push_plan_row.new.text)
     c.loop-n.auto.n c.loop-n.invariant
-    (rw (c.name-affinity.ensures, c.of.ensures, c.start.ensures.start, c.finish.ensures.finish) at c.in_ok-push_plan_row.ensures)
+    (rw (c.affinity_name-affinity.ensures, c.start.ensures.start, c.finish.ensures.finish) at c.in_ok-push_plan_row.ensures)

@@ -8,4 +8,4 @@ use Rattle.waff_plan_text.proofs.writing.push_worker_rows.Given as goal
 abbrev pub invariant-loop-n : goal.invariant-loop-n
 invariant-loop-n l =
     string_bytes l.text ≡ string_bytes l.initial.text
-    ++ text_of (map (message_row l.tree l.assigned (work_of l.plan.timings) (start_of l.plan.starts) (seat_of l.seats)) (range_with_len 1 (l.n - 1)))
+    ++ text_of (map (message_row l.planned.case.tree.now l.planned.case.assigned.now (work_of l.planned.plan.now.timings) (start_of l.planned.plan.now.starts) (seat_of l.seats)) (range_with_len 1 (l.n - 1)))

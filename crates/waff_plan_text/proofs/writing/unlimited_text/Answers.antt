@@ -8,10 +8,10 @@ use Rattle.waff_plan_text.proofs.writing.unlimited_text.Goals as goal
 
 pub returns : goal.returns
 returns c =
-    let work = work_of c.args.plan.now.timings in
-    let start = start_of c.args.plan.now.starts in
-    three_parts plan_header (map (message_row c.args.tree.now c.args.assigned.now work start no_worker) (numbers work))
-    (summary_lines c.args.version (worker_field None) c.args.chain.now (totals_of None work start c.args.chain.now))
+    let work = work_of c.args.planned.now.plan.now.timings in
+    let start = start_of c.args.planned.now.plan.now.starts in
+    three_parts plan_header (map (message_row c.args.planned.now.case.tree.now c.args.planned.now.case.assigned.now work start no_worker) (numbers work))
+    (summary_lines c.args.planned.now.case.trace.now.version (worker_field None) c.args.chain.now (totals_of None work start c.args.chain.now))
     (string_bytes c.push_str.new.self) (string_bytes c.push_unlimited_rows.new.text) (string_bytes c.push_summary.new.text)
     (search rules) c.in_ok-push_unlimited_rows.ensures
-    (rw c.totals.ensures.totals at c.in_ok-push_summary.ensures)
+    (rw (c.version-version.ensures, c.totals-totals.ensures.totals) at c.in_ok-push_summary.ensures)

@@ -5,7 +5,7 @@ use Rattle.waff_tool.proofs.assigns.push_assigned_rows.Goals as goal
 
 pub loop-n-preserved : goal.loop-n-preserved
 loop-n-preserved c =
-    rows_further (assign_row c.args.tree.now c.args.trace.now.messages c.args.assigned.now)
+    rows_further (assign_row c.args.case.now.tree.now c.args.case.now.trace.now.messages c.args.case.now.assigned.now)
     c.loop-n.n (string_bytes c.args.text.now) (string_bytes c.loop-n.text) (string_bytes c.push_assigned_row.new.text)
     c.loop-n.auto.n c.loop-n.invariant
-    (rw c.message-message.ensures.message (rw (c.as_str.ensures, c.name-affinity.ensures, c.of.ensures) at c.in_ok-push_assigned_row.ensures))
+    (rw c.message.ensures.message (rw (c.as_str-name.ensures, c.affinity_name.ensures) at c.in_ok-push_assigned_row.ensures))

@@ -7,4 +7,4 @@ use Rattle.waff_tool.proofs.assigns.push_assigned_rows.Given as goal
 abbrev pub invariant-loop-n : goal.invariant-loop-n
 invariant-loop-n l =
     string_bytes l.text ≡ string_bytes l.initial.text
-    ++ text_of (map (assign_row l.tree l.trace.messages l.assigned) (range_with_len 1 (l.n - 1)))
+    ++ text_of (map (assign_row l.case.tree.now l.case.trace.now.messages l.case.assigned.now) (range_with_len 1 (l.n - 1)))

@@ -1,23 +1,8 @@
+use Rattle.std.proofs.Common.{sym}
 use Rattle.waff_tool.proofs.checks.verdict_on.Goals as goal
 
 pub returns-clause-made : goal.returns-clause-made
 returns-clause-made g c hierarchy trace accepts =
-    let accepted = c.args.accepted.now in
-    let tree = c.tree-tree.ensures in
+    let is = c.case-case.ensures in
     let given = rw (c.version.ensures, c.len.ensures.count) at c.in_ok-given.ensures.exact in
-    let promised = c.in_ok-verdict.ensures in
-    record {
-      layout = accepted.layout;
-      trace = accepted.trace;
-      assigned = accepted.assigned;
-      given = c.in_ok-given.given;
-      accepts = accepts;
-      is_plan = given;
-      verdict = rw tree at promised.verdict;
-      obeys = rw tree at promised.obeys;
-      worker_plan = rw tree at promised.worker_plan;
-      one_at_a_time = promised.one_at_a_time;
-      chain = rw tree at promised.chain;
-      shortest = rw tree at promised.shortest;
-      bound = rw tree at promised.bound;
-    }
+    c.in_ok-verdict.ensures hierarchy trace c.args.plan.now c.args.accepted.now.layout (rw (is.trace, is.assigned) accepts) (sym is.tree) given

@@ -3,7 +3,7 @@ use Rattle.std.proofs.lemmas.Result.{IfOk-weaker}
 use Rattle.waff_model.specs.declared.message.Version.{Version}
 use Rattle.waff_assign.specs.Order.{Refines}
 use Rattle.waff_plan.specs.Work.{total_of}
-use Rattle.waff_tool.specs.PlanText.{work_in}
+use Rattle.waff_tool.specs.PlanText.{work_of_trace}
 use Rattle.waff_tool.specs.Comparison.{IsCompared, compare_lines}
 use Rattle.waff_plan_text.specs.Lines.{text_of}
 use Rattle.waff_tool.proofs.ComparisonLemmas.{refined_is_no_longer}
@@ -21,7 +21,7 @@ returns c =
     let refined = c.refines-refined.result in
     let told : IsTrue refined ↔ Refines hierarchical.tree fine classical.tree coarse =
     rw (c.tree.ensures, c.tree-2.ensures) at c.refines-refined.ensures in
-    let total : of_classical.unlimited.total ≡ total_of (work_in trace) =
+    let total : of_classical.unlimited.total ≡ total_of (work_of_trace trace) =
     ap (λ totals. totals.total) c.in_ok-of_classical.ensures.unlimited in
     let text_for : Version → ℕ → List ℕ = λ version total. text_of
     (compare_lines version c.args.k total of_classical of_hierarchical refined) in
@@ -39,9 +39,9 @@ returns c =
       classical_measured = c.in_ok-of_classical.ensures;
       hierarchical_measured = c.in_ok-of_hierarchical.ensures;
       told = told;
-      no_longer = λ yes. refined_is_no_longer classical hierarchical coarse fine (work_in trace) c.args.k of_classical
+      no_longer = λ yes. refined_is_no_longer classical hierarchical coarse fine (work_of_trace trace) c.args.k of_classical
           of_hierarchical c.in_ok-of_classical.ensures c.in_ok-of_hierarchical.ensures
-          (c.refined_is_no_longer.ensures hierarchical.tree classical.tree fine coarse (work_in trace) (told.0 yes));
+          (c.refined_is_no_longer.ensures hierarchical.tree classical.tree fine coarse (work_of_trace trace) (told.0 yes));
       lines = lines ∙ ap (λ v. text_for v of_classical.unlimited.total) c.version-version.ensures
           ∙ ap (λ t. text_for trace.version t) total;
     })

@@ -3,8 +3,8 @@ use Rattle.waff_tool.proofs.draws.picture_on.Goals as goal
 pub returns-clause-made : goal.returns-clause-made
 returns-clause-made c hierarchy trace accepts =
     let accepted = c.args.accepted.now in
-    let tree = c.tree-tree.ensures in
-    let given = rw (c.version.ensures, c.len.ensures.count) at c.in_ok-given.ensures.exact in
+    let is = c.case-case.ensures in
+    let given = rw (c.version.ensures, c.len.ensures.count, is.trace) at c.in_ok-given.ensures.exact in
     record {
       layout = accepted.layout;
       trace = accepted.trace;
@@ -12,5 +12,5 @@ returns-clause-made c hierarchy trace accepts =
       given = c.in_ok-given.given;
       accepts = accepts;
       is_plan = given;
-      drawn = rw tree at c.in_ok-text.ensures;
+      drawn = rw (is.tree, is.assigned, is.trace) at c.in_ok-text.ensures;
     }

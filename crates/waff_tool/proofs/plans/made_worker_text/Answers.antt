@@ -7,8 +7,8 @@ use Rattle.waff_plan.specs.declared.timing.Timing.{Timing}
 use Rattle.waff_plan.specs.Timing.{work_of, start_of}
 use Rattle.waff_plan_text.specs.Lines.{text_of}
 use Rattle.waff_plan_text.specs.Spelling.{worker_lines}
-use Rattle.waff_tool.specs.PlanText.{work_in}
-use Rattle.waff_tool.proofs.CertificateLemmas.{bounded, pairs_forward}
+use Rattle.waff_tool.specs.PlanText.{work_of_trace}
+use Rattle.waff_tool.proofs.CertificateLemmas.{as_accepted, bounded, pairs_forward}
 use Rattle.waff_tool.proofs.plans.made_worker_text.Goals as goal
 
 on_ok : {A E : Type 0} (P Q : A → Type 0) (r : Result A E) → IfOk r P → ((a : A) → P a → Q a) → IfOk r Q
@@ -20,20 +20,21 @@ returns c =
     let made = c.in_ok-made.made in
     let chain = c.in_ok-chain.chain in
     let assigned = c.args.accepted.now.assigned in
-    let tree = c.tree-tree.ensures in
-    let timings = c.in_ok-made.ensures.timings in
-    let plan = c.needs_make_the_same_plans.ensures c.tree-tree.result.now assigned c.in_ok-needs.needs
+    let is = c.case-case.ensures in
+    let timings = rw is.trace at c.in_ok-made.ensures.timings in
+    let plan = c.needs_make_the_same_plans.ensures c.case-case.result.tree.now c.case-case.result.assigned.now c.in_ok-needs.needs
     (work_of made.table.timings) c.args.rule c.args.k (start_of made.table.starts) c.in_ok-needs.ensures.needs
     c.in_ok-made.ensures.follows in
-    let list = rw (tree, timings) at plan in
-    let printed = rw (tree, timings) at c.in_ok-chain.ensures.printed in
+    let list = rw (is.tree, is.assigned, timings) at plan in
+    let printed = rw (is.tree, is.assigned, timings) at c.in_ok-chain.ensures.printed in
     let forward = pairs_forward c.args.accepted.now.layout.tree assigned c.args.accepted.now.trace.messages c.args.accepted.now.lengths in
     let version = c.args.accepted.now.trace.version in
     let layout = c.args.accepted.now.layout.tree in
-    let text_for : Version → List Node → List Timing → List ℕ → List ℕ → List ℕ → List ℕ = λ version tree timings starts seats chain. text_of
+    let text_for : Version → List Node → List ℕ → List Timing → List ℕ → List ℕ → List ℕ → List ℕ = λ version tree assigned timings starts seats chain. text_of
     (worker_lines version tree assigned (work_of timings) c.args.k (start_of starts) seats chain) in
     let made_text : IfOk c.worker_text-text.result (λ text. string_bytes text
-    ≡ text_for c.version-version.result c.tree-tree.result.now c.plan.result.now.timings c.plan.result.now.starts c.seats.result.now c.messages.result.now) =
+    ≡ text_for c.case-case.result.trace.now.version c.case-case.result.tree.now c.case-case.result.assigned.now
+    c.plan-plan.result.now.timings c.plan-plan.result.now.starts c.seats.result.now c.messages.result.now) =
     c.worker_text-text.ensures in
     on_ok _ _ c.worker_text-text.result made_text (λ text lines hierarchy trace accepts. record {
       layout = c.args.accepted.now.layout;
@@ -43,13 +44,13 @@ returns c =
       workers = made.seats;
       chain = chain.messages;
       accepts = accepts;
-      bounded = bounded c.args.rule (IsOrdered c.args.accepted.now.layout.tree assigned) (work_in c.args.accepted.now.trace) c.args.k
+      bounded = bounded c.args.rule (IsOrdered c.args.accepted.now.layout.tree assigned) (work_of_trace c.args.accepted.now.trace) c.args.k
           (start_of made.table.starts) chain.messages c.requires.workers.from forward list printed;
       seated = rw timings at c.in_ok-made.ensures.seated;
-      lines = lines ∙ ap (λ v. text_for v c.tree-tree.result.now c.plan.result.now.timings c.plan.result.now.starts c.seats.result.now c.messages.result.now) c.version-version.ensures
-          ∙ ap (λ t. text_for version t c.plan.result.now.timings c.plan.result.now.starts c.seats.result.now c.messages.result.now) tree
-          ∙ ap (λ (table : Timetable). text_for version layout table.timings table.starts c.seats.result.now c.messages.result.now) c.plan.ensures.plan
-          ∙ ap (λ seats. text_for version layout made.table.timings made.table.starts seats c.messages.result.now) c.seats.ensures.seats
-          ∙ ap (λ chain. text_for version layout made.table.timings made.table.starts made.seats chain) c.messages.ensures
-          ∙ ap (λ timings. text_for version layout timings made.table.starts made.seats chain.messages) timings;
+      lines = as_accepted (λ t a r. string_bytes text ≡ text_for r.version t a c.plan-plan.result.now.timings c.plan-plan.result.now.starts
+          c.seats.result.now c.messages.result.now) _ _ _ _ _ _ is.tree is.assigned is.trace lines
+          ∙ ap (λ (table : Timetable). text_for version layout assigned table.timings table.starts c.seats.result.now c.messages.result.now) c.plan-plan.ensures.plan
+          ∙ ap (λ seats. text_for version layout assigned made.table.timings made.table.starts seats c.messages.result.now) c.seats.ensures.seats
+          ∙ ap (λ ch. text_for version layout assigned made.table.timings made.table.starts made.seats ch) c.messages.ensures
+          ∙ ap (λ ts. text_for version layout assigned ts made.table.starts made.seats chain.messages) timings;
     })

@@ -3,8 +3,8 @@ use Rattle.waff_tool.proofs.rates.rating_on.Goals as goal
 pub returns-clause-made : goal.returns-clause-made
 returns-clause-made g c hierarchy trace accepts =
     let accepted = c.args.accepted.now in
-    let tree = c.tree-tree.ensures in
-    let given = rw (c.version.ensures, c.len.ensures.count) at c.in_ok-given.ensures.exact in
+    let is = c.case-case.ensures in
+    let given = rw (c.version.ensures, c.len.ensures.count, is.trace) at c.in_ok-given.ensures.exact in
     let promised = c.in_ok-verdict.ensures in
     record {
       checked = record {
@@ -14,15 +14,15 @@ returns-clause-made g c hierarchy trace accepts =
         given = c.in_ok-given.given;
         accepts = accepts;
         is_plan = given;
-        verdict = rw tree at promised.verdict;
-        obeys = rw tree at promised.obeys;
-        worker_plan = rw tree at promised.worker_plan;
-        one_at_a_time = promised.one_at_a_time;
-        chain = rw tree at promised.chain;
-        shortest = rw tree at promised.shortest;
-        bound = rw tree at promised.bound;
+        verdict = rw (is.tree, is.assigned, is.trace) at promised.verdict;
+        obeys = rw (is.tree, is.assigned, is.trace) at promised.obeys;
+        worker_plan = rw (is.tree, is.assigned, is.trace) at promised.worker_plan;
+        one_at_a_time = rw is.trace at promised.one_at_a_time;
+        chain = rw (is.tree, is.assigned, is.trace) at promised.chain;
+        shortest = rw (is.tree, is.assigned, is.trace) at promised.shortest;
+        bound = rw (is.tree, is.assigned, is.trace) at promised.bound;
       };
       figures = c.in_ok-figures.figures;
-      rated = rw tree at c.in_ok-figures.ensures;
+      rated = rw (is.tree, is.assigned, is.trace) at c.in_ok-figures.ensures;
       lines = c.in_ok-text.ensures;
     }

@@ -15,10 +15,10 @@ returns c =
     let layout = c.args.accepted.now.layout in
     let trace = c.args.accepted.now.trace in
     let assigned = c.args.accepted.now.assigned in
-    let tree = c.tree-tree.ensures in
-    let timings = c.in_ok-plan.ensures.timings in
-    let least = rw (tree, timings) at c.in_ok-plan.ensures.least in
-    let are = rw (tree, timings) at c.in_ok-listed.ensures in
+    let is = c.case-case.ensures in
+    let timings = rw is.trace at c.in_ok-plan.ensures.timings in
+    let least = rw (is.tree, is.assigned, timings) at c.in_ok-plan.ensures.least in
+    let are = rw (is.tree, is.assigned, timings) at c.in_ok-listed.ensures in
     let told = rw (c.length.ensures.length, timings) at c.in_ok-unlimited.ensures in
     IfOk-weaker c.figures_text-text.result
     (λ text. string_bytes text ≡ text_of (sweep_lines c.as_slice.result.now unlimited))

@@ -2,8 +2,9 @@ use Rattle.std.proofs.Common.{ℕ, List, None, string_bytes, subst}
 use Rattle.std.proofs.lemmas.Result.{IfOk-weaker}
 use Rattle.waff_list.specs.declared.rule.Rule.{Rule}
 use Rattle.waff_inputs.specs.Inputs.{Accepts}
-use Rattle.waff_tool.specs.PlanText.{work_in}
+use Rattle.waff_tool.specs.PlanText.{work_of_trace}
 use Rattle.waff_tool.specs.WaitsText.{IsWaitsText}
+use Rattle.waff_tool.proofs.CertificateLemmas.{as_accepted}
 use Rattle.waff_tool.proofs.WaitsTexts.{IsTold, told_text}
 use Rattle.waff_tool.proofs.waits.unlimited_waits.Goals as goal
 
@@ -14,16 +15,16 @@ returns c =
     let trace = c.args.accepted.now.trace in
     let assigned = c.args.accepted.now.assigned in
     let by_name = c.args.by_name in
-    let tree = c.tree-tree.ensures in
-    let timings = c.in_ok-plan.ensures.timings in
-    let least = rw (tree, timings) at c.in_ok-plan.ensures.least in
-    let adds = c.ticks_add_up.ensures layout.tree assigned (work_in trace) in
+    let is = c.case-case.ensures in
+    let timings = rw is.trace at c.in_ok-plan.ensures.timings in
+    let least = rw (is.tree, is.assigned, timings) at c.in_ok-plan.ensures.least in
+    let adds = c.ticks_add_up.ensures layout.tree assigned (work_of_trace trace) in
     IfOk-weaker c.waiting_text-text.result
-    (λ text. IsTold by_name c.tree-tree.result.now assigned trace.messages plan.timings plan.starts (string_bytes text))
+    (λ text. IsTold by_name c.case-case.result.tree.now c.case-case.result.assigned.now c.case-case.result.trace.now.messages plan.timings plan.starts (string_bytes text))
     (λ text. (rule : Rule) (hierarchy trace_file : List ℕ) → Accepts hierarchy trace_file layout trace assigned
     → IsWaitsText rule hierarchy trace_file None by_name (string_bytes text))
     (λ text told rule hierarchy trace_file accepts.
     told_text rule hierarchy trace_file None by_name layout trace assigned plan.starts (string_bytes text) accepts adds least
     (subst (λ ts. IsTold by_name layout.tree assigned trace.messages ts plan.starts (string_bytes text)) timings
-    (subst (λ t. IsTold by_name t assigned trace.messages plan.timings plan.starts (string_bytes text)) tree told)))
+    (as_accepted (λ t a r. IsTold by_name t a r.messages plan.timings plan.starts (string_bytes text)) _ _ _ _ _ _ is.tree is.assigned is.trace told)))
     c.waiting_text-text.ensures

@@ -3,8 +3,9 @@ use Rattle.std.proofs.lemmas.Result.{IfOk-weaker}
 use Rattle.waff_plan.specs.Timetable.{Timetable}
 use Rattle.waff_plan.specs.Timing.{start_of, work_of}
 use Rattle.waff_inputs.specs.Inputs.{Accepts}
-use Rattle.waff_tool.specs.PlanText.{work_in}
+use Rattle.waff_tool.specs.PlanText.{work_of_trace}
 use Rattle.waff_tool.specs.WaitsText.{IsWaitsText}
+use Rattle.waff_tool.proofs.CertificateLemmas.{as_accepted}
 use Rattle.waff_tool.proofs.WaitsTexts.{IsTold, told_text}
 use Rattle.waff_tool.proofs.waits.worker_waits.Goals as goal
 
@@ -17,20 +18,22 @@ returns c =
     let by_name = c.args.by_name in
     let k = c.args.k in
     let rule = c.args.rule in
-    let tree = c.tree-tree.ensures in
-    let timings = c.in_ok-made.ensures.timings in
-    let plan = c.needs_make_the_same_plans.ensures c.tree-tree.result.now assigned c.in_ok-needs.needs
+    let is = c.case-case.ensures in
+    let timings = rw is.trace at c.in_ok-made.ensures.timings in
+    let plan = c.needs_make_the_same_plans.ensures c.case-case.result.tree.now c.case-case.result.assigned.now c.in_ok-needs.needs
     (work_of made.table.timings) rule k (start_of made.table.starts) c.in_ok-needs.ensures.needs
     c.in_ok-made.ensures.follows in
-    let list = rw (tree, timings) at plan in
-    let adds = c.ticks_add_up.ensures layout.tree assigned (work_in trace) in
+    let list = rw (is.tree, is.assigned, timings) at plan in
+    let adds = c.ticks_add_up.ensures layout.tree assigned (work_of_trace trace) in
     IfOk-weaker c.waiting_text-text.result
-    (λ text. IsTold by_name c.tree-tree.result.now assigned trace.messages c.plan.result.now.timings c.plan.result.now.starts (string_bytes text))
+    (λ text. IsTold by_name c.case-case.result.tree.now c.case-case.result.assigned.now c.case-case.result.trace.now.messages
+    c.plan-plan.result.now.timings c.plan-plan.result.now.starts (string_bytes text))
     (λ text. (hierarchy trace_file : List ℕ) → Accepts hierarchy trace_file layout trace assigned
     → IsWaitsText rule hierarchy trace_file (Some k) by_name (string_bytes text))
     (λ text told hierarchy trace_file accepts.
     told_text rule hierarchy trace_file (Some k) by_name layout trace assigned made.table.starts (string_bytes text) accepts adds list
     (subst (λ ts. IsTold by_name layout.tree assigned trace.messages ts made.table.starts (string_bytes text)) timings
-    (subst (λ (table : Timetable). IsTold by_name layout.tree assigned trace.messages table.timings table.starts (string_bytes text)) c.plan.ensures.plan
-    (subst (λ t. IsTold by_name t assigned trace.messages c.plan.result.now.timings c.plan.result.now.starts (string_bytes text)) tree told))))
+    (subst (λ (table : Timetable). IsTold by_name layout.tree assigned trace.messages table.timings table.starts (string_bytes text)) c.plan-plan.ensures.plan
+    (as_accepted (λ t a r. IsTold by_name t a r.messages c.plan-plan.result.now.timings c.plan-plan.result.now.starts (string_bytes text))
+    _ _ _ _ _ _ is.tree is.assigned is.trace told))))
     c.waiting_text-text.ensures

@@ -8,9 +8,9 @@ use Rattle.waff_plan.specs.Timing.{work_of, start_of}
 use Rattle.waff_plan_text.specs.Lines.{text_of}
 use Rattle.waff_figures.specs.ByAffinity.{AreCostsBelow, affinities_lines}
 use Rattle.waff_inputs.specs.Inputs.{Accepts}
-use Rattle.waff_tool.specs.PlanText.{work_in}
+use Rattle.waff_tool.specs.PlanText.{work_of_trace}
 use Rattle.waff_tool.specs.Figures.{IsAffinitiesText}
-use Rattle.waff_tool.proofs.CertificateLemmas.{certified, pairs_forward}
+use Rattle.waff_tool.proofs.CertificateLemmas.{as_accepted, certified, pairs_forward}
 use Rattle.waff_tool.proofs.wheres.made_affinities_text.Goals as goal
 
 pub returns : goal.returns
@@ -20,34 +20,35 @@ returns c =
     let layout = c.args.accepted.now.layout in
     let trace = c.args.accepted.now.trace in
     let assigned = c.args.accepted.now.assigned in
-    let tree = c.tree-tree.ensures in
-    let timings = c.in_ok-plan.ensures.timings in
+    let is = c.case-case.ensures in
+    let timings = rw is.trace at c.in_ok-plan.ensures.timings in
     let forward = pairs_forward layout.tree assigned trace.messages c.args.accepted.now.lengths in
-    let least = rw (tree, timings) at c.in_ok-plan.ensures.least in
-    let printed = rw (tree, timings) at c.in_ok-chain.ensures.printed in
-    let filled = rw tree at c.len-affinities.ensures.tree.filled in
-    let IsText : List Node → List Timing → List ℕ → List ℕ → Type 0 = λ tree timings chain text. (below : List ℕ)
+    let least = rw (is.tree, is.assigned, timings) at c.in_ok-plan.ensures.least in
+    let printed = rw (is.tree, is.assigned, timings) at c.in_ok-chain.ensures.printed in
+    let filled = rw is.tree at c.len-affinities.ensures.tree.filled in
+    let IsText : List Node → List ℕ → List Timing → List ℕ → List ℕ → Type 0 = λ tree assigned timings chain text. (below : List ℕ)
     × AreCostsBelow tree assigned (work_of timings) below
     × (text ≡ text_of (affinities_lines tree assigned (work_of timings) chain below)) in
     IfOk-weaker c.affinities_text-text.result
-    (λ text. IsText c.tree-tree.result.now plan.timings c.messages.result.now (string_bytes text))
+    (λ text. IsText c.case-case.result.tree.now c.case-case.result.assigned.now plan.timings c.messages.result.now (string_bytes text))
     (λ text. (hierarchy trace_file : List ℕ) → Accepts hierarchy trace_file layout trace assigned → IsAffinitiesText hierarchy trace_file (string_bytes text))
     (λ text told hierarchy trace_file accepts.
-    let is = subst (λ ch. IsText layout.tree (timings_of trace.messages) ch (string_bytes text)) c.messages.ensures
-    (subst (λ ts. IsText layout.tree ts c.messages.result.now (string_bytes text)) timings
-    (subst (λ t. IsText t plan.timings c.messages.result.now (string_bytes text)) tree told)) in
+    let as_told : IsText layout.tree assigned (timings_of trace.messages) chain.messages (string_bytes text) =
+    subst (λ ch. IsText layout.tree assigned (timings_of trace.messages) ch (string_bytes text)) c.messages.ensures
+    (subst (λ ts. IsText layout.tree assigned ts c.messages.result.now (string_bytes text)) timings
+    (as_accepted (λ t a r. IsText t a plan.timings c.messages.result.now (string_bytes text)) _ _ _ _ _ _ is.tree is.assigned is.trace told)) in
     record {
       layout = layout;
       trace = trace;
       assigned = assigned;
       starts = plan.starts;
       chain = chain.messages;
-      below = is.0;
+      below = as_told.0;
       accepts = accepts;
-      certified = certified (IsOrdered layout.tree assigned) (work_in trace) (start_of plan.starts) chain.messages forward least printed;
-      are_below = is.1;
-      costs_add_up = c.costs_add_up.ensures layout.tree assigned (work_in trace) chain.messages filled c.args.accepted.now.known;
-      chain_adds_up = c.chain_adds_up.ensures layout.tree assigned (work_in trace) chain.messages filled c.args.accepted.now.known;
-      lines = is.2;
+      certified = certified (IsOrdered layout.tree assigned) (work_of_trace trace) (start_of plan.starts) chain.messages forward least printed;
+      are_below = as_told.1;
+      costs_add_up = c.costs_add_up.ensures layout.tree assigned (work_of_trace trace) chain.messages filled c.args.accepted.now.known;
+      chain_adds_up = c.chain_adds_up.ensures layout.tree assigned (work_of_trace trace) chain.messages filled c.args.accepted.now.known;
+      lines = as_told.2;
     })
     c.affinities_text-text.ensures

@@ -10,9 +10,9 @@ use Rattle.waff_list.proofs.TraceWork.{count_is}
 use Rattle.waff_plan_text.specs.Lines.{text_of}
 use Rattle.waff_figures.specs.ByName.{message_names, names_lines}
 use Rattle.waff_inputs.specs.Inputs.{Accepts}
-use Rattle.waff_tool.specs.PlanText.{work_in}
+use Rattle.waff_tool.specs.PlanText.{work_of_trace}
 use Rattle.waff_tool.specs.Figures.{IsNamesText}
-use Rattle.waff_tool.proofs.CertificateLemmas.{certified, pairs_forward}
+use Rattle.waff_tool.proofs.CertificateLemmas.{as_accepted, certified, pairs_forward}
 use Rattle.waff_tool.proofs.wheres.made_names_text.Goals as goal
 
 pub returns : goal.returns
@@ -22,17 +22,17 @@ returns c =
     let layout = c.args.accepted.now.layout in
     let trace = c.args.accepted.now.trace in
     let assigned = c.args.accepted.now.assigned in
-    let tree = c.tree-tree.ensures in
-    let timings = c.in_ok-plan.ensures.timings in
+    let is = c.case-case.ensures in
+    let timings = rw is.trace at c.in_ok-plan.ensures.timings in
     let forward = pairs_forward layout.tree assigned trace.messages c.args.accepted.now.lengths in
-    let least = rw (tree, timings) at c.in_ok-plan.ensures.least in
-    let printed = rw (tree, timings) at c.in_ok-chain.ensures.printed in
-    let named : length (message_names trace.messages) ≡ (work_in trace).count
+    let least = rw (is.tree, is.assigned, timings) at c.in_ok-plan.ensures.least in
+    let printed = rw (is.tree, is.assigned, timings) at c.in_ok-chain.ensures.printed in
+    let named : length (message_names trace.messages) ≡ (work_of_trace trace).count
     = length-map trace.messages (λ (message : Message). message.name) ∙ sym (count_is trace.messages) in
     let listed = rw timings at c.in_ok-chain.ensures.listed in
-    let text_for : List Timing → List ℕ → List ℕ = λ timings chain. text_of (names_lines (message_names trace.messages) (work_of timings) chain) in
+    let text_for : List Message → List Timing → List ℕ → List ℕ = λ messages timings chain. text_of (names_lines (message_names messages) (work_of timings) chain) in
     IfOk-weaker c.names_text-text.result
-    (λ text. string_bytes text ≡ text_for plan.timings c.messages.result.now)
+    (λ text. string_bytes text ≡ text_for c.case-case.result.trace.now.messages plan.timings c.messages.result.now)
     (λ text. (hierarchy trace_file : List ℕ) → Accepts hierarchy trace_file layout trace assigned → IsNamesText hierarchy trace_file (string_bytes text))
     (λ text lines hierarchy trace_file accepts. record {
       layout = layout;
@@ -41,8 +41,10 @@ returns c =
       starts = plan.starts;
       chain = chain.messages;
       accepts = accepts;
-      certified = certified (IsOrdered layout.tree assigned) (work_in trace) (start_of plan.starts) chain.messages forward least printed;
-      names_add_up = c.names_add_up.ensures (message_names trace.messages) (work_in trace) chain.messages named listed.each;
-      lines = lines ∙ ap (λ ts. text_for ts c.messages.result.now) timings ∙ ap (λ ch. text_for (timings_of trace.messages) ch) c.messages.ensures;
+      certified = certified (IsOrdered layout.tree assigned) (work_of_trace trace) (start_of plan.starts) chain.messages forward least printed;
+      names_add_up = c.names_add_up.ensures (message_names trace.messages) (work_of_trace trace) chain.messages named listed.each;
+      lines = as_accepted (λ t a r. string_bytes text ≡ text_for r.messages plan.timings c.messages.result.now) _ _ _ _ _ _ is.tree is.assigned is.trace lines
+          ∙ ap (λ ts. text_for trace.messages ts c.messages.result.now) timings
+          ∙ ap (λ ch. text_for trace.messages (timings_of trace.messages) ch) c.messages.ensures;
     })
     c.names_text-text.ensures

@@ -17,16 +17,18 @@ loop-n-preserved c =
       finishes = ticks-more finish n c.finish.result c.loop-n.finishes.items c.push-in-loop-n.new.self.items c.loop-n.auto.n so_far.finishes c.finish.ensures.finish c.in_ok-push-2.ensures.items;
     }
 
+pub invariant_of-result : goal.invariant_of-result
+invariant_of-result c = record {
+  starts_rise = IsNonDecreasingBy-from_sort (λ x. x) c.sort_unstable.new.self.items c.sort_unstable.ensures.sorted;
+  finishes_rise = IsNonDecreasingBy-from_sort (λ x. x) c.sort_unstable-2.new.self.items c.sort_unstable-2.ensures.sorted;
+}
+
 pub returns : goal.returns
 returns c =
     let all : c.loop-n.n - 1 ≡ (work_of c.args.plan.now.timings).count = omega (arith, c.len-n-end.ensures.count) in
     let starts = rw all at c.loop-n.invariant.starts in
     let finishes = rw all at c.loop-n.invariant.finishes in
     record {
-      ticks = record {
-        of_starts = rw starts at c.sort_unstable.ensures.permutation;
-        of_finishes = rw finishes at c.sort_unstable-2.ensures.permutation;
-      };
-      starts = IsNonDecreasingBy-from_sort (λ x. x) c.sort_unstable.new.self.items c.sort_unstable.ensures.sorted;
-      finishes = IsNonDecreasingBy-from_sort (λ x. x) c.sort_unstable-2.new.self.items c.sort_unstable-2.ensures.sorted;
+      of_starts = rw starts at c.sort_unstable.ensures.permutation;
+      of_finishes = rw finishes at c.sort_unstable-2.ensures.permutation;
     }

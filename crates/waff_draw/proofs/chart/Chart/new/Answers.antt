@@ -5,13 +5,11 @@ use Rattle.waff_draw.proofs.chart.Chart.new.Goals as goal
 
 pub invariant_of-result : goal.invariant_of-result
 invariant_of-result c =
-    let messages = c.args.trace.now.messages in
+    let messages = c.args.case.now.trace.now.messages in
     let counted : length messages ≡ length (timings_of messages) = sym (length-map messages _) in
     record {
       messages = counted;
-      assigned = c.requires.lengths ∙ counted;
       given = c.requires.rows ∙ counted;
-      known = search rules;
       shown = search rules;
       shown_known = search rules;
       few = search rules;

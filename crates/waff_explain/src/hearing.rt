@@ -1,0 +1,199 @@
+//! A plan that was given, with what it is a plan of.
+
+ghost use Rattle.std.specs.Prelude.{◌≡◌, ◌↔◌, ◌<◌, ◌≤◌, IsTrue, length};
+
+use crate::walk::push_line;
+use crate::words::Words;
+use std::alloc::{AllocError, Global};
+use waff_assign::Case;
+use waff_model::{AffinityId, Message};
+use waff_plan::Totals;
+use waff_plan_text::{GivenPlan, Row};
+
+/// A case, the plan that was given for it, and the bytes that give the plan. What is asked of a
+/// message that there is not is 0, or empty.
+#[derive(Clone, Copy)]
+pub(crate) struct Hearing<'a> {
+    pub(crate) case: Case<'a>,
+    pub(crate) given: &'a GivenPlan,
+    pub(crate) bytes: &'a [u8],
+    ghost rows: { length given.now.rows ≡ length case.trace.now.messages },
+}
+
+impl<'a> Hearing<'a> {
+    fn has(&self, n: u32) -> bool
+        ensures { IsTrue result ↔ (1 ≤ n) × (n ≤ length self.now.case.trace.now.messages) }
+    {
+        1 <= n && n <= self.case.trace.len()
+    }
+
+    fn row(&self, n: u32) -> Option<&Row> {
+        if self.has(n) {
+            Some(self.given.row(n))
+        } else {
+            None
+        }
+    }
+
+    fn message(&self, n: u32) -> Option<&Message> {
+        if self.has(n) {
+            Some(self.case.trace.message(n))
+        } else {
+            None
+        }
+    }
+
+    /// How many workers there are, 0 where the plan has none.
+    pub(crate) fn workers(&self) -> u32 {
+        self.given.workers().unwrap_or(0)
+    }
+
+    /// The release of a message, 0 where there is no such message.
+    pub(crate) fn release(&self, n: u32) -> u64 {
+        match self.message(n) {
+            Some(message) => u64::from(message.release),
+            None => 0,
+        }
+    }
+
+    /// The start that the row of a message tells, 0 where there is no such row.
+    pub(crate) fn start(&self, n: u32) -> u64 {
+        match self.row(n) {
+            Some(row) => row.start,
+            None => 0,
+        }
+    }
+
+    /// The start and the cost of a message.
+    pub(crate) fn end(&self, n: u32) -> u64 {
+        match self.message(n) {
+            Some(message) => self.start(n).saturating_add(u64::from(message.cost)),
+            None => 0,
+        }
+    }
+
+    /// The finish that the row tells.
+    pub(crate) fn told_finish(&self, n: u32) -> u64 {
+        match self.row(n) {
+            Some(row) => row.finish,
+            None => 0,
+        }
+    }
+
+    /// The affinity that the row tells.
+    pub(crate) fn told_affinity(&self, n: u32) -> &str {
+        match self.row(n) {
+            Some(row) => row.affinity.as_str(),
+            None => "",
+        }
+    }
+
+    /// The worker that the row tells.
+    pub(crate) fn worker(&self, n: u32) -> Option<u64> {
+        match self.row(n) {
+            Some(row) => row.worker,
+            None => None,
+        }
+    }
+
+    /// The name of the affinity of a message.
+    pub(crate) fn affinity(&self, n: u32) -> &str {
+        if self.has(n) {
+            self.case.affinity_name(n)
+        } else {
+            ""
+        }
+    }
+
+    /// Whether a message runs at a tick.
+    pub(crate) fn runs_at(&self, n: u32, tick: u64) -> bool {
+        self.start(n) <= tick && tick < self.end(n)
+    }
+
+    /// Whether two messages run at a common tick.
+    pub(crate) fn run_together(&self, one: u32, other: u32) -> bool {
+        self.start(one).max(self.start(other)) < self.end(one).min(self.end(other))
+    }
+
+    /// The message at a place of the chain, from 1.
+    pub(crate) fn link(&self, place: u64) -> u32 {
+        let place = usize::try_from(place.saturating_sub(1)).unwrap_or(usize::MAX);
+        self.given.chain().get(place).copied().unwrap_or(0)
+    }
+
+    /// The totals that the starts of the rows and the chain of the summary make.
+    pub(crate) fn totals(&self, alloc: Global) -> Result<Totals, AllocError> {
+        let plan = self.given.plan(alloc, self.case.trace)?;
+        Ok(plan.totals(self.given.workers(), self.given.chain()))
+    }
+
+    /// Appends where the row of a message stands, and what there is to tell of the message.
+    pub(crate) fn push_message(&self, words: &mut Words, n: u32) {
+        match format!(in words.alloc(); "{n}") {
+            Ok(number) => self.push_line(words, number.as_str()),
+            Err(_) => words.refuse(),
+        }
+        self.push_facts(words, n);
+    }
+
+    /// Appends where the first record behind the header stands that begins with this field.
+    pub(crate) fn push_line(&self, words: &mut Words, first: &str) {
+        push_line(words, self.bytes, first);
+    }
+
+    /// Appends what there is to tell of a message.
+    pub(crate) fn push_facts(&self, words: &mut Words, n: u32) {
+        let Some(message) = self.message(n) else {
+            return;
+        };
+        words.message("", n);
+        words.name(": ", message.name.as_str());
+        words.name(", affinity ", self.affinity(n));
+        words.number(", release ", u64::from(message.release));
+        words.number(", cost ", u64::from(message.cost));
+        words.number(", start ", self.start(n));
+        words.number(", finish ", self.told_finish(n));
+        if let Some(worker) = self.worker(n) {
+            words.number(", worker ", worker);
+        }
+        words.text("\n");
+    }
+
+    /// Appends why the affinities of two messages exclude each other.
+    pub(crate) fn push_exclusion(&self, words: &mut Words, one: u32, other: u32) {
+        if !self.has(one) || !self.has(other) {
+            return;
+        }
+        let (first, second) = (self.case.assigned.of(one), self.case.assigned.of(other));
+        if first == second {
+            words.name("why: both run in ", self.case.tree.name(first));
+            words.text(", and an affinity excludes itself\n");
+        } else if self.case.tree.at_or_above(first, second) {
+            self.push_way(words, second, first);
+        } else {
+            self.push_way(words, first, second);
+        }
+    }
+
+    /// Appends the way in the tree from an affinity up to one above it.
+    fn push_way(&self, words: &mut Words, low: AffinityId, high: AffinityId)
+        requires low { low.0 < length self.now.case.tree.now }
+        requires high { high.0 < length self.now.case.tree.now }
+    {
+        let (below, above) = (self.case.tree.name(low), self.case.tree.name(high));
+        words.name("why: ", below);
+        words.name(" and ", above);
+        words.name(" exclude each other, as ", below);
+        words.name(" is below ", above);
+        words.name(": ", below);
+        for number in (0..low.0).rev() {
+            let between = AffinityId(number);
+            if self.case.tree.at_or_above(between, low)
+                && self.case.tree.at_or_above(high, between)
+            {
+                words.name(" -> ", self.case.tree.name(between));
+            }
+        }
+        words.text("\n");
+    }
+}
