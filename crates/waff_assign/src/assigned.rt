@@ -9,7 +9,6 @@ use waff_model::AffinityId;
 use waff_model::limits::MAX_MESSAGES;
 
 /// The affinity of each message of a trace, in the order of arrival.
-#[derive(Drop)]
 pub struct Assigned {
     affinities: Vec<AffinityId>,
 }
@@ -24,6 +23,14 @@ impl Model for Assigned {
     ghost view = { λ a. numbers_of a.affinities.items };
 
     ghost invariant = { λ a. length a.affinities.items ≤ MAX_MESSAGES };
+}
+
+// Written out: a derived drop is proved again in each crate that lets go of the value.
+impl Drop for Assigned {
+    fn drop(self) {
+        let Assigned { affinities } = self;
+        drop(affinities);
+    }
 }
 
 impl Assigned {

@@ -23,7 +23,7 @@ pub fn assign(alloc: Global, layout: &Layout, trace: &Trace) -> Result<Assigned,
         cells.clear();
         push_cells(&mut cells, &trace.message(n).ops)?;
         let affinity = lowest(layout, cells.as_slice());
-        affinities.push(affinity)?;
+        affinities.push_reserved(affinity);
     }
     Ok(Assigned::new(affinities))
 }

@@ -67,10 +67,12 @@ impl Board {
         let mut seats = Vec::with_capacity(self.heap, self.setup.seats as usize)?;
         for _made in 1..self.setup.seats {
             let next = self.table.shared.split_seat::<MakeSeat>(&mut chair);
-            seats.push(self.seat(next)?)?;
+            seats.push_reserved(self.seat(next)?);
         }
         let first = self.seat(chair)?;
-        seats.insert(0, first)?;
+        let Ok(()) = seats.insert(0, first) else {
+            unreachable!()
+        };
         Ok(seats)
     }
 

@@ -15,7 +15,6 @@ use std::marker::Model;
 use waff_model::{Cell, Layout, Message, Ops};
 
 /// The number that each cell of a layout holds: a row for each space.
-#[derive(Drop)]
 pub struct State {
     pub(crate) rows: Vec<Vec<u64>>,
 }
@@ -26,6 +25,14 @@ impl Model for State {
     ghost Value = { List (List ℕ) };
 
     ghost view = { λ s. map (λ row. row.items) s.rows.items };
+}
+
+// Written out: a derived drop is proved again in each crate that lets go of the value.
+impl Drop for State {
+    fn drop(self) {
+        let State { rows } = self;
+        drop(rows);
+    }
 }
 
 impl State {

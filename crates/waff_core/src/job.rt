@@ -25,7 +25,6 @@ use waff_order::{Lists, Needs};
 /// What is replayed: the messages of a trace under a layout, with their affinities, their needs and
 /// the owners of their footprints, in the order in which they are handed out. Messages are numbered
 /// from 1.
-#[derive(Drop)]
 pub struct Job {
     layout: Layout,
     trace: Trace,
@@ -58,6 +57,26 @@ impl Model for Job {
       owners = j.owners;
       order = j.order.items;
     }) };
+}
+
+// Written out: a derived drop is proved again in each crate that lets go of the value.
+impl Drop for Job {
+    fn drop(self) {
+        let Job {
+            layout,
+            trace,
+            assigned,
+            needs,
+            owners,
+            order,
+        } = self;
+        drop(layout);
+        drop(trace);
+        drop(assigned);
+        drop(needs);
+        drop(owners);
+        drop(order);
+    }
 }
 
 impl Job {

@@ -33,7 +33,7 @@ pub(crate) fn list_owners(
         owners.sort_unstable();
         owners.dedup();
         all.extend_from_slice(owners.as_slice())?;
-        ends.push(all.len() as u32)?;
+        ends.push_reserved(all.len() as u32);
     }
     Ok(Lists::new(all, ends))
 }

@@ -70,7 +70,6 @@ fn bounds<T>(all: &[T], ends: &[u32], n: u32) -> (usize, usize)
 }
 
 /// The needs of each message of a trace: earlier messages that must have finished before it starts.
-#[derive(Drop)]
 pub struct Needs {
     lists: Lists<u32>,
 }
@@ -84,6 +83,14 @@ impl Model for Needs {
     ghost view = { λ n. n.lists };
 
     ghost invariant = { λ n. AreLists n.lists };
+}
+
+// Written out: a derived drop is proved again in each crate that lets go of the value.
+impl Drop for Needs {
+    fn drop(self) {
+        let Needs { lists } = self;
+        drop(lists);
+    }
 }
 
 impl Needs {

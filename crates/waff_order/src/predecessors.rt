@@ -1,7 +1,8 @@
 //! The needs of each message, found from the messages that are open.
 
-ghost use Rattle.std.specs.Prelude.{◌≡◌, ◌+◌, ◌*◌, ◌<◌, ◌≤◌, List, ℕ, [], length, All, IfOk, OnOk};
-ghost use Rattle.std.specs.Prelude.{slice_index, sum_by};
+ghost use Rattle.std.specs.Prelude.{◌≡◌, ◌+◌, ◌++◌, ◌*◌, ◌<◌, ◌≤◌, List, ℕ, [], length, All, IfOk, OnOk};
+ghost use Rattle.std.specs.Prelude.{slice_index, slice_set, sum_by};
+ghost use Rattle.waff_model.specs.Later.{IsNoted, by_number};
 ghost use Rattle.waff_order.specs.Needs.{AreNeeds, IsWithinDepth};
 ghost use Rattle.waff_order.specs.Open.{chosen};
 ghost use Rattle.waff_order.specs.Runs.{AreGathered};
@@ -30,14 +31,38 @@ pub fn needs(alloc: Global, tree: &Tree, assigned: &Assigned) -> Result<Needs, A
     let mut needs = Vec::new(alloc);
     for m in 1..assigned.len() + 1 {
         let span = spans[assigned.of(m).0 as usize];
-        needs.clear();
-        take_needs(&mut opened, &latest, span, &mut needs)?;
-        opened.put(span.first as usize, m);
-        latest.note(span.first as usize, span.end as usize, m);
-        all.extend_from_slice(needs.as_slice())?;
-        ends.push(all.len() as u32)?;
+        add_message(&mut opened, &mut latest, span, m, &mut needs, &mut all)?;
+        ends.push_reserved(all.len() as u32);
     }
     Ok(Needs::new(Lists::new(all, ends)))
+}
+
+/// Appends the needs of message `m`, whose affinity has this span, to those of all messages before
+/// it, and notes it as open. What stood in `needs` is let go.
+fn add_message(
+    opened: &mut Opened,
+    latest: &mut Spread<u32>,
+    span: Span,
+    m: u32,
+    needs: &mut Vec<u32>,
+    all: &mut Vec<u32>,
+) -> Result<(), AllocError>
+    requires forward { span.first < span.end }
+    requires within { span.end ≤ length opened.old }
+    requires noted { span.end ≤ length latest.old }
+    ensures { OnOk result ((left : List ℕ) × (gathered : List ℕ)
+        × AreGathered span.first span.end opened.old left gathered
+        × (all.new.items ≡ all.old.items ++ chosen gathered (slice_index latest.old span.first))
+        × (opened.new ≡ slice_set left span.first m)
+        × IsNoted by_number span.first span.end m latest.old latest.new) }
+{
+    needs.clear();
+    take_needs(opened, latest, span, needs)?;
+    let (first, end) = (span.first as usize, span.end as usize);
+    opened.put(first, m);
+    latest.note(first, end, m);
+    all.extend_from_slice(needs.as_slice())?;
+    Ok(())
 }
 
 /// Lists the needs of a message at this place, and closes the messages that it takes.

@@ -37,7 +37,7 @@ pub(crate) fn least_starts(
         let start = start_after(table.latest(span), timing);
         let finish = start + u64::from(timing.cost);
         table.note(span, Latest { finish, number: m });
-        starts.push(start)?;
+        starts.push_reserved(start);
     }
     Ok(starts)
 }

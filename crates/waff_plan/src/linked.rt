@@ -5,7 +5,6 @@ ghost use Rattle.std.specs.Prelude.{◌≡◌};
 use std::marker::Model;
 
 /// A chain: messages, by number from 1, each of which excludes and precedes the next.
-#[derive(Drop)]
 pub struct Chain {
     messages: Vec<u32>,
     cost: u64,
@@ -22,6 +21,18 @@ impl Model for Chain {
       cost = c.cost;
       release = c.release;
     } };
+}
+
+// Written out: a derived drop is proved again in each crate that lets go of the value.
+impl Drop for Chain {
+    fn drop(self) {
+        let Chain {
+            messages,
+            cost: _,
+            release: _,
+        } = self;
+        drop(messages);
+    }
 }
 
 impl Chain {

@@ -40,7 +40,7 @@ pub fn links(
         let link = waited_for(table.latest(span), plan.release(m));
         let finish = plan.finish(m);
         table.note(span, Latest { finish, number: m });
-        links.push(link)?;
+        links.push_reserved(link);
     }
     Ok(links)
 }

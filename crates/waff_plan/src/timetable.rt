@@ -13,7 +13,6 @@ use waff_model::Trace;
 use waff_model::limits::MAX_TICK;
 
 /// A plan: the start of each message of a trace. Messages are numbered from 1; all times are ticks.
-#[derive(Drop)]
 pub struct Plan {
     timings: Vec<Timing>,
     starts: Vec<u64>,
@@ -28,6 +27,15 @@ impl Model for Plan {
 
     ghost invariant = { λ p.
         IsTimetable (record { timings = p.timings.items; starts = p.starts.items }) };
+}
+
+// Written out: a derived drop is proved again in each crate that lets go of the value.
+impl Drop for Plan {
+    fn drop(self) {
+        let Plan { timings, starts } = self;
+        drop(timings);
+        drop(starts);
+    }
 }
 
 impl Plan {

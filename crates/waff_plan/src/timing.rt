@@ -24,10 +24,10 @@ pub(crate) fn timings(alloc: Global, trace: &Trace) -> Result<Vec<Timing>, Alloc
     let mut timings = Vec::with_capacity(alloc, trace.len() as usize)?;
     for n in 1..trace.len() + 1 {
         let message = trace.message(n);
-        timings.push(Timing {
+        timings.push_reserved(Timing {
             cost: message.cost,
             release: message.release,
-        })?;
+        });
     }
     Ok(timings)
 }

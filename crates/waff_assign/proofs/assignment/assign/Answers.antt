@@ -27,7 +27,7 @@ loop-n-preserved c =
     = c.as_slice.ensures.value ∙ c.in_ok-push_cells.ensures ∙ ap (λ xs. xs ++ cells_of c.message.result.now.ops) c.clear.ensures.items in
     let n = c.loop-n.n - 1 in
     let next : n + 1 ≡ c.loop-n.n + 1 - 1 = omega arith in
-    let items : c.push.new.self.items ≡ c.loop-n.affinities.items ++ c.lowest-affinity.result ∷ [] = c.in_ok-push.ensures.items in
+    let items : c.push_reserved.new.self.items ≡ c.loop-n.affinities.items ++ c.lowest-affinity.result ∷ [] = c.push_reserved.ensures.items in
     let lowest = subst (λ xs. IsLowest c.args.layout.now (Contains xs) c.lowest-affinity.result.0) cells c.lowest-affinity.ensures.lowest in
     let more = lowest_up_to_more c.args.layout.now c.args.trace.now.messages c.loop-n.affinities.items n c.message.result.now c.lowest-affinity.result
     c.loop-n.invariant.count c.message.ensures.message c.loop-n.invariant.lowest lowest in
@@ -36,6 +36,7 @@ loop-n-preserved c =
       count = rw items (let long = length_push c.loop-n.affinities.items c.lowest-affinity.result in omega (arith, c.loop-n.invariant.count));
       lowest = rw items (subst (λ k. AreLowestUpTo c.args.layout.now c.args.trace.now.messages (numbers_of (c.loop-n.affinities.items ++ c.lowest-affinity.result ∷ [])) k) next more);
       known = rw items known;
+      room = c.push_reserved.ensures.capacity ∙ c.loop-n.invariant.room;
     }
 
 pub returns-clause-lowest : goal.returns-clause-lowest

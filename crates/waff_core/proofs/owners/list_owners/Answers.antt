@@ -1,5 +1,5 @@
 use Rattle.std.proofs.Common.{◌≡◌, ℕ, List, ◌+◌, ◌-◌, ◌≤◌, [], ◌∷◌, ◌++◌, length, get_or, eqb, arith, rules, sym, ◌∙◌, ap, subst}
-use Rattle.std.proofs.lemmas.List.{length-append, length-map}
+use Rattle.std.proofs.lemmas.List.{length-append, length-map, length_push}
 use Rattle.std.proofs.lemmas.List.Filters.{dedup_is}
 use Rattle.waff_model.specs.Cells.{cells_of}
 use Rattle.waff_model.specs.Layout.{Space}
@@ -59,7 +59,7 @@ loop-n-preserved c =
     let items : c.extend_from_slice.new.self.items ≡ all ++ kept = c.in_ok-extend_from_slice.ensures.items ∙ ap (λ xs. all ++ xs) c.as_slice.ensures.value in
     let long : length (all ++ kept) ≡ length all + length kept = length-append all kept in
     let last : c.len-in-loop-n.result ≡ length (all ++ kept) = search (rules, ap length items) in
-    let pushed : c.push.new.self.items ≡ ends ++ length (all ++ kept) ∷ [] = c.in_ok-push.ensures.items ∙ ap (λ x. ends ++ x ∷ []) last in
+    let pushed : c.push_reserved.new.self.items ≡ ends ++ length (all ++ kept) ∷ [] = c.push_reserved.ensures.items ∙ ap (λ x. ends ++ x ∷ []) last in
     let lists : ListsOwners spaces ops kept
     = lists_owners spaces ops c.push_owners.new.owners.items sorted kept found c.sort_unstable.ensures.permutation c.sort_unstable.ensures.sorted
     (dedup_is eqb sorted kept c.dedup.ensures.filtered) in
@@ -67,6 +67,8 @@ loop-n-preserved c =
       cuts = cuts_push all kept 0 ends c.loop-n.invariant.cuts;
       owners = step spaces messages all ends n kept c.loop-n.invariant.cuts c.loop-n.invariant.owners (subst (λ xs. ListsOwners spaces xs kept) is lists) bound;
       few = omega (arith, c.loop-n.invariant.few, bound, long);
+      count = let more = length_push ends (length (all ++ kept)) in omega (arith, more, c.loop-n.invariant.count);
+      room = c.push_reserved.ensures.capacity ∙ c.loop-n.invariant.room;
     })
 
 pub returns-clause-owners : goal.returns-clause-owners

@@ -1,5 +1,5 @@
 use Rattle.std.proofs.Common.{◌≡◌, ℕ, ◌+◌, ◌-◌, ◌≤◌, List, [], ◌∷◌, ◌++◌, length, get_or, set, replicate, sum_by, arith, rules, sym, ◌∙◌, ap, subst}
-use Rattle.std.proofs.lemmas.List.{length-append}
+use Rattle.std.proofs.lemmas.List.{length-append, length_push}
 use Rattle.waff_model.specs.Preorder.{span_at}
 use Rattle.waff_model.specs.declared.preorder.Span.{Span}
 use Rattle.waff_order.specs.Needs.{AreLists, AreNeeds, IsWithinDepth}
@@ -25,6 +25,8 @@ loop-m-init c =
     record {
       reached = rw (c.new-all.ensures.items, c.in_ok-ends.ensures.items, opened, latest)
           (reached_none tree c.args.assigned.now c.spans-spans.result.now c.len-count.ensures.tree c.spans-spans.ensures c.requires);
+      count = ap length c.in_ok-ends.ensures.items;
+      room = c.in_ok-ends.ensures.exact ∙ c.len.ensures.count;
     }
 
 pub overflow_cast-len-in-loop-m : goal.overflow_cast-len-in-loop-m
@@ -34,23 +36,21 @@ overflow_cast-len-in-loop-m c =
     let all = c.loop-m.all.items in
     let messages = c.loop-m.opened in
     let noted = c.loop-m.latest in
-    let left = c.take_needs.new.opened in
+    let left = c.in_ok-add_message.ensures.0 in
     let n = c.loop-m.m - 1 in
     let next : c.loop-m.m ≡ n + 1 = omega arith in
-    let gathered = c.in_ok-take_needs.ensures.0 in
+    let gathered = c.in_ok-add_message.ensures.1 in
     let same : span_at spans c.of.result.0 ≡ message_span spans assigned (n + 1)
     = ap (λ a. span_at spans a) (c.of.ensures ∙ ap (λ i. affinity_of assigned i) next) in
-    let gathers = subst (λ (p : Span). AreGathered p.first p.end messages left gathered) same c.in_ok-take_needs.ensures.1 in
-    let more : c.take_needs.new.needs.items ≡ chosen gathered (get_or noted (first_of spans assigned (n + 1)) 0)
-    = c.in_ok-take_needs.ensures.2 ∙ ap (λ (p : Span). chosen gathered (get_or noted p.first 0)) same in
-    let items : c.extend_from_slice.new.self.items ≡ all ++ chosen gathered (get_or noted (first_of spans assigned (n + 1)) 0)
-    = c.in_ok-extend_from_slice.ensures.items ∙ ap (λ xs. all ++ xs) (c.as_slice.ensures.value ∙ more) in
+    let gathers = subst (λ (p : Span). AreGathered p.first p.end messages left gathered) same c.in_ok-add_message.ensures.2 in
+    let items : c.add_message.new.all.items ≡ all ++ chosen gathered (get_or noted (first_of spans assigned (n + 1)) 0)
+    = c.in_ok-add_message.ensures.3 ∙ ap (λ (p : Span). all ++ chosen gathered (get_or noted p.first 0)) same in
     let bound = needs_count c.args.tree.now assigned spans c.len-count.ensures.tree c.spans-spans.ensures c.requires all c.loop-m.ends.items messages noted n
     (omega arith) c.loop-m.invariant.reached left gathered gathers in
-    let long : length c.extend_from_slice.new.self.items ≡ length all + length (chosen gathered (get_or noted (first_of spans assigned (n + 1)) 0))
+    let long : length c.add_message.new.all.items ≡ length all + length (chosen gathered (get_or noted (first_of spans assigned (n + 1)) 0))
     = ap length items ∙ length-append all (chosen gathered (get_or noted (first_of spans assigned (n + 1)) 0)) in
     let few : length assigned ≤ 65536 = c.len.ensures.few in
-    let short : length c.extend_from_slice.new.self.items ≤ 131072 = omega (arith, bound, long, few) in
+    let short : length c.add_message.new.all.items ≤ 131072 = omega (arith, bound, long, few) in
     search rules
 
 pub loop-m-preserved : goal.loop-m-preserved
@@ -62,31 +62,31 @@ loop-m-preserved c =
     let ends = c.loop-m.ends.items in
     let messages = c.loop-m.opened in
     let noted = c.loop-m.latest in
-    let left = c.take_needs.new.opened in
-    let new_noted = c.note.new.self in
+    let left = c.in_ok-add_message.ensures.0 in
+    let new_noted = c.add_message.new.latest in
     let n = c.loop-m.m - 1 in
     let next : c.loop-m.m ≡ n + 1 = omega arith in
     let reached = c.loop-m.invariant.reached in
-    let gathered = c.in_ok-take_needs.ensures.0 in
+    let gathered = c.in_ok-add_message.ensures.1 in
     let same : span_at spans c.of.result.0 ≡ message_span spans assigned (n + 1)
     = ap (λ a. span_at spans a) (c.of.ensures ∙ ap (λ i. affinity_of assigned i) next) in
-    let gathers = subst (λ (p : Span). AreGathered p.first p.end messages left gathered) same c.in_ok-take_needs.ensures.1 in
+    let gathers = subst (λ (p : Span). AreGathered p.first p.end messages left gathered) same c.in_ok-add_message.ensures.2 in
     let needs = chosen gathered (get_or noted (first_of spans assigned (n + 1)) 0) in
-    let more : c.take_needs.new.needs.items ≡ needs
-    = c.in_ok-take_needs.ensures.2 ∙ ap (λ (p : Span). chosen gathered (get_or noted p.first 0)) same in
-    let items : c.extend_from_slice.new.self.items ≡ all ++ needs
-    = c.in_ok-extend_from_slice.ensures.items ∙ ap (λ xs. all ++ xs) (c.as_slice.ensures.value ∙ more) in
+    let items : c.add_message.new.all.items ≡ all ++ needs
+    = c.in_ok-add_message.ensures.3 ∙ ap (λ (p : Span). all ++ chosen gathered (get_or noted p.first 0)) same in
     let last : c.len-in-loop-m.result ≡ length (all ++ needs) = search (rules, ap length items) in
-    let pushed : c.push.new.self.items ≡ ends ++ length (all ++ needs) ∷ [] = c.in_ok-push.ensures.items ∙ ap (λ x. ends ++ x ∷ []) last in
-    let put : c.put.new.self ≡ set left (first_of spans assigned (n + 1)) (n + 1)
-    = c.put.ensures ∙ ap (λ (p : Span). set left p.first c.loop-m.m) same ∙ ap (λ m. set left (first_of spans assigned (n + 1)) m) next in
+    let pushed : c.push_reserved.new.self.items ≡ ends ++ length (all ++ needs) ∷ [] = c.push_reserved.ensures.items ∙ ap (λ x. ends ++ x ∷ []) last in
+    let put : c.add_message.new.opened ≡ set left (first_of spans assigned (n + 1)) (n + 1)
+    = c.in_ok-add_message.ensures.4 ∙ ap (λ (p : Span). set left p.first c.loop-m.m) same ∙ ap (λ m. set left (first_of spans assigned (n + 1)) m) next in
     let notes = subst (λ m. IsNoted by_number (first_of spans assigned (n + 1)) (end_of spans assigned (n + 1)) m noted new_noted) next
-    (subst (λ (p : Span). IsNoted by_number p.first p.end c.loop-m.m noted new_noted) same c.note.ensures) in
+    (subst (λ (p : Span). IsNoted by_number p.first p.end c.loop-m.m noted new_noted) same c.in_ok-add_message.ensures.5) in
     let one_more : c.loop-m.m + 1 - 1 ≡ n + 1 = omega arith in
     record {
       reached = rw (items, pushed, put, one_more)
           (reached_more tree assigned spans c.len-count.ensures.tree c.spans-spans.ensures c.requires all ends messages noted n (omega arith) reached
           left gathered gathers new_noted notes);
+      count = let long = ap length c.push_reserved.ensures.items in omega (arith, long, length_push ends c.len-in-loop-m.result, c.loop-m.invariant.count);
+      room = c.push_reserved.ensures.capacity ∙ c.loop-m.invariant.room;
     }
 
 pub new-requires : goal.new-requires

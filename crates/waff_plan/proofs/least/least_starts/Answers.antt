@@ -31,6 +31,7 @@ loop-m-init c = record {
   planned = planned_none c.args.tree.now c.spans-spans.result.now c.args.assigned.now (work_of c.args.timings.now) c.in_ok-starts.starts.items c.in_ok-table.table (sym c.requires.lengths)
       (ap length c.in_ok-starts.ensures.items) (c.in_ok-table.ensures.table c.spans-spans.result.now c.args.assigned.now);
   spans = c.in_ok-table.ensures.count ∙ c.len.ensures.count;
+  room = c.in_ok-starts.ensures.exact;
 }
 
 pub loop-m-preserved : goal.loop-m-preserved
@@ -61,8 +62,9 @@ loop-m-preserved c =
     let more = planned_next tree spans assigned work starts m start table next c.latest.result (sym c.requires.lengths) from to
     c.start_after-start.ensures.cost early planned found is note in
     record {
-      planned = rw c.in_ok-push.ensures.items more;
+      planned = rw c.push_reserved.ensures.items more;
       spans = c.note.ensures.count ∙ c.loop-m.invariant.spans;
+      room = c.push_reserved.ensures.capacity ∙ c.loop-m.invariant.room;
     }
 
 pub returns-clause-least : goal.returns-clause-least

@@ -16,6 +16,7 @@ loop-m-init c = record {
   links = λ m from to. absurd (omega arith);
   table = c.in_ok-table.ensures.table c.spans-spans.result.now c.args.assigned.now _;
   spans = c.in_ok-table.ensures.count ∙ c.len.ensures.count;
+  room = c.in_ok-links.ensures.exact ∙ c.len-2.ensures.count;
 }
 
 pub loop-m-preserved : goal.loop-m-preserved
@@ -42,10 +43,11 @@ loop-m-preserved c =
     let more = links_more (IsOrdered tree assigned) work start m links link from c.loop-m.invariant.count c.loop-m.invariant.links is in
     let noted = c.note.ensures.table spans assigned finish (m - 1) c.loop-m.invariant.table (sym this)
     (ap (λ x. message_span spans assigned x) this ∙ ap (λ x. span_at spans x) (sym c.of.ensures)) (ap finish this ∙ sym c.finish-finish.ensures.finish) in
-    let items : c.push.new.self.items ≡ links ++ link ∷ [] = c.in_ok-push.ensures.items in
+    let items : c.push_reserved.new.self.items ≡ links ++ link ∷ [] = c.push_reserved.ensures.items in
     record {
       count = rw items (let long = length_push links link in omega (arith, long, c.loop-m.invariant.count));
       links = rw items more;
       table = subst (λ x. IsTable spans assigned finish x c.note.new.self) (this ∙ next) noted;
       spans = c.note.ensures.count ∙ c.loop-m.invariant.spans;
+      room = c.push_reserved.ensures.capacity ∙ c.loop-m.invariant.room;
     }

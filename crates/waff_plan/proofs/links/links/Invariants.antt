@@ -1,4 +1,4 @@
-use Rattle.std.proofs.Common.{◌≡◌, ◌-◌, length}
+use Rattle.std.proofs.Common.{◌≡◌, ◌-◌, length, vec_capacity}
 use Rattle.waff_assign.specs.Order.{IsOrdered}
 use Rattle.waff_plan.specs.Work.{finish_of}
 use Rattle.waff_plan.specs.Table.{IsTable}
@@ -12,4 +12,5 @@ invariant-loop-m l = record {
   links : AreLinks (IsOrdered l.tree l.assigned) (work_in l.plan) (starts_in l.plan) (l.m - 1) l.links.items;
   table : IsTable l.spans l.assigned (finish_of (work_in l.plan) (starts_in l.plan)) (l.m - 1) l.table;
   spans : length l.table.own ≡ length l.tree;
+  room : vec_capacity l.links ≡ length l.plan.timings;
 }

@@ -22,8 +22,10 @@ pub loop-n-preserved : goal.loop-n-preserved
 loop-n-preserved c =
     let i = c.loop-n.n - 1 in
     let all = timings_of c.args.trace.now.messages in
-    let next : i + 1 ≡ c.loop-n.n + 1 - 1 = omega arith in
-    c.in_ok-push.ensures.items
-    ∙ ap (λ xs. xs ++ record { cost = c.message-message.result.now.cost; release = c.message-message.result.now.release } ∷ []) c.loop-n.invariant
-    ∙ sym (timings_more c.args.trace.now.messages i c.message-message.result.now c.message-message.ensures.message)
-    ∙ ap (λ k. take k all) next
+    let next : i + 1 ≡ c.loop-n.n + 1 - 1 = omega arith in (
+      c.push_reserved.ensures.items
+          ∙ ap (λ xs. xs ++ record { cost = c.message-message.result.now.cost; release = c.message-message.result.now.release } ∷ []) c.loop-n.invariant.0
+          ∙ sym (timings_more c.args.trace.now.messages i c.message-message.result.now c.message-message.ensures.message)
+          ∙ ap (λ k. take k all) next,
+      c.push_reserved.ensures.capacity ∙ c.loop-n.invariant.1,
+    )

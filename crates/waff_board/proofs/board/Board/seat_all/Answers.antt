@@ -38,17 +38,18 @@ loop-made-preserved c =
     let split = c.split_seat-next.ensures in
     let seat = c.in_ok-seat.field-0 in
     let items = c.loop-made.seats.items in
-    let pushed : c.push.new.self.items ≡ items ++ seat ∷ [] = c.in_ok-push.ensures.items in
+    let pushed : c.push_reserved.new.self.items ≡ items ++ seat ∷ [] = c.push_reserved.ensures.items in
     let view : c.loop-made.chair.me.0 ≡ fresh job 1 n = first_same _ _ inv.2 in
     let next : seat.view ≡ fresh job (n + 1) 0 = c.in_ok-seat.ensures.view ∙ first_same _ _ split.4 ∙ ap next_view view in
     let of : IsOf board seat = (c.in_ok-seat.ensures.table ∙ split.3 ∙ inv.1, ap (λ (v : View). v.job) next) in
-    let long : length c.push.new.self.items ≡ length items + 1 = ap length pushed ∙ length_push items seat in
+    let long : length c.push_reserved.new.self.items ≡ length items + 1 = ap length pushed ∙ length_push items seat in
     let before = inv.0 in (
       omega (arith, long, before),
       split.0 ∙ inv.1,
       split.2 ∙ ap (λ (me : Me (Vec ℕ Global) View). (made_view me.0, me.1)) inv.2,
-      All-same (IsOf board) c.push.new.self.items (items ++ seat ∷ []) pushed
+      All-same (IsOf board) c.push_reserved.new.self.items (items ++ seat ∷ []) pushed
           (All-push (IsOf board) items seat inv.3 of),
       subst (λ (seats : List Seat). AreFresh 2 seats) (sym pushed)
           (fresh_more 2 (n + 1) items seat (omega (arith, before)) inv.4 (fresh_is job (n + 1) 0 seat.view next)),
+      omega (arith, c.push_reserved.ensures.capacity, inv.5),
     )

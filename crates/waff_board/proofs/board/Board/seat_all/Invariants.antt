@@ -1,4 +1,4 @@
-use Rattle.std.proofs.Common.{◌≡◌, ◌+◌, [], length, All}
+use Rattle.std.proofs.Common.{◌≡◌, ◌+◌, ◌≤◌, [], length, vec_capacity, All}
 use Rattle.waff_board.specs.Openings.{AreFresh}
 use Rattle.waff_board.specs.Seats.{fresh}
 use Rattle.waff_board.specs.Tokens.{IsOf}
@@ -11,3 +11,4 @@ invariant-loop-made l =
     × (l.chair.me ≡ (fresh l.self.job 1 l._made, []))
     × All (IsOf l.self) l.seats.items
     × AreFresh 2 l.seats.items
+    × (l.self.seats ≤ vec_capacity l.seats)
