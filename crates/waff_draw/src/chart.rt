@@ -73,10 +73,10 @@ impl<'a> Chart<'a> {
         ensures { IfOk result (λ chart. chart ≡ scene_of_case case.now given.now part) }
     {
         let lanes = lanes(alloc, case)?;
-        let plan = given.plan(alloc, case.trace)?;
-        let ticks = plan.length();
         let rows = rows(alloc, case.tree.len() as usize, lanes.as_slice())?;
         let links = marks(alloc, case.trace.len() as usize + 1, given.chain())?;
+        let plan = given.plan(alloc, case.trace)?;
+        let ticks = plan.length();
         Ok(Chart {
             case: *case,
             given,

@@ -36,6 +36,7 @@ pub(crate) fn lanes(alloc: Global, case: &Case<'_>) -> Result<Vec<Lane>, AllocEr
     let tree = case.tree;
     let affinities = affinities_of(alloc, case.assigned)?;
     let used = marks(alloc, tree.len() as usize, affinities.as_slice())?;
+    drop(affinities);
     let families = families(alloc, tree)?;
     let mut walked = Vec::with_capacity(alloc, tree.len() as usize)?;
     walk(families.as_slice(), 0, 0, tree.len(), &mut walked)?;

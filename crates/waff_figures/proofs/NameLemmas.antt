@@ -10,20 +10,8 @@ use Rattle.std.proofs.lemmas.List.Sums.{fold_more}
 use Rattle.std.proofs.lemmas.Option.{get_or_from_slice_get, slice_get-map}
 use Rattle.indexmap.specs.IndexSet.{insert_key}
 use Rattle.std.proofs.lemmas.Slice.Eq.{bytes_eq-Decides}
-use Rattle.waff_figures.specs.ByName.{distinct_names, is_named, with_name}
+use Rattle.waff_figures.specs.ByName.{AreApart, AreNumbered, distinct_names, is_named, with_name}
 use Rattle.waff_figures.specs.Tally.{is_in}
-
--- no two of the keys are equal
-abbrev AreApart : List (List ℕ) → Type 0
-AreApart keys = (i j : ℕ) → i < length keys → j < length keys → get_or keys i [] ≡ get_or keys j [] → i ≡ j
-
--- the keys are the distinct ones of the names so far, and a place is that of its name
-pub record AreNumbered (names keys : List (List ℕ)) (places : List ℕ) : Type 0 where
-  pub distinct : keys ≡ distinct_names (take (length places) names)
-  pub few : length keys ≤ length places
-  pub apart : AreApart keys
-  pub within : (i : ℕ) → i < length places → get_or places i 0 < length keys
-  pub each : (i : ℕ) → i < length places → get_or keys (get_or places i 0) [] ≡ get_or names i []
 
 pub none_numbered : (names : List (List ℕ)) → AreNumbered names [] []
 none_numbered names = record {

@@ -1,6 +1,6 @@
 -- Where the time goes, by the names of messages (own).
-use Rattle.std.specs.Prelude.{ℕ, ◌-◌, Bool, List, [], ◌∷◌, ◌++◌, if◌then◌else◌, fold, map}
-use Rattle.std.specs.Prelude.{slice_index_or, codes, decimal}
+use Rattle.std.specs.Prelude.{◌≡◌, ℕ, ◌-◌, ◌<◌, ◌≤◌, Bool, List, [], ◌∷◌, ◌++◌, if◌then◌else◌, fold, map}
+use Rattle.std.specs.Prelude.{slice_index_or, codes, decimal, length, take}
 use Rattle.std.specs.List.{list_any}
 use Rattle.std.specs.Str.{bytes_eq}
 use Rattle.waff_model.specs.declared.message.Message.{Message}
@@ -43,3 +43,18 @@ names_lines names work chain = names_header ∷ map (name_row names work chain) 
 abbrev pub tallied_name_row : List (List ℕ) → List Tally → ℕ → List (List ℕ)
 tallied_name_row names tallies place =
     named_row (slice_index_or names place []) (slice_index_or tallies place no_tally)
+
+-- no two of the keys are equal
+abbrev pub AreApart : List (List ℕ) → Type 0
+AreApart keys =
+    (i j : ℕ) → i < length keys → j < length keys
+    → slice_index_or keys i [] ≡ slice_index_or keys j [] → i ≡ j
+
+-- the keys are the distinct ones of the names so far, and a place is that of its name
+pub record AreNumbered (names keys : List (List ℕ)) (places : List ℕ) : Type 0 where
+  pub distinct : keys ≡ distinct_names (take (length places) names)
+  pub few : length keys ≤ length places
+  pub apart : AreApart keys
+  pub within : (i : ℕ) → i < length places → slice_index_or places i 0 < length keys
+  pub each : (i : ℕ) → i < length places
+      → slice_index_or keys (slice_index_or places i 0) [] ≡ slice_index_or names i []

@@ -1,12 +1,13 @@
 //! Where the time goes, by affinity.
 
-ghost use Rattle.std.specs.Prelude.{◌≡◌, ◌<◌, ℕ, List, IfOk, OnOk, length, map, string_bytes};
+ghost use Rattle.std.specs.Prelude.{◌≡◌, ◌<◌, ◌∷◌, ℕ, List, IfOk, OnOk, length, map, string_bytes};
 ghost use Rattle.std.specs.List.{range_with_len};
 ghost use Rattle.waff_model.specs.Tree.{parent_of};
 ghost use Rattle.waff_plan.specs.Chain.{IsListed};
 ghost use Rattle.waff_plan.specs.Planned.{planned_work};
 ghost use Rattle.waff_plan_text.specs.Lines.{Adds, line_text, text_of};
-ghost use Rattle.waff_figures.specs.ByAffinity.{AreCostsBelow, affinities_lines, parent_field};
+ghost use Rattle.waff_figures.specs.ByAffinity.{AreCostsBelow, affinities_header};
+ghost use Rattle.waff_figures.specs.ByAffinity.{affinities_lines, parent_field};
 ghost use Rattle.waff_figures.specs.ByAffinity.{tally_row, tallied_row};
 
 use crate::below::costs_below;
@@ -40,9 +41,25 @@ pub fn affinities_text(
     };
     let tallies = tallies(alloc, &grouped, chain)?;
     let below = costs_below(alloc, tree, tallies.as_slice())?;
+    tallied_text(alloc, tree, tallies.as_slice(), below.as_slice())
+}
+
+/// The text of the affinities with the tally of each and the costs below it.
+fn tallied_text(
+    alloc: Global,
+    tree: &Tree,
+    tallies: &[Tally],
+    below: &[u64],
+) -> Result<String, AllocError>
+    requires tallies { length tallies.now ≡ length tree.now }
+    requires below { length below.now ≡ length tree.now }
+    ensures { IfOk result (λ text. string_bytes text ≡ text_of (affinities_header
+        ∷ map (tallied_row tree.now tallies.now below.now)
+        (range_with_len 0 (length tree.now)))) }
+{
     let mut text = String::new(alloc);
     text.push_str("affinity,parent,messages,cost,below,chain\n")?;
-    push_rows(&mut text, tree, tallies.as_slice(), below.as_slice())?;
+    push_rows(&mut text, tree, tallies, below)?;
     Ok(text)
 }
 

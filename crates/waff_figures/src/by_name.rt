@@ -1,12 +1,12 @@
 //! Where the time goes, by the names of messages.
 
-ghost use Rattle.std.specs.Prelude.{◌≡◌, ◌<◌, IfOk, OnOk, length, map, string_bytes};
+ghost use Rattle.std.specs.Prelude.{◌≡◌, ◌<◌, ◌∷◌, IfOk, OnOk, length, map, string_bytes};
 ghost use Rattle.std.specs.List.{range_with_len};
 ghost use Rattle.waff_plan.specs.Chain.{IsListed};
 ghost use Rattle.waff_plan.specs.Planned.{planned_work};
 ghost use Rattle.waff_plan_text.specs.Lines.{Adds, line_text, text_of};
-ghost use Rattle.waff_figures.specs.ByName.{message_names, named_row, names_lines};
-ghost use Rattle.waff_figures.specs.ByName.{tallied_name_row};
+ghost use Rattle.waff_figures.specs.ByName.{message_names, named_row, names_header};
+ghost use Rattle.waff_figures.specs.ByName.{names_lines, tallied_name_row};
 
 use crate::grouped::Grouped;
 use crate::names::names_of;
@@ -29,9 +29,23 @@ pub fn names_text(alloc: Global, planned: &Planned<'_>, chain: &[u32]) -> Result
         count: found.names.len(),
     };
     let tallies = tallies(alloc, &grouped, chain)?;
+    tallied_text(alloc, &found.names, tallies.as_slice())
+}
+
+/// The text of these names with the tally of each.
+fn tallied_text(
+    alloc: Global,
+    names: &IndexSet<&str>,
+    tallies: &[Tally],
+) -> Result<String, AllocError>
+    requires { length tallies.now ≡ length names.now.keys }
+    ensures { IfOk result (λ text. string_bytes text ≡ text_of (names_header
+        ∷ map (tallied_name_row (map (λ name. name.now) names.now.keys) tallies.now)
+        (range_with_len 0 (length names.now.keys)))) }
+{
     let mut text = String::new(alloc);
     text.push_str("name,messages,cost,chain\n")?;
-    push_rows(&mut text, &found.names, tallies.as_slice())?;
+    push_rows(&mut text, names, tallies)?;
     Ok(text)
 }
 

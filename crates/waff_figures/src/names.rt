@@ -1,7 +1,7 @@
 //! The distinct names of messages.
 
 ghost use Rattle.std.specs.Prelude.{◌≡◌, ◌<◌, ◌≤◌, ℕ, All, IfOk, length, map, slice_index_or, []};
-ghost use Rattle.waff_figures.specs.ByName.{distinct_names, is_named, message_names};
+ghost use Rattle.waff_figures.specs.ByName.{AreNumbered, distinct_names, is_named, message_names};
 ghost use Rattle.waff_figures.specs.Tally.{is_in};
 
 use indexmap::IndexSet;
@@ -29,11 +29,26 @@ pub(crate) fn names_of(alloc: Global, trace: &Trace) -> Result<Names<'_>, AllocE
         (slice_index_or (map (λ name. name.now) found.names.keys) g []) m) }
 {
     let mut names = IndexSet::new(alloc);
+    let places = places_of(alloc, trace, &mut names)?;
+    Ok(Names { names, places })
+}
+
+/// For each message the place of its name among the distinct ones, which go into an empty set.
+fn places_of<'a>(
+    alloc: Global,
+    trace: &'a Trace,
+    names: &mut IndexSet<&'a str>,
+) -> Result<Vec<u32>, AllocError>
+    requires none { names.old.keys ≡ [] }
+    ensures count { IfOk result (λ places. length places.items ≡ length trace.now.messages) }
+    ensures numbered { IfOk result (λ places. AreNumbered (message_names trace.now.messages)
+        (map (λ name. name.now) names.new.keys) places.items) }
+{
     let mut places = Vec::with_capacity(alloc, trace.len() as usize)?;
     for n in 1..trace.len() + 1 {
         let name = trace.message(n).name.as_str();
         let (place, _) = names.insert_full(name)?;
         places.push(place as u32)?;
     }
-    Ok(Names { names, places })
+    Ok(places)
 }

@@ -49,9 +49,30 @@ pub fn list_figures(
         workers.now listed.items) }
 {
     let needs = needs(alloc, unlimited.case.tree, unlimited.case.assigned)?;
+    figures_by(alloc, unlimited, &needs, rule, workers)
+}
+
+/// The same figures, with these needs.
+fn figures_by(
+    alloc: Global,
+    unlimited: &Planned<'_>,
+    needs: &Needs,
+    rule: Rule,
+    workers: &[u32],
+) -> Result<Vec<Figures>, AllocError>
+    requires needs { AreNeeds unlimited.now.case.tree.now unlimited.now.case.assigned.now
+        needs.now }
+    requires least { IsLeast (planned_pairs unlimited.now) (planned_work unlimited.now)
+        (planned_starts unlimited.now) }
+    requires workers { All IsWorkers workers.now }
+    ensures { IfOk result (λ listed. AreListed rule (planned_pairs unlimited.now)
+        (planned_work unlimited.now)
+        (length_of (planned_work unlimited.now) (planned_starts unlimited.now))
+        workers.now listed.items) }
+{
     let mut listed = Vec::with_capacity(alloc, workers.len())?;
     for k in workers {
-        let figures = figures_for(alloc, unlimited, &needs, rule, *k)?;
+        let figures = figures_for(alloc, unlimited, needs, rule, *k)?;
         listed.push(figures)?;
     }
     Ok(listed)
@@ -97,8 +118,7 @@ fn figures_for(
     let made = list_plan_by(alloc, needs, unlimited.case.trace, rule, k)?;
     needs_make_the_same_plans();
     none_is_shorter();
-    let figures = figures_of(alloc, made.plan(), Some(k), unlimited.plan.length())?;
-    Ok(figures)
+    figures_of(alloc, made.plan(), Some(k), unlimited.plan.length())
 }
 
 /// The text of the figures of the list plans and of the unlimited plan.

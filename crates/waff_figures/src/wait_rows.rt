@@ -48,6 +48,22 @@ fn gathered(alloc: Global, waits: &[Wait], groups: &[Group]) -> Result<Vec<Row>,
     ensures order { IfOk result (λ rows. AllPairs StartsFirst rows.items) }
 {
     let mut kinds = IndexSet::new(alloc);
+    gathered_by(alloc, &mut kinds, waits, groups)
+}
+
+/// The same rows, by a set that has no kind yet.
+fn gathered_by(
+    alloc: Global,
+    kinds: &mut IndexSet<(Group, Option<Group>)>,
+    waits: &[Wait],
+    groups: &[Group],
+) -> Result<Vec<Row>, AllocError>
+    requires none { kinds.old.keys ≡ [] }
+    requires order { AllPairs ComesFirst waits.now }
+    requires among { All (IsWaitAmong (length groups.now)) waits.now }
+    ensures told { IfOk result (λ rows. AreTold (same_group groups.now) waits.now rows.items) }
+    ensures order { IfOk result (λ rows. AllPairs StartsFirst rows.items) }
+{
     let mut rows = Vec::new(alloc);
     for wait in waits {
         let (place, is_new) = kinds.insert_full(kind(groups, wait))?;

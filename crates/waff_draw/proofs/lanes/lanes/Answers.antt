@@ -9,7 +9,7 @@ use Rattle.waff_draw.proofs.OnceLemmas.{few_lanes}
 use Rattle.waff_draw.proofs.lanes.lanes.Goals as goal
 
 -- the walk is that in preorder
-walked : (c : goal.After-drop-affinities-2) → c.deref.result.now ≡ preorder c.args.case.now.tree.now
+walked : (c : goal.After-drop-used-2) → c.deref.result.now ≡ preorder c.args.case.now.tree.now
 walked c =
     let items : Vec ℕ Global → List ℕ = λ children. children.items in
     let tree = c.args.case.now.tree.now in
@@ -19,14 +19,14 @@ walked c =
     ∙ ap (λ n. walk_from (families_of tree) n 0 0) c.len-3.ensures.count
 
 -- its lanes are of affinities
-inside : (c : goal.After-drop-affinities-2) → All (λ (lane : Lane). lane.affinity < length c.args.case.now.tree.now) c.deref.result.now
+inside : (c : goal.After-drop-used-2) → All (λ (lane : Lane). lane.affinity < length c.args.case.now.tree.now) c.deref.result.now
 inside c =
     subst (All (λ (lane : Lane). lane.affinity < length c.args.case.now.tree.now)) (sym c.deref.ensures.value)
     (subst (λ n. All (λ (lane : Lane). lane.affinity < n) c.walk.new.lanes.items)
     (ap length c.as_slice-2.ensures.value ∙ c.in_ok-families.ensures.count) c.in_ok-walk.ensures.known)
 
 -- the lanes that are kept
-kept : (c : goal.After-drop-affinities-2) → filter (λ (lane : Lane). get_or c.deref-2.result.now lane.affinity false) c.deref.result.now
+kept : (c : goal.After-drop-used-2) → filter (λ (lane : Lane). get_or c.deref-2.result.now lane.affinity false) c.deref.result.now
     ≡ lanes_of c.args.case.now.tree.now c.args.case.now.assigned.now
 kept c =
     let tree = c.args.case.now.tree.now in

@@ -1,11 +1,11 @@
-use Rattle.std.proofs.Common.{◌≡◌, ℕ, ◌<◌, ◌++◌, rules, Bor, List, [], length, get_or, map, string_bytes, arith, sym, ◌∙◌, ap, subst}
+use Rattle.std.proofs.Common.{◌≡◌, ℕ, ◌<◌, ◌∷◌, Bor, List, [], length, get_or, map, string_bytes, arith, sym, ◌∙◌, ap, subst}
 use Rattle.std.specs.List.{range_with_len}
 use Rattle.std.proofs.lemmas.List.{length-map}
+use Rattle.std.proofs.lemmas.Result.{IfOk-weaker}
 use Rattle.waff_plan.specs.Timing.{work_of}
 use Rattle.waff_plan_text.specs.Lines.{text_of}
 use Rattle.waff_figures.specs.ByName.{distinct_names, is_named, message_names, name_row, named_row, names_header, tallied_name_row}
 use Rattle.waff_figures.specs.Tally.{is_in, no_tally, tally_of}
-use Rattle.waff_figures.proofs.LineLemmas.{two_parts}
 use Rattle.waff_figures.proofs.RowLemmas.{map_by_places, map_range_same, tally_same}
 use Rattle.waff_figures.proofs.by_name.names_text.Goals as goal
 
@@ -32,7 +32,9 @@ returns c =
     ∙ ap (λ n. map (λ p. name_row names work chain (get_or texts p [])) (range_with_len 0 n)) (sym long)
     ∙ map_by_places (name_row names work chain) texts []
     ∙ ap (map (name_row names work chain)) c.in_ok-found.ensures.names in
-    let pushed = rw c.as_slice-2.ensures.value at c.in_ok-push_rows.ensures in
-    two_parts names_header (map (name_row names work chain) (distinct_names names))
-    (string_bytes c.push_str.new.self) (string_bytes c.push_rows.new.text) (search rules)
-    (pushed ∙ ap (λ rs. string_bytes c.push_str.new.self ++ text_of rs) rows)
+    IfOk-weaker c.tallied_text.result
+    (λ text. string_bytes text ≡ text_of (names_header ∷ map (tallied_name_row texts c.as_slice-2.result.now) (range_with_len 0 (length keys)))) _
+    (λ text is.
+    is ∙ ap (λ ts. text_of (names_header ∷ map (tallied_name_row texts ts) (range_with_len 0 (length keys)))) c.as_slice-2.ensures.value
+    ∙ ap (λ rs. text_of (names_header ∷ rs)) rows)
+    c.tallied_text.ensures

@@ -1,58 +1,29 @@
-use Rattle.std.proofs.Common.{◌≡◌, ℕ, ◌-◌, ◌<◌, ◌≤◌, List, [], length, get_or, map, option_map, Bor, arith, sym, ◌∙◌, ap, subst}
-use Rattle.std.proofs.lemmas.List.{length-map, length_push}
-use Rattle.std.proofs.lemmas.Option.{get_or_from_slice_get, slice_get-map}
-use Rattle.std.proofs.lemmas.Slice.Eq.{bytes_eq-Decides}
+use Rattle.std.proofs.Common.{ℕ, ◌<◌, ◌≤◌, List, length, get_or, map, Bor, arith, sym, ◌∙◌, ap, subst}
+use Rattle.std.proofs.lemmas.List.{get_or_default, length-map, take_all}
 use Rattle.waff_model.specs.declared.message.Message.{Message}
-use Rattle.waff_figures.specs.ByName.{message_names, with_name}
-use Rattle.waff_figures.proofs.NameLemmas.{AreNumbered, name_at, names_inserted, none_numbered, numbered_next, place_tells}
+use Rattle.waff_figures.specs.ByName.{distinct_names, message_names}
+use Rattle.waff_figures.proofs.NameLemmas.{place_tells}
 use Rattle.waff_figures.proofs.names.names_of.Goals as goal
 
-abbrev texts_of : List (Bor (List ℕ)) → List (List ℕ)
-texts_of keys = map (λ x. x.now) keys
-
-pub loop-n-init : goal.loop-n-init
-loop-n-init c =
-    let names = message_names c.args.trace.now.messages in
-    record {
-      numbered = subst (λ ks. AreNumbered names (texts_of ks) c.in_ok-places.places.items) (sym c.new-names.ensures.empty)
-          (subst (λ ps. AreNumbered names [] ps) (sym c.in_ok-places.ensures.items) (none_numbered names));
-      count = ap length c.in_ok-places.ensures.items;
-    }
-
-pub loop-n-preserved : goal.loop-n-preserved
-loop-n-preserved c =
+pub returns-clause-names : goal.returns-clause-names
+returns-clause-names c =
     let messages = c.args.trace.now.messages in
-    let names = message_names messages in
-    let keys = c.loop-n.names.keys in
-    let new_keys = c.insert_full.new.self.keys in
-    let places = c.loop-n.places.items in
-    let n = c.loop-n.n in
-    let name = c.as_str-name.result.now in
-    let place = c.in_ok-place.place in
-    let from : 1 ≤ n = c.loop-n.auto.n in
-    let count : length places ≡ n - 1 = c.loop-n.invariant.count in
-    let inside : length places < length names
-    = omega (arith, count, from, c.loop-n-test.true, c.len-n-end.ensures.count, length-map messages (λ (m : Message). m.name)) in
-    let named : get_or names (n - 1) [] ≡ c.message.result.now.name
-    = get_or_from_slice_get names (n - 1) c.message.result.now.name []
-    (slice_get-map (λ (m : Message). m.name) messages (n - 1) ∙ ap (λ o. option_map (λ (m : Message). m.name) o) c.message.ensures.message) in
-    let is : name ≡ get_or names (length places) [] = c.as_str-name.ensures ∙ sym named ∙ ap (λ k. get_or names k []) (sym count) in
-    let inserted : texts_of new_keys ≡ with_name (texts_of keys) name = ap texts_of c.in_ok-place.ensures.keys ∙ names_inserted keys c.as_str-name.result in
-    let stored = c.in_ok-place.ensures.stored in
-    let within : place < length (with_name (texts_of keys) name)
-    = subst (λ ks. place < length ks) inserted (subst (λ k. place < k) (sym (length-map new_keys (λ (x : Bor (List ℕ)). x.now))) c.in_ok-place.ensures.within) in
-    let at : get_or (with_name (texts_of keys) name) place [] ≡ name
-    = sym (ap (λ ks. get_or ks place []) inserted) ∙ name_at new_keys place stored.0 stored.1 ∙ sym ((bytes_eq-Decides name stored.0.now).0 stored.2) in
-    let next = numbered_next names (texts_of keys) places name place c.loop-n.invariant.numbered inside is within at in
-    record {
-      numbered = subst (λ ks. AreNumbered names ks c.push.new.self.items) (sym inserted)
-          (subst (λ ps. AreNumbered names (with_name (texts_of keys) name) ps) (sym c.in_ok-push.ensures.items) next);
-      count = ap length c.in_ok-push.ensures.items ∙ length_push places place ∙ omega (arith, count, from);
-    }
+    let places = c.in_ok-places.places.items in
+    let full : length (message_names messages) ≤ length places
+    = omega (arith, length-map messages (λ (m : Message). m.name), c.in_ok-places.ensures.count) in
+    c.in_ok-places.ensures.numbered.distinct ∙ ap distinct_names (take_all (length places) (message_names messages) full)
+
+pub returns-clause-known : goal.returns-clause-known
+returns-clause-known c = λ k d low.
+    let keys = c.places_of.new.names.keys in
+    let places = c.in_ok-places.places.items in
+    subst (λ place. place < length keys) (sym (get_or_default places k d 0 low))
+    (subst (λ n. get_or places k 0 < n) (length-map keys (λ (x : Bor (List ℕ)). x.now)) (c.in_ok-places.ensures.numbered.within k low))
 
 pub returns-clause-each : goal.returns-clause-each
 returns-clause-each c = λ g m low from to.
-    let keys = c.loop-n.names.keys in
-    place_tells (message_names c.args.trace.now.messages) (texts_of keys) c.loop-n.places.items c.loop-n.invariant.numbered g m
+    let keys = c.places_of.new.names.keys in
+    place_tells (message_names c.args.trace.now.messages) (map (λ (x : Bor (List ℕ)). x.now) keys) c.in_ok-places.places.items
+    c.in_ok-places.ensures.numbered g m
     (subst (λ k. g < k) (sym (length-map keys (λ (x : Bor (List ℕ)). x.now))) low) from
-    (omega (arith, to, c.loop-n.invariant.count, c.loop-n-test.false, c.len-n-end.ensures.count))
+    (omega (arith, to, c.in_ok-places.ensures.count))

@@ -1,4 +1,5 @@
 use Rattle.std.proofs.Common.{◌≡◌, ◌≤◌, Some, sym, ◌∙◌, subst}
+use Rattle.std.proofs.lemmas.Result.{IfOk-weaker}
 use Rattle.waff_plan.specs.Timing.{start_of, work_of}
 use Rattle.waff_plan.specs.Work.{length_of}
 use Rattle.waff_figures.specs.Figures.{AreFigures}
@@ -14,9 +15,8 @@ returns-clause-listed c =
     let timings : made.table.timings ≡ plan.timings = c.in_ok-made.ensures.timings ∙ sym c.args.unlimited.now.timings in
     let list = c.needs_make_the_same_plans.ensures case.tree.now case.assigned.now c.args.needs.now (work_of made.table.timings) c.args.rule c.args.k
     (start_of made.table.starts) c.requires.needs c.in_ok-made.ensures.follows in
-    let told : AreFigures (Some c.args.k) work shortest (start_of made.table.starts) c.in_ok-figures.figures
-    = rw (c.plan.ensures.plan, timings, c.length.ensures.length) at c.in_ok-figures.ensures in
-    record {
+    IfOk-weaker c.figures_of.result (AreFigures (Some c.args.k) work shortest (start_of made.table.starts)) _
+    (λ figures told. record {
       k = c.args.k;
       starts = made.table.starts;
       list = rw timings at list;
@@ -24,4 +24,5 @@ returns-clause-listed c =
       least = λ other is.
           subst (λ n. n ≤ length_of work other) (sym told.least)
           (c.none_is_shorter.ensures case.tree.now case.assigned.now work c.args.k (start_of plan.starts) other c.requires.workers.from c.requires.least is);
-    }
+    })
+    (rw (c.plan.ensures.plan, timings, c.length.ensures.length) at c.figures_of.ensures)

@@ -6,14 +6,14 @@ use Rattle.waff_figures.specs.WaitRows.{AreTold, StartsFirst, kind_in, rows_with
 use Rattle.waff_figures.specs.declared.wait_rows.Row.{Row}
 use Rattle.waff_figures.specs.declared.waits.Wait.{Wait}
 use Rattle.waff_figures.proofs.WaitKinds.{AreSoFar, Kind, all_with, inside_if_old, kind_eq, none_so_far, one_more}
-use Rattle.waff_figures.proofs.wait_rows.gathered.Goals as goal
+use Rattle.waff_figures.proofs.wait_rows.gathered_by.Goals as goal
 
 abbrev no_wait : Wait
 no_wait = record { message = 0; on = None; ticks = 0 }
 
 pub loop-wait-init : goal.loop-wait-init
 loop-wait-init c =
-    let none = none_so_far c.args.groups.now c.new-rows.result.items c.new-kinds.result.keys c.new-rows.ensures.items c.new-kinds.ensures.empty in
+    let none = none_so_far c.args.groups.now c.new-rows.result.items c.args.kinds.now.keys c.new-rows.ensures.items c.requires.none in
     record {
       told = none.told;
       order = none.order;

@@ -1,11 +1,11 @@
-use Rattle.std.proofs.Common.{ℕ, ◌∷◌, [], ◌++◌, Some, All, map, take, get_or, sym, ◌∙◌, ap, subst}
-use Rattle.std.proofs.lemmas.List.{map_push, take_more}
+use Rattle.std.proofs.Common.{ℕ, List, ◌∷◌, [], ◌++◌, Some, All, map, take, get_or, sym, ◌∙◌, ap, subst}
+use Rattle.std.proofs.lemmas.List.{map_push, take_all, take_more}
 use Rattle.std.proofs.lemmas.List.Elements.{All-push}
 use Rattle.waff_plan.specs.Planned.{planned_pairs, planned_starts, planned_work}
 use Rattle.waff_plan.specs.Work.{length_of}
-use Rattle.waff_figures.specs.Sweep.{IsListed}
+use Rattle.waff_figures.specs.Sweep.{AreListed, IsListed}
 use Rattle.waff_figures.specs.declared.figures.Figures.{Figures}
-use Rattle.waff_figures.proofs.sweep.list_figures.Goals as goal
+use Rattle.waff_figures.proofs.sweep.figures_by.Goals as goal
 
 pub loop-k-preserved : goal.loop-k-preserved
 loop-k-preserved c =
@@ -25,3 +25,10 @@ loop-k-preserved c =
           ∙ ap (map (λ (k : ℕ). Some k)) (sym (take_more workers i 0 c.loop-k-test.true));
       each = subst (All are) (sym items) (All-push are listed figures c.loop-k.invariant.each c.in_ok-figures.ensures.listed);
     }
+
+pub returns : goal.returns
+returns c =
+    let unlimited = c.args.unlimited.now in
+    subst (λ (ws : List ℕ). AreListed c.args.rule (planned_pairs unlimited) (planned_work unlimited)
+    (length_of (planned_work unlimited) (planned_starts unlimited)) ws c.loop-k.listed.items)
+    (take_all c.loop-k.k-index c.args.workers.now c.loop-k-test.false) c.loop-k.invariant

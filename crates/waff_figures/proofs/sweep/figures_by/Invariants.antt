@@ -2,7 +2,7 @@ use Rattle.std.proofs.Common.{take}
 use Rattle.waff_plan.specs.Planned.{planned_pairs, planned_starts, planned_work}
 use Rattle.waff_plan.specs.Work.{length_of}
 use Rattle.waff_figures.specs.Sweep.{AreListed}
-use Rattle.waff_figures.proofs.sweep.list_figures.Given as goal
+use Rattle.waff_figures.proofs.sweep.figures_by.Given as goal
 
 abbrev pub invariant-loop-k : goal.invariant-loop-k
 invariant-loop-k l =

@@ -1,7 +1,7 @@
 use Rattle.std.proofs.Common.{◌≡◌, ◌*◌, ◌^◌, ◌≤◌, All, map, take}
 use Rattle.std.specs.List.{AllPairs}
 use Rattle.waff_figures.specs.WaitRows.{AreTold, StartsFirst, kind_in, same_group}
-use Rattle.waff_figures.proofs.wait_rows.gathered.Given as goal
+use Rattle.waff_figures.proofs.wait_rows.gathered_by.Given as goal
 
 abbrev pub invariant-loop-wait : goal.invariant-loop-wait
 invariant-loop-wait l = record {

@@ -1,7 +1,6 @@
 use Rattle.std.proofs.Common.{◌≡◌, ◌-◌, length, map}
-use Rattle.waff_figures.specs.ByName.{message_names}
-use Rattle.waff_figures.proofs.NameLemmas.{AreNumbered}
-use Rattle.waff_figures.proofs.names.names_of.Given as goal
+use Rattle.waff_figures.specs.ByName.{AreNumbered, message_names}
+use Rattle.waff_figures.proofs.names.places_of.Given as goal
 
 abbrev pub invariant-loop-n : goal.invariant-loop-n
 invariant-loop-n l = record {
