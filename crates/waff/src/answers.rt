@@ -1,86 +1,125 @@
 //! What is printed for what the words ask for.
 ghost use Rattle.std.specs.Prelude.{◌≤◌, All, IfSome};
 ghost use Rattle.waff_plan.specs.Bound.{IsWorkers};
-ghost use Rattle.waff_cli.specs.Requests.{IsWithinLimits};
+ghost use Rattle.waff_cli.specs.Requests.{IsPart, IsWithinLimits};
 
 use crate::failure::Failure;
 use std::alloc::Global;
-use std::io;
-use std::rt::Runtime;
+use std::io::Write;
 use std::sync::Wait;
 use std::thread::{Threads, available_parallelism};
 use waff_cli::{Asked, Drawing};
 use waff_core::limits::MAX_SEATS;
 use waff_tool::{
-    MAX_RANKED, Part, Picture, assign_text, check_text, compare_text, draw_text, explain_text,
-    explained_status, plan_text, plan_text_by, rank_text, rate_text, replay_text, split_input,
-    sweep_text, sweep_workers, verdict_status, waits_text, where_text,
+    MAX_RANKED, Part, Picture, Rule, ToolError, assign_text, check_text, compare_text, draw_text,
+    explain_text, explained_status, plan_text, plan_text_by, rank_text, rate_text, replay_text,
+    split_input, sweep_text, sweep_workers, verdict_status, waits_text, where_text,
 };
 
 /// Prints what is asked for of these files, and gives the exit status.
-pub fn answer<R: Runtime + Threads + Wait + Sync>(
+pub fn answer<R: Threads + Wait + Sync, W: Write>(
     rt: &R,
     alloc: Global,
     asked: &Asked,
     files: &[Vec<u8>],
+    out: &mut W,
 ) -> Result<u8, Failure>
     requires { IsWithinLimits asked.now }
 {
-    match (asked, files) {
-        (Asked::PlanOfInput, [input]) => print_plan_of_input(rt, alloc, input)?,
-        (Asked::Explain, [hierarchy, more @ ..]) => {
-            return print_explanation(rt, alloc, hierarchy, more);
-        }
-        (Asked::Compare(k), [first, second, trace]) => {
-            compare_text(alloc, first, second, trace, *k, &mut io::writer(rt))?;
-        }
-        (Asked::Rank(k, rule), [trace, hierarchies @ ..]) if hierarchies.len() <= MAX_RANKED => {
-            rank_text(alloc, hierarchies, trace, *k, *rule, &mut io::writer(rt))?;
-        }
-        (_, [hierarchy, trace]) => print_of_trace(rt, alloc, asked, hierarchy, trace)?,
-        (_, [hierarchy, trace, plan]) => {
-            return print_of_plan(rt, alloc, asked, hierarchy, trace, plan);
-        }
-        _ => return Err(Failure::NoWords),
+    match asked {
+        Asked::PlanOfInput => print_plan_of_input(alloc, files, out),
+        Asked::Explain => print_explanation(rt, alloc, files, out),
+        Asked::Compare(k) => print_comparison(alloc, files, *k, out),
+        Asked::Rank(k, rule) => print_ranks(alloc, files, *k, *rule, out),
+        Asked::Check | Asked::Rate => print_verdict(rt, alloc, asked, files, out),
+        Asked::Draw(drawing, part) => print_picture(alloc, files, *drawing, *part, out),
+        _ => print_of_trace(rt, alloc, asked, files, out),
     }
+}
+
+/// The exit status of a text that was printed, or why it was not.
+fn printed(told: Result<(), ToolError>) -> Result<u8, Failure> {
+    told?;
     Ok(0)
 }
 
-fn print_plan_of_input<R: Runtime>(rt: &R, alloc: Global, input: &[u8]) -> Result<(), Failure> {
+/// Prints the plan of a hierarchy and a trace in one file.
+fn print_plan_of_input<W: Write>(
+    alloc: Global,
+    files: &[Vec<u8>],
+    out: &mut W,
+) -> Result<u8, Failure> {
+    let [input] = files else {
+        return Err(Failure::NoWords);
+    };
     let (hierarchy, trace) = split_input(input);
-    Ok(plan_text(alloc, hierarchy, trace, None, &mut io::writer(rt))?)
+    printed(plan_text(alloc, hierarchy, trace, None, out))
+}
+
+/// Prints how two hierarchies compare.
+fn print_comparison<W: Write>(
+    alloc: Global,
+    files: &[Vec<u8>],
+    workers: u32,
+    out: &mut W,
+) -> Result<u8, Failure>
+    requires { IsWorkers workers }
+{
+    let [first, second, trace] = files else {
+        return Err(Failure::NoWords);
+    };
+    printed(compare_text(alloc, first, second, trace, workers, out))
+}
+
+/// Prints how hierarchies rank.
+fn print_ranks<W: Write>(
+    alloc: Global,
+    files: &[Vec<u8>],
+    workers: u32,
+    rule: Rule,
+    out: &mut W,
+) -> Result<u8, Failure>
+    requires { IsWorkers workers }
+{
+    match files {
+        [trace, hierarchies @ ..] if hierarchies.len() <= MAX_RANKED => {
+            printed(rank_text(alloc, hierarchies, trace, workers, rule, out))
+        }
+        _ => Err(Failure::NoWords),
+    }
 }
 
 /// Prints what is asked for of a hierarchy and a trace alone.
-fn print_of_trace<R: Runtime + Threads + Wait + Sync>(
+fn print_of_trace<R: Threads + Wait + Sync, W: Write>(
     rt: &R,
     alloc: Global,
     asked: &Asked,
-    hierarchy: &[u8],
-    trace: &[u8],
-) -> Result<(), Failure>
+    files: &[Vec<u8>],
+    out: &mut W,
+) -> Result<u8, Failure>
     requires { IsWithinLimits asked.now }
 {
-    let mut out = io::writer(rt);
-    match asked {
-        Asked::Assign => assign_text(alloc, hierarchy, trace, &mut out)?,
+    let [hierarchy, trace] = files else {
+        return Err(Failure::NoWords);
+    };
+    let (hierarchy, trace) = (hierarchy.as_slice(), trace.as_slice());
+    printed(match asked {
+        Asked::Assign => assign_text(alloc, hierarchy, trace, out),
         Asked::Plan(workers, rule) => {
-            plan_text_by(alloc, hierarchy, trace, *workers, *rule, &mut out)?;
+            plan_text_by(alloc, hierarchy, trace, *workers, *rule, out)
         }
         Asked::Sweep(given, rule) => {
-            sweep_text(alloc, hierarchy, trace, swept(given), *rule, &mut out)?;
+            sweep_text(alloc, hierarchy, trace, swept(given), *rule, out)
         }
-        Asked::Where(by_name) => where_text(alloc, hierarchy, trace, *by_name, &mut out)?,
+        Asked::Where(by_name) => where_text(alloc, hierarchy, trace, *by_name, out),
         Asked::Waits(workers, rule, by_name) => {
-            waits_text(alloc, hierarchy, trace, *workers, *rule, *by_name, &mut out)?;
+            waits_text(alloc, hierarchy, trace, *workers, *rule, *by_name, out)
         }
         Asked::Replay(workers) => {
-            let workers = threads(rt, *workers);
-            replay_text(rt, alloc, hierarchy, trace, workers, &mut out)?;
+            replay_text(rt, alloc, hierarchy, trace, threads(rt, *workers), out)
         }
         _ => return Err(Failure::NoWords),
-    }
-    Ok(())
+    })
 }
 
 /// The numbers of workers of a sweep that are given, or the usual ones.
@@ -116,50 +155,65 @@ fn processors(rt: &impl Threads) -> u32
     }
 }
 
-/// Prints what is asked for of a plan, and gives the exit status.
-fn print_of_plan<R: Runtime + Threads + Sync>(
+/// Prints the verdict on a plan, or how good the plan is, and gives the exit status of the verdict.
+fn print_verdict<R: Threads + Sync, W: Write>(
     rt: &R,
     alloc: Global,
     asked: &Asked,
-    hierarchy: &[u8],
-    trace: &[u8],
-    plan: &[u8],
+    files: &[Vec<u8>],
+    out: &mut W,
+) -> Result<u8, Failure> {
+    let [hierarchy, trace, plan] = files else {
+        return Err(Failure::NoWords);
+    };
+    let told = match asked {
+        Asked::Rate => rate_text(rt, alloc, hierarchy, trace, plan, out),
+        _ => check_text(rt, alloc, hierarchy, trace, plan, out),
+    };
+    Ok(verdict_status(&told?))
+}
+
+/// Prints a part of a plan as a picture.
+fn print_picture<W: Write>(
+    alloc: Global,
+    files: &[Vec<u8>],
+    drawing: Drawing,
+    part: waff_cli::Part,
+    out: &mut W,
 ) -> Result<u8, Failure>
-    requires { IsWithinLimits asked.now }
+    requires { IsPart part }
 {
-    let mut out = io::writer(rt);
-    match asked {
-        Asked::Check => {
-            let verdict = check_text(rt, alloc, hierarchy, trace, plan, &mut out)?;
-            Ok(verdict_status(&verdict))
-        }
-        Asked::Rate => {
-            let verdict = rate_text(rt, alloc, hierarchy, trace, plan, &mut out)?;
-            Ok(verdict_status(&verdict))
-        }
-        Asked::Draw(drawing, part) => {
-            let part = Part {
-                from: part.from,
-                to: part.to,
-            };
-            let picture = picture_of(*drawing);
-            draw_text(alloc, hierarchy, trace, plan, picture, part, &mut out)?;
-            Ok(0)
-        }
-        _ => Err(Failure::NoWords),
-    }
+    let [hierarchy, trace, plan] = files else {
+        return Err(Failure::NoWords);
+    };
+    let part = Part {
+        from: part.from,
+        to: part.to,
+    };
+    printed(draw_text(
+        alloc,
+        hierarchy,
+        trace,
+        plan,
+        picture_of(drawing),
+        part,
+        out,
+    ))
 }
 
 /// Prints the first fault or the verdict in plain words, and gives its exit status. After the
 /// hierarchy there are the trace and the plan, as far as they are given.
-fn print_explanation<R: Runtime + Threads + Sync>(
+fn print_explanation<R: Threads + Sync, W: Write>(
     rt: &R,
     alloc: Global,
-    hierarchy: &[u8],
-    more: &[Vec<u8>],
+    files: &[Vec<u8>],
+    out: &mut W,
 ) -> Result<u8, Failure> {
-    let (trace, plan) = (bytes_at(more, 0), bytes_at(more, 1));
-    let explained = explain_text(rt, alloc, hierarchy, trace, plan, &mut io::writer(rt))?;
+    let Some(hierarchy) = bytes_at(files, 0) else {
+        return Err(Failure::NoWords);
+    };
+    let (trace, plan) = (bytes_at(files, 1), bytes_at(files, 2));
+    let explained = explain_text(rt, alloc, hierarchy, trace, plan, out)?;
     Ok(explained_status(&explained))
 }
 

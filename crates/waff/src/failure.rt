@@ -4,7 +4,7 @@ use waff_cli::{FAILED, REFUSED, Refusal};
 use waff_tool::{ToolError, fault_status, fault_text};
 
 /// Why the program did not do what it was asked for.
-#[derive(Drop)]
+#[derive(Clone, Copy)]
 pub enum Failure {
     /// The words were refused, help was asked for, or a file was not read; that was told, and this is
     /// the exit status.
@@ -13,7 +13,7 @@ pub enum Failure {
     NoWords,
     /// The file of this place among the file words could not be read or is too long; 0 is standard
     /// input.
-    Read(u32),
+    Read(usize),
     Tool(ToolError),
     Memory,
 }

@@ -19,7 +19,7 @@ const INPUT: &str = "-";
 pub struct Unread<'a> {
     name: &'a str,
     /// Its place among the file words, from 1; 0 is standard input.
-    place: u32,
+    place: usize,
     fault: Fault,
 }
 
@@ -84,20 +84,40 @@ pub fn read_files<'a, R: Runtime>(
     names: &[&'a str],
 ) -> Result<Vec<Vec<u8>>, Unread<'a>> {
     let mut files = Vec::new(alloc);
-    for (at, name) in (1u32..).zip(names) {
-        let place = if *name == INPUT { 0 } else { at };
-        let file = read_named(rt, alloc, name).map_err(|fault| Unread {
-            name: *name,
-            place,
-            fault,
-        })?;
-        files.push(file).map_err(|_| Unread {
-            name: *name,
-            place,
-            fault: Fault::Memory,
-        })?;
+    match push_files(rt, alloc, names, &mut files) {
+        Ok(()) => Ok(files),
+        Err(unread) => Err(unread),
     }
-    Ok(files)
+}
+
+/// Appends the bytes of the files of these names.
+fn push_files<'a, R: Runtime>(
+    rt: &R,
+    alloc: Global,
+    names: &[&'a str],
+    files: &mut Vec<Vec<u8>>,
+) -> Result<(), Unread<'a>> {
+    for at in 0..names.len() {
+        let name = names[at];
+        if let Err(fault) = push_file(rt, alloc, name, files) {
+            let place = if name == INPUT { 0 } else { at + 1 };
+            return Err(Unread { name, place, fault });
+        }
+    }
+    Ok(())
+}
+
+/// Appends the bytes of the file of this name.
+fn push_file<R: Runtime>(
+    rt: &R,
+    alloc: Global,
+    name: &str,
+    files: &mut Vec<Vec<u8>>,
+) -> Result<(), Fault> {
+    match files.push(read_named(rt, alloc, name)?) {
+        Ok(()) => Ok(()),
+        Err(_) => Err(Fault::Memory),
+    }
 }
 
 /// The bytes of the file of this name, or of standard input.

@@ -6,6 +6,8 @@
 //! The words are read by the library `waff_cli`, the texts are those of `waff_tool`.
 #![tactic(auto)]
 
+ghost use Rattle.waff_cli.specs.Requests.{IsWithinLimits};
+
 mod answers;
 mod failure;
 mod files;
@@ -13,13 +15,14 @@ mod files;
 use answers::answer;
 use failure::Failure;
 use files::read_files;
+use std::alloc::Global;
 use std::io::IsTerminal;
 use std::process::ExitCode;
 use std::rt::Runtime;
 use std::sync::Wait;
 use std::thread::Threads;
 use std::{env, io};
-use waff_cli::{Asked, read_words};
+use waff_cli::{Asked, Request, read_words};
 
 fn main(rt: HostRuntime) -> ExitCode {
     let status = match run(&rt, rt.stdin().is_terminal()) {
@@ -52,10 +55,28 @@ fn run_words<R: Runtime + AllocGlobal + Threads + Wait + Sync>(
 ) -> Result<u8, Failure> {
     let alloc = rt.alloc();
     let request = read_words(rt, alloc, words)?;
-    let in_words = matches!(request.asked, Asked::Explain);
+    let status = answer_request(rt, alloc, &request);
+    drop(request);
+    status
+}
+
+/// Does what the words ask for, and gives the exit status.
+fn answer_request<R: Runtime + Threads + Wait + Sync>(
+    rt: &R,
+    alloc: Global,
+    request: &Request<'_>,
+) -> Result<u8, Failure>
+    requires { IsWithinLimits request.now.asked }
+{
     match read_files(rt, alloc, request.files.as_slice()) {
-        Ok(files) => answer(rt, alloc, &request.asked, files.as_slice()),
-        Err(unread) => Err(unread.failure(rt, in_words)),
+        Ok(files) => answer(
+            rt,
+            alloc,
+            &request.asked,
+            files.as_slice(),
+            &mut io::writer(rt),
+        ),
+        Err(unread) => Err(unread.failure(rt, matches!(request.asked, Asked::Explain))),
     }
 }
 

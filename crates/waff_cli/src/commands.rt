@@ -1,15 +1,15 @@
 //! The commands: their names, files and options.
-use crate::help;
+use crate::help::Help;
 
 /// A command of the program.
 #[derive(Clone, Copy)]
 pub struct CommandWords {
     pub name: &'static str,
     pub about: &'static str,
-    pub files: &'static [FileWord],
-    pub options: &'static [OptionWord],
+    /// Its words: those for files, and then its options.
+    pub words: &'static [Word],
     /// What its long help ends with.
-    pub help: &'static str,
+    pub help: Help,
 }
 
 /// A word of a command for a file.
@@ -23,9 +23,11 @@ pub struct FileWord {
     pub help: &'static str,
 }
 
-/// An option of a command.
+/// A word for a file, or an option, of a command.
 #[derive(Clone, Copy)]
-pub enum OptionWord {
+pub enum Word {
+    /// A word for a file.
+    File(FileWord),
     /// `--workers` for planners' workers, which has to be given or not.
     PlanWorkers(bool),
     /// `--workers` for several numbers of planners' workers.
@@ -104,106 +106,123 @@ pub static COMMANDS: [CommandWords; 12] = [
     CommandWords {
         name: "assign",
         about: "Prints the affinity in which each message runs",
-        files: &[HIERARCHY, TRACE],
-        options: &[],
-        help: help::ASSIGN,
+        words: &[Word::File(HIERARCHY), Word::File(TRACE)],
+        help: Help::Assign,
     },
     CommandWords {
         name: "plan",
         about: "Prints a shortest plan, or a plan for a number of workers",
-        files: &[HIERARCHY, TRACE],
-        options: &[OptionWord::PlanWorkers(false), OptionWord::Rule],
-        help: help::PLAN,
+        words: &[
+            Word::File(HIERARCHY),
+            Word::File(TRACE),
+            Word::PlanWorkers(false),
+            Word::Rule,
+        ],
+        help: Help::Plan,
     },
     CommandWords {
         name: "check",
         about: "Prints the first fault of a plan, or how good the plan is",
-        files: &[HIERARCHY, TRACE, PLAN],
-        options: &[],
-        help: help::CHECK,
+        words: &[Word::File(HIERARCHY), Word::File(TRACE), Word::File(PLAN)],
+        help: Help::Check,
     },
     CommandWords {
         name: "explain",
         about: "Explains the first fault, or the verdict on the plan, in plain words",
-        files: &[
-            HIERARCHY,
-            FileWord {
+        words: &[
+            Word::File(HIERARCHY),
+            Word::File(FileWord {
                 required: false,
                 ..TRACE
-            },
-            FileWord {
+            }),
+            Word::File(FileWord {
                 required: false,
                 ..PLAN
-            },
+            }),
         ],
-        options: &[],
-        help: help::EXPLAIN,
+        help: Help::Explain,
     },
     CommandWords {
         name: "rate",
         about: "Prints how good a plan is, whoever made it",
-        files: &[HIERARCHY, TRACE, PLAN],
-        options: &[],
-        help: help::RATE,
+        words: &[Word::File(HIERARCHY), Word::File(TRACE), Word::File(PLAN)],
+        help: Help::Rate,
     },
     CommandWords {
         name: "sweep",
         about: "Prints how long the trace takes, by the number of workers",
-        files: &[HIERARCHY, TRACE],
-        options: &[OptionWord::SweepWorkers, OptionWord::Rule],
-        help: help::SWEEP,
+        words: &[
+            Word::File(HIERARCHY),
+            Word::File(TRACE),
+            Word::SweepWorkers,
+            Word::Rule,
+        ],
+        help: Help::Sweep,
     },
     CommandWords {
         name: "where",
         about: "Prints where the time goes, by affinity or by name of messages",
-        files: &[HIERARCHY, TRACE],
-        options: &[OptionWord::Names("A line for each name of messages")],
-        help: help::WHERE,
+        words: &[
+            Word::File(HIERARCHY),
+            Word::File(TRACE),
+            Word::Names("A line for each name of messages"),
+        ],
+        help: Help::Where,
     },
     CommandWords {
         name: "waits",
         about: "Prints who waits for whom, and how long",
-        files: &[HIERARCHY, TRACE],
-        options: &[
-            OptionWord::PlanWorkers(false),
-            OptionWord::Rule,
-            OptionWord::Names("By the names of messages too"),
+        words: &[
+            Word::File(HIERARCHY),
+            Word::File(TRACE),
+            Word::PlanWorkers(false),
+            Word::Rule,
+            Word::Names("By the names of messages too"),
         ],
-        help: help::WAITS,
+        help: Help::Waits,
     },
     CommandWords {
         name: "draw",
         about: "Prints a picture of a plan",
-        files: &[HIERARCHY, TRACE, PLAN],
-        options: &[OptionWord::Picture, OptionWord::From, OptionWord::To],
-        help: help::DRAW,
+        words: &[
+            Word::File(HIERARCHY),
+            Word::File(TRACE),
+            Word::File(PLAN),
+            Word::Picture,
+            Word::From,
+            Word::To,
+        ],
+        help: Help::Draw,
     },
     CommandWords {
         name: "replay",
         about: "Runs the messages on threads, and prints the cells at the end",
-        files: &[HIERARCHY, TRACE],
-        options: &[OptionWord::Threads],
-        help: help::REPLAY,
+        words: &[Word::File(HIERARCHY), Word::File(TRACE), Word::Threads],
+        help: Help::Replay,
     },
     CommandWords {
         name: "compare",
         about: "Compares a classical and a hierarchical tree on one trace",
-        files: &[
-            FileWord {
+        words: &[
+            Word::File(FileWord {
                 help: "A hierarchy, a TOML file",
                 ..HIERARCHY
-            },
-            OTHER,
-            TRACE,
+            }),
+            Word::File(OTHER),
+            Word::File(TRACE),
+            Word::PlanWorkers(true),
         ],
-        options: &[OptionWord::PlanWorkers(true)],
-        help: help::COMPARE,
+        help: Help::Compare,
     },
     CommandWords {
         name: "rank",
         about: "Prints how several trees serve one trace",
-        files: &[TRACE, RANKED],
-        options: &[OptionWord::PlanWorkers(true), OptionWord::Rule],
-        help: help::RANK,
+        words: &[
+            Word::File(TRACE),
+            Word::File(RANKED),
+            Word::PlanWorkers(true),
+            Word::Rule,
+        ],
+        help: Help::Rank,
     },
 ];

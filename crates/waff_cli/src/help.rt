@@ -1,6 +1,44 @@
 //! What the long help of each command ends with: an example, what is printed, and the exit statuses;
 //! and the long help of an option that takes more than a line.
 
+/// The command of a long help. The table of the commands holds it in place of the text, since a proof
+/// reads a static byte by byte.
+#[derive(Clone, Copy)]
+pub enum Help {
+    Assign,
+    Plan,
+    Check,
+    Explain,
+    Rate,
+    Sweep,
+    Where,
+    Waits,
+    Draw,
+    Replay,
+    Compare,
+    Rank,
+}
+
+impl Help {
+    /// What the long help ends with.
+    pub fn text(self) -> &'static str {
+        match self {
+            Help::Assign => ASSIGN,
+            Help::Plan => PLAN,
+            Help::Check => CHECK,
+            Help::Explain => EXPLAIN,
+            Help::Rate => RATE,
+            Help::Sweep => SWEEP,
+            Help::Where => WHERE,
+            Help::Waits => WAITS,
+            Help::Draw => DRAW,
+            Help::Replay => REPLAY,
+            Help::Compare => COMPARE,
+            Help::Rank => RANK,
+        }
+    }
+}
+
 /// What the long help of the program ends with.
 pub const WAFF: &str = "\
 Example: waff plan hier.toml trace.csv | waff check hier.toml trace.csv -
@@ -19,7 +57,7 @@ by longest those on which the longest chain of work hangs. Without
 greatest latencies are less by arrival";
 
 /// What the long help of `waff assign` ends with.
-pub const ASSIGN: &str = "\
+const ASSIGN: &str = "\
 Example: waff assign hier.toml trace.csv
 
 A line for each message:
@@ -34,7 +72,7 @@ Exit status:
   4  something could not be read or written, or memory was refused";
 
 /// What the long help of `waff plan` ends with.
-pub const PLAN: &str = "\
+const PLAN: &str = "\
 Example: waff plan hier.toml trace.csv --workers 8
 
 A line for each message:
@@ -62,7 +100,7 @@ Exit status:
   4  something could not be read or written, or memory was refused";
 
 /// What the long help of `waff check` ends with.
-pub const CHECK: &str = "\
+const CHECK: &str = "\
 Example: waff plan hier.toml trace.csv | waff check hier.toml trace.csv -
 
 One line. A fault of the plan:
@@ -88,7 +126,7 @@ Exit status:
   4  something could not be read or written, or memory was refused";
 
 /// What the long help of `waff explain` ends with.
-pub const EXPLAIN: &str = "\
+const EXPLAIN: &str = "\
 Example: waff explain hier.toml trace.csv plan.csv
 
 The line that the other commands print, then:
@@ -107,7 +145,7 @@ Exit status, that of the fault or the verdict:
   4  something could not be read or written, or memory was refused";
 
 /// What the long help of `waff replay` ends with.
-pub const REPLAY: &str = "\
+const REPLAY: &str = "\
 Example: waff replay hier.toml trace.csv --workers 4
 
 A line for each cell that is not 0 after all messages:
@@ -122,7 +160,7 @@ Exit status:
   4  something could not be read or written, or memory was refused";
 
 /// What the long help of `waff compare` ends with.
-pub const COMPARE: &str = "\
+const COMPARE: &str = "\
 Example: waff compare classical.toml hier.toml trace.csv --workers 8
 
 A line for each hierarchy:
@@ -145,7 +183,7 @@ Exit status:
   4  something could not be read or written, or memory was refused";
 
 /// What the long help of `waff rate` ends with.
-pub const RATE: &str = "\
+const RATE: &str = "\
 Example: waff rate hier.toml trace.csv plan.csv
 
 A line each:
@@ -170,7 +208,7 @@ Exit status:
   4  something could not be read or written, or memory was refused";
 
 /// What the long help of `waff sweep` ends with.
-pub const SWEEP: &str = "\
+const SWEEP: &str = "\
 Example: waff sweep hier.toml trace.csv --workers 2,4,8
 
 A line for each number of workers (without --workers 1, 2, 3, 4, 6, 8, 12, 16,
@@ -193,7 +231,7 @@ Exit status:
   4  something could not be read or written, or memory was refused";
 
 /// What the long help of `waff where` ends with.
-pub const WHERE: &str = "\
+const WHERE: &str = "\
 Example: waff where hier.toml trace.csv --names
 
 A line for each affinity:
@@ -216,7 +254,7 @@ Exit status:
   4  something could not be read or written, or memory was refused";
 
 /// What the long help of `waff waits` ends with.
-pub const WAITS: &str = "\
+const WAITS: &str = "\
 Example: waff waits hier.toml trace.csv --workers 8
 
 A line for each pair of affinities of which one waits for the other, in the
@@ -240,7 +278,7 @@ Exit status:
   4  something could not be read or written, or memory was refused";
 
 /// What the long help of `waff draw` ends with.
-pub const DRAW: &str = "\
+const DRAW: &str = "\
 Example: waff draw hier.toml trace.csv plan.csv --from 100 --to 200 >part.svg
 
 The pictures:
@@ -254,7 +292,7 @@ Exit status:
   4  something could not be read or written, or memory was refused";
 
 /// What the long help of `waff rank` ends with.
-pub const RANK: &str = "\
+const RANK: &str = "\
 Example: waff rank trace.csv one.toml two.toml --workers 8
 
 A line for each hierarchy:

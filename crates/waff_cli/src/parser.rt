@@ -1,5 +1,5 @@
 //! The parser of the table of commands.
-use crate::commands::{COMMANDS, CommandWords, FileWord, OptionWord, PICTURES, RULES};
+use crate::commands::{COMMANDS, CommandWords, FileWord, PICTURES, RULES, Word};
 use crate::help;
 use crate::version::LONG_VERSION;
 use clap::{Arg, ArgAction, Command, value_parser};
@@ -11,11 +11,24 @@ use waff_model::limits::{MAX_TICK, MAX_WORKERS};
 pub fn parser<'a>(alloc: Global) -> Result<Command<'a>, AllocError> {
     let mut waff = waff(alloc);
     for words in COMMANDS.iter() {
-        waff = waff.subcommand(command(alloc, words)?)?;
+        waff = with_command(alloc, waff, words)?;
     }
     Ok(waff)
 }
 
+/// The parser with a command more.
+fn with_command<'a>(
+    alloc: Global,
+    waff: Command<'a>,
+    words: &'static CommandWords,
+) -> Result<Command<'a>, AllocError> {
+    match command(alloc, words) {
+        Ok(command) => waff.subcommand(command),
+        Err(error) => Err(error),
+    }
+}
+
+/// The parser of the program without its commands.
 fn waff<'a>(alloc: Global) -> Command<'a> {
     Command::new(alloc, "waff")
         .version("0.1.0")
@@ -25,42 +38,64 @@ fn waff<'a>(alloc: Global) -> Command<'a> {
         .after_long_help(help::WAFF)
 }
 
+/// The parser of a command.
 fn command<'a>(alloc: Global, words: &'static CommandWords) -> Result<Command<'a>, AllocError> {
-    let command = Command::new(alloc, words.name)
+    let mut args = Vec::new(alloc);
+    push_args(alloc, words.words, &mut args)?;
+    Command::new(alloc, words.name)
         .about(words.about)
-        .after_long_help(words.help);
-    with_options(
-        alloc,
-        with_files(alloc, command, words.files)?,
-        words.options,
-    )
+        .after_long_help(words.help.text())
+        .args(args)
 }
 
-/// The command with these words for files.
-fn with_files<'a>(
+/// Appends the words of a command.
+fn push_args<'a>(
     alloc: Global,
-    mut command: Command<'a>,
-    files: &'static [FileWord],
-) -> Result<Command<'a>, AllocError> {
-    for word in files.iter() {
-        command = command.arg(file(alloc, word))?;
+    words: &'static [Word],
+    args: &mut Vec<Arg<'a>>,
+) -> Result<(), AllocError> {
+    for word in words.iter() {
+        args.push(arg(alloc, *word))?;
     }
-    Ok(command)
+    Ok(())
 }
 
-/// The command with these options.
-fn with_options<'a>(
-    alloc: Global,
-    mut command: Command<'a>,
-    options: &'static [OptionWord],
-) -> Result<Command<'a>, AllocError> {
-    for word in options.iter() {
-        command = command.arg(option(alloc, *word))?;
+/// A word of a command.
+fn arg<'a>(alloc: Global, word: Word) -> Arg<'a> {
+    match word {
+        Word::File(word) => file(alloc, word),
+        Word::PlanWorkers(required) => workers(
+            alloc,
+            MAX_WORKERS,
+            "K",
+            "How many messages may run at once, from 1 to 64",
+        )
+        .short('k')
+        .required(required),
+        Word::SweepWorkers => workers(
+            alloc,
+            MAX_WORKERS,
+            "K,K,..",
+            "Up to 64 numbers of workers, each from 1 to 64",
+        )
+        .short('k')
+        .value_delimiter(','),
+        Word::Threads => workers(
+            alloc,
+            MAX_SEATS,
+            "W",
+            "How many threads, from 1 to 16; else one per processor",
+        ),
+        Word::Rule => rule(alloc),
+        Word::Names(help) => option(alloc, "names", help).action(ArgAction::SetTrue),
+        Word::Picture => picture(alloc),
+        Word::From => tick(alloc, "from", "The tick at which the part begins, else 0"),
+        Word::To => tick(alloc, "to", "The tick at which it ends, else the length"),
     }
-    Ok(command)
 }
 
-fn file<'a>(alloc: Global, word: &'static FileWord) -> Arg<'a> {
+/// A word for a file.
+fn file<'a>(alloc: Global, word: FileWord) -> Arg<'a> {
     let arg = Arg::new(alloc, word.id)
         .value_name(word.name)
         .required(word.required)
@@ -72,66 +107,39 @@ fn file<'a>(alloc: Global, word: &'static FileWord) -> Arg<'a> {
     }
 }
 
-fn option<'a>(alloc: Global, word: OptionWord) -> Arg<'a> {
-    match word {
-        OptionWord::PlanWorkers(required) => plan_workers(alloc)
-            .value_name("K")
-            .help("How many messages may run at once, from 1 to 64")
-            .required(required),
-        OptionWord::SweepWorkers => plan_workers(alloc)
-            .value_name("K,K,..")
-            .help("Up to 64 numbers of workers, each from 1 to 64")
-            .value_delimiter(','),
-        OptionWord::Threads => workers_up_to(alloc, MAX_SEATS)
-            .value_name("W")
-            .help("How many threads, from 1 to 16; else one per processor"),
-        OptionWord::Rule => rule(alloc),
-        OptionWord::Names(help) => Arg::new(alloc, "names")
-            .long("names")
-            .action(ArgAction::SetTrue)
-            .help(help),
-        OptionWord::Picture => picture(alloc),
-        OptionWord::From => tick(alloc, "from").help("The tick at which the part begins, else 0"),
-        OptionWord::To => tick(alloc, "to").help("The tick at which it ends, else the length"),
-    }
+/// An option of this name.
+fn option<'a>(alloc: Global, name: &'static str, help: &'static str) -> Arg<'a> {
+    Arg::new(alloc, name).long(name).help(help)
 }
 
-/// How many messages may run at once.
-fn plan_workers<'a>(alloc: Global) -> Arg<'a> {
-    workers_up_to(alloc, MAX_WORKERS).short('k')
-}
-
-fn workers_up_to<'a>(alloc: Global, most: u32) -> Arg<'a> {
-    Arg::new(alloc, "workers")
-        .long("workers")
+/// How many workers there are, this many at most.
+fn workers<'a>(alloc: Global, most: u32, value_name: &'static str, help: &'static str) -> Arg<'a> {
+    option(alloc, "workers", help)
+        .value_name(value_name)
         .value_parser(value_parser!(u32).range(1..=i64::from(most)))
 }
 
 /// Which of the messages that are ready start first.
 fn rule<'a>(alloc: Global) -> Arg<'a> {
-    Arg::new(alloc, "rule")
-        .long("rule")
+    option(alloc, "rule", "Who starts first")
         .value_name("RULE")
         .value_parser(RULES.as_slice())
         .default_value("arrival")
         .hide_default_value(true)
-        .help("Who starts first")
         .long_help(help::RULE)
 }
 
+/// As what a plan is drawn.
 fn picture<'a>(alloc: Global) -> Arg<'a> {
-    Arg::new(alloc, "as")
-        .long("as")
+    option(alloc, "as", "The picture")
         .value_name("PICTURE")
         .value_parser(PICTURES.as_slice())
         .default_value("svg")
-        .help("The picture")
 }
 
 /// A tick of a plan.
-fn tick<'a>(alloc: Global, name: &'static str) -> Arg<'a> {
-    Arg::new(alloc, name)
-        .long(name)
+fn tick<'a>(alloc: Global, name: &'static str, help: &'static str) -> Arg<'a> {
+    option(alloc, name, help)
         .value_name("T")
         .value_parser(value_parser!(u64).range(0..=MAX_TICK as i64))
 }

@@ -96,9 +96,10 @@ fn request_of<'a>(
     match matches.subcommand() {
         Some((command, matches)) => {
             let asked = asked_of(rt, alloc, command, matches)?;
-            let files = file_names(rt, alloc, matches)?;
-            refuse_two_inputs(rt, files.as_slice())?;
-            Ok(Request { asked, files })
+            match file_names(rt, alloc, matches) {
+                Ok(files) => Ok(Request { asked, files }),
+                Err(refusal) => Err(refusal),
+            }
         }
         None => Ok(Request {
             asked: Asked::PlanOfInput,
@@ -141,7 +142,7 @@ fn asked_of(
         "sweep" => sweep_of(rt, alloc, matches),
         "where" => Ok(Asked::Where(matches.get_flag("names"))),
         "waits" => waits_of(matches),
-        "draw" => Ok(Asked::Draw(drawn_as(matches)?, part_of(rt, matches)?)),
+        "draw" => draw_of(rt, matches),
         "replay" => Ok(Asked::Replay(workers(matches, MAX_SEATS)?)),
         "compare" => Ok(Asked::Compare(wanted_workers(matches, MAX_WORKERS)?)),
         "rank" => rank_of(matches),
@@ -156,6 +157,18 @@ fn file_names<'a>(
     matches: &ArgMatches<'a>,
 ) -> Result<Vec<&'a str>, Refusal> {
     let mut names = Vec::new(alloc);
+    match push_names(rt, matches, &mut names) {
+        Ok(()) => Ok(names),
+        Err(refusal) => Err(refusal),
+    }
+}
+
+/// Appends the names of the files, of which not more than one is standard input.
+fn push_names<'a>(
+    rt: &impl Eprint,
+    matches: &ArgMatches<'a>,
+    names: &mut Vec<&'a str>,
+) -> Result<(), Refusal> {
     for id in FILE_WORDS.iter() {
         if let Some(given) = matches.get_strs(id) {
             if given.len() > MAX_RANKED {
@@ -164,7 +177,7 @@ fn file_names<'a>(
             names.extend_from_slice(given)?;
         }
     }
-    Ok(names)
+    refuse_two_inputs(rt, names.as_slice())
 }
 
 /// The number of workers, where it is given; there are this many at most.
@@ -265,6 +278,14 @@ fn waits_of(matches: &ArgMatches<'_>) -> Result<Asked, Refusal>
     let rule = rule_of(matches)?;
     let workers = workers(matches, MAX_WORKERS)?;
     Ok(Asked::Waits(workers, rule, matches.get_flag("names")))
+}
+
+/// What is drawn of a plan.
+fn draw_of(rt: &impl Eprint, matches: &ArgMatches<'_>) -> Result<Asked, Refusal>
+    ensures { IfOk result IsWithinLimits }
+{
+    let drawing = drawn_as(matches)?;
+    Ok(Asked::Draw(drawing, part_of(rt, matches)?))
 }
 
 /// By which plans hierarchies are ranked.

@@ -91,7 +91,7 @@ impl Wanted {
             Wanted::Text | Wanted::TextOrNone => value.is_str(),
             Wanted::Integer => value.is_integer(),
             Wanted::Texts => match value.as_array() {
-                Some(texts) => texts.as_slice().iter().all(|text| text.is_str()),
+                Some(texts) => are_texts(texts.as_slice()),
                 None => false,
             },
         }
@@ -106,6 +106,16 @@ impl Wanted {
             Wanted::Texts => "wanted: an array of texts\n",
         }
     }
+}
+
+/// Whether all values are texts.
+fn are_texts(values: &[Value]) -> bool {
+    for value in values {
+        if !value.is_str() {
+            return false;
+        }
+    }
+    true
 }
 
 /// Appends which table has no value of its type at the key, and what stands there.
@@ -162,22 +172,32 @@ fn value_of<'a>(tables: &'a [Value], number: usize, key: &str) -> Option<&'a Val
     }
 }
 
+/// The first value that is no table.
+fn first_no_table(values: &[Value]) -> Option<usize> {
+    for number in 0..values.len() {
+        if !values[number].is_table() {
+            return Some(number);
+        }
+    }
+    None
+}
+
 /// Appends that there is no array of tables of this kind.
 fn push_no_tables(words: &mut Words, document: &Value, kind: &str) {
     let tables = rows(document, kind);
-    match tables.iter().position(|row| !row.is_table()) {
+    let found = match first_no_table(tables) {
         Some(number) => {
             words.name("where: hierarchy, ", kind);
             words.count(" ", number);
-            words.text("\n");
-            push_found(words, kind, tables.get(number));
+            tables.get(number)
         }
         None => {
             words.name("where: hierarchy, the key ", kind);
-            words.text("\n");
-            push_found(words, kind, document.get(kind));
+            document.get(kind)
         }
-    }
+    };
+    words.text("\n");
+    push_found(words, kind, found);
     words.name("wanted: an array of tables, [[", kind);
     words.text("]]\n");
 }

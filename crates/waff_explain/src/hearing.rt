@@ -6,7 +6,7 @@ use crate::walk::push_line;
 use crate::words::Words;
 use std::alloc::{AllocError, Global};
 use waff_assign::Case;
-use waff_model::{AffinityId, Message};
+use waff_model::{AffinityId, Message, Tree};
 use waff_plan::Totals;
 use waff_plan_text::{GivenPlan, Row};
 
@@ -123,8 +123,10 @@ impl<'a> Hearing<'a> {
 
     /// The totals that the starts of the rows and the chain of the summary make.
     pub(crate) fn totals(&self, alloc: Global) -> Result<Totals, AllocError> {
-        let plan = self.given.plan(alloc, self.case.trace)?;
-        Ok(plan.totals(self.given.workers(), self.given.chain()))
+        match self.given.plan(alloc, self.case.trace) {
+            Ok(plan) => Ok(plan.totals(self.given.workers(), self.given.chain())),
+            Err(refused) => Err(refused),
+        }
     }
 
     /// Appends where the row of a message stands, and what there is to tell of the message.
@@ -161,39 +163,48 @@ impl<'a> Hearing<'a> {
 
     /// Appends why the affinities of two messages exclude each other.
     pub(crate) fn push_exclusion(&self, words: &mut Words, one: u32, other: u32) {
-        if !self.has(one) || !self.has(other) {
-            return;
-        }
-        let (first, second) = (self.case.assigned.of(one), self.case.assigned.of(other));
-        if first == second {
-            words.name("why: both run in ", self.case.tree.name(first));
-            words.text(", and an affinity excludes itself\n");
-        } else if self.case.tree.at_or_above(first, second) {
-            self.push_way(words, second, first);
-        } else {
-            self.push_way(words, first, second);
+        if self.has(one) && self.has(other) {
+            let assigned = self.case.assigned;
+            push_why(words, self.case.tree, assigned.of(one), assigned.of(other));
         }
     }
+}
 
-    /// Appends the way in the tree from an affinity up to one above it.
-    fn push_way(&self, words: &mut Words, low: AffinityId, high: AffinityId)
-        requires low { low.0 < length self.now.case.tree.now }
-        requires high { high.0 < length self.now.case.tree.now }
-    {
-        let (below, above) = (self.case.tree.name(low), self.case.tree.name(high));
-        words.name("why: ", below);
-        words.name(" and ", above);
-        words.name(" exclude each other, as ", below);
-        words.name(" is below ", above);
-        words.name(": ", below);
-        for number in (0..low.0).rev() {
-            let between = AffinityId(number);
-            if self.case.tree.at_or_above(between, low)
-                && self.case.tree.at_or_above(high, between)
-            {
-                words.name(" -> ", self.case.tree.name(between));
-            }
-        }
-        words.text("\n");
+/// Appends why two affinities exclude each other.
+fn push_why(words: &mut Words, tree: &Tree, first: AffinityId, second: AffinityId)
+    requires first { first.0 < length tree.now }
+    requires second { second.0 < length tree.now }
+{
+    if first == second {
+        words.name("why: both run in ", tree.name(first));
+        words.text(", and an affinity excludes itself\n");
+    } else if tree.at_or_above(first, second) {
+        push_way(words, tree, second, first);
+    } else {
+        push_way(words, tree, first, second);
     }
+}
+
+/// Appends the way in the tree from an affinity up to one above it.
+fn push_way(words: &mut Words, tree: &Tree, low: AffinityId, high: AffinityId)
+    requires low { low.0 < length tree.now }
+    requires high { high.0 < length tree.now }
+{
+    push_below(words, tree.name(low), tree.name(high));
+    for number in (0..low.0).rev() {
+        let between = AffinityId(number);
+        if tree.at_or_above(between, low) && tree.at_or_above(high, between) {
+            words.name(" -> ", tree.name(between));
+        }
+    }
+    words.text("\n");
+}
+
+/// Appends that an affinity is below another, and where the way begins.
+fn push_below(words: &mut Words, below: &str, above: &str) {
+    words.name("why: ", below);
+    words.name(" and ", above);
+    words.name(" exclude each other, as ", below);
+    words.name(" is below ", above);
+    words.name(": ", below);
 }

@@ -52,20 +52,28 @@ fn push_no_document(words: &mut Words, bytes: &[u8], e: &toml::de::Error) {
 /// Appends the line in which a byte stands.
 fn push_line(words: &mut Words, bytes: &[u8], start: usize) {
     let before = bytes.get(..start).unwrap_or(b"");
-    let begin = match before.iter().rposition(|byte| *byte == b'\n') {
-        Some(last) => last.saturating_add(1),
-        None => 0,
-    };
-    let rest = bytes.get(begin..).unwrap_or(b"");
+    let rest = bytes.get(last_line(before)..).unwrap_or(b"");
     words.number("where: hierarchy, line ", feeds(before).saturating_add(1));
     words.bytes(": ", first_line(rest));
     words.text("\n");
 }
 
+/// Where the last line begins.
+fn last_line(bytes: &[u8]) -> usize {
+    for place in (0..bytes.len()).rev() {
+        if bytes[place] == b'\n' {
+            return place + 1;
+        }
+    }
+    0
+}
+
 /// The bytes before the first line feed.
 fn first_line(bytes: &[u8]) -> &[u8] {
-    match bytes.iter().position(|byte| *byte == b'\n') {
-        Some(end) => bytes.get(..end).unwrap_or(b""),
-        None => bytes,
+    for place in 0..bytes.len() {
+        if bytes[place] == b'\n' {
+            return &bytes[..place];
+        }
     }
+    bytes
 }

@@ -15,14 +15,20 @@ impl<'a> Named<'a> {
     /// The tables by their texts at the key, the empty one where there is none. The words keep that
     /// memory was refused.
     pub(crate) fn of(words: &mut Words, tables: &'a [Value], key: &str) -> Self {
-        let mut places = HashMap::new(words.alloc());
+        let mut named = Named {
+            places: HashMap::new(words.alloc()),
+        };
         for number in 0..tables.len() {
-            let name = text_at(&tables[number], key);
-            if !places.contains_key(name) && places.insert(name, number).is_err() {
-                words.refuse();
-            }
+            named.add(words, text_at(&tables[number], key), number);
         }
-        Named { places }
+        named
+    }
+
+    /// Keeps that the table of this number has the text, where none before it has.
+    fn add(&mut self, words: &mut Words, name: &'a str, number: usize) {
+        if !self.places.contains_key(name) && self.places.insert(name, number).is_err() {
+            words.refuse();
+        }
     }
 
     /// The first table that has the text.

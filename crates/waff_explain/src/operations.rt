@@ -102,13 +102,11 @@ fn flaw_of_two<'a>(
     first: &'a str,
     second: &'a str,
 ) -> Option<Flaw<'a>> {
-    if verb == "set" || verb == "add" {
-        return least(cell_flaw(layout, first), number_flaw(second));
+    match verb {
+        "set" | "add" => least(cell_flaw(layout, first), number_flaw(second)),
+        "copy" | "swap" => least(cell_flaw(layout, first), cell_flaw(layout, second)),
+        _ => Some(Flaw::Words),
     }
-    if verb == "copy" || verb == "swap" {
-        return least(cell_flaw(layout, first), cell_flaw(layout, second));
-    }
-    Some(Flaw::Words)
 }
 
 fn least<'a>(one: Option<Flaw<'a>>, other: Option<Flaw<'a>>) -> Option<Flaw<'a>> {

@@ -156,18 +156,29 @@ fn part(bytes: &[u8], from: u64, to: u64) -> &[u8] {
 
 /// The line ends that stand before a record, and the record without those that stand behind it.
 fn split_ends(bytes: &[u8]) -> (&[u8], &[u8]) {
-    let begin = match bytes.iter().position(|byte| !is_end(*byte)) {
-        Some(begin) => begin,
-        None => bytes.len(),
-    };
-    let end = match bytes.iter().rposition(|byte| !is_end(*byte)) {
-        Some(last) => last.saturating_add(1),
-        None => bytes.len(),
-    };
-    (
-        bytes.get(..begin).unwrap_or(b""),
-        bytes.get(begin..end).unwrap_or(b""),
-    )
+    let begin = begin_of(bytes);
+    let record = bytes.get(begin..end_of(bytes)).unwrap_or(b"");
+    (bytes.get(..begin).unwrap_or(b""), record)
+}
+
+/// Where the first byte stands that is no line end, or the end of all.
+fn begin_of(bytes: &[u8]) -> usize {
+    for place in 0..bytes.len() {
+        if !is_end(bytes[place]) {
+            return place;
+        }
+    }
+    bytes.len()
+}
+
+/// Where the last byte ends that is no line end, or 0.
+fn end_of(bytes: &[u8]) -> usize {
+    for place in (0..bytes.len()).rev() {
+        if !is_end(bytes[place]) {
+            return place + 1;
+        }
+    }
+    0
 }
 
 fn is_end(byte: u8) -> bool {
@@ -176,5 +187,11 @@ fn is_end(byte: u8) -> bool {
 
 /// How many line feeds there are.
 pub(crate) fn feeds(bytes: &[u8]) -> u64 {
-    bytes.iter().filter(|byte| **byte == b'\n').count() as u64
+    let mut feeds: u64 = 0;
+    for byte in bytes {
+        if *byte == b'\n' {
+            feeds = feeds.saturating_add(1);
+        }
+    }
+    feeds
 }

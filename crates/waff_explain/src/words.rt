@@ -89,7 +89,7 @@ impl Words {
     /// else by their numbers; the first ones of many.
     pub fn bytes(&mut self, before: &str, bytes: &[u8]) {
         self.text(before);
-        for byte in bytes.iter().take(MOST) {
+        for byte in bytes.get(..MOST).unwrap_or(bytes) {
             self.byte(*byte);
         }
         if MOST < bytes.len() {
