@@ -1,5 +1,5 @@
 -- What printed chains show of their plans, from the laws of plans.
-use Rattle.std.proofs.Common.{◌≡◌, ℕ, ◌≤◌, List, length, sym, ◌∙◌, subst}
+use Rattle.std.proofs.Common.{◌≡◌, ℕ, ◌≤◌, List, length, sym, ◌∙◌, ap, subst}
 use Rattle.waff_model.specs.Tree.{Node}
 use Rattle.waff_model.specs.Messages.{Arrivals}
 use Rattle.waff_model.specs.declared.message.Message.{Message}
@@ -9,6 +9,7 @@ use Rattle.waff_plan.specs.Obeys.{IsForward, IsLeast}
 use Rattle.waff_plan.specs.Chain.{IsPrinted}
 use Rattle.waff_plan.specs.Timetable.{timings_of}
 use Rattle.waff_plan.specs.Timing.{work_of}
+use Rattle.waff_plan.specs.declared.timing.Timing.{Timing}
 use Rattle.waff_plan.proofs.Chains.{chains_are_within_length, least_is_shortest, printed_is_as_long, printed_is_chain}
 use Rattle.waff_plan.proofs.Forward.{IsOrdered_forward}
 use Rattle.waff_plan.proofs.Ratios.{bound_is_within_ratio, bound_is_within_twice}
@@ -24,6 +25,11 @@ pub pairs_forward : (tree : List Node) (assigned : List ℕ) (messages : List Me
     → IsForward (IsOrdered tree assigned) (work_of (timings_of messages))
 pairs_forward tree assigned messages same =
     IsOrdered_forward tree assigned (work_of (timings_of messages)) (same ∙ sym (count_is messages))
+
+-- a plan of the messages has as many of them as have affinities
+pub as_many : (messages : List Message) (timings : List Timing) (assigned : List ℕ) → timings ≡ timings_of messages
+    → length assigned ≡ length messages → length timings ≡ length assigned
+as_many messages timings assigned are same = ap length are ∙ count_is messages ∙ sym same
 
 pub certified : (before : Relation) (work : Work) (start : ℕ → ℕ) (chain : List ℕ) → IsForward before work → IsLeast before work start
     → IsPrinted before work start chain → IsCertified before work start chain

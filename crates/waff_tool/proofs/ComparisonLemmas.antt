@@ -1,14 +1,19 @@
 -- Two hierarchies on one trace.
-use Rattle.std.proofs.Common.{◌≡◌, ℕ, ◌≤◌, List, inl}
+use Rattle.std.proofs.Common.{◌≡◌, ℕ, ◌≤◌, List, [], ◌∷◌, ◌++◌, decimal, inl, append_assoc, rules}
+use Rattle.std.specs.List.{join_with_byte}
 use Rattle.waff_model.specs.Layout.{Hierarchy}
+use Rattle.waff_model.specs.declared.message.Version.{Version}
+use Rattle.waff_model.specs.declared.message.Version.TheVariants.{V1, V2}
 use Rattle.waff_assign.specs.Order.{IsOrdered}
 use Rattle.waff_plan.specs.Timing.{start_of}
 use Rattle.waff_plan.specs.Laws.{LeastIsNoLonger}
 use Rattle.waff_plan.specs.Work.{Work}
+use Rattle.waff_plan.specs.declared.totals.Totals.{Totals}
+use Rattle.waff_plan_text.specs.Lines.{line_text}
 use Rattle.waff_read.specs.Traces.{Tells, trace_of}
 use Rattle.waff_read.specs.declared.trace_fault.TraceError.{TraceError}
 use Rattle.waff_read.specs.declared.trace_fault.TraceError.TheVariants as trace
-use Rattle.waff_tool.specs.Comparison.{AreModels, IsMeasured, RefusesComparison}
+use Rattle.waff_tool.specs.Comparison.{AreModels, IsMeasured, RefusesComparison, plan_fields}
 use Rattle.waff_inputs.specs.ToolErrors.{trace_error}
 use Rattle.waff_inputs.specs.declared.fault.ToolError.TheVariants as tool
 use Rattle.waff_tool.specs.declared.measures.Measured.{Measured}
@@ -56,3 +61,12 @@ trace_is_read (trace.IndexTooLarge at) e = cc e
 trace_is_read (trace.TooManyOps at) e = cc e
 trace_is_read (trace.TooManyMessages at) e = cc e
 trace_is_read (trace.Release at) e = cc e
+
+-- a line of a model's name, of what is told of two plans, and of the two sides of the bound
+pub measured_further : (version : Version) (kind : List ℕ) (plan list : Totals) (old named planned listed now : List ℕ)
+    → named ≡ old ++ kind → planned ≡ named ++ 44 ∷ join_with_byte 44 (plan_fields version plan)
+    → listed ≡ planned ++ 44 ∷ join_with_byte 44 (plan_fields version list)
+    → now ≡ listed ++ 44 ∷ (decimal list.left ++ 44 ∷ (decimal list.right ++ 10 ∷ []))
+    → now ≡ old ++ line_text (kind ∷ plan_fields version plan ++ plan_fields version list ++ decimal list.left ∷ decimal list.right ∷ [])
+measured_further V1 kind plan list old named planned listed now one two three four = rw (four, three, two, one) (search (rules, append_assoc))
+measured_further V2 kind plan list old named planned listed now one two three four = rw (four, three, two, one) (search (rules, append_assoc))

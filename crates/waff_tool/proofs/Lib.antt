@@ -12,6 +12,7 @@ mod OwnPlanLaws
 mod RankLaws
 mod RankLemmas
 mod RateLaws
+mod ResultLemmas
 mod StateLines
 mod TextUniqueness
 mod WaitsTexts

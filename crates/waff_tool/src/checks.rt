@@ -13,7 +13,7 @@ use std::io::Write;
 use std::thread::Threads;
 use waff_assign::Case;
 use waff_check::{GivenPlan, Verdict, check, read_plan};
-use waff_inputs::{Accepted, ToolError, accept, write_text};
+use waff_inputs::{Accepted, ToolError, accept, deliver};
 
 /// Writes the verdict on the plan that the text gives for the trace under the hierarchy, and
 /// answers it. The pairs of messages are tested in threads. Nothing is written before the whole
@@ -33,7 +33,7 @@ pub fn check_text<R: Threads + Sync, W: Write>(
 {
     let verdict = made_verdict(rt, alloc, hierarchy, trace, plan)?;
     let line = made_line(alloc, verdict)?;
-    write_text(writer, line.as_bytes())?;
+    deliver(writer, Ok(line))?;
     Ok(verdict)
 }
 

@@ -3,6 +3,7 @@ ghost use Rattle.std.specs.Prelude.{◌≡◌, ◌≢◌, Ok, ℕ, List, IfOk, I
 ghost use Rattle.std.specs.Prelude.{string_bytes};
 ghost use Rattle.waff_model.specs.Layout.{SameSpaces};
 ghost use Rattle.waff_model.specs.Messages.{sizes_of};
+ghost use Rattle.waff_assign.specs.Lowest.{IsAssignment};
 ghost use Rattle.waff_plan.specs.Bound.{IsWorkers};
 ghost use Rattle.waff_read.specs.Hierarchies.{hierarchy_of};
 ghost use Rattle.waff_tool.specs.Comparison.{AreHierarchies, AreModels, IsCompared, IsCompareText};
@@ -159,15 +160,41 @@ fn compared_text(
         assigned: &fine,
         trace,
     };
-    let of_classical = measure(alloc, classical, &under_classical, k)?;
-    let of_hierarchical = measure(alloc, hierarchical, &under_hierarchical, k)?;
-    refined_is_no_longer();
-    let refined = refines(
-        under_hierarchical.tree,
-        &fine,
-        under_classical.tree,
-        &coarse,
+    let text = cases_text(
+        alloc,
+        classical,
+        hierarchical,
+        &under_classical,
+        &under_hierarchical,
+        k,
     );
-    let version = trace.version();
+    drop(fine);
+    drop(coarse);
+    text
+}
+
+/// The text that compares the models for k workers, each with its case of the same trace.
+fn cases_text(
+    alloc: Global,
+    classical: &Layout,
+    hierarchical: &Layout,
+    coarse: &Case<'_>,
+    fine: &Case<'_>,
+    k: u32,
+) -> Result<String, AllocError>
+    requires tree { coarse.now.tree.now ≡ classical.now.tree }
+    requires fine_tree { fine.now.tree.now ≡ hierarchical.now.tree }
+    requires trace { fine.now.trace.now ≡ coarse.now.trace.now }
+    requires workers { IsWorkers k }
+    ensures { IfOk result (λ text.
+        IsAssignment classical.now coarse.now.trace.now.messages coarse.now.assigned.now
+        → IsAssignment hierarchical.now coarse.now.trace.now.messages fine.now.assigned.now
+        → IsCompared classical.now hierarchical.now coarse.now.trace.now k (string_bytes text)) }
+{
+    let of_classical = measure(alloc, classical, coarse, k)?;
+    let of_hierarchical = measure(alloc, hierarchical, fine, k)?;
+    refined_is_no_longer();
+    let refined = refines(fine.tree, fine.assigned, coarse.tree, coarse.assigned);
+    let version = coarse.trace.version();
     comparison_text(alloc, version, k, &of_classical, &of_hierarchical, refined)
 }

@@ -19,7 +19,7 @@ use std::thread::Threads;
 use waff_assign::{Case, assign};
 use waff_check::{GivenPlan, PlanTextError, Verdict, read_plan};
 use waff_explain::{hierarchy_words, plan_text_words, sizes_words, trace_words, verdict_words};
-use waff_inputs::{ToolError, fault_status, fault_text, write_text};
+use waff_inputs::{ToolError, deliver, fault_status, fault_text};
 use waff_model::{Layout, Trace};
 use waff_read::{HierError, TraceError, read_hierarchy, read_trace};
 
@@ -69,9 +69,9 @@ pub fn explain_text<R: Threads + Sync, W: Write>(
         (option_copied plan.entry) explained text)
         RefusesWork (W.contents writer.old) (W.contents writer.new) result }
 {
-    let made = explain(rt, alloc, hierarchy, trace, plan)?;
-    write_text(writer, made.text.as_bytes())?;
-    Ok(made.explained)
+    let Explanation { explained, text } = explain(rt, alloc, hierarchy, trace, plan)?;
+    deliver(writer, Ok(text))?;
+    Ok(explained)
 }
 
 /// The explanation of the files, of which the hierarchy is read first.
@@ -109,7 +109,7 @@ fn refuse_hierarchy(
         HierError::Memory => return Err(AllocError),
         _ => ToolError::Hier { file: 1, fault },
     };
-    let words = hierarchy_words(alloc, hierarchy, fault)?;
+    let words = hierarchy_words(alloc, hierarchy, fault);
     tell(alloc, Explained::Fault(error), words)
 }
 
@@ -128,7 +128,7 @@ fn explain_under<R: Threads + Sync>(
 {
     match trace {
         Some(trace) => explain_trace(rt, alloc, layout, trace, plan),
-        None => tell(alloc, Explained::Well, sizes_words(alloc, layout, None)?),
+        None => tell(alloc, Explained::Well, sizes_words(alloc, layout, None)),
     }
 }
 
@@ -172,7 +172,7 @@ fn refuse_trace(
         TraceError::Memory => return Err(AllocError),
         _ => ToolError::Trace(fault),
     };
-    let words = trace_words(alloc, layout, trace, fault)?;
+    let words = trace_words(alloc, layout, trace, fault);
     tell(alloc, Explained::Fault(error), words)
 }
 
@@ -196,7 +196,7 @@ fn explain_read<R: Threads + Sync>(
         None => tell(
             alloc,
             Explained::Well,
-            sizes_words(alloc, layout, Some(trace))?,
+            sizes_words(alloc, layout, Some(trace)),
         ),
     }
 }
@@ -271,7 +271,7 @@ fn refuse_plan(
         PlanTextError::Memory => return Err(AllocError),
         _ => ToolError::PlanText(fault),
     };
-    let words = plan_text_words(alloc, trace, plan, fault)?;
+    let words = plan_text_words(alloc, trace, plan, fault);
     tell(alloc, Explained::Fault(error), words)
 }
 
@@ -296,19 +296,41 @@ fn explain_verdict<R: Threads + Sync>(
         made.explained (string_bytes made.text)) }
 {
     let verdict = verdict_of(rt, alloc, case, given)?;
-    let mut words = verdict_words(alloc, case, given, plan, verdict)?;
-    if verdict_status(&verdict) == 0 {
-        words.push_str(sizes_words(alloc, layout, Some(case.trace))?.as_str())?;
-    }
+    let words = all_words(alloc, layout, case, given, plan, verdict);
     tell(alloc, Explained::Verdict(verdict), words)
 }
 
-/// The explanation whose text is the line that tells what is explained, and then these words.
-fn tell(alloc: Global, explained: Explained, words: String) -> Result<Explanation, AllocError>
+/// The words for a verdict, and how much there is where it tells no fault.
+fn all_words(
+    alloc: Global,
+    layout: &Layout,
+    case: &Case<'_>,
+    given: &GivenPlan,
+    plan: &[u8],
+    verdict: Verdict,
+) -> Result<String, AllocError>
+    requires rows { length given.now.rows ≡ length case.now.trace.now.messages }
+{
+    let mut words = verdict_words(alloc, case, given, plan, verdict)?;
+    if verdict_status(&verdict) == 0 {
+        let sizes = sizes_words(alloc, layout, Some(case.trace))?;
+        words.push_str(sizes.as_str())?;
+    }
+    Ok(words)
+}
+
+/// The explanation whose text is the line that tells what is explained, and then these words, if
+/// they could be made.
+fn tell(
+    alloc: Global,
+    explained: Explained,
+    words: Result<String, AllocError>,
+) -> Result<Explanation, AllocError>
     ensures { IfOk result (λ made. (hierarchy : List ℕ) (trace plan : Option (List ℕ))
         → IsExplained hierarchy trace plan explained
         → IsExplanation hierarchy trace plan made.explained (string_bytes made.text)) }
 {
+    let words = words?;
     let mut text = made_first_line(alloc, explained)?;
     text.push_str(words.as_str())?;
     drop(words);

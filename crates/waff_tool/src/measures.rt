@@ -1,7 +1,6 @@
 //! What is told of a trace under one hierarchy, and the text that tells it of two.
-ghost use Rattle.std.specs.Prelude.{◌≡◌, [], ◌∷◌, ◌++◌, ℕ, IfOk, List, None, OnOk};
-ghost use Rattle.std.specs.Prelude.{Some, decimal, string_bytes};
-ghost use Rattle.waff_model.specs.declared.message.Version.TheVariants.{V1, V2};
+ghost use Rattle.std.specs.Prelude.{◌≡◌, ◌∷◌, ℕ, IfOk, List, None, OnOk, Some, string_bytes};
+ghost use Rattle.std.specs.List.{join_with_byte};
 ghost use Rattle.waff_assign.specs.Case.{pairs_of};
 ghost use Rattle.waff_plan.specs.Bound.{IsWorkers};
 ghost use Rattle.waff_plan.specs.Timetable.{work_of_messages};
@@ -128,49 +127,21 @@ fn push_measured(text: &mut String, version: Version, measured: &Measured) -> Re
     ensures { OnOk result (Adds text.old text.new
         (line_text (measured_line version measured.now))) }
 {
-    let kind = kind_name(measured.kind);
+    text.push_str(kind_name(measured.kind))?;
+    push_plan(text, version, &measured.unlimited)?;
+    push_plan(text, version, &measured.listed)?;
+    writeln!(text, ",{},{}", measured.listed.left, measured.listed.right)
+}
+
+/// Appends what is told of one plan, with a comma before each field.
+fn push_plan(text: &mut String, version: Version, plan: &Totals) -> Result<(), AllocError>
+    ensures { OnOk result (Adds text.old text.new
+        (44 ∷ join_with_byte 44 (plan_fields version plan.now))) }
+{
     match version {
-        Version::V1 => push_first(text, kind, &measured.unlimited, &measured.listed),
-        Version::V2 => push_second(text, kind, &measured.unlimited, &measured.listed),
+        Version::V1 => write!(text, ",{},{}", plan.length, plan.cost),
+        Version::V2 => write!(text, ",{},{},{}", plan.length, plan.release, plan.cost),
     }
-}
-
-/// Appends the line of one hierarchy for a trace of the first version.
-fn push_first(text: &mut String, kind: &str, plan: &Totals, list: &Totals) -> Result<(), AllocError>
-    ensures { OnOk result (Adds text.old text.new
-        (line_text (kind.now ∷ plan_fields V1 plan.now ++ plan_fields V1 list.now
-        ++ decimal list.now.left ∷ decimal list.now.right ∷ []))) }
-{
-    writeln!(
-        text,
-        "{kind},{},{},{},{},{},{}",
-        plan.length, plan.cost, list.length, list.cost, list.left, list.right
-    )
-}
-
-/// Appends the line of one hierarchy for a trace of the second version.
-fn push_second(
-    text: &mut String,
-    kind: &str,
-    plan: &Totals,
-    list: &Totals,
-) -> Result<(), AllocError>
-    ensures { OnOk result (Adds text.old text.new
-        (line_text (kind.now ∷ plan_fields V2 plan.now ++ plan_fields V2 list.now
-        ++ decimal list.now.left ∷ decimal list.now.right ∷ []))) }
-{
-    writeln!(
-        text,
-        "{kind},{},{},{},{},{},{},{},{}",
-        plan.length,
-        plan.release,
-        plan.cost,
-        list.length,
-        list.release,
-        list.cost,
-        list.left,
-        list.right
-    )
 }
 
 /// The name of a model.

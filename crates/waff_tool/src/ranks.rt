@@ -229,15 +229,15 @@ fn rank_planned(
         case: *case,
         plan: &plan,
     };
-    let listed = list_figures_for(alloc, &planned, rule, k)?;
-    let ranked = Ranked {
+    let listed = list_figures_for(alloc, &planned, rule, k);
+    let length = plan.length();
+    drop(plan);
+    Ok(Ranked {
         kind: layout.kind(),
         affinities: case.tree.len(),
-        length: plan.length(),
-        listed,
-    };
-    drop(plan);
-    Ok(ranked)
+        length,
+        listed: listed?,
+    })
 }
 
 /// The lines of hierarchies.

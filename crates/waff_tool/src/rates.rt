@@ -20,7 +20,7 @@ use std::thread::Threads;
 use waff_assign::Case;
 use waff_check::{GivenPlan, Verdict, check, read_plan};
 use waff_figures::{Figures, figures_of, push_rate};
-use waff_inputs::{Accepted, ToolError, accept, write_text};
+use waff_inputs::{Accepted, ToolError, accept, deliver};
 use waff_plan::unlimited::plan;
 
 /// The verdict on a plan, and the text that tells how good the plan is.
@@ -44,9 +44,9 @@ pub fn rate_text<R: Threads + Sync, W: Write>(
         (RefusesCheck hierarchy.now trace.now plan.now)
         (W.contents writer.old) (W.contents writer.new) result }
 {
-    let rating = made_rating(rt, alloc, hierarchy, trace, plan)?;
-    write_text(writer, rating.text.as_bytes())?;
-    Ok(rating.verdict)
+    let Rating { verdict, text } = made_rating(rt, alloc, hierarchy, trace, plan)?;
+    deliver(writer, Ok(text))?;
+    Ok(verdict)
 }
 
 /// The rating of the plan of the text. The hierarchy is read first, then the trace.

@@ -67,8 +67,9 @@ fn swept_text(
 {
     let case = accepted.case();
     let plan = plan(alloc, case.tree, case.assigned, case.trace)?;
-    let listed = list_figures(alloc, &Planned { case, plan: &plan }, rule, workers)?;
     let unlimited = figures_of(alloc, &plan, None, plan.length())?;
+    let planned = Planned { case, plan: &plan };
+    let listed = list_figures(alloc, &planned, rule, workers)?;
     let text = figures_text(alloc, listed.as_slice(), &unlimited);
     drop(listed);
     drop(plan);

@@ -88,7 +88,8 @@ fn unlimited_waits(alloc: Global, accepted: &Accepted, by_name: bool) -> Result<
     let case = accepted.case();
     let plan = plan(alloc, case.tree, case.assigned, case.trace)?;
     ticks_add_up();
-    let text = waiting_text(alloc, &Planned { case, plan: &plan }, by_name);
+    let planned = Planned { case, plan: &plan };
+    let text = waiting_text(alloc, &planned, by_name);
     drop(plan);
     text
 }
@@ -113,7 +114,8 @@ fn worker_waits(
     needs_make_the_same_plans();
     ticks_add_up();
     let plan = made.plan();
-    let text = waiting_text(alloc, &Planned { case, plan }, by_name);
+    let planned = Planned { case, plan };
+    let text = waiting_text(alloc, &planned, by_name);
     drop(made);
     text
 }

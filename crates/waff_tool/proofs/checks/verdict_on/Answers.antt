@@ -1,5 +1,11 @@
-use Rattle.std.proofs.Common.{sym}
+use Rattle.std.proofs.Common.{◌∙◌, sym}
 use Rattle.waff_tool.proofs.checks.verdict_on.Goals as goal
+
+pub verdict_of-requires-clause-rows : goal.verdict_of-requires-clause-rows
+verdict_of-requires-clause-rows g c κs lives = c.in_ok-given.ensures.messages ∙ c.len.ensures.count
+
+pub verdict_of-requires-clause-version : goal.verdict_of-requires-clause-version
+verdict_of-requires-clause-version g c κs lives = c.in_ok-given.ensures.version ∙ c.version.ensures
 
 pub returns-clause-made : goal.returns-clause-made
 returns-clause-made g c hierarchy trace accepts =

@@ -1,4 +1,8 @@
+use Rattle.std.proofs.Common.{◌∙◌}
 use Rattle.waff_tool.proofs.draws.picture_on.Goals as goal
+
+pub pictured-requires : goal.pictured-requires
+pictured-requires c = record { rows = c.in_ok-given.ensures.messages ∙ c.len.ensures.count }
 
 pub returns-clause-made : goal.returns-clause-made
 returns-clause-made c hierarchy trace accepts =

@@ -2,8 +2,8 @@ use Rattle.std.proofs.Common.{Some, None}
 use Rattle.std.proofs.lemmas.Result.{IfOk-weaker}
 use Rattle.waff_tool.proofs.explains.explain_read.Goals as goal
 
-pub returns-in_ok-sizes_words-in-None : goal.returns-in_ok-sizes_words-in-None
-returns-in_ok-sizes_words-in-None g c =
+pub returns-in-None : goal.returns-in-None
+returns-in-None g c =
     IfOk-weaker c.tell.result _ _
     (λ made tells hierarchy trace is_layout is_trace.
     rw c.in-None.is

@@ -1,9 +1,17 @@
+use Rattle.std.proofs.Common.{◌∙◌}
 use Rattle.waff_assign.specs.Case.{pairs_of}
 use Rattle.waff_plan.specs.Timetable.{work_of_messages}
 use Rattle.waff_plan.specs.Timing.{work_of, start_of}
 use Rattle.waff_list.specs.declared.rule.Rule.TheVariants.{Arrival}
-use Rattle.waff_tool.proofs.CertificateLemmas.{bounded, pairs_forward}
+use Rattle.waff_tool.proofs.CertificateLemmas.{as_many, bounded, pairs_forward}
 use Rattle.waff_tool.proofs.measures.list_totals.Goals as goal
+
+pub list_plan-requires-clause-lengths : goal.list_plan-requires-clause-lengths
+list_plan-requires-clause-lengths c = c.in_ok-needs.ensures.needs.count ∙ c.args.case.now.lengths
+
+pub list_chain-requires-clause-lengths : goal.list_chain-requires-clause-lengths
+list_chain-requires-clause-lengths c =
+    as_many c.args.case.now.trace.now.messages _ _ c.in_ok-made.ensures.timings c.args.case.now.lengths
 
 pub returns : goal.returns
 returns c =

@@ -1,8 +1,12 @@
 use Rattle.waff_assign.specs.Case.{pairs_of}
 use Rattle.waff_plan.specs.Timetable.{work_of_messages}
 use Rattle.waff_plan.specs.Timing.{start_of}
-use Rattle.waff_tool.proofs.CertificateLemmas.{certified, pairs_forward}
+use Rattle.waff_tool.proofs.CertificateLemmas.{as_many, certified, pairs_forward}
 use Rattle.waff_tool.proofs.measures.unlimited_totals.Goals as goal
+
+pub chain-requires-clause-lengths : goal.chain-requires-clause-lengths
+chain-requires-clause-lengths c =
+    as_many c.args.case.now.trace.now.messages _ _ c.in_ok-plan.ensures.timings c.args.case.now.lengths
 
 pub returns : goal.returns
 returns c =

@@ -1,8 +1,9 @@
-use Rattle.std.proofs.Common.{◌≡◌, ℕ, List, string_bytes, ◌∙◌, ap}
+use Rattle.std.proofs.Common.{◌≡◌, ℕ, List, length, string_bytes, sym, ◌∙◌, ap, subst}
 use Rattle.std.proofs.lemmas.Result.{IfOk-weaker}
 use Rattle.waff_model.specs.declared.message.Version.{Version}
 use Rattle.waff_model.specs.Tree.{Node}
 use Rattle.waff_assign.specs.Order.{IsOrdered}
+use Rattle.waff_plan.specs.Chain.{IsListed}
 use Rattle.waff_plan.specs.declared.timing.Timing.{Timing}
 use Rattle.waff_plan.specs.Timetable.{timings_of}
 use Rattle.waff_plan.specs.Timing.{work_of, start_of}
@@ -10,8 +11,22 @@ use Rattle.waff_plan_text.specs.Lines.{text_of}
 use Rattle.waff_plan_text.specs.Spelling.{unlimited_lines}
 use Rattle.waff_inputs.specs.Inputs.{Accepts}
 use Rattle.waff_tool.specs.PlanText.{IsPlanText, work_of_trace}
-use Rattle.waff_tool.proofs.CertificateLemmas.{as_accepted, certified, pairs_forward}
+use Rattle.waff_tool.proofs.CertificateLemmas.{as_accepted, as_many, certified, pairs_forward}
 use Rattle.waff_tool.proofs.plans.made_unlimited_text.Goals as goal
+
+pub chain-requires-clause-lengths : goal.chain-requires-clause-lengths
+chain-requires-clause-lengths c =
+    as_many c.case-case.result.trace.now.messages _ _ c.in_ok-plan.ensures.timings c.case-case.result.lengths
+
+pub invariant_of-planned : goal.invariant_of-planned
+invariant_of-planned c = record {
+  timings = c.in_ok-plan.ensures.timings;
+  lengths = as_many c.case-case.result.trace.now.messages _ _ c.in_ok-plan.ensures.timings c.case-case.result.lengths;
+}
+
+pub unlimited_text-text-requires : goal.unlimited_text-text-requires
+unlimited_text-text-requires c =
+    record { chain = subst (λ ch. IsListed (length c.in_ok-plan.plan.timings) ch) (sym c.messages.ensures) c.in_ok-chain.ensures.listed }
 
 pub returns : goal.returns
 returns c =

@@ -1,15 +1,41 @@
-use Rattle.std.proofs.Common.{◌≡◌, ℕ, List, Result, Ok, Err, IfOk, string_bytes, ◌∙◌, ap}
+use Rattle.std.proofs.Common.{◌≡◌, ℕ, List, Result, Ok, Err, IfOk, length, string_bytes, sym, ◌∙◌, ap, subst}
 use Rattle.waff_model.specs.declared.message.Version.{Version}
 use Rattle.waff_model.specs.Tree.{Node}
 use Rattle.waff_assign.specs.Order.{IsOrdered}
+use Rattle.waff_plan.specs.Chain.{IsListed}
 use Rattle.waff_plan.specs.Timetable.{Timetable}
 use Rattle.waff_plan.specs.declared.timing.Timing.{Timing}
 use Rattle.waff_plan.specs.Timing.{work_of, start_of}
 use Rattle.waff_plan_text.specs.Lines.{text_of}
 use Rattle.waff_plan_text.specs.Spelling.{worker_lines}
 use Rattle.waff_tool.specs.PlanText.{work_of_trace}
-use Rattle.waff_tool.proofs.CertificateLemmas.{as_accepted, bounded, pairs_forward}
+use Rattle.waff_tool.proofs.CertificateLemmas.{as_accepted, as_many, bounded, pairs_forward}
 use Rattle.waff_tool.proofs.plans.made_worker_text.Goals as goal
+
+pub list_plan_by-requires-clause-lengths : goal.list_plan_by-requires-clause-lengths
+list_plan_by-requires-clause-lengths c = c.in_ok-needs.ensures.needs.count ∙ c.case-case.result.lengths
+
+pub list_chain-requires-clause-lengths : goal.list_chain-requires-clause-lengths
+list_chain-requires-clause-lengths c =
+    as_many c.case-case.result.trace.now.messages _ _ c.in_ok-made.ensures.timings c.case-case.result.lengths
+
+pub list_chain-requires-clause-known : goal.list_chain-requires-clause-known
+list_chain-requires-clause-known c = c.case-case.result.known
+
+pub invariant_of-planned : goal.invariant_of-planned
+invariant_of-planned c =
+    let timings = ap (λ (t : Timetable). t.timings) c.plan-plan.ensures.plan ∙ c.in_ok-made.ensures.timings in
+    record { timings = timings; lengths = as_many c.case-case.result.trace.now.messages _ _ timings c.case-case.result.lengths }
+
+pub worker_text-text-requires-clause-seats : goal.worker_text-text-requires-clause-seats
+worker_text-text-requires-clause-seats c =
+    ap length c.seats.ensures.seats ∙ c.seats.ensures.seating.seats_count ∙ sym (ap (λ (t : Timetable). length t.timings) c.plan-plan.ensures.plan)
+
+pub worker_text-text-requires-clause-chain : goal.worker_text-text-requires-clause-chain
+worker_text-text-requires-clause-chain c =
+    let made = c.in_ok-made.made in
+    subst (λ (t : Timetable). IsListed (length t.timings) c.messages.result.now) (sym c.plan-plan.ensures.plan)
+    (subst (λ ch. IsListed (length made.table.timings) ch) (sym c.messages.ensures) c.in_ok-chain.ensures.listed)
 
 on_ok : {A E : Type 0} (P Q : A → Type 0) (r : Result A E) → IfOk r P → ((a : A) → P a → Q a) → IfOk r Q
 on_ok P Q (Ok a) h f = f a h

@@ -1,4 +1,18 @@
+use Rattle.std.proofs.Common.{◌∙◌, sym}
 use Rattle.waff_tool.proofs.rates.rating_on.Goals as goal
+
+pub check-requires-clause-claim : goal.check-requires-clause-claim
+check-requires-clause-claim g c κs lives = record {
+  lengths = sym c.case-case.result.lengths;
+  rows = c.in_ok-given.ensures.messages ∙ c.len.ensures.count;
+  known = c.case-case.result.known;
+}
+
+pub check-requires-clause-version : goal.check-requires-clause-version
+check-requires-clause-version g c κs lives = c.in_ok-given.ensures.version ∙ c.version.ensures
+
+pub given_figures-requires : goal.given_figures-requires
+given_figures-requires g c = record { rows = c.in_ok-given.ensures.messages ∙ c.len.ensures.count }
 
 pub returns-clause-made : goal.returns-clause-made
 returns-clause-made g c hierarchy trace accepts =

@@ -4,7 +4,17 @@ use Rattle.waff_plan_text.specs.Lines.{text_of}
 use Rattle.waff_figures.specs.Sweep.{sweep_lines}
 use Rattle.waff_inputs.specs.Inputs.{Accepts}
 use Rattle.waff_tool.specs.Figures.{IsSweepText}
+use Rattle.waff_tool.proofs.CertificateLemmas.{as_many}
 use Rattle.waff_tool.proofs.sweeps.swept_text.Goals as goal
+
+pub invariant_of-planned : goal.invariant_of-planned
+invariant_of-planned c = record {
+  timings = c.in_ok-plan.ensures.timings;
+  lengths = as_many c.case-case.result.trace.now.messages _ _ c.in_ok-plan.ensures.timings c.case-case.result.lengths;
+}
+
+pub list_figures-requires-clause-least : goal.list_figures-requires-clause-least
+list_figures-requires-clause-least c = c.in_ok-plan.ensures.least
 
 pub returns : goal.returns
 returns c =

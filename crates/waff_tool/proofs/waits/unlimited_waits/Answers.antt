@@ -4,9 +4,15 @@ use Rattle.waff_list.specs.declared.rule.Rule.{Rule}
 use Rattle.waff_inputs.specs.Inputs.{Accepts}
 use Rattle.waff_tool.specs.PlanText.{work_of_trace}
 use Rattle.waff_tool.specs.WaitsText.{IsWaitsText}
-use Rattle.waff_tool.proofs.CertificateLemmas.{as_accepted}
+use Rattle.waff_tool.proofs.CertificateLemmas.{as_accepted, as_many}
 use Rattle.waff_tool.proofs.WaitsTexts.{IsTold, told_text}
 use Rattle.waff_tool.proofs.waits.unlimited_waits.Goals as goal
+
+pub invariant_of-planned : goal.invariant_of-planned
+invariant_of-planned c = record {
+  timings = c.in_ok-plan.ensures.timings;
+  lengths = as_many c.case-case.result.trace.now.messages _ _ c.in_ok-plan.ensures.timings c.case-case.result.lengths;
+}
 
 pub returns : goal.returns
 returns c =

@@ -1,13 +1,21 @@
-use Rattle.std.proofs.Common.{ℕ, List, Some, string_bytes, subst}
+use Rattle.std.proofs.Common.{ℕ, List, Some, string_bytes, ◌∙◌, ap, subst}
 use Rattle.std.proofs.lemmas.Result.{IfOk-weaker}
 use Rattle.waff_plan.specs.Timetable.{Timetable}
 use Rattle.waff_plan.specs.Timing.{start_of, work_of}
 use Rattle.waff_inputs.specs.Inputs.{Accepts}
 use Rattle.waff_tool.specs.PlanText.{work_of_trace}
 use Rattle.waff_tool.specs.WaitsText.{IsWaitsText}
-use Rattle.waff_tool.proofs.CertificateLemmas.{as_accepted}
+use Rattle.waff_tool.proofs.CertificateLemmas.{as_accepted, as_many}
 use Rattle.waff_tool.proofs.WaitsTexts.{IsTold, told_text}
 use Rattle.waff_tool.proofs.waits.worker_waits.Goals as goal
+
+pub list_plan_by-requires-clause-lengths : goal.list_plan_by-requires-clause-lengths
+list_plan_by-requires-clause-lengths c = c.in_ok-needs.ensures.needs.count ∙ c.case-case.result.lengths
+
+pub invariant_of-planned : goal.invariant_of-planned
+invariant_of-planned c =
+    let timings = ap (λ (t : Timetable). t.timings) c.plan-plan.ensures.plan ∙ c.in_ok-made.ensures.timings in
+    record { timings = timings; lengths = as_many c.case-case.result.trace.now.messages _ _ timings c.case-case.result.lengths }
 
 pub returns : goal.returns
 returns c =
