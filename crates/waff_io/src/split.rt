@@ -44,7 +44,7 @@ fn line_feed(text: &[u8]) -> Option<usize>
 fn ends_hierarchy(line: &[u8]) -> bool
     ensures { result ≡ is_mark line.now }
 {
-    matches!(line, b"---" | b"---\n" | b"---\r\n")
+    line == b"---".as_slice() || line == b"---\n".as_slice() || line == b"---\r\n".as_slice()
 }
 
 #[cfg(test)]

@@ -1,10 +1,11 @@
 -- Places given from the first affinity to the last, by their shares.
-use Rattle.std.proofs.Common.{◌≡◌, ℕ, ◌+◌, ◌<◌, ◌≤◌, inl, inr, List, [], ◌∷◌, ◌++◌, length, Some, None, refl, ◌∙◌, sym, arith, length-append}
+use Rattle.std.proofs.Common.{◌≡◌, ℕ, ◌+◌, ◌<◌, ◌≤◌, inl, inr, List, [], ◌∷◌, ◌++◌, length, get_or, Some, None, refl, ap, ◌∙◌, sym, arith, length-append}
 use Rattle.std.proofs.lemmas.Bool.{cases_lt}
 use Rattle.std.proofs.lemmas.List.{get_or_push, get_or_append_left}
 use Rattle.waff_model.specs.Tree.{Node, parent_of, IsRooted}
 use Rattle.waff_model.specs.declared.preorder.Span.{Span}
 use Rattle.waff_model.specs.declared.preorder.Share.{Share}
+use Rattle.waff_model.proofs.PreorderLemmas.{place_at_any}
 use Rattle.waff_model.specs.Preorder.{span_at, share_at, AreShares, AreSpans}
 
 -- the place of the affinity b follows from that of its parent
@@ -53,6 +54,13 @@ module _ (tree : List Node) (rooted : IsRooted tree) (shares : List Share) (shar
       let up : p < b = rooted.earlier b p parent in
       let placed = are.each p up in
       (omega (arith, are.count), omega (arith, placed.end, placed.few, shared.within b p within parent))
+
+  -- and so where the place of the parent is read
+  pub child_fits : (b p : ℕ) (up : Span) → up ≡ get_or spans p up → ArePlacedBefore tree shares spans b → b < length tree → parent_of tree b ≡ Some p → up.first + (share_at shares b).offset + (share_at shares b).size ≤ length tree
+  child_fits b p up read are within parent =
+      let few = child_few b p are within parent in
+      let same = read ∙ place_at_any spans p up few.0 in
+      omega (arith, few.1, ap (λ (span : Span). span.first) same)
 
   -- the place that follows from the parent's
   pub parent_placed : (b p first : ℕ) → ArePlacedBefore tree shares spans b → b < length tree → parent_of tree b ≡ Some p → first ≡ (span_at spans p).first + (share_at shares b).offset → IsPlaced tree shares spans b (record { parent = Some p; first = first; end = first + (share_at shares b).size })

@@ -14,7 +14,7 @@ use Rattle.waff_model.specs.Parcel.{owners_in, cells_ahead, cells_before, count_
 use Rattle.waff_model.specs.ParcelTable.{IsMapped, offset_at, parcel_sizes, IsParcelTable}
 use Rattle.waff_model.proofs.ParcelLemmas.{count_more, cell_numbered, length-owners_in, owner_of_number, cells_before-all}
 
-space_below : (spaces : List Space) (s i : ℕ) → i < size_at spaces s → s < length spaces
+pub space_below : (spaces : List Space) (s i : ℕ) → i < size_at spaces s → s < length spaces
 space_below [] s i within = absurd (omega arith)
 space_below (space ∷ spaces) zero i within = omega arith
 space_below (space ∷ spaces) (suc s) i within = omega (arith, space_below spaces s i within)
@@ -24,7 +24,7 @@ pub record IsRead (spaces : List Space) (s : ℕ) (space : Space) : Type 0 where
   pub size : size_at spaces s ≡ space.size
   pub owner : (index : ℕ) → owner_of spaces (record { space = s; index = index }) ≡ owner_at space index
 
-space_read : (spaces : List Space) (s : ℕ) → s < length spaces → (space : Space) → space ≡ get_or spaces s space → IsRead spaces s space
+pub space_read : (spaces : List Space) (s : ℕ) → s < length spaces → (space : Space) → space ≡ get_or spaces s space → IsRead spaces s space
 space_read [] s within space is = absurd (omega (arith, within))
 space_read (first ∷ spaces) zero within space is = record {
   size = ap (λ (sp : Space). sp.size) (sym is);

@@ -3,12 +3,14 @@
 ghost use Rattle.std.specs.List.{list_all, zip};
 ghost use Rattle.std.specs.Str.{bytes_eq};
 ghost use Rattle.std.specs.Prelude.{◌≡◌, ◌↔◌, ◌+◌, ◌<◌, ◌≤◌, ◌==◌, ◌&&◌, length, map, find};
+ghost use Rattle.std.specs.Prelude.{[], ◌∷◌, ◌++◌};
 ghost use Rattle.std.specs.Prelude.{option_map, unwrap_or, None, Some, IsTrue, IfOk, IfErr, IfSome, OnOk};
-ghost use Rattle.waff_model.specs.Tree.{number_of};
+ghost use Rattle.waff_model.specs.Tree.{IsTree, number_of};
 ghost use Rattle.waff_model.specs.Layout.{IsLayout, IsCell, SameSpaces, name_at, size_at};
 ghost use Rattle.waff_model.specs.Layout.{space_named, owner_of};
 ghost use Rattle.waff_model.specs.LayoutOf.{owners_of, map_of, space_of, hierarchy_of};
 ghost use Rattle.waff_model.specs.Parcel.{IsRun, parcel_size, offset_of};
+ghost use Rattle.waff_model.specs.ParcelTable.{IsParcelTable};
 ghost use Rattle.waff_model.specs.LayoutRefusal.{layout_refusal};
 
 use crate::cell::Cell;
@@ -61,12 +63,14 @@ impl Layout {
         ensures refused { IfErr result (λ e.
             e ≡ unwrap_or (layout_refusal tree spaces.now maps.now) LayoutError.Memory) }
     {
-        if let Some(refusal) = refusal(&tree, spaces, maps) {
-            return Err(refusal);
-        }
-        match lay_out(alloc, kind, tree, spaces, maps) {
-            Ok(layout) => Ok(layout),
-            Err(_) => Err(LayoutError::Memory),
+        match laid_out(alloc, &tree, spaces, maps) {
+            Ok((spaces, parcels)) => Ok(Layout {
+                kind,
+                tree,
+                spaces,
+                parcels,
+            }),
+            Err(refusal) => Err(refusal),
         }
     }
 
@@ -189,25 +193,46 @@ impl Layout {
     }
 }
 
-/// The layout of rows of which none is refused.
-fn lay_out(
+/// The spaces of the rows and the table of their parcels, or why the rows are refused.
+fn laid_out(
     alloc: Global,
-    kind: Kind,
-    tree: Tree,
+    tree: &Tree,
     spaces: &[SpaceSpec],
     maps: &[MapSpec],
-) -> Result<Layout, AllocError>
-    requires { layout_refusal tree spaces.now maps.now ≡ None }
-    ensures { IfOk result (λ layout. layout ≡ hierarchy_of kind tree spaces.now maps.now) }
+) -> Result<(Vec<Space>, Parcels), LayoutError>
+    requires { IsTree tree.now }
+    ensures spaces { IfOk result (λ laid.
+        laid.0.items ≡ map (space_of tree.now maps.now) spaces.now) }
+    ensures parcels { IfOk result (λ laid. IsParcelTable tree.now laid.0.items laid.1) }
+    ensures accepted { OnOk result (layout_refusal tree.now spaces.now maps.now ≡ None) }
+    ensures refused { IfErr result (λ e.
+        e ≡ unwrap_or (layout_refusal tree.now spaces.now maps.now) LayoutError.Memory) }
 {
-    let spaces = spaces_of(alloc, &tree, spaces, maps)?;
-    let parcels = parcels_of(alloc, &tree, &spaces)?;
-    Ok(Layout {
-        kind,
-        tree,
-        spaces,
-        parcels,
-    })
+    if let Some(refusal) = refusal(tree, spaces, maps) {
+        return Err(refusal);
+    }
+    match lay_out(alloc, tree, spaces, maps) {
+        Ok(laid) => Ok(laid),
+        Err(_) => Err(LayoutError::Memory),
+    }
+}
+
+/// The spaces of rows of which none is refused, and the table of their parcels.
+fn lay_out(
+    alloc: Global,
+    tree: &Tree,
+    spaces: &[SpaceSpec],
+    maps: &[MapSpec],
+) -> Result<(Vec<Space>, Parcels), AllocError>
+    requires tree { IsTree tree.now }
+    requires accepted { layout_refusal tree.now spaces.now maps.now ≡ None }
+    ensures spaces { IfOk result (λ laid.
+        laid.0.items ≡ map (space_of tree.now maps.now) spaces.now) }
+    ensures parcels { IfOk result (λ laid. IsParcelTable tree.now laid.0.items laid.1) }
+{
+    let spaces = spaces_of(alloc, tree, spaces, maps)?;
+    let parcels = parcels_of(alloc, tree, &spaces)?;
+    Ok((spaces, parcels))
 }
 
 /// Whether the spaces have the same names and sizes.
@@ -236,36 +261,38 @@ fn spaces_of(
 {
     let mut made = Vec::with_capacity(alloc, spaces.len())?;
     for space in spaces {
-        made.push(make_space(alloc, tree, maps, space)?)?;
+        add_space(&mut made, tree, maps, space)?;
     }
     Ok(made)
 }
 
-/// The space of a row, with its map.
-fn make_space(
-    alloc: Global,
+/// Appends the space of a row, with its map.
+fn add_space(
+    made: &mut Vec<Space>,
     tree: &Tree,
     maps: &[MapSpec],
     space: &SpaceSpec,
-) -> Result<Space, AllocError>
-    ensures { IfOk result (λ s. s ≡ space_of tree.now maps.now space.now) }
+) -> Result<(), AllocError>
+    ensures { OnOk result (made.new.items
+        ≡ made.old.items ++ space_of tree.now maps.now space.now ∷ []) }
 {
+    let alloc = *made.allocator();
+    let (unit, to) = match find_map(maps, space.name.as_str()) {
+        Some(map) => (
+            within(map.unit, MAX_UNIT).unwrap_or(0),
+            owners(alloc, tree, map.to.as_slice())?,
+        ),
+        None => (0, Vec::new(alloc)),
+    };
     let name = Text::of(alloc, space.name.as_str())?;
     let size = size_of(space);
-    match find_map(maps, space.name.as_str()) {
-        Some(map) => Ok(Space {
-            name,
-            size,
-            unit: within(map.unit, MAX_UNIT).unwrap_or(0),
-            to: owners(alloc, tree, map.to.as_slice())?,
-        }),
-        None => Ok(Space {
-            name,
-            size,
-            unit: 0,
-            to: Vec::new(alloc),
-        }),
-    }
+    made.push(Space {
+        name,
+        size,
+        unit,
+        to,
+    })?;
+    Ok(())
 }
 
 fn find_map<'a>(maps: &'a [MapSpec], name: &str) -> Option<&'a MapSpec>

@@ -1,6 +1,6 @@
 //! Operations of small numbers, of twelve bytes each.
 
-ghost use Rattle.std.specs.Prelude.{◌≡◌, ◌↔◌, ◌<◌, ◌^◌, IsSome, IfSome};
+ghost use Rattle.std.specs.Prelude.{◌≡◌, ◌↔◌, IsTrue, IsSome, IfSome};
 ghost use Rattle.waff_model.specs.PackedOps as packed;
 ghost use Rattle.waff_model.specs.PackedOps.{IsSmall, op_of};
 
@@ -45,43 +45,46 @@ impl PackedOp {
         ensures small { IsSome result ↔ IsSmall op }
         ensures same { IfSome result (λ packed. op_of packed ≡ op) }
     {
+        if is_small(op) {
+            Some(PackedOp::packed(op))
+        } else {
+            None
+        }
+    }
+
+    /// The operation, whose numbers are small.
+    #[inline(always)]
+    fn packed(op: Op) -> PackedOp
+        requires { IsSmall op }
+        ensures { op_of result ≡ op }
+    {
         match op {
-            Op::Set { cell, value } => {
-                let space = small_space(cell.space)?;
-                let value = small_value(value)?;
-                let index = cell.index;
-                Some(PackedOp::Set {
-                    space,
-                    index,
-                    value,
-                })
-            }
-            Op::Add { cell, value } => {
-                let space = small_space(cell.space)?;
-                let value = small_value(value)?;
-                let index = cell.index;
-                Some(PackedOp::Add {
-                    space,
-                    index,
-                    value,
-                })
-            }
-            Op::Copy { cell, source } => Some(PackedOp::Copy {
-                space: small_space(cell.space)?,
-                source_space: small_space(source.space)?,
+            Op::Set { cell, value } => PackedOp::Set {
+                space: cell.space as u8,
+                index: cell.index,
+                value: value as u32,
+            },
+            Op::Add { cell, value } => PackedOp::Add {
+                space: cell.space as u8,
+                index: cell.index,
+                value: value as u32,
+            },
+            Op::Copy { cell, source } => PackedOp::Copy {
+                space: cell.space as u8,
+                source_space: source.space as u8,
                 index: cell.index,
                 source_index: source.index,
-            }),
-            Op::Swap { cell, other } => Some(PackedOp::Swap {
-                space: small_space(cell.space)?,
-                other_space: small_space(other.space)?,
+            },
+            Op::Swap { cell, other } => PackedOp::Swap {
+                space: cell.space as u8,
+                other_space: other.space as u8,
                 index: cell.index,
                 other_index: other.index,
-            }),
-            Op::Read { cell } => Some(PackedOp::Read {
-                space: small_space(cell.space)?,
+            },
+            Op::Read { cell } => PackedOp::Read {
+                space: cell.space as u8,
                 index: cell.index,
-            }),
+            },
         }
     }
 
@@ -143,24 +146,16 @@ fn cell_at(space: u8, index: u32) -> Cell
     }
 }
 
-/// The space, where its number is small.
+/// Whether the numbers of the operation are small.
 #[inline(always)]
-fn small_space(space: u32) -> Option<u8>
-    ensures small { IsSome result ↔ space < 2 ^ 8 }
-    ensures same { IfSome result (λ small. small ≡ space) }
+fn is_small(op: Op) -> bool
+    ensures { IsTrue result ↔ IsSmall op }
 {
-    if space < 256 { Some(space as u8) } else { None }
-}
-
-/// The value, where it is small.
-#[inline(always)]
-fn small_value(value: u64) -> Option<u32>
-    ensures small { IsSome result ↔ value < 2 ^ 32 }
-    ensures same { IfSome result (λ small. small ≡ value) }
-{
-    if value < 4_294_967_296 {
-        Some(value as u32)
-    } else {
-        None
+    match op {
+        Op::Set { cell, value } => cell.space < 256 && value < 4_294_967_296,
+        Op::Add { cell, value } => cell.space < 256 && value < 4_294_967_296,
+        Op::Copy { cell, source } => cell.space < 256 && source.space < 256,
+        Op::Swap { cell, other } => cell.space < 256 && other.space < 256,
+        Op::Read { cell } => cell.space < 256,
     }
 }

@@ -3,8 +3,9 @@
 ghost use Rattle.std.specs.Prelude.{◌≡◌, ◌+◌, ◌==◌, if◌then◌else◌, ◌<◌, ◌↔◌, [], ◌∷◌, ◌++◌, length};
 ghost use Rattle.std.specs.Prelude.{option_map, unwrap_or, None, IsTrue, IfOk, IfErr, IfSome, OnOk};
 ghost use Rattle.std.specs.Prelude.{OnErr};
-ghost use Rattle.waff_model.specs.Tree.{parent_of, number_of, name_of, AtOrAbove, Excludes, IsTree};
-ghost use Rattle.waff_model.specs.Preorder.{AreNested};
+ghost use Rattle.waff_model.specs.Tree.{parent_of, number_of, name_of, AtOrAbove, Excludes, IsRooted};
+ghost use Rattle.waff_model.specs.Tree.{IsTree};
+ghost use Rattle.waff_model.specs.Preorder.{AreNested, AreSpans};
 ghost use Rattle.waff_model.specs.TreeRefusal.{node_of, refusal_of};
 
 use crate::limits::MAX_AFFINITIES;
@@ -94,12 +95,28 @@ impl TreeBuilder {
         ensures refused { IfErr result (λ e.
             e ≡ (if length self == 0 then TreeError.NoRoot else TreeError.Memory)) }
     {
-        if self.nodes.len() == 0 {
-            return Err(TreeError::NoRoot);
-        }
         let TreeBuilder { nodes } = self;
-        let spans = spans_of(&nodes).map_err(|_| TreeError::Memory)?;
-        Ok(Tree { nodes, spans })
+        match spans_or_refusal(&nodes) {
+            Ok(spans) => Ok(Tree { nodes, spans }),
+            Err(refusal) => Err(refusal),
+        }
+    }
+}
+
+/// The spans of the affinities, where there is one.
+fn spans_or_refusal(nodes: &Nodes) -> Result<Vec<Span>, TreeError>
+    requires { IsRooted nodes.now }
+    ensures spans { IfOk result (λ spans. AreSpans nodes.now spans.items) }
+    ensures some { OnOk result (0 < length nodes.now) }
+    ensures refused { IfErr result (λ e.
+        e ≡ (if length nodes.now == 0 then TreeError.NoRoot else TreeError.Memory)) }
+{
+    if nodes.len() == 0 {
+        return Err(TreeError::NoRoot);
+    }
+    match spans_of(nodes) {
+        Ok(spans) => Ok(spans),
+        Err(_) => Err(TreeError::Memory),
     }
 }
 

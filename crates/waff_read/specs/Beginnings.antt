@@ -114,8 +114,5 @@ made parts = op_of parts.verb parts.cell parts.value parts.other
 abbrev pub with_rest : {A : Type 0} → A × Bor (List ℕ) → A × List ℕ
 with_rest found = (found.0, found.1.now)
 
-abbrev pub two_with_rest : {A B : Type 0} → A × B × Bor (List ℕ) → A × B × List ℕ
-two_with_rest found = (found.0, found.1, found.2.now)
-
 abbrev pub made_with_rest : Parts × Bor (List ℕ) → Op × List ℕ
 made_with_rest found = (made found.0, found.1.now)

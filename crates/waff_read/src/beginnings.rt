@@ -25,36 +25,40 @@ fn first_cell<'t>(spaces: &SpaceTable<'_>, guess: u32, text: &'t [u8]) -> Option
     Some((Cell { space, index }, rest))
 }
 
-// The cell and the number, with a space between them, that a text begins with.
+// The parts of an operation of this verb, on the cell and the number that a text begins with, with a
+// space between them.
 #[inline(always)]
 #[tactic(auto, unfolding(crate::specs::Beginnings::cell_and_number))]
-fn cell_and_number<'t>(
+fn with_number<'t>(
     spaces: &SpaceTable<'_>,
     guess: u32,
+    verb: Verb,
     text: &'t [u8],
-) -> Option<(Cell, u64, &'t [u8])>
-    ensures { option_map beginnings.two_with_rest result
-        ≡ beginnings.cell_and_number spaces.now text.now }
+) -> Option<(Parts, &'t [u8])>
+    ensures { option_map beginnings.made_with_rest result ≡ beginnings.with_number
+        (λ cell value. beginnings.op_of verb cell value cell) spaces.now text.now }
 {
     let (cell, rest) = first_cell(spaces, guess, text)?;
     let (value, rest) = first_number(behind(rest, b" ")?)?;
-    Some((cell, value, rest))
+    Some((Parts::of(verb, cell, value, cell), rest))
 }
 
-// The two cells, with a space between them, that a text begins with.
+// The parts of an operation of this verb, on the two cells that a text begins with, with a space
+// between them.
 #[inline(always)]
 #[tactic(auto, unfolding(crate::specs::Beginnings::two_cells))]
-fn two_cells<'t>(
+fn with_other<'t>(
     spaces: &SpaceTable<'_>,
     guess: u32,
+    verb: Verb,
     text: &'t [u8],
-) -> Option<(Cell, Cell, &'t [u8])>
-    ensures { option_map beginnings.two_with_rest result
-        ≡ beginnings.two_cells spaces.now text.now }
+) -> Option<(Parts, &'t [u8])>
+    ensures { option_map beginnings.made_with_rest result ≡ beginnings.with_other
+        (λ cell other. beginnings.op_of verb cell 0 other) spaces.now text.now }
 {
     let (cell, rest) = first_cell(spaces, guess, text)?;
     let (other, rest) = first_cell(spaces, cell.space, behind(rest, b" ")?)?;
-    Some((cell, other, rest))
+    Some((Parts::of(verb, cell, 0, other), rest))
 }
 
 /// The parts of the operation that a text begins with, as far as its last word goes; the space that
@@ -69,20 +73,16 @@ pub(crate) fn first_parts<'t>(
         ≡ beginnings.first_op spaces.now text.now }
 {
     if let Some(words) = behind(text, b"set ") {
-        let (cell, value, rest) = cell_and_number(spaces, guess, words)?;
-        return Some((Parts::of(Verb::Set, cell, value, cell), rest));
+        return with_number(spaces, guess, Verb::Set, words);
     }
     if let Some(words) = behind(text, b"add ") {
-        let (cell, value, rest) = cell_and_number(spaces, guess, words)?;
-        return Some((Parts::of(Verb::Add, cell, value, cell), rest));
+        return with_number(spaces, guess, Verb::Add, words);
     }
     if let Some(words) = behind(text, b"copy ") {
-        let (cell, other, rest) = two_cells(spaces, guess, words)?;
-        return Some((Parts::of(Verb::Copy, cell, 0, other), rest));
+        return with_other(spaces, guess, Verb::Copy, words);
     }
     if let Some(words) = behind(text, b"swap ") {
-        let (cell, other, rest) = two_cells(spaces, guess, words)?;
-        return Some((Parts::of(Verb::Swap, cell, 0, other), rest));
+        return with_other(spaces, guess, Verb::Swap, words);
     }
     let (cell, rest) = first_cell(spaces, guess, behind(text, b"read ")?)?;
     Some((Parts::of(Verb::Read, cell, 0, cell), rest))

@@ -79,16 +79,30 @@ fn read_messages(
     Ok(trace)
 }
 
-// The trace that bytes spell.
+// The trace of the records that are left: a header, and then a message each.
 #[tactic(auto, unfolding(crate::specs::Traces::trace_of_records))]
+fn read_records(
+    alloc: Global,
+    spaces: &SpaceTable<'_>,
+    rdr: &mut Reader<&[u8]>,
+    row: &mut StringRecord,
+) -> Result<Trace, Stop<TraceError>>
+    requires { Reads rdr.old }
+    ensures { Gives (λ trace.
+        trace) result (traces.trace_of_records spaces.now (records_left rdr.old)) }
+{
+    let version = read_header(rdr, row)?;
+    read_messages(alloc, spaces, version, rdr, row)
+}
+
+// The trace that bytes spell.
 fn trace_of(alloc: Global, layout: &Layout, bytes: &[u8]) -> Result<Trace, Stop<TraceError>>
     ensures { Gives (λ trace. trace) result (traces.trace_of layout.now.spaces bytes.now) }
 {
     let spaces = SpaceTable::new(alloc, layout)?;
     let mut rdr = text_rows(alloc, bytes);
     let mut row = StringRecord::new(alloc);
-    let version = read_header(&mut rdr, &mut row)?;
-    read_messages(alloc, &spaces, version, &mut rdr, &mut row)
+    read_records(alloc, &spaces, &mut rdr, &mut row)
 }
 
 /// The trace that the bytes spell, for cells of the layout: CSV with a header, and then a record

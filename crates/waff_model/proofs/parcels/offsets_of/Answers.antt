@@ -1,5 +1,6 @@
-use Rattle.std.proofs.Common.{◌≡◌, ◌<◌, ◌++◌, ◌∷◌, [], length, map, get_or, refl, ap, sym, ◌∙◌, arith}
+use Rattle.std.proofs.Common.{◌≡◌, ◌<◌, ◌++◌, ◌∷◌, [], length, map, get_or, take, eqb, refl, ap, sym, ◌∙◌, arith, length-take}
 use Rattle.std.specs.List.{range_with_len}
+use Rattle.std.proofs.lemmas.List.Sums.{count_by-le-length}
 use Rattle.std.proofs.lemmas.List.FromFn.{map-range_with_len_more}
 use Rattle.waff_model.specs.ParcelTable.{offset_at}
 use Rattle.waff_model.proofs.ParcelTableLemmas.{counts_more, counts_all}
@@ -25,3 +26,24 @@ loop-owner-preserved c =
 pub returns-clause-sizes : goal.returns-clause-sizes
 returns-clause-sizes c =
     counts_all c.args.owners.now c.loop-owner.sizes (length c.args.sizes.now) c.loop-owner.owner-index (omega (arith, c.loop-owner.auto.sizes)) (omega arith) c.loop-owner.invariant.counts
+
+pub bounds-sizes-owner : goal.bounds-sizes-owner
+bounds-sizes-owner c =
+    omega (arith, c.requires.owners c.loop-owner.owner-index 0 c.loop-owner-test.true)
+
+pub bounds-sizes-owner-in-loop-owner : goal.bounds-sizes-owner-in-loop-owner
+bounds-sizes-owner-in-loop-owner c =
+    omega (arith, c.requires.owners c.loop-owner.owner-index 0 c.loop-owner-test.true)
+
+pub overflow_add-sizes : goal.overflow_add-sizes
+overflow_add-sizes c =
+    let owners = c.args.owners.now in
+    let k = c.loop-owner.owner-index in
+    let a = get_or owners k 0 in
+    let inside : a < length c.loop-owner.sizes = omega (arith, c.requires.owners k 0 c.loop-owner-test.true) in
+    omega (arith, c.loop-owner.invariant.counts a inside, count_by-le-length (λ owner. eqb owner a) (take k owners), length-take k owners)
+
+pub returns-clause-offsets : goal.returns-clause-offsets
+returns-clause-offsets c =
+    c.loop-owner.invariant.offsets
+    ∙ ap (λ n. map (offset_at c.args.owners.now) (range_with_len 0 n)) (omega arith)

@@ -3,7 +3,7 @@ use Rattle.waff_model.specs.Tree.{parent_of}
 use Rattle.waff_model.specs.Preorder.{share_at, span_at}
 use Rattle.waff_model.specs.declared.preorder.Span.{Span}
 use Rattle.waff_model.proofs.PreorderLemmas.{place_at_any}
-use Rattle.waff_model.proofs.ArrangeLemmas.{ArePlacedBefore, IsPlaced, placed_more, all_placed, parent_placed, root_placed}
+use Rattle.waff_model.proofs.ArrangeLemmas.{ArePlacedBefore, IsPlaced, placed_more, all_placed, parent_placed, root_placed, child_fits}
 use Rattle.waff_model.proofs.preorder.arrange.Goals as goal
 use Rattle.waff_model.proofs.preorder.arrange.Goals.{in-Some, in-None}
 
@@ -34,3 +34,26 @@ pub returns : goal.returns
 returns c =
     all_placed c.args.nodes.now c.requires.tree c.args.shares.now c.requires.shares c.loop-at.spans.items
     (subst (ArePlacedBefore c.args.nodes.now c.args.shares.now c.loop-at.spans.items) (omega (arith, c.requires.shares.count)) c.loop-at.invariant)
+
+pub parent-parent-requires : goal.parent-parent-requires
+parent-parent-requires c = omega (arith, c.requires.shares.count)
+
+pub overflow_add-first : goal.overflow_add-first
+overflow_add-first c =
+    let parent = sym c.parent-parent.ensures ∙ c.in-Some.is in
+    let within : c.loop-at.at < length c.args.nodes.now = omega (arith, c.requires.shares.count) in
+    let few = child_fits c.args.nodes.now c.requires.tree c.args.shares.now c.requires.shares c.loop-at.spans.items
+    c.loop-at.at c.in-Some.parent c.index.result.now c.index.ensures c.loop-at.invariant within parent in
+    omega (arith, few, c.requires.tree.few)
+
+pub overflow_add-end : goal.overflow_add-end
+overflow_add-end c =
+    let within : c.loop-at.at < length c.args.nodes.now = omega (arith, c.requires.shares.count) in
+    elim c.match-parent.branch [
+      | in-Some w ↦
+          let parent = sym c.parent-parent.ensures ∙ w.in-Some.is in
+          let few = child_fits c.args.nodes.now c.requires.tree c.args.shares.now c.requires.shares c.loop-at.spans.items
+          c.loop-at.at w.in-Some.parent w.index.result.now w.index.ensures c.loop-at.invariant within parent in
+          omega (arith, few, w.first-is, c.requires.tree.few)
+      | in-None w ↦ omega (arith, c.requires.shares.few c.loop-at.at within, w.first-is, c.requires.tree.few)
+    ]

@@ -1,4 +1,4 @@
-use Rattle.std.proofs.Common.{◌≡◌, ℕ, ◌+◌, ◌-◌, ◌*◌, ◌/◌, ◌<◌, ◌≤◌, true, false, length, get_or, set, nat_lt, min, arith, refl, sym, ap, ◌∙◌, subst}
+use Rattle.std.proofs.Common.{◌≡◌, ℕ, ◌+◌, ◌-◌, ◌*◌, ◌/◌, ◌<◌, ◌≤◌, true, false, length, get_or, set, nat_lt, min, arith, refl, sym, ap, ◌∙◌, subst, subst₂}
 use Rattle.std.proofs.lemmas.Bool.Decides.{nat_tests}
 use Rattle.std.proofs.lemmas.List.{get_or_read, with_items_is}
 use Rattle.waff_model.specs.Blocks.{AreFilled}
@@ -75,3 +75,36 @@ loop-at-preserved c =
           let same : at / 64 ≡ q / 64 = omega arith in
           h.filled.none q (subst (λ b. get_or filled b true ≡ false) same none)));
     }
+
+pub loop-at-init : goal.loop-at-init
+loop-at-init c = record {
+  forward = omega arith;
+  within = omega arith;
+  filled = c.self.invariant;
+  takes = takes_empty c.args.from c.args.from c.self.inside.places.items c.args.list.now.items (λ q late early. absurd (omega arith));
+}
+
+pub index-requires : goal.index-requires
+index-requires c =
+    let h = c.loop-at.invariant in
+    omega (arith, h.filled.room, h.takes.clears.count, ap length c.self.view_is, c.requires.within)
+
+pub index_mut-requires : goal.index_mut-requires
+index_mut-requires c =
+    let h = c.loop-at.invariant in
+    omega (arith, h.filled.room, h.takes.clears.count, ap length c.self.view_is, c.requires.within)
+
+pub take_each-requires-clause-within : goal.take_each-requires-clause-within
+take_each-requires-clause-within c =
+    let count = c.loop-at.invariant.takes.clears.count in
+    omega (arith, c.min-end.ensures, ap length c.deref_mut.ensures.value, count, ap length c.self.view_is, c.requires.within)
+
+pub invariant_of-self : goal.invariant_of-self
+invariant_of-self c = c.loop-at.invariant.filled
+
+pub returns : goal.returns
+returns c =
+    let new = c.loop-at.self-inside.places.items in
+    let end : c.loop-at.at ≡ c.args.to = omega (arith, c.loop-at.invariant.within) in
+    subst₂ (λ to old. Takes c.args.from to old new c.args.list.now.items c.loop-at.list.items)
+    end c.self.view_is c.loop-at.invariant.takes

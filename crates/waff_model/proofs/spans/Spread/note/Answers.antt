@@ -2,7 +2,7 @@ use Rattle.std.proofs.Common.{◌≡◌, ◌+◌, ◌*◌, ◌/◌, ◌%◌, ◌
 use Rattle.std.specs.Vec.{with_items}
 use Rattle.std.proofs.lemmas.List.{with_items_is}
 use Rattle.waff_model.specs.Later.{IsNoted}
-use Rattle.waff_model.specs.Blocks.{spread_from}
+use Rattle.waff_model.specs.Blocks.{spread_from, AreCut}
 use Rattle.waff_model.proofs.LaterLemmas.{noted_join}
 use Rattle.waff_model.proofs.BlockLemmas.{length-spread, noted_places, noted_blocks}
 use Rattle.waff_model.proofs.spans.Spread.note.Goals as goal
@@ -90,3 +90,25 @@ returns g c =
     let all = noted_join order from (last * 64) to x (spread_from order blocks 0 places) (spread_from order whole 0 one)
     (spread_from order whole 0 two) (omega (arith, is, some)) (omega arith) most behind in
     subst₂ (IsNoted order from to x) c.self.view_is (sym (ap₂ (λ bs ps. spread_from order bs 0 ps) new_blocks new_places)) all
+
+pub invariant_of-self : goal.invariant_of-self
+invariant_of-self g c =
+    let places = c.self.inside.places in
+    let count = c.note_each.ensures.count ∙ ap length c.deref_mut.ensures.value in
+    let kept = with_items_is places c.note_each.new.values (count ∙ sym places.ok.0) in
+    subst (λ xs. AreCut xs c.self.inside.blocks.items) (sym kept) (omega (arith, count, c.self.invariant))
+
+pub invariant_of-self-2 : goal.invariant_of-self-2
+invariant_of-self-2 g c =
+    let places = c.self.inside.places in
+    let blocks = c.self.inside.blocks in
+    let one = c.note_each-2.new.values in
+    let whole = c.note_each-3.new.values in
+    let two = c.note_each-4.new.values in
+    let begun = c.note_each-2.ensures.count ∙ ap length c.deref_mut-2.ensures.value in
+    let passed = c.note_each-3.ensures.count ∙ ap length c.deref_mut-3.ensures.value in
+    let kept = with_items_is places one (begun ∙ sym places.ok.0) in
+    let ended = c.note_each-4.ensures.count ∙ ap length (c.deref_mut-4.ensures.value ∙ kept) in
+    let new_places = with_items_is (with_items places one) two (ended ∙ begun ∙ sym places.ok.0) in
+    let new_blocks = with_items_is blocks whole (passed ∙ sym blocks.ok.0) in
+    subst₂ AreCut (sym new_places) (sym new_blocks) (omega (arith, begun, passed, ended, c.self.invariant))
