@@ -25,7 +25,6 @@ use std::alloc::{AllocError, Global};
 use std::marker::Model;
 
 /// Spaces of cells, numbered from 0, each with a map that gives its cells to affinities of a tree.
-#[derive(Drop)]
 pub struct Layout {
     kind: Kind,
     tree: Tree,
@@ -44,6 +43,21 @@ impl Model for Layout {
     ghost invariant = { λ l.
         IsLayout (record { kind = l.kind; tree = l.tree; spaces = l.spaces.items })
         × IsParcelTable l.tree l.spaces.items l.parcels };
+}
+
+// Written out: a derived drop is proved again in each crate that lets go of the value.
+impl Drop for Layout {
+    fn drop(self) {
+        let Layout {
+            kind: _,
+            tree,
+            spaces,
+            parcels,
+        } = self;
+        drop(tree);
+        drop(spaces);
+        drop(parcels);
+    }
 }
 
 impl Layout {

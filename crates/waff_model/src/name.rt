@@ -31,7 +31,6 @@ fn is_name_byte(byte: u8) -> bool
 
 /// A text of its own. One that is as short as a name lies in the value itself, so that the names of
 /// many messages are not as many allocations.
-#[derive(Drop)]
 pub struct Text {
     kept: Kept,
 }
@@ -49,6 +48,14 @@ impl Model for Text {
     ghost Value = { List ℕ };
 
     ghost view = { λ t. bytes_of t.kept };
+}
+
+// Written out: a derived drop is proved again in each crate that lets go of the value.
+impl Drop for Text {
+    fn drop(self) {
+        let Text { kept } = self;
+        drop(kept);
+    }
 }
 
 impl Text {

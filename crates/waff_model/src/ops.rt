@@ -10,7 +10,6 @@ use std::marker::Model;
 
 /// The operations of a message, in the order in which they run. They are packed as far as the first
 /// one that has a large number.
-#[derive(Drop)]
 pub struct Ops {
     packed: Vec<PackedOp>,
     plain: Vec<Op>,
@@ -24,6 +23,15 @@ impl Model for Ops {
     ghost Value = { List Op };
 
     ghost view = { λ ops. map op_of ops.packed.items ++ ops.plain.items };
+}
+
+// Written out: a derived drop is proved again in each crate that lets go of the value.
+impl Drop for Ops {
+    fn drop(self) {
+        let Ops { packed, plain } = self;
+        drop(packed);
+        drop(plain);
+    }
 }
 
 impl Ops {

@@ -14,7 +14,6 @@ use std::alloc::{AllocError, Global};
 use std::marker::Model;
 
 /// Messages in the order of arrival, numbered from 1.
-#[derive(Drop)]
 pub struct Trace {
     version: Version,
     sizes: Vec<u32>,
@@ -37,6 +36,19 @@ impl Model for Trace {
       sizes = t.sizes.items;
       messages = t.messages.items;
     }) };
+}
+
+// Written out: a derived drop is proved again in each crate that lets go of the value.
+impl Drop for Trace {
+    fn drop(self) {
+        let Trace {
+            version: _,
+            sizes,
+            messages,
+        } = self;
+        drop(sizes);
+        drop(messages);
+    }
 }
 
 impl Trace {
