@@ -2,6 +2,7 @@ pub mod Faults
 pub mod Crowds
 pub mod Searches
 pub mod Verdicts
+pub mod Claimed
 pub mod Shifts
 pub mod Promises
 pub mod Unique

@@ -2,7 +2,8 @@
 
 ghost use Rattle.std.specs.Prelude.{◌≡◌, length, IfOk};
 ghost use Rattle.waff_plan.specs.Planned.{planned_starts, planned_work};
-ghost use Rattle.waff_check.specs.Verdicts.{IsClaim, IsPraise, IsVerdict, claim_of};
+ghost use Rattle.waff_check.specs.Claimed.{claimed};
+ghost use Rattle.waff_check.specs.Verdicts.{IsClaim, IsManned, IsPraise, IsVerdict, claim_of};
 ghost use Rattle.waff_plan_text.specs.Given.{IsGiven};
 ghost use Rattle.waff_check.specs.Promises.{PromisesBound, PromisesChain, PromisesObeys};
 ghost use Rattle.waff_check.specs.Promises.{PromisesOneAtATime, PromisesShortest};
@@ -64,7 +65,7 @@ pub fn check<R: Threads + Sync>(
     Ok(verdict)
 }
 
-// The verdict: each fault is looked for where no earlier one is there.
+// The verdict on the plan of the starts that are given.
 fn find<'a, R: Threads + Sync>(
     rt: &R,
     alloc: Global,
@@ -81,33 +82,49 @@ fn find<'a, R: Threads + Sync>(
         case: *case,
         plan: &plan,
     };
-    let claim = Claim { planned, given };
-    let workers = given.workers();
-    if let Some((first, second)) = first_overlap(rt, alloc, &planned)? {
+    let verdict = judge(rt, alloc, &Claim { planned, given });
+    drop(plan);
+    verdict
+}
+
+// The verdict: each fault is looked for where no earlier one is there.
+fn judge<R: Threads + Sync>(rt: &R, alloc: Global, claim: &Claim<'_>) -> Result<Verdict, AllocError>
+    ensures { IfOk result (IsVerdict (claimed claim.now)) }
+{
+    let workers = claim.given.workers();
+    if let Some((first, second)) = first_overlap(rt, alloc, &claim.planned)? {
         return Ok(Verdict::Overlap { first, second });
     }
-    if let Some(tick) = crowded(alloc, &plan, workers)? {
+    if let Some(tick) = crowded(alloc, claim.planned.plan, workers)? {
         return Ok(Verdict::TooManyAt { tick });
     }
-    if let Some(message) = wrong_worker(alloc, &claim, workers)? {
+    if let Some(message) = wrong_worker(alloc, claim, workers)? {
         return Ok(Verdict::Worker { message });
     }
-    if let Some(message) = wrong_name(&claim) {
-        return Ok(Verdict::Affinity { message });
+    Ok(judge_manned(claim))
+}
+
+// The verdict on a plan whose messages keep their order and have right workers.
+fn judge_manned(claim: &Claim<'_>) -> Verdict
+    requires { IsManned (claimed claim.now) }
+    ensures { IsVerdict (claimed claim.now) result }
+{
+    if let Some(message) = wrong_name(claim) {
+        return Verdict::Affinity { message };
     }
-    if let Some(message) = wrong_finish(&claim) {
-        return Ok(Verdict::Finish { message });
+    if let Some(message) = wrong_finish(claim) {
+        return Verdict::Finish { message };
     }
-    if !has_totals(&claim) {
-        return Ok(Verdict::Totals);
+    if !has_totals(claim) {
+        return Verdict::Totals;
     }
-    if let Some(place) = broken_link(case, given.chain()) {
-        return Ok(Verdict::NotAChain { place });
+    if let Some(place) = broken_link(&claim.planned.case, claim.given.chain()) {
+        return Verdict::NotAChain { place };
     }
-    if let Some(message) = early_start(&plan) {
-        return Ok(Verdict::Early { message });
+    if let Some(message) = early_start(claim.planned.plan) {
+        return Verdict::Early { message };
     }
-    Ok(praise(&claim))
+    praise(claim)
 }
 
 // How good a plan without a fault is.

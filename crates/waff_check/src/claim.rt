@@ -2,6 +2,7 @@
 
 ghost use Rattle.std.specs.Prelude.{◌≡◌, ◌≤◌, length};
 ghost use Rattle.waff_model.specs.declared.limits.TheConstants.{MAX_MESSAGES};
+ghost use Rattle.waff_check.specs.Verdicts.{starts_of};
 
 use waff_plan::Planned;
 use waff_plan_text::GivenPlan;
@@ -12,5 +13,6 @@ pub(crate) struct Claim<'a> {
     pub planned: Planned<'a>,
     pub given: &'a GivenPlan,
     pub ghost rows: { length given.now.rows ≡ length planned.plan.now.timings },
+    pub ghost starts: { planned.plan.now.starts ≡ starts_of given.now },
     pub ghost few: { length planned.plan.now.timings ≤ MAX_MESSAGES },
 }

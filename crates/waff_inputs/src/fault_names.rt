@@ -20,15 +20,18 @@ impl fmt::Display for Hierarchy {
 
     fn fmt<W: fmt::Write>(&self, f: &mut fmt::Formatter<W>) -> fmt::Result {
         let file = self.file;
-        match self.fault {
-            HierError::Toml => write!(f, "Toml {file}"),
-            HierError::Model => write!(f, "Model {file}"),
-            HierError::Shape { key } => write!(f, "Shape {file} {}", key_name(key)),
-            HierError::Tree(error) => write!(f, "Tree.{} {file}", tree_error_name(error)),
-            HierError::NotClassical { affinity } => write!(f, "NotClassical {file} {}", affinity.0),
-            HierError::Layout(error) => write!(f, "Layout.{} {file}", layout_error_name(error)),
-            HierError::Memory => write!(f, "Memory {file}"),
-        }
+        let (kind, name) = match self.fault {
+            HierError::Toml => ("Toml", ""),
+            HierError::Model => ("Model", ""),
+            HierError::Shape { key } => return write!(f, "Shape {file} {}", key_name(key)),
+            HierError::Tree(error) => ("Tree.", tree_error_name(error)),
+            HierError::NotClassical { affinity } => {
+                return write!(f, "NotClassical {file} {}", affinity.0);
+            }
+            HierError::Layout(error) => ("Layout.", layout_error_name(error)),
+            HierError::Memory => ("Memory", ""),
+        };
+        write!(f, "{kind}{name} {file}")
     }
 }
 

@@ -1,12 +1,13 @@
 //! The planner: at each tick at which a message finishes or is released, ready messages start on the
 //! workers that are free, those first that are taken first.
 
-ghost use Rattle.std.specs.Prelude.{◌≡◌, ℕ, ◌+◌, ◌^◌, ◌<◌, ◌≤◌, IfOk, OnOk, length};
+ghost use Rattle.std.specs.Prelude.{◌≡◌, ℕ, ◌+◌, ◌^◌, ◌<◌, ◌≤◌, [], IfOk, OnOk, length, map};
 ghost use Rattle.waff_plan.specs.Bound.{IsWorkers};
 ghost use Rattle.waff_plan.specs.Work.{IsNumber};
 ghost use Rattle.waff_order.specs.Needs.{IsNeed, needs_of};
-ghost use Rattle.waff_list.specs.Progress.{work_of_messages, IsMade};
-ghost use Rattle.waff_list.specs.Waiting.{AreFreed, FallAlike, HaveFinished};
+ghost use Rattle.waff_list.specs.Progress.{work_of_messages, IsMade, IsSmall};
+ghost use Rattle.waff_list.specs.Waiting.{AreFreed, ArePassed, AreReleases, FallAlike};
+ghost use Rattle.waff_list.specs.Waiting.{HaveFinished};
 ghost use Rattle.waff_list.specs.Waiting.{left_of, priority_of, times};
 ghost use Rattle.waff_list.specs.Planning.{AreCounted, IsBegun, IsFilled, IsKept, Wakes};
 
@@ -38,29 +39,75 @@ pub(crate) fn make(
         made.starts.items made.seats.items made.order.items) }
 {
     let task = Task::new(alloc, needs, trace)?;
-    let mut chosen = Chosen::none(alloc);
-    let mut releases = Releases::new(alloc, trace)?;
-    let mut progress = Progress::new(alloc, needs.len(), k)?;
     let mut waiting = Waiting::new(alloc, needs, priorities)?;
+    let made = begin(alloc, &task, k, &mut waiting);
+    drop(waiting);
+    drop(task);
+    made
+}
+
+/// Makes the plan for k workers where no need has finished yet and no message is ready.
+fn begin(alloc: Global, task: &Task, k: u32, waiting: &mut Waiting) -> Result<Progress, AllocError>
+    requires workers { IsWorkers k }
+    requires left { waiting.old.left.items ≡ map length task.now.needs.now }
+    requires ready { waiting.old.ready.messages ≡ [] }
+    ensures { IfOk result (λ made. IsMade (IsNeed task.now.needs.now)
+        (priority_of waiting.old.ready.priorities) (work_of_messages task.now.trace.now.messages)
+        k made.starts.items made.seats.items made.order.items) }
+{
+    let mut releases = Releases::new(alloc, task.trace)?;
+    releases.pass(0, waiting.left.as_slice(), &mut waiting.ready)?;
+    let mut progress = Progress::new(alloc, task.needs.len(), k)?;
+    let mut chosen = Chosen::none(alloc);
+    let done = go_on(task, &mut chosen, &mut releases, &mut progress, waiting);
+    drop(chosen);
+    drop(releases);
+    match done {
+        Ok(()) => Ok(progress),
+        Err(error) => Err(error),
+    }
+}
+
+/// Places all messages, from one tick to the next at which a message finishes or is released.
+fn go_on(
+    task: &Task,
+    chosen: &mut Chosen,
+    releases: &mut Releases,
+    progress: &mut Progress,
+    waiting: &mut Waiting,
+) -> Result<(), AllocError>
+    requires begun { IsBegun task.now.needs.now (priority_of waiting.old.ready.priorities)
+        task.now.trace.now.messages progress.old 0 }
+    requires kept { IsKept task.now.needs.now task.now.trace.now.messages
+        progress.old waiting.old 0 1 }
+    requires releases { AreReleases
+        (work_of_messages task.now.trace.now.messages) releases.old.sorted.items }
+    requires passed { ArePassed releases.old.sorted.items releases.old.passed 0 }
+    requires small { IsSmall (work_of_messages task.now.trace.now.messages) }
+    requires workers { 1 ≤ length progress.old.free_at.items }
+    ensures { IfOk result (λ _. IsMade (IsNeed task.now.needs.now)
+        (priority_of waiting.old.ready.priorities) (work_of_messages task.now.trace.now.messages)
+        (length progress.old.free_at.items)
+        progress.new.starts.items progress.new.seats.items progress.new.order.items) }
+{
     let mut now = 0;
-    releases.pass(now, waiting.left.as_slice(), &mut waiting.ready)?;
     loop {
-        fill(&task, now, &mut chosen, &mut progress, &mut waiting)?;
-        match next_tick(&releases, &progress.finishes, now) {
+        fill(task, now, chosen, progress, waiting)?;
+        match next_tick(releases, &progress.finishes, now) {
             Some(next) => {
                 wake(
-                    &task,
+                    task,
                     now,
                     next,
                     progress.seats.as_slice(),
                     &mut progress.finishes,
                     &mut progress.idle,
-                    &mut waiting,
+                    waiting,
                 )?;
                 releases.pass(next, waiting.left.as_slice(), &mut waiting.ready)?;
                 now = next;
             }
-            None => return Ok(progress),
+            None => return Ok(()),
         }
     }
 }

@@ -12,7 +12,7 @@ use Rattle.waff_model.specs.declared.message.Version.{Version}
 use Rattle.waff_parse.specs.Texts.{number_within, parts}
 use Rattle.waff_parse.specs.Walks.{walk, with_front}
 use Rattle.waff_parse.proofs.Laws.{walk-end}
-use Rattle.waff_plan_text.specs.Summaries.{begins_summary, chain_line, closing_of, link_of, links_of, next_line, same, summary_of, tick_line, with_closing, workers_line}
+use Rattle.waff_plan_text.specs.Summaries.{begins_summary, bound_line, chain_line, closing_of, ending_of, ends, link_of, links_of, next_line, same, summary_of, tick_line, with_closing, workers_line}
 use Rattle.waff_plan_text.specs.declared.refusal.Refusal.{Refusal}
 use Rattle.waff_plan_text.specs.declared.refusal.Refusal.TheVariants as refusal
 use Rattle.waff_plan_text.proofs.WalkLaws.{walk-refused, walk-turn}
@@ -86,3 +86,13 @@ summary-chain version messages at first left0 left1 left2 left3 workers total le
     let two : left2 ≡ drop 2 left0 = l2 ∙ ap (drop 1) l1 ∙ drop-one 1 left0 in
     let three : left3 ≡ drop 3 left0 = l3 ∙ ap (drop 1) two ∙ drop-one 2 left0 in
     rw (text, ← w, t, ← l1, l, ← two, k, ← three) refl
+
+-- the lines behind the release up to the bound
+pub ending-bound : (release at : ℕ) (left0 left1 left2 : List Record) (cost : ℕ) (sides : ℕ × ℕ)
+    → next_line (tick_line (codes "cost")) at left0 ≡ Ok cost → left1 ≡ drop 1 left0
+    → next_line bound_line (at + 1) left1 ≡ Ok sides → left2 ≡ drop 1 left1
+    → ending_of release at left0 ≡ (ends (at + 2) left2 >>= (λ end. Ok (record { release = release; cost = cost; left = sides.0; right = sides.1 })))
+unfolding ending_of
+ending-bound release at left0 left1 left2 cost sides c l1 b l2 =
+    let two : left2 ≡ drop 2 left0 = l2 ∙ ap (drop 1) l1 ∙ drop-one 1 left0 in
+    rw (c, ← l1, b, ← two) refl
