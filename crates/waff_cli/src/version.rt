@@ -3,5 +3,5 @@
 /// The version, the kit that proves these sources, and the sum of them.
 pub const LONG_VERSION: &str = "\
 0.1.0
-kit: rattle-kit-13f logic dac8208d650f15bf
-sources: f44109dbdd65b961";
+kit: rattle-kit-13b logic dac8208d650f15bf
+sources: 9608c34e3f6e1c12";
