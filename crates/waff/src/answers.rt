@@ -1,5 +1,5 @@
 //! What is printed for what the words ask for.
-ghost use Rattle.std.specs.Prelude.{◌≤◌, All, IfSome};
+ghost use Rattle.std.specs.Prelude.{All, IfSome};
 ghost use Rattle.waff_plan.specs.Bound.{IsWorkers};
 ghost use Rattle.waff_cli.specs.Requests.{IsPart, IsWithinLimits};
 
@@ -7,25 +7,24 @@ use crate::failure::Failure;
 use std::alloc::Global;
 use std::io::Write;
 use std::sync::Wait;
-use std::thread::{Threads, available_parallelism};
-use waff_cli::{Asked, Drawing};
-use waff_core::limits::MAX_SEATS;
+use std::thread::Threads;
+use waff_cli::{Asked, Drawing, Question, Refusal, thread_count};
 use waff_tool::{
     MAX_RANKED, Part, Picture, Rule, ToolError, assign_text, check_text, compare_text, draw_text,
     explain_text, explained_status, plan_text, plan_text_by, rank_text, rate_text, replay_text,
     split_input, sweep_text, sweep_workers, verdict_status, waits_text, where_text,
 };
 
-/// Prints what is asked for of these files, and gives the exit status.
+/// Prints the answer to the question, and gives the exit status.
 pub fn answer<R: Threads + Wait + Sync, W: Write>(
     rt: &R,
     alloc: Global,
-    asked: &Asked,
-    files: &[Vec<u8>],
+    question: &Question,
     out: &mut W,
 ) -> Result<u8, Failure>
-    requires { IsWithinLimits asked.now }
+    requires { IsWithinLimits question.now.asked }
 {
+    let (asked, files) = (&question.asked, question.files.as_slice());
     match asked {
         Asked::PlanOfInput => print_plan_of_input(alloc, files, out),
         Asked::Explain => print_explanation(rt, alloc, files, out),
@@ -50,7 +49,7 @@ fn print_plan_of_input<W: Write>(
     out: &mut W,
 ) -> Result<u8, Failure> {
     let [input] = files else {
-        return Err(Failure::NoWords);
+        return Err(Failure::Refused(Refusal::NoWords));
     };
     let (hierarchy, trace) = split_input(input);
     printed(plan_text(alloc, hierarchy, trace, None, out))
@@ -66,7 +65,7 @@ fn print_comparison<W: Write>(
     requires { IsWorkers workers }
 {
     let [first, second, trace] = files else {
-        return Err(Failure::NoWords);
+        return Err(Failure::Refused(Refusal::NoWords));
     };
     printed(compare_text(alloc, first, second, trace, workers, out))
 }
@@ -85,7 +84,7 @@ fn print_ranks<W: Write>(
         [trace, hierarchies @ ..] if hierarchies.len() <= MAX_RANKED => {
             printed(rank_text(alloc, hierarchies, trace, workers, rule, out))
         }
-        _ => Err(Failure::NoWords),
+        _ => Err(Failure::Refused(Refusal::NoWords)),
     }
 }
 
@@ -100,7 +99,7 @@ fn print_of_trace<R: Threads + Wait + Sync, W: Write>(
     requires { IsWithinLimits asked.now }
 {
     let [hierarchy, trace] = files else {
-        return Err(Failure::NoWords);
+        return Err(Failure::Refused(Refusal::NoWords));
     };
     let (hierarchy, trace) = (hierarchy.as_slice(), trace.as_slice());
     printed(match asked {
@@ -116,9 +115,9 @@ fn print_of_trace<R: Threads + Wait + Sync, W: Write>(
             waits_text(alloc, hierarchy, trace, *workers, *rule, *by_name, out)
         }
         Asked::Replay(workers) => {
-            replay_text(rt, alloc, hierarchy, trace, threads(rt, *workers), out)
+            replay_text(rt, alloc, hierarchy, trace, thread_count(rt, *workers), out)
         }
-        _ => return Err(Failure::NoWords),
+        _ => return Err(Failure::Refused(Refusal::NoWords)),
     })
 }
 
@@ -133,28 +132,6 @@ fn swept(given: &Option<Vec<u32>>) -> &[u32]
     }
 }
 
-/// The number of threads that is asked for, or as many as there are processors, 16 at most.
-fn threads(rt: &impl Threads, asked: Option<u32>) -> u32
-    requires some { IfSome asked (λ k. 1 ≤ k) }
-    requires few { IfSome asked (λ k. k ≤ MAX_SEATS) }
-    ensures { (1 ≤ result) × (result ≤ MAX_SEATS) }
-{
-    match asked {
-        Some(workers) => workers,
-        None => processors(rt),
-    }
-}
-
-/// As many as there are processors, 16 at most; one where nobody knows.
-fn processors(rt: &impl Threads) -> u32
-    ensures { (1 ≤ result) × (result ≤ MAX_SEATS) }
-{
-    match available_parallelism(rt) {
-        Ok(count) => count.get().min(MAX_SEATS as usize) as u32,
-        Err(_) => 1,
-    }
-}
-
 /// Prints the verdict on a plan, or how good the plan is, and gives the exit status of the verdict.
 fn print_verdict<R: Threads + Sync, W: Write>(
     rt: &R,
@@ -164,7 +141,7 @@ fn print_verdict<R: Threads + Sync, W: Write>(
     out: &mut W,
 ) -> Result<u8, Failure> {
     let [hierarchy, trace, plan] = files else {
-        return Err(Failure::NoWords);
+        return Err(Failure::Refused(Refusal::NoWords));
     };
     let told = match asked {
         Asked::Rate => rate_text(rt, alloc, hierarchy, trace, plan, out),
@@ -184,7 +161,7 @@ fn print_picture<W: Write>(
     requires { IsPart part }
 {
     let [hierarchy, trace, plan] = files else {
-        return Err(Failure::NoWords);
+        return Err(Failure::Refused(Refusal::NoWords));
     };
     let part = Part {
         from: part.from,
@@ -210,7 +187,7 @@ fn print_explanation<R: Threads + Sync, W: Write>(
     out: &mut W,
 ) -> Result<u8, Failure> {
     let Some(hierarchy) = bytes_at(files, 0) else {
-        return Err(Failure::NoWords);
+        return Err(Failure::Refused(Refusal::NoWords));
     };
     let (trace, plan) = (bytes_at(files, 1), bytes_at(files, 2));
     let explained = explain_text(rt, alloc, hierarchy, trace, plan, out)?;

@@ -1,13 +1,15 @@
 -- The lowest affinity that covers a list of cells, one cell after another.
-use Rattle.std.proofs.Common.{◌≡◌, ◌≢◌, ℕ, ◌+◌, ◌<◌, ◌≤◌, List, length, get_or, Contains, arith, sym, ◌∙◌, ap, subst, ⊎_elim}
+use Rattle.std.proofs.Common.{◌≡◌, ◌≢◌, ℕ, ◌+◌, ◌<◌, ◌≤◌, List, [], ◌∷◌, ◌++◌, length, All, get_or, Contains, arith, sym, ◌∙◌, ap, subst, ⊎_elim}
 use Rattle.std.proofs.lemmas.Bool.{cases_eq}
 use Rattle.std.proofs.lemmas.List.{get_or_default}
-use Rattle.std.proofs.lemmas.List.Elements.{Contains-get_or}
+use Rattle.std.proofs.lemmas.List.Elements.{Contains-get_or, Contains-append_left, Contains-append_right, Contains-append_cases, All-contains}
 use Rattle.waff_model.specs.Tree.{AtOrAbove}
-use Rattle.waff_model.specs.Layout.{Hierarchy, owner_of}
+use Rattle.waff_model.specs.Layout.{Hierarchy, owner_of, IsCell, IsLayout}
 use Rattle.waff_model.specs.declared.cell.Cell.{Cell}
+use Rattle.waff_model.proofs.ParcelTableLemmas.{owner_is_affinity}
 use Rattle.waff_model.proofs.TreeLemmas.{reflexive, transitive}
 use Rattle.waff_assign.specs.Lowest.{Covers, IsLowest}
+use Rattle.waff_assign.proofs.Climbs.{root_above}
 
 -- low covers the first n cells, and every affinity that covers all is at or above it
 pub record IsLowestSoFar (layout : Hierarchy) (cells : List Cell) (n low : ℕ) : Type 0 where
@@ -60,4 +62,36 @@ lowest_of_all layout cells n low all h = record {
   covers = λ cell has.
       subst (λ x. AtOrAbove layout.tree low (owner_of layout.spaces x)) has.2 (h.covers has.0 cell (omega (arith, has.1)));
   lowest = h.lowest;
+}
+
+-- the lowest that covers one cell is its owner
+pub lowest_of_one : (layout : Hierarchy) (cell : Cell) (low : ℕ) → low < length layout.tree → low ≡ owner_of layout.spaces cell
+    → IsLowest layout (Contains (cell ∷ [])) low
+lowest_of_one layout cell low within is =
+    lowest_of_all layout (cell ∷ []) 1 low (omega arith) (lowest_of_first layout (cell ∷ []) low cell (omega arith) within is)
+
+-- the lowest that covers the cells of two lists, from those that cover each
+pub lowest_of_both : (layout : Hierarchy) (xs ys : List Cell) (first second low : ℕ) → IsLowest layout (Contains xs) first
+    → IsLowest layout (Contains ys) second → AtOrAbove layout.tree low first → AtOrAbove layout.tree low second
+    → ((a : ℕ) → AtOrAbove layout.tree a first → AtOrAbove layout.tree a second → AtOrAbove layout.tree a low)
+    → IsLowest layout (Contains (xs ++ ys)) low
+lowest_of_both layout xs ys first second low one other above_first above_second least = record {
+  covers = λ cell has.
+      ⊎_elim {C = AtOrAbove layout.tree low (owner_of layout.spaces cell)}
+      (λ (left : Contains xs cell). transitive layout.tree low first _ above_first (one.covers cell left))
+      (λ (right : Contains ys cell). transitive layout.tree low second _ above_second (other.covers cell right))
+      (Contains-append_cases xs ys cell has);
+  lowest = λ a covers.
+      least a (one.lowest a (λ cell has. covers cell (Contains-append_left xs ys cell has)))
+      (other.lowest a (λ cell has. covers cell (Contains-append_right xs ys cell has)));
+}
+
+-- where the root is the lowest that covers some cells, it is so for more
+pub root_is_lowest : (layout : Hierarchy) (some all : List Cell) → IsLayout layout → All (IsCell layout.spaces) all
+    → ((cell : Cell) → Contains some cell → Contains all cell) → IsLowest layout (Contains some) 0 → IsLowest layout (Contains all) 0
+root_is_lowest layout some all is_layout cells more h = record {
+  covers = λ cell has.
+      root_above layout.tree is_layout.tree (owner_of layout.spaces cell)
+      (owner_is_affinity layout.tree layout.spaces is_layout.each cell (All-contains (IsCell layout.spaces) all cell cells has));
+  lowest = λ other covers. h.lowest other (λ cell has. covers cell (more cell has));
 }

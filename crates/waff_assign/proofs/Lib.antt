@@ -1,5 +1,6 @@
 pub mod Climbs
 mod Coverings
+mod OpCells
 pub mod Assignments
 pub mod CellOrder
 pub mod Uniqueness

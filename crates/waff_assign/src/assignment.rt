@@ -1,13 +1,15 @@
 //! The assignment of affinities to messages.
 
-ghost use Rattle.std.specs.Prelude.{◌≡◌, ◌<◌, ◌++◌, length, All, IfOk, OnOk};
-ghost use Rattle.waff_assign.specs.Lowest.{AreLowest, IsAssignment};
+ghost use Rattle.std.specs.Prelude.{◌≡◌, ◌<◌, ◌≤◌, ◌++◌, length, All, Contains, IfOk, OnOk};
+ghost use Rattle.waff_assign.specs.Lowest.{AreLowest, IsAssignment, IsInFootprint, IsLowest};
 ghost use Rattle.waff_model.specs.Cells.{cells_of, cells_of_op};
+ghost use Rattle.waff_model.specs.Layout.{IsCell};
 ghost use Rattle.waff_model.specs.Messages.{sizes_of};
 
-use crate::{Assigned, lowest};
+use crate::Assigned;
+use crate::covering::lowest_above;
 use std::alloc::{AllocError, Global};
-use waff_model::{Cell, Layout, Op, Ops, Trace};
+use waff_model::{AffinityId, Cell, Layout, Op, Ops, Trace};
 
 /// The affinity of each message: the lowest that covers its footprint.
 pub fn assign(alloc: Global, layout: &Layout, trace: &Trace) -> Result<Assigned, AllocError>
@@ -18,14 +20,50 @@ pub fn assign(alloc: Global, layout: &Layout, trace: &Trace) -> Result<Assigned,
     ensures known { IfOk result (All (λ a. a < length layout.now.tree)) }
 {
     let mut affinities = Vec::with_capacity(alloc, trace.len() as usize)?;
-    let mut cells = Vec::new(alloc);
     for n in 1..trace.len() + 1 {
-        cells.clear();
-        push_cells(&mut cells, &trace.message(n).ops)?;
-        let affinity = lowest(layout, cells.as_slice());
+        let affinity = lowest_of_ops(layout, &trace.message(n).ops);
         affinities.push_reserved(affinity);
     }
     Ok(Assigned::new(affinities))
+}
+
+/// The lowest affinity that covers what the operations, of which there is one at least, name. At the
+/// root it looks at no more of them.
+fn lowest_of_ops(layout: &Layout, ops: &Ops) -> AffinityId
+    requires some { 1 ≤ length ops.now }
+    requires cells { All (IsCell layout.now.spaces) (cells_of ops.now) }
+    ensures lowest { IsLowest layout.now (IsInFootprint ops.now) result.0 }
+    ensures within { result.0 < length layout.now.tree }
+{
+    // Its contract tells `IsLayout`.
+    let _ = layout.space_count();
+    let mut low = lowest_of_op(layout, ops.get(0));
+    for index in 1..ops.len() {
+        if low.0 == 0 {
+            return low;
+        }
+        let other = lowest_of_op(layout, ops.get(index));
+        low = lowest_above(layout.tree(), low, other);
+    }
+    low
+}
+
+/// The lowest affinity that covers what the operation names.
+fn lowest_of_op(layout: &Layout, op: Op) -> AffinityId
+    requires { All (IsCell layout.now.spaces) (cells_of_op op) }
+    ensures lowest { IsLowest layout.now (Contains (cells_of_op op)) result.0 }
+    ensures within { result.0 < length layout.now.tree }
+{
+    match op {
+        Op::Set { cell, .. } | Op::Add { cell, .. } | Op::Read { cell } => layout.owner(cell),
+        Op::Copy {
+            cell,
+            source: other,
+        }
+        | Op::Swap { cell, other } => {
+            lowest_above(layout.tree(), layout.owner(cell), layout.owner(other))
+        }
+    }
 }
 
 /// Appends the cells that the operations name.

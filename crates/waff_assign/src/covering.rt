@@ -24,7 +24,7 @@ pub fn lowest(layout: &Layout, cells: &[Cell]) -> AffinityId
 
 /// The lowest affinity that is at or above both: the second, where it is above the first; else
 /// climbs from the first until it is at or above the second.
-fn lowest_above(tree: &Tree, first: AffinityId, second: AffinityId) -> AffinityId
+pub(crate) fn lowest_above(tree: &Tree, first: AffinityId, second: AffinityId) -> AffinityId
     requires first { first.0 < length tree.now }
     requires second { second.0 < length tree.now }
     ensures first { AtOrAbove tree.now result.0 first.0 }

@@ -1,19 +1,27 @@
-//! What the words of the command line ask for.
+//! What the program is asked: the words of the command line, and the files that they name.
 //!
+//! - `question`: the words and then the files are read.
 //! - `words`: what words ask for; `commands`: the commands, their files and options as a table;
 //!   `parser`: the parser of that table; `help`: what the help of each command ends with.
-//! - `refusal`: why words ask for nothing.
+//! - `files`: files and standard input, read whole.
+//! - `refusal`: why there is nothing to answer, and what is said then.
+//! - `threads`: how many threads a replay has.
 //!
 //! The words are read before any file, so a request holds names of files and numbers within their
-//! limits, and no more.
+//! limits, and no more. A question holds the bytes of those files.
 #![tactic(auto)]
 
 mod commands;
+mod files;
 mod help;
 mod parser;
+mod question;
 mod refusal;
+mod threads;
 mod version;
 mod words;
 
-pub use refusal::{FAILED, REFUSED, Refusal};
-pub use words::{Asked, Drawing, Part, Request, read_words};
+pub use question::{Question, read_question};
+pub use refusal::Refusal;
+pub use threads::thread_count;
+pub use words::{Asked, Drawing, Part};

@@ -9,23 +9,17 @@ use waff_model::limits::{MAX_TICK, MAX_WORKERS};
 
 /// The parser of all commands.
 pub fn parser<'a>(alloc: Global) -> Result<Command<'a>, AllocError> {
-    let mut waff = waff(alloc);
-    for words in COMMANDS.iter() {
-        waff = with_command(alloc, waff, words)?;
-    }
-    Ok(waff)
+    let mut commands = Vec::new(alloc);
+    push_commands(alloc, &mut commands)?;
+    waff(alloc).subcommands(commands)
 }
 
-/// The parser with a command more.
-fn with_command<'a>(
-    alloc: Global,
-    waff: Command<'a>,
-    words: &'static CommandWords,
-) -> Result<Command<'a>, AllocError> {
-    match command(alloc, words) {
-        Ok(command) => waff.subcommand(command),
-        Err(error) => Err(error),
+/// Appends the parsers of the commands.
+fn push_commands<'a>(alloc: Global, commands: &mut Vec<Command<'a>>) -> Result<(), AllocError> {
+    for words in COMMANDS.iter() {
+        commands.push(command(alloc, words)?)?;
     }
+    Ok(())
 }
 
 /// The parser of the program without its commands.

@@ -1,4 +1,4 @@
-//! Why words ask for nothing, and what is said then.
+//! Why there is nothing to answer, and what is said then.
 use clap::error::ErrorKind;
 use std::alloc::{AllocError, AllocFailed};
 
@@ -8,13 +8,17 @@ pub const REFUSED: u8 = 2;
 /// Something could not be read or written, or memory was refused.
 pub const FAILED: u8 = 4;
 
-/// Why the words ask for nothing.
+/// Why there is nothing to answer.
 #[derive(Clone, Copy)]
 pub enum Refusal {
-    /// They were refused, or ask for help. That was printed, and this is the exit status.
+    /// The words were refused, or ask for help, or a file was not read. That was told, and this is the
+    /// exit status.
     Told(u8),
     /// A word is not text, or one is missing that was not refused.
     NoWords,
+    /// The file of this place among the file words could not be read or is too long; 0 is standard
+    /// input.
+    Read(usize),
     Memory,
 }
 
@@ -44,9 +48,33 @@ impl Refusal {
         Refusal::Told(error.exit_code() as u8)
     }
 
+    /// Says why on standard error, where that is not told yet, and gives the exit status.
+    pub fn report(self, rt: &impl Eprint) -> u8 {
+        match self {
+            Refusal::Told(status) => return status,
+            Refusal::NoWords => {
+                say(rt, "error: a word is missing or is not text");
+                return REFUSED;
+            }
+            Refusal::Read(place) => {
+                let _ = eprintln!(rt; "waff: Read {place}");
+            }
+            Refusal::Memory => say(rt, OUT_OF_MEMORY),
+        }
+        FAILED
+    }
+
     /// The refusal of words for this, which is printed.
     pub(crate) fn because(rt: &impl Eprint, why: &str) -> Refusal {
         let _ = eprintln!(rt; "error: {why}\n\nFor more information, try '--help'.");
         Refusal::Told(REFUSED)
     }
+}
+
+/// What is said where memory is refused.
+const OUT_OF_MEMORY: &str = "waff: Memory";
+
+/// A line on standard error. Where that fails, the exit status has to do.
+fn say(rt: &impl Eprint, line: &str) {
+    let _ = rt.eprintln(line);
 }

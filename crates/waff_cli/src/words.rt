@@ -134,18 +134,27 @@ fn asked_of(
     ensures { IfOk result IsWithinLimits }
 {
     match command {
-        "assign" => Ok(Asked::Assign),
         "plan" => plan_of(matches),
+        "sweep" => sweep_of(rt, alloc, matches),
+        "waits" => waits_of(matches),
+        "draw" => draw_of(rt, matches),
+        "replay" => replay_of(matches),
+        "compare" => compare_of(matches),
+        "rank" => rank_of(matches),
+        _ => plain_of(command, matches),
+    }
+}
+
+/// What the words of a command that takes no number and no rule ask for.
+fn plain_of(command: &str, matches: &ArgMatches<'_>) -> Result<Asked, Refusal>
+    ensures { IfOk result IsWithinLimits }
+{
+    match command {
+        "assign" => Ok(Asked::Assign),
         "check" => Ok(Asked::Check),
         "explain" => Ok(Asked::Explain),
         "rate" => Ok(Asked::Rate),
-        "sweep" => sweep_of(rt, alloc, matches),
         "where" => Ok(Asked::Where(matches.get_flag("names"))),
-        "waits" => waits_of(matches),
-        "draw" => draw_of(rt, matches),
-        "replay" => Ok(Asked::Replay(workers(matches, MAX_SEATS)?)),
-        "compare" => Ok(Asked::Compare(wanted_workers(matches, MAX_WORKERS)?)),
-        "rank" => rank_of(matches),
         _ => Err(Refusal::NoWords),
     }
 }
@@ -278,6 +287,20 @@ fn waits_of(matches: &ArgMatches<'_>) -> Result<Asked, Refusal>
     let rule = rule_of(matches)?;
     let workers = workers(matches, MAX_WORKERS)?;
     Ok(Asked::Waits(workers, rule, matches.get_flag("names")))
+}
+
+/// How the trace is replayed.
+fn replay_of(matches: &ArgMatches<'_>) -> Result<Asked, Refusal>
+    ensures { IfOk result IsWithinLimits }
+{
+    Ok(Asked::Replay(workers(matches, MAX_SEATS)?))
+}
+
+/// For how many workers two hierarchies are compared.
+fn compare_of(matches: &ArgMatches<'_>) -> Result<Asked, Refusal>
+    ensures { IfOk result IsWithinLimits }
+{
+    Ok(Asked::Compare(wanted_workers(matches, MAX_WORKERS)?))
 }
 
 /// What is drawn of a plan.

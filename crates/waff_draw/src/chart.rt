@@ -31,7 +31,6 @@ use waff_plan_text::GivenPlan;
 /// affinities, and which part of it is shown; the lanes of these and the row of each, the plan of
 /// its starts and its length in ticks, where the part ends, and whether each message is on the
 /// chain, by its number.
-#[derive(Drop)]
 pub(crate) struct Chart<'a> {
     case: Case<'a>,
     given: &'a GivenPlan,
@@ -59,6 +58,27 @@ impl<'a> Model for Chart<'a> {
 
     ghost invariant = { λ c. IsChart (scene_of_case c.case c.given.now c.part)
         c.lanes.items c.plan c.ticks c.end c.rows.items c.links.items };
+}
+
+// Written out, so that it is proved once for all that draw.
+impl<'a> Drop for Chart<'a> {
+    fn drop(self) {
+        let Chart {
+            case: _,
+            given: _,
+            part: _,
+            lanes,
+            plan,
+            ticks: _,
+            end: _,
+            rows,
+            links,
+        } = self;
+        drop(lanes);
+        drop(plan);
+        drop(rows);
+        drop(links);
+    }
 }
 
 impl<'a> Chart<'a> {

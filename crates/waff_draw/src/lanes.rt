@@ -4,7 +4,9 @@ ghost use Rattle.std.specs.Prelude.{◌≡◌, ◌+◌, ◌^◌, ◌<◌, ◌≤
 ghost use Rattle.std.specs.Prelude.{false, length, map, replicate, set, slice_index};
 ghost use Rattle.std.specs.Prelude.{slice_index_or};
 ghost use Rattle.std.specs.List.{filter};
-ghost use Rattle.waff_draw.specs.Lanes.{families_of, lanes_of, row_of, walk_from};
+ghost use Rattle.waff_model.specs.Tree.{IsTree};
+ghost use Rattle.waff_draw.specs.Lanes.{families_of, is_among, lanes_of, preorder, row_of};
+ghost use Rattle.waff_draw.specs.Lanes.{walk_from};
 
 use crate::marks::marks;
 use std::alloc::{AllocError, Global};
@@ -33,14 +35,33 @@ pub(crate) fn lanes(alloc: Global, case: &Case<'_>) -> Result<Vec<Lane>, AllocEr
         All (λ lane. lane.affinity < length case.now.tree.now) lanes.items) }
     ensures few { IfOk result (λ lanes. length lanes.items ≤ 65536) }
 {
-    let tree = case.tree;
-    let affinities = affinities_of(alloc, case.assigned)?;
-    let used = marks(alloc, tree.len() as usize, affinities.as_slice())?;
-    drop(affinities);
-    let families = families(alloc, tree)?;
-    let mut walked = Vec::with_capacity(alloc, tree.len() as usize)?;
-    walk(families.as_slice(), 0, 0, tree.len(), &mut walked)?;
+    let used = used(alloc, case)?;
+    let walked = walked(alloc, case.tree)?;
     used_lanes(alloc, &walked, &used)
+}
+
+/// For each affinity whether a message has it.
+fn used(alloc: Global, case: &Case<'_>) -> Result<Vec<bool>, AllocError>
+    ensures count { IfOk result (λ used. length used.items ≡ length case.now.tree.now) }
+    ensures each { IfOk result (λ used. (a : ℕ) → a < length case.now.tree.now
+        → slice_index_or used.items a false ≡ is_among case.now.assigned.now a) }
+{
+    let affinities = affinities_of(alloc, case.assigned)?;
+    marks(alloc, case.tree.len() as usize, affinities.as_slice())
+}
+
+/// All affinities in preorder.
+fn walked(alloc: Global, tree: &Tree) -> Result<Vec<Lane>, AllocError>
+    ensures lanes { IfOk result (λ lanes. lanes.items ≡ preorder tree.now) }
+    ensures known { IfOk result (λ lanes.
+        All (λ lane. lane.affinity < length tree.now) lanes.items) }
+    ensures tree { IsTree tree.now }
+{
+    let count = tree.len();
+    let families = families(alloc, tree)?;
+    let mut lanes = Vec::with_capacity(alloc, count as usize)?;
+    walk(families.as_slice(), 0, 0, count, &mut lanes)?;
+    Ok(lanes)
 }
 
 /// The affinity of each message, in the order of arrival.
@@ -49,7 +70,7 @@ fn affinities_of(alloc: Global, assigned: &Assigned) -> Result<Vec<u32>, AllocEr
 {
     let mut affinities = Vec::with_capacity(alloc, assigned.len() as usize)?;
     for n in 1..assigned.len() + 1 {
-        affinities.push(u32::from(assigned.of(n).0))?;
+        affinities.push_reserved(u32::from(assigned.of(n).0));
     }
     Ok(affinities)
 }
@@ -90,7 +111,7 @@ fn empty_families(alloc: Global, count: usize) -> Result<Vec<Vec<u32>>, AllocErr
 {
     let mut families = Vec::with_capacity(alloc, count)?;
     for _ in 0..count {
-        families.push(Vec::new(alloc))?;
+        families.push_reserved(Vec::new(alloc));
     }
     Ok(families)
 }

@@ -46,11 +46,20 @@ fn picture(alloc: Global, chart: &Chart<'_>) -> Result<String, AllocError>
     ensures { IfOk result (λ text. string_bytes text ≡ svg_text chart.now) }
 {
     let mut text = String::new(alloc);
-    push_ground(&mut text, chart)?;
-    push_bars(&mut text, chart, LaneKind::Affinity)?;
-    push_bars(&mut text, chart, LaneKind::Worker)?;
-    push_document_end(&mut text)?;
-    Ok(text)
+    match push_picture(&mut text, chart) {
+        Ok(()) => Ok(text),
+        Err(error) => Err(error),
+    }
+}
+
+/// Appends the picture of a chart.
+fn push_picture(text: &mut String, chart: &Chart<'_>) -> Result<(), AllocError>
+    ensures { OnOk result (Adds text.old text.new (svg_text chart.now)) }
+{
+    push_ground(text, chart)?;
+    push_bars(text, chart, LaneKind::Affinity)?;
+    push_bars(text, chart, LaneKind::Worker)?;
+    push_document_end(text)
 }
 
 /// Appends all that stands before the bars.

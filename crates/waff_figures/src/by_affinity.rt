@@ -69,7 +69,7 @@ fn affinities_of(alloc: Global, assigned: &Assigned) -> Result<Vec<u32>, AllocEr
 {
     let mut affinities = Vec::with_capacity(alloc, assigned.len() as usize)?;
     for n in 1..assigned.len() + 1 {
-        affinities.push(u32::from(assigned.of(n).0))?;
+        affinities.push_reserved(u32::from(assigned.of(n).0));
     }
     Ok(affinities)
 }

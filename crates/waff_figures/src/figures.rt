@@ -129,7 +129,7 @@ fn sorted_latencies(alloc: Global, plan: &Plan) -> Result<Vec<u64>, AllocError>
 {
     let mut latencies = Vec::with_capacity(alloc, plan.len() as usize)?;
     for n in 1..plan.len() + 1 {
-        latencies.push(latency(plan, n))?;
+        latencies.push_reserved(latency(plan, n));
     }
     latencies.sort_unstable();
     Ok(latencies)

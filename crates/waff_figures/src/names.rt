@@ -10,10 +10,18 @@ use waff_model::Trace;
 
 /// The distinct names in the order in which they first appear, and for each message the place of
 /// its name, from 0.
-#[derive(Drop)]
 pub(crate) struct Names<'a> {
     pub names: IndexSet<&'a str>,
     pub places: Vec<u32>,
+}
+
+// Written out, so that it is proved once for all that let go of names.
+impl<'a> Drop for Names<'a> {
+    fn drop(self) {
+        let Names { names, places } = self;
+        drop(names);
+        drop(places);
+    }
 }
 
 /// The names of the messages of a trace.
@@ -48,7 +56,7 @@ fn places_of<'a>(
     for n in 1..trace.len() + 1 {
         let name = trace.message(n).name.as_str();
         let (place, _) = names.insert_full(name)?;
-        places.push(place as u32)?;
+        places.push_reserved(place as u32);
     }
     Ok(places)
 }

@@ -73,7 +73,7 @@ fn figures_by(
     let mut listed = Vec::with_capacity(alloc, workers.len())?;
     for k in workers {
         let figures = figures_for(alloc, unlimited, needs, rule, *k)?;
-        listed.push(figures)?;
+        listed.push_reserved(figures);
     }
     Ok(listed)
 }

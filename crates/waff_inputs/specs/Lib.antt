@@ -1,5 +1,6 @@
 pub mod Deliveries
 pub mod Fault
 pub mod Inputs
+pub mod Told
 pub mod ToolErrors
 pub mod Unique

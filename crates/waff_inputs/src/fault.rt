@@ -1,10 +1,11 @@
 //! Why a command gave no text, and how that is told.
-ghost use Rattle.std.specs.Prelude.{◌≡◌, IfOk};
+ghost use Rattle.std.specs.Prelude.{◌≡◌, ◌++◌, IfOk, OnOk, string_bytes};
 ghost use Rattle.waff_inputs.specs.Fault.{fault_line, status_of};
+ghost use Rattle.waff_inputs.specs.Told.{behind_text, told_text};
 ghost use Rattle.waff_inputs.specs.ToolErrors.{hierarchy_error, plan_text_error, trace_error};
 ghost use Rattle.waff_inputs.specs.declared.fault.ToolError.TheVariants.{Memory};
 
-use crate::fault_names::{Hierarchy, PlanText, Trace};
+use crate::fault_names::{Behind, Told, named, told_hierarchy, told_plan_text, told_trace};
 use std::alloc::{AllocError, Global};
 use thiserror::Error;
 use waff_model::Text;
@@ -83,19 +84,48 @@ impl ToolError {
 pub fn fault_text(alloc: Global, error: &ToolError) -> Result<Text, AllocError>
     ensures { IfOk result (λ text. text ≡ fault_line error.now) }
 {
-    let line = match *error {
-        ToolError::Hier { file, fault } => format!(in alloc;
-            "waff: Hier.{}",
-            Hierarchy { file, fault }
-        )?,
-        ToolError::Trace(fault) => format!(in alloc; "waff: Trace.{}", Trace(fault))?,
-        ToolError::PlanText(fault) => format!(in alloc; "waff: PlanText.{}", PlanText(fault))?,
-        ToolError::SpacesDiffer => return Text::of(alloc, "waff: SpacesDiffer"),
-        ToolError::ModelsSame => return Text::of(alloc, "waff: ModelsSame"),
-        ToolError::Write => return Text::of(alloc, "waff: Write"),
-        ToolError::Memory => return Text::of(alloc, "waff: Memory"),
-    };
+    let mut line = String::new(alloc);
+    push_error(&mut line, *error)?;
     Text::of(alloc, line.as_str())
+}
+
+/// Appends the line that tells of an error.
+fn push_error(line: &mut String, error: ToolError) -> Result<(), AllocError>
+    ensures { OnOk result
+        (string_bytes line.new ≡ string_bytes line.old ++ fault_line error) }
+{
+    let (group, told) = told_error(error);
+    line.push_str(group)?;
+    line.push_str(told.name)?;
+    push_behind(line, told.behind)
+}
+
+/// Appends what stands behind the name of a fault.
+fn push_behind(line: &mut String, behind: Behind) -> Result<(), AllocError>
+    ensures { OnOk result
+        (string_bytes line.new ≡ string_bytes line.old ++ behind_text behind) }
+{
+    match behind {
+        Behind::Nothing => Ok(()),
+        Behind::Number(n) => write!(line, " {n}"),
+        Behind::Numbers(n, m) => write!(line, " {n} {m}"),
+        Behind::Key(n, key) => write!(line, " {n} {key}"),
+    }
+}
+
+/// What is said of an error: which files it is of, and then what of them.
+fn told_error(error: ToolError) -> (&'static str, Told)
+    ensures { result.0.now ++ told_text result.1 ≡ fault_line error }
+{
+    match error {
+        ToolError::Hier { file, fault } => ("waff: Hier.", told_hierarchy(file, fault)),
+        ToolError::Trace(fault) => ("waff: Trace.", told_trace(fault)),
+        ToolError::PlanText(fault) => ("waff: PlanText.", told_plan_text(fault)),
+        ToolError::SpacesDiffer => ("waff: ", named("SpacesDiffer")),
+        ToolError::ModelsSame => ("waff: ", named("ModelsSame")),
+        ToolError::Write => ("waff: ", named("Write")),
+        ToolError::Memory => ("waff: ", named("Memory")),
+    }
 }
 
 /// The exit status of the program after an error.

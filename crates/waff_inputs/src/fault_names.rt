@@ -1,37 +1,48 @@
 //! The names of faults, as fault lines have them.
-ghost use Rattle.std.specs.Prelude.{◌≡◌, Some};
-ghost use Rattle.waff_inputs.specs.Fault.{hierarchy_fault, key_name, layout_error_name};
+ghost use Rattle.std.specs.Prelude.{◌≡◌, ◌++◌, codes};
+ghost use Rattle.waff_inputs.specs.Fault.{and_number, hierarchy_fault, key_name, layout_error_name};
 ghost use Rattle.waff_inputs.specs.Fault.{plan_text_fault, trace_fault, tree_error_name};
+ghost use Rattle.waff_inputs.specs.Told.{told_text};
 
-use std::fmt;
 use waff_model::{LayoutError, TreeError};
 use waff_plan_text::PlanTextError;
 use waff_read::{HierError, Key, TraceError};
 
-/// A fault of the hierarchy of this number.
+/// What stands behind the name of a fault: numbers, and the name of a key.
 #[derive(Clone, Copy)]
-pub struct Hierarchy {
-    pub file: u8,
-    pub fault: HierError,
+pub(crate) enum Behind {
+    Nothing,
+    Number(u64),
+    Numbers(u64, u64),
+    Key(u64, &'static str),
 }
 
-impl fmt::Display for Hierarchy {
-    ghost output = { λ h. Some (hierarchy_fault h.file h.fault) };
+/// What is said of a fault: its name, and what stands behind it.
+#[derive(Clone, Copy)]
+pub(crate) struct Told {
+    pub(crate) name: &'static str,
+    pub(crate) behind: Behind,
+}
 
-    fn fmt<W: fmt::Write>(&self, f: &mut fmt::Formatter<W>) -> fmt::Result {
-        let file = self.file;
-        let (kind, name) = match self.fault {
-            HierError::Toml => ("Toml", ""),
-            HierError::Model => ("Model", ""),
-            HierError::Shape { key } => return write!(f, "Shape {file} {}", key_name(key)),
-            HierError::Tree(error) => ("Tree.", tree_error_name(error)),
-            HierError::NotClassical { affinity } => {
-                return write!(f, "NotClassical {file} {}", affinity.0);
-            }
-            HierError::Layout(error) => ("Layout.", layout_error_name(error)),
-            HierError::Memory => ("Memory", ""),
-        };
-        write!(f, "{kind}{name} {file}")
+/// What is said of a fault of the hierarchy of this number.
+pub(crate) fn told_hierarchy(file: u8, fault: HierError) -> Told
+    ensures { told_text result ≡ hierarchy_fault file fault }
+{
+    let file = u64::from(file);
+    match fault {
+        HierError::Toml => numbered("Toml", file),
+        HierError::Model => numbered("Model", file),
+        HierError::Shape { key } => Told {
+            name: "Shape",
+            behind: Behind::Key(file, key_name(key)),
+        },
+        HierError::Tree(error) => numbered(tree_fault_name(error), file),
+        HierError::NotClassical { affinity } => Told {
+            name: "NotClassical",
+            behind: Behind::Numbers(file, u64::from(affinity.0)),
+        },
+        HierError::Layout(error) => numbered(layout_fault_name(error), file),
+        HierError::Memory => numbered("Memory", file),
     }
 }
 
@@ -51,81 +62,89 @@ fn key_name(key: Key) -> &'static str
     }
 }
 
-fn tree_error_name(error: TreeError) -> &'static str
-    ensures { result.now ≡ tree_error_name error }
+fn tree_fault_name(error: TreeError) -> &'static str
+    ensures { result.now ≡ codes "Tree." ++ tree_error_name error }
 {
     match error {
-        TreeError::Name => "Name",
-        TreeError::Twice => "Twice",
-        TreeError::SecondRoot => "SecondRoot",
-        TreeError::NoRoot => "NoRoot",
-        TreeError::ParentUnknown => "ParentUnknown",
-        TreeError::TooMany => "TooMany",
-        TreeError::Memory => "Memory",
+        TreeError::Name => "Tree.Name",
+        TreeError::Twice => "Tree.Twice",
+        TreeError::SecondRoot => "Tree.SecondRoot",
+        TreeError::NoRoot => "Tree.NoRoot",
+        TreeError::ParentUnknown => "Tree.ParentUnknown",
+        TreeError::TooMany => "Tree.TooMany",
+        TreeError::Memory => "Tree.Memory",
     }
 }
 
-fn layout_error_name(error: LayoutError) -> &'static str
-    ensures { result.now ≡ layout_error_name error }
+fn layout_fault_name(error: LayoutError) -> &'static str
+    ensures { result.now ≡ codes "Layout." ++ layout_error_name error }
 {
     match error {
-        LayoutError::Space => "Space",
-        LayoutError::Size => "Size",
-        LayoutError::SpaceTwice => "SpaceTwice",
-        LayoutError::NoMap => "NoMap",
-        LayoutError::MapTwice => "MapTwice",
-        LayoutError::Unit => "Unit",
-        LayoutError::To => "To",
-        LayoutError::TooManyCells => "TooManyCells",
-        LayoutError::Memory => "Memory",
+        LayoutError::Space => "Layout.Space",
+        LayoutError::Size => "Layout.Size",
+        LayoutError::SpaceTwice => "Layout.SpaceTwice",
+        LayoutError::NoMap => "Layout.NoMap",
+        LayoutError::MapTwice => "Layout.MapTwice",
+        LayoutError::Unit => "Layout.Unit",
+        LayoutError::To => "Layout.To",
+        LayoutError::TooManyCells => "Layout.TooManyCells",
+        LayoutError::Memory => "Layout.Memory",
     }
 }
 
-/// A fault of the trace.
-#[derive(Clone, Copy)]
-pub struct Trace(pub TraceError);
-
-impl fmt::Display for Trace {
-    ghost output = { λ t. Some (trace_fault t.0) };
-
-    fn fmt<W: fmt::Write>(&self, f: &mut fmt::Formatter<W>) -> fmt::Result {
-        let (name, at) = match self.0 {
-            TraceError::Csv { at } => ("Csv", at),
-            TraceError::Header { at } => ("Header", at),
-            TraceError::Fields { at } => ("Fields", at),
-            TraceError::Name { at } => ("Name", at),
-            TraceError::Cost { at } => ("Cost", at),
-            TraceError::NoOps { at } => ("NoOps", at),
-            TraceError::Op { at } => ("Op", at),
-            TraceError::SpaceUnknown { at } => ("SpaceUnknown", at),
-            TraceError::IndexTooLarge { at } => ("IndexTooLarge", at),
-            TraceError::TooManyOps { at } => ("TooManyOps", at),
-            TraceError::TooManyMessages { at } => ("TooManyMessages", at),
-            TraceError::Memory => return f.write_str("Memory"),
-            TraceError::Release { at } => ("Release", at),
-        };
-        write!(f, "{name} {at}")
+/// What is said of a fault of the trace.
+pub(crate) fn told_trace(fault: TraceError) -> Told
+    ensures { told_text result ≡ trace_fault fault }
+{
+    match fault {
+        TraceError::Csv { at } => numbered("Csv", at),
+        TraceError::Header { at } => numbered("Header", at),
+        TraceError::Fields { at } => numbered("Fields", at),
+        TraceError::Name { at } => numbered("Name", at),
+        TraceError::Cost { at } => numbered("Cost", at),
+        TraceError::NoOps { at } => numbered("NoOps", at),
+        TraceError::Op { at } => numbered("Op", at),
+        TraceError::SpaceUnknown { at } => numbered("SpaceUnknown", at),
+        TraceError::IndexTooLarge { at } => numbered("IndexTooLarge", at),
+        TraceError::TooManyOps { at } => numbered("TooManyOps", at),
+        TraceError::TooManyMessages { at } => numbered("TooManyMessages", at),
+        TraceError::Memory => named("Memory"),
+        TraceError::Release { at } => numbered("Release", at),
     }
 }
 
-/// A fault of the text of a plan.
-#[derive(Clone, Copy)]
-pub struct PlanText(pub PlanTextError);
+/// What is said of a fault of the text of a plan.
+pub(crate) fn told_plan_text(fault: PlanTextError) -> Told
+    ensures { told_text result ≡ plan_text_fault fault }
+{
+    match fault {
+        PlanTextError::Csv { at } => numbered("Csv", at),
+        PlanTextError::Header { at } => numbered("Header", at),
+        PlanTextError::Row { at } => numbered("Row", at),
+        PlanTextError::Missing { message } => numbered("Missing", u64::from(message)),
+        PlanTextError::Twice { at } => numbered("Twice", at),
+        PlanTextError::Summary { at } => numbered("Summary", at),
+        PlanTextError::TooLarge { at } => numbered("TooLarge", at),
+        PlanTextError::Memory => named("Memory"),
+    }
+}
 
-impl fmt::Display for PlanText {
-    ghost output = { λ p. Some (plan_text_fault p.0) };
+/// A name, and behind it a number.
+fn numbered(name: &'static str, number: u64) -> Told
+    ensures { told_text result ≡ name.now ++ and_number number }
+{
+    Told {
+        name,
+        behind: Behind::Number(number),
+    }
+}
 
-    fn fmt<W: fmt::Write>(&self, f: &mut fmt::Formatter<W>) -> fmt::Result {
-        let (name, number) = match self.0 {
-            PlanTextError::Csv { at } => ("Csv", at),
-            PlanTextError::Header { at } => ("Header", at),
-            PlanTextError::Row { at } => ("Row", at),
-            PlanTextError::Missing { message } => ("Missing", u64::from(message)),
-            PlanTextError::Twice { at } => ("Twice", at),
-            PlanTextError::Summary { at } => ("Summary", at),
-            PlanTextError::TooLarge { at } => ("TooLarge", at),
-            PlanTextError::Memory => return f.write_str("Memory"),
-        };
-        write!(f, "{name} {number}")
+/// A name, and nothing behind it.
+pub(crate) fn named(name: &'static str) -> Told
+    ensures { told_text result ≡ name.now }
+{
+    Told {
+        name,
+        behind: Behind::Nothing,
     }
 }

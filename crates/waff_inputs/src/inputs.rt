@@ -6,7 +6,7 @@ ghost use Rattle.waff_read.specs.Traces.{trace_of};
 ghost use Rattle.waff_inputs.specs.Inputs.{Accepts, Refuses, RefusesHierarchy};
 
 use crate::fault::ToolError;
-use std::alloc::{AllocError, Global};
+use std::alloc::Global;
 use waff_assign::{Assigned, Case, assign};
 use waff_model::{Layout, Trace};
 use waff_read::{read_hierarchy, read_trace};
@@ -61,7 +61,7 @@ pub fn accept(alloc: Global, hierarchy: &[u8], trace: &[u8]) -> Result<Accepted,
         Err(fault) => return Err(ToolError::of_hierarchy(1, fault)),
     };
     match read_trace(alloc, &layout, trace) {
-        Ok(trace) => with_affinities(alloc, layout, trace).map_err(ToolError::from),
+        Ok(trace) => with_affinities(alloc, layout, trace),
         Err(fault) => {
             drop(layout);
             Err(ToolError::from(fault))
@@ -70,11 +70,12 @@ pub fn accept(alloc: Global, hierarchy: &[u8], trace: &[u8]) -> Result<Accepted,
 }
 
 /// The hierarchy and the trace, with the affinity of each message.
-fn with_affinities(alloc: Global, layout: Layout, trace: Trace) -> Result<Accepted, AllocError>
+fn with_affinities(alloc: Global, layout: Layout, trace: Trace) -> Result<Accepted, ToolError>
     requires fits { trace.sizes ≡ sizes_of layout.spaces }
     ensures accepted { IfOk result (λ a. (hierarchy_file trace_file : List ℕ)
         → hierarchy_of hierarchy_file ≡ Ok layout → trace_of layout.spaces trace_file ≡ Ok trace
         → Accepts hierarchy_file trace_file a.layout a.trace a.assigned) }
+    ensures memory { IfErr result (λ e. e ≡ ToolError.Memory) }
 {
     match assign(alloc, &layout, &trace) {
         Ok(assigned) => Ok(Accepted {
@@ -82,10 +83,10 @@ fn with_affinities(alloc: Global, layout: Layout, trace: Trace) -> Result<Accept
             trace,
             assigned,
         }),
-        Err(error) => {
+        Err(_) => {
             drop(layout);
             drop(trace);
-            Err(error)
+            Err(ToolError::Memory)
         }
     }
 }

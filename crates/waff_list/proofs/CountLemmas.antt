@@ -1,11 +1,11 @@
 -- How often a message is listed, and the counts of needs that have not finished.
-use Rattle.std.proofs.Common.{◌≡◌, ◌≢◌, ℕ, zero, suc, ◌+◌, ◌-◌, ◌<◌, ◌≤◌, ◌⊎◌, Bool, true, false, cond, nat_eq, List, [], ◌∷◌, ◌++◌, length, map, get_or, take, sum_by, count_by, All, Contains, arith, refl, ap, sym, ◌∙◌, subst, ⊎_elim}
+use Rattle.std.proofs.Common.{◌≡◌, ◌≢◌, ℕ, zero, suc, ◌+◌, ◌-◌, ◌<◌, ◌≤◌, ◌⊎◌, Bool, true, false, cond, nat_eq, List, [], ◌∷◌, length, map, get_or, take, sum_by, count_by, All, Contains, arith, refl, ap, sym, ◌∙◌, subst, ⊎_elim}
 use Rattle.std.proofs.lemmas.Bool.{cases_lt, cases_eq, cond-true, cond-false, eq-eqb, ne_eqb}
 use Rattle.std.proofs.lemmas.List.{get_or-map, length-map}
 use Rattle.std.proofs.lemmas.List.Elements.{All-head, All-tail, All-weaker, All-contains, All-contains_itself, Contains-get_or}
 use Rattle.std.proofs.lemmas.List.Sorted.{sum_by_pushed}
 use Rattle.std.specs.List.Sorted.{IsPermutation, IsStrictlyIncreasing}
-use Rattle.std.proofs.lemmas.List.Sums.{sum_by-cons, sum_by_push, sum_by-le, get_or-le-sum_by, count_by_more_yes, count_by_more_no, sum_by_more_le}
+use Rattle.std.proofs.lemmas.List.Sums.{sum_by-cons, sum_by-le, get_or-le-sum_by, count_by_more_yes, count_by_more_no, sum_by_more_le}
 use Rattle.waff_plan.specs.Work.{Work, IsNumber, finish_of}
 use Rattle.waff_plan.specs.Obeys.{IsForward}
 use Rattle.waff_order.specs.Needs.{needs_of, IsNeed}
@@ -48,15 +48,15 @@ pub times_none : (m : ℕ) (xs : List ℕ) → (Contains xs m → ⊥) → times
 times_none m xs other = count_none (λ x. nat_eq x m) xs (λ x there. ne_eqb x m (λ same. other (subst (λ y. Contains xs y) same there)))
 
 -- one message more is listed
-pub times_push_same : (xs : List ℕ) (m : ℕ) → times m (xs ++ m ∷ []) ≡ times m xs + 1
-times_push_same xs m =
+pub times_cons_same : (xs : List ℕ) (m : ℕ) → times m (m ∷ xs) ≡ times m xs + 1
+times_cons_same xs m =
     let one : cond {A = ℕ} (nat_eq m m) 1 0 ≡ 1 = cond-true (nat_eq m m) 1 0 (eq-eqb m m refl) in
-    omega (arith, one, sum_by_push (λ x. cond (nat_eq x m) 1 0) xs m)
+    omega (arith, one, sum_by-cons (λ x. cond (nat_eq x m) 1 0) m xs)
 
-pub times_push_other : {m : ℕ} (xs : List ℕ) (x : ℕ) → x ≢ m → times x (xs ++ m ∷ []) ≡ times x xs
-times_push_other {m} xs x other =
+pub times_cons_other : {m : ℕ} (xs : List ℕ) (x : ℕ) → x ≢ m → times x (m ∷ xs) ≡ times x xs
+times_cons_other {m} xs x other =
     let none : cond {A = ℕ} (nat_eq m x) 1 0 ≡ 0 = cond-false (nat_eq m x) 1 0 (ne_eqb m x (λ same. other (sym same))) in
-    omega (arith, none, sum_by_push (λ y. cond (nat_eq y x) 1 0) xs m)
+    omega (arith, none, sum_by-cons (λ y. cond (nat_eq y x) 1 0) m xs)
 
 -- one place more of the list
 pub times_here : (m : ℕ) (xs : List ℕ) (at d : ℕ) → at < length xs → get_or xs at d ≡ m → times m (take (at + 1) xs) ≡ times m (take at xs) + 1
@@ -80,6 +80,24 @@ rises_by_one xs rising (suc k) inside =
     let more : get_or xs k 0 < get_or xs (k + 1) 0 = rising k (omega arith) in
     let place : get_or xs (k + 1) 0 ≡ get_or xs (suc k) 0 = ap (λ i. get_or xs i 0) (omega arith) in
     omega arith
+
+-- messages that rise from 1 are fewer than the least number above them
+rises_from_one : (xs : List ℕ) → IsStrictlyIncreasing xs → ((x : ℕ) → Contains xs x → 1 ≤ x) → (k : ℕ) → k < length xs → k + 1 ≤ get_or xs k 0
+rises_from_one xs rising from zero inside = from (get_or xs 0 0) (Contains-get_or xs 0 0 inside)
+rises_from_one xs rising from (suc k) inside =
+    let before : k + 1 ≤ get_or xs k 0 = rises_from_one xs rising from k (omega arith) in
+    let more : get_or xs k 0 < get_or xs (k + 1) 0 = rising k (omega arith) in
+    let place : get_or xs (k + 1) 0 ≡ get_or xs (suc k) 0 = ap (λ i. get_or xs i 0) (omega arith) in
+    omega arith
+
+pub rising_fewer : (xs : List ℕ) (n : ℕ) → IsStrictlyIncreasing xs → ((x : ℕ) → Contains xs x → (1 ≤ x) × (x < n)) → 1 ≤ n → length xs < n
+rising_fewer xs n rising within some = ⊎_elim {C = length xs < n}
+    (λ (empty : length xs < 1). omega arith)
+    (λ (one : 1 ≤ length xs).
+    let last = rises_from_one xs rising (λ x there. let w = within x there in w.0) (length xs - 1) (omega arith) in
+    let less = within (get_or xs (length xs - 1) 0) (Contains-get_or xs (length xs - 1) 0 (omega arith)) in
+    omega (arith, last, less.1))
+    (cases_lt (length xs) 1)
 
 pub rising_length : (xs : List ℕ) (n : ℕ) → IsStrictlyIncreasing xs → ((x : ℕ) → Contains xs x → x < n) → length xs ≤ n
 rising_length xs n rising below = ⊎_elim {C = length xs ≤ n}

@@ -1,12 +1,24 @@
 -- The lists of dependents, as messages are added to them.
-use Rattle.std.proofs.Common.{◌≡◌, ◌≢◌, ℕ, ◌+◌, ◌-◌, ◌<◌, ◌≤◌, ◌⊎◌, inl, inr, List, [], ◌∷◌, ◌++◌, length, get_or, set, replicate, Contains, arith, refl, ap, sym, ◌∙◌, subst, ⊎_elim, get_or-set_same, get_or-set_other, length-set}
+use Rattle.std.proofs.Common.{◌≡◌, ◌≢◌, ℕ, ◌+◌, ◌-◌, ◌<◌, ◌≤◌, ◌⊎◌, inl, inr, List, [], ◌∷◌, length, get_or, set, replicate, Contains, arith, refl, ap, sym, ◌∙◌, subst, ⊎_elim, get_or-set_same, get_or-set_other, length-set}
 use Rattle.std.proofs.lemmas.Bool.{cases_eq, cases_lt}
-use Rattle.std.proofs.lemmas.List.{get_or-replicate, get_or_past, length-replicate}
-use Rattle.std.proofs.lemmas.List.Elements.{Contains-push_cases}
+use Rattle.std.proofs.lemmas.List.{get_or_past}
+use Rattle.std.proofs.lemmas.List.Elements.{Contains-push_cases, Contains-append_cases}
 use Rattle.waff_order.specs.Needs.{needs_of, IsNeed, AreLists}
 use Rattle.waff_order.proofs.NeedLemmas.{need_within}
 use Rattle.waff_list.specs.Waiting.{Grows, AreDependents, times}
-use Rattle.waff_list.proofs.CountLemmas.{times_none, times_push_same, times_push_other}
+use Rattle.waff_list.specs.Trails.{trails}
+use Rattle.waff_list.specs.declared.dependents.Dependents.{Dependents}
+use Rattle.waff_list.proofs.CountLemmas.{times_none, times_cons_same, times_cons_other}
+use Rattle.waff_list.proofs.TrailLemmas.{trails_none, no_trail}
+
+contains_cases : (xs : List ℕ) (m x : ℕ) → Contains (m ∷ xs) x → Contains xs x ⊎ (m ≡ x)
+contains_cases xs m x there =
+    ⊎_elim {C = Contains xs x ⊎ (m ≡ x)}
+    (λ (first : Contains (m ∷ []) x). ⊎_elim {C = Contains xs x ⊎ (m ≡ x)}
+    (λ (none : Contains [] x). let within = none.1 in absurd (omega (arith, within)))
+    (λ (is : m ≡ x). inr is) (Contains-push_cases [] m x first))
+    (λ (rest : Contains xs x). inl rest)
+    (Contains-append_cases (m ∷ []) xs x there)
 
 pub grows_none : (xs : List (List ℕ)) (m : ℕ) → Grows xs m xs
 grows_none xs m = record { count = refl; others = λ i x other. refl; only = λ i x there. inl there }
@@ -20,59 +32,56 @@ grows_join xs ys zs m first second = record {
 }
 
 module _ (xs : List (List ℕ)) (i m : ℕ) (to : i - 1 < length xs) where
-  here : needs_of (set xs (i - 1) (needs_of xs i ++ m ∷ [])) i ≡ needs_of xs i ++ m ∷ []
-  here = get_or-set_same xs (i - 1) (needs_of xs i ++ m ∷ []) [] to
+  here : needs_of (set xs (i - 1) (m ∷ needs_of xs i)) i ≡ m ∷ needs_of xs i
+  here = get_or-set_same xs (i - 1) (m ∷ needs_of xs i) [] to
 
-  at : (j : ℕ) → (needs_of (set xs (i - 1) (needs_of xs i ++ m ∷ [])) j ≡ needs_of xs j ++ m ∷ []) ⊎ (needs_of (set xs (i - 1) (needs_of xs i ++ m ∷ [])) j ≡ needs_of xs j)
-  at j = ⊎_elim {C = (needs_of (set xs (i - 1) (needs_of xs i ++ m ∷ [])) j ≡ needs_of xs j ++ m ∷ []) ⊎ (needs_of (set xs (i - 1) (needs_of xs i ++ m ∷ [])) j ≡ needs_of xs j)}
-      (λ (same : j - 1 ≡ i - 1). inl (ap (λ k. get_or (set xs (i - 1) (needs_of xs i ++ m ∷ [])) k []) same ∙ here ∙ ap (λ k. get_or xs k [] ++ m ∷ []) (sym same)))
-      (λ (other : j - 1 ≢ i - 1). inr (get_or-set_other xs (i - 1) (j - 1) (needs_of xs i ++ m ∷ []) [] other))
+  at : (j : ℕ) → (needs_of (set xs (i - 1) (m ∷ needs_of xs i)) j ≡ m ∷ needs_of xs j) ⊎ (needs_of (set xs (i - 1) (m ∷ needs_of xs i)) j ≡ needs_of xs j)
+  at j = ⊎_elim {C = (needs_of (set xs (i - 1) (m ∷ needs_of xs i)) j ≡ m ∷ needs_of xs j) ⊎ (needs_of (set xs (i - 1) (m ∷ needs_of xs i)) j ≡ needs_of xs j)}
+      (λ (same : j - 1 ≡ i - 1). inl (ap (λ k. get_or (set xs (i - 1) (m ∷ needs_of xs i)) k []) same ∙ here ∙ ap (λ k. m ∷ get_or xs k []) (sym same)))
+      (λ (other : j - 1 ≢ i - 1). inr (get_or-set_other xs (i - 1) (j - 1) (m ∷ needs_of xs i) [] other))
       (cases_eq (j - 1) (i - 1))
 
-  pub grows_one : Grows xs m (set xs (i - 1) (needs_of xs i ++ m ∷ []))
+  pub grows_one : Grows xs m (set xs (i - 1) (m ∷ needs_of xs i))
   grows_one = record {
-    count = length-set xs (i - 1) (needs_of xs i ++ m ∷ []);
-    others = λ j x other. ⊎_elim {C = times x (needs_of (set xs (i - 1) (needs_of xs i ++ m ∷ [])) j) ≡ times x (needs_of xs j)}
-        (λ (more : needs_of (set xs (i - 1) (needs_of xs i ++ m ∷ [])) j ≡ needs_of xs j ++ m ∷ []).
-        ap (λ ys. times x ys) more ∙ times_push_other (needs_of xs j) x other)
-        (λ (same : needs_of (set xs (i - 1) (needs_of xs i ++ m ∷ [])) j ≡ needs_of xs j). ap (λ ys. times x ys) same)
+    count = length-set xs (i - 1) (m ∷ needs_of xs i);
+    others = λ j x other. ⊎_elim {C = times x (needs_of (set xs (i - 1) (m ∷ needs_of xs i)) j) ≡ times x (needs_of xs j)}
+        (λ (more : needs_of (set xs (i - 1) (m ∷ needs_of xs i)) j ≡ m ∷ needs_of xs j).
+        ap (λ ys. times x ys) more ∙ times_cons_other (needs_of xs j) x other)
+        (λ (same : needs_of (set xs (i - 1) (m ∷ needs_of xs i)) j ≡ needs_of xs j). ap (λ ys. times x ys) same)
         (at j);
     only = λ j x there. ⊎_elim {C = Contains (needs_of xs j) x ⊎ (x ≡ m)}
-        (λ (more : needs_of (set xs (i - 1) (needs_of xs i ++ m ∷ [])) j ≡ needs_of xs j ++ m ∷ []).
+        (λ (more : needs_of (set xs (i - 1) (m ∷ needs_of xs i)) j ≡ m ∷ needs_of xs j).
         ⊎_elim {C = Contains (needs_of xs j) x ⊎ (x ≡ m)} (λ (before : Contains (needs_of xs j) x). inl before) (λ (is : m ≡ x). inr (sym is))
-        (Contains-push_cases (needs_of xs j) m x (subst (λ ys. Contains ys x) more there)))
-        (λ (same : needs_of (set xs (i - 1) (needs_of xs i ++ m ∷ [])) j ≡ needs_of xs j). inl (subst (λ ys. Contains ys x) same there))
+        (contains_cases (needs_of xs j) m x (subst (λ ys. Contains ys x) more there)))
+        (λ (same : needs_of (set xs (i - 1) (m ∷ needs_of xs i)) j ≡ needs_of xs j). inl (subst (λ ys. Contains ys x) same there))
         (at j);
   }
 
-  pub grown_here : times m (needs_of (set xs (i - 1) (needs_of xs i ++ m ∷ [])) i) ≡ times m (needs_of xs i) + 1
-  grown_here = ap (λ ys. times m ys) here ∙ times_push_same (needs_of xs i) m
+  pub grown_here : times m (needs_of (set xs (i - 1) (m ∷ needs_of xs i)) i) ≡ times m (needs_of xs i) + 1
+  grown_here = ap (λ ys. times m ys) here ∙ times_cons_same (needs_of xs i) m
 
-  pub grown_other : (j : ℕ) → 1 ≤ i → 1 ≤ j → j ≢ i → needs_of (set xs (i - 1) (needs_of xs i ++ m ∷ [])) j ≡ needs_of xs j
+  pub grown_other : (j : ℕ) → 1 ≤ i → 1 ≤ j → j ≢ i → needs_of (set xs (i - 1) (m ∷ needs_of xs i)) j ≡ needs_of xs j
   grown_other j from j_from other =
       let apart : j - 1 ≢ i - 1 = omega arith in
-      get_or-set_other xs (i - 1) (j - 1) (needs_of xs i ++ m ∷ []) [] apart
+      get_or-set_other xs (i - 1) (j - 1) (m ∷ needs_of xs i) [] apart
 
 -- no message needs another yet
-pub dependents_none : (needs : List (List ℕ)) → AreDependents needs (replicate (length needs) []) 0
-dependents_none needs = record {
-  count = length-replicate (length needs) [];
-  each = λ i m from m_from none. absurd (omega arith);
-  only = λ i m there.
-      let empty : needs_of (replicate (length needs) []) i ≡ [] = nothing (length needs) (i - 1) in
-      let h = subst (λ xs. Contains xs m) empty there in
-      let within = h.1 in
-      absurd (omega (arith, within));
-}
-  where
-    nothing : (n i : ℕ) → get_or {A = List ℕ} (replicate n []) i [] ≡ []
-    nothing n i = ⊎_elim {C = get_or {A = List ℕ} (replicate n []) i [] ≡ []}
-        (λ (inside : i < n). get_or-replicate n i [] [] inside)
-        (λ (past : n ≤ i).
-        let zeros : List (List ℕ) = replicate n [] in
-        let long : length zeros ≡ n = length-replicate n [] in
-        get_or_past zeros i [] (omega arith))
-        (cases_lt i n)
+pub dependents_none : (needs : List (List ℕ)) (d : Dependents) → d.firsts.items ≡ replicate (length needs) 0 → d.links.items ≡ []
+    → AreDependents needs (trails d) 0
+dependents_none needs d firsts_are links_are =
+    let count : length (trails d) ≡ length needs = trails_none d (length needs) firsts_are links_are in
+    record {
+      count = count;
+      each = λ i m from m_from none. absurd (omega arith);
+      only = λ i m there.
+          let empty : needs_of (trails d) i ≡ [] = ⊎_elim {C = get_or (trails d) (i - 1) [] ≡ []}
+          (λ (inside : i - 1 < length needs). no_trail d (length needs) firsts_are links_are (i - 1) inside)
+          (λ (past : length needs ≤ i - 1). get_or_past (trails d) (i - 1) [] (omega (arith, count)))
+          (cases_lt (i - 1) (length needs)) in
+          let h = subst (λ xs. Contains xs m) empty there in
+          let within = h.1 in
+          absurd (omega (arith, within));
+    }
 
 -- one message more has been asked for its needs
 pub dependents_more : (needs old new : List (List ℕ)) (n : ℕ) → AreDependents needs old n → Grows old (n + 1) new

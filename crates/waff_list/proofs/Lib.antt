@@ -19,6 +19,7 @@ mod Starting
 mod WakingLemmas
 mod WakeLemmas
 mod OrderingLemmas
+mod TrailLemmas
 mod DependentLemmas
 pub mod Uniqueness
 pub mod SeatsUniqueness

@@ -4,6 +4,7 @@ pub mod Bound
 pub mod Progress
 pub mod Seating
 pub mod Waiting
+pub mod Trails
 pub mod Choosing
 pub mod Planning
 pub mod Unique

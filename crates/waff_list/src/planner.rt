@@ -189,9 +189,11 @@ fn tell_all(task: &Task, m: u32, now: u64, waiting: &mut Waiting) -> Result<(), 
     ensures wakes { OnOk result (Wakes (work_of_messages task.now.trace.now.messages) now
         waiting.old waiting.new) }
 {
-    let dependents = task.dependents.of(m);
-    for at in 0..dependents.len() {
-        waiting.tell(task.trace, dependents[at], now)?;
+    let mut at = task.dependents.first(m);
+    while at > 0 {
+        let link = task.dependents.link(at);
+        waiting.tell(task.trace, link.message, now)?;
+        at = link.next;
     }
     Ok(())
 }

@@ -2,6 +2,7 @@
 
 ghost use Rattle.std.specs.Prelude.{◌≡◌, ◌<◌, length, IfOk};
 ghost use Rattle.waff_order.specs.Needs.{AreLists};
+ghost use Rattle.waff_list.specs.Trails.{AreLinked, trails};
 ghost use Rattle.waff_list.specs.Waiting.{AreDependents};
 
 use crate::dependents::Dependents;
@@ -17,7 +18,8 @@ pub(crate) struct Task<'a> {
     pub dependents: Dependents,
     ghost lists: { AreLists needs.now },
     ghost lengths: { length needs.now ≡ length trace.now.messages },
-    ghost told: { AreDependents needs.now dependents (length needs.now) },
+    ghost linked: { AreLinked dependents },
+    ghost told: { AreDependents needs.now (trails dependents) (length needs.now) },
 }
 
 impl<'a> Task<'a> {

@@ -11,7 +11,6 @@ use waff_plan::Plan;
 
 /// A plan for k workers: the start and the worker of each message. Messages and workers are
 /// numbered from 1.
-#[derive(Drop)]
 pub struct WorkerPlan {
     plan: Plan,
     workers: u32,
@@ -37,6 +36,21 @@ impl Model for WorkerPlan {
       seats = p.seats.items;
       order = p.order.items;
     }) };
+}
+
+// Written out: a derived drop is proved again in each crate that lets go of the value.
+impl Drop for WorkerPlan {
+    fn drop(self) {
+        let WorkerPlan {
+            plan,
+            workers: _,
+            seats,
+            order,
+        } = self;
+        drop(plan);
+        drop(seats);
+        drop(order);
+    }
 }
 
 impl WorkerPlan {

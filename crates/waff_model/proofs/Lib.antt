@@ -12,4 +12,5 @@ mod RunLemmas
 pub mod TraceLemmas
 pub mod LaterLemmas
 mod BlockLemmas
+mod WholeLemmas
 pub mod TakeLemmas

@@ -10,6 +10,7 @@ pub mod Layout
 pub mod LayoutOf
 pub mod LayoutRefusal
 pub mod PackedOps
+pub mod KeptOps
 pub mod Parcel
 pub mod ParcelTable
 pub mod ParcelLaws

@@ -29,15 +29,18 @@ fn is_name_byte(byte: u8) -> bool
     byte.is_ascii_alphanumeric() || byte == b'.' || byte == b'_' || byte == b'-'
 }
 
-/// A text of its own. One that is as short as a name lies in the value itself, so that the names of
-/// many messages are not as many allocations.
+// So many bytes of a text lie in the value itself. Most names of messages are as short.
+const SHORT: usize = 16;
+
+/// A text of its own. A short one lies in the value itself, so that the names of many messages are
+/// not as many allocations.
 pub struct Text {
     kept: Kept,
 }
 
 #[derive(Drop)]
 enum Kept {
-    Short(ArrayString<MAX_NAME>),
+    Short(ArrayString<SHORT>),
     Long(String),
 }
 

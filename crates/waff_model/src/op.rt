@@ -3,7 +3,7 @@
 use crate::cell::Cell;
 
 /// One operation of a message. The two cells of `Copy` and of `Swap` may be the same.
-#[derive(Clone, Copy, Debug, PartialEq)]
+#[derive(Clone, Copy, PartialEq)]
 pub enum Op {
     /// The cell becomes the value.
     Set { cell: Cell, value: u64 },

@@ -1,36 +1,45 @@
 //! The operations of a message.
 
 ghost use Rattle.std.specs.Prelude.{◌≡◌, ◌<◌, ◌↔◌, [], ◌∷◌, ◌++◌, length, Some, IsTrue, OnOk};
-ghost use Rattle.std.specs.Prelude.{OnErr, IfOk, slice_get};
+ghost use Rattle.std.specs.Prelude.{OnErr, IfOk, slice_get, map};
+ghost use Rattle.waff_model.specs.KeptOps.{kept_ops};
+ghost use Rattle.waff_model.specs.PackedOps.{op_of};
 
 use crate::op::Op;
 use crate::packed_op::PackedOp;
 use std::alloc::{AllocError, Global};
 use std::marker::Model;
 
-/// The operations of a message, in the order in which they run. They are packed as far as the first
-/// one that has a large number.
+/// The operations of a message, in the order in which they run.
 pub struct Ops {
-    packed: Vec<PackedOp>,
-    plain: Vec<Op>,
+    alloc: Global,
+    kept: Kept,
+}
+
+// Where operations are kept. A single one lies in the value itself, so that those of many messages
+// are not as many allocations. They are packed as long as their numbers are small.
+#[derive(Drop)]
+enum Kept {
+    One(PackedOp),
+    Packed(Vec<PackedOp>),
+    Plain(Vec<Op>),
 }
 
 impl Model for Ops {
-    ghost use Rattle.std.specs.Prelude.{List, map, ◌++◌};
-    ghost use Rattle.waff_model.specs.PackedOps.{op_of};
+    ghost use Rattle.std.specs.Prelude.{List};
+    ghost use Rattle.waff_model.specs.KeptOps.{kept_ops};
     ghost use Rattle.waff_model.specs.declared.op.Op.{Op};
 
     ghost Value = { List Op };
 
-    ghost view = { λ ops. map op_of ops.packed.items ++ ops.plain.items };
+    ghost view = { λ ops. kept_ops ops.kept };
 }
 
 // Written out: a derived drop is proved again in each crate that lets go of the value.
 impl Drop for Ops {
     fn drop(self) {
-        let Ops { packed, plain } = self;
-        drop(packed);
-        drop(plain);
+        let Ops { alloc: _, kept } = self;
+        drop(kept);
     }
 }
 
@@ -40,8 +49,8 @@ impl Ops {
         ensures { result ≡ [] }
     {
         Ops {
-            packed: Vec::new(alloc),
-            plain: Vec::new(alloc),
+            alloc,
+            kept: Kept::Packed(Vec::new(alloc)),
         }
     }
 
@@ -49,9 +58,13 @@ impl Ops {
     pub fn with_capacity(alloc: Global, room: usize) -> Result<Self, AllocError>
         ensures { IfOk result (λ ops. ops ≡ []) }
     {
+        if room < 2 {
+            return Ok(Ops::new(alloc));
+        }
+        let list = Vec::with_capacity(alloc, room)?;
         Ok(Ops {
-            packed: Vec::with_capacity(alloc, room)?,
-            plain: Vec::new(alloc),
+            alloc,
+            kept: Kept::Packed(list),
         })
     }
 
@@ -61,14 +74,27 @@ impl Ops {
         ensures pushed { OnOk result (self.new ≡ self.old ++ op ∷ []) }
         ensures unchanged { OnErr result (self.new ≡ self.old) }
     {
-        if self.plain.is_empty() {
-            if let Some(packed) = PackedOp::of(op) {
-                self.packed.push(packed)?;
-                return Ok(());
+        if let Kept::Packed(list) = &mut self.kept {
+            if list.len() < list.capacity() {
+                if let Some(packed) = PackedOp::of(op) {
+                    list.push_reserved(packed);
+                    return Ok(());
+                }
             }
         }
-        self.plain.push(op)?;
-        Ok(())
+        self.push_elsewhere(op)
+    }
+
+    // Appends an operation for which there is no room, or which is not packed.
+    #[inline(never)]
+    fn push_elsewhere(&mut self, op: Op) -> Result<(), AllocError>
+        ensures pushed { OnOk result (self.new ≡ self.old ++ op ∷ []) }
+        ensures unchanged { OnErr result (self.new ≡ self.old) }
+    {
+        match PackedOp::of(op) {
+            Some(packed) => push_packed(self.alloc, &mut self.kept, packed),
+            None => push_plain(self.alloc, &mut self.kept, op),
+        }
     }
 
     /// How many operations there are.
@@ -76,7 +102,7 @@ impl Ops {
     pub fn len(&self) -> usize
         ensures { result ≡ length self.now }
     {
-        self.packed.len() + self.plain.len()
+        self.kept.len()
     }
 
     /// Whether there is no operation.
@@ -92,9 +118,95 @@ impl Ops {
         requires { index < length self.now }
         ensures { slice_get self.now index ≡ Some result }
     {
-        match self.packed.get(index) {
-            Some(packed) => packed.op(),
-            None => self.plain[index - self.packed.len()],
+        self.kept.get(index)
+    }
+}
+
+impl Kept {
+    #[inline(always)]
+    fn len(&self) -> usize
+        ensures { result ≡ length (kept_ops self.now) }
+    {
+        match self {
+            Kept::One(_) => 1,
+            Kept::Packed(list) => list.len(),
+            Kept::Plain(list) => list.len(),
         }
     }
+
+    #[inline(always)]
+    fn get(&self, index: usize) -> Op
+        requires { index < length (kept_ops self.now) }
+        ensures { slice_get (kept_ops self.now) index ≡ Some result }
+    {
+        match self {
+            Kept::One(packed) => packed.op(),
+            Kept::Packed(list) => list[index].op(),
+            Kept::Plain(list) => list[index],
+        }
+    }
+}
+
+// Appends a packed operation for which there is no room.
+fn push_packed(alloc: Global, kept: &mut Kept, op: PackedOp) -> Result<(), AllocError>
+    ensures pushed { OnOk result (kept_ops kept.new ≡ kept_ops kept.old ++ op_of op ∷ []) }
+    ensures unchanged { OnErr result (kept_ops kept.new ≡ kept_ops kept.old) }
+{
+    match kept {
+        Kept::One(first) => {
+            let list = pair_of(alloc, *first, op)?;
+            *kept = Kept::Packed(list);
+        }
+        Kept::Packed(list) => {
+            if list.is_empty() {
+                *kept = Kept::One(op);
+            } else {
+                list.push(op)?;
+            }
+        }
+        Kept::Plain(list) => list.push(op.op())?,
+    }
+    Ok(())
+}
+
+fn pair_of(alloc: Global, first: PackedOp, second: PackedOp) -> Result<Vec<PackedOp>, AllocError>
+    ensures { IfOk result (λ list. list.items ≡ first ∷ second ∷ []) }
+{
+    let mut list = Vec::with_capacity(alloc, 2)?;
+    list.push_reserved(first);
+    list.push_reserved(second);
+    Ok(list)
+}
+
+// Appends an operation that is not packed, so that none is.
+fn push_plain(alloc: Global, kept: &mut Kept, op: Op) -> Result<(), AllocError>
+    ensures pushed { OnOk result (kept_ops kept.new ≡ kept_ops kept.old ++ op ∷ []) }
+    ensures unchanged { OnErr result (kept_ops kept.new ≡ kept_ops kept.old) }
+{
+    match kept {
+        Kept::One(first) => {
+            let list = with_plain(alloc, &[*first], op)?;
+            *kept = Kept::Plain(list);
+        }
+        Kept::Packed(first) => {
+            let list = with_plain(alloc, first, op)?;
+            *kept = Kept::Plain(list);
+        }
+        Kept::Plain(list) => list.push(op)?,
+    }
+    Ok(())
+}
+
+fn with_plain(alloc: Global, first: &[PackedOp], op: Op) -> Result<Vec<Op>, AllocError>
+    ensures { IfOk result (λ list. list.items ≡ map op_of first.now ++ op ∷ []) }
+{
+    let mut list = unpacked(alloc, first)?;
+    list.push(op)?;
+    Ok(list)
+}
+
+fn unpacked(alloc: Global, packed: &[PackedOp]) -> Result<Vec<Op>, AllocError>
+    ensures { IfOk result (λ list. list.items ≡ map op_of packed.now) }
+{
+    packed.iter().map(|op| op.op()).collect(alloc)
 }

@@ -51,7 +51,7 @@ fn starts_of(alloc: Global, spaces: &[Space]) -> Result<Vec<u32>, AllocError>
     let mut starts = Vec::with_capacity(alloc, spaces.len())?;
     let mut cells = 0;
     for space in spaces {
-        starts.push(cells)?;
+        starts.push_reserved(cells);
         cells += space.size();
     }
     Ok(starts)
@@ -99,7 +99,7 @@ fn offsets_of(alloc: Global, owners: &[u16], sizes: &mut [u32]) -> Result<Vec<u3
     let mut offsets = Vec::with_capacity(alloc, owners.len())?;
     for owner in owners {
         let size = sizes[*owner as usize];
-        offsets.push(size)?;
+        offsets.push_reserved(size);
         sizes[*owner as usize] = size + 1;
     }
     Ok(offsets)

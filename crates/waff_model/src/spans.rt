@@ -47,16 +47,16 @@ impl Later for u32 {
     ghost laws = { number_laws };
 }
 
-/// Values noted at spans of places: what counts at a place is the latest that was noted there.
+/// Values noted at spans of places, by places and blocks.
 #[derive(Drop)]
-pub struct Spread<T: Later> {
+struct Blocks<T: Later> {
     /// What was noted at each place alone.
     places: Vec<T>,
     /// What was noted at all places of a block.
     blocks: Vec<T>,
 }
 
-impl<T: Later> Model for Spread<T> {
+impl<T: Later> Model for Blocks<T> {
     ghost use Rattle.std.specs.Prelude.{List};
     ghost use Rattle.waff_model.specs.Blocks.{spread_from, AreCut};
 
@@ -67,20 +67,28 @@ impl<T: Later> Model for Spread<T> {
     ghost invariant = { λ s. AreCut s.places.items s.blocks.items };
 }
 
-impl<T: Later> Spread<T> {
+impl<T: Later> Blocks<T> {
     /// Nothing is noted at these many places.
-    pub fn none(alloc: Global, count: usize) -> Result<Self, AllocError>
-        ensures { IfOk result (λ spread. spread ≡ replicate count T.order.none) }
+    fn none(alloc: Global, count: usize) -> Result<Self, AllocError>
+        ensures { IfOk result (λ blocks. blocks ≡ replicate count T.order.none) }
     {
-        Ok(Spread {
+        Ok(Blocks {
             places: filled(alloc, count)?,
             blocks: filled(alloc, count / BLOCK + 1)?,
         })
     }
 
+    /// How many places there are.
+    #[inline]
+    fn len(&self) -> usize
+        ensures { result ≡ length self.now }
+    {
+        self.places.len()
+    }
+
     /// What counts at this place.
     #[inline]
-    pub fn at(&self, place: usize) -> T
+    fn at(&self, place: usize) -> T
         requires { place < length self.now }
         ensures { result ≡ value_at T.order self.now place }
     {
@@ -88,7 +96,7 @@ impl<T: Later> Spread<T> {
     }
 
     /// Notes a value at the places from `from` up to `to`.
-    pub fn note(&mut self, from: usize, to: usize, value: T)
+    fn note(&mut self, from: usize, to: usize, value: T)
         requires forward { from ≤ to }
         requires within { to ≤ length self.old }
         ensures { IsNoted T.order from to value self.old self.new }
@@ -101,6 +109,56 @@ impl<T: Later> Spread<T> {
         note_each(&mut self.places, from, first * BLOCK, value);
         note_each(&mut self.blocks, first, last, value);
         note_each(&mut self.places, last * BLOCK, to, value);
+    }
+}
+
+/// Values noted at spans of places: what counts at a place is the latest that was noted there.
+#[derive(Drop)]
+pub struct Spread<T: Later> {
+    /// What was noted at spans of some places.
+    blocks: Blocks<T>,
+    /// What was noted at all places.
+    whole: T,
+}
+
+impl<T: Later> Model for Spread<T> {
+    ghost use Rattle.std.specs.Prelude.{List, map};
+
+    ghost Value = { List T };
+
+    ghost view = { λ s. map (λ x. T.order.later x s.whole) s.blocks };
+}
+
+impl<T: Later> Spread<T> {
+    /// Nothing is noted at these many places.
+    pub fn none(alloc: Global, count: usize) -> Result<Self, AllocError>
+        ensures { IfOk result (λ spread. spread ≡ replicate count T.order.none) }
+    {
+        let blocks = Blocks::none(alloc, count)?;
+        let whole = T::none();
+        Ok(Spread { blocks, whole })
+    }
+
+    /// What counts at this place.
+    #[inline]
+    pub fn at(&self, place: usize) -> T
+        requires { place < length self.now }
+        ensures { result ≡ value_at T.order self.now place }
+    {
+        self.blocks.at(place).later(self.whole)
+    }
+
+    /// Notes a value at the places from `from` up to `to`.
+    pub fn note(&mut self, from: usize, to: usize, value: T)
+        requires forward { from ≤ to }
+        requires within { to ≤ length self.old }
+        ensures { IsNoted T.order from to value self.old self.new }
+    {
+        if from == 0 && to == self.blocks.len() {
+            self.whole = self.whole.later(value);
+        } else {
+            self.blocks.note(from, to, value);
+        }
     }
 }
 

@@ -10,9 +10,12 @@ use Rattle.waff_parse.specs.Refusals.{◌>>=◌}
 use Rattle.waff_parse.specs.Rows.{Record, is_text}
 use Rattle.waff_model.specs.declared.message.Version.{Version}
 use Rattle.waff_parse.specs.Texts.{number_within, parts}
+use Rattle.waff_parse.specs.Stopping.{Stops}
+use Rattle.waff_parse.specs.declared.stop.Stop.{Stop}
 use Rattle.waff_parse.specs.Walks.{walk, with_front}
-use Rattle.waff_parse.proofs.Laws.{walk-end}
+use Rattle.waff_parse.proofs.Laws.{bind-stops, walk-end}
 use Rattle.waff_plan_text.specs.Summaries.{begins_summary, bound_line, chain_line, closing_of, ending_of, ends, link_of, links_of, next_line, same, summary_of, tick_line, with_closing, workers_line}
+use Rattle.waff_plan_text.specs.declared.refusal.PlanTextError.{PlanTextError}
 use Rattle.waff_plan_text.specs.declared.refusal.Refusal.{Refusal}
 use Rattle.waff_plan_text.specs.declared.refusal.Refusal.TheVariants as refusal
 use Rattle.waff_plan_text.proofs.WalkLaws.{walk-refused, walk-turn}
@@ -86,6 +89,26 @@ summary-chain version messages at first left0 left1 left2 left3 workers total le
     let two : left2 ≡ drop 2 left0 = l2 ∙ ap (drop 1) l1 ∙ drop-one 1 left0 in
     let three : left3 ≡ drop 3 left0 = l3 ∙ ap (drop 1) two ∙ drop-one 2 left0 in
     rw (text, ← w, t, ← l1, l, ← two, k, ← three) refl
+
+-- a summary that stops at its second, third or fourth line
+module _ (version : Version) (messages at : ℕ) (first : Record) (left0 : List Record) (workers : Option ℕ)
+    (text : is_text first ≡ true) (w : Ok workers ≡ workers_line first) (why : Stop PlanTextError) where
+  pub stops-total : Stops why (next_line (tick_line (codes "total")) (at + 1) left0) → Stops why (summary_of version messages at (first ∷ left0))
+  unfolding summary_of
+  stops-total h = rw (text, ← w) (bind-stops why (next_line (tick_line (codes "total")) (at + 1) left0) _ h)
+
+  pub stops-length : (left1 : List Record) (total : ℕ) → next_line (tick_line (codes "total")) (at + 1) left0 ≡ Ok total → left1 ≡ drop 1 left0
+      → Stops why (next_line (tick_line (codes "length")) (at + 2) left1) → Stops why (summary_of version messages at (first ∷ left0))
+  unfolding summary_of
+  stops-length left1 total t l1 h = rw (text, ← w, t, ← l1) (bind-stops why (next_line (tick_line (codes "length")) (at + 2) left1) _ h)
+
+  pub stops-chain : (left1 left2 : List Record) (total length : ℕ) → next_line (tick_line (codes "total")) (at + 1) left0 ≡ Ok total → left1 ≡ drop 1 left0
+      → next_line (tick_line (codes "length")) (at + 2) left1 ≡ Ok length → left2 ≡ drop 1 left1
+      → Stops why (next_line (chain_line messages) (at + 3) left2) → Stops why (summary_of version messages at (first ∷ left0))
+  unfolding summary_of
+  stops-chain left1 left2 total length t l1 l l2 h =
+      let two : left2 ≡ drop 2 left0 = l2 ∙ ap (drop 1) l1 ∙ drop-one 1 left0 in
+      rw (text, ← w, t, ← l1, l, ← two) (bind-stops why (next_line (chain_line messages) (at + 3) left2) _ h)
 
 -- the lines behind the release up to the bound
 pub ending-bound : (release at : ℕ) (left0 left1 left2 : List Record) (cost : ℕ) (sides : ℕ × ℕ)

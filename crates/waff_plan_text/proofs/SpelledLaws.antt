@@ -26,6 +26,13 @@ use Rattle.waff_plan_text.specs.declared.refusal.Refusal.TheVariants as refusal
 use Rattle.waff_plan_text.proofs.RowLaws.{NumberIn, number_in}
 use Rattle.waff_plan_text.proofs.SummaryLaws.{drop-one}
 
+-- what a reading gave, by two names
+same_read : {F A : Type 0} (a b : A) → ◌≡◌ {A = Result A F} (Ok a) (Ok b) → a ≡ b
+same_read a b h = cc
+
+no_read : {F A : Type 0} (e : F) (a : A) → ◌≡◌ {A = Result A F} (Err e) (Ok a) → ⊥
+no_read e a h = absurd (cc)
+
 -- one reading after the other, both of which gave a value
 bind_ok : {F A B : Type 0} (r : Result A F) (f : A → Result B F) (b : B) → (r >>= f) ≡ Ok b → (a : A) × (r ≡ Ok a) × (f a ≡ Ok b)
 bind_ok (Ok a) f b h = (a, refl, h)
@@ -213,12 +220,12 @@ bound_ok (a ∷ b ∷ c ∷ []) sides h = by (is_bound a b c) refl (number_withi
     by : (t : Bool) → is_bound a b c ≡ t → (l r : Result ℕ Refusal) → number_within_limit b ≡ l → number_within_limit c ≡ r
         → (if t then (l >>= (λ left. r >>= (λ right. let sides : ℕ × ℕ = (left, right) in Ok sides))) else Err refusal.Summary) ≡ Ok sides
         → (left : Field) × (right : Field) × (a ∷ b ∷ c ∷ [] ≡ codes "bound" ∷ left ∷ right ∷ []) × IsTick left sides.0 × IsTick right sides.1
-    by false is l r p q same = absurd (cc)
-    by true is (Err e) r p q same = absurd (cc)
-    by true is (Ok l) (Err e) p q same = absurd (cc)
+    by false _ l r _ _ same = absurd (no_read refusal.Summary sides same)
+    by true _ (Err e) r _ _ same = absurd (no_read e sides same)
+    by true _ (Ok l) (Err e) _ _ same = absurd (no_read e sides same)
     by true is (Ok l) (Ok r) p q same =
         let name : a ≡ codes "bound" = (bytes_eq-Decides a (codes "bound")).0 (and_parts (bytes_eq a (codes "bound")) _ is).0 in
-        let whole : ◌≡◌ {A = ℕ × ℕ} (l, r) sides = cc in
+        let whole = same_read (l, r) sides same in
         (b, c, ap (λ n. n ∷ b ∷ c ∷ []) name, subst (λ (s : ℕ × ℕ). IsTick b s.0) whole (limit_ok b l p), subst (λ (s : ℕ × ℕ). IsTick c s.1) whole (limit_ok c r q))
 
 pub ok_bound : (left_text right_text : Field) (left right : ℕ) → IsTick left_text left → IsTick right_text right
@@ -268,11 +275,11 @@ ending_ok release at rows closing h =
         → next_line bound_line (at + 1) (drop 1 rows) ≡ b → (e : Result (Unit {0}) PlanTextError) → ends (at + 2) (drop 2 rows) ≡ e
         → (c >>= (λ cost. b >>= (λ bound. e >>= (λ _. let closing : Closing = record { release = release; cost = cost; left = bound.0; right = bound.1 } in
         let read : Result Closing PlanTextError = Ok closing in read)))) ≡ Ok closing → SpellsEnding release rows closing
-    by (Err d) p b q e r same = absurd (cc)
-    by (Ok c) p (Err d) q e r same = absurd (cc)
-    by (Ok c) p (Ok b) q (Err d) r same = absurd (cc)
+    by (Err d) _ b _ e _ same = absurd (no_read d closing same)
+    by (Ok c) _ (Err d) _ e _ same = absurd (no_read d closing same)
+    by (Ok c) _ (Ok b) _ (Err d) _ same = absurd (no_read d closing same)
     by (Ok c) p (Ok b) q (Ok u) r same =
-        let whole : ◌≡◌ {A = Closing} (record { release = release; cost = c; left = b.0; right = b.1 }) closing = cc in
+        let whole = same_read (record { release = release; cost = c; left = b.0; right = b.1 }) closing same in
         let first = line_ok (tick_line (codes "cost")) at rows c p in
         let cost = tick_ok (codes "cost") first.0 c first.2 in
         let second = line_ok bound_line (at + 1) (drop 1 rows) b q in
@@ -349,13 +356,13 @@ spelled version messages at rows summary h =
           closing ← k
           Ok (with_closing workers total length chain closing)) ≡ Ok summary
         → SpellsSummary version messages rows summary
-    by (Err d) wi t ti l li c ci k ki same = absurd (cc)
-    by (Ok w) wi (Err d) ti l li c ci k ki same = absurd (cc)
-    by (Ok w) wi (Ok t) ti (Err d) li c ci k ki same = absurd (cc)
-    by (Ok w) wi (Ok t) ti (Ok l) li (Err d) ci k ki same = absurd (cc)
-    by (Ok w) wi (Ok t) ti (Ok l) li (Ok c) ci (Err d) ki same = absurd (cc)
+    by (Err d) _ t _ l _ c _ k _ same = absurd (no_read d summary same)
+    by (Ok w) _ (Err d) _ l _ c _ k _ same = absurd (no_read d summary same)
+    by (Ok w) _ (Ok t) _ (Err d) _ c _ k _ same = absurd (no_read d summary same)
+    by (Ok w) _ (Ok t) _ (Ok l) _ (Err d) _ k _ same = absurd (no_read d summary same)
+    by (Ok w) _ (Ok t) _ (Ok l) _ (Ok c) _ (Err d) _ same = absurd (no_read d summary same)
     by (Ok w) wi (Ok t) ti (Ok l) li (Ok c) ci (Ok k) ki same =
-        let whole : ◌≡◌ {A = SummaryLines} (with_closing w t l c k) summary = cc in
+        let whole = same_read (with_closing w t l c k) summary same in
         let a = line_ok workers_line at rows w wi in
         let workers = workers_ok a.0 w a.2 in
         let b = line_ok (tick_line (codes "total")) (at + 1) (drop 1 rows) t ti in
@@ -438,6 +445,18 @@ ok_closing V2 at rows closing texts s =
     (other_texts (codes "release" ∷ s.release_text ∷ []) others here) s.cost s.left s.right in
     ap (closing_of V2 at) s.lines ∙ ap (λ r. r >>= (λ release. ending_of release (at + 1) others)) release ∙ read
 
+-- five readings in turn, each of which gives a value
+all_read : {w : Result (Option ℕ) PlanTextError} {t l : Result ℕ PlanTextError} {c : Result (List ℕ) PlanTextError} {k : Result Closing PlanTextError}
+    (workers : Option ℕ) (total len : ℕ) (chain : List ℕ) (closing : Closing) → w ≡ Ok workers → t ≡ Ok total → l ≡ Ok len → c ≡ Ok chain → k ≡ Ok closing
+    → (do
+      workers ← w
+      total ← t
+      len ← l
+      chain ← c
+      closing ← k
+      Ok (with_closing workers total len chain closing)) ≡ Ok (with_closing workers total len chain closing)
+all_read workers total len chain closing w t l c k = rw (w, t, l, c, k) refl
+
 is_read : (version : Version) (messages at : ℕ) (rows : List Record) (summary : SummaryLines) → AreTexts rows → SpellsSummary version messages rows summary
     → summary_of version messages at rows ≡ Ok summary
 unfolding summary_of
@@ -466,17 +485,16 @@ is_read version messages at rows summary texts s =
       right = s.right;
     } in
     ap (summary_of version messages at) s.lines
-    ∙ rw (
-      ok_line workers_line at workers_row (total_row ∷ length_row ∷ chain_row ∷ end) summary.workers (first_text workers_row (total_row ∷ length_row ∷ chain_row ∷ end) one)
-          (ok_workers s.workers_text summary.workers s.workers),
-      ok_line (tick_line (codes "total")) (at + 1) total_row (length_row ∷ chain_row ∷ end) totals.total (first_text total_row (length_row ∷ chain_row ∷ end) two)
-          (ok_tick (codes "total") s.total_text totals.total s.total),
-      ok_line (tick_line (codes "length")) (at + 2) length_row (chain_row ∷ end) totals.length (first_text length_row (chain_row ∷ end) three)
-          (ok_tick (codes "length") s.length_text totals.length s.length),
-      ok_line (chain_line messages) (at + 3) chain_row end summary.chain (first_text chain_row end four)
-          (ok_chain messages s.chain_text summary.chain s.chain s.listed),
-      ok_closing version (at + 4) end closing five closes,
-    ) refl
+    ∙ all_read summary.workers totals.total totals.length summary.chain closing
+    (ok_line workers_line at workers_row (total_row ∷ length_row ∷ chain_row ∷ end) summary.workers (first_text workers_row (total_row ∷ length_row ∷ chain_row ∷ end) one)
+    (ok_workers s.workers_text summary.workers s.workers))
+    (ok_line (tick_line (codes "total")) (at + 1) total_row (length_row ∷ chain_row ∷ end) totals.total (first_text total_row (length_row ∷ chain_row ∷ end) two)
+    (ok_tick (codes "total") s.total_text totals.total s.total))
+    (ok_line (tick_line (codes "length")) (at + 2) length_row (chain_row ∷ end) totals.length (first_text length_row (chain_row ∷ end) three)
+    (ok_tick (codes "length") s.length_text totals.length s.length))
+    (ok_line (chain_line messages) (at + 3) chain_row end summary.chain (first_text chain_row end four)
+    (ok_chain messages s.chain_text summary.chain s.chain s.listed))
+    (ok_closing version (at + 4) end closing five closes)
 
 pub summary_is_exact : (version : Version) (messages at : ℕ) (records : List Record) (summary : SummaryLines) → SummaryIsExact version messages at records summary
 summary_is_exact version messages at records summary texts = (spelled version messages at records summary, is_read version messages at records summary texts)

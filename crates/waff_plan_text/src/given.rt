@@ -13,7 +13,6 @@ use waff_plan::Plan;
 
 /// A plan as a text gives it, which need not be a plan of anything: a row for each message, and a
 /// summary. Messages are numbered from 1; all times are ticks.
-#[derive(Drop)]
 pub struct GivenPlan {
     version: Version,
     rows: Vec<Row>,
@@ -29,6 +28,19 @@ impl Model for GivenPlan {
 
     ghost invariant = { λ p.
         IsGiven (record { version = p.version; rows = p.rows.items; summary = p.summary }) };
+}
+
+// Written out: a derived drop is proved again in each crate that lets go of the value.
+impl Drop for GivenPlan {
+    fn drop(self) {
+        let GivenPlan {
+            version: _,
+            rows,
+            summary,
+        } = self;
+        drop(rows);
+        drop(summary);
+    }
 }
 
 impl GivenPlan {

@@ -42,7 +42,7 @@ impl Slots {
     {
         let mut places = Vec::with_capacity(alloc, messages as usize)?;
         for _message in 0..messages {
-            places.push(None)?;
+            places.push_reserved(None);
         }
         Ok(Slots { places })
     }
@@ -110,7 +110,7 @@ impl Slots {
         let Slots { places } = self;
         for place in places {
             match place {
-                Some(row) => rows.push(row)?,
+                Some(row) => rows.push_reserved(row),
                 None => {
                     let message = before + 1;
                     return Err(Stop::Fault(PlanTextError::Missing { message }));

@@ -3,7 +3,7 @@ use Rattle.std.proofs.Common.{◌≡◌, ℕ, ◌+◌, ◌<◌, ◌≤◌, ◌==
 use Rattle.std.specs.Prelude.{is_some}
 use Rattle.std.specs.Str.{bytes_eq}
 use Rattle.std.proofs.lemmas.Bool.Decides.{nat_tests}
-use Rattle.std.proofs.lemmas.List.{drop_more, drop_all, length-map}
+use Rattle.std.proofs.lemmas.List.{drop_more, drop_all}
 use Rattle.toml.specs.Data.{Data}
 use Rattle.toml.specs.View.{view}
 use Rattle.toml.specs.declared.value.Value.{Value}
@@ -49,7 +49,7 @@ unfolding tree_from
 tree_from-end tree = refl
 
 -- some rows are read from the empty tree on
-tree_of-filled : (rows : List Data) → 0 < length rows → tree_of rows ≡ tree_from [] rows
+pub tree_of-filled : (rows : List Value) → 0 < length rows → tree_of (map view rows) ≡ tree_from [] (map view rows)
 tree_of-filled [] filled = absurd (omega arith)
 tree_of-filled (row ∷ more) filled = refl
 
@@ -66,17 +66,16 @@ module _ (tree : List Node) (rows : List Value) (i : ℕ) (row : Value) where
       sym (tree_from-step tree (view row) (map view (drop (i + 1) rows)) accepted) ∙ sym (rows_more inside is)
 
   -- a row that is refused ends the reading
-  pub stops : i < length rows → row ≡ get_or rows i row → (e : Stop TreeError) → Stops e (passed (refusal_of tree (node_in tree (view row)))) → (all : List Value)
-      → tree_from tree (map view (drop i rows)) ≡ tree_from [] (map view all) → 0 < length all → Stops e (tree_of (map view all))
-  stops inside is stop.Memory told all same filled = tt
-  stops inside is (stop.Fault e) told all same filled =
-      tree_of-filled (map view all) (simp length-map (filled)) ∙ sym same ∙ rows_more inside is ∙ tree_from-stop tree (view row) (map view (drop (i + 1) rows)) e told
+  pub stops : i < length rows → row ≡ get_or rows i row → (e : Stop TreeError) → Stops e (passed (refusal_of tree (node_in tree (view row))))
+      → tree_from tree (map view (drop i rows)) ≡ tree_from [] (map view rows) → Stops e (tree_from [] (map view rows))
+  stops inside is stop.Memory told same = tt
+  stops inside is (stop.Fault e) told same =
+      sym same ∙ rows_more inside is ∙ tree_from-stop tree (view row) (map view (drop (i + 1) rows)) e told
 
 module _ (tree : List Node) (rows : List Value) (i : ℕ) where
   -- after the last row the tree is what was to be read
-  pub ends : length rows ≤ i → 0 < length rows → tree_from tree (map view (drop i rows)) ≡ tree_from [] (map view rows) → tree_of (map view rows) ≡ Ok tree
-  ends past filled same =
-      tree_of-filled (map view rows) (simp length-map filled)
-      ∙ sym same
+  pub ends : length rows ≤ i → tree_from tree (map view (drop i rows)) ≡ tree_from [] (map view rows) → tree_from [] (map view rows) ≡ Ok tree
+  ends past same =
+      sym same
       ∙ ap (λ (more : List Value). tree_from tree (map view more)) (drop_all i rows past)
       ∙ tree_from-end tree

@@ -21,11 +21,11 @@ use Rattle.waff_read.specs.Affinities.{node_in, tree_from, tree_of}
 use Rattle.waff_read.specs.Checks.{passed}
 use Rattle.waff_read.specs.Documents.{document_of, rows_at}
 use Rattle.waff_read.specs.HierRefusals.{shape_error, tree_error, layout_error, level_error}
-use Rattle.waff_read.specs.Hierarchies.{hierarchy_of, kind_of, kind_refusal, layout_at, third_level_of}
+use Rattle.waff_read.specs.Hierarchies.{hierarchy_of, kind_of, kind_refusal, layout_at, layout_in, third_level_of}
 use Rattle.waff_read.specs.Laws.{Describes, HierarchyIsExact, ClassicalHasTwoLevels}
 use Rattle.waff_read.specs.Shapes.{shape_refusal}
 use Rattle.waff_read.specs.Spaces.{space_of, map_of}
-use Rattle.waff_read.proofs.HierarchyLemmas.{after_document, after_kind, after_shape, after_tree, after_level, at_document}
+use Rattle.waff_read.proofs.HierarchyLemmas.{after_kind, after_shape, after_tree, after_level, at_document}
 use Rattle.waff_read.proofs.LevelLemmas.{level_none}
 
 -- where two readings in turn give a value, the first gives one, and the second then gives the value
@@ -52,7 +52,7 @@ told-read name (Err e) a h = absurd (cc)
 module _ (bytes : List ℕ) (layout : Hierarchy) where
   read-describes : hierarchy_of bytes ≡ Ok layout → Describes bytes layout
   read-describes h =
-      let d = bind_read (ok_or (document_of bytes) error.Toml) after_document layout (sym (at_document bytes) ∙ h) in
+      let d = bind_read (ok_or (document_of bytes) error.Toml) layout_in layout (sym (at_document bytes) ∙ h) in
       let k = bind_read (ok_or (kind_of d.0) error.Model) (after_kind d.0) layout d.2 in
       let s = bind_read (passed (option_map shape_error (shape_refusal d.0))) (λ _. after_shape d.0 k.0) layout k.2 in
       let t = bind_read (told tree_error (tree_of (rows_at (codes "affinity") d.0))) (after_tree d.0 k.0) layout s.2 in

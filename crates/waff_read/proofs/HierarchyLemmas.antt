@@ -20,10 +20,9 @@ use Rattle.waff_read.specs.Checks.{passed}
 use Rattle.waff_read.specs.Documents.{document_of, rows_at}
 use Rattle.waff_read.specs.Shapes.{shape_refusal}
 use Rattle.waff_read.specs.Affinities.{tree_of}
-use Rattle.waff_read.specs.Spaces.{space_of, map_of}
 use Rattle.waff_read.proofs.DocumentLemmas.{map_map}
 use Rattle.waff_read.specs.HierRefusals.{Tells, shape_error, tree_error, layout_error}
-use Rattle.waff_read.specs.Hierarchies.{kind_of, kind_refusal, layout_at, hierarchy_of}
+use Rattle.waff_read.specs.Hierarchies.{kind_of, kind_refusal, layout_at, layout_in, hierarchy_of}
 
 -- a fault tells a reading that ends in it
 pub tells_at : {A : Type 0} (e : HierError) (read : Result A HierError) → read ≡ Err e → Tells e read
@@ -62,45 +61,41 @@ after_shape document kind = told tree_error (tree_of (rows_at (codes "affinity")
 abbrev pub after_kind : Data → Kind → Result Hierarchy HierError
 after_kind document kind = passed (option_map shape_error (shape_refusal document)) >>= (λ _. after_shape document kind)
 
-abbrev pub after_document : Data → Result Hierarchy HierError
-after_document document = ok_or (kind_of document) error.Model >>= after_kind document
-
 module _ (bytes : List ℕ) where
-  pub at_document : hierarchy_of bytes ≡ (ok_or (document_of bytes) error.Toml >>= after_document)
+  pub at_document : hierarchy_of bytes ≡ (ok_or (document_of bytes) error.Toml >>= layout_in)
   unfolding hierarchy_of
   at_document = refl
 
-  pub at_kind : (document : Data) → ok_or (document_of bytes) error.Toml ≡ Ok document → hierarchy_of bytes ≡ after_document document
-  at_kind document read = at_document ∙ rw read refl
+  pub at_layout_in : (document : Data) → ok_or (document_of bytes) error.Toml ≡ Ok document → hierarchy_of bytes ≡ layout_in document
+  at_layout_in document read = at_document ∙ rw read refl
 
-module _ (whole : Result Hierarchy HierError) (document : Data) (kind : Kind) where
-  pub at_shape : whole ≡ after_document document → Ok kind ≡ ok_or (kind_of document) error.Model → whole ≡ after_kind document kind
-  at_shape same read = same ∙ rw (← read) refl
+module _ (document : Data) (kind : Kind) where
+  pub at_shape : Ok kind ≡ ok_or (kind_of document) error.Model → layout_in document ≡ after_kind document kind
+  at_shape read = rw (← read) refl
 
-  pub at_tree : whole ≡ after_kind document kind → Ok tt ≡ passed (option_map shape_error (shape_refusal document)) → whole ≡ after_shape document kind
+  pub at_tree : layout_in document ≡ after_kind document kind → Ok tt ≡ passed (option_map shape_error (shape_refusal document)) → layout_in document ≡ after_shape document kind
   at_tree same read = same ∙ rw (← read) refl
 
-  pub at_level : (tree : List Node) → whole ≡ after_shape document kind → told tree_error (tree_of (rows_at (codes "affinity") document)) ≡ Ok tree → whole ≡ after_tree document kind tree
+  pub at_level : (tree : List Node) → layout_in document ≡ after_shape document kind → told tree_error (tree_of (rows_at (codes "affinity") document)) ≡ Ok tree → layout_in document ≡ after_tree document kind tree
   at_level tree same read = same ∙ rw read refl
 
-  pub at_layout : (tree : List Node) → whole ≡ after_tree document kind tree → Ok tt ≡ passed (kind_refusal kind tree) → whole ≡ after_level document kind tree
+  pub at_layout : (tree : List Node) → layout_in document ≡ after_tree document kind tree → Ok tt ≡ passed (kind_refusal kind tree) → layout_in document ≡ after_level document kind tree
   at_layout tree same read = same ∙ rw (← read) refl
 
 refused_some : (refusal : Option LayoutError) (e : LayoutError) → e ≡ unwrap_or refusal Memory → e ≢ Memory → refusal ≡ Some e
 refused_some None e same other = absurd (other same)
 refused_some (Some refusal) e same other = ap Some (sym same)
 
-module _ (kind : Kind) (tree : List Node) (document : Data) (spaces : List SpaceSpec) (maps : List MapSpec)
-    (all_spaces : spaces ≡ map space_of (rows_at (codes "space") document)) (all_maps : maps ≡ map map_of (rows_at (codes "map") document)) where
+module _ (kind : Kind) (tree : List Node) (spaces : List SpaceSpec) (maps : List MapSpec) where
   -- rows that are not refused are read as their layout
-  pub layout_read : layout_refusal tree spaces maps ≡ None → told layout_error (layout_at kind tree document) ≡ Ok (model.hierarchy_of kind tree spaces maps)
-  layout_read accepted = rw (← all_spaces, ← all_maps, accepted) refl
+  pub layout_read : layout_refusal tree spaces maps ≡ None → told layout_error (model.layout_of kind tree spaces maps) ≡ Ok (model.hierarchy_of kind tree spaces maps)
+  layout_read accepted = rw accepted refl
 
   -- rows that are refused are read as that refusal
-  pub layout_refused : (e : LayoutError) → e ≡ unwrap_or (layout_refusal tree spaces maps) Memory → e ≢ Memory → told layout_error (layout_at kind tree document) ≡ Err (error.Layout e)
+  pub layout_refused : (e : LayoutError) → e ≡ unwrap_or (layout_refusal tree spaces maps) Memory → e ≢ Memory → told layout_error (model.layout_of kind tree spaces maps) ≡ Err (error.Layout e)
   layout_refused e refused other =
       let refusal : layout_refusal tree spaces maps ≡ Some e = refused_some (layout_refusal tree spaces maps) e refused other in
-      rw (← all_spaces, ← all_maps, refusal) refl
+      rw refusal refl
 
 -- the rows of a document as spaces and as maps
 pub all_of : {A : Type 0} (f : Data → A) (rows : List Value) (values : List Data) → map view rows ≡ values → map (λ row. f (view row)) rows ≡ map f values

@@ -13,13 +13,13 @@ use Rattle.waff_read.specs.Affinities.{tree_of}
 use Rattle.waff_read.specs.Checks.{passed}
 use Rattle.waff_read.specs.Documents.{document_of, rows_at}
 use Rattle.waff_read.specs.HierRefusals.{shape_error, tree_error, layout_error, level_error}
-use Rattle.waff_read.specs.Hierarchies.{hierarchy_of, kind_of, kind_refusal, layout_at, third_level_of}
+use Rattle.waff_read.specs.Hierarchies.{hierarchy_of, kind_of, kind_refusal, layout_at, layout_in, third_level_of}
 use Rattle.waff_read.specs.Shapes.{shape_refusal}
 use Rattle.waff_read.specs.declared.hier_error.HierError.{HierError}
 use Rattle.waff_read.specs.declared.hier_error.HierError.TheVariants as error
 use Rattle.waff_read.specs.declared.hier_error.Key.{Key}
 use Rattle.waff_read.specs.Refused.{IsShaped, HasTree, IsRefusedHierarchy, FirstCheckDecides}
-use Rattle.waff_read.proofs.HierarchyLemmas.{after_document, after_kind, after_shape, after_tree, after_level, at_document}
+use Rattle.waff_read.proofs.HierarchyLemmas.{after_kind, after_shape, after_tree, after_level, at_document}
 
 module _ (bytes : List ℕ) (e : HierError) where
   layout_refused : (document : Data) (kind : Kind) (tree : List Node) → HasTree bytes document kind tree → kind_refusal kind tree ≡ None
@@ -63,7 +63,7 @@ module _ (bytes : List ℕ) (e : HierError) where
       let named : error.Model ≡ e = cc in
       subst (IsRefusedHierarchy bytes) named (document, is_document, is)
 
-  document_refused : (o : Option Data) → document_of bytes ≡ o → (ok_or o error.Toml >>= after_document) ≡ Err e → IsRefusedHierarchy bytes e
+  document_refused : (o : Option Data) → document_of bytes ≡ o → (ok_or o error.Toml >>= layout_in) ≡ Err e → IsRefusedHierarchy bytes e
   document_refused (Some document) is same = model_refused document is (kind_of document) refl same
   document_refused None is same =
       let named : error.Toml ≡ e = cc in

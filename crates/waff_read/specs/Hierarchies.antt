@@ -1,6 +1,6 @@
 -- The layout that a hierarchy file is read as.
 use Rattle.std.specs.Prelude.{ℕ, nat_lt, List, Option, Some, None, option_map, option_and_then}
-use Rattle.std.specs.Prelude.{unwrap_or, map, position, Result, codes, if◌then◌else◌}
+use Rattle.std.specs.Prelude.{unwrap_or, position, Result, codes, if◌then◌else◌}
 use Rattle.std.specs.Option.{ok_or}
 use Rattle.std.specs.Str.{bytes_eq}
 use Rattle.toml.specs.Data.{Data}
@@ -16,7 +16,7 @@ use Rattle.waff_read.specs.HierRefusals.{shape_error, tree_error, level_error, l
 use Rattle.waff_read.specs.Documents.{document_of, text_at, rows_at}
 use Rattle.waff_read.specs.Shapes.{shape_refusal}
 use Rattle.waff_read.specs.Affinities.{tree_of}
-use Rattle.waff_read.specs.Spaces.{space_of, map_of}
+use Rattle.waff_read.specs.Spaces.{spaces_in, maps_in}
 use Rattle.waff_read.specs.declared.hier_error.HierError.{HierError}
 use Rattle.waff_read.specs.declared.hier_error.HierError.TheVariants.{Toml, Model}
 
@@ -41,16 +41,17 @@ kind_refusal Hierarchical tree = None
 
 -- the layout of the document's spaces and maps over the tree
 abbrev pub layout_at : Kind → List Node → Data → Result Hierarchy LayoutError
-layout_at kind tree document =
-    layout_of kind tree (map space_of (rows_at (codes "space") document))
-    (map map_of (rows_at (codes "map") document))
+layout_at kind tree document = layout_of kind tree (spaces_in document) (maps_in document)
 
--- the layout that the bytes are read as, or the first check that fails
-unfoldable pub hierarchy_of : List ℕ → Result Hierarchy HierError
-hierarchy_of bytes = do
-  document ← ok_or (document_of bytes) Toml
+-- the layout that the document describes, or the first check that fails
+abbrev pub layout_in : Data → Result Hierarchy HierError
+layout_in document = do
   kind ← ok_or (kind_of document) Model
   _ ← passed (option_map shape_error (shape_refusal document))
   tree ← told tree_error (tree_of (rows_at (codes "affinity") document))
   _ ← passed (kind_refusal kind tree)
   told layout_error (layout_at kind tree document)
+
+-- the layout that the bytes are read as, or the first check that fails
+unfoldable pub hierarchy_of : List ℕ → Result Hierarchy HierError
+hierarchy_of bytes = ok_or (document_of bytes) Toml >>= layout_in

@@ -6,7 +6,7 @@ ghost use Rattle.waff_parse.specs.Stopping.{Gives};
 ghost use Rattle.waff_model.specs.TreeRefusal.{refusal_of};
 ghost use Rattle.waff_read.specs.Checks.{passed};
 ghost use Rattle.waff_read.specs.Documents.{text_at};
-ghost use Rattle.waff_read.specs.Affinities.{name_at, place_of, node_in, tree_of};
+ghost use Rattle.waff_read.specs.Affinities.{name_at, place_of, node_in, tree_from, tree_of};
 
 use crate::document::text;
 use crate::names::Names;
@@ -23,16 +23,27 @@ pub(crate) fn read_tree(alloc: Global, rows: &[Value]) -> Result<Tree, Stop<Tree
     if rows.is_empty() {
         return Err(Stop::Fault(TreeError::NoRoot));
     }
-    let mut names = Names::new(alloc);
     let mut tree = TreeBuilder::new(alloc);
+    match add_rows(alloc, &mut tree, rows) {
+        Ok(()) => match tree.build() {
+            Ok(tree) => Ok(tree),
+            // Nothing but memory is refused to a builder that has a root.
+            Err(_) => Err(Stop::Memory),
+        },
+        Err(stop) => Err(stop),
+    }
+}
+
+/// Adds the affinities of these rows to a builder to which nothing was added.
+fn add_rows(alloc: Global, tree: &mut TreeBuilder, rows: &[Value]) -> Result<(), Stop<TreeError>>
+    requires { tree.old ≡ [] }
+    ensures { Gives (λ done. tree.new) result (tree_from [] (map view rows.now)) }
+{
+    let mut names = Names::new(alloc);
     for row in rows {
-        add_row(&mut names, &mut tree, row)?;
+        add_row(&mut names, tree, row)?;
     }
-    match tree.build() {
-        Ok(tree) => Ok(tree),
-        // Nothing but memory is refused to a builder that has a root.
-        Err(_) => Err(Stop::Memory),
-    }
+    Ok(())
 }
 
 /// Adds the affinity of a row. The names are those of the tree.

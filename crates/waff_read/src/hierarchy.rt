@@ -1,8 +1,10 @@
 //! The reader of hierarchies.
 
 ghost use Rattle.std.specs.Prelude.{◌≡◌, ◌<◌, length, nat_lt, option_map, unwrap_or, ok_or, codes};
+ghost use Rattle.std.specs.Prelude.{IfOk};
 ghost use Rattle.toml.specs.View.{view};
 ghost use Rattle.waff_parse.specs.Refusals.{told};
+ghost use Rattle.waff_model.specs.LayoutOf.{layout_of};
 ghost use Rattle.waff_model.specs.Tree.{parent_of};
 ghost use Rattle.waff_read.specs.Checks.{passed};
 ghost use Rattle.waff_read.specs.Affinities.{tree_of};
@@ -10,16 +12,17 @@ ghost use Rattle.waff_read.specs.Documents.{document_of, rows_at};
 ghost use Rattle.waff_read.specs.Shapes.{shape_refusal};
 ghost use Rattle.waff_read.specs.HierRefusals.{Reads, shape_error, tree_error, layout_error};
 ghost use Rattle.waff_read.specs.Hierarchies.{kind_of, kind_named, kind_refusal, third_level_of};
-ghost use Rattle.waff_read.specs.Hierarchies.{layout_at, hierarchy_of};
+ghost use Rattle.waff_read.specs.Hierarchies.{layout_at, layout_in, hierarchy_of};
+ghost use Rattle.waff_read.specs.Spaces.{spaces_in, maps_in};
 
 use crate::affinities::read_tree;
 use crate::document::{rows, text};
 use crate::hier_error::HierError;
 use crate::shape::shape_refusal;
 use crate::spaces::{read_maps, read_spaces};
-use std::alloc::Global;
+use std::alloc::{AllocError, Global};
 use toml::Value;
-use waff_model::{AffinityId, Kind, Layout, LayoutError, Tree};
+use waff_model::{AffinityId, Kind, Layout, LayoutError, MapSpec, SpaceSpec, Tree};
 use waff_parse::Stop;
 
 /// Reads a hierarchy file: the layout that it describes, or the first check that fails.
@@ -27,11 +30,7 @@ pub fn read_hierarchy(alloc: Global, bytes: &[u8]) -> Result<Layout, HierError>
     ensures { Reads (λ layout. layout) result (hierarchy_of bytes.now) }
 {
     let document = read_document(alloc, bytes)?;
-    let kind = read_kind(&document)?;
-    check_shape(&document)?;
-    let tree = read_affinities(alloc, &document)?;
-    check_kind(kind, &tree)?;
-    read_layout(alloc, kind, tree, &document)
+    read_layout(alloc, &document)
 }
 
 /// The document that the bytes are.
@@ -48,6 +47,17 @@ fn read_document(alloc: Global, bytes: &[u8]) -> Result<Value, HierError>
             }
         }
     }
+}
+
+/// The layout that the document describes.
+fn read_layout(alloc: Global, document: &Value) -> Result<Layout, HierError>
+    ensures { Reads (λ layout. layout) result (layout_in (view document.now)) }
+{
+    let kind = read_kind(document)?;
+    check_shape(document)?;
+    let tree = read_affinities(alloc, document)?;
+    check_kind(kind, &tree)?;
+    lay_out(alloc, kind, tree, document)
 }
 
 /// The kind that the document names as its model.
@@ -132,13 +142,40 @@ fn is_below_child(tree: &Tree, affinity: AffinityId) -> bool
 }
 
 /// The layout of the document's spaces and maps over the tree.
-fn read_layout(alloc: Global, kind: Kind, tree: Tree, document: &Value) -> Result<Layout, HierError>
+fn lay_out(alloc: Global, kind: Kind, tree: Tree, document: &Value) -> Result<Layout, HierError>
     ensures { Reads (λ layout.
         layout) result (told layout_error (layout_at kind tree (view document.now))) }
 {
+    match read_rows(alloc, document) {
+        Ok((spaces, maps)) => layout_of(alloc, kind, tree, &spaces, &maps),
+        Err(_) => Err(HierError::Memory),
+    }
+}
+
+/// The spaces and the maps of the document.
+fn read_rows(alloc: Global, document: &Value) -> Result<(Vec<SpaceSpec>, Vec<MapSpec>), AllocError>
+    ensures spaces { IfOk result (λ rows. rows.0.items ≡ spaces_in (view document.now)) }
+    ensures maps { IfOk result (λ rows. rows.1.items ≡ maps_in (view document.now)) }
+{
     let spaces = read_spaces(alloc, rows(document, "space"))?;
-    let maps = read_maps(alloc, rows(document, "map"))?;
-    match Layout::new(alloc, kind, tree, &spaces, &maps) {
+    match read_maps(alloc, rows(document, "map")) {
+        Ok(maps) => Ok((spaces, maps)),
+        Err(error) => Err(error),
+    }
+}
+
+/// The layout of these spaces and maps over the tree.
+fn layout_of(
+    alloc: Global,
+    kind: Kind,
+    tree: Tree,
+    spaces: &[SpaceSpec],
+    maps: &[MapSpec],
+) -> Result<Layout, HierError>
+    ensures { Reads (λ layout.
+        layout) result (told layout_error (layout_of kind tree spaces.now maps.now)) }
+{
+    match Layout::new(alloc, kind, tree, spaces, maps) {
         Ok(layout) => Ok(layout),
         Err(e) => match e {
             LayoutError::Memory => Err(HierError::Memory),

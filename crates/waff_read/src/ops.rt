@@ -69,6 +69,15 @@ fn read_pieces(
 // About how many bytes an operation takes, with the `;` behind it.
 const OP_BYTES: usize = 12;
 
+// For how many operations of a text to make room.
+fn room_for(text: &[u8]) -> usize {
+    if text.contains(&b';') {
+        MAX_OPS.min(1 + text.len() / OP_BYTES)
+    } else {
+        1
+    }
+}
+
 // The operations of a text in one walk over its bytes: none exactly where it has a fault, or too
 // many operations.
 fn read_faultless(
@@ -78,8 +87,7 @@ fn read_faultless(
 ) -> Result<Option<Ops>, AllocError>
     ensures { IfOk result (λ found. found ≡ result_ok (ops.ops_of spaces.now text.now)) }
 {
-    let room = MAX_OPS.min(1 + text.len() / OP_BYTES);
-    let mut list = Ops::with_capacity(alloc, room)?;
+    let mut list = Ops::with_capacity(alloc, room_for(text))?;
     let mut guess = 0;
     let mut left = text;
     for count in 0..MAX_OPS {

@@ -1,9 +1,10 @@
 //! Which key of a document is missing or of another type than it should be.
 
-ghost use Rattle.std.specs.Prelude.{◌≡◌, is_none};
+ghost use Rattle.std.specs.Prelude.{◌≡◌, ◌||◌, codes, is_none};
 ghost use Rattle.std.specs.List.{list_any};
 ghost use Rattle.toml.specs.Data.{as_str, as_table};
 ghost use Rattle.toml.specs.View.{view};
+ghost use Rattle.waff_model.specs.Refusals.{first_refusal};
 ghost use Rattle.waff_read.specs.Shapes as shapes;
 
 use crate::document::{integer, items, rows, text};
@@ -11,41 +12,42 @@ use crate::hier_error::Key;
 use toml::Value;
 
 /// The first key that is missing or of another type.
-#[tactic(auto, using(crate::proofs::DocumentLemmas::list_any_map))]
 pub(crate) fn shape_refusal(document: &Value) -> Option<Key>
     ensures { result ≡ shapes.shape_refusal (view document.now) }
 {
-    if lacks_tables(document, "affinity") {
-        return Some(Key::Affinities);
-    }
-    if lacks_tables(document, "space") {
-        return Some(Key::Spaces);
-    }
-    if lacks_tables(document, "map") {
-        return Some(Key::Maps);
-    }
     let affinities = rows(document, "affinity");
     let spaces = rows(document, "space");
     let maps = rows(document, "map");
-    if any_lacks_text(affinities, "name") || any_lacks_text(spaces, "name") {
-        return Some(Key::Name);
-    }
-    if any_has_other_than_text(affinities, "parent") {
-        return Some(Key::Parent);
-    }
-    if any_lacks_integer(spaces, "size") {
-        return Some(Key::Size);
-    }
-    if any_lacks_text(maps, "space") {
-        return Some(Key::Space);
-    }
-    if any_lacks_integer(maps, "unit") {
-        return Some(Key::Unit);
-    }
-    if any_lacks_texts(maps, "to") {
-        return Some(Key::To);
+    first_refusal(&[
+        (lacks_tables(document, "affinity"), Key::Affinities),
+        (lacks_tables(document, "space"), Key::Spaces),
+        (lacks_tables(document, "map"), Key::Maps),
+        (lacks_names(affinities, spaces), Key::Name),
+        (any_has_other_than_text(affinities, "parent"), Key::Parent),
+        (any_lacks_integer(spaces, "size"), Key::Size),
+        (any_lacks_text(maps, "space"), Key::Space),
+        (any_lacks_integer(maps, "unit"), Key::Unit),
+        (any_lacks_texts(maps, "to"), Key::To),
+    ])
+}
+
+/// The key of the first of these checks that holds.
+fn first_refusal(checks: &[(bool, Key)]) -> Option<Key>
+    ensures { result ≡ first_refusal checks.now }
+{
+    for (holds, key) in checks {
+        if *holds {
+            return Some(*key);
+        }
     }
     None
+}
+
+fn lacks_names(affinities: &[Value], spaces: &[Value]) -> bool
+    ensures { result ≡ list_any (λ row. shapes.lacks_text (codes "name") (view row)) affinities.now
+        || list_any (λ row. shapes.lacks_text (codes "name") (view row)) spaces.now }
+{
+    any_lacks_text(affinities, "name") || any_lacks_text(spaces, "name")
 }
 
 #[tactic(auto, using(crate::proofs::DocumentLemmas::list_any_map))]

@@ -16,7 +16,7 @@ pub(crate) fn read_spaces(alloc: Global, rows: &[Value]) -> Result<Vec<SpaceSpec
 {
     let mut spaces = Vec::with_capacity(alloc, rows.len())?;
     for row in rows {
-        spaces.push(read_space(alloc, row)?)?;
+        spaces.push_reserved(read_space(alloc, row)?);
     }
     Ok(spaces)
 }
@@ -27,7 +27,7 @@ pub(crate) fn read_maps(alloc: Global, rows: &[Value]) -> Result<Vec<MapSpec>, A
 {
     let mut maps = Vec::with_capacity(alloc, rows.len())?;
     for row in rows {
-        maps.push(read_map(alloc, row)?)?;
+        maps.push_reserved(read_map(alloc, row)?);
     }
     Ok(maps)
 }

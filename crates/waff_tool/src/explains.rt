@@ -24,7 +24,7 @@ use waff_model::{Layout, Trace};
 use waff_read::{HierError, TraceError, read_hierarchy, read_trace};
 
 /// What was explained.
-#[derive(Clone, Copy, Debug, PartialEq)]
+#[derive(Clone, Copy)]
 pub enum Explained {
     /// The files are accepted, and there is no plan.
     Well,

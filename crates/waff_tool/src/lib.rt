@@ -7,7 +7,7 @@
 //! - `assigns` (assign), `plans` (plan), `comparison` (compare, over `measures`), `sweeps` (sweep),
 //!   `wheres` (where), `waits` (waits), `ranks` (rank): commands that tell of a trace under
 //!   hierarchies. Plans for k workers are by a rule, which `plans`, `sweeps`, `waits` and `ranks`
-//!   are told; the others have those by arrival.
+//!   are told; the others have those by arrival. `certificates`: plans with their printed chains.
 //! - `checks` (check, over `verdict_line`), `rates` (rate), `draws` (draw): a plan that is handed in,
 //!   tried; `replays` (replay, over `state_text`): the state that threads leave.
 //! - `explains` (explain): the fault or the verdict that the others find, in words.
@@ -17,6 +17,7 @@
 #![tactic(auto)]
 
 mod assigns;
+mod certificates;
 mod checks;
 mod comparison;
 pub mod draws;

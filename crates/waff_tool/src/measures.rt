@@ -11,15 +11,12 @@ ghost use Rattle.waff_tool.specs.Certificates.{IsBounded, IsCertified};
 ghost use Rattle.waff_tool.specs.Comparison.{IsMeasured, compare_lines, kind_field, measured_line};
 ghost use Rattle.waff_tool.specs.Comparison.{measures_header, plan_fields};
 
+use crate::certificates::{bounded_plan, certified_plan};
 use std::alloc::{AllocError, Global};
 use waff_assign::Case;
-use waff_list::laws::needs_make_the_same_plans;
-use waff_list::{Rule, list_chain, list_plan};
+use waff_list::Rule;
 use waff_model::{Kind, Layout, Version};
-use waff_order::predecessors::needs;
 use waff_plan::Totals;
-use waff_plan::printed::chain;
-use waff_plan::unlimited::plan;
 
 /// What is told of a trace under one hierarchy: of its unlimited plan and of its list plan.
 #[derive(Clone, Copy)]
@@ -58,11 +55,9 @@ fn unlimited_totals(alloc: Global, case: &Case<'_>) -> Result<Totals, AllocError
         × (totals ≡ totals_of None
         (work_of_messages case.now.trace.now.messages) (start_of starts) chain)) }
 {
-    let plan = plan(alloc, case.tree, case.assigned, case.trace)?;
-    let chain = chain(alloc, case.tree, case.assigned, &plan)?;
-    let totals = plan.totals(None, chain.messages());
-    drop(chain);
-    drop(plan);
+    let certified = certified_plan(alloc, case)?;
+    let totals = certified.plan.totals(None, certified.chain.messages());
+    drop(certified);
     Ok(totals)
 }
 
@@ -75,15 +70,10 @@ fn list_totals(alloc: Global, case: &Case<'_>, k: u32) -> Result<Totals, AllocEr
         × (totals ≡ totals_of (Some k)
         (work_of_messages case.now.trace.now.messages) (start_of starts) chain)) }
 {
-    let needs = needs(alloc, case.tree, case.assigned)?;
-    let made = list_plan(alloc, &needs, case.trace, k)?;
-    drop(needs);
-    let chain = list_chain(alloc, case.tree, case.assigned, &made)?;
-    let listed = made.plan();
-    needs_make_the_same_plans();
-    let totals = listed.totals(Some(k), chain.messages());
-    drop(chain);
-    drop(made);
+    let bounded = bounded_plan(alloc, case, Rule::Arrival, k)?;
+    let listed = bounded.made.plan();
+    let totals = listed.totals(Some(k), bounded.chain.messages());
+    drop(bounded);
     Ok(totals)
 }
 

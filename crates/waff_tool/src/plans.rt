@@ -6,15 +6,12 @@ ghost use Rattle.waff_inputs.specs.Deliveries.{Delivers, Makes};
 ghost use Rattle.waff_inputs.specs.Inputs.{Accepts, Refuses};
 ghost use Rattle.waff_tool.specs.PlanText.{IsPlanText, IsPlanTextFor, IsWorkerPlanText};
 
+use crate::certificates::{bounded_plan, certified_plan};
 use std::alloc::{AllocError, Global};
 use std::io::Write;
 use waff_inputs::{Accepted, ToolError, accept, deliver};
-use waff_list::laws::needs_make_the_same_plans;
-use waff_list::{Rule, list_chain, list_plan_by};
-use waff_order::predecessors::needs;
+use waff_list::Rule;
 use waff_plan::Planned;
-use waff_plan::printed::chain;
-use waff_plan::unlimited::plan;
 use waff_plan_text::{unlimited_text, worker_text};
 
 /// Writes the plan of the trace under the hierarchy for this number of workers, or with no limit on
@@ -97,12 +94,13 @@ fn made_unlimited_text(alloc: Global, accepted: &Accepted) -> Result<String, All
         → IsPlanText hierarchy trace (string_bytes text)) }
 {
     let case = accepted.case();
-    let plan = plan(alloc, case.tree, case.assigned, case.trace)?;
-    let chain = chain(alloc, case.tree, case.assigned, &plan)?;
-    let planned = Planned { case, plan: &plan };
-    let text = unlimited_text(alloc, &planned, chain.messages());
-    drop(chain);
-    drop(plan);
+    let certified = certified_plan(alloc, &case)?;
+    let planned = Planned {
+        case,
+        plan: &certified.plan,
+    };
+    let text = unlimited_text(alloc, &planned, certified.chain.messages());
+    drop(certified);
     text
 }
 
@@ -119,15 +117,11 @@ fn made_worker_text(
         → IsWorkerPlanText rule hierarchy trace k (string_bytes text)) }
 {
     let case = accepted.case();
-    let needs = needs(alloc, case.tree, case.assigned)?;
-    let made = list_plan_by(alloc, &needs, case.trace, rule, k)?;
-    drop(needs);
-    let chain = list_chain(alloc, case.tree, case.assigned, &made)?;
-    needs_make_the_same_plans();
-    let plan = made.plan();
+    let bounded = bounded_plan(alloc, &case, rule, k)?;
+    let plan = bounded.made.plan();
     let planned = Planned { case, plan };
-    let text = worker_text(alloc, &planned, k, made.seats(), chain.messages());
-    drop(chain);
-    drop(made);
+    let chain = bounded.chain.messages();
+    let text = worker_text(alloc, &planned, k, bounded.made.seats(), chain);
+    drop(bounded);
     text
 }

@@ -6,14 +6,13 @@ ghost use Rattle.waff_inputs.specs.Inputs.{Accepts, Refuses};
 ghost use Rattle.waff_tool.specs.Figures.{IsAffinitiesText, IsNamesText, IsWhereText};
 ghost use Rattle.waff_tool.specs.Figures.{WhereTextIsOne};
 
+use crate::certificates::certified_plan;
 use std::alloc::{AllocError, Global};
 use std::io::Write;
 use waff_figures::laws::{chain_adds_up, costs_add_up, names_add_up};
 use waff_figures::{affinities_text, names_text};
 use waff_inputs::{Accepted, ToolError, accept, deliver};
 use waff_plan::Planned;
-use waff_plan::printed::chain;
-use waff_plan::unlimited::plan;
 
 /// Writes where the time of the trace goes under the hierarchy: for each affinity, or for each name
 /// of messages, how many messages there are and what they cost, and how much of that is on the
@@ -67,14 +66,15 @@ fn made_affinities_text(alloc: Global, accepted: &Accepted) -> Result<String, Al
 {
     let case = accepted.case();
     let _affinities = case.tree.len();
-    let plan = plan(alloc, case.tree, case.assigned, case.trace)?;
-    let chain = chain(alloc, case.tree, case.assigned, &plan)?;
+    let certified = certified_plan(alloc, &case)?;
     costs_add_up();
     chain_adds_up();
-    let planned = Planned { case, plan: &plan };
-    let text = affinities_text(alloc, &planned, chain.messages());
-    drop(chain);
-    drop(plan);
+    let planned = Planned {
+        case,
+        plan: &certified.plan,
+    };
+    let text = affinities_text(alloc, &planned, certified.chain.messages());
+    drop(certified);
     text
 }
 
@@ -85,13 +85,14 @@ fn made_names_text(alloc: Global, accepted: &Accepted) -> Result<String, AllocEr
         → IsNamesText hierarchy trace (string_bytes text)) }
 {
     let case = accepted.case();
-    let plan = plan(alloc, case.tree, case.assigned, case.trace)?;
-    let chain = chain(alloc, case.tree, case.assigned, &plan)?;
+    let certified = certified_plan(alloc, &case)?;
     names_add_up();
-    let planned = Planned { case, plan: &plan };
-    let text = names_text(alloc, &planned, chain.messages());
-    drop(chain);
-    drop(plan);
+    let planned = Planned {
+        case,
+        plan: &certified.plan,
+    };
+    let text = names_text(alloc, &planned, certified.chain.messages());
+    drop(certified);
     text
 }
 

@@ -1,40 +1,27 @@
-use Rattle.std.proofs.Common.{◌≡◌, ◌+◌, ◌-◌, ◌<◌, [], ◌∷◌, ◌++◌, length, All, Contains, arith, sym, ◌∙◌, ap, subst}
+use Rattle.std.proofs.Common.{◌≡◌, ◌+◌, ◌-◌, [], ◌∷◌, ◌++◌, length, arith, sym, ◌∙◌, ap, subst}
 use Rattle.std.proofs.lemmas.List.{length-map, length_push}
 use Rattle.std.proofs.lemmas.Option.{slice_get_within}
 use Rattle.waff_model.specs.Cells.{cells_of}
-use Rattle.waff_model.specs.Layout.{IsCell}
 use Rattle.waff_assign.specs.Order.{numbers_of, affinity_of}
 use Rattle.waff_assign.specs.Lowest.{IsLowest, IsInFootprint}
-use Rattle.waff_assign.proofs.Assignments.{cells_of_some, cells_of_layout, AreLowestUpTo, lowest_up_to_more, known_more}
+use Rattle.waff_assign.proofs.Assignments.{cells_of_layout, AreLowestUpTo, lowest_up_to_more, known_more}
 use Rattle.waff_assign.proofs.assignment.assign.Goals as goal
 
-pub lowest-affinity-requires-clause-some : goal.lowest-affinity-requires-clause-some
-lowest-affinity-requires-clause-some c =
-    let cells : c.as_slice.result.now ≡ cells_of c.message.result.now.ops
-    = c.as_slice.ensures.value ∙ c.in_ok-push_cells.ensures ∙ ap (λ xs. xs ++ cells_of c.message.result.now.ops) c.clear.ensures.items in
-    subst (λ xs. 0 < length xs) (sym cells) (cells_of_some c.message.result.now.ops c.message.ensures.within.some_ops)
-
-pub lowest-affinity-requires-clause-cells : goal.lowest-affinity-requires-clause-cells
-lowest-affinity-requires-clause-cells c =
-    let cells : c.as_slice.result.now ≡ cells_of c.message.result.now.ops
-    = c.as_slice.ensures.value ∙ c.in_ok-push_cells.ensures ∙ ap (λ xs. xs ++ cells_of c.message.result.now.ops) c.clear.ensures.items in
-    subst (λ xs. All (IsCell c.args.layout.now.spaces) xs) (sym cells)
-    (cells_of_layout c.args.trace.now.sizes c.args.layout.now.spaces (cells_of c.message.result.now.ops) c.requires.fits c.message.ensures.within.cells)
+pub lowest_of_ops-affinity-requires-clause-cells : goal.lowest_of_ops-affinity-requires-clause-cells
+lowest_of_ops-affinity-requires-clause-cells c =
+    cells_of_layout c.args.trace.now.sizes c.args.layout.now.spaces (cells_of c.message.result.now.ops) c.requires.fits c.message.ensures.within.cells
 
 pub loop-n-preserved : goal.loop-n-preserved
 loop-n-preserved c =
-    let cells : c.as_slice.result.now ≡ cells_of c.message.result.now.ops
-    = c.as_slice.ensures.value ∙ c.in_ok-push_cells.ensures ∙ ap (λ xs. xs ++ cells_of c.message.result.now.ops) c.clear.ensures.items in
     let n = c.loop-n.n - 1 in
     let next : n + 1 ≡ c.loop-n.n + 1 - 1 = omega arith in
-    let items : c.push_reserved.new.self.items ≡ c.loop-n.affinities.items ++ c.lowest-affinity.result ∷ [] = c.push_reserved.ensures.items in
-    let lowest = subst (λ xs. IsLowest c.args.layout.now (Contains xs) c.lowest-affinity.result.0) cells c.lowest-affinity.ensures.lowest in
-    let more = lowest_up_to_more c.args.layout.now c.args.trace.now.messages c.loop-n.affinities.items n c.message.result.now c.lowest-affinity.result
-    c.loop-n.invariant.count c.message.ensures.message c.loop-n.invariant.lowest lowest in
-    let known = known_more (length c.args.layout.now.tree) c.loop-n.affinities.items c.lowest-affinity.result c.lowest-affinity.ensures.within c.loop-n.invariant.known in
+    let items : c.push_reserved.new.self.items ≡ c.loop-n.affinities.items ++ c.lowest_of_ops-affinity.result ∷ [] = c.push_reserved.ensures.items in
+    let more = lowest_up_to_more c.args.layout.now c.args.trace.now.messages c.loop-n.affinities.items n c.message.result.now c.lowest_of_ops-affinity.result
+    c.loop-n.invariant.count c.message.ensures.message c.loop-n.invariant.lowest c.lowest_of_ops-affinity.ensures.lowest in
+    let known = known_more (length c.args.layout.now.tree) c.loop-n.affinities.items c.lowest_of_ops-affinity.result c.lowest_of_ops-affinity.ensures.within c.loop-n.invariant.known in
     record {
-      count = rw items (let long = length_push c.loop-n.affinities.items c.lowest-affinity.result in omega (arith, c.loop-n.invariant.count));
-      lowest = rw items (subst (λ k. AreLowestUpTo c.args.layout.now c.args.trace.now.messages (numbers_of (c.loop-n.affinities.items ++ c.lowest-affinity.result ∷ [])) k) next more);
+      count = rw items (let long = length_push c.loop-n.affinities.items c.lowest_of_ops-affinity.result in omega (arith, c.loop-n.invariant.count));
+      lowest = rw items (subst (λ k. AreLowestUpTo c.args.layout.now c.args.trace.now.messages (numbers_of (c.loop-n.affinities.items ++ c.lowest_of_ops-affinity.result ∷ [])) k) next more);
       known = rw items known;
       room = c.push_reserved.ensures.capacity ∙ c.loop-n.invariant.room;
     }

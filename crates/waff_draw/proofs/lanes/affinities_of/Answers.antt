@@ -11,13 +11,15 @@ first_more all so_far now n item from low before pushed is =
     ∙ sym (take_more all (n - 1) 0 low) ∙ ap (λ k. take k all) next
 
 pub loop-n-preserved : goal.loop-n-preserved
-loop-n-preserved c =
-    first_more c.args.assigned.now c.loop-n.affinities.items c.push.new.self.items c.loop-n.n c.from.result c.loop-n.auto.n
-    (omega (arith, c.loop-n-test.true, c.len-n-end.ensures.count, c.loop-n.auto.n)) c.loop-n.invariant c.in_ok-push.ensures.items
-    (c.from.ensures ∙ c.of.ensures)
+loop-n-preserved c = record {
+  items = first_more c.args.assigned.now c.loop-n.affinities.items c.push_reserved.new.self.items c.loop-n.n c.from.result c.loop-n.auto.n
+      (omega (arith, c.loop-n-test.true, c.len-n-end.ensures.count, c.loop-n.auto.n)) c.loop-n.invariant.items c.push_reserved.ensures.items
+      (c.from.ensures ∙ c.of.ensures);
+  room = c.push_reserved.ensures.capacity ∙ c.loop-n.invariant.room;
+}
 
 pub returns : goal.returns
 returns c =
-    c.loop-n.invariant
+    c.loop-n.invariant.items
     ∙ take_all (c.loop-n.n - 1) c.args.assigned.now
     (omega (arith, c.loop-n-test.false, c.len-n-end.ensures.count, c.loop-n.auto.n))

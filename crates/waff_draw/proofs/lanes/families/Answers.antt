@@ -1,5 +1,5 @@
-use Rattle.std.proofs.Common.{◌≡◌, ℕ, ◌+◌, ◌<◌, ◌++◌, ◌∷◌, [], All, List, Some, get_or, length, map, set, Vec, Global, sym, ◌∙◌, ap, subst, arith, length-set}
-use Rattle.std.proofs.lemmas.List.{get_or-map, length-map}
+use Rattle.std.proofs.Common.{◌≡◌, ℕ, ◌+◌, ◌<◌, ◌++◌, ◌∷◌, [], All, List, Some, get_or, length, map, replicate, set, Vec, Global, sym, ◌∙◌, ap, subst, arith, length-set}
+use Rattle.std.proofs.lemmas.List.{get_or-map, get_or-replicate, length-map, length-replicate}
 use Rattle.waff_model.specs.Tree.{parent_of}
 use Rattle.waff_draw.proofs.LaneLemmas.{AreChildren, children_more, children_same, families_are, families_known}
 use Rattle.waff_draw.proofs.lanes.families.Goals as goal
@@ -30,6 +30,20 @@ loop-child-preserved c =
             are = children_same tree b lists (sym w.in_default.ensures) c.loop-child.invariant.are;
           })
     ]
+
+pub loop-child-init : goal.loop-child-init
+loop-child-init c =
+    let items : Vec ℕ Global → List ℕ = λ children. children.items in
+    let none : List ℕ = [] in
+    let families = c.in_ok-families.families.items in
+    let made : map items families ≡ replicate c.len.result none = c.in_ok-families.ensures in
+    let long : length families ≡ c.len.result = sym (length-map families items) ∙ ap length made ∙ length-replicate c.len.result none in
+    record {
+      count = long ∙ c.len.ensures.count;
+      are = λ a low.
+          ap (λ lists. get_or lists a []) made
+          ∙ get_or-replicate c.len.result a none [] (omega (arith, low, long, length-map families items));
+    }
 
 pub returns-clause-families : goal.returns-clause-families
 returns-clause-families c =

@@ -17,6 +17,7 @@ loop-n-init c =
       numbered = subst (λ ks. AreNumbered names (texts_of ks) c.in_ok-places.places.items) (sym c.requires.none)
           (subst (λ ps. AreNumbered names [] ps) (sym c.in_ok-places.ensures.items) (none_numbered names));
       count = ap length c.in_ok-places.ensures.items;
+      room = c.in_ok-places.ensures.exact ∙ c.len.ensures.count;
     }
 
 pub loop-n-preserved : goal.loop-n-preserved
@@ -45,7 +46,20 @@ loop-n-preserved c =
     = sym (ap (λ ks. get_or ks place []) inserted) ∙ name_at new_keys place stored.0 stored.1 ∙ sym ((bytes_eq-Decides name stored.0.now).0 stored.2) in
     let next = numbered_next names (texts_of keys) places name place c.loop-n.invariant.numbered inside is within at in
     record {
-      numbered = subst (λ ks. AreNumbered names ks c.push.new.self.items) (sym inserted)
-          (subst (λ ps. AreNumbered names (with_name (texts_of keys) name) ps) (sym c.in_ok-push.ensures.items) next);
-      count = ap length c.in_ok-push.ensures.items ∙ length_push places place ∙ omega (arith, count, from);
+      numbered = subst (λ ks. AreNumbered names ks c.push_reserved.new.self.items) (sym inserted)
+          (subst (λ ps. AreNumbered names (with_name (texts_of keys) name) ps) (sym c.push_reserved.ensures.items) next);
+      count = ap length c.push_reserved.ensures.items ∙ length_push places place ∙ omega (arith, count, from);
+      room = c.push_reserved.ensures.capacity ∙ c.loop-n.invariant.room;
     }
+
+pub push_reserved-requires : goal.push_reserved-requires
+push_reserved-requires c =
+    omega (arith, c.loop-n.places.ok.0, c.loop-n.invariant.room, c.loop-n.invariant.count, c.loop-n-test.true, c.len-n-end.ensures.count, c.loop-n.auto.n)
+
+pub message-requires : goal.message-requires
+message-requires c = record {
+  number = record { from = c.loop-n.auto.n; to = omega (arith, c.loop-n-test.true, c.len-n-end.ensures.count) };
+}
+
+pub returns-clause-numbered : goal.returns-clause-numbered
+returns-clause-numbered c = c.loop-n.invariant.numbered

@@ -1,11 +1,38 @@
 use Rattle.std.proofs.Common.{◌≡◌, ℕ, ◌+◌, ◌-◌, ◌*◌, ◌^◌, ◌<◌, ◌≤◌, [], ◌∷◌, ◌++◌, length, take, get_or, set, arith, refl, sym, ◌∙◌, ap, subst, length-set}
-use Rattle.std.proofs.lemmas.List.{get_or_read, take_more}
+use Rattle.std.proofs.lemmas.List.{get_or_default, get_or_read, take_all, take_more}
 use Rattle.waff_plan.specs.Timing.{work_of}
 use Rattle.waff_plan.specs.Work.{numbers}
 use Rattle.waff_figures.specs.Tally.{is_in, no_tally, tally_over}
 use Rattle.waff_figures.specs.declared.tally.Tally.{Tally}
 use Rattle.waff_figures.proofs.TallyLemmas.{set_all, with_link}
 use Rattle.waff_figures.proofs.tally.count_chain.Goals as goal
+
+pub loop-message-init : goal.loop-message-init
+loop-message-init c =
+    let tallies = c.args.tallies.now.items in
+    record {
+      count = c.requires.count;
+      are = λ g low. c.requires.each g (omega (arith, low, c.requires.count));
+      small = λ k d low.
+          let none = ap (λ (t : Tally). t.chain) (get_or_default tallies k d no_tally low ∙ c.requires.each k (omega (arith, low, c.requires.count))) in
+          omega (arith, none);
+    }
+
+pub index-tally-requires : goal.index-tally-requires
+index-tally-requires c =
+    let n : ℕ = get_or c.args.chain.now c.loop-message.message-index 0 in
+    let listed = c.requires.chain.each c.loop-message.message-index 0 c.loop-message-test.true in
+    let known = c.args.grouped.now.known (n - 1) 0 (omega (arith, listed.from, listed.to, c.args.grouped.now.lengths)) in
+    omega (arith, known, c.loop-message.invariant.count, c.loop-message.tallies.ok.0)
+
+pub returns-clause-each : goal.returns-clause-each
+returns-clause-each c = λ g low.
+    let work = work_of c.args.grouped.now.plan.now.timings in
+    let groups = c.args.grouped.now.groups.now in
+    let tallies = c.loop-message.tallies.items in
+    subst (λ ms. get_or tallies g no_tally ≡ tally_over work (is_in groups g) (numbers work) ms)
+    (take_all c.loop-message.message-index c.args.chain.now c.loop-message-test.false)
+    (c.loop-message.invariant.are g (omega (arith, low, c.loop-message.invariant.count)))
 
 pub loop-message-preserved : goal.loop-message-preserved
 loop-message-preserved c =

@@ -44,3 +44,13 @@ loop-n-preserved c =
       small = set_all (λ x. x.cost ≤ 2 ^ 32 * (n - 1)) (λ x. x.cost ≤ 2 ^ 32 * (n + 1 - 1)) tallies place t within
           (omega (arith, small, cost_is, c.cost.ensures.small, c.cost.ensures.cost, from)) (λ x h. omega (arith, h)) c.loop-n.invariant.small;
     }
+
+pub returns-clause-each : goal.returns-clause-each
+returns-clause-each c = λ g low.
+    let work = work_of c.args.grouped.now.plan.now.timings in
+    let groups = c.args.grouped.now.groups.now in
+    let tallies = c.loop-n.tallies.items in
+    let all : c.loop-n.n - 1 ≡ work.count
+    = omega (arith, c.loop-n-test.false, c.loop-n.auto.n, c.loop-n.auto.n-end, c.len-n-end.ensures.count) in
+    subst (λ k. get_or tallies g no_tally ≡ tally_over work (is_in groups g) (range_with_len 1 k) []) all
+    (c.loop-n.invariant.are g (omega (arith, low, c.loop-n.invariant.count)))

@@ -36,3 +36,8 @@ loop-index-preserved c =
             omega (arith, goes_on.1, w.left-is)
       ];
     }
+
+pub returns : goal.returns
+returns c =
+    c.loop-index.invariant.owners
+    ∙ ap (λ k. c.args.owners.now.items ++ owners_by k c.args.unit c.args.to.now) (omega (arith, c.loop-index-test.false, c.loop-index.auto.index-end))

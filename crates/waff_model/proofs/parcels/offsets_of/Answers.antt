@@ -1,7 +1,8 @@
 use Rattle.std.proofs.Common.{◌≡◌, ◌<◌, ◌++◌, ◌∷◌, [], length, map, get_or, take, eqb, refl, ap, sym, ◌∙◌, arith, length-take}
 use Rattle.std.specs.List.{range_with_len}
+use Rattle.std.proofs.lemmas.List.{length-map}
 use Rattle.std.proofs.lemmas.List.Sums.{count_by-le-length}
-use Rattle.std.proofs.lemmas.List.FromFn.{map-range_with_len_more}
+use Rattle.std.proofs.lemmas.List.FromFn.{length-range_with_len, map-range_with_len_more}
 use Rattle.waff_model.specs.ParcelTable.{offset_at}
 use Rattle.waff_model.proofs.ParcelTableLemmas.{counts_more, counts_all}
 use Rattle.waff_model.proofs.parcels.offsets_of.Goals as goal
@@ -16,11 +17,12 @@ loop-owner-preserved c =
     let inside : a < length counts = omega (arith, c.requires.owners k 0 within, c.loop-owner.auto.sizes) in
     let size : get_or counts a 0 ≡ offset_at owners k = c.loop-owner.invariant.counts a inside in
     record {
-      offsets = c.in_ok-push.ensures.items
+      offsets = c.push_reserved.ensures.items
           ∙ ap (λ xs. xs ++ get_or counts a 0 ∷ []) c.loop-owner.invariant.offsets
           ∙ ap (λ n. map (offset_at owners) (range_with_len 0 k) ++ n ∷ []) size
           ∙ sym (map-range_with_len_more (offset_at owners) 0 k k (omega arith));
       counts = counts_more owners counts k a within refl inside c.loop-owner.invariant.counts;
+      room = c.push_reserved.ensures.capacity ∙ c.loop-owner.invariant.room;
     }
 
 pub returns-clause-sizes : goal.returns-clause-sizes
@@ -47,3 +49,9 @@ pub returns-clause-offsets : goal.returns-clause-offsets
 returns-clause-offsets c =
     c.loop-owner.invariant.offsets
     ∙ ap (λ n. map (offset_at c.args.owners.now) (range_with_len 0 n)) (omega arith)
+
+pub push_reserved-requires : goal.push_reserved-requires
+push_reserved-requires c =
+    let k = c.loop-owner.owner-index in
+    let long = ap length c.loop-owner.invariant.offsets ∙ length-map (range_with_len 0 k) (offset_at c.args.owners.now) ∙ length-range_with_len 0 k in
+    omega (arith, long, c.loop-owner.offsets.ok.0, c.loop-owner.invariant.room, c.loop-owner-test.true)

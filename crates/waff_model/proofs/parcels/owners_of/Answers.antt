@@ -1,5 +1,5 @@
 use Rattle.std.proofs.Common.{◌≡◌, ◌++◌, ◌∷◌, [], take, refl, ap, sym, ◌∙◌, arith}
-use Rattle.std.proofs.lemmas.List.{take_more, flat_map_more}
+use Rattle.std.proofs.lemmas.List.{take_all, take_more, flat_map_more}
 use Rattle.waff_model.specs.Parcel.{owners_across, owners_in}
 use Rattle.waff_model.specs.ParcelTable.{owners_by}
 use Rattle.waff_model.proofs.parcels.owners_of.Goals as goal
@@ -17,3 +17,9 @@ loop-space-preserved c =
     ∙ flat_map_more owners_across [] (take k spaces) space
     ∙ ap (λ x. owners_in (take k spaces ++ x ∷ [])) c.space-item.is
     ∙ ap owners_in (sym (take_more spaces k space (omega arith)))
+
+pub loop-space-init : goal.loop-space-init
+loop-space-init c = c.new-owners.ensures.items
+
+pub returns : goal.returns
+returns c = c.loop-space.invariant ∙ ap owners_in (take_all c.loop-space.space-index c.args.spaces.now c.loop-space-test.false)

@@ -1,6 +1,7 @@
-use Rattle.std.proofs.Common.{◌≡◌, ℕ, ◌+◌, ◌++◌, ◌∷◌, [], map, get_or, ap, sym, ◌∙◌, arith}
+use Rattle.std.proofs.Common.{◌≡◌, ℕ, ◌+◌, ◌++◌, ◌∷◌, [], length, map, get_or, ap, sym, ◌∙◌, arith}
 use Rattle.std.specs.List.{range_with_len}
-use Rattle.std.proofs.lemmas.List.FromFn.{map-range_with_len_more}
+use Rattle.std.proofs.lemmas.List.FromFn.{length-range_with_len, map-range_with_len_more}
+use Rattle.std.proofs.lemmas.List.{length-map}
 use Rattle.std.proofs.lemmas.List.Sums.{sum_by_more, sum_by-take-le}
 use Rattle.waff_model.specs.Layout.{Space}
 use Rattle.waff_model.specs.Parcel.{cells_ahead}
@@ -16,10 +17,11 @@ loop-space-preserved c =
     let here : size space ≡ size (get_or spaces k space) = ap size c.space-item.is in
     record {
       cells = omega (arith, more, here, c.size-cells.ensures, c.loop-space.invariant.cells);
-      starts = c.in_ok-push.ensures.items
+      starts = c.push_reserved.ensures.items
           ∙ ap (λ xs. xs ++ c.loop-space.cells ∷ []) c.loop-space.invariant.starts
           ∙ ap (λ n. map (cells_ahead spaces) (range_with_len 0 k) ++ n ∷ []) c.loop-space.invariant.cells
           ∙ sym (map-range_with_len_more (cells_ahead spaces) 0 k k (omega arith));
+      room = c.push_reserved.ensures.capacity ∙ c.loop-space.invariant.room;
     }
 
 pub overflow_add-cells : goal.overflow_add-cells
@@ -36,3 +38,9 @@ pub returns : goal.returns
 returns c =
     c.loop-space.invariant.starts
     ∙ ap (λ n. map (cells_ahead c.args.spaces.now) (range_with_len 0 n)) (omega arith)
+
+pub push_reserved-requires : goal.push_reserved-requires
+push_reserved-requires c =
+    let k = c.loop-space.space-index in
+    let long = ap length c.loop-space.invariant.starts ∙ length-map (range_with_len 0 k) (cells_ahead c.args.spaces.now) ∙ length-range_with_len 0 k in
+    omega (arith, long, c.loop-space.starts.ok.0, c.loop-space.invariant.room, c.loop-space-test.true)

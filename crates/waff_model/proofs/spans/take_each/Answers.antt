@@ -1,4 +1,5 @@
-use Rattle.std.proofs.Common.{◌≡◌, ◌+◌, ◌<◌, length, get_or, arith, subst}
+use Rattle.std.proofs.Common.{◌≡◌, ◌+◌, ◌<◌, length, get_or, arith, refl, subst}
+use Rattle.waff_model.specs.Taken.{Takes}
 use Rattle.waff_model.proofs.TakeLemmas.{takes_join, takes_empty, takes_one, thinned_set}
 use Rattle.waff_model.proofs.spans.take_each.Goals as goal
 use Rattle.waff_model.proofs.spans.take_each.Goals.{then-m-gt0+in_ok-push, else-m-gt0}
@@ -28,3 +29,21 @@ loop-place-preserved c =
                 subst (λ x. get_or mid x 0 ≡ 0) same (omega (arith, w.if-m-gt0.false))));
           })
     ]
+
+pub bounds-places-place : goal.bounds-places-place
+bounds-places-place c = omega (arith, c.loop-place-test.true, c.loop-place.auto.places, c.requires.within)
+
+pub loop-place-init : goal.loop-place-init
+loop-place-init c = record {
+  thinned = record { count = refl; none = λ p is. is };
+  takes = takes_empty c.args.from c.args.from c.args.places.now c.args.list.now.items (λ q late early. absurd (omega arith));
+}
+
+pub returns-clause-thinned : goal.returns-clause-thinned
+returns-clause-thinned c = c.loop-place.invariant.thinned
+
+pub returns-clause-takes : goal.returns-clause-takes
+returns-clause-takes c =
+    let end : c.loop-place.place ≡ c.args.to
+    = omega (arith, c.loop-place-test.false, c.loop-place.auto.place, c.loop-place.auto.place-end, c.requires.forward) in
+    subst (λ to. Takes c.args.from to c.args.places.now c.loop-place.places c.args.list.now.items c.loop-place.list.items) end c.loop-place.invariant.takes

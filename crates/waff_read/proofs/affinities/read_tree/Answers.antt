@@ -1,23 +1,13 @@
-use Rattle.std.proofs.Common.{◌∙◌, ap, sym, Ok, arith, length}
-use Rattle.std.proofs.lemmas.Result.{err_from_is_err_and}
-use Rattle.waff_read.proofs.AffinityLemmas.{is_filled, goes_on, stops, ends}
+use Rattle.std.proofs.Common.{◌∙◌, ap, sym, Ok, length}
+use Rattle.waff_read.proofs.AffinityLemmas.{is_filled, tree_of-filled}
 use Rattle.waff_read.proofs.affinities.read_tree.Goals as goal
 
-pub returns-in_err-add_row : goal.returns-in_err-add_row
-returns-in_err-add_row c =
-    let p = err_from_is_err_and c.from_residual.result c.from_residual.ensures.1 in
-    rw (p.1, p.2)
-    (stops c.loop-row.tree c.args.rows.now c.loop-row.row-index c.row-item.result (omega arith) c.row-item.is c.in_err-add_row.field-0.0 c.in_err-add_row.ensures.checked c.args.rows.now c.loop-row.invariant.tree (omega arith))
-
-pub loop-row-preserved : goal.loop-row-preserved
-loop-row-preserved c = record {
-  names = c.in_ok-add_row.ensures.names;
-  few = c.in_ok-add_row.ensures.few;
-  tree = rw c.in_ok-add_row.ensures.added
-      (goes_on c.loop-row.tree c.args.rows.now c.loop-row.row-index c.row-item.result (omega arith) c.row-item.is c.in_ok-add_row.ensures.checked ∙ c.loop-row.invariant.tree);
-}
-
-pub returns-in-Ok : goal.returns-in-Ok
-returns-in-Ok c =
+pub returns-in-Ok-build : goal.returns-in-Ok-build
+returns-in-Ok-build c =
     let filled = is_filled (length c.args.rows.now) c.is_empty.result c.is_empty.ensures c.if-is_empty.false in
-    ends c.loop-row.tree c.args.rows.now c.loop-row.row-index (omega arith) filled c.loop-row.invariant.tree ∙ ap Ok (sym c.in-Ok.ensures.kept)
+    tree_of-filled c.args.rows.now filled ∙ c.in-Ok.ensures ∙ ap Ok (sym c.in-Ok-build.ensures.kept)
+
+pub returns-in-Err : goal.returns-in-Err
+returns-in-Err c =
+    let filled = is_filled (length c.args.rows.now) c.is_empty.result c.is_empty.ensures c.if-is_empty.false in
+    rw (tree_of-filled c.args.rows.now filled) c.in-Err.ensures

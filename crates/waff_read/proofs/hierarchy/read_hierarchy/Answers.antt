@@ -1,76 +1,17 @@
-use Rattle.std.proofs.Common.{codes, option_map, sym}
 use Rattle.std.specs.Option.{ok_or}
 use Rattle.std.proofs.lemmas.Result.{err_from_is_err_and}
 use Rattle.toml.specs.View.{view}
-use Rattle.waff_parse.specs.Refusals.{told}
-use Rattle.waff_read.specs.declared.hier_error.HierError.TheVariants.{Toml, Model}
-use Rattle.waff_read.specs.Checks.{passed}
-use Rattle.waff_read.specs.Documents.{document_of, rows_at}
-use Rattle.waff_read.specs.Shapes.{shape_refusal}
-use Rattle.waff_read.specs.Affinities.{tree_of}
-use Rattle.waff_read.specs.HierRefusals.{shape_error, tree_error}
-use Rattle.waff_read.specs.Hierarchies.{kind_of, kind_refusal, hierarchy_of}
-use Rattle.waff_read.proofs.HierarchyLemmas.{tells_at, stops_at, after_document, after_kind, after_shape, after_tree, after_level, at_document, at_kind, at_shape, at_tree, at_level, at_layout}
+use Rattle.waff_read.specs.declared.hier_error.HierError.TheVariants.{Toml}
+use Rattle.waff_read.specs.Documents.{document_of}
+use Rattle.waff_read.specs.Hierarchies.{hierarchy_of, layout_in}
+use Rattle.waff_read.proofs.HierarchyLemmas.{stops_at, at_document, at_layout_in}
 use Rattle.waff_read.proofs.hierarchy.read_hierarchy.Goals as goal
 
 pub returns-in_err-document : goal.returns-in_err-document
 returns-in_err-document c =
     let bytes = c.args.bytes.now in
     let p = err_from_is_err_and c.from_residual.result c.from_residual.ensures.1 in
-    rw (p.1, p.2) (stops_at (hierarchy_of bytes) c.in_err-document.field-0.0 (ok_or (document_of bytes) Toml) after_document (at_document bytes) c.in_err-document.ensures)
-
-pub returns-in_err-kind : goal.returns-in_err-kind
-returns-in_err-kind c =
-    let bytes = c.args.bytes.now in
-    let document = view c.in_ok-document.document in
-    let p = err_from_is_err_and c.from_residual-in_err-kind.result c.from_residual-in_err-kind.ensures.1 in
-    rw (p.1, p.2)
-    (stops_at (hierarchy_of bytes) c.in_err-kind.field-0.0 (ok_or (kind_of document) Model) (after_kind document) (at_kind bytes document c.in_ok-document.ensures)
-    (tells_at c.in_err-kind.field-0.0 (ok_or (kind_of document) Model) (sym c.in_err-kind.ensures)))
-
-pub returns-in_err-check_shape : goal.returns-in_err-check_shape
-returns-in_err-check_shape c =
-    let bytes = c.args.bytes.now in
-    let document = view c.in_ok-document.document in
-    let kind = c.in_ok-kind.kind in
-    let check = passed (option_map shape_error (shape_refusal document)) in
-    let same = at_shape (hierarchy_of bytes) document kind (at_kind bytes document c.in_ok-document.ensures) c.in_ok-kind.ensures in
-    let p = err_from_is_err_and c.from_residual-in_err-check_shape.result c.from_residual-in_err-check_shape.ensures.1 in
-    rw (p.1, p.2)
-    (stops_at (hierarchy_of bytes) c.in_err-check_shape.field-0.0 check (λ _. after_shape document kind) same
-    (tells_at c.in_err-check_shape.field-0.0 check (sym c.in_err-check_shape.ensures)))
-
-pub returns-in_err-tree : goal.returns-in_err-tree
-returns-in_err-tree c =
-    let bytes = c.args.bytes.now in
-    let document = view c.in_ok-document.document in
-    let kind = c.in_ok-kind.kind in
-    let shaped = at_shape (hierarchy_of bytes) document kind (at_kind bytes document c.in_ok-document.ensures) c.in_ok-kind.ensures in
-    let same = at_tree (hierarchy_of bytes) document kind shaped c.in_ok-check_shape.ensures in
-    let p = err_from_is_err_and c.from_residual-in_err-tree.result c.from_residual-in_err-tree.ensures.1 in
-    rw (p.1, p.2)
-    (stops_at (hierarchy_of bytes) c.in_err-tree.field-0.0 (told tree_error (tree_of (rows_at (codes "affinity") document))) (after_tree document kind) same c.in_err-tree.ensures)
-
-pub returns-in_err-check_kind : goal.returns-in_err-check_kind
-returns-in_err-check_kind c =
-    let bytes = c.args.bytes.now in
-    let document = view c.in_ok-document.document in
-    let kind = c.in_ok-kind.kind in
-    let tree = c.in_ok-tree.tree in
-    let check = passed (kind_refusal kind tree) in
-    let shaped = at_shape (hierarchy_of bytes) document kind (at_kind bytes document c.in_ok-document.ensures) c.in_ok-kind.ensures in
-    let same = at_level (hierarchy_of bytes) document kind tree (at_tree (hierarchy_of bytes) document kind shaped c.in_ok-check_shape.ensures) c.in_ok-tree.ensures in
-    let p = err_from_is_err_and c.from_residual-in_err-check_kind.result c.from_residual-in_err-check_kind.ensures.1 in
-    rw (p.1, p.2)
-    (stops_at (hierarchy_of bytes) c.in_err-check_kind.field-0.0 check (λ _. after_level document kind tree) same
-    (tells_at c.in_err-check_kind.field-0.0 check (sym c.in_err-check_kind.ensures)))
+    rw (p.1, p.2) (stops_at (hierarchy_of bytes) c.in_err-document.field-0.0 (ok_or (document_of bytes) Toml) layout_in (at_document bytes) c.in_err-document.ensures)
 
 pub returns : goal.returns
-returns c =
-    let bytes = c.args.bytes.now in
-    let document = view c.in_ok-document.document in
-    let kind = c.in_ok-kind.kind in
-    let tree = c.in_ok-tree.tree in
-    let shaped = at_shape (hierarchy_of bytes) document kind (at_kind bytes document c.in_ok-document.ensures) c.in_ok-kind.ensures in
-    let levels = at_level (hierarchy_of bytes) document kind tree (at_tree (hierarchy_of bytes) document kind shaped c.in_ok-check_shape.ensures) c.in_ok-tree.ensures in
-    rw (at_layout (hierarchy_of bytes) document kind tree levels c.in_ok-check_kind.ensures) c.read_layout.ensures
+returns c = rw (at_layout_in c.args.bytes.now (view c.in_ok-document.document) c.in_ok-document.ensures) c.read_layout.ensures

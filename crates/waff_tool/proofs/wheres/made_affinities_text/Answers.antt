@@ -1,7 +1,6 @@
 use Rattle.std.proofs.Common.{◌≡◌, ℕ, List, length, string_bytes, sym, subst}
 use Rattle.std.proofs.lemmas.Result.{IfOk-weaker}
 use Rattle.waff_model.specs.Tree.{Node}
-use Rattle.waff_assign.specs.Order.{IsOrdered}
 use Rattle.waff_plan.specs.Chain.{IsListed}
 use Rattle.waff_plan.specs.declared.timing.Timing.{Timing}
 use Rattle.waff_plan.specs.Timetable.{timings_of}
@@ -11,35 +10,28 @@ use Rattle.waff_figures.specs.ByAffinity.{AreCostsBelow, affinities_lines}
 use Rattle.waff_inputs.specs.Inputs.{Accepts}
 use Rattle.waff_tool.specs.PlanText.{work_of_trace}
 use Rattle.waff_tool.specs.Figures.{IsAffinitiesText}
-use Rattle.waff_tool.proofs.CertificateLemmas.{as_accepted, as_many, certified, pairs_forward}
+use Rattle.waff_tool.proofs.CertificateLemmas.{as_accepted, as_many}
 use Rattle.waff_tool.proofs.wheres.made_affinities_text.Goals as goal
-
-pub chain-requires-clause-lengths : goal.chain-requires-clause-lengths
-chain-requires-clause-lengths c =
-    as_many c.case-case.result.trace.now.messages _ _ c.in_ok-plan.ensures.timings c.case-case.result.lengths
 
 pub invariant_of-planned : goal.invariant_of-planned
 invariant_of-planned c = record {
-  timings = c.in_ok-plan.ensures.timings;
-  lengths = as_many c.case-case.result.trace.now.messages _ _ c.in_ok-plan.ensures.timings c.case-case.result.lengths;
+  timings = c.in_ok-certified.ensures.timings;
+  lengths = as_many c.case-case.result.trace.now.messages _ _ c.in_ok-certified.ensures.timings c.case-case.result.lengths;
 }
 
 pub affinities_text-text-requires : goal.affinities_text-text-requires
 affinities_text-text-requires c =
-    record { chain = subst (λ ch. IsListed (length c.in_ok-plan.plan.timings) ch) (sym c.messages.ensures) c.in_ok-chain.ensures.listed }
+    record { chain = subst (λ ch. IsListed (length c.in_ok-certified.certified.plan.timings) ch) (sym c.messages.ensures) c.in_ok-certified.ensures.listed }
 
 pub returns : goal.returns
 returns c =
-    let plan = c.in_ok-plan.plan in
-    let chain = c.in_ok-chain.chain in
+    let plan = c.in_ok-certified.certified.plan in
+    let chain = c.in_ok-certified.certified.chain in
     let layout = c.args.accepted.now.layout in
     let trace = c.args.accepted.now.trace in
     let assigned = c.args.accepted.now.assigned in
     let is = c.case-case.ensures in
-    let timings = rw is.trace at c.in_ok-plan.ensures.timings in
-    let forward = pairs_forward layout.tree assigned trace.messages c.args.accepted.now.lengths in
-    let least = rw (is.tree, is.assigned, timings) at c.in_ok-plan.ensures.least in
-    let printed = rw (is.tree, is.assigned, timings) at c.in_ok-chain.ensures.printed in
+    let timings = rw is.trace at c.in_ok-certified.ensures.timings in
     let filled = rw is.tree at c.len-affinities.ensures.tree.filled in
     let IsText : List Node → List ℕ → List Timing → List ℕ → List ℕ → Type 0 = λ tree assigned timings chain text. (below : List ℕ)
     × AreCostsBelow tree assigned (work_of timings) below
@@ -60,7 +52,7 @@ returns c =
       chain = chain.messages;
       below = as_told.0;
       accepts = accepts;
-      certified = certified (IsOrdered layout.tree assigned) (work_of_trace trace) (start_of plan.starts) chain.messages forward least printed;
+      certified = rw (is.tree, is.assigned, is.trace) at c.in_ok-certified.ensures.certified;
       are_below = as_told.1;
       costs_add_up = c.costs_add_up.ensures layout.tree assigned (work_of_trace trace) chain.messages filled c.args.accepted.now.known;
       chain_adds_up = c.chain_adds_up.ensures layout.tree assigned (work_of_trace trace) chain.messages filled c.args.accepted.now.known;

@@ -1,19 +1,20 @@
-use Rattle.std.proofs.Common.{◌≡◌, ℕ, ◌-◌, ◌<◌, [], ◌∷◌, ◌++◌, length, map, set, get_or, arith, sym, ◌∙◌, ap, Vec, Global}
-use Rattle.std.proofs.lemmas.List.{map-set, get_or-map, length-map}
-use Rattle.waff_order.specs.Needs.{needs_of}
+use Rattle.std.proofs.Common.{◌≡◌, ◌+◌, ◌-◌, [], ◌∷◌, ◌++◌, length, set, get_or, arith, ◌∙◌, ap}
+use Rattle.std.proofs.lemmas.List.{length_push}
+use Rattle.std.specs.Vec.{with_item}
+use Rattle.waff_list.specs.declared.dependents.Dependents.{Dependents}
+use Rattle.waff_list.specs.declared.dependents.Link.{Link}
+use Rattle.waff_list.proofs.TrailLemmas.{trails_more}
 use Rattle.waff_list.proofs.dependents.Dependents.add.Goals as goal
 
-pub returns : goal.returns
-returns c =
-    let lists = c.self.inside.lists.items in
+pub returns-clause-added : goal.returns-clause-added
+returns-clause-added c =
+    let old = c.args.self.now in
     let at = c.args.i - 1 in
-    let list = c.index_mut-list.result.now in
-    let value = c.index_mut-list.ensures.value in
-    let long : length lists ≡ length c.args.self.now = sym (length-map lists (λ (v : Vec ℕ Global). v.items)) ∙ ap length c.self.view_is in
-    let inside : at < length lists = omega (arith, long) in
-    let there : list.items ≡ needs_of c.args.self.now c.args.i
-    = ap (λ (v : Vec ℕ Global). v.items) value ∙ sym (get_or-map (λ (v : Vec ℕ Global). v.items) lists at list [] inside)
-    ∙ ap (λ xs. get_or xs at []) c.self.view_is in
-    map-set (λ (v : Vec ℕ Global). v.items) lists at c.push.new.self
-    ∙ ap (λ xs. set (map (λ (v : Vec ℕ Global). v.items) lists) at xs) (c.in_ok-push.ensures.items ∙ ap (λ xs. xs ++ c.args.m ∷ []) there)
-    ∙ ap (λ xs. set xs at (needs_of c.args.self.now c.args.i ++ c.args.m ∷ [])) c.self.view_is
+    let m = c.args.m in
+    let new : Dependents = record { firsts = with_item old.firsts at c.len.result; links = c.push.new.self } in
+    let links_are : c.push.new.self.items ≡ old.links.items ++ (record { message = m; next = get_or old.firsts.items at 0 }) ∷ []
+    = c.in_ok-push.ensures.items ∙ ap (λ n. let l : Link = record { message = m; next = n } in old.links.items ++ l ∷ []) c.first-next.ensures in
+    let count : c.len.result ≡ length old.links.items + 1
+    = c.len.ensures ∙ c.push.new.self.ok.0 ∙ ap length links_are ∙ length_push old.links.items _ in
+    trails_more old new at m c.requires.linked (omega (arith, c.requires.number.from, c.requires.number.to)) links_are
+    (ap (λ n. set old.firsts.items at n) count)

@@ -1,6 +1,11 @@
-use Rattle.std.proofs.Common.{◌-◌}
+use Rattle.std.proofs.Common.{◌-◌, ◌*◌, ◌≤◌, length}
+use Rattle.waff_list.specs.Trails.{AreLinked, trails}
 use Rattle.waff_list.specs.Waiting.{AreDependents}
 use Rattle.waff_list.proofs.dependents.Dependents.of_needs.Given as goal
 
 abbrev pub invariant-loop-m : goal.invariant-loop-m
-invariant-loop-m l = AreDependents l.needs l.dependents (l.m - 1)
+invariant-loop-m l = record {
+  linked : AreLinked l.dependents;
+  few : length l.dependents.links.items ≤ 65536 * (l.m - 1);
+  told : AreDependents l.needs (trails l.dependents) (l.m - 1);
+}

@@ -1,4 +1,9 @@
 use Rattle.waff_list.proofs.task.Task.new.Goals as goal
 
 pub invariant_of-result : goal.invariant_of-result
-invariant_of-result c = record { lists = c.in_ok-dependents.ensures.lists; lengths = c.requires; told = c.in_ok-dependents.ensures.dependents }
+invariant_of-result c = record {
+  lists = c.in_ok-dependents.ensures.lists;
+  lengths = c.requires;
+  linked = c.in_ok-dependents.ensures.linked;
+  told = c.in_ok-dependents.ensures.dependents;
+}

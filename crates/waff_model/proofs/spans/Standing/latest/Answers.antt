@@ -29,3 +29,7 @@ returns g c =
     ∙ sym (latest_join order laws places from (first * 64) (last * 64) (omega (arith, is)) (omega (arith, some))) in
     c.later-2.ensures ∙ ap₂ order.later most three ∙ sym (latest_join order laws places from (last * 64) to (omega (arith, is, some)) (omega arith))
     ∙ ap (λ xs. latest_in order xs from to) c.self.view_is
+
+pub returns-then-last-first : goal.returns-then-last-first
+returns-then-last-first g c =
+    c.latest.ensures ∙ ap (λ xs. latest_in g.T.Later.order xs c.args.from c.args.to) (c.deref.ensures.value ∙ c.self.view_is)

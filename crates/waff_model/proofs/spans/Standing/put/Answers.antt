@@ -20,3 +20,20 @@ invariant_of-self g c =
     = c.later-2.ensures ∙ ap (λ x. order.later x c.args.value) (get_or_read blocks (p / 64) c.index-2.result.now block c.index-2.ensures order.none) in
     subst₂ (λ x y. AreSummed order (set places p x) (set blocks (p / 64) y)) (sym one) (sym two)
     (summed_put order g.met.T.Later.laws places blocks p c.args.value within c.self.invariant)
+
+pub index-requires : goal.index-requires
+index-requires g c = omega (arith, ap length c.self.view_is, c.requires, c.self.inside.places.ok.0)
+
+pub index-requires-2 : goal.index-requires-2
+index-requires-2 g c = omega (arith, ap length c.self.view_is, c.requires, c.self.invariant.room, c.self.inside.blocks.ok.0)
+
+pub returns : goal.returns
+returns g c =
+    let order = g.T.Later.order in
+    let places = c.self.inside.places.items in
+    let p = c.args.place in
+    let x = c.args.value in
+    let within : p < length places = omega (arith, ap length c.self.view_is, c.requires) in
+    let later : c.later.result ≡ order.later (value_at order places p) x
+    = c.later.ensures ∙ ap (λ y. order.later y x) (get_or_read places p c.index.result.now within c.index.ensures order.none) in
+    ap (set places p) later ∙ ap (λ xs. set xs p (order.later (value_at order xs p) x)) c.self.view_is

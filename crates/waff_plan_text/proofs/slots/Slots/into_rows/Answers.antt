@@ -16,6 +16,7 @@ loop-place-init c =
       left = i.1 ∙ c.self.inside.places.ok.0 ∙ sym (ap length i.0);
       turn = omega (arith, ap length items);
       count = ap length none;
+      room = omega (arith, c.in_ok-rows.ensures.capacity, c.len.ensures, c.self.inside.places.ok.0, ap length c.self.view_is);
       within = rw none (All-nil IsWithinLimit);
       slots = rw i.0 c.self.invariant.1;
       rows = rows-start c.args.self _ _ none items;
@@ -26,10 +27,15 @@ returns-in-None-place-clause-rows c =
     let s = c.in-Some.ensures.steps in
     sym c.loop-place.invariant.rows ∙ rows-missing c.loop-place.rows.items c.loop-place.before _ _ _ s.0 c.in-None-place.is
 
+pub push_reserved-requires : goal.push_reserved-requires
+push_reserved-requires c =
+    let i = c.loop-place.invariant in
+    omega (arith, ap length c.in-Some.ensures.steps.0, i.turn, i.count, i.room)
+
 pub loop-place-preserved : goal.loop-place-preserved
 loop-place-preserved c =
     let s = c.in-Some.ensures.steps in
-    let p = c.in_ok-push-in-Some-place.ensures in
+    let p = c.push_reserved.ensures in
     let i = c.loop-place.invariant in
     let len = ap length s.0 in
     let one : IfSome c.in-Some.place IsWithinLimit = All-first (λ slot. IfSome slot IsWithinLimit) _ _ _ s.0 i.slots in
@@ -37,9 +43,10 @@ loop-place-preserved c =
       left = omega (arith, len, i.left, s.1);
       turn = omega (arith, len, i.turn);
       count = omega (arith, ap length p.items, length-append c.loop-place.rows.items (c.in-Some-place.row ∷ []), i.count);
+      room = rw p.capacity i.room;
       within = rw p.items (All-push IsWithinLimit c.loop-place.rows.items c.in-Some-place.row i.within (rw c.in-Some-place.is at one));
       slots = All-others (λ slot. IfSome slot IsWithinLimit) _ _ _ s.0 i.slots;
-      rows = rows-step c.loop-place.rows.items c.push.new.self.items c.loop-place.before _ _ _ c.in-Some-place.row s.0 c.in-Some-place.is p.items ∙ i.rows;
+      rows = rows-step c.loop-place.rows.items c.push_reserved.new.self.items c.loop-place.before _ _ _ c.in-Some-place.row s.0 c.in-Some-place.is p.items ∙ i.rows;
     }
 
 pub returns-clause-rows : goal.returns-clause-rows

@@ -1,4 +1,4 @@
-use Rattle.std.proofs.Common.{◌≡◌, ◌+◌, All, length}
+use Rattle.std.proofs.Common.{◌≡◌, ◌≤◌, ◌+◌, All, length, vec_capacity}
 use Rattle.std.specs.Prelude.{IfSome}
 use Rattle.std.specs.Vec.Iter.{into_iter_items, into_iter_len}
 use Rattle.waff_parse.specs.Walks.{walk, with_front}
@@ -11,6 +11,7 @@ invariant-loop-place l = record {
   left : into_iter_len l.place-iterator ≡ length (into_iter_items l.place-iterator);
   turn : l.before + length (into_iter_items l.place-iterator) ≡ length l.fn.self;
   count : length l.rows.items ≡ l.before;
+  room : length l.fn.self ≤ vec_capacity l.rows;
   within : All IsWithinLimit l.rows.items;
   slots : All (λ slot. IfSome slot IsWithinLimit) (into_iter_items l.place-iterator);
   rows : with_front l.rows.items (walk row_in next_message l.before (into_iter_items l.place-iterator)) ≡ rows_in l.fn.self;

@@ -2,7 +2,7 @@ use Rattle.std.proofs.Common.{◌≡◌, ◌/◌, ◌<◌, length, arith, sym, �
 use Rattle.std.proofs.lemmas.List.{get_or_read}
 use Rattle.waff_model.specs.Later.{value_at}
 use Rattle.waff_model.proofs.BlockLemmas.{length-spread, spread_at}
-use Rattle.waff_model.proofs.spans.Spread.at.Goals as goal
+use Rattle.waff_model.proofs.spans.Blocks.at.Goals as goal
 
 pub index-requires : goal.index-requires
 index-requires g c =

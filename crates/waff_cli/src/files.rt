@@ -1,12 +1,11 @@
 //! Files and standard input, read whole.
-use crate::failure::Failure;
+use crate::refusal::{FAILED, Refusal};
 use std::alloc::Global;
 use std::fmt::Display;
 use std::io::Read;
 use std::rt::{Files, Runtime};
 use std::{fs, io};
-use waff_cli::FAILED;
-use waff_tool::{ReadFault, read_whole};
+use waff_io::{ReadFault, read_whole};
 
 /// The most bytes of a file, and of standard input.
 const MAX_INPUT: u64 = 268_435_456;
@@ -44,12 +43,12 @@ impl From<ReadFault> for Fault {
 }
 
 impl Unread<'_> {
-    /// The failure that this comes to. Where it is to be told in words, those are printed here: the
+    /// The refusal that this comes to. Where it is to be told in words, those are printed here: the
     /// name of the file, and what the system says.
-    pub fn failure<R: Eprint + Files>(self, rt: &R, in_words: bool) -> Failure {
+    pub fn refusal<R: Eprint + Files>(self, rt: &R, in_words: bool) -> Refusal {
         match self.fault {
-            Fault::Memory => return Failure::Memory,
-            _ if !in_words => return Failure::Read(self.place),
+            Fault::Memory => return Refusal::Memory,
+            _ if !in_words => return Refusal::Read(self.place),
             Fault::Closed(error) => self.tell(rt, &error),
             Fault::Failed => match read_error(rt, self.name) {
                 Some(error) => self.tell(rt, &error),
@@ -57,7 +56,7 @@ impl Unread<'_> {
             },
             Fault::TooLong => self.tell(rt, &"it has more than 268435456 bytes"),
         }
-        Failure::Told(FAILED)
+        Refusal::Told(FAILED)
     }
 
     /// A line on standard error. Where that fails, the exit status has to do.

@@ -2,7 +2,7 @@ use Rattle.std.proofs.Common.{◌≡◌, ◌≤◌, [], length, map, drop}
 use Rattle.toml.specs.View.{view}
 use Rattle.waff_model.specs.declared.limits.TheConstants.{MAX_AFFINITIES}
 use Rattle.waff_read.specs.Affinities.{tree_from}
-use Rattle.waff_read.proofs.affinities.read_tree.Given as goal
+use Rattle.waff_read.proofs.affinities.add_rows.Given as goal
 
 abbrev pub invariant-loop-row : goal.invariant-loop-row
 invariant-loop-row l = record {

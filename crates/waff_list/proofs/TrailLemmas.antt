@@ -1,0 +1,145 @@
+-- Trails of links, as links are added.
+use Rattle.std.proofs.Common.{◌≡◌, ℕ, zero, suc, ◌+◌, ◌-◌, ◌<◌, ◌≤◌, List, [], ◌∷◌, ◌++◌, length, map, get_or, set, replicate, All, arith, refl, ap, sym, ◌∙◌, subst, ⊎_elim}
+use Rattle.std.proofs.lemmas.Bool.{cases_lt}
+use Rattle.std.proofs.lemmas.List.{get_or_push, get_or_append_left, get_or-map, length_push, length-map, length-replicate, map-set, get_or-replicate}
+use Rattle.std.proofs.lemmas.List.Elements.{All-head, All-tail, All-set, All-weaker, All-get_or, All-replicate}
+use Rattle.waff_list.specs.Trails.{link_at, trail, trails, AreLinked}
+use Rattle.waff_list.specs.declared.dependents.Dependents.{Dependents}
+use Rattle.waff_list.specs.declared.dependents.Link.{Link}
+
+abbrev no_link : Link
+no_link = record { message = 0; next = 0 }
+
+-- each link goes on with an earlier one
+abbrev pub AreBack : List Link → Type 0
+AreBack links = (n : ℕ) → 1 ≤ n → n ≤ length links → (link_at links n).next < n
+
+pub trail_none : (links : List Link) (most : ℕ) → trail links most 0 ≡ []
+trail_none links zero = refl
+trail_none links (suc most) = refl
+
+module _ (links : List Link) (back : AreBack links) where
+  -- a trail is the same, however many links it may have beyond the number of its first
+  trail_enough : (f g n : ℕ) → n ≤ f → n ≤ g → n ≤ length links → trail links f n ≡ trail links g n
+  trail_enough zero g n in_f in_g inside =
+      let top : n ≡ 0 = omega arith in
+      subst (λ k. trail links zero k ≡ trail links g k) (sym top) (sym (trail_none links g))
+  trail_enough (suc f) zero n in_f in_g inside =
+      let top : n ≡ 0 = omega arith in
+      subst (λ k. trail links (suc f) k ≡ trail links zero k) (sym top) refl
+  trail_enough (suc f) (suc g) zero in_f in_g inside = refl
+  trail_enough (suc f) (suc g) (suc n) in_f in_g inside =
+      let next : ℕ = (link_at links (suc n)).next in
+      let earlier : next < suc n = back (suc n) (omega arith) inside in
+      ap (λ xs. (link_at links (suc n)).message ∷ xs) (trail_enough f g next (omega arith) (omega arith) (omega arith))
+
+  -- a trail is the message of its first link, and the trail with which that goes on
+  pub trail_step : (n : ℕ) → 1 ≤ n → n ≤ length links
+      → trail links n n ≡ (link_at links n).message ∷ trail links (link_at links n).next (link_at links n).next
+  trail_step zero from inside = absurd (omega arith)
+  trail_step (suc n) from inside =
+      let next : ℕ = (link_at links (suc n)).next in
+      let earlier : next < suc n = back (suc n) from inside in
+      ap (λ xs. (link_at links (suc n)).message ∷ xs) (trail_enough n next next (omega arith) (omega arith) (omega arith))
+
+  -- a link more leaves the trails that there are
+  trail_kept : (l : Link) (most n : ℕ) → n ≤ length links → trail (links ++ l ∷ []) most n ≡ trail links most n
+  trail_kept l zero n inside = refl
+  trail_kept l (suc most) zero inside = refl
+  trail_kept l (suc most) (suc n) inside =
+      let same : link_at (links ++ l ∷ []) (suc n) ≡ link_at links (suc n) = get_or_append_left links (l ∷ []) no_link (suc n - 1) (omega arith) in
+      let next : ℕ = (link_at links (suc n)).next in
+      let earlier : next < suc n = back (suc n) (omega arith) inside in
+      ap (λ (x : Link). x.message ∷ trail (links ++ l ∷ []) most x.next) same
+      ∙ ap (λ xs. (link_at links (suc n)).message ∷ xs) (trail_kept l most next (omega arith))
+
+-- two functions that agree on a list
+map_same : (f g : ℕ → List ℕ) (xs : List ℕ) → All (λ x. f x ≡ g x) xs → map f xs ≡ map g xs
+map_same f g [] all = refl
+map_same f g (x ∷ xs) all =
+    ap (λ y. y ∷ map f xs) (All-head (λ x. f x ≡ g x) x xs all)
+    ∙ ap (λ ys. g x ∷ ys) (map_same f g xs (All-tail (λ x. f x ≡ g x) x xs all))
+
+module _ (d new : Dependents) (at m : ℕ) (linked : AreLinked d) (to : at < length d.firsts.items)
+    (links_are : new.links.items ≡ d.links.items ++ (record { message = m; next = get_or d.firsts.items at 0 }) ∷ [])
+    (firsts_are : new.firsts.items ≡ set d.firsts.items at (length d.links.items + 1)) where
+  abbrev links : List Link
+  links = d.links.items
+
+  abbrev firsts : List ℕ
+  firsts = d.firsts.items
+
+  abbrev l : Link
+  l = record { message = m; next = get_or d.firsts.items at 0 }
+
+  abbrev count : ℕ
+  count = length d.links.items
+
+  first_within : get_or firsts at 0 ≤ count
+  first_within = All-get_or (λ n. n ≤ count) firsts at 0 to linked.firsts
+
+  last : link_at (links ++ l ∷ []) (count + 1) ≡ l
+  last = get_or_push links l no_link (count + 1 - 1) (omega arith)
+
+  back_more : AreBack (links ++ l ∷ [])
+  back_more n from within =
+      ⊎_elim {C = (link_at (links ++ l ∷ []) n).next < n}
+      (λ (before : n < count + 1).
+      let same : link_at (links ++ l ∷ []) n ≡ link_at links n = get_or_append_left links (l ∷ []) no_link (n - 1) (omega arith) in
+      subst (λ (x : Link). x.next < n) (sym same) (linked.earlier n from (omega arith)))
+      (λ (after : count + 1 ≤ n).
+      let long : length (links ++ l ∷ []) ≡ count + 1 = length_push links l in
+      let is : n ≡ count + 1 = omega (arith, within, long) in
+      let below : l.next < count + 1 = omega (arith, first_within) in
+      subst (λ k. (link_at (links ++ l ∷ []) k).next < k) (sym is) (subst (λ (x : Link). x.next < count + 1) (sym last) below))
+      (cases_lt n (count + 1))
+
+  pub linked_more : AreLinked new
+  linked_more = record {
+    firsts = subst (λ xs. All (λ n. n ≤ length xs) new.firsts.items) (sym links_are)
+        (subst (λ xs. All (λ n. n ≤ length (links ++ l ∷ [])) xs) (sym firsts_are)
+        (let long : length (links ++ l ∷ []) ≡ count + 1 = length_push links l in
+        All-set (λ n. n ≤ length (links ++ l ∷ [])) firsts at (count + 1) (omega (arith, long))
+        (All-weaker (λ n. n ≤ count) (λ n. n ≤ length (links ++ l ∷ [])) (λ n within. omega (arith, long, within)) firsts linked.firsts)));
+    earlier = subst AreBack (sym links_are) back_more;
+  }
+
+  pub one_more : length new.links.items ≡ length d.links.items + 1
+  one_more = ap length links_are ∙ length_push links l
+
+  here : trail (links ++ l ∷ []) (count + 1) (count + 1) ≡ m ∷ trail links (get_or firsts at 0) (get_or firsts at 0)
+  here =
+      let next : ℕ = get_or firsts at 0 in
+      let long : length (links ++ l ∷ []) ≡ count + 1 = length_push links l in
+      trail_step (links ++ l ∷ []) back_more (count + 1) (omega arith) (omega (arith, long))
+      ∙ ap (λ (x : Link). x.message ∷ trail (links ++ l ∷ []) x.next x.next) last
+      ∙ ap (λ xs. m ∷ xs) (trail_kept links linked.earlier l next next first_within)
+
+  pub trails_more : trails new ≡ set (trails d) at (m ∷ get_or (trails d) at [])
+  trails_more =
+      let all = links ++ l ∷ [] in
+      let kept : map (λ n. trail all n n) firsts ≡ trails d = map_same (λ n. trail all n n) (λ n. trail links n n) firsts
+      (All-weaker (λ n. n ≤ count) (λ n. trail all n n ≡ trail links n n) (λ n within. trail_kept links linked.earlier l n n within) firsts linked.firsts) in
+      let list : get_or (trails d) at [] ≡ trail links (get_or firsts at 0) (get_or firsts at 0) = get_or-map (λ n. trail links n n) firsts at 0 [] to in
+      ap (λ xs. map (λ n. trail xs n n) new.firsts.items) links_are
+      ∙ ap (λ xs. map (λ n. trail all n n) xs) firsts_are
+      ∙ map-set (λ n. trail all n n) firsts at (count + 1)
+      ∙ ap (λ xs. set xs at (trail all (count + 1) (count + 1))) kept
+      ∙ ap (λ xs. set (trails d) at xs) (here ∙ ap (λ xs. m ∷ xs) (sym list))
+
+-- no link yet
+module _ (d : Dependents) (n : ℕ) (firsts_are : d.firsts.items ≡ replicate n 0) (links_are : d.links.items ≡ []) where
+  pub linked_none : AreLinked d
+  linked_none = record {
+    firsts = subst (λ xs. All (λ k. k ≤ length d.links.items) xs) (sym firsts_are) (All-replicate (λ k. k ≤ length d.links.items) n 0 (omega arith));
+    earlier = λ k from within. let none : length d.links.items ≡ 0 = ap length links_are in absurd (omega (arith, none, from, within));
+  }
+
+  pub trails_none : length (trails d) ≡ n
+  trails_none = length-map d.firsts.items (λ k. trail d.links.items k k) ∙ ap length firsts_are ∙ length-replicate n 0
+
+  pub no_trail : (i : ℕ) → i < n → get_or (trails d) i [] ≡ []
+  no_trail i inside =
+      let long : length d.firsts.items ≡ n = ap length firsts_are ∙ length-replicate n 0 in
+      get_or-map (λ k. trail d.links.items k k) d.firsts.items i 0 [] (omega (arith, long))
+      ∙ ap (λ k. trail d.links.items k k) (ap (λ xs. get_or xs i 0) firsts_are ∙ get_or-replicate n i 0 0 inside)

@@ -1,0 +1,76 @@
+//! Plans with their printed chains, which show how short the plans are.
+
+ghost use Rattle.std.specs.Prelude.{◌≡◌, IfOk, length};
+ghost use Rattle.waff_assign.specs.Case.{pairs_of};
+ghost use Rattle.waff_plan.specs.Bound.{IsWorkers};
+ghost use Rattle.waff_plan.specs.Chain.{IsListed};
+ghost use Rattle.waff_plan.specs.Timetable.{timings_of, work_of_messages};
+ghost use Rattle.waff_plan.specs.Timing.{start_of};
+ghost use Rattle.waff_list.specs.Seating.{worker_of};
+ghost use Rattle.waff_list.specs.Unique.{AreSeated};
+ghost use Rattle.waff_tool.specs.Certificates.{IsBounded, IsCertified};
+
+use std::alloc::{AllocError, Global};
+use waff_assign::Case;
+use waff_list::laws::needs_make_the_same_plans;
+use waff_list::{Rule, WorkerPlan, list_chain, list_plan_by};
+use waff_order::predecessors::needs;
+use waff_plan::printed::chain;
+use waff_plan::unlimited::plan;
+use waff_plan::{Chain, Plan};
+
+/// An unlimited plan, with its printed chain.
+#[derive(Drop)]
+pub struct Certified {
+    pub plan: Plan,
+    pub chain: Chain,
+}
+
+/// A plan for k workers, with its printed chain.
+#[derive(Drop)]
+pub struct Bounded {
+    pub made: WorkerPlan,
+    pub chain: Chain,
+}
+
+/// The unlimited plan of a case.
+pub fn certified_plan(alloc: Global, case: &Case<'_>) -> Result<Certified, AllocError>
+    ensures timings { IfOk result (λ found.
+        found.plan.timings ≡ timings_of case.now.trace.now.messages) }
+    ensures listed { IfOk result (λ found.
+        IsListed (length found.plan.timings) found.chain.messages) }
+    ensures certified { IfOk result (λ found. IsCertified (pairs_of case.now)
+        (work_of_messages case.now.trace.now.messages)
+        (start_of found.plan.starts) found.chain.messages) }
+{
+    let plan = plan(alloc, case.tree, case.assigned, case.trace)?;
+    let chain = chain(alloc, case.tree, case.assigned, &plan)?;
+    Ok(Certified { plan, chain })
+}
+
+/// The plan of a case by this rule for k workers.
+pub fn bounded_plan(
+    alloc: Global,
+    case: &Case<'_>,
+    rule: Rule,
+    k: u32,
+) -> Result<Bounded, AllocError>
+    requires workers { IsWorkers k }
+    ensures timings { IfOk result (λ found.
+        found.made.table.timings ≡ timings_of case.now.trace.now.messages) }
+    ensures seated { IfOk result (λ found. AreSeated
+        (work_of_messages case.now.trace.now.messages)
+        (start_of found.made.table.starts) (worker_of found.made.seats)) }
+    ensures listed { IfOk result (λ found.
+        IsListed (length found.made.table.timings) found.chain.messages) }
+    ensures bounded { IfOk result (λ found. IsBounded rule (pairs_of case.now)
+        (work_of_messages case.now.trace.now.messages) k
+        (start_of found.made.table.starts) found.chain.messages) }
+{
+    let needs = needs(alloc, case.tree, case.assigned)?;
+    let made = list_plan_by(alloc, &needs, case.trace, rule, k)?;
+    drop(needs);
+    let chain = list_chain(alloc, case.tree, case.assigned, &made)?;
+    needs_make_the_same_plans();
+    Ok(Bounded { made, chain })
+}
