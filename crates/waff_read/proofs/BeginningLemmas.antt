@@ -1,11 +1,11 @@
 -- What a text begins with, by its parts.
-use Rattle.std.proofs.Common.{◌≡◌, ◌≢◌, ℕ, get_or, ◌<◌, ◌≤◌, List, [], ◌∷◌, ◌++◌, ◌∙◌, length, take, drop, Bool, true, false, Some, None, Ok, refl, sym, ap, append_assoc, arith}
+use Rattle.std.proofs.Common.{◌≡◌, ℕ, ◌<◌, ◌≤◌, List, [], ◌∷◌, ◌++◌, ◌∙◌, length, take, drop, Bool, true, false, Some, None, Ok, refl, sym, ap, append_assoc, arith}
 use Rattle.std.specs.Prelude.{All, codes, not, ◌==◌, ◌&&◌, ◌||◌, if◌then◌else◌, nat_le}
 use Rattle.std.specs.Char.{is_ascii_digit}
 use Rattle.std.specs.List.{list_all}
 use Rattle.std.specs.Str.{bytes_eq}
 use Rattle.std.proofs.lemmas.Bool.{and_parts, both_ways, eqb-true, false_from_ne_true, le-ltb, lt-ltb}
-use Rattle.std.proofs.lemmas.List.{append-nil, get_or-take, take-append-drop}
+use Rattle.std.proofs.lemmas.List.{append-nil, take-append-drop}
 use Rattle.std.proofs.lemmas.List.Elements.{All-cons, All-nil}
 use Rattle.std.proofs.lemmas.List.Folds.{list_all-append}
 use Rattle.std.proofs.lemmas.List.Splits.{slice_split_at, slice_split_none}
@@ -82,22 +82,6 @@ behind_bytes first text rest is = by (bytes_eq (take (length first) text) first)
         ∙ ap (λ (l : List ℕ). l ++ drop (length first) text) ((bytes_eq-Decides (take (length first) text) first).0 same)
         ∙ ap (λ (l : List ℕ). first ++ l) there
     by false same e = absurd (cc e)
-
--- a text with other first bytes does not begin with these
-pub behind-other : (first text : List ℕ) (place : ℕ) → place < length first → get_or text place 0 ≢ get_or first place 0 → None ≡ behind first text
-unfolding behind
-behind-other first text place before other = by (bytes_eq (take (length first) text) first) refl
-  where
-    by : (same : Bool) → bytes_eq (take (length first) text) first ≡ same → None ≡ (if same then Some (drop (length first) text) else None)
-    by true same =
-        let is : take (length first) text ≡ first = (bytes_eq-Decides (take (length first) text) first).0 same in
-        absurd (other (sym (get_or-take (length first) text place 0 before) ∙ ap (λ (l : List ℕ). get_or l place 0) is))
-    by false same = refl
-
--- a text with the same first bytes does
-pub behind-same : (first text : List ℕ) → take (length first) text ≡ first → Some (drop (length first) text) ≡ behind first text
-unfolding behind
-behind-same first text is = rw ((bytes_eq-Decides (take (length first) text) first).1 is) refl
 
 -- a number is digits
 pub number_is_digits : (text : List ℕ) (n : ℕ) → number_of text ≡ Some n → list_all is_ascii_digit text ≡ true

@@ -21,7 +21,7 @@ use Rattle.waff_model.specs.declared.cell.Cell.{Cell}
 use Rattle.waff_model.specs.declared.op.Op.{Op}
 use Rattle.waff_model.specs.declared.op.Op.TheVariants as op
 use Rattle.waff_parse.specs.Texts.{first_digits, first_number, number_of, parts, small}
-use Rattle.waff_read.specs.Beginnings.{◌>>=◌, behind, behind_name, cell_and_number, first_below, first_cell, first_op, first_space, number_below, of_cell, or_else, space_of_name, two_cells, with_number, with_other}
+use Rattle.waff_read.specs.Beginnings.{◌>>=◌, behind, cell_and_number, first_below, first_cell, first_op, first_space, number_below, of_cell, or_else, space_of_name, two_cells, with_number, with_other}
 use Rattle.waff_read.specs.Ops.{cell_in, cell_of, cell_of_name, cell_of_parts, value_of}
 use Rattle.waff_read.specs.declared.trace_fault.TraceFault.TheVariants as fault
 use Rattle.waff_read.proofs.SpellingLaws.{space_found, space_has_name}
@@ -289,15 +289,6 @@ space-there spaces name rest s named found =
     (λ _. ap (λ b. b == 58) (get_or-append_seam name 58 rest 0)) in
     let place : position (λ b. b == 58) text ≡ Some (length name) = grind (arith, nat_tests, first, within) in
     rw (place, take-append_seam name (58 ∷ rest), named, found, drop-append-add name (58 ∷ rest) 1) refl
-
--- the space that is guessed is the one that is named there
-pub guess-there : (layout : Hierarchy) → IsLayout layout → (text name rest : List ℕ) (s : ℕ) → s < length layout.spaces → name_at layout.spaces s ≡ Some name
-    → behind_name name text ≡ Some rest → first_space layout.spaces text ≡ Some (s, rest)
-guess-there layout is text name rest s inside named begins =
-    let same : unwrap_or (name_at layout.spaces s) [] ≡ name = rw named refl in
-    let b = both-found (behind name text) (λ more. behind (codes ":") more) rest begins in
-    let whole : text ≡ name ++ 58 ∷ rest = behind_bytes name text b.0 b.1 ∙ ap (λ (l : List ℕ). name ++ l) (behind_bytes (codes ":") b.0 rest b.2) in
-    rw whole (space-there layout.spaces name rest s (rw same at (space_has_name layout is s inside)) (rw same at (space_found layout is s inside)))
 
 -- a word that spells a cell is a name, `:` and an index
 record CellWords (spaces : List Space) (word : List ℕ) (cell : Cell) : Type 0 where

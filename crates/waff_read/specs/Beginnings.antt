@@ -24,10 +24,6 @@ unfoldable pub behind : List ℕ → List ℕ → Option (List ℕ)
 behind first text =
     if bytes_eq (take (length first) text) first then Some (drop (length first) text) else None
 
--- what stands behind a name and `:`
-abbrev pub behind_name : List ℕ → List ℕ → Option (List ℕ)
-behind_name name text = behind name text >>= (λ more. behind (codes ":") more)
-
 -- the space of a name
 abbrev pub space_of_name : List Space → List ℕ → Option ℕ
 space_of_name spaces name = if is_name name then space_named spaces name else None

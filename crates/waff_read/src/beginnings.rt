@@ -4,18 +4,26 @@ ghost use Rattle.std.specs.Prelude.{◌≡◌, option_map};
 ghost use Rattle.waff_read.specs.Beginnings as beginnings;
 
 use crate::parts::{Parts, Verb};
-use crate::prefix::behind;
 use crate::space_table::SpaceTable;
 use waff_model::Cell;
 use waff_parse::first_number;
 
-// The cell that a text begins with; the space that is guessed is looked for first.
+/// What stands behind the first bytes of a text, where it begins with these.
+#[inline(always)]
+#[tactic(auto, unfolding(crate::specs::Beginnings::behind))]
+pub(crate) fn behind<'t>(text: &'t [u8], first: &[u8]) -> Option<&'t [u8]>
+    ensures { option_map (λ rest. rest.now) result ≡ beginnings.behind first.now text.now }
+{
+    text.strip_prefix(first)
+}
+
+// The cell that a text begins with.
 #[inline(always)]
 #[tactic(auto, unfolding(crate::specs::Beginnings::first_cell))]
-fn first_cell<'t>(spaces: &SpaceTable<'_>, guess: u32, text: &'t [u8]) -> Option<(Cell, &'t [u8])>
+fn first_cell<'t>(spaces: &SpaceTable<'_>, text: &'t [u8]) -> Option<(Cell, &'t [u8])>
     ensures { option_map beginnings.with_rest result ≡ beginnings.first_cell spaces.now text.now }
 {
-    let (space, index) = spaces.first_space(guess, text)?;
+    let (space, index) = spaces.first_space(text)?;
     let size = spaces.size(space);
     let (index, rest) = first_number(index)?;
     if index >= u64::from(size) {
@@ -29,16 +37,11 @@ fn first_cell<'t>(spaces: &SpaceTable<'_>, guess: u32, text: &'t [u8]) -> Option
 // space between them.
 #[inline(always)]
 #[tactic(auto, unfolding(crate::specs::Beginnings::cell_and_number))]
-fn with_number<'t>(
-    spaces: &SpaceTable<'_>,
-    guess: u32,
-    verb: Verb,
-    text: &'t [u8],
-) -> Option<(Parts, &'t [u8])>
+fn with_number<'t>(spaces: &SpaceTable<'_>, verb: Verb, text: &'t [u8]) -> Option<(Parts, &'t [u8])>
     ensures { option_map beginnings.made_with_rest result ≡ beginnings.with_number
         (λ cell value. beginnings.op_of verb cell value cell) spaces.now text.now }
 {
-    let (cell, rest) = first_cell(spaces, guess, text)?;
+    let (cell, rest) = first_cell(spaces, text)?;
     let (value, rest) = first_number(behind(rest, b" ")?)?;
     Some((Parts::of(verb, cell, value, cell), rest))
 }
@@ -47,43 +50,33 @@ fn with_number<'t>(
 // between them.
 #[inline(always)]
 #[tactic(auto, unfolding(crate::specs::Beginnings::two_cells))]
-fn with_other<'t>(
-    spaces: &SpaceTable<'_>,
-    guess: u32,
-    verb: Verb,
-    text: &'t [u8],
-) -> Option<(Parts, &'t [u8])>
+fn with_other<'t>(spaces: &SpaceTable<'_>, verb: Verb, text: &'t [u8]) -> Option<(Parts, &'t [u8])>
     ensures { option_map beginnings.made_with_rest result ≡ beginnings.with_other
         (λ cell other. beginnings.op_of verb cell 0 other) spaces.now text.now }
 {
-    let (cell, rest) = first_cell(spaces, guess, text)?;
-    let (other, rest) = first_cell(spaces, cell.space, behind(rest, b" ")?)?;
+    let (cell, rest) = first_cell(spaces, text)?;
+    let (other, rest) = first_cell(spaces, behind(rest, b" ")?)?;
     Some((Parts::of(verb, cell, 0, other), rest))
 }
 
-/// The parts of the operation that a text begins with, as far as its last word goes; the space that
-/// is guessed is looked for first.
+/// The parts of the operation that a text begins with, as far as its last word goes.
 #[tactic(auto, unfolding(crate::specs::Beginnings::first_op))]
-pub(crate) fn first_parts<'t>(
-    spaces: &SpaceTable<'_>,
-    guess: u32,
-    text: &'t [u8],
-) -> Option<(Parts, &'t [u8])>
+pub(crate) fn first_parts<'t>(spaces: &SpaceTable<'_>, text: &'t [u8]) -> Option<(Parts, &'t [u8])>
     ensures { option_map beginnings.made_with_rest result
         ≡ beginnings.first_op spaces.now text.now }
 {
     if let Some(words) = behind(text, b"set ") {
-        return with_number(spaces, guess, Verb::Set, words);
+        return with_number(spaces, Verb::Set, words);
     }
     if let Some(words) = behind(text, b"add ") {
-        return with_number(spaces, guess, Verb::Add, words);
+        return with_number(spaces, Verb::Add, words);
     }
     if let Some(words) = behind(text, b"copy ") {
-        return with_other(spaces, guess, Verb::Copy, words);
+        return with_other(spaces, Verb::Copy, words);
     }
     if let Some(words) = behind(text, b"swap ") {
-        return with_other(spaces, guess, Verb::Swap, words);
+        return with_other(spaces, Verb::Swap, words);
     }
-    let (cell, rest) = first_cell(spaces, guess, behind(text, b"read ")?)?;
+    let (cell, rest) = first_cell(spaces, behind(text, b"read ")?)?;
     Some((Parts::of(Verb::Read, cell, 0, cell), rest))
 }

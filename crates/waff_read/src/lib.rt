@@ -4,9 +4,9 @@
 //!   `shape` (the keys and their types), `affinities` (the tree), `spaces` (the rows of a layout)
 //!   and `names` (affinities and spaces by name); `hier_error` has what it refuses.
 //! - `trace`: the reader of traces, over `message` (one record), `ops` (the operations of a
-//!   message), `op` (one operation), `beginnings` (what a text without a fault begins with),
-//!   `prefix` (what stands behind that), `parts` (what an operation is made of) and `space_table`
-//!   (the spaces by name); `trace_fault` has what it refuses.
+//!   message), `op` (one operation), `beginnings` (what a text without a fault begins with, and the
+//!   rest of it), `parts` (what an operation is made of) and `space_table` (the spaces by name);
+//!   `trace_fault` has what it refuses.
 //! - `laws`: what holds of all files that are accepted or refused; `limit_laws`: that what is read
 //!   is within the limits.
 //!
@@ -28,7 +28,6 @@ mod names;
 mod op;
 mod ops;
 mod parts;
-mod prefix;
 mod shape;
 mod space_table;
 mod spaces;

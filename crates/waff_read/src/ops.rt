@@ -9,9 +9,8 @@ ghost use Rattle.waff_parse.specs.Stopping.{Gives};
 ghost use Rattle.waff_read.specs.Ops as ops;
 ghost use Rattle.waff_read.specs.TraceFaults.{number};
 
-use crate::beginnings::first_parts;
+use crate::beginnings::{behind, first_parts};
 use crate::op::read_op;
-use crate::prefix::behind;
 use crate::space_table::SpaceTable;
 use crate::trace_fault::TraceFault;
 use std::alloc::{AllocError, Global};
@@ -88,10 +87,9 @@ fn read_faultless(
     ensures { IfOk result (λ found. found ≡ result_ok (ops.ops_of spaces.now text.now)) }
 {
     let mut list = Ops::with_capacity(alloc, room_for(text))?;
-    let mut guess = 0;
     let mut left = text;
     for count in 0..MAX_OPS {
-        let Some((parts, rest)) = first_parts(spaces, guess, left) else {
+        let Some((parts, rest)) = first_parts(spaces, left) else {
             return Ok(None);
         };
         parts.push_to(&mut list)?;
@@ -101,7 +99,6 @@ fn read_faultless(
         let Some(more) = behind(rest, b";") else {
             return Ok(None);
         };
-        guess = parts.cell.space;
         left = more;
     }
     Ok(None)

@@ -21,7 +21,7 @@ pub(crate) enum Verb {
 #[derive(Clone, Copy)]
 pub(crate) struct Parts {
     verb: Verb,
-    pub(crate) cell: Cell,
+    cell: Cell,
     value: u64,
     other: Cell,
 }

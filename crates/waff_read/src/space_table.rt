@@ -6,7 +6,6 @@ ghost use Rattle.waff_model.specs.Layout.{IsLayout, names_of, size_at, space_nam
 ghost use Rattle.waff_read.specs.Beginnings as beginnings;
 
 use crate::names::Names;
-use crate::prefix::behind_name;
 use std::alloc::{AllocError, Global};
 use std::marker::Model;
 use std::str;
@@ -85,6 +84,7 @@ impl<'a> SpaceTable<'a> {
     }
 
     // The number of the space with this name, if it is a name.
+    #[inline(always)]
     fn named(&self, name: &[u8]) -> Option<u32>
         ensures named { result ≡ beginnings.space_of_name self.now name.now }
         ensures within { IfSome result (λ s. s < length self.now) }
@@ -92,6 +92,15 @@ impl<'a> SpaceTable<'a> {
         if let Some(space) = self.guessed(name) {
             return Some(space);
         }
+        self.looked_up(name)
+    }
+
+    // The same, looked up in the table of names.
+    #[inline(never)]
+    fn looked_up(&self, name: &[u8]) -> Option<u32>
+        ensures named { result ≡ beginnings.space_of_name self.now name.now }
+        ensures within { IfSome result (λ s. s < length self.now) }
+    {
         let name = str::from_utf8(name).ok()?;
         if !is_name(name) {
             return None;
@@ -99,11 +108,10 @@ impl<'a> SpaceTable<'a> {
         self.find(name)
     }
 
-    // The space whose name stands before the first `:` of a text, found by name, and the text after
-    // that.
-    #[inline(never)]
+    /// The space whose name stands before the first `:` of a text, and the text after that.
+    #[inline(always)]
     #[tactic(auto, unfolding(crate::specs::Beginnings::first_space))]
-    fn found_space<'t>(&self, text: &'t [u8]) -> Option<(u32, &'t [u8])>
+    pub(crate) fn first_space<'t>(&self, text: &'t [u8]) -> Option<(u32, &'t [u8])>
         ensures begins { option_map beginnings.with_rest result
             ≡ beginnings.first_space self.now text.now }
         ensures within { IfSome result (λ r. r.0 < length self.now) }
@@ -111,22 +119,6 @@ impl<'a> SpaceTable<'a> {
         let end = first_colon(text)?;
         let space = self.named(&text[..end])?;
         Some((space, &text[end + 1..]))
-    }
-
-    /// The space whose name stands before the first `:` of a text, and the text after that. The
-    /// space that is guessed is looked for first.
-    #[inline(always)]
-    pub(crate) fn first_space<'t>(&self, guess: u32, text: &'t [u8]) -> Option<(u32, &'t [u8])>
-        ensures begins { option_map beginnings.with_rest result
-            ≡ beginnings.first_space self.now text.now }
-        ensures within { IfSome result (λ r. r.0 < length self.now) }
-    {
-        if guess < self.layout.space_count() {
-            if let Some(rest) = behind_name(text, self.layout.space_name(guess)) {
-                return Some((guess, rest));
-            }
-        }
-        self.found_space(text)
     }
 
     /// The size of the space with this number, in cells.

@@ -2,7 +2,7 @@
 use Rattle.std.proofs.Common.{◌≡◌, None, sym}
 use Rattle.std.specs.Result.{result_ok}
 use Rattle.waff_read.proofs.FirstLaws.{no_text, not_ok}
-use Rattle.waff_read.proofs.space_table.SpaceTable.named.Goals as goal
+use Rattle.waff_read.proofs.space_table.SpaceTable.looked_up.Goals as goal
 
 pub returns-in_err-name-clause-named : goal.returns-in_err-name-clause-named
 returns-in_err-name-clause-named c =
