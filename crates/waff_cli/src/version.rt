@@ -4,4 +4,4 @@
 pub const LONG_VERSION: &str = "\
 0.1.0
 kit: rattle-kit-13b logic dac8208d650f15bf
-sources: cba8a26b3cfe7ea6";
+sources: 419d19de13791dc0";
