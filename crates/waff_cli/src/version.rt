@@ -4,4 +4,4 @@
 pub const LONG_VERSION: &str = "\
 0.1.0
 kit: rattle-kit-13b logic dac8208d650f15bf
-sources: 419d19de13791dc0";
+sources: 8c82c3f798ac636a";

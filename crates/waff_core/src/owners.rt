@@ -23,19 +23,16 @@ pub(crate) fn list_owners(
     ensures owners { IfOk result
         (AreOwners layout.now.spaces (operations trace.now.messages)) }
 {
-    let mut all = Vec::new(alloc);
-    let mut ends = Vec::with_capacity(alloc, trace.len() as usize)?;
+    let mut lists = Lists::with_capacity(alloc, trace.len() as usize)?;
     let mut owners: Vec<u16> = Vec::new(alloc);
     for n in 1..trace.len() + 1 {
-        let named = ops_of(trace, n);
         owners.clear();
-        push_owners(&mut owners, layout, named)?;
+        push_owners(&mut owners, layout, ops_of(trace, n))?;
         owners.sort_unstable();
         owners.dedup();
-        all.extend_from_slice(owners.as_slice())?;
-        ends.push_reserved(all.len() as u32);
+        lists.push(owners.as_slice())?;
     }
-    Ok(Lists::new(all, ends))
+    Ok(lists)
 }
 
 /// Appends the owners of the cells that the operations name.

@@ -1,6 +1,7 @@
 -- What the tables and the lists hold after the first messages, and after one more.
-use Rattle.std.proofs.Common.{◌≡◌, ℕ, ◌+◌, ◌-◌, ◌*◌, ◌<◌, ◌≤◌, ◌↔◌, List, All, [], ◌∷◌, ◌++◌, length, get_or, set, replicate, arith, refl, ◌∙◌}
-use Rattle.std.proofs.lemmas.List.{length-append, length-set, length-replicate}
+use Rattle.std.proofs.Common.{◌≡◌, ℕ, ◌+◌, ◌-◌, ◌*◌, ◌<◌, ◌≤◌, ◌↔◌, List, All, [], ◌∷◌, ◌++◌, length, get_or, set, replicate, sum_by, arith, ◌∙◌}
+use Rattle.std.proofs.lemmas.List.{length-set, length-replicate}
+use Rattle.std.proofs.lemmas.List.Sums.{sum_by_push}
 use Rattle.waff_model.specs.Tree.{Node, IsTree}
 use Rattle.waff_model.specs.Preorder.{span_at, AreNested}
 use Rattle.waff_model.specs.Later.{IsNoted, by_number}
@@ -9,10 +10,8 @@ use Rattle.waff_model.specs.declared.preorder.Span.{Span}
 use Rattle.waff_model.proofs.TakeLemmas.{held-put, held-none, none_at}
 use Rattle.waff_assign.specs.Order.{affinity_of}
 use Rattle.waff_order.specs.Needs.{IsWithinDepth}
-use Rattle.waff_order.specs.Cuts.{parts, AreCuts}
 use Rattle.waff_order.specs.Open.{IsAbove, AreTaken, IsLatestAbove, chosen}
 use Rattle.waff_order.specs.Runs.{AreGathered}
-use Rattle.waff_order.proofs.Parts.{parts_push, cuts_push}
 use Rattle.waff_order.proofs.Holding.{AreHeld, AreLatest, held_none, latest_none, taken, held_more, latest_next}
 use Rattle.waff_order.proofs.Closure.{length-chosen, length-chosen_all}
 use Rattle.waff_order.proofs.UpTo.{AreNeedsUpTo, up_to_none, up_to_more, all_above}
@@ -28,15 +27,14 @@ abbrev pub end_of : List Span → List ℕ → ℕ → ℕ
 end_of spans assigned i = (message_span spans assigned i).end
 
 -- what is known after n messages
-pub record IsReached (tree : List Node) (assigned : List ℕ) (spans : List Span) (all ends messages noted : List ℕ) (n : ℕ) : Type 0 where
-  pub cuts : AreCuts all 0 ends
-  pub needs : AreNeedsUpTo tree assigned (parts all 0 ends) n
+pub record IsReached (tree : List Node) (assigned : List ℕ) (spans : List Span) (lists : List (List ℕ)) (messages noted : List ℕ) (n : ℕ) : Type 0 where
+  pub needs : AreNeedsUpTo tree assigned lists n
   pub count : length messages ≡ length tree
   pub holds : AreHeld (IsAbove tree assigned) (first_of spans assigned) n messages
   pub noted_count : length noted ≡ length tree
   pub latest : AreLatest (IsAbove tree assigned) (first_of spans assigned) (length assigned) n (λ p. get_or noted p 0)
-  pub total : length all + held messages ≤ 2 * n
-  pub flat : IsWithinDepth tree 0 → length all + held messages ≤ n
+  pub total : sum_by length lists + held messages ≤ 2 * n
+  pub flat : IsWithinDepth tree 0 → sum_by length lists + held messages ≤ n
 
 module _ (tree : List Node) (assigned : List ℕ) (spans : List Span) (is_tree : IsTree tree) (nested : AreNested tree spans)
     (known : All (λ a. a < length tree) assigned) where
@@ -51,11 +49,10 @@ module _ (tree : List Node) (assigned : List ℕ) (spans : List Span) (is_tree :
   filled : (i : ℕ) → 1 ≤ i → i ≤ length assigned → first_of spans assigned i < end_of spans assigned i
   filled i from to = nested.filled (affinity_of assigned i) (known_affinity i from to)
 
-  pub reached_none : IsReached tree assigned spans [] [] (replicate (length tree) 0) (replicate (length tree) 0) 0
+  pub reached_none : IsReached tree assigned spans [] (replicate (length tree) 0) (replicate (length tree) 0) 0
   reached_none =
       let none = held-none (length tree) in
       record {
-        cuts = refl;
         needs = up_to_none tree assigned;
         count = length-replicate (length tree) 0;
         holds = held_none (IsAbove tree assigned) (first_of spans assigned) (length tree);
@@ -66,8 +63,8 @@ module _ (tree : List Node) (assigned : List ℕ) (spans : List Span) (is_tree :
         flat = λ depth. omega (arith, none);
       }
 
-  module _ (all ends messages noted : List ℕ) (n : ℕ) (room : n + 1 ≤ length assigned)
-      (h : IsReached tree assigned spans all ends messages noted n) (left gathered : List ℕ)
+  module _ (lists : List (List ℕ)) (messages noted : List ℕ) (n : ℕ) (room : n + 1 ≤ length assigned)
+      (h : IsReached tree assigned spans lists messages noted n) (left gathered : List ℕ)
       (gathers : AreGathered (first_of spans assigned (n + 1)) (end_of spans assigned (n + 1)) messages left gathered) where
     abbrev pub above : ℕ
     above = get_or noted (first_of spans assigned (n + 1)) 0
@@ -79,13 +76,13 @@ module _ (tree : List Node) (assigned : List ℕ) (spans : List Span) (is_tree :
     is_latest = h.latest (n + 1) (omega arith) room
 
     -- the needs of one message more
-    pub needs_count : length all + length (chosen gathered above) + held (set left (first_of spans assigned (n + 1)) (n + 1)) ≤ 2 * (n + 1)
+    pub needs_count : sum_by length lists + length (chosen gathered above) + held (set left (first_of spans assigned (n + 1)) (n + 1)) ≤ 2 * (n + 1)
     needs_count =
         let few = length-chosen (IsAbove tree assigned) gathered above in
         let put = held-put left (first_of spans assigned (n + 1)) (n + 1) in
         omega (arith, few, put, gathers.sum, h.total)
 
-    flat_count : IsWithinDepth tree 0 → length all + length (chosen gathered above) + held (set left (first_of spans assigned (n + 1)) (n + 1)) ≤ n + 1
+    flat_count : IsWithinDepth tree 0 → sum_by length lists + length (chosen gathered above) + held (set left (first_of spans assigned (n + 1)) (n + 1)) ≤ n + 1
     flat_count depth =
         let few = length-chosen_all (IsAbove tree assigned) n gathered above
         (λ i is_open.
@@ -99,18 +96,16 @@ module _ (tree : List Node) (assigned : List ℕ) (spans : List Span) (is_tree :
 
     pub reached_more : (new_noted : List ℕ)
         → IsNoted by_number (first_of spans assigned (n + 1)) (end_of spans assigned (n + 1)) (n + 1) noted new_noted
-        → IsReached tree assigned spans (all ++ chosen gathered above) (ends ++ length (all ++ chosen gathered above) ∷ [])
-        (set left (first_of spans assigned (n + 1)) (n + 1)) new_noted (n + 1)
+        → IsReached tree assigned spans (lists ++ chosen gathered above ∷ []) (set left (first_of spans assigned (n + 1)) (n + 1)) new_noted (n + 1)
     reached_more new_noted notes =
         let more = chosen gathered above in
         let at = first_of spans assigned (n + 1) in
         let within : affinity_of assigned (n + 1) < length tree = known_affinity (n + 1) (omega arith) room in
         let short : end_of spans assigned (n + 1) ≤ length tree = nested.few (affinity_of assigned (n + 1)) within in
         let full : at < end_of spans assigned (n + 1) = filled (n + 1) (omega arith) room in
-        let long : length (all ++ more) ≡ length all + length more = length-append all more in
+        let long : sum_by length (lists ++ more ∷ []) ≡ sum_by length lists + length more = sum_by_push length lists more in
         record {
-          cuts = cuts_push all more 0 ends h.cuts;
-          needs = rw (parts_push all more 0 ends h.cuts) (up_to_more tree assigned (parts all 0 ends) gathered above n room h.needs takes is_latest);
+          needs = up_to_more tree assigned lists gathered above n room h.needs takes is_latest;
           count = length-set left at (n + 1) ∙ gathers.clears.count ∙ h.count;
           holds = held_more (IsAbove tree assigned) (first_of spans assigned) (end_of spans assigned) (length assigned) covers filled n room messages left gathered
               (omega (arith, h.count)) h.holds gathers;

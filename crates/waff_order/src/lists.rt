@@ -1,11 +1,13 @@
 //! Lists of lists, kept flat, and the needs of messages as such lists.
 
-ghost use Rattle.std.specs.Prelude.{◌≡◌, ◌-◌, ◌≤◌, [], length, slice_index_or, slice_range};
+ghost use Rattle.std.specs.Prelude.{◌≡◌, ◌+◌, ◌-◌, ◌^◌, ◌<◌, ◌≤◌, [], ◌∷◌, ◌++◌, length, sum_by};
+ghost use Rattle.std.specs.Prelude.{slice_index_or, slice_range, IfOk, OnOk};
 ghost use Rattle.std.specs.List.Sorted.{IsStrictlyIncreasing};
 ghost use Rattle.waff_model.specs.Numbers.{IsAmongFirst};
 ghost use Rattle.waff_order.specs.Needs.{needs_of, AreLists};
 ghost use Rattle.waff_order.specs.Cuts.{parts, AreCuts};
 
+use std::alloc::{AllocError, Global};
 use std::marker::Model;
 
 /// A list for each message: one list of all elements, and where in it the parts end.
@@ -27,12 +29,15 @@ impl<T> Model for Lists<T> {
 }
 
 impl<T> Lists<T> {
-    /// The lists that stand one after another in `all` and end there.
-    pub fn new(all: Vec<T>, ends: Vec<u32>) -> Self
-        requires { AreCuts all.items 0 ends.items }
-        ensures { result ≡ parts all.items 0 ends.items }
+    /// No list, with room for so many.
+    pub fn with_capacity(alloc: Global, count: usize) -> Result<Self, AllocError>
+        ensures { IfOk result (λ lists. lists ≡ []) }
     {
-        Lists { all, ends }
+        let ends = Vec::with_capacity(alloc, count)?;
+        Ok(Lists {
+            all: Vec::new(alloc),
+            ends,
+        })
     }
 
     /// How many lists there are.
@@ -49,6 +54,19 @@ impl<T> Lists<T> {
     {
         let (from, to) = bounds(self.all.as_slice(), self.ends.as_slice(), n);
         &self.all[from..to]
+    }
+}
+
+impl<T: Copy> Lists<T> {
+    /// Appends a list.
+    pub fn push(&mut self, list: &[T]) -> Result<(), AllocError>
+        requires short { sum_by length self.old + length list.now < 2 ^ 32 }
+        ensures { OnOk result (self.new ≡ self.old ++ list.now ∷ []) }
+    {
+        self.ends.reserve(1)?;
+        self.all.extend_from_slice(list)?;
+        self.ends.push_reserved(self.all.len() as u32);
+        Ok(())
     }
 }
 

@@ -66,7 +66,7 @@ fn read_pieces(
 }
 
 // About how many bytes an operation takes, with the `;` behind it.
-const OP_BYTES: usize = 12;
+const OP_BYTES: usize = 16;
 
 // For how many operations of a text to make room.
 fn room_for(text: &[u8]) -> usize {

@@ -11,7 +11,7 @@ use std::marker::Model;
 use std::str;
 use waff_model::{Layout, is_name};
 
-/// How many shelves there are for guesses.
+/// How many shelves there are for spaces.
 const SHELVES: usize = 1024;
 
 /// A layout, with a table of the names of its spaces, and on each shelf a space whose name may end
@@ -70,7 +70,7 @@ impl<'a> SpaceTable<'a> {
 
     // The space on the shelf of this name, where it has this name.
     #[inline(always)]
-    fn guessed(&self, name: &[u8]) -> Option<u32>
+    fn on_shelf(&self, name: &[u8]) -> Option<u32>
         ensures named { IfSome result (λ s.
             beginnings.space_of_name self.now name.now ≡ Some s) }
         ensures within { IfSome result (λ s. s < length self.now) }
@@ -89,7 +89,7 @@ impl<'a> SpaceTable<'a> {
         ensures named { result ≡ beginnings.space_of_name self.now name.now }
         ensures within { IfSome result (λ s. s < length self.now) }
     {
-        if let Some(space) = self.guessed(name) {
+        if let Some(space) = self.on_shelf(name) {
             return Some(space);
         }
         self.looked_up(name)

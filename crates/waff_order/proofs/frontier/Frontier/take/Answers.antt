@@ -5,12 +5,12 @@ use Rattle.waff_order.specs.Open.{chosen}
 use Rattle.waff_model.specs.Taken.{Takes}
 use Rattle.waff_order.proofs.Taking.{gathered}
 use Rattle.waff_order.proofs.Closure.{chosen_some, chosen_none, chosen_last}
-use Rattle.waff_order.proofs.predecessors.take_needs.Goals as goal
-use Rattle.waff_order.proofs.predecessors.take_needs.Goals.{else-is_empty-via-then-is_empty+else-above-gt0, else-is_empty-via-else-is_empty}
+use Rattle.waff_order.proofs.frontier.Frontier.take.Goals as goal
+use Rattle.waff_order.proofs.frontier.Frontier.take.Goals.{else-is_empty-via-then-is_empty+else-above-gt0, else-is_empty-via-else-is_empty}
 
-pub returns-in_ok-push : goal.returns-in_ok-push
-returns-in_ok-push c =
-    let old = c.args.opened.now in
+pub returns-in_ok-push-clause-taken : goal.returns-in_ok-push-clause-taken
+returns-in_ok-push-clause-taken c =
+    let old = c.args.self.now.opened in
     let new = c.take.new.self in
     let list = c.take.new.list.items in
     let sorted = c.sort_unstable.new.self.items in
@@ -24,9 +24,9 @@ returns-in_ok-push c =
     let none : length kept ≡ 0 = search rules in
     (kept, gathers, c.in_ok-push.ensures.items ∙ chosen_last kept c.at-above.result none c.if-above-gt0.true ∙ ap (λ x. chosen kept x) c.at-above.ensures)
 
-pub returns-else-is_empty : goal.returns-else-is_empty
-returns-else-is_empty c =
-    let old = c.args.opened.now in
+pub returns-else-is_empty-clause-taken : goal.returns-else-is_empty-clause-taken
+returns-else-is_empty-clause-taken c =
+    let old = c.args.self.now.opened in
     let new = c.take.new.self in
     let list = c.take.new.list.items in
     let sorted = c.sort_unstable.new.self.items in

@@ -2,7 +2,7 @@
 use Rattle.std.proofs.Common.{◌≡◌, ◌<◌, Some, length, sym, ap, ◌∙◌, arith}
 use Rattle.std.proofs.lemmas.Slice.Eq.{bytes_eq-Decides}
 use Rattle.waff_read.proofs.FirstLaws.{space_of_its_name}
-use Rattle.waff_read.proofs.space_table.SpaceTable.guessed.Goals as goal
+use Rattle.waff_read.proofs.space_table.SpaceTable.on_shelf.Goals as goal
 
 pub returns-then-eq-clause-named : goal.returns-then-eq-clause-named
 returns-then-eq-clause-named c =
