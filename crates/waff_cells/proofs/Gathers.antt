@@ -1,43 +1,15 @@
 -- Rows of a state, gathered from parcels.
-use Rattle.std.proofs.Common.{◌≡◌, ℕ, ◌+◌, ◌<◌, ◌≤◌, List, [], ◌∷◌, ◌++◌, length, map, take, get_or, Vec, Global, sym, ◌∙◌, ap, ap₂, subst, arith, ⊎_elim}
+use Rattle.std.proofs.Common.{◌≡◌, ℕ, ◌+◌, ◌<◌, ◌≤◌, List, [], ◌∷◌, ◌++◌, length, map, take, get_or, sym, ◌∙◌, ap, ap₂, arith, ⊎_elim}
 use Rattle.std.specs.List.{range_with_len}
 use Rattle.std.proofs.lemmas.Bool.{cases_lt}
-use Rattle.std.proofs.lemmas.List.{length-map, length-take-le, map_push, take_more, get_or_push, get_or_append_left, get_or_read, get_or_past}
+use Rattle.std.proofs.lemmas.List.{length-map, length-take-le, map_push, take_more, get_or_push, get_or_append_left, get_or_past}
 use Rattle.std.proofs.lemmas.List.FromFn.{length-map-range_with_len, get_or-map-range_with_len}
-use Rattle.waff_model.specs.Layout.{Space, IsCell, size_at, owner_of}
-use Rattle.waff_model.specs.Parcel.{offset_of}
+use Rattle.waff_model.specs.Layout.{Space, IsCell, size_at}
 use Rattle.waff_model.specs.Messages.{sizes_of}
 use Rattle.waff_model.specs.declared.cell.Cell.{Cell}
 use Rattle.waff_cells.specs.Grid.{cells_in}
-use Rattle.waff_cells.specs.Held.{rows_of, Address, number_at}
-use Rattle.waff_cells.specs.Gathered.{LieIn, cells_of_parcels}
-use Rattle.waff_cells.specs.Parcel.{lies_at}
-use Rattle.waff_cells.proofs.Writes.{IsInside, inside, row_of, count_of}
+use Rattle.waff_cells.specs.Gathered.{cells_of_parcels}
 use Rattle.waff_cells.proofs.Zeros.{size_is}
-
-module _ (spaces : List Space) (vecs : List (Vec ℕ Global)) (lie : LieIn spaces (rows_of vecs)) (cell : Cell) (is : IsCell spaces cell)
-    (owner at : ℕ) (owned : owner ≡ owner_of spaces cell) (placed : at ≡ offset_of spaces cell) where
-  place_is : (owner, at) ≡ lies_at spaces cell
-  place_is = let pair : ℕ → ℕ → Address = λ i j. (i, j) in ap₂ pair owned placed
-
-  place_inside : IsInside (rows_of vecs) (owner, at)
-  place_inside = subst (λ (a : Address). IsInside (rows_of vecs) a) (sym place_is) (inside (rows_of vecs) (lies_at spaces cell) (lie cell is))
-
-  pub owner_within : owner < length vecs
-  owner_within = let there = place_inside.row in omega (arith, there, count_of vecs)
-
-  module _ (vec : Vec ℕ Global) (read : vec ≡ get_or vecs owner vec) where
-    items_are : vec.items ≡ get_or (rows_of vecs) owner []
-    items_are = ap (λ (v : Vec ℕ Global). v.items) read ∙ row_of vecs owner vec owner_within
-
-    pub place_below : at < length vec.items
-    place_below = subst (λ xs. at < length xs) (sym items_are) place_inside.column
-
-    pub number_is : (n : ℕ) → n ≡ get_or vec.items at n → n ≡ cells_of_parcels spaces (rows_of vecs) cell
-    number_is n found =
-        get_or_read vec.items at n place_below found 0
-        ∙ ap (λ xs. get_or xs at 0) items_are
-        ∙ ap (λ (a : Address). number_at (rows_of vecs) a) place_is
 
 -- the row of space s
 abbrev pub row_at : List Space → List (List ℕ) → ℕ → List ℕ

@@ -7,4 +7,3 @@ pub mod Holdings
 mod InRows
 pub mod RowRuns
 mod Gathers
-mod CellRuns

@@ -1,15 +1,15 @@
 //! The state whose cells lie in parcels.
 
-ghost use Rattle.std.specs.Prelude.{◌≡◌, ◌+◌, ◌^◌, ◌<◌, ◌≤◌, length, map, IfOk};
+ghost use Rattle.std.specs.Prelude.{◌≡◌, ◌<◌, length, map, IfOk};
 ghost use Rattle.std.specs.List.{range_with_len};
 ghost use Rattle.waff_model.specs.Layout.{IsCell, size_at};
 ghost use Rattle.waff_model.specs.Messages.{sizes_of};
-ghost use Rattle.waff_model.specs.Parcel.{IsRun};
 ghost use Rattle.waff_model.specs.declared.cell.Cell.{Cell};
 ghost use Rattle.waff_cells.specs.Grid.{cells_in, HasSizes};
 ghost use Rattle.waff_cells.specs.Held.{rows_of};
 ghost use Rattle.waff_cells.specs.Gathered.{LieIn, cells_of_parcels};
 
+use crate::rows::number_at;
 use crate::state::State;
 use std::alloc::{AllocError, Global};
 use waff_model::{Cell, Layout};
@@ -35,7 +35,7 @@ impl State {
     }
 }
 
-/// The numbers of the cells of space `s`, copied a run at a time.
+/// The numbers of the cells of space `s`.
 fn row_of(
     alloc: Global,
     layout: &Layout,
@@ -51,29 +51,18 @@ fn row_of(
 {
     let size = layout.space_size(s);
     let mut row = Vec::with_capacity(alloc, size as usize)?;
-    let mut index = 0;
-    while index < size {
-        let first = Cell { space: s, index };
-        let count = layout.run_len(first);
-        row.extend_from_slice(numbers_at(layout, parcels, first, count))?;
-        index += count;
+    for index in 0..size {
+        row.push_reserved(number_in(layout, parcels, Cell { space: s, index }));
     }
     Ok(row)
 }
 
-/// The numbers of so many cells from this one on, which are a run.
-fn numbers_at<'a>(layout: &Layout, parcels: &'a [Vec<u64>], first: Cell, count: u32) -> &'a [u64]
-    requires some { 1 ≤ count }
-    requires short { first.index + count < 2 ^ 32 }
-    requires cells { first.index + count ≤ size_at layout.now.spaces first.space }
-    requires run { IsRun layout.now.spaces first count }
+/// The number of the cell in the parcels.
+fn number_in(layout: &Layout, parcels: &[Vec<u64>], cell: Cell) -> u64
+    requires cell { IsCell layout.now.spaces cell }
     requires lie { LieIn layout.now.spaces (rows_of parcels.now) }
-    ensures { result.now ≡ map
-        (λ i. cells_of_parcels layout.now.spaces (rows_of parcels.now)
-        (record { space = first.space; index = i })) (range_with_len first.index count) }
+    ensures { result ≡ cells_of_parcels layout.now.spaces (rows_of parcels.now) cell }
 {
-    let (owner, offset) = layout.place(first);
-    let at = offset as usize;
-    let parcel = parcels[owner.0 as usize].as_slice();
-    &parcel[at..at + count as usize]
+    let (owner, offset) = layout.place(cell);
+    number_at(parcels, (owner.0 as usize, offset as usize))
 }

@@ -6,7 +6,7 @@ use Rattle.std.proofs.lemmas.List.Sums.{sum_by-cons, sum_by-take-le, count_by_mo
 use Rattle.std.proofs.lemmas.List.FromFn.{length-map-range_with_len, get_or-map-range_with_len}
 use Rattle.waff_model.specs.declared.cell.Cell.{Cell}
 use Rattle.waff_model.specs.Layout.{Space, IsCell, size_at, owner_at, owner_of}
-use Rattle.waff_model.specs.Parcel.{IsRun, owners_across, owners_in, cells_ahead, cells_before, count_of, parcel_size, offset_of}
+use Rattle.waff_model.specs.Parcel.{owners_across, owners_in, cells_ahead, cells_before, count_of, parcel_size, offset_of}
 
 length-owners_across : (space : Space) → length (owners_across space) ≡ space.size
 length-owners_across space = length-map-range_with_len (owner_at space) 0 space.size
@@ -149,45 +149,3 @@ module _ (spaces : List Space) where
       let owner : owner_of spaces cell ≡ a = sym (owner_of_number cell is_cell) ∙ ap (λ n. get_or (owners_in spaces) n 0) number ∙ owned in
       let offset : offset_of spaces cell ≡ n = ap (λ a. count_of a (take (cells_before spaces cell) (owners_in spaces))) owner ∙ ap (λ k. count_of a (take k (owners_in spaces))) number ∙ count in
       (cell, is_cell, owner, offset)
-
--- cells from one on that have its owner are a run
-module _ (spaces : List Space) (first : Cell) (count : ℕ) (cells : first.index + count ≤ size_at spaces first.space)
-    (owned : (k : ℕ) → k < count → owner_of spaces (record { space = first.space; index = first.index + k }) ≡ owner_of spaces first) where
-  abbrev on : ℕ → Cell
-  on k = record { space = first.space; index = first.index + k }
-
-  owner_stands_on : (k : ℕ) → k < count → get_or (owners_in spaces) (cells_before spaces first + k) 0 ≡ owner_of spaces first
-  owner_stands_on k below =
-      let is_cell : IsCell spaces (on k) = omega (arith, cells, below) in
-      let number : cells_before spaces first + k ≡ cells_before spaces (on k) = omega arith in
-      ap (λ n. get_or (owners_in spaces) n 0) number ∙ owner_of_number spaces (on k) is_cell ∙ owned k below
-
-  within_on : (k : ℕ) → k < count → cells_before spaces first + k < length (owners_in spaces)
-  within_on k below =
-      let is_cell : IsCell spaces (on k) = omega (arith, cells, below) in
-      omega (arith, cells_before-all spaces (on k) is_cell)
-
-  counted_on : (k : ℕ) → k ≤ count
-      → count_of (owner_of spaces first) (take (cells_before spaces first + k) (owners_in spaces))
-      ≡ count_of (owner_of spaces first) (take (cells_before spaces first) (owners_in spaces)) + k
-  counted_on zero to =
-      let same : cells_before spaces first + 0 ≡ cells_before spaces first = omega arith in
-      ap (λ n. count_of (owner_of spaces first) (take n (owners_in spaces))) same ∙ omega arith
-  counted_on (suc k) to =
-      let below : k < count = omega (arith, to) in
-      let a = owner_of spaces first in
-      let owners = owners_in spaces in
-      let b = cells_before spaces first in
-      let same : count_of a (take (b + suc k) owners) ≡ count_of a (take (b + k + 1) owners) = ap (λ n. count_of a (take n owners)) (omega arith) in
-      let one = count_more owners (b + k) a (within_on k below) (owner_stands_on k below) in
-      let before = counted_on k (omega (arith, to)) in
-      omega (arith, same, one, before)
-
-  pub owned_is_run : IsRun spaces first count
-  owned_is_run k below =
-      let number : cells_before spaces (on k) ≡ cells_before spaces first + k = omega arith in (
-        owned k below,
-        ap (λ a. count_of a (take (cells_before spaces (on k)) (owners_in spaces))) (owned k below)
-            ∙ ap (λ n. count_of (owner_of spaces first) (take n (owners_in spaces))) number
-            ∙ counted_on k (omega (arith, below)),
-      )

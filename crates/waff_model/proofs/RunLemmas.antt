@@ -22,10 +22,3 @@ run_ends k unit some is =
 pub next_turn : (q n turn : ℕ) → turn ≡ q % n → (turn + 1) % n ≡ (q + 1) % n
 next_turn q n turn is =
     ap (λ t. (t + 1) % n) is ∙ add-mod (q % n) 1 n ∙ ap (λ r. (r + 1 % n) % n) (mod-mod q n) ∙ sym (add-mod q 1 n)
-
--- k further on, and still in the run
-pub same_run : (i k unit : ℕ) → k + i % unit < unit → (i + k) / unit ≡ i / unit
-same_run i k unit within =
-    let whole : i + k ≡ (i / unit) * unit + (i % unit + k) = omega (arith, div-add-mod' i unit) in
-    let less : i % unit + k < unit = omega (arith, within) in
-    ap (λ n. n / unit) whole ∙ div-mul-add (i / unit) unit (i % unit + k) less

@@ -3,7 +3,7 @@ use Rattle.std.proofs.Common.{◌≡◌, ℕ, zero, suc, ◌+◌, ◌*◌, ◌/�
 use Rattle.std.proofs.lemmas.Bool.{cases_eq, cases_lt, false≢true}
 use Rattle.std.proofs.lemmas.List.{get_or-set_same, get_or-set_other, get_or-replicate, get_or_past, length-set, length-replicate, length_push}
 use Rattle.std.proofs.lemmas.List.Elements.{Contains-append_left, Contains-push, Contains-push_cases}
-use Rattle.waff_model.specs.Blocks.{AreFilled}
+use Rattle.waff_model.specs.Blocks.{AreBelow, AreFilled}
 use Rattle.waff_model.specs.Taken.{held, IsCleared, IsThinned, Takes}
 
 -- one message more is held, or one less
@@ -200,8 +200,28 @@ thinned_set old new p h = record {
   ];
 }
 
-pub filled_thinned : (old new : List ℕ) (filled : List Bool) → IsThinned old new → AreFilled old filled → AreFilled new filled
-filled_thinned old new filled thinned h = record {
-  room = omega (arith, h.room, thinned.count);
-  none = λ p empty. thinned.none p (h.none p empty);
-}
+-- where no message stands from a place on, none does when some have gone
+pub below_cleared : (from at end : ℕ) (old new : List ℕ) → IsCleared from at old new → AreBelow end old → AreBelow end new
+below_cleared from at end old new clears below p far = elim (cases_lt p from) [
+  | inl early ↦ clears.before p early ∙ below p far
+  | inr late ↦ elim (cases_lt p at) [
+    | inl gone ↦ clears.cleared p late gone
+    | inr after ↦ clears.after p after ∙ below p far
+  ]
+]
+
+-- and none from where they have gone, if they have gone up to there
+pub below_from : (from at end : ℕ) (old new : List ℕ) → IsCleared from at old new → AreBelow end old → end ≤ at → AreBelow from new
+below_from from at end old new clears below all p late = elim (cases_lt p at) [
+  | inl gone ↦ clears.cleared p late gone
+  | inr after ↦ clears.after p after ∙ below p (omega arith)
+]
+
+-- what was taken from a run is all that stood up to a later place, if no message stands behind the run
+pub takes_rest : (from at to end : ℕ) (old mid list more : List ℕ) → from ≤ at → at ≤ to → (at < to → end ≤ at)
+    → AreBelow end old → Takes from at old mid list more → Takes from to old mid list more
+takes_rest from at to end old mid list more low high all below takes =
+    takes_join from at to old mid mid list more more low high takes
+    (takes_empty at to mid more (λ q late early.
+    let far : end ≤ at = all (omega arith) in
+    below_cleared from at end old mid takes.clears below q (omega arith)))

@@ -24,3 +24,7 @@ pub record AreSummed {T : Type 0} (order : Order T) (places blocks : List T) : T
 pub record AreFilled (places : List ℕ) (blocks : List Bool) : Type 0 where
   pub room : AreCut places blocks
   pub none : (p : ℕ) → slice_index_or blocks (p / 64) true ≡ false → slice_index places p ≡ 0
+
+-- no message stands from this place on
+abbrev pub AreBelow : ℕ → List ℕ → Type 0
+AreBelow end places = (p : ℕ) → end ≤ p → slice_index places p ≡ 0

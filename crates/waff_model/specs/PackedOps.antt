@@ -4,7 +4,8 @@ use Rattle.waff_model.specs.declared.cell.Cell.{Cell}
 use Rattle.waff_model.specs.declared.op.Op.{Op}
 use Rattle.waff_model.specs.declared.op.Op.TheVariants as op
 use Rattle.waff_model.specs.declared.packed_op.PackedOp.{PackedOp}
-use Rattle.waff_model.specs.declared.packed_op.PackedOp.TheVariants as packed
+use Rattle.waff_model.specs.declared.packed_op.Verb.{Verb}
+use Rattle.waff_model.specs.declared.packed_op.Verb.TheVariants as verb
 
 -- the spaces and the value of the operation are small
 abbrev pub IsSmall : Op → Type 0
@@ -18,12 +19,15 @@ IsSmall (op.Read cell) = cell.space < 2 ^ 8
 abbrev pub cell_at : ℕ → ℕ → Cell
 cell_at space index = record { space = space; index = index }
 
+-- the operation of a verb, a cell, and another cell or a value where the verb wants one
+abbrev pub op_by : Verb → Cell → Cell → ℕ → Op
+op_by verb.Set cell other value = op.Set cell value
+op_by verb.Add cell other value = op.Add cell value
+op_by verb.Copy cell other value = op.Copy cell other
+op_by verb.Swap cell other value = op.Swap cell other
+op_by verb.Read cell other value = op.Read cell
+
 -- the operation for which a packed one stands
 abbrev pub op_of : PackedOp → Op
-op_of (packed.Set space index value) = op.Set (cell_at space index) value
-op_of (packed.Add space index value) = op.Add (cell_at space index) value
-op_of (packed.Copy space source_space index source_index) =
-    op.Copy (cell_at space index) (cell_at source_space source_index)
-op_of (packed.Swap space other_space index other_index) =
-    op.Swap (cell_at space index) (cell_at other_space other_index)
-op_of (packed.Read space index) = op.Read (cell_at space index)
+op_of packed = op_by packed.verb (cell_at packed.space packed.index)
+    (cell_at packed.other_space packed.rest) packed.rest

@@ -1,5 +1,5 @@
 -- Parcels: the cells that each affinity owns, in the order of cells, by space, then index.
-use Rattle.std.specs.Prelude.{◌≡◌, ℕ, ◌+◌, ◌<◌, ◌==◌, List, map, take, count_by, sum_by, flat_map}
+use Rattle.std.specs.Prelude.{ℕ, ◌+◌, ◌==◌, List, map, take, count_by, sum_by, flat_map}
 use Rattle.std.specs.List.{range_with_len}
 use Rattle.waff_model.specs.declared.cell.Cell.{Cell}
 use Rattle.waff_model.specs.Layout.{Space, owner_at, owner_of}
@@ -32,11 +32,3 @@ parcel_size spaces a = count_of a (owners_in spaces)
 abbrev pub offset_of : List Space → Cell → ℕ
 offset_of spaces cell =
     count_of (owner_of spaces cell) (take (cells_before spaces cell) (owners_in spaces))
-
--- so many cells of a space, from this one on, are a run: one affinity owns them, and they stand one
--- after another in its parcel
-abbrev pub IsRun : List Space → Cell → ℕ → Type 0
-IsRun spaces first count = (k : ℕ) → k < count
-    → let cell : Cell = record { space = first.space; index = first.index + k } in
-    (owner_of spaces cell ≡ owner_of spaces first)
-    × (offset_of spaces cell ≡ offset_of spaces first + k)

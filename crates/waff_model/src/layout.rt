@@ -9,7 +9,7 @@ ghost use Rattle.waff_model.specs.Tree.{IsTree, number_of};
 ghost use Rattle.waff_model.specs.Layout.{IsLayout, IsCell, SameSpaces, name_at, size_at};
 ghost use Rattle.waff_model.specs.Layout.{space_named, owner_of};
 ghost use Rattle.waff_model.specs.LayoutOf.{owners_of, map_of, space_of, hierarchy_of};
-ghost use Rattle.waff_model.specs.Parcel.{IsRun, parcel_size, offset_of};
+ghost use Rattle.waff_model.specs.Parcel.{parcel_size, offset_of};
 ghost use Rattle.waff_model.specs.ParcelTable.{IsParcelTable};
 ghost use Rattle.waff_model.specs.LayoutRefusal.{layout_refusal};
 
@@ -192,18 +192,6 @@ impl Layout {
         let parcels = &self.parcels;
         let at = (parcels.starts[cell.space as usize] + cell.index) as usize;
         (AffinityId(parcels.owners[at]), parcels.offsets[at])
-    }
-
-    /// How many cells from this one on are known to be a run: those up to the end of its unit, or
-    /// of its space where one affinity owns that.
-    pub fn run_len(&self, cell: Cell) -> u32
-        requires { IsCell self.now.spaces cell }
-        ensures some { 1 ≤ result }
-        ensures within { cell.index + result ≤ size_at self.now.spaces cell.space }
-        ensures run { IsRun self.now.spaces cell result }
-    {
-        let space = &self.spaces[cell.space as usize];
-        space.run_len(cell.index)
     }
 }
 

@@ -1,41 +1,31 @@
 //! Operations of small numbers, of twelve bytes each.
 
-ghost use Rattle.std.specs.Prelude.{◌≡◌, ◌↔◌, IsTrue, IsSome, IfSome};
-ghost use Rattle.waff_model.specs.PackedOps as packed;
-ghost use Rattle.waff_model.specs.PackedOps.{IsSmall, op_of};
+ghost use Rattle.std.specs.Prelude.{◌≡◌, ◌↔◌, ◌<◌, ◌^◌, IsTrue, IsSome, IfSome};
+ghost use Rattle.waff_model.specs.PackedOps.{IsSmall, cell_at, op_by, op_of};
 
 use crate::cell::Cell;
 use crate::op::Op;
 
-/// An operation whose spaces are below 2^8 and its value below 2^32.
+/// What an operation does.
 #[derive(Clone, Copy)]
-pub(crate) enum PackedOp {
-    Set {
-        space: u8,
-        index: u32,
-        value: u32,
-    },
-    Add {
-        space: u8,
-        index: u32,
-        value: u32,
-    },
-    Copy {
-        space: u8,
-        source_space: u8,
-        index: u32,
-        source_index: u32,
-    },
-    Swap {
-        space: u8,
-        other_space: u8,
-        index: u32,
-        other_index: u32,
-    },
-    Read {
-        space: u8,
-        index: u32,
-    },
+pub(crate) enum Verb {
+    Set,
+    Add,
+    Copy,
+    Swap,
+    Read,
+}
+
+/// An operation whose spaces are below 2^8 and its value below 2^32. The cell that every operation
+/// has stands at one place, so that it is found without a look at the verb.
+#[derive(Clone, Copy)]
+pub(crate) struct PackedOp {
+    verb: Verb,
+    space: u8,
+    other_space: u8,
+    index: u32,
+    /// The index of the other cell, or the value.
+    rest: u32,
 }
 
 impl PackedOp {
@@ -45,47 +35,7 @@ impl PackedOp {
         ensures small { IsSome result ↔ IsSmall op }
         ensures same { IfSome result (λ packed. op_of packed ≡ op) }
     {
-        if is_small(op) {
-            Some(PackedOp::packed(op))
-        } else {
-            None
-        }
-    }
-
-    /// The operation, whose numbers are small.
-    #[inline(always)]
-    fn packed(op: Op) -> PackedOp
-        requires { IsSmall op }
-        ensures { op_of result ≡ op }
-    {
-        match op {
-            Op::Set { cell, value } => PackedOp::Set {
-                space: cell.space as u8,
-                index: cell.index,
-                value: value as u32,
-            },
-            Op::Add { cell, value } => PackedOp::Add {
-                space: cell.space as u8,
-                index: cell.index,
-                value: value as u32,
-            },
-            Op::Copy { cell, source } => PackedOp::Copy {
-                space: cell.space as u8,
-                source_space: source.space as u8,
-                index: cell.index,
-                source_index: source.index,
-            },
-            Op::Swap { cell, other } => PackedOp::Swap {
-                space: cell.space as u8,
-                other_space: other.space as u8,
-                index: cell.index,
-                other_index: other.index,
-            },
-            Op::Read { cell } => PackedOp::Read {
-                space: cell.space as u8,
-                index: cell.index,
-            },
-        }
+        if is_small(op) { Some(packed(op)) } else { None }
     }
 
     /// The operation that this one stands for.
@@ -93,52 +43,72 @@ impl PackedOp {
     pub fn op(self) -> Op
         ensures { result ≡ op_of self }
     {
-        match self {
-            PackedOp::Set {
-                space,
-                index,
-                value,
-            } => Op::Set {
-                cell: cell_at(space, index),
-                value: value as u64,
+        let cell = cell_at(self.space, self.index);
+        let other = cell_at(self.other_space, self.rest);
+        let value = self.rest as u64;
+        match self.verb {
+            Verb::Set => Op::Set { cell, value },
+            Verb::Add => Op::Add { cell, value },
+            Verb::Copy => Op::Copy {
+                cell,
+                source: other,
             },
-            PackedOp::Add {
-                space,
-                index,
-                value,
-            } => Op::Add {
-                cell: cell_at(space, index),
-                value: value as u64,
-            },
-            PackedOp::Copy {
-                space,
-                source_space,
-                index,
-                source_index,
-            } => Op::Copy {
-                cell: cell_at(space, index),
-                source: cell_at(source_space, source_index),
-            },
-            PackedOp::Swap {
-                space,
-                other_space,
-                index,
-                other_index,
-            } => Op::Swap {
-                cell: cell_at(space, index),
-                other: cell_at(other_space, other_index),
-            },
-            PackedOp::Read { space, index } => Op::Read {
-                cell: cell_at(space, index),
-            },
+            Verb::Swap => Op::Swap { cell, other },
+            Verb::Read => Op::Read { cell },
         }
+    }
+}
+
+/// The operation, whose numbers are small.
+#[inline(always)]
+fn packed(op: Op) -> PackedOp
+    requires { IsSmall op }
+    ensures { op_of result ≡ op }
+{
+    match op {
+        Op::Set { cell, value } => with_value(Verb::Set, cell, value as u32),
+        Op::Add { cell, value } => with_value(Verb::Add, cell, value as u32),
+        Op::Copy { cell, source } => with_other(Verb::Copy, cell, source),
+        Op::Swap { cell, other } => with_other(Verb::Swap, cell, other),
+        Op::Read { cell } => with_value(Verb::Read, cell, 0),
+    }
+}
+
+/// The operation of this verb on a cell, with this value.
+#[inline(always)]
+fn with_value(verb: Verb, cell: Cell, value: u32) -> PackedOp
+    requires { cell.space < 2 ^ 8 }
+    ensures { op_of result ≡ op_by verb cell (cell_at 0 value) value }
+{
+    PackedOp {
+        verb,
+        space: cell.space as u8,
+        other_space: 0,
+        index: cell.index,
+        rest: value,
+    }
+}
+
+/// The operation of this verb on two cells.
+#[inline(always)]
+fn with_other(verb: Verb, cell: Cell, other: Cell) -> PackedOp
+    requires cell { cell.space < 2 ^ 8 }
+    requires other { other.space < 2 ^ 8 }
+    ensures { op_of result ≡ op_by verb cell other other.index }
+{
+    PackedOp {
+        verb,
+        space: cell.space as u8,
+        other_space: other.space as u8,
+        index: cell.index,
+        rest: other.index,
     }
 }
 
 /// The cell with this index in a space.
 #[inline(always)]
 fn cell_at(space: u8, index: u32) -> Cell
-    ensures { result ≡ packed.cell_at space index }
+    ensures { result ≡ cell_at space index }
 {
     Cell {
         space: space as u32,

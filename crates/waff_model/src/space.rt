@@ -1,7 +1,6 @@
 //! A space with its map.
 
-ghost use Rattle.std.specs.Prelude.{◌≡◌, ◌+◌, ◌<◌, ◌≤◌, ℕ, length};
-ghost use Rattle.waff_model.specs.Layout.{owner_at};
+ghost use Rattle.std.specs.Prelude.{◌≡◌};
 
 use crate::name::Text;
 use std::marker::Model;
@@ -51,33 +50,5 @@ impl Space {
         ensures { result.now ≡ self.now.to }
     {
         &self.to
-    }
-
-    /// The number of the affinity that owns the cell with this index.
-    pub(crate) fn owner(&self, index: u32) -> u16
-        requires unit { 0 < self.now.unit }
-        requires owners { 0 < length self.now.to }
-        ensures { result ≡ owner_at self.now index }
-    {
-        let turn = (index / self.unit) as usize;
-        self.to[turn % self.to.len()]
-    }
-
-    /// How many cells from this index on have one owner: those up to the end of their unit, or all
-    /// where the space has one owner.
-    pub(crate) fn run_len(&self, index: u32) -> u32
-        requires unit { 0 < self.now.unit }
-        requires within { index < self.now.size }
-        ensures some { 1 ≤ result }
-        ensures within { index + result ≤ self.now.size }
-        ensures owner { (k : ℕ) → k < result
-            → owner_at self.now (index + k) ≡ owner_at self.now index }
-    {
-        let rest = self.size - index;
-        if self.to.len() == 1 {
-            rest
-        } else {
-            rest.min(self.unit - index % self.unit)
-        }
     }
 }

@@ -229,17 +229,20 @@ pub struct Opened {
     places: Vec<u32>,
     /// For each block whether a message may be open in it.
     blocks: Vec<bool>,
+    /// No message is open from this place on.
+    end: usize,
 }
 
 impl Model for Opened {
     ghost use Rattle.std.specs.Prelude.{List, ℕ};
-    ghost use Rattle.waff_model.specs.Blocks.{AreFilled};
+    ghost use Rattle.waff_model.specs.Blocks.{AreFilled, AreBelow};
 
     ghost Value = { List ℕ };
 
     ghost view = { λ o. o.places.items };
 
-    ghost invariant = { λ o. AreFilled o.places.items o.blocks.items };
+    ghost invariant = { λ o.
+        AreFilled o.places.items o.blocks.items × AreBelow o.end o.places.items };
 }
 
 impl Opened {
@@ -250,6 +253,7 @@ impl Opened {
         Ok(Opened {
             places: vec![in alloc; 0; count]?,
             blocks: vec![in alloc; false; count / BLOCK + 1]?,
+            end: 0,
         })
     }
 
@@ -261,6 +265,7 @@ impl Opened {
     {
         self.places[place] = m;
         self.blocks[place / BLOCK] = true;
+        self.end = self.end.max(place + 1);
     }
 
     /// Appends the messages that are open at the places from `from` up to `to`, which are then
@@ -270,15 +275,19 @@ impl Opened {
         requires within { to ≤ length self.old }
         ensures { OnOk result (Takes from to self.old self.new list.old.items list.new.items) }
     {
+        let until = to.min(self.end.max(from));
         let mut at = from;
-        while at < to {
+        while at < until {
             let block = at / BLOCK;
-            let end = to.min((block + 1) * BLOCK);
+            let end = until.min((block + 1) * BLOCK);
             if self.blocks[block] {
                 take_each(&mut self.places, at, end, list)?;
                 self.blocks[block] = end - at < BLOCK;
             }
             at = end;
+        }
+        if self.end <= to {
+            self.end = self.end.min(from);
         }
         Ok(())
     }

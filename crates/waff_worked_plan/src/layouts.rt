@@ -32,15 +32,6 @@ fn parts(layout: &Layout, s: u32) -> Option<(&str, u32)> {
     }
 }
 
-/// How many cells from a cell on are known to be a run, if it is one of the layout's.
-fn run_len(layout: &Layout, cell: Cell) -> Option<u32> {
-    if layout.has(cell) {
-        Some(layout.run_len(cell))
-    } else {
-        None
-    }
-}
-
 /// How many cells an affinity owns, if it is one of the tree's.
 fn parcel_len(layout: &Layout, a: u16) -> Option<u32> {
     if u32::from(a) < layout.tree().len() {
@@ -87,14 +78,6 @@ const PLACES: &[(u32, u32, Option<(AffinityId, AffinityId, u32)>)] = &[
 /// How many cells each affinity owns, where it is of the tree.
 const LENGTHS: &[(u16, Option<u32>)] = &[(0, Some(0)), (1, Some(8)), (2, Some(4)), (3, None)];
 
-/// How many cells from each on are a run, where they are of the layout.
-const RUNS: &[(u32, u32, Option<u32>)] = &[
-    (0, 2, Some(2)),
-    (0, 5, Some(1)),
-    (1, 1, Some(3)),
-    (1, 4, None),
-];
-
 fn has_places(rt: &impl Abort, layout: &Layout) {
     for (space, index, found) in PLACES {
         let (space, index) = (*space, *index);
@@ -110,20 +93,11 @@ fn has_parcels(rt: &impl Abort, layout: &Layout) {
     }
 }
 
-fn has_runs(rt: &impl Abort, layout: &Layout) {
-    for (space, index, found) in RUNS {
-        let (space, index) = (*space, *index);
-        let length = run_len(layout, Cell { space, index });
-        assert!(rt; length == *found, "{space}:{index}: {length:?}");
-    }
-}
-
 #[test]
 fn place_cells_in_parcels(rt: HostRuntime) {
     let layout = made(&rt, rt.alloc(), SPACES, MAPS);
     has_places(&rt, &layout);
     has_parcels(&rt, &layout);
-    has_runs(&rt, &layout);
     drop(layout);
 }
 

@@ -1,17 +1,26 @@
-use Rattle.std.proofs.Common.{ℕ, ◌++◌, List, arith, ap₂, ◌∙◌}
+use Rattle.std.proofs.Common.{ℕ, ◌++◌, ◌∷◌, [], length, map, ap, sym, ◌∙◌, arith}
+use Rattle.std.specs.List.{range_with_len}
+use Rattle.std.proofs.lemmas.List.{length-map}
+use Rattle.std.proofs.lemmas.List.FromFn.{length-range_with_len, map-range_with_len_more}
 use Rattle.waff_cells.specs.Held.{rows_of}
 use Rattle.waff_cells.specs.Gathered.{cells_of_parcels}
-use Rattle.waff_cells.proofs.CellRuns.{rows_on}
 use Rattle.waff_cells.proofs.gather.row_of.Goals as goal
 
 pub loop-index-preserved : goal.loop-index-preserved
 loop-index-preserved c =
     let f : ℕ → ℕ = λ i. cells_of_parcels c.args.layout.now.spaces (rows_of c.args.parcels.now) (record { space = c.args.s; index = i }) in
     let index = c.loop-index.index in
-    let count = c.run_len-count.result in
     record {
-      within = omega (arith, c.run_len-count.ensures.within, c.space_size-size.ensures);
-      numbers = rows_on f index count c.extend_from_slice.new.self.items
-          (c.in_ok-extend_from_slice.ensures.items
-          ∙ ap₂ (λ (xs ys : List ℕ). xs ++ ys) c.loop-index.invariant.numbers c.numbers_at.ensures);
+      numbers = c.push_reserved.ensures.items
+          ∙ ap (λ xs. xs ++ c.number_in.result ∷ []) c.loop-index.invariant.numbers
+          ∙ ap (λ n. map f (range_with_len 0 index) ++ n ∷ []) c.number_in.ensures
+          ∙ sym (map-range_with_len_more f 0 index index (omega arith));
+      room = c.push_reserved.ensures.capacity ∙ c.loop-index.invariant.room;
     }
+
+pub push_reserved-requires : goal.push_reserved-requires
+push_reserved-requires c =
+    let f : ℕ → ℕ = λ i. cells_of_parcels c.args.layout.now.spaces (rows_of c.args.parcels.now) (record { space = c.args.s; index = i }) in
+    let index = c.loop-index.index in
+    let long = ap length c.loop-index.invariant.numbers ∙ length-map (range_with_len 0 index) f ∙ length-range_with_len 0 index in
+    omega (arith, long, c.loop-index.row.ok.0, c.loop-index.invariant.room, c.loop-index-test.true)

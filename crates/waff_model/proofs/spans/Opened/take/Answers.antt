@@ -1,9 +1,9 @@
-use Rattle.std.proofs.Common.{◌≡◌, ℕ, ◌+◌, ◌-◌, ◌*◌, ◌/◌, ◌<◌, ◌≤◌, true, false, length, get_or, set, nat_lt, min, arith, refl, sym, ap, ◌∙◌, subst, subst₂}
+use Rattle.std.proofs.Common.{◌≡◌, ℕ, ◌+◌, ◌-◌, ◌*◌, ◌/◌, ◌<◌, ◌≤◌, true, false, length, get_or, set, nat_lt, min, max, arith, refl, sym, ap, ◌∙◌, subst}
 use Rattle.std.proofs.lemmas.Bool.Decides.{nat_tests}
 use Rattle.std.proofs.lemmas.List.{get_or_read, with_items_is}
 use Rattle.waff_model.specs.Blocks.{AreFilled}
 use Rattle.waff_model.specs.Taken.{IsThinned, Takes}
-use Rattle.waff_model.proofs.TakeLemmas.{takes_join, takes_empty, filled_taken, filled_thinned}
+use Rattle.waff_model.proofs.TakeLemmas.{takes_join, takes_empty, takes_rest, filled_taken}
 use Rattle.waff_model.proofs.spans.Opened.take.Goals as goal
 
 -- a run that is not less than a block is one
@@ -12,15 +12,6 @@ whole_block : (at end to : ℕ) → end ≡ min to ((at / 64 + 1) * 64) → at <
 whole_block at end to is more long =
     let all : 64 ≤ end - at = grind (arith, nat_tests) in
     (omega arith, omega arith)
-
-pub invariant_of-self-in_err-take_each : goal.invariant_of-self-in_err-take_each
-invariant_of-self-in_err-take_each c =
-    let mid = c.loop-at.self-inside.places in
-    let new = c.take_each.new.places in
-    let thinned = subst (λ xs. IsThinned xs new) c.deref_mut.ensures.value c.take_each.ensures.thinned in
-    let kept = with_items_is mid new (thinned.count ∙ sym mid.ok.0) in
-    subst (λ xs. AreFilled xs c.loop-at.self-inside.blocks.items) (sym kept)
-    (filled_thinned mid.items new c.loop-at.self-inside.blocks.items thinned c.loop-at.invariant.filled)
 
 pub loop-at-preserved-in_ok-take_each : goal.loop-at-preserved-in_ok-take_each
 loop-at-preserved-in_ok-take_each c =
@@ -34,8 +25,9 @@ loop-at-preserved-in_ok-take_each c =
     let at = c.loop-at.at in
     let end = c.min-end.result in
     let h = c.loop-at.invariant in
-    let is : end ≡ min c.args.to ((at / 64 + 1) * 64) = c.min-end.ensures in
-    let more : at < c.args.to = c.loop-at-test.true in
+    let until = c.min-until.result in
+    let is : end ≡ min until ((at / 64 + 1) * 64) = c.min-end.ensures in
+    let more : at < until = c.loop-at-test.true in
     let same = ap length c.self.view_is in
     let thinned = subst (λ xs. IsThinned xs new) c.deref_mut.ensures.value c.take_each.ensures.thinned in
     let kept = with_items_is mid new (thinned.count ∙ sym mid.ok.0) in
@@ -44,9 +36,10 @@ loop-at-preserved-in_ok-take_each c =
     record {
       forward = omega (arith, h.forward);
       within = omega arith;
+      end = h.end;
       filled = subst (λ xs. AreFilled xs (set filled (at / 64) flag)) (sym kept)
           (filled_taken mid.items new filled at end (at / 64) flag takes.clears refl (omega arith)
-          (omega (arith, h.filled.room, h.takes.clears.count, more, same, c.requires.within)) (λ long. whole_block at end c.args.to is more long) h.filled);
+          (omega (arith, h.filled.room, h.takes.clears.count, more, same, c.requires.within)) (λ long. whole_block at end until is more long) h.filled);
       takes = subst (λ xs. Takes c.args.from end old xs before more_list) (sym kept)
           (takes_join c.args.from at end old mid.items new before list more_list h.forward (omega arith) h.takes takes);
     }
@@ -60,8 +53,9 @@ loop-at-preserved c =
     let at = c.loop-at.at in
     let end = c.min-end.result in
     let h = c.loop-at.invariant in
-    let is : end ≡ min c.args.to ((at / 64 + 1) * 64) = c.min-end.ensures in
-    let more : at < c.args.to = c.loop-at-test.true in
+    let until = c.min-until.result in
+    let is : end ≡ min until ((at / 64 + 1) * 64) = c.min-end.ensures in
+    let more : at < until = c.loop-at-test.true in
     let same = ap length c.self.view_is in
     let block : at / 64 < length filled = omega (arith, h.filled.room, h.takes.clears.count, more, same, c.requires.within) in
     let read : c.index.result.now ≡ get_or filled (at / 64) true = get_or_read filled (at / 64) c.index.result.now block c.index.ensures true in
@@ -69,6 +63,7 @@ loop-at-preserved c =
     record {
       forward = omega (arith, h.forward);
       within = omega arith;
+      end = h.end;
       filled = h.filled;
       takes = takes_join c.args.from at end old mid mid c.args.list.now.items list list h.forward (omega arith) h.takes
           (takes_empty at end mid list (λ q late early.
@@ -80,7 +75,8 @@ pub loop-at-init : goal.loop-at-init
 loop-at-init c = record {
   forward = omega arith;
   within = omega arith;
-  filled = c.self.invariant;
+  end = refl;
+  filled = c.self.invariant.0;
   takes = takes_empty c.args.from c.args.from c.self.inside.places.items c.args.list.now.items (λ q late early. absurd (omega arith));
 }
 
@@ -99,12 +95,16 @@ take_each-requires-clause-within c =
     let count = c.loop-at.invariant.takes.clears.count in
     omega (arith, c.min-end.ensures, ap length c.deref_mut.ensures.value, count, ap length c.self.view_is, c.requires.within)
 
-pub invariant_of-self : goal.invariant_of-self
-invariant_of-self c = c.loop-at.invariant.filled
-
-pub returns : goal.returns
-returns c =
-    let new = c.loop-at.self-inside.places.items in
-    let end : c.loop-at.at ≡ c.args.to = omega (arith, c.loop-at.invariant.within) in
-    subst₂ (λ to old. Takes c.args.from to old new c.args.list.now.items c.loop-at.list.items)
-    end c.self.view_is c.loop-at.invariant.takes
+pub returns-then-self-to : goal.returns-then-self-to
+returns-then-self-to c =
+    let h = c.loop-at.invariant in
+    let old = c.self.inside.places.items in
+    let mid = c.loop-at.self-inside.places.items in
+    let at = c.loop-at.at in
+    let end = c.self.inside.end in
+    let until : at ≡ c.min-until.result = omega (arith, h.within) in
+    let is : c.min-until.result ≡ min c.args.to c.max.result = c.min-until.ensures in
+    let most : c.max.result ≡ max end c.args.from = c.max.ensures in
+    subst (λ before. Takes c.args.from c.args.to before mid c.args.list.now.items c.loop-at.list.items) c.self.view_is
+    (takes_rest c.args.from at c.args.to end old mid c.args.list.now.items c.loop-at.list.items h.forward (omega (arith, is, most, until, c.requires.forward))
+    (λ more. omega (arith, is, most, until, more)) c.self.invariant.1 h.takes)
