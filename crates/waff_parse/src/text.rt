@@ -42,11 +42,33 @@ fn with_digit(value: Option<u64>, digit: u8) -> Option<u64>
     value?.checked_mul(10)?.checked_add(u64::from(digit))
 }
 
+// So many digits write a number below 2^64, whatever they are.
+const SHORT: usize = 19;
+
+// The number that so few bytes write if each is a digit.
+fn short_number(bytes: &[u8]) -> Option<u64>
+    requires { length bytes.now ≤ SHORT }
+    ensures { result ≡ (if list_all is_ascii_digit bytes.now then Some
+        (digits_value 10 bytes.now) else None) }
+{
+    let mut value: u64 = 0;
+    for byte in bytes {
+        if !byte.is_ascii_digit() {
+            return None;
+        }
+        value = value * 10 + u64::from(*byte - b'0');
+    }
+    Some(value)
+}
+
 // The number that bytes write if each is a digit.
 fn digits_number(bytes: &[u8]) -> Option<Option<u64>>
     ensures { result ≡ (if list_all is_ascii_digit bytes.now then Some
         (texts.small (digits_value 10 bytes.now)) else None) }
 {
+    if bytes.len() <= SHORT {
+        return Some(Some(short_number(bytes)?));
+    }
     let mut value = Some(0);
     for byte in bytes {
         if !byte.is_ascii_digit() {
@@ -89,9 +111,6 @@ fn number_until(text: &[u8], end: usize, value: u64) -> Option<(u64, &[u8])>
     }
     Some((value, &text[end..]))
 }
-
-// So many digits write a number below 2^64, whatever they are.
-const SHORT: usize = 19;
 
 /// The number that the digits at the beginning of a text write, all that stand there in a row, and
 /// the text behind them: none exactly where there is no digit, where they have a leading zero, or

@@ -74,6 +74,7 @@ fn read_release(text: Option<&str>) -> Result<u32, TraceFault>
 }
 
 // The message that fields spell in the record with this number.
+#[inline(always)]
 #[tactic(auto, unfolding(crate::specs::Messages::message_of_fields))]
 fn message_of_fields(
     alloc: Global,
@@ -121,18 +122,20 @@ pub(crate) fn read_message(
     ensures { Gives (λ m.
         m) result (messages.message_of version spaces.now at (fields_of row.now)) }
 {
-    match version {
+    let fields = match version {
         Version::V1 => match three_fields(row) {
-            Some((name, cost, ops)) => {
-                message_of_fields(alloc, spaces, at, name, cost, None, ops)
-            }
-            None => Err(Stop::Fault(TraceFault::Fields)),
+            Some((name, cost, ops)) => Some((name, cost, None, ops)),
+            None => None,
         },
         Version::V2 => match four_fields(row) {
-            Some((name, cost, release, ops)) => {
-                message_of_fields(alloc, spaces, at, name, cost, Some(release), ops)
-            }
-            None => Err(Stop::Fault(TraceFault::Fields)),
+            Some((name, cost, release, ops)) => Some((name, cost, Some(release), ops)),
+            None => None,
         },
+    };
+    match fields {
+        Some((name, cost, release, ops)) => {
+            message_of_fields(alloc, spaces, at, name, cost, release, ops)
+        }
+        None => Err(Stop::Fault(TraceFault::Fields)),
     }
 }

@@ -1,26 +1,18 @@
 -- A digit more, in the bytes and in the number, which is below the power of ten for so many digits.
-use Rattle.std.proofs.Common.{ℕ, List, sym, ap, ◌∙◌, ◌<◌, ◌≤◌, ◌^◌, get_or, length, take, arith}
-use Rattle.std.proofs.Math.Nat.{pow-le-pow_right}
+use Rattle.std.proofs.Common.{ℕ, List, sym, ap, ◌∙◌, ◌<◌, get_or, length, take, arith}
 use Rattle.std.proofs.lemmas.Grind.{pow_more}
 use Rattle.std.proofs.lemmas.Int.Digits.{digits_value_more}
-use Rattle.waff_parse.proofs.TextLaws.{digits-and, digits-end, value_of_digit}
+use Rattle.waff_parse.proofs.TextLaws.{digits-and, digits-end, few_digits, value_of_digit}
 use Rattle.waff_parse.proofs.text.first_number.Goals as goal
-
--- a number of at most 18 digits
-short : (n place : ℕ) → n < 10 ^ place → place < 19 → n < 1000000000000000000
-short n place below few =
-    let few : place ≤ 18 = omega (arith, few) in
-    let most : 10 ^ place ≤ 10 ^ 18 = pow-le-pow_right {n = 10} (omega arith) {i = place} {j = 18} few in
-    omega (arith, below, most)
 
 pub overflow_mul-value : goal.overflow_mul-value
 overflow_mul-value c =
-    let small = short c.loop-place.value c.loop-place.place c.loop-place.invariant.small (omega (arith, c.loop-place-test.true, c.min-short.ensures)) in
+    let small = few_digits c.loop-place.value c.loop-place.place c.loop-place.invariant.small (omega (arith, c.loop-place-test.true, c.min-short.ensures)) in
     omega (arith, small)
 
 pub overflow_add-value : goal.overflow_add-value
 overflow_add-value c =
-    let small = short c.loop-place.value c.loop-place.place c.loop-place.invariant.small (omega (arith, c.loop-place-test.true, c.min-short.ensures)) in
+    let small = few_digits c.loop-place.value c.loop-place.place c.loop-place.invariant.small (omega (arith, c.loop-place-test.true, c.min-short.ensures)) in
     omega (arith, small, c.from.ensures)
 
 pub loop-place-preserved : goal.loop-place-preserved
