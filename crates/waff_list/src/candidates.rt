@@ -1,6 +1,6 @@
 //! The candidates for a free worker: the messages that are ready, the one that is taken first first.
 
-ghost use Rattle.std.specs.Prelude.{◌≡◌, ◌≤◌, [], OnOk, MatchOption};
+ghost use Rattle.std.specs.Prelude.{◌≡◌, ◌↔◌, ◌≤◌, [], IsTrue, OnOk, MatchOption};
 ghost use Rattle.waff_list.specs.Waiting.{Joins, LeavesFirst, priority_of};
 
 use std::alloc::{AllocError, Global};
@@ -65,6 +65,13 @@ impl Candidates {
         let priority = self.priority(m);
         self.heap.push((priority, Reverse(m)))?;
         Ok(())
+    }
+
+    /// Whether no message is ready.
+    pub fn is_empty(&self) -> bool
+        ensures { IsTrue result ↔ (self.now.messages ≡ []) }
+    {
+        self.heap.is_empty()
     }
 
     /// Takes out the message that is taken first.

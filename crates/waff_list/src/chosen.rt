@@ -76,7 +76,10 @@ impl Chosen {
     {
         let mut last_message = 0;
         let mut last_worker = 0;
-        while let Some(worker) = idle.pop() {
+        while !ready.is_empty() {
+            let Some(worker) = idle.pop() else {
+                return Ok(());
+            };
             if free_at[worker as usize - 1] > now || worker == last_worker {
                 continue;
             }
@@ -91,10 +94,7 @@ impl Chosen {
                         idle.push(worker)?;
                     }
                 }
-                None => {
-                    idle.push(worker)?;
-                    return Ok(());
-                }
+                None => unreachable!(),
             }
         }
         Ok(())

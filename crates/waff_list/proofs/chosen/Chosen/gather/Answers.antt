@@ -9,21 +9,21 @@ use Rattle.waff_list.proofs.chosen.Chosen.gather.Goals.{else-starts-m-via-then-s
 
 pub overflow_sub-worker : goal.overflow_sub-worker
 overflow_sub-worker c =
-    let known = worker_known _ _ _ _ _ _ _ _ _ _ _ c.loop-worker.invariant.on c.in-Some.worker c.in-Some.ensures.leaves.one in
+    let known = worker_known _ _ _ _ _ _ _ _ _ _ _ c.loop-idle.invariant.on c.in-Some.worker c.in-Some.ensures.leaves.one in
     known.0
 
 pub bounds-free_at-worker : goal.bounds-free_at-worker
 bounds-free_at-worker c =
-    let known = worker_known _ _ _ _ _ _ _ _ _ _ _ c.loop-worker.invariant.on c.in-Some.worker c.in-Some.ensures.leaves.one in
+    let known = worker_known _ _ _ _ _ _ _ _ _ _ _ c.loop-idle.invariant.on c.in-Some.worker c.in-Some.ensures.leaves.one in
     omega (arith, known.0, known.1)
 
-pub loop-worker-preserved-then-free_at-worker : goal.loop-worker-preserved-then-free_at-worker
-loop-worker-preserved-then-free_at-worker c =
-    let i = c.loop-worker.invariant in
+pub loop-idle-preserved-then-free_at-worker : goal.loop-idle-preserved-then-free_at-worker
+loop-idle-preserved-then-free_at-worker c =
+    let i = c.loop-idle.invariant in
     let w = c.in-Some.worker in
     let free_at = c.args.free_at.now in
     let known = worker_known _ _ _ _ _ _ _ _ _ _ _ i.on w c.in-Some.ensures.leaves.one in
-    let why : (c.args.now < get_or free_at (w - 1) 0) ⊎ (w ≡ c.loop-worker.last_worker) = elim c.then-free_at-worker.branch [
+    let why : (c.args.now < get_or free_at (w - 1) 0) ⊎ (w ≡ c.loop-idle.last_worker) = elim c.then-free_at-worker.branch [
       | then-free_at-worker-via-then-free_at-worker x ↦ inl (omega (arith, x.if-free_at-worker.true))
       | then-free_at-worker-via-else-free_at-worker+then-worker-last_worker x ↦ inr x.if-worker-last_worker.true
     ] in
@@ -31,33 +31,33 @@ loop-worker-preserved-then-free_at-worker c =
 
 pub overflow_sub-m : goal.overflow_sub-m
 overflow_sub-m c =
-    let known = message_known _ _ _ _ _ _ _ _ _ _ _ c.loop-worker.invariant.on c.in-Some-pop.m c.in-Some-pop.ensures.leaves.one in
+    let known = message_known _ _ _ _ _ _ _ _ _ _ _ c.loop-idle.invariant.on c.in-Some-pop.m c.in-Some-pop.ensures.leaves.one in
     known.0
 
 pub bounds-starts-m : goal.bounds-starts-m
 bounds-starts-m c =
-    let known = message_known _ _ _ _ _ _ _ _ _ _ _ c.loop-worker.invariant.on c.in-Some-pop.m c.in-Some-pop.ensures.leaves.one in
+    let known = message_known _ _ _ _ _ _ _ _ _ _ _ c.loop-idle.invariant.on c.in-Some-pop.m c.in-Some-pop.ensures.leaves.one in
     omega (arith, known.0, known.1)
 
-pub loop-worker-preserved-then-m-last_message : goal.loop-worker-preserved-then-m-last_message
-loop-worker-preserved-then-m-last_message c =
-    let i = c.loop-worker.invariant in
+pub loop-idle-preserved-then-m-last_message : goal.loop-idle-preserved-then-m-last_message
+loop-idle-preserved-then-m-last_message c =
+    let i = c.loop-idle.invariant in
     let w = c.in-Some.worker in
     let m = c.in-Some-pop.m in
     let takes = c.in-Some.ensures in
     let leaves = c.in-Some-pop.ensures in
-    let first = λ (x : ℕ) (there : Contains c.pop-in-Some.new.self.messages x). subst (λ (listed : List ℕ). (x ≡ m) ⊎ IsTakenFirst (priority_of listed) m x) i.same (leaves.first x there) in
+    let first = λ (x : ℕ) (there : Contains c.pop-in-loop-idle.new.self.messages x). subst (λ (listed : List ℕ). (x ≡ m) ⊎ IsTakenFirst (priority_of listed) m x) i.same (leaves.first x there) in
     let more = gathering_more _ _ _ _ _ _ _ _ _ _ _ i.on m w _ _ takes leaves.leaves first
     (omega (arith, c.if-free_at-worker.false)) c.if-worker-last_worker.false (omega (arith, c.if-starts-m.true)) c.if-m-last_message.true in
     record { on = rw (c.in_ok-push-in-Some-pop.ensures.items, c.in_ok-push-in-Some-pop-2.ensures.items) more; same = leaves.same ∙ i.same }
 
-pub loop-worker-preserved : goal.loop-worker-preserved
-loop-worker-preserved c =
-    let i = c.loop-worker.invariant in
+pub loop-idle-preserved : goal.loop-idle-preserved
+loop-idle-preserved c =
+    let i = c.loop-idle.invariant in
     let w = c.in-Some.worker in
     let m = c.in-Some-pop.m in
     let leaves = c.in-Some-pop.ensures in
-    let why : (start_of c.args.starts.now m ≤ c.args.now) ⊎ (m ≡ c.loop-worker.last_message) = elim c.else-starts-m.branch [
+    let why : (start_of c.args.starts.now m ≤ c.args.now) ⊎ (m ≡ c.loop-idle.last_message) = elim c.else-starts-m.branch [
       | else-starts-m-via-then-starts-m+else-m-last_message x ↦ inr x.if-m-last_message.false
       | else-starts-m-via-else-starts-m x ↦ inl (omega (arith, x.if-starts-m.false))
     ] in
@@ -66,8 +66,3 @@ loop-worker-preserved c =
       on = gathering_back _ _ _ _ _ _ _ _ _ _ _ dropped w _ _ c.in-Some.ensures.leaves c.in_ok-push-in-Some-pop-3.ensures;
       same = leaves.same ∙ i.same;
     }
-
-pub returns-in-None-clause-chosen : goal.returns-in-None-clause-chosen
-returns-in-None-clause-chosen c =
-    let back = gathering_back _ _ _ _ _ _ _ _ _ _ _ c.loop-worker.invariant.on c.in-Some.worker _ _ c.in-Some.ensures.leaves c.in_ok-push-in-None.ensures in
-    rw c.in-None.ensures.1 back.chosen
