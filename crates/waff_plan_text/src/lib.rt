@@ -5,7 +5,8 @@
 //! plan of anything.
 //!
 //! Writing:
-//! - `writing`: the text of a plan, with workers and without; `ratio`: ratios as they are printed.
+//! - `writing`: the text of a plan, with workers and without; `numbers`: numbers in it; `ratio`:
+//!   ratios as they are printed.
 //!
 //! Reading:
 //! - `refusal`: why a text is refused.
@@ -23,6 +24,7 @@ mod field;
 mod given;
 pub mod laws;
 mod lines;
+mod numbers;
 mod ratio;
 mod reading;
 mod records;
@@ -33,6 +35,7 @@ mod summary;
 mod writing;
 
 pub use given::GivenPlan;
+pub use numbers::{push_field, push_number};
 pub use ratio::{Mean, Ratio, RatioUp};
 pub use reading::read_plan;
 pub use refusal::PlanTextError;

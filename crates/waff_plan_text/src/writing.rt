@@ -1,6 +1,6 @@
 //! The writer of plan texts.
 
-ghost use Rattle.std.specs.Prelude.{◌≡◌, [], ◌∷◌, IfOk, OnOk, Some, codes, length};
+ghost use Rattle.std.specs.Prelude.{◌≡◌, [], ◌∷◌, IfOk, OnOk, codes, decimal, length};
 ghost use Rattle.std.specs.Prelude.{map, string_bytes};
 ghost use Rattle.waff_plan.specs.Planned.{planned_starts, planned_work};
 ghost use Rattle.waff_plan.specs.Bound.{IsWorkers};
@@ -11,8 +11,8 @@ ghost use Rattle.waff_plan_text.specs.Spelling.{message_row, no_worker, numbers_
 ghost use Rattle.waff_plan_text.specs.Spelling.{release_lines, seat_of, summary_lines};
 ghost use Rattle.waff_plan_text.specs.Spelling.{unlimited_lines, worker_field, worker_lines};
 
+use crate::numbers::{push_field, push_number};
 use std::alloc::{AllocError, Global};
-use std::fmt;
 use waff_model::Version;
 use waff_plan::{Planned, Totals};
 
@@ -113,22 +113,35 @@ fn push_plan_row(
     ensures { OnOk result (Adds text.old text.new
         (line_text (plan_row message affinity.now start finish worker))) }
 {
-    let worker = WorkerField(worker);
-    writeln!(text, "{message},{affinity},{start},{finish},{worker}")
+    push_field(text, u64::from(message))?;
+    text.push_str(affinity)?;
+    text.push(',')?;
+    push_planned(text, start, finish, worker)
 }
 
-/// A worker's number as a field.
-#[derive(Clone, Copy)]
-struct WorkerField(Option<u32>);
+/// Appends what is planned of a message, to the end of its line.
+fn push_planned(
+    text: &mut String,
+    start: u64,
+    finish: u64,
+    worker: Option<u32>,
+) -> Result<(), AllocError>
+    ensures { OnOk result (Adds text.old text.new
+        (line_text (decimal start ∷ decimal finish ∷ worker_field worker ∷ []))) }
+{
+    push_field(text, start)?;
+    push_field(text, finish)?;
+    push_worker(text, worker)?;
+    text.push('\n')
+}
 
-impl fmt::Display for WorkerField {
-    ghost output = { λ worker. Some (worker_field worker.0) };
-
-    fn fmt<W: fmt::Write>(&self, f: &mut fmt::Formatter<W>) -> fmt::Result {
-        match self.0 {
-            Some(worker) => write!(f, "{worker}"),
-            None => write!(f, "-"),
-        }
+/// Appends a worker's number, or a dash where there is none.
+fn push_worker(text: &mut String, worker: Option<u32>) -> Result<(), AllocError>
+    ensures { OnOk result (Adds text.old text.new (worker_field worker)) }
+{
+    match worker {
+        Some(worker) => push_number(text, u64::from(worker)),
+        None => text.push('-'),
     }
 }
 
@@ -143,10 +156,11 @@ fn push_summary(
     ensures { OnOk result (Adds text.old text.new
         (text_of (summary_lines version (worker_field workers) chain.now totals.now))) }
 {
-    let workers = WorkerField(workers);
+    text.push_str("workers,")?;
+    push_worker(text, workers)?;
     let total = totals.total;
     let length = totals.length;
-    writeln!(text, "workers,{workers}\ntotal,{total}\nlength,{length}")?;
+    writeln!(text, "\ntotal,{total}\nlength,{length}")?;
     push_chain(text, chain)?;
     push_release(text, version, totals.release)?;
     let cost = totals.cost;
@@ -173,9 +187,10 @@ fn push_numbers(text: &mut String, numbers: &[u32]) -> Result<(), AllocError>
     let Some((first, others)) = numbers.split_first() else {
         return Ok(());
     };
-    write!(text, "{first}")?;
+    push_number(text, u64::from(*first))?;
     for number in others {
-        write!(text, " {number}")?;
+        text.push(' ')?;
+        push_number(text, u64::from(*number))?;
     }
     Ok(())
 }

@@ -11,6 +11,7 @@ use std::alloc::{AllocError, Global};
 use std::io::Write;
 use waff_assign::Case;
 use waff_inputs::{ToolError, accept, deliver};
+use waff_plan_text::push_field;
 
 /// Writes the affinity of each message of the trace under the hierarchy. Nothing is written before
 /// the whole text is made.
@@ -70,5 +71,9 @@ fn push_assigned_row(
     ensures { OnOk result (Adds text.old text.new
         (line_text (decimal message ∷ name.now ∷ affinity.now ∷ []))) }
 {
-    writeln!(text, "{message},{name},{affinity}")
+    push_field(text, u64::from(message))?;
+    text.push_str(name)?;
+    text.push(',')?;
+    text.push_str(affinity)?;
+    text.push('\n')
 }

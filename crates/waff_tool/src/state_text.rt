@@ -15,6 +15,7 @@ use std::alloc::{AllocError, Global};
 use waff_cells::State;
 use waff_model::limits::MAX_SPACES;
 use waff_model::{Cell, Layout, Text};
+use waff_plan_text::{push_field, push_number};
 
 /// A space, as far as it is printed.
 #[derive(Drop)]
@@ -97,5 +98,9 @@ fn push_cell(text: &mut String, space: &str, index: u32, value: u64) -> Result<(
     ensures { OnOk result (Adds text.old text.new
         (line_text (join_with_byte 58 (space.now ∷ decimal index ∷ []) ∷ decimal value ∷ []))) }
 {
-    writeln!(text, "{space}:{index},{value}")
+    text.push_str(space)?;
+    text.push(':')?;
+    push_field(text, u64::from(index))?;
+    push_number(text, value)?;
+    text.push('\n')
 }
