@@ -3,5 +3,5 @@
 /// The version, the kit that proves these sources, and the sum of them.
 pub const LONG_VERSION: &str = "\
 0.1.0
-kit: rattle-kit-13b logic dac8208d650f15bf
-sources: 8c82c3f798ac636a";
+kit: rattle-kit-13f logic dac8208d650f15bf
+sources: 92eeb723c0771dbc";
