@@ -16,6 +16,8 @@ mod BeginningLemmas
 mod FirstLaws
 mod FaultlessLaws
 mod TraceSpellings
+mod LineLaws
+mod HalfLaws
 mod RefusalLaws
 mod AffinityLaws
 mod RefusedLaws

@@ -1,8 +1,10 @@
 -- The messages of a trace, one record after the other.
-use Rattle.std.proofs.Common.{◌≡◌, ℕ, ◌+◌, List, [], ◌∷◌, ◌++◌, Bool, true, false, Some, Result, Ok, Err, refl, sym, ap, ◌∙◌}
-use Rattle.std.specs.Prelude.{IfOk, drop, if◌then◌else◌}
+use Rattle.std.proofs.Common.{◌≡◌, ℕ, ◌+◌, ◌≤◌, List, [], ◌∷◌, ◌++◌, length, Bool, true, false, Some, Result, Ok, Err, refl, sym, ap, ◌∙◌, arith}
+use Rattle.std.specs.Prelude.{All, IfOk, drop, if◌then◌else◌}
+use Rattle.std.proofs.lemmas.List.Elements.{All-cons, All-nil}
 use Rattle.waff_model.specs.Layout.{Space}
-use Rattle.waff_model.specs.Messages.{Arrivals, sizes_of}
+use Rattle.waff_model.specs.Messages.{Arrivals, IsMessage, sizes_of}
+use Rattle.waff_model.specs.declared.limits.TheConstants.{MAX_MESSAGES}
 use Rattle.waff_model.specs.declared.message.Message.{Message}
 use Rattle.waff_model.specs.declared.message.Version.{Version}
 use Rattle.waff_parse.specs.Refusals.{◌>>=◌, told}
@@ -10,8 +12,8 @@ use Rattle.waff_parse.specs.Rows.{BeginsWithNoText, GivesNext, Record, is_text}
 use Rattle.waff_parse.specs.declared.stop.Stop.{Stop}
 use Rattle.waff_parse.specs.declared.stop.Stop.TheVariants as stop
 use Rattle.waff_parse.specs.Stopping.{Stops}
-use Rattle.waff_parse.specs.Walks.{with_front}
-use Rattle.waff_parse.proofs.Laws.{bind-stops, told-if, walk-end, walk-step, walk-stop}
+use Rattle.waff_parse.specs.Walks.{walk, with_front}
+use Rattle.waff_parse.proofs.Laws.{told-if, walk-end, walk-if, walk-step, walk-stop}
 use Rattle.waff_read.specs.Messages.{message_of}
 use Rattle.waff_read.specs.Traces.{message_at, messages_at, next_number, trace_of_rows, trace_of_records, header_of, GivesMessage}
 use Rattle.waff_read.specs.TraceFaults.{at_record}
@@ -80,24 +82,22 @@ walk-error version spaces at front left others stop.Memory h = tt
 walk-error version spaces at front left others (stop.Fault e) h =
     rw h.2 (walk-stop (message_at version spaces) next_number at h.0 e h.1 front h.3)
 
--- the trace of the messages so far is the whole, where no record is left
-pub whole-trace : (version : Version) (spaces : List Space) (at : ℕ) (trace : Arrivals) (left all : List Record)
-    → left ≡ [] → trace.version ≡ version → trace.sizes ≡ sizes_of spaces
-    → with_front trace.messages (messages_at version spaces at left) ≡ messages_at version spaces 2 all
-    → trace_of_rows version spaces all ≡ Ok trace
-whole-trace version spaces at trace left all none v s whole =
-    let read : messages_at version spaces 2 all ≡ Ok trace.messages = sym whole ∙ rw none (walk-end (message_at version spaces) next_number at trace.messages) in
-    rw (read, ← v, ← s) refl
+-- the messages so far are all, where no record is left
+pub whole-messages : (version : Version) (spaces : List Space) (at : ℕ) (front : List Message) (left all : List Record)
+    → left ≡ [] → with_front front (messages_at version spaces at left) ≡ messages_at version spaces 2 all
+    → messages_at version spaces 2 all ≡ Ok front
+whole-messages version spaces at front left all none whole =
+    sym whole ∙ rw none (walk-end (message_at version spaces) next_number at front)
 
--- an error of the messages is one of the trace
-pub error-trace : (version : Version) (spaces : List Space) (at : ℕ) (front : List Message) (left others all : List Record) (why : Stop TraceError)
+-- an error of a message is one of all
+pub error-messages : (version : Version) (spaces : List Space) (at : ℕ) (front : List Message) (left others all : List Record) (why : Stop TraceError)
     → GivesMessage version spaces at (Err why) left others
     → with_front front (messages_at version spaces at left) ≡ messages_at version spaces 2 all
-    → Stops why (trace_of_rows version spaces all)
-error-trace version spaces at front left others all why h whole =
-    bind-stops why (messages_at version spaces 2 all) _ (rw whole at (walk-error version spaces at front left others why h))
+    → Stops why (messages_at version spaces 2 all)
+error-messages version spaces at front left others all why h whole =
+    rw whole at (walk-error version spaces at front left others why h)
 
--- a message that is read is one of the trace, and there is room for it
+-- a message that is read is within the limits, and not one too many
 pub next-fits : (version : Version) (spaces : List Space) (at : ℕ) (left others : List Record) (message : Message)
     → GivesMessage version spaces at (Ok (Some message)) left others → Fits version spaces at message
 next-fits version spaces at left others message h = fits-message version spaces at h.0 message h.2
@@ -118,3 +118,46 @@ sizes-if spaces rows = by (header_of rows)
 
 pub sizes-trace : (spaces : List Space) (rows : List Record) (trace : Arrivals) → trace_of_records spaces rows ≡ Ok trace → trace.sizes ≡ sizes_of spaces
 sizes-trace spaces rows trace h = rw h at (sizes-if spaces rows)
+
+-- what is read is read
+abbrev read-as : {F A : Type 0} → A → Result A F
+read-as x = Ok x
+
+pub is-ok : {F A : Type 0} (x y : A) → read-as {F = F} x ≡ read-as y → x ≡ y
+is-ok x y e = cc
+
+-- messages that are read are within the limits
+pub messages-fit : (version : Version) (spaces : List Space) (at : ℕ) (rows : List Record) (messages : List Message)
+    → messages_at version spaces at rows ≡ Ok messages → All (IsMessage version (sizes_of spaces)) messages
+messages-fit version spaces at rows messages h =
+    rw h at (walk-if (message_at version spaces) next_number is (All is) (All-nil is) (λ m ms p q. All-cons is m ms p q) each at rows)
+  where
+    is : Message → Type 0
+    is = IsMessage version (sizes_of spaces)
+
+    fits : (at : ℕ) (r : Result Message TraceError) → IfOk r (Fits version spaces at) → IfOk r is
+    fits at (Ok m) h = h.0
+    fits at (Err e) h = tt
+
+    each : (at : ℕ) (row : Record) → IfOk (message_at version spaces at row) is
+    each at row = fits at (message_at version spaces at row) (message_at-fits version spaces at row)
+
+-- there are not too many of them
+pub messages-few : (version : Version) (spaces : List Space) (at : ℕ) (rows : List Record) (messages : List Message)
+    → messages_at version spaces at rows ≡ Ok messages → at ≤ MAX_MESSAGES + 2 → at + length messages ≤ MAX_MESSAGES + 2
+unfolding walk
+messages-few version spaces at [] messages h low = rw (← (is-ok [] messages h)) (omega (arith, low))
+messages-few version spaces at (row ∷ rows) messages h low =
+    by (message_at version spaces at row) (messages_at version spaces (at + 1) rows) refl refl (messages-few version spaces (at + 1) rows)
+  where
+    by : (r : Result Message TraceError) (rs : Result (List Message) TraceError)
+        → message_at version spaces at row ≡ r → messages_at version spaces (at + 1) rows ≡ rs
+        → ((ms : List Message) → messages_at version spaces (at + 1) rows ≡ Ok ms → at + 1 ≤ MAX_MESSAGES + 2 → at + 1 + length ms ≤ MAX_MESSAGES + 2)
+        → at + length messages ≤ MAX_MESSAGES + 2
+    by (Ok m) (Ok ms) p q more =
+        let is : m ∷ ms ≡ messages = is-ok (m ∷ ms) messages (rw (p, q) at h) in
+        let fits = fits-message version spaces at row m p in
+        let few = more ms q (omega (arith, fits.1)) in
+        rw (← is) (omega (arith, few))
+    by (Ok m) (Err e) p q more = absurd (cc (rw (p, q) at h))
+    by (Err e) rs p q more = absurd (cc (rw p at h))

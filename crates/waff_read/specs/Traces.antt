@@ -35,6 +35,11 @@ next_number at row = at + 1
 abbrev pub messages_at : Version → List Space → ℕ → List Record → Result (List Message) TraceError
 messages_at version spaces at rows = walk (message_at version spaces) next_number at rows
 
+-- text spells these messages, a record each, behind a header
+abbrev pub Spells : Version → List Space → List ℕ → List Message → Type 0
+Spells version spaces text messages =
+    messages_at version spaces 2 (records_of text) ≡ Ok messages
+
 -- the trace of records after the header
 abbrev pub trace_of_rows : Version → List Space → List Record → Result Arrivals TraceError
 trace_of_rows version spaces rows = do

@@ -19,10 +19,12 @@
 mod affinities;
 mod beginnings;
 mod document;
+mod halves;
 mod hier_error;
 mod hierarchy;
 pub mod laws;
 pub mod limit_laws;
+mod lines;
 mod message;
 mod names;
 mod op;
@@ -34,6 +36,7 @@ mod spaces;
 mod trace;
 mod trace_fault;
 
+pub use halves::read_trace_by_threads;
 pub use hier_error::{HierError, Key};
 pub use hierarchy::read_hierarchy;
 pub use trace::read_trace;

@@ -1,7 +1,8 @@
 //! The reader of traces.
 
-ghost use Rattle.std.specs.Prelude.{◌≡◌, ◌+◌, Ok, Err, drop, IfOk, OnOk};
-ghost use Rattle.waff_model.specs.Messages.{sizes_of};
+ghost use Rattle.std.specs.Prelude.{◌≡◌, ◌+◌, ◌≤◌, ◌++◌, Ok, Err, All, drop, length, IfOk, OnOk};
+ghost use Rattle.waff_model.specs.Messages.{sizes_of, IsMessage};
+ghost use Rattle.waff_model.specs.declared.limits.TheConstants.{MAX_MESSAGES};
 ghost use Rattle.waff_parse.specs.Rows.{Reads, records_left};
 ghost use Rattle.waff_parse.specs.Stopping.{Gives};
 ghost use Rattle.waff_read.specs.Traces as traces;
@@ -10,7 +11,7 @@ use crate::message::{read_message, read_version};
 use crate::space_table::SpaceTable;
 use crate::trace_fault::{TraceError, TraceFault};
 use csv::{Reader, StringRecord};
-use std::alloc::Global;
+use std::alloc::{AllocError, Global};
 use waff_model::{Layout, Message, Trace, Version};
 use waff_parse::{Stop, next_text, text_rows};
 
@@ -58,25 +59,38 @@ fn next_message(
     }
 }
 
-// The trace of the messages that are left.
-fn read_messages(
+/// The messages of the records that are left, behind a header.
+pub(crate) fn read_messages(
     alloc: Global,
     spaces: &SpaceTable<'_>,
     version: Version,
     rdr: &mut Reader<&[u8]>,
     row: &mut StringRecord,
-) -> Result<Trace, Stop<TraceError>>
+) -> Result<Vec<Message>, Stop<TraceError>>
     requires { Reads rdr.old }
-    ensures { Gives (λ trace.
-        trace) result (traces.trace_of_rows version spaces.now (records_left rdr.old)) }
+    ensures { Gives (λ messages.
+        messages.items) result (traces.messages_at version spaces.now 2 (records_left rdr.old)) }
 {
-    let mut trace = Trace::with_version(alloc, spaces.layout(), version)?;
+    let mut messages = Vec::new(alloc);
     let mut at = 2;
     while let Some(message) = next_message(alloc, spaces, version, at, rdr, row)? {
-        trace.push(message)?;
+        messages.push(message)?;
         at += 1;
     }
-    Ok(trace)
+    Ok(messages)
+}
+
+/// Appends messages to a trace.
+pub(crate) fn push_all(trace: &mut Trace, messages: Vec<Message>) -> Result<(), AllocError>
+    requires messages { All (IsMessage trace.old.version trace.old.sizes) messages.items }
+    requires room { length trace.old.messages + length messages.items ≤ MAX_MESSAGES }
+    ensures { OnOk result (trace.new
+        ≡ record trace.old { messages = trace.old.messages ++ messages.items }) }
+{
+    for message in messages {
+        trace.push(message)?;
+    }
+    Ok(())
 }
 
 // The trace of the records that are left: a header, and then a message each.
@@ -92,17 +106,31 @@ fn read_records(
         trace) result (traces.trace_of_records spaces.now (records_left rdr.old)) }
 {
     let version = read_header(rdr, row)?;
-    read_messages(alloc, spaces, version, rdr, row)
+    let mut trace = Trace::with_version(alloc, spaces.layout(), version)?;
+    let messages = read_messages(alloc, spaces, version, rdr, row)?;
+    push_all(&mut trace, messages)?;
+    Ok(trace)
 }
 
-// The trace that bytes spell.
+/// The trace that bytes spell.
+pub(crate) fn read_bytes(
+    alloc: Global,
+    spaces: &SpaceTable<'_>,
+    bytes: &[u8],
+) -> Result<Trace, Stop<TraceError>>
+    ensures { Gives (λ trace. trace) result (traces.trace_of spaces.now bytes.now) }
+{
+    let mut rdr = text_rows(alloc, bytes);
+    let mut row = StringRecord::new(alloc);
+    read_records(alloc, spaces, &mut rdr, &mut row)
+}
+
+// The trace that bytes spell, for cells of the layout.
 fn trace_of(alloc: Global, layout: &Layout, bytes: &[u8]) -> Result<Trace, Stop<TraceError>>
     ensures { Gives (λ trace. trace) result (traces.trace_of layout.now.spaces bytes.now) }
 {
     let spaces = SpaceTable::new(alloc, layout)?;
-    let mut rdr = text_rows(alloc, bytes);
-    let mut row = StringRecord::new(alloc);
-    read_records(alloc, &spaces, &mut rdr, &mut row)
+    read_bytes(alloc, &spaces, bytes)
 }
 
 /// The trace that the bytes spell, for cells of the layout: CSV with a header, and then a record

@@ -1,0 +1,122 @@
+//! Long traces, whose text is cut in parts that are read by a thread each.
+
+ghost use Rattle.std.specs.Prelude.{◌≡◌, ◌≤◌, ◌++◌, Ok, length, IfOk, IfSome};
+ghost use Rattle.std.specs.Thread.{IsSync};
+ghost use Rattle.waff_model.specs.Messages.{sizes_of};
+ghost use Rattle.waff_model.specs.declared.limits.TheConstants.{MAX_MESSAGES};
+ghost use Rattle.waff_read.specs.Traces as traces;
+
+use crate::lines::cut_lines;
+use crate::space_table::SpaceTable;
+use crate::trace::{push_all, read_bytes, read_messages, read_trace};
+use crate::trace_fault::TraceError;
+use csv::StringRecord;
+use std::alloc::Global;
+use std::thread;
+use std::thread::Threads;
+use waff_model::limits::MAX_MESSAGES;
+use waff_model::{Layout, Message, Trace, Version};
+use waff_parse::text_rows;
+
+/// A text of fewer bytes is read by one thread.
+const LONG: usize = 256 * 1024;
+
+/// How often a long text is halved.
+const HALVINGS: u32 = 2;
+
+// The messages of all records of a text; none where one has a fault.
+fn read_part(
+    alloc: Global,
+    spaces: &SpaceTable<'_>,
+    version: Version,
+    text: &[u8],
+) -> Option<Vec<Message>>
+    ensures { IfSome result (λ messages.
+        traces.Spells version spaces.now text.now messages.items) }
+{
+    let mut rdr = text_rows(alloc, text);
+    let mut row = StringRecord::new(alloc);
+    read_messages(alloc, spaces, version, &mut rdr, &mut row).ok()
+}
+
+// The messages of two parts, one behind the other; none where there are too many.
+fn joined(mut first: Vec<Message>, mut second: Vec<Message>) -> Option<Vec<Message>>
+    ensures both { IfSome result (λ all. all.items ≡ first.items ++ second.items) }
+    ensures few { IfSome result (λ all. length all.items ≤ MAX_MESSAGES) }
+{
+    if MAX_MESSAGES < first.len().saturating_add(second.len()) {
+        return None;
+    }
+    first.append(&mut second).ok()?;
+    Some(first)
+}
+
+// The same, read by a thread for each part of a text that is halved so often.
+#[cycle(halves)]
+fn read_halves<R: Threads + Sync>(
+    rt: &R,
+    alloc: Global,
+    spaces: &SpaceTable<'_>,
+    version: Version,
+    text: &[u8],
+    halvings: u32,
+) -> Option<Vec<Message>>
+    ensures { IfSome result (λ messages.
+        traces.Spells version spaces.now text.now messages.items) }
+{
+    if halvings == 0 {
+        return read_part(alloc, spaces, version, text);
+    }
+    let (first, second) = cut_lines(text, text.len() / 2)?;
+    let front = move || -> Option<Vec<Message>>
+        requires { IsSync R.row × (1 ≤ halvings) }
+        ensures { IfSome result (λ messages.
+            traces.Spells version spaces.entry.now first.entry.now messages.items) }
+    { read_halves(rt, alloc, spaces, version, first, halvings - 1) };
+    let back = move || -> Option<Vec<Message>>
+        requires { IsSync R.row × (1 ≤ halvings) }
+        ensures { IfSome result (λ messages.
+            traces.Spells version spaces.entry.now second.entry.now messages.items) }
+    { read_halves(rt, alloc, spaces, version, second, halvings - 1) };
+    let (first, second) = thread::join(rt, front, back);
+    joined(first?, second?)
+}
+
+// The trace that a text spells; none where it has a fault, or can't be cut.
+fn read_long<R: Threads + Sync>(
+    rt: &R,
+    alloc: Global,
+    layout: &Layout,
+    text: &[u8],
+) -> Option<Trace>
+    ensures { IfSome result (λ trace. traces.trace_of layout.now.spaces text.now ≡ Ok trace) }
+{
+    let spaces = SpaceTable::new(alloc, layout).ok()?;
+    let (header, rows) = cut_lines(text, 0)?;
+    let mut trace = read_bytes(alloc, &spaces, header).ok()?;
+    let messages = read_halves(rt, alloc, &spaces, trace.version(), rows, HALVINGS)?;
+    if MAX_MESSAGES < (trace.len() as usize).saturating_add(messages.len()) {
+        return None;
+    }
+    push_all(&mut trace, messages).ok()?;
+    Some(trace)
+}
+
+/// The trace that the bytes spell, as `read_trace` reads it, but read by several threads where the
+/// text is long and has no fault.
+pub fn read_trace_by_threads<R: Threads + Sync>(
+    rt: &R,
+    alloc: Global,
+    layout: &Layout,
+    bytes: &[u8],
+) -> Result<Trace, TraceError>
+    ensures exact { traces.GivesTrace result (traces.trace_of layout.now.spaces bytes.now) }
+    ensures fits { IfOk result (λ trace. trace.sizes ≡ sizes_of layout.now.spaces) }
+{
+    if LONG <= bytes.len() {
+        if let Some(trace) = read_long(rt, alloc, layout, bytes) {
+            return Ok(trace);
+        }
+    }
+    read_trace(alloc, layout, bytes)
+}
