@@ -26,12 +26,12 @@ pub fn answer<R: Threads + Wait + Sync, W: Write>(
 {
     let (asked, files) = (&question.asked, question.files.as_slice());
     match asked {
-        Asked::PlanOfInput => print_plan_of_input(alloc, files, out),
+        Asked::PlanOfInput => print_plan_of_input(rt, alloc, files, out),
         Asked::Explain => print_explanation(rt, alloc, files, out),
-        Asked::Compare(k) => print_comparison(alloc, files, *k, out),
-        Asked::Rank(k, rule) => print_ranks(alloc, files, *k, *rule, out),
+        Asked::Compare(k) => print_comparison(rt, alloc, files, *k, out),
+        Asked::Rank(k, rule) => print_ranks(rt, alloc, files, *k, *rule, out),
         Asked::Check | Asked::Rate => print_verdict(rt, alloc, asked, files, out),
-        Asked::Draw(drawing, part) => print_picture(alloc, files, *drawing, *part, out),
+        Asked::Draw(drawing, part) => print_picture(rt, alloc, files, *drawing, *part, out),
         _ => print_of_trace(rt, alloc, asked, files, out),
     }
 }
@@ -43,7 +43,8 @@ fn printed(told: Result<(), ToolError>) -> Result<u8, Failure> {
 }
 
 /// Prints the plan of a hierarchy and a trace in one file.
-fn print_plan_of_input<W: Write>(
+fn print_plan_of_input<R: Threads + Sync, W: Write>(
+    rt: &R,
     alloc: Global,
     files: &[Vec<u8>],
     out: &mut W,
@@ -52,11 +53,12 @@ fn print_plan_of_input<W: Write>(
         return Err(Failure::Refused(Refusal::NoWords));
     };
     let (hierarchy, trace) = split_input(input);
-    printed(plan_text(alloc, hierarchy, trace, None, out))
+    printed(plan_text(rt, alloc, hierarchy, trace, None, out))
 }
 
 /// Prints how two hierarchies compare.
-fn print_comparison<W: Write>(
+fn print_comparison<R: Threads + Sync, W: Write>(
+    rt: &R,
     alloc: Global,
     files: &[Vec<u8>],
     workers: u32,
@@ -67,11 +69,12 @@ fn print_comparison<W: Write>(
     let [first, second, trace] = files else {
         return Err(Failure::Refused(Refusal::NoWords));
     };
-    printed(compare_text(alloc, first, second, trace, workers, out))
+    printed(compare_text(rt, alloc, first, second, trace, workers, out))
 }
 
 /// Prints how hierarchies rank.
-fn print_ranks<W: Write>(
+fn print_ranks<R: Threads + Sync, W: Write>(
+    rt: &R,
     alloc: Global,
     files: &[Vec<u8>],
     workers: u32,
@@ -82,7 +85,7 @@ fn print_ranks<W: Write>(
 {
     match files {
         [trace, hierarchies @ ..] if hierarchies.len() <= MAX_RANKED => {
-            printed(rank_text(alloc, hierarchies, trace, workers, rule, out))
+            printed(rank_text(rt, alloc, hierarchies, trace, workers, rule, out))
         }
         _ => Err(Failure::Refused(Refusal::NoWords)),
     }
@@ -103,16 +106,16 @@ fn print_of_trace<R: Threads + Wait + Sync, W: Write>(
     };
     let (hierarchy, trace) = (hierarchy.as_slice(), trace.as_slice());
     printed(match asked {
-        Asked::Assign => assign_text(alloc, hierarchy, trace, out),
+        Asked::Assign => assign_text(rt, alloc, hierarchy, trace, out),
         Asked::Plan(workers, rule) => {
-            plan_text_by(alloc, hierarchy, trace, *workers, *rule, out)
+            plan_text_by(rt, alloc, hierarchy, trace, *workers, *rule, out)
         }
         Asked::Sweep(given, rule) => {
-            sweep_text(alloc, hierarchy, trace, swept(given), *rule, out)
+            sweep_text(rt, alloc, hierarchy, trace, swept(given), *rule, out)
         }
-        Asked::Where(by_name) => where_text(alloc, hierarchy, trace, *by_name, out),
+        Asked::Where(by_name) => where_text(rt, alloc, hierarchy, trace, *by_name, out),
         Asked::Waits(workers, rule, by_name) => {
-            waits_text(alloc, hierarchy, trace, *workers, *rule, *by_name, out)
+            waits_text(rt, alloc, hierarchy, trace, *workers, *rule, *by_name, out)
         }
         Asked::Replay(workers) => {
             replay_text(rt, alloc, hierarchy, trace, thread_count(rt, *workers), out)
@@ -151,7 +154,8 @@ fn print_verdict<R: Threads + Sync, W: Write>(
 }
 
 /// Prints a part of a plan as a picture.
-fn print_picture<W: Write>(
+fn print_picture<R: Threads + Sync, W: Write>(
+    rt: &R,
     alloc: Global,
     files: &[Vec<u8>],
     drawing: Drawing,
@@ -168,6 +172,7 @@ fn print_picture<W: Write>(
         to: part.to,
     };
     printed(draw_text(
+        rt,
         alloc,
         hierarchy,
         trace,

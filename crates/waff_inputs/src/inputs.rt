@@ -7,9 +7,10 @@ ghost use Rattle.waff_inputs.specs.Inputs.{Accepts, Refuses, RefusesHierarchy};
 
 use crate::fault::ToolError;
 use std::alloc::Global;
+use std::thread::Threads;
 use waff_assign::{Assigned, Case, assign};
 use waff_model::{Layout, Trace};
-use waff_read::{read_hierarchy, read_trace};
+use waff_read::{read_hierarchy, read_trace_by_threads};
 
 /// A hierarchy, a trace over it, and the affinity of each message.
 #[derive(Drop)]
@@ -50,7 +51,12 @@ pub fn read_numbered(alloc: Global, file: u8, hierarchy: &[u8]) -> Result<Layout
 }
 
 /// Reads the files, the hierarchy first.
-pub fn accept(alloc: Global, hierarchy: &[u8], trace: &[u8]) -> Result<Accepted, ToolError>
+pub fn accept<R: Threads + Sync>(
+    rt: &R,
+    alloc: Global,
+    hierarchy: &[u8],
+    trace: &[u8],
+) -> Result<Accepted, ToolError>
     ensures accepted { IfOk result (λ a.
         Accepts hierarchy.now trace.now a.layout a.trace a.assigned) }
     ensures refused { IfErr result (Refuses hierarchy.now trace.now) }
@@ -60,7 +66,7 @@ pub fn accept(alloc: Global, hierarchy: &[u8], trace: &[u8]) -> Result<Accepted,
         Ok(layout) => layout,
         Err(fault) => return Err(ToolError::of_hierarchy(1, fault)),
     };
-    match read_trace(alloc, &layout, trace) {
+    match read_trace_by_threads(rt, alloc, &layout, trace) {
         Ok(trace) => with_affinities(alloc, layout, trace),
         Err(fault) => {
             drop(layout);

@@ -9,13 +9,15 @@ ghost use Rattle.waff_tool.specs.AssignText.{IsAssignText, assign_lines, assign_
 
 use std::alloc::{AllocError, Global};
 use std::io::Write;
+use std::thread::Threads;
 use waff_assign::Case;
 use waff_inputs::{ToolError, accept, deliver};
 use waff_plan_text::push_field;
 
 /// Writes the affinity of each message of the trace under the hierarchy. Nothing is written before
 /// the whole text is made.
-pub fn assign_text<W: Write>(
+pub fn assign_text<R: Threads + Sync, W: Write>(
+    rt: &R,
     alloc: Global,
     hierarchy: &[u8],
     trace: &[u8],
@@ -24,14 +26,19 @@ pub fn assign_text<W: Write>(
     ensures { Delivers (λ _ text. IsAssignText hierarchy.now trace.now text)
         (Refuses hierarchy.now trace.now) (W.contents writer.old) (W.contents writer.new) result }
 {
-    deliver(writer, made_assign_text(alloc, hierarchy, trace))
+    deliver(writer, made_assign_text(rt, alloc, hierarchy, trace))
 }
 
-fn made_assign_text(alloc: Global, hierarchy: &[u8], trace: &[u8]) -> Result<String, ToolError>
+fn made_assign_text<R: Threads + Sync>(
+    rt: &R,
+    alloc: Global,
+    hierarchy: &[u8],
+    trace: &[u8],
+) -> Result<String, ToolError>
     ensures { Makes (λ text. IsAssignText hierarchy.now trace.now (string_bytes text))
         (Refuses hierarchy.now trace.now) result }
 {
-    let accepted = accept(alloc, hierarchy, trace)?;
+    let accepted = accept(rt, alloc, hierarchy, trace)?;
     let text = assigned_text(alloc, &accepted.case());
     drop(accepted);
     text.map_err(ToolError::from)

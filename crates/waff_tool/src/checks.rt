@@ -48,7 +48,7 @@ pub fn made_verdict<R: Threads + Sync>(
     ensures { Makes (IsCheckText hierarchy.now trace.now plan.now)
         (RefusesCheck hierarchy.now trace.now plan.now) result }
 {
-    let accepted = accept(alloc, hierarchy, trace)?;
+    let accepted = accept(rt, alloc, hierarchy, trace)?;
     let verdict = verdict_on(rt, alloc, &accepted, plan);
     drop(accepted);
     verdict

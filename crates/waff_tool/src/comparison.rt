@@ -13,17 +13,19 @@ ghost use Rattle.waff_inputs.specs.Deliveries.{Delivers, Makes};
 use crate::measures::{comparison_text, measure};
 use std::alloc::{AllocError, Global};
 use std::io::Write;
+use std::thread::Threads;
 use waff_assign::{Case, assign};
 use waff_inputs::{ToolError, deliver, read_numbered};
 use waff_model::{Kind, Layout, Trace};
 use waff_order::refines;
 use waff_plan::laws::refined_is_no_longer;
-use waff_read::read_trace;
+use waff_read::read_trace_by_threads;
 
 /// Writes what the trace comes to under the classical and the hierarchical one of two hierarchies,
 /// given in either order, for this number of workers, and whether the hierarchical one refines the
 /// classical one on the trace. Nothing is written before the whole text is made.
-pub fn compare_text<W: Write>(
+pub fn compare_text<R: Threads + Sync, W: Write>(
+    rt: &R,
     alloc: Global,
     first: &[u8],
     second: &[u8],
@@ -37,11 +39,12 @@ pub fn compare_text<W: Write>(
 {
     deliver(
         writer,
-        made_compare_text(alloc, first, second, trace, workers),
+        made_compare_text(rt, alloc, first, second, trace, workers),
     )
 }
 
-fn made_compare_text(
+fn made_compare_text<R: Threads + Sync>(
+    rt: &R,
     alloc: Global,
     first: &[u8],
     second: &[u8],
@@ -53,13 +56,14 @@ fn made_compare_text(
         (RefusesComparison first.now second.now trace.now) result }
 {
     let first = read_numbered(alloc, 1, first)?;
-    let text = text_with_second(alloc, &first, second, trace, workers);
+    let text = text_with_second(rt, alloc, &first, second, trace, workers);
     drop(first);
     text
 }
 
 /// The text that compares a hierarchy that was read with the one of these bytes.
-fn text_with_second(
+fn text_with_second<R: Threads + Sync>(
+    rt: &R,
     alloc: Global,
     first: &Layout,
     second: &[u8],
@@ -76,14 +80,15 @@ fn text_with_second(
     ensures nothing { IfErr result (λ e. e ≢ ToolError.Write) }
 {
     let second = read_numbered(alloc, 2, second)?;
-    let text = either_text(alloc, first, &second, trace, k);
+    let text = either_text(rt, alloc, first, &second, trace, k);
     drop(second);
     text
 }
 
 /// The text that compares two hierarchies, given in either order, which have to be of the same
 /// spaces and of different models.
-fn either_text(
+fn either_text<R: Threads + Sync>(
+    rt: &R,
     alloc: Global,
     first: &Layout,
     second: &Layout,
@@ -103,15 +108,16 @@ fn either_text(
         return Err(ToolError::SpacesDiffer);
     }
     match (first.kind(), second.kind()) {
-        (Kind::Classical, Kind::Hierarchical) => models_text(alloc, first, second, trace, k),
-        (Kind::Hierarchical, Kind::Classical) => models_text(alloc, second, first, trace, k),
+        (Kind::Classical, Kind::Hierarchical) => models_text(rt, alloc, first, second, trace, k),
+        (Kind::Hierarchical, Kind::Classical) => models_text(rt, alloc, second, first, trace, k),
         _ => Err(ToolError::ModelsSame),
     }
 }
 
 /// The text that compares a classical and a hierarchical hierarchy of the same spaces on the trace
 /// of these bytes.
-fn models_text(
+fn models_text<R: Threads + Sync>(
+    rt: &R,
     alloc: Global,
     classical: &Layout,
     hierarchical: &Layout,
@@ -128,7 +134,7 @@ fn models_text(
         → RefusesComparison first_file second_file trace.now e) }
     ensures nothing { IfErr result (λ e. e ≢ ToolError.Write) }
 {
-    let trace = read_trace(alloc, classical, trace)?;
+    let trace = read_trace_by_threads(rt, alloc, classical, trace)?;
     let text = compared_text(alloc, classical, hierarchical, &trace, k);
     drop(trace);
     text.map_err(ToolError::from)

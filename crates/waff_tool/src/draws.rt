@@ -9,6 +9,7 @@ ghost use Rattle.waff_tool.specs.DrawText.{DrawTextIsOne, IsDrawText, picture_of
 
 use std::alloc::{AllocError, Global};
 use std::io::Write;
+use std::thread::Threads;
 use waff_assign::Case;
 use waff_check::{GivenPlan, read_plan};
 use waff_draw::{Part, events_text, svg_text};
@@ -23,7 +24,8 @@ pub enum Picture {
 
 /// Writes the picture of this part of the plan that the text gives for the trace under the
 /// hierarchy, whether or not the plan obeys. Nothing is written before the whole picture is made.
-pub fn draw_text<W: Write>(
+pub fn draw_text<R: Threads + Sync, W: Write>(
+    rt: &R,
     alloc: Global,
     hierarchy: &[u8],
     trace: &[u8],
@@ -37,11 +39,12 @@ pub fn draw_text<W: Write>(
 {
     deliver(
         writer,
-        made_picture(alloc, hierarchy, trace, plan, picture, part),
+        made_picture(rt, alloc, hierarchy, trace, plan, picture, part),
     )
 }
 
-fn made_picture(
+fn made_picture<R: Threads + Sync>(
+    rt: &R,
     alloc: Global,
     hierarchy: &[u8],
     trace: &[u8],
@@ -53,7 +56,7 @@ fn made_picture(
         IsDrawText hierarchy.now trace.now plan.now picture part (string_bytes text))
         (RefusesCheck hierarchy.now trace.now plan.now) result }
 {
-    let accepted = accept(alloc, hierarchy, trace)?;
+    let accepted = accept(rt, alloc, hierarchy, trace)?;
     let text = picture_on(alloc, &accepted, plan, picture, part);
     drop(accepted);
     text

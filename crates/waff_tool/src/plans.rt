@@ -9,6 +9,7 @@ ghost use Rattle.waff_tool.specs.PlanText.{IsPlanText, IsPlanTextFor, IsWorkerPl
 use crate::certificates::{bounded_plan, certified_plan};
 use std::alloc::{AllocError, Global};
 use std::io::Write;
+use std::thread::Threads;
 use waff_inputs::{Accepted, ToolError, accept, deliver};
 use waff_list::Rule;
 use waff_plan::Planned;
@@ -17,7 +18,8 @@ use waff_plan_text::{unlimited_text, worker_text};
 /// Writes the plan of the trace under the hierarchy for this number of workers, or with no limit on
 /// them where there is no number. A worker that is free takes the message that arrived first.
 /// Nothing is written before the whole text is made.
-pub fn plan_text<W: Write>(
+pub fn plan_text<R: Threads + Sync, W: Write>(
+    rt: &R,
     alloc: Global,
     hierarchy: &[u8],
     trace: &[u8],
@@ -29,12 +31,13 @@ pub fn plan_text<W: Write>(
         IsPlanTextFor Rule.Arrival hierarchy.now trace.now workers text)
         (Refuses hierarchy.now trace.now) (W.contents writer.old) (W.contents writer.new) result }
 {
-    plan_text_by(alloc, hierarchy, trace, workers, Rule::Arrival, writer)
+    plan_text_by(rt, alloc, hierarchy, trace, workers, Rule::Arrival, writer)
 }
 
 /// Writes the plan by this rule. Without a number of workers each message starts as early as it
 /// can, whatever the rule.
-pub fn plan_text_by<W: Write>(
+pub fn plan_text_by<R: Threads + Sync, W: Write>(
+    rt: &R,
     alloc: Global,
     hierarchy: &[u8],
     trace: &[u8],
@@ -48,11 +51,12 @@ pub fn plan_text_by<W: Write>(
 {
     deliver(
         writer,
-        made_plan_text(alloc, hierarchy, trace, workers, rule),
+        made_plan_text(rt, alloc, hierarchy, trace, workers, rule),
     )
 }
 
-fn made_plan_text(
+fn made_plan_text<R: Threads + Sync>(
+    rt: &R,
     alloc: Global,
     hierarchy: &[u8],
     trace: &[u8],
@@ -63,7 +67,7 @@ fn made_plan_text(
     ensures { Makes (λ text. IsPlanTextFor rule hierarchy.now trace.now workers (string_bytes text))
         (Refuses hierarchy.now trace.now) result }
 {
-    let accepted = accept(alloc, hierarchy, trace)?;
+    let accepted = accept(rt, alloc, hierarchy, trace)?;
     let text = planned_text(alloc, &accepted, workers, rule).map_err(ToolError::from);
     drop(accepted);
     text

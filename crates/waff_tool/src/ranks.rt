@@ -17,6 +17,7 @@ ghost use Rattle.waff_tool.specs.Ranks.{rank_rows};
 use crate::measures::kind_name;
 use std::alloc::{AllocError, Global};
 use std::io::Write;
+use std::thread::Threads;
 use waff_assign::{Case, assign};
 use waff_figures::{Figures, QualityFields, list_figures_for};
 use waff_inputs::{ToolError, deliver, read_numbered};
@@ -24,7 +25,7 @@ use waff_list::Rule;
 use waff_model::{Kind, Layout, Trace};
 use waff_plan::Planned;
 use waff_plan::unlimited::plan;
-use waff_read::read_trace;
+use waff_read::read_trace_by_threads;
 
 /// Hierarchies that are ranked.
 pub const MAX_RANKED: usize = 64;
@@ -43,7 +44,8 @@ pub struct Ranked {
 
 /// Writes what the trace comes to under each of these hierarchies, for this number of workers by
 /// this rule. Nothing is written before the whole text is made.
-pub fn rank_text<W: Write>(
+pub fn rank_text<R: Threads + Sync, W: Write>(
+    rt: &R,
     alloc: Global,
     hierarchies: &[Vec<u8>],
     trace: &[u8],
@@ -60,11 +62,12 @@ pub fn rank_text<W: Write>(
 {
     deliver(
         writer,
-        made_rank_text(alloc, hierarchies, trace, workers, rule),
+        made_rank_text(rt, alloc, hierarchies, trace, workers, rule),
     )
 }
 
-fn made_rank_text(
+fn made_rank_text<R: Threads + Sync>(
+    rt: &R,
     alloc: Global,
     hierarchies: &[Vec<u8>],
     trace: &[u8],
@@ -78,7 +81,7 @@ fn made_rank_text(
         (RefusesRank (map (λ file. file.items) hierarchies.now) trace.now) result }
 {
     let layouts = read_hierarchies(alloc, hierarchies)?;
-    let text = text_under_all(alloc, layouts.as_slice(), trace, workers, rule);
+    let text = text_under_all(rt, alloc, layouts.as_slice(), trace, workers, rule);
     drop(layouts);
     text
 }
@@ -110,7 +113,8 @@ fn keep(layouts: &mut Vec<Layout>, layout: Layout) -> Result<(), AllocError>
 }
 
 /// The text of the trace under these hierarchies.
-fn text_under_all(
+fn text_under_all<R: Threads + Sync>(
+    rt: &R,
     alloc: Global,
     layouts: &[Layout],
     trace: &[u8],
@@ -124,14 +128,15 @@ fn text_under_all(
         → RefusesRank files trace.now e) }
     ensures nothing { IfErr result (λ e. e ≢ ToolError.Write) }
 {
-    let ranks = rank_all(alloc, layouts, trace, k, rule)?;
+    let ranks = rank_all(rt, alloc, layouts, trace, k, rule)?;
     let text = ranks_text(alloc, ranks.as_slice());
     drop(ranks);
     text.map_err(ToolError::from)
 }
 
 /// What is told of the trace under each of these hierarchies.
-fn rank_all(
+fn rank_all<R: Threads + Sync>(
+    rt: &R,
     alloc: Global,
     layouts: &[Layout],
     trace: &[u8],
@@ -147,7 +152,7 @@ fn rank_all(
 {
     let mut ranks = Vec::with_capacity(alloc, layouts.len())?;
     for layout in layouts {
-        let ranked = rank(alloc, layout, trace, k, rule)?;
+        let ranked = rank(rt, alloc, layout, trace, k, rule)?;
         keep_rank(&mut ranks, ranked)?;
     }
     Ok(ranks)
@@ -162,7 +167,8 @@ fn keep_rank(ranks: &mut Vec<Ranked>, ranked: Ranked) -> Result<(), AllocError>
 }
 
 /// What is told of the trace under a hierarchy.
-fn rank(
+fn rank<R: Threads + Sync>(
+    rt: &R,
     alloc: Global,
     layout: &Layout,
     trace: &[u8],
@@ -176,7 +182,7 @@ fn rank(
         → Refuses file trace.now e) }
     ensures nothing { IfErr result (λ e. e ≢ ToolError.Write) }
 {
-    match read_trace(alloc, layout, trace) {
+    match read_trace_by_threads(rt, alloc, layout, trace) {
         Ok(trace) => {
             let ranked = rank_assigned(alloc, layout, &trace, k, rule);
             drop(trace);

@@ -61,7 +61,7 @@ fn made_rating<R: Threads + Sync>(
         rating.verdict (string_bytes rating.text))
         (RefusesCheck hierarchy.now trace.now plan.now) result }
 {
-    let accepted = accept(alloc, hierarchy, trace)?;
+    let accepted = accept(rt, alloc, hierarchy, trace)?;
     let rating = rating_on(rt, alloc, &accepted, plan);
     drop(accepted);
     rating

@@ -61,7 +61,7 @@ fn made_replay_text<R: Threads + Wait + Sync>(
     ensures { Makes (λ text. IsReplayText hierarchy.now trace.now (string_bytes text))
         (Refuses hierarchy.now trace.now) result }
 {
-    let accepted = accept(alloc, hierarchy, trace)?;
+    let accepted = accept(rt, alloc, hierarchy, trace)?;
     match printed_spaces(alloc, &accepted.layout) {
         Ok(printed) => {
             let text = replayed_text(rt, alloc, accepted, &printed, workers);

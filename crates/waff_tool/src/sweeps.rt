@@ -8,6 +8,7 @@ ghost use Rattle.waff_tool.specs.Figures.{IsSweepText, SweepTextIsOne};
 
 use std::alloc::{AllocError, Global};
 use std::io::Write;
+use std::thread::Threads;
 use waff_figures::{figures_of, figures_text, list_figures};
 use waff_inputs::{Accepted, ToolError, accept, deliver};
 use waff_list::Rule;
@@ -17,7 +18,8 @@ use waff_plan::unlimited::plan;
 /// Writes how long the trace takes under the hierarchy for each of these numbers of workers and with
 /// no limit on them, in the plans by this rule, how busy the workers are, and how long the messages
 /// wait. Nothing is written before the whole text is made.
-pub fn sweep_text<W: Write>(
+pub fn sweep_text<R: Threads + Sync, W: Write>(
+    rt: &R,
     alloc: Global,
     hierarchy: &[u8],
     trace: &[u8],
@@ -31,11 +33,12 @@ pub fn sweep_text<W: Write>(
 {
     deliver(
         writer,
-        made_sweep_text(alloc, hierarchy, trace, workers, rule),
+        made_sweep_text(rt, alloc, hierarchy, trace, workers, rule),
     )
 }
 
-fn made_sweep_text(
+fn made_sweep_text<R: Threads + Sync>(
+    rt: &R,
     alloc: Global,
     hierarchy: &[u8],
     trace: &[u8],
@@ -47,7 +50,7 @@ fn made_sweep_text(
         IsSweepText rule hierarchy.now trace.now workers.now (string_bytes text))
         (Refuses hierarchy.now trace.now) result }
 {
-    let accepted = accept(alloc, hierarchy, trace)?;
+    let accepted = accept(rt, alloc, hierarchy, trace)?;
     let text = swept_text(alloc, &accepted, workers, rule).map_err(ToolError::from);
     drop(accepted);
     text

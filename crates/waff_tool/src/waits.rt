@@ -8,6 +8,7 @@ ghost use Rattle.waff_tool.specs.WaitsText.{IsWaitsText, WaitsTextIsOne};
 
 use std::alloc::{AllocError, Global};
 use std::io::Write;
+use std::thread::Threads;
 use waff_figures::wait_laws::ticks_add_up;
 use waff_figures::waiting_text;
 use waff_inputs::{Accepted, ToolError, accept, deliver};
@@ -22,7 +23,8 @@ use waff_plan::unlimited::plan;
 /// affinities, or for each pair of names and affinities, how many messages of the one wait for
 /// messages of the other or for a worker, and how long. Nothing is written before the whole text is
 /// made.
-pub fn waits_text<W: Write>(
+pub fn waits_text<R: Threads + Sync, W: Write>(
+    rt: &R,
     alloc: Global,
     hierarchy: &[u8],
     trace: &[u8],
@@ -37,11 +39,12 @@ pub fn waits_text<W: Write>(
 {
     deliver(
         writer,
-        made_waits_text(alloc, hierarchy, trace, workers, rule, by_name),
+        made_waits_text(rt, alloc, hierarchy, trace, workers, rule, by_name),
     )
 }
 
-fn made_waits_text(
+fn made_waits_text<R: Threads + Sync>(
+    rt: &R,
     alloc: Global,
     hierarchy: &[u8],
     trace: &[u8],
@@ -54,7 +57,7 @@ fn made_waits_text(
         (λ text. IsWaitsText rule hierarchy.now trace.now workers by_name (string_bytes text))
         (Refuses hierarchy.now trace.now) result }
 {
-    let accepted = accept(alloc, hierarchy, trace)?;
+    let accepted = accept(rt, alloc, hierarchy, trace)?;
     let text = waited_text(alloc, &accepted, workers, rule, by_name).map_err(ToolError::from);
     drop(accepted);
     text

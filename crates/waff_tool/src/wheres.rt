@@ -9,6 +9,7 @@ ghost use Rattle.waff_tool.specs.Figures.{WhereTextIsOne};
 use crate::certificates::certified_plan;
 use std::alloc::{AllocError, Global};
 use std::io::Write;
+use std::thread::Threads;
 use waff_figures::laws::{chain_adds_up, costs_add_up, names_add_up};
 use waff_figures::{affinities_text, names_text};
 use waff_inputs::{Accepted, ToolError, accept, deliver};
@@ -17,7 +18,8 @@ use waff_plan::Planned;
 /// Writes where the time of the trace goes under the hierarchy: for each affinity, or for each name
 /// of messages, how many messages there are and what they cost, and how much of that is on the
 /// chain of the unlimited plan. Nothing is written before the whole text is made.
-pub fn where_text<W: Write>(
+pub fn where_text<R: Threads + Sync, W: Write>(
+    rt: &R,
     alloc: Global,
     hierarchy: &[u8],
     trace: &[u8],
@@ -27,10 +29,14 @@ pub fn where_text<W: Write>(
     ensures { Delivers (λ _ text. IsWhereText hierarchy.now trace.now by_name text)
         (Refuses hierarchy.now trace.now) (W.contents writer.old) (W.contents writer.new) result }
 {
-    deliver(writer, made_where_text(alloc, hierarchy, trace, by_name))
+    deliver(
+        writer,
+        made_where_text(rt, alloc, hierarchy, trace, by_name),
+    )
 }
 
-fn made_where_text(
+fn made_where_text<R: Threads + Sync>(
+    rt: &R,
     alloc: Global,
     hierarchy: &[u8],
     trace: &[u8],
@@ -39,7 +45,7 @@ fn made_where_text(
     ensures { Makes (λ text. IsWhereText hierarchy.now trace.now by_name (string_bytes text))
         (Refuses hierarchy.now trace.now) result }
 {
-    let accepted = accept(alloc, hierarchy, trace)?;
+    let accepted = accept(rt, alloc, hierarchy, trace)?;
     let text = spent_text(alloc, &accepted, by_name).map_err(ToolError::from);
     drop(accepted);
     text

@@ -70,13 +70,14 @@ fn write_text<R: Threads + Wait + Sync>(
 ) -> Result<(), ToolError> {
     let (hierarchy, trace) = (H1.as_bytes(), X1.as_bytes());
     match call {
-        Call::Assign => assign_text(alloc, hierarchy, trace, writer),
-        Call::Plan => plan_text(alloc, hierarchy, trace, None, writer),
-        Call::PlanForTwo => plan_text(alloc, hierarchy, trace, Some(2), writer),
-        Call::Compare => compare_text(alloc, C1.as_bytes(), hierarchy, trace, 2, writer),
+        Call::Assign => assign_text(rt, alloc, hierarchy, trace, writer),
+        Call::Plan => plan_text(rt, alloc, hierarchy, trace, None, writer),
+        Call::PlanForTwo => plan_text(rt, alloc, hierarchy, trace, Some(2), writer),
+        Call::Compare => compare_text(rt, alloc, C1.as_bytes(), hierarchy, trace, 2, writer),
         Call::Replay => replay_text(rt, alloc, hierarchy, trace, 2, writer),
         Call::Sweep => {
             sweep_text(
+                rt,
                 alloc,
                 hierarchy,
                 trace,
@@ -85,8 +86,8 @@ fn write_text<R: Threads + Wait + Sync>(
                 writer,
             )
         }
-        Call::Affinities => where_text(alloc, hierarchy, trace, false, writer),
-        Call::Names => where_text(alloc, hierarchy, trace, true, writer),
+        Call::Affinities => where_text(rt, alloc, hierarchy, trace, false, writer),
+        Call::Names => where_text(rt, alloc, hierarchy, trace, true, writer),
         _ => write_of_plan(rt, alloc, call, writer),
     }
 }
@@ -107,10 +108,19 @@ fn write_of_plan<R: Threads + Sync>(
     let (hierarchy, trace, plan) = (H1.as_bytes(), X1.as_bytes(), PLAN_H1_X1.as_bytes());
     let (none, empty) = (NONE.as_bytes(), PLAN_H1_HEADER_ALONE.as_bytes());
     match call {
-        Call::Picture => draw_text(alloc, hierarchy, none, empty, Picture::Svg, WHOLE, writer),
+        Call::Picture => draw_text(
+            rt,
+            alloc,
+            hierarchy,
+            none,
+            empty,
+            Picture::Svg,
+            WHOLE,
+            writer,
+        ),
         Call::Events => {
             let picture = Picture::TraceEvents;
-            draw_text(alloc, hierarchy, none, empty, picture, WHOLE, writer)
+            draw_text(rt, alloc, hierarchy, none, empty, picture, WHOLE, writer)
         }
         Call::Explain => {
             explain_text(rt, alloc, hierarchy, Some(trace), Some(plan), writer)?;

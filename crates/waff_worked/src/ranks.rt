@@ -3,6 +3,7 @@
 use crate::same::are_same;
 use std::alloc::Global;
 use std::process::Abort;
+use std::thread::Threads;
 use waff_list::Rule;
 use waff_read::{HierError, TraceError};
 use waff_samples::{C1, H1, X1};
@@ -32,8 +33,8 @@ fn file(rt: &impl Abort, alloc: Global, text: &str) -> Vec<u8> {
 }
 
 /// What is answered for two trees and two workers by this rule, and what is written.
-fn ranked(
-    rt: &impl Abort,
+fn ranked<R: Threads + Sync + Abort>(
+    rt: &R,
     alloc: Global,
     trees: [&str; 2],
     trace: &str,
@@ -41,7 +42,8 @@ fn ranked(
 ) -> (Result<(), ToolError>, Vec<u8>) {
     let hierarchies = [file(rt, alloc, trees[0]), file(rt, alloc, trees[1])];
     let mut written = Vec::new(alloc);
-    let answered = rank_text(alloc, &hierarchies, trace.as_bytes(), 2, rule, &mut written);
+    let trace = trace.as_bytes();
+    let answered = rank_text(rt, alloc, &hierarchies, trace, 2, rule, &mut written);
     (answered, written)
 }
 

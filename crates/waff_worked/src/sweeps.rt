@@ -6,6 +6,7 @@ ghost use Rattle.waff_plan.specs.Bound.{IsWorkers};
 use crate::same::are_same;
 use std::alloc::Global;
 use std::process::Abort;
+use std::thread::Threads;
 use waff_list::Rule;
 use waff_samples::{H1, X1, X2};
 use waff_tool::{sweep_text, sweep_workers, where_text};
@@ -94,17 +95,30 @@ pub const WHERE_H1_X1_NAMES: &str = "name,messages,cost,chain\n\
     m6,1,2,2\n";
 
 /// The sweep of the trace by this rule has to be this.
-fn is_swept_by(rt: &impl Abort, alloc: Global, trace: &str, rule: Rule, workers: &[u32], text: &str)
+fn is_swept_by<R: Threads + Sync + Abort>(
+    rt: &R,
+    alloc: Global,
+    trace: &str,
+    rule: Rule,
+    workers: &[u32],
+    text: &str,
+)
     requires { All IsWorkers workers.now }
 {
     let mut written = Vec::new(alloc);
     let (hierarchy, trace) = (H1.as_bytes(), trace.as_bytes());
-    sweep_text(alloc, hierarchy, trace, workers, rule, &mut written).expect(rt, "a text");
+    sweep_text(rt, alloc, hierarchy, trace, workers, rule, &mut written).expect(rt, "a text");
     are_same(rt, written.as_slice(), text.as_bytes());
 }
 
 /// The sweep of the trace by arrival has to be this.
-fn is_swept(rt: &impl Abort, alloc: Global, trace: &str, workers: &[u32], text: &str)
+fn is_swept<R: Threads + Sync + Abort>(
+    rt: &R,
+    alloc: Global,
+    trace: &str,
+    workers: &[u32],
+    text: &str,
+)
     requires { All IsWorkers workers.now }
 {
     is_swept_by(rt, alloc, trace, Rule::Arrival, workers, text);
@@ -135,7 +149,7 @@ fn of_places(rt: HostRuntime) {
     let (hierarchy, trace) = (H1.as_bytes(), X1.as_bytes());
     for (by_name, text) in [(false, WHERE_H1_X1), (true, WHERE_H1_X1_NAMES)] {
         let mut written = Vec::new(rt.alloc());
-        where_text(rt.alloc(), hierarchy, trace, by_name, &mut written).expect(&rt, "a text");
+        where_text(&rt, rt.alloc(), hierarchy, trace, by_name, &mut written).expect(&rt, "a text");
         are_same(&rt, written.as_slice(), text.as_bytes());
     }
 }

@@ -6,6 +6,7 @@ ghost use Rattle.waff_plan.specs.Bound.{IsWorkers};
 use crate::same::are_same;
 use std::alloc::Global;
 use std::process::Abort;
+use std::thread::Threads;
 use waff_list::Rule;
 use waff_samples::{H1, X1, X2};
 use waff_tool::waits_text;
@@ -88,8 +89,8 @@ const WAITS_SHARED: &str = "affinity,for,messages,ticks,longest\n\
     A0,VolA,1,6,6\n";
 
 /// The text of who waits for whom, by arrival, has to be this.
-fn is_waited(
-    rt: &impl Abort,
+fn is_waited<R: Threads + Sync + Abort>(
+    rt: &R,
     alloc: Global,
     files: (&str, &str),
     workers: Option<u32>,
@@ -102,8 +103,8 @@ fn is_waited(
 }
 
 /// The text of who waits for whom, by this rule, has to be this.
-fn is_waited_by(
-    rt: &impl Abort,
+fn is_waited_by<R: Threads + Sync + Abort>(
+    rt: &R,
     alloc: Global,
     files: (&str, &str),
     workers: Option<u32>,
@@ -116,6 +117,7 @@ fn is_waited_by(
     let (hierarchy, trace) = files;
     let mut written = Vec::new(alloc);
     waits_text(
+        rt,
         alloc,
         hierarchy.as_bytes(),
         trace.as_bytes(),

@@ -7,6 +7,7 @@ use crate::words::push_numbers;
 use std::alloc::{AllocError, Global};
 use std::fmt::Write;
 use std::process::Abort;
+use std::thread::Threads;
 use waff_assign::assign;
 use waff_list::{Rule, WorkerPlan, list_chain, list_plan_by};
 use waff_model::limits::MAX_TICK;
@@ -18,22 +19,35 @@ use waff_samples::{H1, PLAN_H1_X1, PLAN_H1_X1_WORKERS2, X1, X2};
 use waff_tool::{plan_text, plan_text_by};
 
 /// The text of the plan for k workers by this rule has to be this.
-fn has_text(rt: &impl Abort, alloc: Global, trace: &str, rule: Rule, k: u32, text: &str)
+fn has_text<R: Threads + Sync + Abort>(
+    rt: &R,
+    alloc: Global,
+    trace: &str,
+    rule: Rule,
+    k: u32,
+    text: &str,
+)
     requires { IsWorkers k }
 {
     let (hierarchy, trace) = (H1.as_bytes(), trace.as_bytes());
     let mut written = Vec::new(alloc);
-    plan_text_by(alloc, hierarchy, trace, Some(k), rule, &mut written).expect(rt, "a text");
+    plan_text_by(rt, alloc, hierarchy, trace, Some(k), rule, &mut written).expect(rt, "a text");
     are_same(rt, written.as_slice(), text.as_bytes());
 }
 
 /// The text of the plan for k workers by arrival has to be this, where no rule is named.
-fn has_text_without_rule(rt: &impl Abort, alloc: Global, trace: &str, k: u32, text: &str)
+fn has_text_without_rule<R: Threads + Sync + Abort>(
+    rt: &R,
+    alloc: Global,
+    trace: &str,
+    k: u32,
+    text: &str,
+)
     requires { IsWorkers k }
 {
     let (hierarchy, trace) = (H1.as_bytes(), trace.as_bytes());
     let mut written = Vec::new(alloc);
-    plan_text(alloc, hierarchy, trace, Some(k), &mut written).expect(rt, "a text");
+    plan_text(rt, alloc, hierarchy, trace, Some(k), &mut written).expect(rt, "a text");
     are_same(rt, written.as_slice(), text.as_bytes());
 }
 
@@ -236,7 +250,7 @@ fn change_by_no_rule_without_workers(rt: HostRuntime) {
     for rule in [Rule::Arrival, Rule::Longest] {
         let mut written = Vec::new(rt.alloc());
         let out = &mut written;
-        plan_text_by(rt.alloc(), hierarchy, trace, None, rule, out).expect(&rt, "a text");
+        plan_text_by(&rt, rt.alloc(), hierarchy, trace, None, rule, out).expect(&rt, "a text");
         are_same(&rt, written.as_slice(), PLAN_H1_X1.as_bytes());
     }
 }

@@ -6,7 +6,7 @@ use Rattle.waff_tool.specs.Comparison.{IsCompareText, RefusesComparison}
 use Rattle.waff_tool.proofs.comparison.made_compare_text.Goals as goal
 
 pub returns : goal.returns
-returns c =
+returns g c =
     let first = c.args.first.now in
     let second = c.args.second.now in
     let trace = c.args.trace.now in

@@ -5,7 +5,7 @@ use Rattle.waff_tool.specs.Comparison.{AreHierarchies, IsCompareText}
 use Rattle.waff_tool.proofs.comparison.text_with_second.Goals as goal
 
 pub returns-clause-made : goal.returns-clause-made
-returns-clause-made c =
+returns-clause-made g c =
     let first = c.args.first.now in
     let second = c.args.second.now in
     let trace = c.args.trace.now in

@@ -16,10 +16,10 @@ beside files layouts i layout are inside is =
     (there, zip_at (λ file l. hierarchy_of file ≡ Ok l) files layouts i [] layout are there ∙ ap (λ l. Ok l) (sym is))
 
 pub loop-layout-init : goal.loop-layout-init
-loop-layout-init c = λ files are. subst (AllZip (IsRanked c.args.rule c.args.trace.now c.args.k) []) (sym c.in_ok-ranks.ensures.items) tt
+loop-layout-init g c = λ files are. subst (AllZip (IsRanked c.args.rule c.args.trace.now c.args.k) []) (sym c.in_ok-ranks.ensures.items) tt
 
 pub returns-in_err-ranked-clause-refused : goal.returns-in_err-ranked-clause-refused
-returns-in_err-ranked-clause-refused c =
+returns-in_err-ranked-clause-refused g c =
     let p = err_from_is_err_and c.from_residual-in_err-ranked.result c.from_residual-in_err-ranked.ensures.1 in
     let trace = c.args.trace.now in
     let i = c.loop-layout.layout-index in
@@ -30,7 +30,7 @@ returns-in_err-ranked-clause-refused c =
     (c.in_err-ranked.ensures.refused (file_at files i) at.1))
 
 pub loop-layout-preserved : goal.loop-layout-preserved
-loop-layout-preserved c =
+loop-layout-preserved g c =
     let trace = c.args.trace.now in
     let i = c.loop-layout.layout-index in
     let ranks = c.loop-layout.ranks.items in
@@ -41,7 +41,7 @@ loop-layout-preserved c =
     (c.in_ok-ranked.ensures.made (file_at files i) at.1)))
 
 pub returns-clause-made : goal.returns-clause-made
-returns-clause-made c =
+returns-clause-made g c =
     let i = c.loop-layout.layout-index in
     λ files are. let over : length files ≤ i = subst (λ n. n ≤ i) (sym (zip_length (λ file l. hierarchy_of file ≡ Ok l) files c.args.layouts.now are)) c.loop-layout-test.false in
     subst (λ front. AllZip (IsRanked c.args.rule c.args.trace.now c.args.k) front c.loop-layout.ranks.items) (take_all i files over) (c.loop-layout.invariant files are)

@@ -4,5 +4,5 @@ use Rattle.waff_tool.specs.Ranks.{AreRead, IsRanked}
 use Rattle.waff_tool.proofs.ranks.rank_all.Given as goal
 
 abbrev pub invariant-loop-layout : goal.invariant-loop-layout
-invariant-loop-layout l =
+invariant-loop-layout g l =
     (files : List (List ℕ)) → AreRead files l.layouts → AllZip (IsRanked l.rule l.trace l.k) (take l.layout-index files) l.ranks.items
