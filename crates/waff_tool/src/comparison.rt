@@ -1,20 +1,22 @@
 //! The command that compares two hierarchies on one trace.
-ghost use Rattle.std.specs.Prelude.{◌≡◌, ◌≢◌, Ok, ℕ, List, IfOk, IfErr};
-ghost use Rattle.std.specs.Prelude.{string_bytes};
+ghost use Rattle.std.specs.Prelude.{◌≡◌, ◌≢◌, ◌<◌, Ok, ℕ, All, List, IfOk, IfErr};
+ghost use Rattle.std.specs.Prelude.{length, string_bytes};
 ghost use Rattle.waff_model.specs.Layout.{SameSpaces};
 ghost use Rattle.waff_model.specs.Messages.{sizes_of};
 ghost use Rattle.waff_assign.specs.Lowest.{IsAssignment};
 ghost use Rattle.waff_plan.specs.Bound.{IsWorkers};
+ghost use Rattle.waff_plan.specs.Timetable.{work_of_messages};
 ghost use Rattle.waff_read.specs.Hierarchies.{hierarchy_of};
 ghost use Rattle.waff_tool.specs.Comparison.{AreHierarchies, AreModels, IsCompared, IsCompareText};
-ghost use Rattle.waff_tool.specs.Comparison.{RefusesComparison};
+ghost use Rattle.waff_tool.specs.Comparison.{IsMeasured, RefusesComparison};
 ghost use Rattle.waff_inputs.specs.Deliveries.{Delivers, Makes};
 
-use crate::measures::{comparison_text, measure};
+use crate::measures::{Measured, comparison_text, measure};
 use std::alloc::{AllocError, Global};
 use std::io::Write;
+use std::thread;
 use std::thread::Threads;
-use waff_assign::{Case, assign};
+use waff_assign::{Assigned, Case, assign};
 use waff_inputs::{ToolError, deliver, read_numbered};
 use waff_model::{Kind, Layout, Trace};
 use waff_order::refines;
@@ -135,13 +137,14 @@ fn models_text<R: Threads + Sync>(
     ensures nothing { IfErr result (λ e. e ≢ ToolError.Write) }
 {
     let trace = read_trace_by_threads(rt, alloc, classical, trace)?;
-    let text = compared_text(alloc, classical, hierarchical, &trace, k);
+    let text = compared_text(rt, alloc, classical, hierarchical, &trace, k);
     drop(trace);
     text.map_err(ToolError::from)
 }
 
 /// The text that compares the models on the trace for k workers.
-fn compared_text(
+fn compared_text<R: Threads + Sync>(
+    rt: &R,
     alloc: Global,
     classical: &Layout,
     hierarchical: &Layout,
@@ -154,8 +157,7 @@ fn compared_text(
     ensures { IfOk result (λ text.
         IsCompared classical.now hierarchical.now trace.now k (string_bytes text)) }
 {
-    let coarse = assign(alloc, classical, trace)?;
-    let fine = assign(alloc, hierarchical, trace)?;
+    let (coarse, fine) = assign_both(rt, alloc, classical, hierarchical, trace)?;
     let under_classical = Case {
         tree: classical.tree(),
         assigned: &coarse,
@@ -167,6 +169,7 @@ fn compared_text(
         trace,
     };
     let text = cases_text(
+        rt,
         alloc,
         classical,
         hierarchical,
@@ -179,8 +182,32 @@ fn compared_text(
     text
 }
 
+/// The affinity of each message of the trace under each of two hierarchies, in two threads.
+fn assign_both<R: Threads + Sync>(
+    rt: &R,
+    alloc: Global,
+    classical: &Layout,
+    hierarchical: &Layout,
+    trace: &Trace,
+) -> Result<(Assigned, Assigned), AllocError>
+    requires fits { trace.now.sizes ≡ sizes_of classical.now.spaces }
+    requires same_spaces { SameSpaces classical.now.spaces hierarchical.now.spaces }
+    ensures coarse { IfOk result (λ both. IsAssignment classical.now trace.now.messages both.0) }
+    ensures fine { IfOk result (λ both. IsAssignment hierarchical.now trace.now.messages both.1) }
+    ensures known { IfOk result (λ both. All (λ a. a < length classical.now.tree) both.0) }
+    ensures fine_known { IfOk result (λ both. All (λ a. a < length hierarchical.now.tree) both.1) }
+{
+    let (coarse, fine) = thread::join(
+        rt,
+        || assign(alloc, classical, trace),
+        || assign(alloc, hierarchical, trace),
+    );
+    Ok((coarse?, fine?))
+}
+
 /// The text that compares the models for k workers, each with its case of the same trace.
-fn cases_text(
+fn cases_text<R: Threads + Sync>(
+    rt: &R,
     alloc: Global,
     classical: &Layout,
     hierarchical: &Layout,
@@ -197,10 +224,49 @@ fn cases_text(
         → IsAssignment hierarchical.now coarse.now.trace.now.messages fine.now.assigned.now
         → IsCompared classical.now hierarchical.now coarse.now.trace.now k (string_bytes text)) }
 {
-    let of_classical = measure(alloc, classical, coarse, k)?;
-    let of_hierarchical = measure(alloc, hierarchical, fine, k)?;
+    let (of_classical, of_hierarchical) = measure_both(
+        rt,
+        alloc,
+        classical,
+        hierarchical,
+        coarse,
+        fine,
+        k,
+    )?;
     refined_is_no_longer();
     let refined = refines(fine.tree, fine.assigned, coarse.tree, coarse.assigned);
     let version = coarse.trace.version();
     comparison_text(alloc, version, k, &of_classical, &of_hierarchical, refined)
+}
+
+/// What is told of the trace under each of two hierarchies, in two threads.
+fn measure_both<R: Threads + Sync>(
+    rt: &R,
+    alloc: Global,
+    classical: &Layout,
+    hierarchical: &Layout,
+    coarse: &Case<'_>,
+    fine: &Case<'_>,
+    k: u32,
+) -> Result<(Measured, Measured), AllocError>
+    requires tree { coarse.now.tree.now ≡ classical.now.tree }
+    requires fine_tree { fine.now.tree.now ≡ hierarchical.now.tree }
+    requires workers { IsWorkers k }
+    ensures classical { IfOk result (λ both. IsMeasured classical.now coarse.now.assigned.now
+        (work_of_messages coarse.now.trace.now.messages) k both.0) }
+    ensures hierarchical { IfOk result (λ both. IsMeasured hierarchical.now fine.now.assigned.now
+        (work_of_messages fine.now.trace.now.messages) k both.1) }
+{
+    let of_classical = || -> Result<Measured, AllocError>
+        requires { (coarse.now.tree.now ≡ classical.now.tree) × IsWorkers k }
+        ensures { IfOk result (IsMeasured classical.entry.now coarse.entry.now.assigned.now
+            (work_of_messages coarse.entry.now.trace.now.messages) k) }
+    { measure(alloc, classical, coarse, k) };
+    let of_hierarchical = || -> Result<Measured, AllocError>
+        requires { (fine.now.tree.now ≡ hierarchical.now.tree) × IsWorkers k }
+        ensures { IfOk result (IsMeasured hierarchical.entry.now fine.entry.now.assigned.now
+            (work_of_messages fine.entry.now.trace.now.messages) k) }
+    { measure(alloc, hierarchical, fine, k) };
+    let (of_classical, of_hierarchical) = thread::join(rt, of_classical, of_hierarchical);
+    Ok((of_classical?, of_hierarchical?))
 }

@@ -3,19 +3,19 @@ use Rattle.std.proofs.lemmas.Result.{IfOk-weaker}
 use Rattle.waff_tool.proofs.comparison.compared_text.Goals as goal
 
 pub invariant_of-under_classical : goal.invariant_of-under_classical
-invariant_of-under_classical c = record {
-  lengths = c.in_ok-coarse.ensures.count;
+invariant_of-under_classical g c = record {
+  lengths = c.in_ok-coarse.ensures.coarse.count;
   known = subst (λ tree. All (λ a. a < length tree) c.in_ok-coarse.coarse) (sym c.tree.ensures) c.in_ok-coarse.ensures.known;
 }
 
 pub invariant_of-under_hierarchical : goal.invariant_of-under_hierarchical
-invariant_of-under_hierarchical c = record {
-  lengths = c.in_ok-fine.ensures.count;
-  known = subst (λ tree. All (λ a. a < length tree) c.in_ok-fine.fine) (sym c.tree-2.ensures) c.in_ok-fine.ensures.known;
+invariant_of-under_hierarchical g c = record {
+  lengths = c.in_ok-coarse.ensures.fine.count;
+  known = subst (λ tree. All (λ a. a < length tree) c.in_ok-coarse.fine) (sym c.tree-2.ensures) c.in_ok-coarse.ensures.fine_known;
 }
 
 pub returns : goal.returns
-returns c =
+returns g c =
     IfOk-weaker c.cases_text-text.result _ _
-    (λ text compared. compared c.in_ok-coarse.ensures.assignment c.in_ok-fine.ensures.assignment)
+    (λ text compared. compared c.in_ok-coarse.ensures.coarse c.in_ok-coarse.ensures.fine)
     c.cases_text-text.ensures
