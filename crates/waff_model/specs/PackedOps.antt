@@ -4,8 +4,8 @@ use Rattle.waff_model.specs.declared.cell.Cell.{Cell}
 use Rattle.waff_model.specs.declared.op.Op.{Op}
 use Rattle.waff_model.specs.declared.op.Op.TheVariants as op
 use Rattle.waff_model.specs.declared.packed_op.PackedOp.{PackedOp}
-use Rattle.waff_model.specs.declared.packed_op.Verb.{Verb}
-use Rattle.waff_model.specs.declared.packed_op.Verb.TheVariants as verb
+use Rattle.waff_model.specs.declared.op.Verb.{Verb}
+use Rattle.waff_model.specs.declared.op.Verb.TheVariants as verb
 
 -- the spaces and the value of the operation are small
 abbrev pub IsSmall : Op → Type 0

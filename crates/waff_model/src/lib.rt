@@ -45,7 +45,7 @@ pub use layout::Layout;
 pub use layout_rows::{LayoutError, MapSpec, SpaceSpec};
 pub use message::{Message, Version};
 pub use name::{Text, is_name};
-pub use op::Op;
+pub use op::{Op, Verb};
 pub use ops::Ops;
 pub use preorder::Span;
 pub use texts::Texts;

@@ -16,3 +16,13 @@ pub enum Op {
     /// Nothing changes; the cell counts as used.
     Read { cell: Cell },
 }
+
+/// What an operation does.
+#[derive(Clone, Copy)]
+pub enum Verb {
+    Set,
+    Add,
+    Copy,
+    Swap,
+    Read,
+}

@@ -4,17 +4,7 @@ ghost use Rattle.std.specs.Prelude.{◌≡◌, ◌↔◌, ◌<◌, ◌^◌, IsTr
 ghost use Rattle.waff_model.specs.PackedOps.{IsSmall, cell_at, op_by, op_of};
 
 use crate::cell::Cell;
-use crate::op::Op;
-
-/// What an operation does.
-#[derive(Clone, Copy)]
-pub(crate) enum Verb {
-    Set,
-    Add,
-    Copy,
-    Swap,
-    Read,
-}
+use crate::op::{Op, Verb};
 
 /// An operation whose spaces are below 2^8 and its value below 2^32. The cell that every operation
 /// has stands at one place, so that it is found without a look at the verb.

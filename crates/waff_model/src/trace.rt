@@ -1,7 +1,7 @@
 //! Traces.
 
-ghost use Rattle.std.specs.Prelude.{◌≡◌, ◌+◌, ◌-◌, ◌<◌, ◌↔◌, [], ◌∷◌, ◌++◌, length, Some};
-ghost use Rattle.std.specs.Prelude.{IsTrue, IfOk, OnOk, OnErr, slice_get};
+ghost use Rattle.std.specs.Prelude.{◌≡◌, ◌+◌, ◌-◌, ◌<◌, ◌≤◌, ◌↔◌, [], ◌∷◌, ◌++◌, length, Some};
+ghost use Rattle.std.specs.Prelude.{All, IsTrue, IfOk, OnOk, OnErr, slice_get};
 ghost use Rattle.std.specs.Prelude.{◌==◌};
 ghost use Rattle.std.specs.List.{list_all, zip};
 ghost use Rattle.waff_model.specs.Messages.{sizes_of};
@@ -73,11 +73,35 @@ impl Trace {
         ensures { IfOk result (λ t.
             t ≡ record { version = version; sizes = sizes_of layout.now.spaces; messages = [] }) }
     {
-        Ok(Trace {
-            version,
-            sizes: sizes(alloc, layout.spaces())?,
-            messages: Vec::new(alloc),
-        })
+        Trace::of_messages(alloc, layout, version, Vec::new(alloc))
+    }
+
+    /// The trace of these messages, for cells of the layout.
+    pub fn of_messages(
+        alloc: Global,
+        layout: &Layout,
+        version: Version,
+        messages: Vec<Message>,
+    ) -> Result<Self, AllocError>
+        requires messages { All (IsMessage version (sizes_of layout.now.spaces)) messages.items }
+        requires few { length messages.items ≤ MAX_MESSAGES }
+        ensures { IfOk result (λ t. t ≡ record {
+          version = version;
+          sizes = sizes_of layout.now.spaces;
+          messages = messages.items;
+        }) }
+    {
+        match sizes(alloc, layout.spaces()) {
+            Ok(sizes) => Ok(Trace {
+                version,
+                sizes,
+                messages,
+            }),
+            Err(error) => {
+                drop(messages);
+                Err(error)
+            }
+        }
     }
 
     /// Whether the trace is one for cells of this layout: the sizes of the spaces are equal.

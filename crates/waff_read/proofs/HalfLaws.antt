@@ -1,7 +1,7 @@
 -- The messages of a text from those of its parts.
 use Rattle.std.proofs.Common.{◌≡◌, ℕ, suc, ◌+◌, ◌≤◌, List, [], ◌∷◌, ◌++◌, length, Bool, true, false, Option, Some, None, Result, Ok, Err, refl, sym, ap, ◌∙◌, arith}
 use Rattle.std.specs.Global.{Vec}
-use Rattle.std.specs.Prelude.{IfOk, IfSome, OnOk, if◌then◌else◌}
+use Rattle.std.specs.Prelude.{IfOk, IfSome, if◌then◌else◌}
 use Rattle.std.specs.Result.{result_ok}
 use Rattle.std.proofs.lemmas.Bool.{le-ltb}
 use Rattle.std.proofs.lemmas.List.{length-append}
@@ -26,7 +26,7 @@ use Rattle.waff_read.specs.TraceFaults.{at_record}
 use Rattle.waff_read.specs.declared.trace_fault.TraceFault.{TraceFault}
 use Rattle.waff_read.specs.declared.trace_fault.TraceFault.TheVariants as fault
 use Rattle.waff_read.specs.declared.trace_fault.TraceError.{TraceError}
-use Rattle.waff_read.proofs.TraceLaws.{is-ok}
+use Rattle.waff_read.proofs.TraceLaws.{is-ok, messages-few}
 
 -- what is known of an answer is known of its value
 pub some-has : {A : Type 0} (P : A → Type 0) (o : Option A) (x : A) → o ≡ Some x → IfSome o P → P x
@@ -37,10 +37,6 @@ ok-has P (Ok y) x is h =
     let same : x ≡ y = cc in
     rw same h
 ok-has P (Err e) x is h = absurd (cc is)
-
-pub on-ok : {A E : Type 0} (P : Type 0) (r : Result A E) (x : A) → Some x ≡ result_ok r → OnOk r P → P
-on-ok P (Ok y) x is h = h
-on-ok P (Err e) x is h = absurd (cc is)
 
 pub read-is : {F X : Type 0} (r : Result X (Stop F)) (x : X) (read : Result X F) → Some x ≡ result_ok r → Gives (λ y. y) r read → read ≡ Ok x
 read-is (Ok y) x read is h =
@@ -172,9 +168,9 @@ messages-append version spaces at xs ys ms ns h k few =
     ∙ ap (with_front ms) moved
 
 -- the trace of a text, and messages behind it, of which there are not too many
-pub trace-append : (spaces : List Space) (xs ys : List Record) (trace : Arrivals) (ns : List Message)
+trace-append : (spaces : List Space) (xs ys : List Record) (trace : Arrivals) (ns : List Message)
     → trace_of_records spaces xs ≡ Ok trace → messages_at trace.version spaces 2 ys ≡ Ok ns → length trace.messages + length ns ≤ MAX_MESSAGES
-    → trace_of_records spaces (xs ++ ys) ≡ Ok (record trace { messages = trace.messages ++ ns })
+    → trace_of_records spaces (xs ++ ys) ≡ Ok (record { version = trace.version; sizes = sizes_of spaces; messages = trace.messages ++ ns })
 unfolding trace_of_records
 trace-append spaces [] ys trace ns h k few = absurd (cc h)
 trace-append spaces (header ∷ xs) ys trace ns h k few = by (header_of (header ∷ xs)) refl
@@ -184,17 +180,17 @@ trace-append spaces (header ∷ xs) ys trace ns h k few = by (header_of (header 
 
     read : (version : Version) (r : Result (List Message) TraceError) → messages_at version spaces 2 xs ≡ r
         → r >>= (λ ms. Ok (made version ms)) ≡ Ok trace
-        → messages_at version spaces 2 (xs ++ ys) >>= (λ ms. Ok (made version ms)) ≡ Ok (record trace { messages = trace.messages ++ ns })
+        → messages_at version spaces 2 (xs ++ ys) >>= (λ ms. Ok (made version ms)) ≡ Ok (made trace.version (trace.messages ++ ns))
     read version (Ok ms) p e =
         let is : made version ms ≡ trace = is-ok (made version ms) trace e in
         let v : version ≡ trace.version = ap (λ (t : Arrivals). t.version) is in
         let m : ms ≡ trace.messages = ap (λ (t : Arrivals). t.messages) is in
         let whole : messages_at version spaces 2 (xs ++ ys) ≡ Ok (ms ++ ns) = messages-append version spaces 2 xs ys ms ns p (rw v k) (rw m (omega (arith, few))) in
-        rw (whole, ← is) refl
+        rw (whole, ← v, ← m) refl
     read version (Err f) p e = absurd (cc e)
 
     by : (r : Result Version TraceError) → header_of (header ∷ xs) ≡ r
-        → header_of (header ∷ xs) >>= (λ version. messages_at version spaces 2 (xs ++ ys) >>= (λ ms. Ok (made version ms))) ≡ Ok (record trace { messages = trace.messages ++ ns })
+        → header_of (header ∷ xs) >>= (λ version. messages_at version spaces 2 (xs ++ ys) >>= (λ ms. Ok (made version ms))) ≡ Ok (made trace.version (trace.messages ++ ns))
     by (Ok version) p = rw p (read version (messages_at version spaces 2 xs) refl (rw p at h))
     by (Err e) p = absurd (cc (rw p at h))
 
@@ -216,10 +212,24 @@ spells-both version spaces text first second ms ns None parts h k both few = tt
 spells-both version spaces text first second ms ns (Some all) parts h k both few =
     spells-append version spaces text first second ms ns all.items parts h k both few
 
--- the trace of a text whose first line is read by itself
-pub trace-behind : (spaces : List Space) (text header rows : List ℕ) (trace : Arrivals) (ns : List Message)
-    → records_of text ≡ records_of header ++ records_of rows
-    → trace_of spaces header ≡ Ok trace → Spells trace.version spaces rows ns → length trace.messages + length ns ≤ MAX_MESSAGES
-    → trace_of spaces text ≡ Ok (record trace { messages = trace.messages ++ ns })
-trace-behind spaces text header rows trace ns parts h k few =
-    rw parts (trace-append spaces (records_of header) (records_of rows) trace ns h k few)
+-- a list of no length
+nothing : {A : Type 0} (xs : List A) → length xs ≡ 0 → xs ≡ []
+nothing [] h = refl
+nothing (x ∷ xs) h = absurd (omega (arith, h))
+
+-- the trace of a text whose header is read by itself
+pub trace-behind : (spaces : List Space) (text first rows : List ℕ) (header : Arrivals) (ns : List Message)
+    → records_of text ≡ records_of first ++ records_of rows
+    → trace_of spaces first ≡ Ok header → length header.messages ≡ 0 → Spells header.version spaces rows ns
+    → trace_of spaces text ≡ Ok (record { version = header.version; sizes = sizes_of spaces; messages = ns })
+trace-behind spaces text first rows header ns parts h none k =
+    let empty = nothing header.messages none in
+    let few = messages-few header.version spaces 2 (records_of rows) ns k (omega arith) in
+    rw parts (rw empty at (trace-append spaces (records_of first) (records_of rows) header ns h k (omega (arith, few, none))))
+
+-- the trace that is made of what was read
+pub made-long : (spaces : List Space) (text : List ℕ) (all : Arrivals) {E : Type 0} (r : Result Arrivals E) (o : Option Arrivals)
+    → o ≡ result_ok r → IfOk r (λ trace. trace ≡ all) → trace_of spaces text ≡ Ok all
+    → IfSome o (λ trace. trace_of spaces text ≡ Ok trace)
+made-long spaces text all (Ok trace) o is made read = rw (is, made) read
+made-long spaces text all (Err e) o is made read = rw is tt

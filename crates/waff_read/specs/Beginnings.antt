@@ -5,12 +5,11 @@ use Rattle.std.specs.Borrow.{Bor}
 use Rattle.std.specs.Str.{bytes_eq}
 use Rattle.waff_model.specs.Layout.{Space, size_at, space_named}
 use Rattle.waff_model.specs.Names.{is_name}
+use Rattle.waff_model.specs.PackedOps.{op_by}
 use Rattle.waff_model.specs.declared.cell.Cell.{Cell}
 use Rattle.waff_model.specs.declared.op.Op.{Op}
 use Rattle.waff_model.specs.declared.op.Op.TheVariants as op
 use Rattle.waff_read.specs.declared.parts.Parts.{Parts}
-use Rattle.waff_read.specs.declared.parts.Verb.{Verb}
-use Rattle.waff_read.specs.declared.parts.Verb.TheVariants as verb
 use Rattle.waff_parse.specs.Texts.{first_digits, first_number, number_of}
 
 -- one beginning, and then another in what stands behind it
@@ -96,15 +95,8 @@ first_op spaces text =
     (behind (codes "read ") text >>= of_cell spaces))))
 
 -- the operation that is made of parts
-abbrev pub op_of : Verb → Cell → ℕ → Cell → Op
-op_of verb.Set cell value other = op.Set cell value
-op_of verb.Add cell value other = op.Add cell value
-op_of verb.Copy cell value other = op.Copy cell other
-op_of verb.Swap cell value other = op.Swap cell other
-op_of verb.Read cell value other = op.Read cell
-
 abbrev pub made : Parts → Op
-made parts = op_of parts.verb parts.cell parts.value parts.other
+made parts = op_by parts.verb parts.cell parts.other parts.value
 
 -- what was found, with the text that was borrowed
 abbrev pub with_rest : {A : Type 0} → A × Bor (List ℕ) → A × List ℕ

@@ -1,11 +1,12 @@
 //! What a text begins with: a cell, an operation. What is read so has no fault.
 
 ghost use Rattle.std.specs.Prelude.{◌≡◌, option_map};
+ghost use Rattle.waff_model.specs.PackedOps.{op_by};
 ghost use Rattle.waff_read.specs.Beginnings as beginnings;
 
-use crate::parts::{Parts, Verb};
+use crate::parts::Parts;
 use crate::space_table::SpaceTable;
-use waff_model::Cell;
+use waff_model::{Cell, Verb};
 use waff_parse::first_number;
 
 /// What stands behind the first bytes of a text, where it begins with these.
@@ -39,7 +40,7 @@ fn first_cell<'t>(spaces: &SpaceTable<'_>, text: &'t [u8]) -> Option<(Cell, &'t 
 #[tactic(auto, unfolding(crate::specs::Beginnings::cell_and_number))]
 fn with_number<'t>(spaces: &SpaceTable<'_>, verb: Verb, text: &'t [u8]) -> Option<(Parts, &'t [u8])>
     ensures { option_map beginnings.made_with_rest result ≡ beginnings.with_number
-        (λ cell value. beginnings.op_of verb cell value cell) spaces.now text.now }
+        (λ cell value. op_by verb cell cell value) spaces.now text.now }
 {
     let (cell, rest) = first_cell(spaces, text)?;
     let (value, rest) = first_number(behind(rest, b" ")?)?;
@@ -52,7 +53,7 @@ fn with_number<'t>(spaces: &SpaceTable<'_>, verb: Verb, text: &'t [u8]) -> Optio
 #[tactic(auto, unfolding(crate::specs::Beginnings::two_cells))]
 fn with_other<'t>(spaces: &SpaceTable<'_>, verb: Verb, text: &'t [u8]) -> Option<(Parts, &'t [u8])>
     ensures { option_map beginnings.made_with_rest result ≡ beginnings.with_other
-        (λ cell other. beginnings.op_of verb cell 0 other) spaces.now text.now }
+        (λ cell other. op_by verb cell other 0) spaces.now text.now }
 {
     let (cell, rest) = first_cell(spaces, text)?;
     let (other, rest) = first_cell(spaces, behind(rest, b" ")?)?;

@@ -1,4 +1,5 @@
-//! Long traces, whose text is cut in parts that are read by a thread each.
+//! Long traces: the text is cut in parts, which a thread each reads. Where a part has a fault the
+//! whole is read again by one thread, which tells the first fault.
 
 ghost use Rattle.std.specs.Prelude.{◌≡◌, ◌≤◌, ◌++◌, Ok, length, IfOk, IfSome};
 ghost use Rattle.std.specs.Thread.{IsSync};
@@ -8,7 +9,7 @@ ghost use Rattle.waff_read.specs.Traces as traces;
 
 use crate::lines::cut_lines;
 use crate::space_table::SpaceTable;
-use crate::trace::{push_all, read_bytes, read_messages, read_trace};
+use crate::trace::{read_bytes, read_messages, read_trace};
 use crate::trace_fault::TraceError;
 use csv::StringRecord;
 use std::alloc::Global;
@@ -92,14 +93,14 @@ fn read_long<R: Threads + Sync>(
     ensures { IfSome result (λ trace. traces.trace_of layout.now.spaces text.now ≡ Ok trace) }
 {
     let spaces = SpaceTable::new(alloc, layout).ok()?;
-    let (header, rows) = cut_lines(text, 0)?;
-    let mut trace = read_bytes(alloc, &spaces, header).ok()?;
-    let messages = read_halves(rt, alloc, &spaces, trace.version(), rows, HALVINGS)?;
-    if MAX_MESSAGES < (trace.len() as usize).saturating_add(messages.len()) {
+    let (first, rows) = cut_lines(text, 0)?;
+    let header = read_bytes(alloc, &spaces, first).ok()?;
+    if header.len() > 0 {
         return None;
     }
-    push_all(&mut trace, messages).ok()?;
-    Some(trace)
+    let version = header.version();
+    let messages = read_halves(rt, alloc, &spaces, version, rows, HALVINGS)?;
+    Trace::of_messages(alloc, layout, version, messages).ok()
 }
 
 /// The trace that the bytes spell, as `read_trace` reads it, but read by several threads where the

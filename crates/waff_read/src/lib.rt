@@ -6,7 +6,8 @@
 //! - `trace`: the reader of traces, over `message` (one record), `ops` (the operations of a
 //!   message), `op` (one operation), `beginnings` (what a text without a fault begins with, and the
 //!   rest of it), `parts` (what an operation is made of) and `space_table` (the spaces by name);
-//!   `trace_fault` has what it refuses.
+//!   `trace_fault` has what it refuses. `halves`, over `lines` (a text cut between its records):
+//!   the same for long traces, by several threads.
 //! - `laws`: what holds of all files that are accepted or refused; `limit_laws`: that what is read
 //!   is within the limits.
 //!

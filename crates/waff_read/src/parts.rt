@@ -1,20 +1,11 @@
 //! The parts of an operation.
 
 ghost use Rattle.std.specs.Prelude.{◌≡◌, ◌++◌, ◌∷◌, [], OnOk};
+ghost use Rattle.waff_model.specs.PackedOps.{op_by};
 ghost use Rattle.waff_read.specs.Beginnings as beginnings;
 
 use std::alloc::AllocError;
-use waff_model::{Cell, Op, Ops};
-
-/// What an operation does.
-#[derive(Clone, Copy)]
-pub(crate) enum Verb {
-    Set,
-    Add,
-    Copy,
-    Swap,
-    Read,
-}
+use waff_model::{Cell, Op, Ops, Verb};
 
 /// What an operation is made of: a verb, a cell, and a number or another cell where the verb wants
 /// one. What it does not want is of no matter.
@@ -30,7 +21,7 @@ impl Parts {
     /// The parts of an operation with this verb, whatever it wants of the others.
     #[inline(always)]
     pub(crate) fn of(verb: Verb, cell: Cell, value: u64, other: Cell) -> Self
-        ensures { beginnings.made result ≡ beginnings.op_of verb cell value other }
+        ensures { beginnings.made result ≡ op_by verb cell other value }
     {
         Parts {
             verb,

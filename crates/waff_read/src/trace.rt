@@ -1,8 +1,7 @@
 //! The reader of traces.
 
-ghost use Rattle.std.specs.Prelude.{◌≡◌, ◌+◌, ◌≤◌, ◌++◌, Ok, Err, All, drop, length, IfOk, OnOk};
-ghost use Rattle.waff_model.specs.Messages.{sizes_of, IsMessage};
-ghost use Rattle.waff_model.specs.declared.limits.TheConstants.{MAX_MESSAGES};
+ghost use Rattle.std.specs.Prelude.{◌≡◌, ◌+◌, Ok, Err, drop, IfOk, OnOk};
+ghost use Rattle.waff_model.specs.Messages.{sizes_of};
 ghost use Rattle.waff_parse.specs.Rows.{Reads, records_left};
 ghost use Rattle.waff_parse.specs.Stopping.{Gives};
 ghost use Rattle.waff_read.specs.Traces as traces;
@@ -11,7 +10,7 @@ use crate::message::{read_message, read_version};
 use crate::space_table::SpaceTable;
 use crate::trace_fault::{TraceError, TraceFault};
 use csv::{Reader, StringRecord};
-use std::alloc::{AllocError, Global};
+use std::alloc::Global;
 use waff_model::{Layout, Message, Trace, Version};
 use waff_parse::{Stop, next_text, text_rows};
 
@@ -80,19 +79,6 @@ pub(crate) fn read_messages(
     Ok(messages)
 }
 
-/// Appends messages to a trace.
-pub(crate) fn push_all(trace: &mut Trace, messages: Vec<Message>) -> Result<(), AllocError>
-    requires messages { All (IsMessage trace.old.version trace.old.sizes) messages.items }
-    requires room { length trace.old.messages + length messages.items ≤ MAX_MESSAGES }
-    ensures { OnOk result (trace.new
-        ≡ record trace.old { messages = trace.old.messages ++ messages.items }) }
-{
-    for message in messages {
-        trace.push(message)?;
-    }
-    Ok(())
-}
-
 // The trace of the records that are left: a header, and then a message each.
 #[tactic(auto, unfolding(crate::specs::Traces::trace_of_records))]
 fn read_records(
@@ -106,9 +92,8 @@ fn read_records(
         trace) result (traces.trace_of_records spaces.now (records_left rdr.old)) }
 {
     let version = read_header(rdr, row)?;
-    let mut trace = Trace::with_version(alloc, spaces.layout(), version)?;
     let messages = read_messages(alloc, spaces, version, rdr, row)?;
-    push_all(&mut trace, messages)?;
+    let trace = Trace::of_messages(alloc, spaces.layout(), version, messages)?;
     Ok(trace)
 }
 

@@ -1,15 +1,14 @@
--- The messages that are read fit a trace of no message.
+-- The messages that are read are within the limits.
 use Rattle.std.proofs.Common.{arith}
 use Rattle.waff_parse.specs.Rows.{records_left}
 use Rattle.waff_read.proofs.TraceLaws.{messages-few, messages-fit}
 use Rattle.waff_read.proofs.trace.read_records.Goals as goal
 
-pub push_all-requires-clause-messages : goal.push_all-requires-clause-messages
-push_all-requires-clause-messages c =
-    rw (c.in_ok-trace.ensures, c.layout.ensures)
+pub of_messages-requires-clause-messages : goal.of_messages-requires-clause-messages
+of_messages-requires-clause-messages c =
+    rw c.layout.ensures
     (messages-fit c.in_ok-version.version c.args.spaces.now 2 (records_left c.read_header.new.rdr) c.in_ok-messages.messages.items c.in_ok-messages.ensures)
 
-pub push_all-requires-clause-room : goal.push_all-requires-clause-room
-push_all-requires-clause-room c =
-    let few = messages-few c.in_ok-version.version c.args.spaces.now 2 (records_left c.read_header.new.rdr) c.in_ok-messages.messages.items c.in_ok-messages.ensures (omega arith) in
-    rw c.in_ok-trace.ensures (omega (arith, few))
+pub of_messages-requires-clause-few : goal.of_messages-requires-clause-few
+of_messages-requires-clause-few c =
+    omega (arith, messages-few c.in_ok-version.version c.args.spaces.now 2 (records_left c.read_header.new.rdr) c.in_ok-messages.messages.items c.in_ok-messages.ensures (omega arith))
