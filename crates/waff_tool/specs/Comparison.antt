@@ -1,6 +1,6 @@
 -- What is printed where a classical and a hierarchical hierarchy are compared on one trace.
 use Rattle.std.specs.Prelude.{◌≡◌, ℕ, ◌≤◌, ◌⊎◌, ◌↔◌, Bool, true, false, IsTrue, List, [], ◌∷◌, ◌++◌}
-use Rattle.std.specs.Prelude.{Some, None, Ok, Err, codes, decimal}
+use Rattle.std.specs.Prelude.{◌<◌, All, length, Some, None, Ok, Err, codes, decimal}
 use Rattle.waff_model.specs.Layout.{Hierarchy, SameSpaces}
 use Rattle.waff_model.specs.Messages.{Arrivals}
 use Rattle.waff_model.specs.declared.kind.Kind.{Kind}
@@ -81,6 +81,14 @@ compare_lines version k total classical hierarchical refined =
     ∷ measured_line version hierarchical
     ∷ (codes "refines" ∷ answer_field refined ∷ [])
     ∷ []
+
+-- the affinities of the messages of a trace under a hierarchy, and what is told of it for k workers
+pub record AreMeasured (layout : Hierarchy) (trace : Arrivals) (k : ℕ)
+    (made : List ℕ × Measured) : Type 0 where
+  pub assignment : IsAssignment layout trace.messages made.0
+  pub known : All (λ a. a < length layout.tree) made.0
+  pub lengths : length made.0 ≡ length trace.messages
+  pub measured : IsMeasured layout made.0 (work_of_trace trace) k made.1
 
 -- the text of the comparison of a classical and a hierarchical hierarchy on a trace: it tells
 -- whether the hierarchical one refines the classical one, and where it does its least plan is no

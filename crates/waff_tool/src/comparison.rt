@@ -1,14 +1,12 @@
 //! The command that compares two hierarchies on one trace.
-ghost use Rattle.std.specs.Prelude.{◌≡◌, ◌≢◌, ◌<◌, Ok, ℕ, All, List, IfOk, IfErr};
-ghost use Rattle.std.specs.Prelude.{length, string_bytes};
+ghost use Rattle.std.specs.Prelude.{◌≡◌, ◌≢◌, Ok, ℕ, List, IfOk, IfErr};
+ghost use Rattle.std.specs.Prelude.{string_bytes};
 ghost use Rattle.waff_model.specs.Layout.{SameSpaces};
 ghost use Rattle.waff_model.specs.Messages.{sizes_of};
-ghost use Rattle.waff_assign.specs.Lowest.{IsAssignment};
 ghost use Rattle.waff_plan.specs.Bound.{IsWorkers};
-ghost use Rattle.waff_plan.specs.Timetable.{work_of_messages};
 ghost use Rattle.waff_read.specs.Hierarchies.{hierarchy_of};
-ghost use Rattle.waff_tool.specs.Comparison.{AreHierarchies, AreModels, IsCompared, IsCompareText};
-ghost use Rattle.waff_tool.specs.Comparison.{IsMeasured, RefusesComparison};
+ghost use Rattle.waff_tool.specs.Comparison.{AreHierarchies, AreMeasured, AreModels, IsCompared};
+ghost use Rattle.waff_tool.specs.Comparison.{IsCompareText, RefusesComparison};
 ghost use Rattle.waff_inputs.specs.Deliveries.{Delivers, Makes};
 
 use crate::measures::{Measured, comparison_text, measure};
@@ -142,7 +140,8 @@ fn models_text<R: Threads + Sync>(
     text.map_err(ToolError::from)
 }
 
-/// The text that compares the models on the trace for k workers.
+/// The text that compares the models on the trace for k workers. Each is measured in a thread of its
+/// own.
 fn compared_text<R: Threads + Sync>(
     rt: &R,
     alloc: Global,
@@ -157,116 +156,56 @@ fn compared_text<R: Threads + Sync>(
     ensures { IfOk result (λ text.
         IsCompared classical.now hierarchical.now trace.now k (string_bytes text)) }
 {
-    let (coarse, fine) = assign_both(rt, alloc, classical, hierarchical, trace)?;
-    let under_classical = Case {
-        tree: classical.tree(),
-        assigned: &coarse,
-        trace,
-    };
-    let under_hierarchical = Case {
-        tree: hierarchical.tree(),
-        assigned: &fine,
-        trace,
-    };
-    let text = cases_text(
-        rt,
-        alloc,
-        classical,
-        hierarchical,
-        &under_classical,
-        &under_hierarchical,
-        k,
-    );
-    drop(fine);
-    drop(coarse);
-    text
-}
-
-/// The affinity of each message of the trace under each of two hierarchies, in two threads.
-fn assign_both<R: Threads + Sync>(
-    rt: &R,
-    alloc: Global,
-    classical: &Layout,
-    hierarchical: &Layout,
-    trace: &Trace,
-) -> Result<(Assigned, Assigned), AllocError>
-    requires fits { trace.now.sizes ≡ sizes_of classical.now.spaces }
-    requires same_spaces { SameSpaces classical.now.spaces hierarchical.now.spaces }
-    ensures coarse { IfOk result (λ both. IsAssignment classical.now trace.now.messages both.0) }
-    ensures fine { IfOk result (λ both. IsAssignment hierarchical.now trace.now.messages both.1) }
-    ensures known { IfOk result (λ both. All (λ a. a < length classical.now.tree) both.0) }
-    ensures fine_known { IfOk result (λ both. All (λ a. a < length hierarchical.now.tree) both.1) }
-{
     let (coarse, fine) = thread::join(
         rt,
-        || assign(alloc, classical, trace),
-        || assign(alloc, hierarchical, trace),
+        || -> Result<(Assigned, Measured), AllocError>
+            requires { (trace.now.sizes ≡ sizes_of classical.now.spaces) × IsWorkers k }
+            ensures { IfOk result (AreMeasured classical.entry.now trace.entry.now k) }
+        { assign_and_measure(alloc, classical, trace, k) },
+        || -> Result<(Assigned, Measured), AllocError>
+            requires { (trace.now.sizes ≡ sizes_of hierarchical.now.spaces) × IsWorkers k }
+            ensures { IfOk result (AreMeasured hierarchical.entry.now trace.entry.now k) }
+        { assign_and_measure(alloc, hierarchical, trace, k) },
     );
-    Ok((coarse?, fine?))
-}
-
-/// The text that compares the models for k workers, each with its case of the same trace.
-fn cases_text<R: Threads + Sync>(
-    rt: &R,
-    alloc: Global,
-    classical: &Layout,
-    hierarchical: &Layout,
-    coarse: &Case<'_>,
-    fine: &Case<'_>,
-    k: u32,
-) -> Result<String, AllocError>
-    requires tree { coarse.now.tree.now ≡ classical.now.tree }
-    requires fine_tree { fine.now.tree.now ≡ hierarchical.now.tree }
-    requires trace { fine.now.trace.now ≡ coarse.now.trace.now }
-    requires workers { IsWorkers k }
-    ensures { IfOk result (λ text.
-        IsAssignment classical.now coarse.now.trace.now.messages coarse.now.assigned.now
-        → IsAssignment hierarchical.now coarse.now.trace.now.messages fine.now.assigned.now
-        → IsCompared classical.now hierarchical.now coarse.now.trace.now k (string_bytes text)) }
-{
-    let (of_classical, of_hierarchical) = measure_both(
-        rt,
-        alloc,
-        classical,
-        hierarchical,
-        coarse,
-        fine,
-        k,
-    )?;
+    let (coarse, of_classical) = coarse?;
+    let (fine, of_hierarchical) = fine?;
     refined_is_no_longer();
-    let refined = refines(fine.tree, fine.assigned, coarse.tree, coarse.assigned);
-    let version = coarse.trace.version();
-    comparison_text(alloc, version, k, &of_classical, &of_hierarchical, refined)
+    let refined = refines(hierarchical.tree(), &fine, classical.tree(), &coarse);
+    drop(fine);
+    drop(coarse);
+    comparison_text(
+        alloc,
+        trace.version(),
+        k,
+        &of_classical,
+        &of_hierarchical,
+        refined,
+    )
 }
 
-/// What is told of the trace under each of two hierarchies, in two threads.
-fn measure_both<R: Threads + Sync>(
-    rt: &R,
+/// The affinities of the messages of the trace under a hierarchy, and what is told of it for k
+/// workers.
+fn assign_and_measure(
     alloc: Global,
-    classical: &Layout,
-    hierarchical: &Layout,
-    coarse: &Case<'_>,
-    fine: &Case<'_>,
+    layout: &Layout,
+    trace: &Trace,
     k: u32,
-) -> Result<(Measured, Measured), AllocError>
-    requires tree { coarse.now.tree.now ≡ classical.now.tree }
-    requires fine_tree { fine.now.tree.now ≡ hierarchical.now.tree }
+) -> Result<(Assigned, Measured), AllocError>
+    requires fits { trace.now.sizes ≡ sizes_of layout.now.spaces }
     requires workers { IsWorkers k }
-    ensures classical { IfOk result (λ both. IsMeasured classical.now coarse.now.assigned.now
-        (work_of_messages coarse.now.trace.now.messages) k both.0) }
-    ensures hierarchical { IfOk result (λ both. IsMeasured hierarchical.now fine.now.assigned.now
-        (work_of_messages fine.now.trace.now.messages) k both.1) }
+    ensures { IfOk result (AreMeasured layout.now trace.now k) }
 {
-    let of_classical = || -> Result<Measured, AllocError>
-        requires { (coarse.now.tree.now ≡ classical.now.tree) × IsWorkers k }
-        ensures { IfOk result (IsMeasured classical.entry.now coarse.entry.now.assigned.now
-            (work_of_messages coarse.entry.now.trace.now.messages) k) }
-    { measure(alloc, classical, coarse, k) };
-    let of_hierarchical = || -> Result<Measured, AllocError>
-        requires { (fine.now.tree.now ≡ hierarchical.now.tree) × IsWorkers k }
-        ensures { IfOk result (IsMeasured hierarchical.entry.now fine.entry.now.assigned.now
-            (work_of_messages fine.entry.now.trace.now.messages) k) }
-    { measure(alloc, hierarchical, fine, k) };
-    let (of_classical, of_hierarchical) = thread::join(rt, of_classical, of_hierarchical);
-    Ok((of_classical?, of_hierarchical?))
+    let assigned = assign(alloc, layout, trace)?;
+    let case = Case {
+        tree: layout.tree(),
+        assigned: &assigned,
+        trace,
+    };
+    match measure(alloc, layout, &case, k) {
+        Ok(measured) => Ok((assigned, measured)),
+        Err(error) => {
+            drop(assigned);
+            Err(error)
+        }
+    }
 }

@@ -1,21 +1,50 @@
-use Rattle.std.proofs.Common.{◌<◌, All, length, sym, subst}
-use Rattle.std.proofs.lemmas.Result.{IfOk-weaker}
+use Rattle.std.proofs.Common.{◌≡◌, ℕ, ◌↔◌, IsTrue, List, string_bytes, ◌∙◌, ap}
+use Rattle.std.proofs.lemmas.Result.{IfOk-at_ok, IfOk-weaker}
+use Rattle.waff_model.specs.declared.message.Version.{Version}
+use Rattle.waff_assign.specs.Order.{Refines}
+use Rattle.waff_plan.specs.Work.{total_of}
+use Rattle.waff_tool.specs.PlanText.{work_of_trace}
+use Rattle.waff_tool.specs.Comparison.{AreMeasured, IsCompared, compare_lines}
+use Rattle.waff_plan_text.specs.Lines.{text_of}
+use Rattle.waff_tool.proofs.ComparisonLemmas.{refined_is_no_longer}
 use Rattle.waff_tool.proofs.comparison.compared_text.Goals as goal
-
-pub invariant_of-under_classical : goal.invariant_of-under_classical
-invariant_of-under_classical g c = record {
-  lengths = c.in_ok-coarse.ensures.coarse.count;
-  known = subst (λ tree. All (λ a. a < length tree) c.in_ok-coarse.coarse) (sym c.tree.ensures) c.in_ok-coarse.ensures.known;
-}
-
-pub invariant_of-under_hierarchical : goal.invariant_of-under_hierarchical
-invariant_of-under_hierarchical g c = record {
-  lengths = c.in_ok-coarse.ensures.fine.count;
-  known = subst (λ tree. All (λ a. a < length tree) c.in_ok-coarse.fine) (sym c.tree-2.ensures) c.in_ok-coarse.ensures.fine_known;
-}
 
 pub returns : goal.returns
 returns g c =
-    IfOk-weaker c.cases_text-text.result _ _
-    (λ text compared. compared c.in_ok-coarse.ensures.coarse c.in_ok-coarse.ensures.fine)
-    c.cases_text-text.ensures
+    let classical = c.args.classical.now in
+    let hierarchical = c.args.hierarchical.now in
+    let trace = c.args.trace.now in
+    let coarse = c.in_ok-coarse.coarse in
+    let fine = c.in_ok-fine.fine in
+    let of_classical = c.in_ok-coarse.of_classical in
+    let of_hierarchical = c.in_ok-fine.of_hierarchical in
+    let refined = c.refines-refined.result in
+    let under_classical = IfOk-at_ok (AreMeasured classical trace c.args.k) c.in_ok-coarse.was c.join-coarse.ensures.first in
+    let under_hierarchical = IfOk-at_ok (AreMeasured hierarchical trace c.args.k) c.in_ok-fine.was c.join-coarse.ensures.second in
+    let told : IsTrue refined ↔ Refines hierarchical.tree fine classical.tree coarse =
+    rw (c.tree.ensures, c.tree-2.ensures) at c.refines-refined.ensures in
+    let total : of_classical.unlimited.total ≡ total_of (work_of_trace trace) =
+    ap (λ totals. totals.total) under_classical.measured.unlimited in
+    let text_for : Version → ℕ → List ℕ = λ version total. text_of
+    (compare_lines version c.args.k total of_classical of_hierarchical refined) in
+    IfOk-weaker c.comparison_text.result
+    (λ text. string_bytes text ≡ text_for c.version.result of_classical.unlimited.total)
+    (λ text. IsCompared classical hierarchical trace c.args.k (string_bytes text))
+    (λ text lines. record {
+      coarse = coarse;
+      fine = fine;
+      of_classical = of_classical;
+      of_hierarchical = of_hierarchical;
+      refined = refined;
+      coarse_assignment = under_classical.assignment;
+      fine_assignment = under_hierarchical.assignment;
+      classical_measured = under_classical.measured;
+      hierarchical_measured = under_hierarchical.measured;
+      told = told;
+      no_longer = λ yes. refined_is_no_longer classical hierarchical coarse fine (work_of_trace trace) c.args.k of_classical
+          of_hierarchical under_classical.measured under_hierarchical.measured
+          (c.refined_is_no_longer.ensures hierarchical.tree classical.tree fine coarse (work_of_trace trace) (told.0 yes));
+      lines = lines ∙ ap (λ v. text_for v of_classical.unlimited.total) c.version.ensures
+          ∙ ap (λ t. text_for trace.version t) total;
+    })
+    c.comparison_text.ensures
