@@ -13,6 +13,8 @@ mod faults;
 #[cfg(test)]
 mod hostile_writes;
 #[cfg(test)]
+mod long_traces;
+#[cfg(test)]
 mod plan_texts;
 #[cfg(test)]
 mod ranks;

@@ -1,0 +1,86 @@
+//! Long traces, which are read by several threads.
+
+use std::alloc::{AllocError, Global};
+use std::process::Abort;
+use std::thread::Threads;
+use waff_model::{Cell, Layout, Op, Trace};
+use waff_read::{TraceError, read_hierarchy, read_trace_by_threads};
+use waff_samples::H1;
+
+/// A trace of so many messages, of which message `n` has the cost `n`, and reads cell `n % 8` of the
+/// first space.
+fn readers(alloc: Global, count: u32) -> Result<String, AllocError> {
+    let mut trace = String::from_str(alloc, "message,cost,ops\n")?;
+    for before in 0..count {
+        let n = before + 1;
+        let index = n % 8;
+        writeln!(trace, "m,{n},read f:{index}")?;
+    }
+    Ok(trace)
+}
+
+/// Message `n` has to be as `readers` writes it.
+fn is_reader(rt: &impl Abort, trace: &Trace, n: u32) {
+    assert!(rt; 1 <= n && n <= trace.len(), "{n}");
+    let message = trace.message(n);
+    assert!(rt; message.name.as_str() == "m" && message.cost == n, "{n}");
+    let cell = Cell {
+        space: 0,
+        index: n % 8,
+    };
+    assert!(rt; message.ops.get(0) == Op::Read { cell }, "{n}");
+}
+
+#[test]
+fn have_their_messages_in_order(rt: HostRuntime) {
+    let layout = read_hierarchy(rt.alloc(), H1.as_bytes()).expect(&rt, "a hierarchy");
+    let text = readers(rt.alloc(), 65536).expect(&rt, "a text");
+    let trace = read_trace_by_threads(&rt, rt.alloc(), &layout, text.as_bytes());
+    let trace = trace.expect(&rt, "a trace");
+    assert!(rt; trace.len() == 65536);
+    for n in 1..65537 {
+        is_reader(&rt, &trace, n);
+    }
+    drop(trace);
+    drop(layout);
+}
+
+/// The text has to be refused so.
+fn is_refused<R: Abort + Threads + Sync>(
+    rt: &R,
+    alloc: Global,
+    layout: &Layout,
+    text: &str,
+    error: TraceError,
+) {
+    let refused = read_trace_by_threads(rt, alloc, layout, text.as_bytes()).err();
+    assert!(rt; refused == Some(error), "{error:?}: {refused:?}");
+}
+
+#[test]
+fn are_refused_for_the_first_fault(rt: HostRuntime) {
+    let layout = read_hierarchy(rt.alloc(), H1.as_bytes()).expect(&rt, "a hierarchy");
+    let many = readers(rt.alloc(), 65537).expect(&rt, "a text");
+    let error = TraceError::TooManyMessages { at: 65538 };
+    is_refused(&rt, rt.alloc(), &layout, many.as_str(), error);
+    let mut text = readers(rt.alloc(), 40000).expect(&rt, "a text");
+    text.push_str("m,0,read f:0\nm,1,read f\n")
+        .expect(&rt, "a text");
+    let error = TraceError::Cost { at: 40002 };
+    is_refused(&rt, rt.alloc(), &layout, text.as_str(), error);
+    drop(layout);
+}
+
+#[test]
+fn may_have_quotes(rt: HostRuntime) {
+    let layout = read_hierarchy(rt.alloc(), H1.as_bytes()).expect(&rt, "a hierarchy");
+    let mut text = readers(rt.alloc(), 40000).expect(&rt, "a text");
+    text.push_str("m,40001,\"read f:1\"\n")
+        .expect(&rt, "a text");
+    let trace = read_trace_by_threads(&rt, rt.alloc(), &layout, text.as_bytes());
+    let trace = trace.expect(&rt, "a trace");
+    assert!(rt; trace.len() == 40001);
+    is_reader(&rt, &trace, 40001);
+    drop(trace);
+    drop(layout);
+}
