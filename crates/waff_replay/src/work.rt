@@ -16,8 +16,15 @@ const RESTS: u32 = 1023;
 
 /// Runs messages until the order is used up. A worker that had to wait for one rests before it draws
 /// the next, longer each time in a row: where few messages can run at once, few workers run them, as
-/// handing data from thread to thread takes longer than running a message.
-pub(crate) fn work<R: Wait, G: Gate>(rt: &R, board: &Board, mut seat: Seat, gate: &G) -> EndSeat
+/// handing data from thread to thread takes longer than running a message. One that pauses rests after
+/// each message as if it had waited.
+pub(crate) fn work<R: Wait, G: Gate>(
+    rt: &R,
+    board: &Board,
+    mut seat: Seat,
+    gate: &G,
+    pauses: bool,
+) -> EndSeat
     requires { IsOf board.now seat }
     ensures { IsOf board.now result }
 {
@@ -28,7 +35,7 @@ pub(crate) fn work<R: Wait, G: Gate>(rt: &R, board: &Board, mut seat: Seat, gate
             Draw::Over(end) => return end,
             Draw::Got(drawn) => {
                 let (cleared, has_waited) = wait_until_clear(rt, board, drawn);
-                rests = next_rests(rests, has_waited);
+                rests = next_rests(rests, has_waited || pauses);
                 let grant = board.begin(cleared);
                 gate.before(&grant);
                 seat = board.finish(grant.run());
@@ -45,10 +52,10 @@ fn rest(rests: u32) {
     }
 }
 
-/// How often a worker rests after a message: about twice as often as before the message if it had to
-/// wait for it, and else half as often.
-fn next_rests(rests: u32, has_waited: bool) -> u32 {
-    if has_waited {
+/// How often a worker rests after a message: about twice as often as before the message if it is to
+/// rest longer, and else half as often.
+fn next_rests(rests: u32, longer: bool) -> u32 {
+    if longer {
         rests.saturating_mul(2).saturating_add(1).min(RESTS)
     } else {
         rests / 2
