@@ -2,8 +2,10 @@
 
 ghost use Rattle.std.specs.Prelude.{◌≡◌, ◌<◌, ◌≤◌, IfOk};
 ghost use Rattle.std.specs.Prelude.{length, string_bytes};
-ghost use Rattle.waff_model.specs.Messages.{IsTrace};
+ghost use Rattle.waff_model.specs.Messages.{IsTrace, sizes_of};
+ghost use Rattle.waff_model.specs.declared.cell.Cell.{Cell};
 ghost use Rattle.waff_assign.specs.Lowest.{IsAssignment};
+ghost use Rattle.waff_cells.specs.Grid.{cells_in, HasSizes};
 ghost use Rattle.waff_cells.specs.Serial.{operations};
 ghost use Rattle.waff_core.specs.Job.{IsOrder};
 ghost use Rattle.waff_core.specs.Seats.{IsSeats};
@@ -20,14 +22,16 @@ use std::alloc::{AllocError, Global};
 use std::io::Write;
 use std::sync::Wait;
 use std::thread::Threads;
+use waff_cells::State;
 use waff_core::{Job, JobError};
 use waff_inputs::{Accepted, ToolError, accept, deliver};
 use waff_list::laws::needs_make_the_same_plans;
 use waff_list::{WorkerPlan, list_plan};
+use waff_model::Version;
 use waff_model::limits::MAX_SPACES;
 use waff_order::Needs;
 use waff_order::predecessors::needs;
-use waff_replay::{Open, replay};
+use waff_replay::{Open, replay, serial};
 
 /// Writes the state that the messages of the trace leave under the hierarchy. They are replayed by
 /// this many workers, each in a thread of its own, in the order of the list plan for as many;
@@ -91,11 +95,34 @@ fn replayed_text<R: Threads + Wait + Sync>(
     ensures { IfOk result (λ text. string_bytes text
         ≡ text_of (state_lines accepted.layout.spaces (state_after accepted.trace))) }
 {
-    let job = job_in_list_order(alloc, accepted, workers)?;
-    let state = replay(rt, alloc, job, workers, &Open)?;
+    let state = replayed(rt, alloc, accepted, workers)?;
     let text = state_text(alloc, printed, &state);
     drop(state);
     text
+}
+
+/// The state that a replay leaves. The list plan for one worker is in the order of arrival where no
+/// message has a release, so one worker needs no plan there.
+fn replayed<R: Threads + Wait + Sync>(
+    rt: &R,
+    alloc: Global,
+    accepted: Accepted,
+    workers: u32,
+) -> Result<State, AllocError>
+    requires trace { IsTrace accepted.trace }
+    requires assignment { IsAssignment accepted.layout accepted.trace.messages accepted.assigned }
+    requires seats { IsSeats workers }
+    ensures sizes { IfOk result (λ state. HasSizes state (sizes_of accepted.layout.spaces)) }
+    ensures cells { IfOk result (λ state. (cell : Cell)
+        → cells_in state cell ≡ state_after accepted.trace cell) }
+{
+    if workers == 1 && accepted.trace.version() == Version::V1 {
+        let state = serial(alloc, &accepted.layout, &accepted.trace);
+        drop(accepted);
+        return state;
+    }
+    let job = job_in_list_order(alloc, accepted, workers)?;
+    replay(rt, alloc, job, workers, &Open)
 }
 
 /// The job of what was accepted, in the order of the list plan for k workers.

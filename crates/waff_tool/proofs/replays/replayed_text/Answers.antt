@@ -1,12 +1,7 @@
-use Rattle.std.proofs.Common.{◌≡◌, List, length, string_bytes, ◌∙◌, ap}
-use Rattle.std.proofs.lemmas.List.{length-map}
+use Rattle.std.proofs.Common.{◌≡◌, List, string_bytes, ◌∙◌, ap}
 use Rattle.std.proofs.lemmas.Result.{IfOk-weaker}
-use Rattle.waff_model.specs.Layout.{Hierarchy, Space}
-use Rattle.waff_model.specs.Messages.{sizes_of}
-use Rattle.waff_model.specs.declared.cell.Cell.{Cell}
-use Rattle.waff_model.specs.declared.message.Message.{Message}
+use Rattle.waff_model.specs.Layout.{Space}
 use Rattle.waff_cells.specs.Grid.{cells_in}
-use Rattle.waff_cells.specs.Serial.{operations, serial}
 use Rattle.waff_plan_text.specs.Lines.{text_of}
 use Rattle.waff_tool.specs.PrintedSpaces.{AreAllPrinted}
 use Rattle.waff_tool.specs.ReplayText.{state_after, state_lines}
@@ -15,23 +10,16 @@ use Rattle.waff_tool.proofs.replays.replayed_text.Goals as goal
 
 pub state_text-text-requires-clause-sizes : goal.state_text-text-requires-clause-sizes
 state_text-text-requires-clause-sizes g c =
-    let spaces = c.args.accepted.layout.spaces in
-    c.in_ok-state.ensures.sizes ∙ ap (λ (layout : Hierarchy). sizes_of layout.spaces) c.in_ok-job.ensures.layout
-    ∙ printed_sizes spaces c.args.printed.now c.requires.printed
+    c.in_ok-state.ensures.sizes ∙ printed_sizes c.args.accepted.layout.spaces c.args.printed.now c.requires.printed
 
 pub returns : goal.returns
 returns g c =
     let spaces = c.args.accepted.layout.spaces in
-    let messages = c.args.accepted.trace.messages in
     let after = state_after c.args.accepted.trace in
     let left = cells_in c.in_ok-state.state in
     let printed = c.args.printed.now in
-    let same : (cell : Cell) → left cell ≡ after cell =
-    λ cell. c.in_ok-state.ensures.cells cell
-    ∙ ap (λ ops. serial ops (length ops) cell) c.in_ok-job.ensures.ops
-    ∙ ap (λ n. serial (operations messages) n cell) (length-map messages (λ (message : Message). message.ops)) in
     IfOk-weaker c.state_text-text.result
     (λ text. (spaces : List Space) → AreAllPrinted spaces printed → string_bytes text ≡ text_of (state_lines spaces left))
     (λ text. string_bytes text ≡ text_of (state_lines spaces after))
-    (λ text lines. lines spaces c.requires.printed ∙ ap text_of (state_lines_same spaces left after same))
+    (λ text lines. lines spaces c.requires.printed ∙ ap text_of (state_lines_same spaces left after c.in_ok-state.ensures.cells))
     c.state_text-text.ensures
