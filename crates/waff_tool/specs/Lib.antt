@@ -1,3 +1,4 @@
+pub mod Ahead
 pub mod AssignText
 pub mod Certificates
 pub mod CheckText

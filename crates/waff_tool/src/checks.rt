@@ -5,15 +5,17 @@ ghost use Rattle.waff_inputs.specs.Deliveries.{Delivers, Makes};
 ghost use Rattle.waff_inputs.specs.Inputs.{Accepts};
 ghost use Rattle.waff_model.specs.Layout.{Hierarchy};
 ghost use Rattle.waff_plan_text.specs.PlanTexts.{plan_of};
+ghost use Rattle.waff_tool.specs.Ahead.{IsReadOf};
 ghost use Rattle.waff_tool.specs.CheckText.{IsCheckText, RefusesCheck, status_after, verdict_text};
 
+use crate::ahead::{ReadAhead, accept_beside, plan_read};
 use crate::verdict_line::VerdictFields;
 use std::alloc::{AllocError, Global};
 use std::io::Write;
 use std::thread::Threads;
 use waff_assign::Case;
-use waff_check::{GivenPlan, Verdict, check, read_plan};
-use waff_inputs::{Accepted, ToolError, accept, deliver};
+use waff_check::{GivenPlan, Verdict, check};
+use waff_inputs::{Accepted, ToolError, deliver};
 
 /// Writes the verdict on the plan that the text gives for the trace under the hierarchy, and
 /// answers it. The pairs of messages are tested in threads. Nothing is written before the whole
@@ -48,8 +50,8 @@ pub fn made_verdict<R: Threads + Sync>(
     ensures { Makes (IsCheckText hierarchy.now trace.now plan.now)
         (RefusesCheck hierarchy.now trace.now plan.now) result }
 {
-    let accepted = accept(rt, alloc, hierarchy, trace)?;
-    let verdict = verdict_on(rt, alloc, &accepted, plan);
+    let (accepted, ahead) = accept_beside(rt, alloc, hierarchy, trace, plan)?;
+    let verdict = verdict_on(rt, alloc, &accepted, plan, ahead);
     drop(accepted);
     verdict
 }
@@ -60,7 +62,9 @@ fn verdict_on<R: Threads + Sync>(
     alloc: Global,
     accepted: &Accepted,
     plan: &[u8],
+    ahead: ReadAhead,
 ) -> Result<Verdict, ToolError>
+    requires ahead { IsReadOf plan.now ahead }
     ensures made { IfOk result (λ verdict. (hierarchy trace : List ℕ)
         → Accepts hierarchy trace accepted.now.layout accepted.now.trace accepted.now.assigned
         → IsCheckText hierarchy trace plan.now verdict) }
@@ -70,7 +74,7 @@ fn verdict_on<R: Threads + Sync>(
     ensures nothing { IfErr result (λ e. e ≢ ToolError.Write) }
 {
     let case = accepted.case();
-    let given = read_plan(alloc, case.trace.version(), case.trace.len(), plan)?;
+    let given = plan_read(alloc, case.trace.version(), case.trace.len(), plan, ahead)?;
     let verdict = verdict_of(rt, alloc, &case, &given)?;
     drop(given);
     Ok(verdict)

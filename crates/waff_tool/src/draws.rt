@@ -3,17 +3,19 @@ ghost use Rattle.std.specs.Prelude.{◌≡◌, ◌≢◌, ℕ, List, IfOk, IfErr
 ghost use Rattle.std.specs.Prelude.{length, string_bytes};
 ghost use Rattle.waff_inputs.specs.Deliveries.{Delivers, Makes};
 ghost use Rattle.waff_inputs.specs.Inputs.{Accepts};
+ghost use Rattle.waff_tool.specs.Ahead.{IsReadOf};
 ghost use Rattle.waff_tool.specs.CheckText.{RefusesCheck};
 ghost use Rattle.waff_draw.specs.Scene.{scene_of};
 ghost use Rattle.waff_tool.specs.DrawText.{DrawTextIsOne, IsDrawText, picture_of};
 
+use crate::ahead::{ReadAhead, accept_beside, plan_read};
 use std::alloc::{AllocError, Global};
 use std::io::Write;
 use std::thread::Threads;
 use waff_assign::Case;
-use waff_check::{GivenPlan, read_plan};
+use waff_check::GivenPlan;
 use waff_draw::{Part, events_text, svg_text};
-use waff_inputs::{Accepted, ToolError, accept, deliver};
+use waff_inputs::{Accepted, ToolError, deliver};
 
 /// As what a plan is drawn: a document in SVG for a browser, or events for a viewer of traces.
 #[derive(Clone, Copy)]
@@ -56,8 +58,8 @@ fn made_picture<R: Threads + Sync>(
         IsDrawText hierarchy.now trace.now plan.now picture part (string_bytes text))
         (RefusesCheck hierarchy.now trace.now plan.now) result }
 {
-    let accepted = accept(rt, alloc, hierarchy, trace)?;
-    let text = picture_on(alloc, &accepted, plan, picture, part);
+    let (accepted, ahead) = accept_beside(rt, alloc, hierarchy, trace, plan)?;
+    let text = picture_on(alloc, &accepted, plan, ahead, picture, part);
     drop(accepted);
     text
 }
@@ -67,9 +69,11 @@ fn picture_on(
     alloc: Global,
     accepted: &Accepted,
     plan: &[u8],
+    ahead: ReadAhead,
     picture: Picture,
     part: Part,
 ) -> Result<String, ToolError>
+    requires ahead { IsReadOf plan.now ahead }
     ensures made { IfOk result (λ text. (hierarchy trace : List ℕ)
         → Accepts hierarchy trace accepted.now.layout accepted.now.trace accepted.now.assigned
         → IsDrawText hierarchy trace plan.now picture part (string_bytes text)) }
@@ -79,7 +83,7 @@ fn picture_on(
     ensures nothing { IfErr result (λ e. e ≢ ToolError.Write) }
 {
     let case = accepted.case();
-    let given = read_plan(alloc, case.trace.version(), case.trace.len(), plan)?;
+    let given = plan_read(alloc, case.trace.version(), case.trace.len(), plan, ahead)?;
     let text = pictured(alloc, &case, &given, picture, part)?;
     drop(given);
     Ok(text)

@@ -9,13 +9,15 @@
 //!   hierarchies. Plans for k workers are by a rule, which `plans`, `sweeps`, `waits` and `ranks`
 //!   are told; the others have those by arrival. `certificates`: plans with their printed chains.
 //! - `checks` (check, over `verdict_line`), `rates` (rate), `draws` (draw): a plan that is handed in,
-//!   tried; `replays` (replay, over `state_text`): the state that threads leave.
+//!   tried; they read it beside the other files (`ahead`).
+//! - `replays` (replay, over `state_text`): the state that threads leave.
 //! - `explains` (explain): the fault or the verdict that the others find, in words.
 //! - `unique`, and the laws of `sweeps`, `rates`, `wheres`, `waits`, `ranks` and `draws`: one text or
 //!   one fault for each input;
 //!   `own`: plans that are printed pass the check.
 #![tactic(auto)]
 
+mod ahead;
 mod assigns;
 mod certificates;
 mod checks;

@@ -9,18 +9,20 @@ ghost use Rattle.waff_plan_text.specs.Lines.{text_of};
 ghost use Rattle.waff_check.specs.Verdicts.{starts_of};
 ghost use Rattle.waff_inputs.specs.Deliveries.{Delivers, Makes};
 ghost use Rattle.waff_inputs.specs.Inputs.{Accepts};
+ghost use Rattle.waff_tool.specs.Ahead.{IsReadOf};
 ghost use Rattle.waff_tool.specs.CheckText.{RefusesCheck};
 ghost use Rattle.waff_tool.specs.Rate.{AreRated, IsRateText, OwnPlanIsSwept, OwnWorkerPlanIsSwept};
 ghost use Rattle.waff_tool.specs.Rate.{RateTextIsOne, RatedIsChecked, rated_lines};
 
+use crate::ahead::{ReadAhead, accept_beside, plan_read};
 use crate::verdict_line::VerdictFields;
 use std::alloc::{AllocError, Global};
 use std::io::Write;
 use std::thread::Threads;
 use waff_assign::Case;
-use waff_check::{GivenPlan, Verdict, check, read_plan};
+use waff_check::{GivenPlan, Verdict, check};
 use waff_figures::{Figures, figures_of, push_rate};
-use waff_inputs::{Accepted, ToolError, accept, deliver};
+use waff_inputs::{Accepted, ToolError, deliver};
 use waff_plan::unlimited::plan;
 
 /// The verdict on a plan, and the text that tells how good the plan is.
@@ -61,8 +63,8 @@ fn made_rating<R: Threads + Sync>(
         rating.verdict (string_bytes rating.text))
         (RefusesCheck hierarchy.now trace.now plan.now) result }
 {
-    let accepted = accept(rt, alloc, hierarchy, trace)?;
-    let rating = rating_on(rt, alloc, &accepted, plan);
+    let (accepted, ahead) = accept_beside(rt, alloc, hierarchy, trace, plan)?;
+    let rating = rating_on(rt, alloc, &accepted, plan, ahead);
     drop(accepted);
     rating
 }
@@ -73,7 +75,9 @@ fn rating_on<R: Threads + Sync>(
     alloc: Global,
     accepted: &Accepted,
     plan: &[u8],
+    ahead: ReadAhead,
 ) -> Result<Rating, ToolError>
+    requires ahead { IsReadOf plan.now ahead }
     ensures made { IfOk result (λ rating. (hierarchy trace : List ℕ)
         → Accepts hierarchy trace accepted.now.layout accepted.now.trace accepted.now.assigned
         → IsRateText hierarchy trace plan.now rating.verdict (string_bytes rating.text)) }
@@ -83,7 +87,7 @@ fn rating_on<R: Threads + Sync>(
     ensures nothing { IfErr result (λ e. e ≢ ToolError.Write) }
 {
     let case = accepted.case();
-    let given = read_plan(alloc, case.trace.version(), case.trace.len(), plan)?;
+    let given = plan_read(alloc, case.trace.version(), case.trace.len(), plan, ahead)?;
     let verdict = check(rt, alloc, case.tree, case.assigned, case.trace, &given)?;
     let figures = given_figures(alloc, &case, &given)?;
     drop(given);

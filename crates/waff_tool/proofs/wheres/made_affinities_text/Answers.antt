@@ -4,7 +4,7 @@ use Rattle.waff_model.specs.Tree.{Node}
 use Rattle.waff_plan.specs.Chain.{IsListed}
 use Rattle.waff_plan.specs.declared.timing.Timing.{Timing}
 use Rattle.waff_plan.specs.Timetable.{timings_of}
-use Rattle.waff_plan.specs.Timing.{work_of, start_of}
+use Rattle.waff_plan.specs.Timing.{work_of}
 use Rattle.waff_plan_text.specs.Lines.{text_of}
 use Rattle.waff_figures.specs.ByAffinity.{AreCostsBelow, affinities_lines}
 use Rattle.waff_inputs.specs.Inputs.{Accepts}

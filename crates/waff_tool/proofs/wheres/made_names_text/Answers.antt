@@ -5,7 +5,7 @@ use Rattle.waff_model.specs.declared.message.Message.{Message}
 use Rattle.waff_plan.specs.Chain.{IsListed}
 use Rattle.waff_plan.specs.declared.timing.Timing.{Timing}
 use Rattle.waff_plan.specs.Timetable.{timings_of}
-use Rattle.waff_plan.specs.Timing.{work_of, start_of}
+use Rattle.waff_plan.specs.Timing.{work_of}
 use Rattle.waff_list.proofs.TraceWork.{count_is}
 use Rattle.waff_plan_text.specs.Lines.{text_of}
 use Rattle.waff_figures.specs.ByName.{message_names, names_lines}
