@@ -4,4 +4,4 @@
 pub const LONG_VERSION: &str = "\
 0.1.0
 kit: rattle-kit-13f logic dac8208d650f15bf
-sources: 5b883976e8fed9ec";
+sources: 6c53ae859c2e5906";

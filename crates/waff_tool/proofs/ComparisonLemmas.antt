@@ -2,6 +2,8 @@
 use Rattle.std.proofs.Common.{◌≡◌, ℕ, ◌≤◌, List, [], ◌∷◌, ◌++◌, decimal, inl, append_assoc, rules}
 use Rattle.std.specs.List.{join_with_byte}
 use Rattle.waff_model.specs.Layout.{Hierarchy}
+use Rattle.waff_model.specs.Tree.{Node}
+use Rattle.waff_model.specs.declared.kind.Kind.{Kind}
 use Rattle.waff_model.specs.declared.message.Version.{Version}
 use Rattle.waff_model.specs.declared.message.Version.TheVariants.{V1, V2}
 use Rattle.waff_assign.specs.Order.{IsOrdered}
@@ -13,10 +15,18 @@ use Rattle.waff_plan_text.specs.Lines.{line_text}
 use Rattle.waff_read.specs.Traces.{Tells, trace_of}
 use Rattle.waff_read.specs.declared.trace_fault.TraceError.{TraceError}
 use Rattle.waff_read.specs.declared.trace_fault.TraceError.TheVariants as trace
-use Rattle.waff_tool.specs.Comparison.{AreModels, IsMeasured, RefusesComparison, plan_fields}
+use Rattle.waff_tool.specs.Comparison.{AreCertifiedTotals, AreListTotals, AreModels, IsMeasured, RefusesComparison, plan_fields}
 use Rattle.waff_inputs.specs.ToolErrors.{trace_error}
 use Rattle.waff_inputs.specs.declared.fault.ToolError.TheVariants as tool
 use Rattle.waff_tool.specs.declared.measures.Measured.{Measured}
+
+-- what is told of the plans over the pairs of a tree is told of the hierarchy that has the tree
+pub measured_of : (layout : Hierarchy) (tree : List Node) (assigned : List ℕ) (work : Work) (k : ℕ)
+    (kind : Kind) (unlimited listed : Totals) → tree ≡ layout.tree → kind ≡ layout.kind
+    → AreCertifiedTotals (IsOrdered tree assigned) work unlimited → AreListTotals (IsOrdered tree assigned) work k listed
+    → IsMeasured layout assigned work k (record { kind = kind; unlimited = unlimited; listed = listed })
+measured_of layout tree assigned work k kind unlimited listed same is least by_arrival =
+    record { kind = is; least = rw same at least; by_arrival = rw same at by_arrival }
 
 -- the least plan under a hierarchy that refines another is no longer
 pub refined_is_no_longer : (classical hierarchical : Hierarchy) (coarse fine : List ℕ) (work : Work) (k : ℕ)
@@ -25,8 +35,8 @@ pub refined_is_no_longer : (classical hierarchical : Hierarchy) (coarse fine : L
     → LeastIsNoLonger (IsOrdered hierarchical.tree fine) (IsOrdered classical.tree coarse) work
     → of_hierarchical.unlimited.length ≤ of_classical.unlimited.length
 refined_is_no_longer classical hierarchical coarse fine work k of_classical of_hierarchical one other no_longer =
-    let shorter = no_longer (start_of other.starts) (start_of one.starts) other.certified.least one.certified.least in
-    rw (one.unlimited, other.unlimited) shorter
+    let shorter = no_longer (start_of other.least.starts) (start_of one.least.starts) other.least.certified.least one.least.certified.least in
+    rw (one.least.told, other.least.told) shorter
 
 -- what a reader of traces refuses for a comparison, where the hierarchies are accepted
 pub trace_is_refused : (first second bytes : List ℕ) (classical hierarchical : Hierarchy) (fault : TraceError)

@@ -134,16 +134,16 @@ measured_is_one : (layout : Hierarchy) (assigned : List ℕ) (work : Work) (k : 
     → EachRuns work → IsMeasured layout assigned work k one → IsMeasured layout assigned work k other → one ≡ other
 measured_is_one layout assigned work k one other forward runs p q =
     let before = IsOrdered layout.tree assigned in
-    let same = least_is_one before work (start_of p.starts) (start_of q.starts) p.certified.least q.certified.least in
-    let chains = printed_is_one before work forward (start_of p.starts) (start_of q.starts) p.chain q.chain same p.certified.printed q.certified.printed in
-    let same_list = rule_plan_is_one before work forward runs Arrival k (start_of p.list_starts) (start_of q.list_starts) p.bounded.list q.bounded.list in
-    let list_chains = printed_is_one before work forward (start_of p.list_starts) (start_of q.list_starts) p.list_chain q.list_chain same_list
-    p.bounded.printed q.bounded.printed in
+    let same = least_is_one before work (start_of p.least.starts) (start_of q.least.starts) p.least.certified.least q.least.certified.least in
+    let chains = printed_is_one before work forward (start_of p.least.starts) (start_of q.least.starts) p.least.chain q.least.chain same p.least.certified.printed q.least.certified.printed in
+    let same_list = rule_plan_is_one before work forward runs Arrival k (start_of p.by_arrival.starts) (start_of q.by_arrival.starts) p.by_arrival.bounded.list q.by_arrival.bounded.list in
+    let list_chains = printed_is_one before work forward (start_of p.by_arrival.starts) (start_of q.by_arrival.starts) p.by_arrival.chain q.by_arrival.chain same_list
+    p.by_arrival.bounded.printed q.by_arrival.bounded.printed in
     same_measured one other (p.kind ∙ sym q.kind)
-    (p.unlimited ∙ totals_same None work (start_of p.starts) (start_of q.starts) p.chain same
-    ∙ ap (λ c. totals_of None work (start_of q.starts) c) chains ∙ sym q.unlimited)
-    (p.listed ∙ totals_same (Some k) work (start_of p.list_starts) (start_of q.list_starts) p.list_chain same_list
-    ∙ ap (λ c. totals_of (Some k) work (start_of q.list_starts) c) list_chains ∙ sym q.listed)
+    (p.least.told ∙ totals_same None work (start_of p.least.starts) (start_of q.least.starts) p.least.chain same
+    ∙ ap (λ c. totals_of None work (start_of q.least.starts) c) chains ∙ sym q.least.told)
+    (p.by_arrival.told ∙ totals_same (Some k) work (start_of p.by_arrival.starts) (start_of q.by_arrival.starts) p.by_arrival.chain same_list
+    ∙ ap (λ c. totals_of (Some k) work (start_of q.by_arrival.starts) c) list_chains ∙ sym q.by_arrival.told)
 
 -- the comparison
 compared_is_one : (classical hierarchical : Hierarchy) (trace : Arrivals) (k : ℕ) (text other : List ℕ) → IsTree classical.tree → IsTree hierarchical.tree

@@ -10,7 +10,7 @@ use Rattle.waff_model.specs.declared.message.Version.TheVariants.{V1, V2}
 use Rattle.waff_read.specs.Hierarchies.{hierarchy_of}
 use Rattle.waff_read.specs.Traces.{trace_of}
 use Rattle.waff_assign.specs.Lowest.{IsAssignment}
-use Rattle.waff_assign.specs.Order.{IsOrdered, Refines}
+use Rattle.waff_assign.specs.Order.{IsOrdered, Refines, Relation}
 use Rattle.waff_plan.specs.Timing.{start_of}
 use Rattle.waff_plan.specs.Totals.{totals_of}
 use Rattle.waff_plan.specs.Work.{Work, total_of}
@@ -24,20 +24,27 @@ use Rattle.waff_inputs.specs.declared.fault.ToolError.{ToolError}
 use Rattle.waff_inputs.specs.declared.fault.ToolError.TheVariants as tool
 use Rattle.waff_tool.specs.declared.measures.Measured.{Measured}
 
+-- the totals of the least plan, with its printed chain
+pub record AreCertifiedTotals (before : Relation) (work : Work) (totals : Totals) : Type 0 where
+  pub starts : List ℕ
+  pub chain : List ℕ
+  pub certified : IsCertified before work (start_of starts) chain
+  pub told : totals ≡ totals_of None work (start_of starts) chain
+
+-- the totals of the list plan for k workers, with its printed chain
+pub record AreListTotals (before : Relation) (work : Work) (k : ℕ) (totals : Totals) : Type 0 where
+  pub starts : List ℕ
+  pub chain : List ℕ
+  pub bounded : IsBounded Arrival before work k (start_of starts) chain
+  pub told : totals ≡ totals_of (Some k) work (start_of starts) chain
+
 -- what is told of a trace under one hierarchy: of its least plan, and of its plan by arrival for k
 -- workers, each with its printed chain
 pub record IsMeasured (layout : Hierarchy) (assigned : List ℕ) (work : Work) (k : ℕ)
     (measured : Measured) : Type 0 where
-  pub starts : List ℕ
-  pub chain : List ℕ
-  pub list_starts : List ℕ
-  pub list_chain : List ℕ
-  pub certified : IsCertified (IsOrdered layout.tree assigned) work (start_of starts) chain
-  pub bounded : IsBounded Arrival (IsOrdered layout.tree assigned)
-      work k (start_of list_starts) list_chain
   pub kind : measured.kind ≡ layout.kind
-  pub unlimited : measured.unlimited ≡ totals_of None work (start_of starts) chain
-  pub listed : measured.listed ≡ totals_of (Some k) work (start_of list_starts) list_chain
+  pub least : AreCertifiedTotals (IsOrdered layout.tree assigned) work measured.unlimited
+  pub by_arrival : AreListTotals (IsOrdered layout.tree assigned) work k measured.listed
 
 abbrev pub kind_field : Kind → List ℕ
 kind_field kind.Classical = codes "classical"
@@ -87,7 +94,6 @@ pub record AreMeasured (layout : Hierarchy) (trace : Arrivals) (k : ℕ)
     (made : List ℕ × Measured) : Type 0 where
   pub assignment : IsAssignment layout trace.messages made.0
   pub known : All (λ a. a < length layout.tree) made.0
-  pub lengths : length made.0 ≡ length trace.messages
   pub measured : IsMeasured layout made.0 (work_of_trace trace) k made.1
 
 -- the text of the comparison of a classical and a hierarchical hierarchy on a trace: it tells

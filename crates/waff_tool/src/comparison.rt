@@ -1,6 +1,7 @@
 //! The command that compares two hierarchies on one trace.
 ghost use Rattle.std.specs.Prelude.{◌≡◌, ◌≢◌, Ok, ℕ, List, IfOk, IfErr};
 ghost use Rattle.std.specs.Prelude.{string_bytes};
+ghost use Rattle.std.specs.Thread.{IsSync};
 ghost use Rattle.waff_model.specs.Layout.{SameSpaces};
 ghost use Rattle.waff_model.specs.Messages.{sizes_of};
 ghost use Rattle.waff_plan.specs.Bound.{IsWorkers};
@@ -156,17 +157,17 @@ fn compared_text<R: Threads + Sync>(
     ensures { IfOk result (λ text.
         IsCompared classical.now hierarchical.now trace.now k (string_bytes text)) }
 {
-    let (coarse, fine) = thread::join(
-        rt,
-        || -> Result<(Assigned, Measured), AllocError>
-            requires { (trace.now.sizes ≡ sizes_of classical.now.spaces) × IsWorkers k }
-            ensures { IfOk result (AreMeasured classical.entry.now trace.entry.now k) }
-        { assign_and_measure(alloc, classical, trace, k) },
-        || -> Result<(Assigned, Measured), AllocError>
-            requires { (trace.now.sizes ≡ sizes_of hierarchical.now.spaces) × IsWorkers k }
-            ensures { IfOk result (AreMeasured hierarchical.entry.now trace.entry.now k) }
-        { assign_and_measure(alloc, hierarchical, trace, k) },
-    );
+    let under_classical = move || -> Result<(Assigned, Measured), AllocError>
+        requires { IsSync R.row × (trace.now.sizes ≡ sizes_of classical.now.spaces)
+            × IsWorkers k }
+        ensures { IfOk result (AreMeasured classical.entry.now trace.entry.now k) }
+    { assign_and_measure(rt, alloc, classical, trace, k) };
+    let under_hierarchical = move || -> Result<(Assigned, Measured), AllocError>
+        requires { IsSync R.row × (trace.now.sizes ≡ sizes_of hierarchical.now.spaces)
+            × IsWorkers k }
+        ensures { IfOk result (AreMeasured hierarchical.entry.now trace.entry.now k) }
+    { assign_and_measure(rt, alloc, hierarchical, trace, k) };
+    let (coarse, fine) = thread::join(rt, under_classical, under_hierarchical);
     let (coarse, of_classical) = coarse?;
     let (fine, of_hierarchical) = fine?;
     refined_is_no_longer();
@@ -185,7 +186,8 @@ fn compared_text<R: Threads + Sync>(
 
 /// The affinities of the messages of the trace under a hierarchy, and what is told of it for k
 /// workers.
-fn assign_and_measure(
+fn assign_and_measure<R: Threads + Sync>(
+    rt: &R,
     alloc: Global,
     layout: &Layout,
     trace: &Trace,
@@ -201,7 +203,7 @@ fn assign_and_measure(
         assigned: &assigned,
         trace,
     };
-    match measure(alloc, layout, &case, k) {
+    match measure(rt, alloc, layout, &case, k) {
         Ok(measured) => Ok((assigned, measured)),
         Err(error) => {
             drop(assigned);

@@ -1,18 +1,18 @@
 //! What is told of a trace under one hierarchy, and the text that tells it of two.
-ghost use Rattle.std.specs.Prelude.{◌≡◌, ◌∷◌, ℕ, IfOk, List, None, OnOk, Some, string_bytes};
+ghost use Rattle.std.specs.Prelude.{◌≡◌, ◌∷◌, IfOk, OnOk, string_bytes};
 ghost use Rattle.std.specs.List.{join_with_byte};
 ghost use Rattle.waff_assign.specs.Case.{pairs_of};
 ghost use Rattle.waff_plan.specs.Bound.{IsWorkers};
 ghost use Rattle.waff_plan.specs.Timetable.{work_of_messages};
-ghost use Rattle.waff_plan.specs.Timing.{start_of};
-ghost use Rattle.waff_plan.specs.Totals.{totals_of};
 ghost use Rattle.waff_plan_text.specs.Lines.{Adds, line_text, text_of};
-ghost use Rattle.waff_tool.specs.Certificates.{IsBounded, IsCertified};
-ghost use Rattle.waff_tool.specs.Comparison.{IsMeasured, compare_lines, kind_field, measured_line};
+ghost use Rattle.waff_tool.specs.Comparison.{AreCertifiedTotals, AreListTotals, IsMeasured};
+ghost use Rattle.waff_tool.specs.Comparison.{compare_lines, kind_field, measured_line};
 ghost use Rattle.waff_tool.specs.Comparison.{measures_header, plan_fields};
 
 use crate::certificates::{bounded_plan, certified_plan};
 use std::alloc::{AllocError, Global};
+use std::thread;
+use std::thread::Threads;
 use waff_assign::Case;
 use waff_list::Rule;
 use waff_model::{Kind, Layout, Version};
@@ -26,8 +26,10 @@ pub struct Measured {
     pub listed: Totals,
 }
 
-/// What is told of the trace with its affinities under the tree of a hierarchy, for k workers.
-pub fn measure(
+/// What is told of the trace with its affinities under the tree of a hierarchy, for k workers. Each of
+/// the two plans is made in a thread of its own.
+pub fn measure<R: Threads + Sync>(
+    rt: &R,
     alloc: Global,
     layout: &Layout,
     case: &Case<'_>,
@@ -38,22 +40,27 @@ pub fn measure(
     ensures { IfOk result (IsMeasured layout.now case.now.assigned.now
         (work_of_messages case.now.trace.now.messages) k) }
 {
-    let unlimited = unlimited_totals(alloc, case)?;
-    let listed = list_totals(alloc, case, k)?;
+    let without_workers = move || -> Result<Totals, AllocError>
+        ensures { IfOk result (AreCertifiedTotals (pairs_of case.entry.now)
+            (work_of_messages case.entry.now.trace.now.messages)) }
+    { unlimited_totals(alloc, case) };
+    let for_workers = move || -> Result<Totals, AllocError>
+        requires { IsWorkers k }
+        ensures { IfOk result (AreListTotals (pairs_of case.entry.now)
+            (work_of_messages case.entry.now.trace.now.messages) k) }
+    { list_totals(alloc, case, k) };
+    let (unlimited, listed) = thread::join(rt, without_workers, for_workers);
     Ok(Measured {
         kind: layout.kind(),
-        unlimited,
-        listed,
+        unlimited: unlimited?,
+        listed: listed?,
     })
 }
 
 /// What is told of the unlimited plan.
 fn unlimited_totals(alloc: Global, case: &Case<'_>) -> Result<Totals, AllocError>
-    ensures { IfOk result (λ totals. (starts : List ℕ) × (chain : List ℕ)
-        × IsCertified (pairs_of case.now)
-        (work_of_messages case.now.trace.now.messages) (start_of starts) chain
-        × (totals ≡ totals_of None
-        (work_of_messages case.now.trace.now.messages) (start_of starts) chain)) }
+    ensures { IfOk result (AreCertifiedTotals (pairs_of case.now)
+        (work_of_messages case.now.trace.now.messages)) }
 {
     let certified = certified_plan(alloc, case)?;
     let totals = certified.plan.totals(None, certified.chain.messages());
@@ -64,11 +71,8 @@ fn unlimited_totals(alloc: Global, case: &Case<'_>) -> Result<Totals, AllocError
 /// What is told of the list plan for k workers.
 fn list_totals(alloc: Global, case: &Case<'_>, k: u32) -> Result<Totals, AllocError>
     requires workers { IsWorkers k }
-    ensures { IfOk result (λ totals. (starts : List ℕ) × (chain : List ℕ)
-        × IsBounded Rule.Arrival (pairs_of case.now)
-        (work_of_messages case.now.trace.now.messages) k (start_of starts) chain
-        × (totals ≡ totals_of (Some k)
-        (work_of_messages case.now.trace.now.messages) (start_of starts) chain)) }
+    ensures { IfOk result (AreListTotals (pairs_of case.now)
+        (work_of_messages case.now.trace.now.messages) k) }
 {
     let bounded = bounded_plan(alloc, case, Rule::Arrival, k)?;
     let listed = bounded.made.plan();

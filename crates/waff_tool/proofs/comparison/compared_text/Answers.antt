@@ -24,7 +24,7 @@ returns g c =
     let told : IsTrue refined ↔ Refines hierarchical.tree fine classical.tree coarse =
     rw (c.tree.ensures, c.tree-2.ensures) at c.refines-refined.ensures in
     let total : of_classical.unlimited.total ≡ total_of (work_of_trace trace) =
-    ap (λ totals. totals.total) under_classical.measured.unlimited in
+    ap (λ totals. totals.total) under_classical.measured.least.told in
     let text_for : Version → ℕ → List ℕ = λ version total. text_of
     (compare_lines version c.args.k total of_classical of_hierarchical refined) in
     IfOk-weaker c.comparison_text.result

@@ -4,4 +4,9 @@ pub returns : goal.returns
 returns c =
     let found = c.in_ok-certified.certified in
     let is = c.in_ok-certified.ensures in
-    (found.plan.starts, found.chain.messages, is.certified, rw (c.messages.ensures, is.timings) at c.totals-totals.ensures.totals)
+    record {
+      starts = found.plan.starts;
+      chain = found.chain.messages;
+      certified = is.certified;
+      told = rw (c.messages.ensures, is.timings) at c.totals-totals.ensures.totals;
+    }
