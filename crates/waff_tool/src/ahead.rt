@@ -1,7 +1,8 @@
 //! A plan text that is read beside the files that it is for.
 
-ghost use Rattle.std.specs.Prelude.{◌≡◌, ◌≢◌, IfErr, IfOk, length};
+ghost use Rattle.std.specs.Prelude.{◌≡◌, ◌≢◌, ◌≤◌, IfErr, IfOk, length};
 ghost use Rattle.std.specs.Thread.{IsSync};
+ghost use Rattle.waff_model.specs.declared.limits.TheConstants.{MAX_MESSAGES};
 ghost use Rattle.waff_inputs.specs.Inputs.{Accepts, Refuses};
 ghost use Rattle.waff_plan_text.specs.PlanTexts as texts;
 ghost use Rattle.waff_tool.specs.Ahead.{IsAccepted, IsReadOf};
@@ -77,7 +78,10 @@ fn likely_version(trace: &[u8]) -> Version {
 }
 
 /// How many messages a plan has whose text has no fault: the lines but the header and the summary.
-fn likely_messages(version: Version, plan: &[u8]) -> u32 {
+/// They are no more than a trace may have, so that no text makes the guess take more memory.
+fn likely_messages(version: Version, plan: &[u8]) -> u32
+    ensures { result ≤ MAX_MESSAGES }
+{
     let lines = plan.iter().filter(|byte| **byte == b'\n').count();
     let others = match version {
         Version::V1 => 7,
