@@ -4,4 +4,4 @@
 pub const LONG_VERSION: &str = "\
 0.1.0
 kit: rattle-kit-13f logic dac8208d650f15bf
-sources: 817912dc4c51e593";
+sources: 35995cf498c9de5c";

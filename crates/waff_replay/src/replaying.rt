@@ -21,9 +21,9 @@ use waff_cells::State;
 use waff_core::Job;
 
 /// As many operations as a message has at least, on average, for other workers than the calling thread
-/// to run one after the other without a rest: it takes some ten of them as long as to hand data from
+/// to run one after the other without a rest: a shorter message takes less time than to hand data from
 /// thread to thread.
-const LONG: u64 = 16;
+const LONG: u64 = 4;
 
 /// The state that the job's messages leave when this many workers run them, each in a thread of its
 /// own. The calling thread is one of the workers. Where a thread can't be started there are fewer

@@ -53,12 +53,12 @@ fn rest(rests: u32) {
 }
 
 /// How often a worker rests after a message: about twice as often as before the message if it is to
-/// rest longer, and else half as often.
+/// rest longer, and else a little less often.
 fn next_rests(rests: u32, longer: bool) -> u32 {
     if longer {
         rests.saturating_mul(2).saturating_add(1).min(RESTS)
     } else {
-        rests / 2
+        rests.saturating_sub(rests / 16 + 1)
     }
 }
 
