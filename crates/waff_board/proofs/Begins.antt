@@ -24,7 +24,7 @@ use Rattle.waff_board.specs.declared.view.Setup.{Setup}
 use Rattle.waff_board.specs.declared.view.View.{View}
 use Rattle.waff_board.proofs.Known.{Known, known, runs_more}
 use Rattle.waff_board.proofs.Moves.{Moves, draws_stay, ran_stays, seats_moved}
-use Rattle.waff_board.proofs.Owners.{AreApart, rising_apart}
+use Rattle.waff_board.proofs.Owners.{AreApart, once_apart}
 use Rattle.waff_board.proofs.Phases.{IsStill, runs_after}
 use Rattle.waff_board.proofs.Handing.{IsHome, Taken, take_all}
 
@@ -49,7 +49,7 @@ pub owner_listed : (job : JobValue) → IsJob job → (m a : ℕ) → IsIn job m
 owner_listed job is m a within owner = (((is.owners m within).each a)).1 owner
 
 pub owners_apart : (job : JobValue) → IsJob job → (m : ℕ) → IsIn job m → AreApart (owners_of job.owners m)
-owners_apart job is m within = rising_apart (owners_of job.owners m) (is.owners m within).rising
+owners_apart job is m within = once_apart (owners_of job.owners m) (is.owners m within).once
 
 module _ (job : JobValue) (is : IsJob job) (seats : ℕ) (core : Core) (known : Known job seats core) (x m : ℕ)
     (holds : phase_of core.phases x ≡ Some (Drawn m)) (clear : IsClear job core m) where

@@ -1,9 +1,8 @@
 -- Lists of affinities in which none stands twice.
-use Rattle.std.proofs.Common.{◌≡◌, ◌⊎◌, inl, inr, ℕ, zero, suc, ◌<◌, List, [], ◌∷◌, Contains, AllPairs, get_or, refl, subst, ⊎_elim, arith}
+use Rattle.std.proofs.Common.{◌≡◌, ◌⊎◌, inl, inr, ℕ, zero, suc, List, [], ◌∷◌, Contains, refl, sym, subst, ⊎_elim, arith}
 use mathlib.Core.Logic.{dite}
 use native.Mathlib.Decide.{ℕ_discrete}
-use Rattle.std.specs.List.Sorted.{IsStrictlyIncreasing}
-use Rattle.std.proofs.lemmas.List.Kept.{AllPairs-from_increasing}
+use Rattle.waff_core.specs.Job.{StandOnce}
 
 pub in_cases : (first : ℕ) (rest : List ℕ) (a : ℕ) → Contains (first ∷ rest) a → (first ≡ a) ⊎ Contains rest a
 in_cases first rest a (zero, within, is) = inl is
@@ -33,13 +32,9 @@ abbrev pub AreApart : List ℕ → Type 0
 AreApart [] = Unit {0}
 AreApart (first ∷ rest) = ¬ Contains rest first × AreApart rest
 
-apart_from_pairs : (list : List ℕ) → AllPairs (λ a b. a < b) list → AreApart list
-apart_from_pairs [] pairs = tt
-apart_from_pairs (first ∷ rest) pairs = (
-  (λ (k, within, is). let less : first < get_or rest k first = pairs 0 (suc k) first (omega arith) (omega (arith, within)) in
-      absurd (omega (arith, less, is))),
-  apart_from_pairs rest (λ i j d before within. pairs (suc i) (suc j) d (omega (arith, before)) (omega (arith, within))),
+pub once_apart : (list : List ℕ) → StandOnce list → AreApart list
+once_apart [] once = tt
+once_apart (first ∷ rest) once = (
+  (λ (k, within, is). once 0 (suc k) first (omega arith) (omega (arith, within)) (sym is)),
+  once_apart rest (λ i j d before within. once (suc i) (suc j) d (omega (arith, before)) (omega (arith, within))),
 )
-
-pub rising_apart : (list : List ℕ) → IsStrictlyIncreasing list → AreApart list
-rising_apart list rising = apart_from_pairs list (AllPairs-from_increasing list rising)

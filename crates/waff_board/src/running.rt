@@ -1,8 +1,8 @@
 //! Running a message.
 
 ghost use Rattle.std.specs.Prelude.{◌≡◌, ◌<◌, All, length, map};
-ghost use Rattle.std.specs.List.Sorted.{IsStrictlyIncreasing};
 ghost use Rattle.waff_cells.specs.Held.{rows_of};
+ghost use Rattle.waff_core.specs.Job.{StandOnce};
 ghost use Rattle.waff_board.specs.Hands.{rows_at};
 ghost use Rattle.waff_board.specs.Plays.{begun_view, finished_view};
 ghost use Rattle.waff_board.specs.Tokens.{IsOf, HoldsBefore, HoldsAfter};
@@ -53,7 +53,7 @@ impl Board {
         requires table { chair.old.table_id ≡ self.now.table }
         requires held { map (λ slot. slot.0) chair.old.me.1 ≡ owners.now }
         requires rows { All (λ a. a < length parcels.old.items) owners.now }
-        requires rising { IsStrictlyIncreasing owners.now }
+        requires once { StandOnce owners.now }
         ensures table { chair.new.table_id ≡ chair.old.table_id }
         ensures view { chair.new.me.0 ≡ chair.old.me.0 }
         ensures held { map (λ slot. slot.0) chair.new.me.1 ≡ owners.now }
@@ -109,7 +109,7 @@ impl Board {
         requires table { chair.old.table_id ≡ self.now.table }
         requires held { map (λ slot. slot.0) chair.old.me.1 ≡ owners.now }
         requires rows { All (λ a. a < length parcels.old.items) owners.now }
-        requires rising { IsStrictlyIncreasing owners.now }
+        requires once { StandOnce owners.now }
         ensures table { chair.new.table_id ≡ chair.old.table_id }
         ensures view { chair.new.me.0 ≡ chair.old.me.0 }
         ensures held { map (λ slot. slot.0) chair.new.me.1 ≡ owners.now }

@@ -1,15 +1,11 @@
 -- The operations and the owners of messages, one message after another.
-use Rattle.std.proofs.Common.{◌≡◌, ◌≢◌, ℕ, zero, suc, ◌+◌, ◌-◌, ◌*◌, ◌<◌, ◌≤◌, List, [], ◌∷◌, ◌++◌, length, slice_get, Some, get_or, take, map, All, Contains, eqb, arith, refl, ap, sym, ◌∙◌, subst, ⊎_elim}
-use Rattle.std.specs.List.{flat_map, dedup}
-use Rattle.std.specs.List.Sorted.{IsPermutation, IsSorted}
-use Rattle.std.specs.Ordering.{nat_cmp}
+use Rattle.std.proofs.Common.{◌≡◌, ◌≢◌, ℕ, zero, suc, ◌+◌, ◌-◌, ◌*◌, ◌<◌, ◌≤◌, List, [], ◌∷◌, ◌++◌, length, slice_get, Some, get_or, set, take, map, All, Contains, arith, refl, ap, sym, ◌∙◌, subst, ⊎_elim}
+use Rattle.std.specs.List.{flat_map}
 use Rattle.std.proofs.lemmas.Bool.{cases_eq}
-use Rattle.std.proofs.lemmas.List.{append_assoc, get_or_append_left, get_or-append-add, get_or_push, length-append, length_push, length-map, map-append, map_push, flat_map_more, get_or-map, take_more}
-use Rattle.std.proofs.lemmas.List.Elements.{All-nil, All-push, All-contains, Contains-get_or}
-use Rattle.std.proofs.lemmas.List.Kept.{Contains-dedup_nat, Contains-from_dedup}
-use Rattle.std.proofs.lemmas.List.Sorted.{Contains-permutation, IsPermutation-sym}
+use Rattle.std.proofs.lemmas.List.{append_assoc, get_or_append_left, get_or-append-add, get_or_push, get_or_default, get_or-set_same, get_or-set_other, length-set, length-append, length_push, length-map, map-append, map_push, flat_map_more, get_or-map, take_more}
+use Rattle.std.proofs.lemmas.List.Elements.{All-nil, All-push, All-set, All-contains, Contains-get_or, Contains-append_left, Contains-push, Contains-push_cases}
+use Rattle.std.proofs.lemmas.List.Quantifiers.{all_pairs_push}
 use Rattle.std.proofs.lemmas.Option.{get_or_from_slice_get, slice_get_within}
-use Rattle.std.proofs.lemmas.Map.Keys.{IsStrictlyIncreasing-dedup}
 use Rattle.waff_model.specs.Cells.{cells_of, cells_of_op}
 use Rattle.waff_model.specs.Layout.{Space, IsCell, owner_of}
 use Rattle.waff_model.specs.declared.cell.Cell.{Cell}
@@ -18,7 +14,7 @@ use Rattle.waff_model.specs.declared.op.Op.{Op}
 use Rattle.waff_model.specs.declared.op.Op.TheVariants.{Set, Add, Copy, Swap, Read}
 use Rattle.waff_cells.specs.Serial.{operations, ops_of}
 use Rattle.waff_core.specs.Job.{JobValue, IsJob, IsIn, IsOwner, ListsOwners, owners_of}
-use Rattle.waff_core.specs.Owners.{owners_in, AreOwners}
+use Rattle.waff_core.specs.Owners.{owners_in, AreMarked, AreOwners}
 
 pub All-left : {X : Type 0} (P : X → Type 0) (xs ys : List X) → All P (xs ++ ys) → All P xs
 All-left P xs ys h k d within =
@@ -102,22 +98,95 @@ owner_in spaces ops a owner =
       get_or-map f (cells_of ops) k owner.cell a within ∙ ap f owner.named.2 ∙ owner.owned,
     )
 
--- the owners of all cells, sorted and without those that stand twice
-pub lists_owners : (spaces : List Space) (ops : List Op) (found sorted kept : List ℕ) → found ≡ owners_in spaces (cells_of ops)
-    → IsPermutation found sorted → IsSorted nat_cmp sorted → kept ≡ dedup eqb sorted → ListsOwners spaces ops kept
-lists_owners spaces ops found sorted kept all moved rises is = record {
+-- where all marks are below n, none is n
+pub marked_none : (n : ℕ) (marks : List ℕ) → All (λ mark. mark < n) marks → AreMarked n marks [] []
+marked_none n marks below = record {
+  each = λ a. (λ has. has, λ has. has);
+  once = λ i j d less within. absurd (omega (arith, within));
+  few = omega arith;
+  marked = λ a. (λ has. absurd (omega (arith, has.1)), λ is. let less : get_or marks a 0 < n = below a 0 is.0 in absurd (omega (arith, less, is.1)));
+  up_to = λ k d within. let less : get_or marks k d < n = below k d within in omega (arith, less);
+}
+
+-- the owners stay where one of them is found again
+pub marked_again : (n : ℕ) (marks found owners : List ℕ) (a : ℕ) → a < length marks → get_or marks a 0 ≡ n
+    → AreMarked n marks found owners → AreMarked n marks (found ++ a ∷ []) owners
+marked_again n marks found owners a known is h =
+    let has : Contains found a = (h.each a).0 ((h.marked a).1 (known, is)) in
+    record {
+      each = λ b. (
+        λ there. Contains-append_left found (a ∷ []) b ((h.each b).0 there),
+        λ there.
+            ⊎_elim {C = Contains owners b}
+            (λ (before : Contains found b). (h.each b).1 before)
+            (λ (same : a ≡ b). (h.each b).1 (subst (λ x. Contains found x) same has))
+            (Contains-push_cases found a b there),
+      );
+      once = h.once;
+      few = let few = h.few in omega (arith, few, length_push found a);
+      marked = h.marked;
+      up_to = h.up_to;
+    }
+
+-- an affinity that is new among them
+pub marked_new : (n : ℕ) (marks found owners : List ℕ) (a : ℕ) → a < length marks → get_or marks a 0 ≢ n
+    → AreMarked n marks found owners → AreMarked n (set marks a n) (found ++ a ∷ []) (owners ++ a ∷ [])
+marked_new n marks found owners a known new h =
+    let fresh : Contains owners a → ⊥ = λ has. new ((h.marked a).0 has).1 in
+    record {
+      each = λ b. (
+        λ there.
+            ⊎_elim {C = Contains (found ++ a ∷ []) b}
+            (λ (before : Contains owners b). Contains-append_left found (a ∷ []) b ((h.each b).0 before))
+            (λ (same : a ≡ b). subst (λ x. Contains (found ++ a ∷ []) x) same (Contains-push found a))
+            (Contains-push_cases owners a b there),
+        λ there.
+            ⊎_elim {C = Contains (owners ++ a ∷ []) b}
+            (λ (before : Contains found b). Contains-append_left owners (a ∷ []) b ((h.each b).1 before))
+            (λ (same : a ≡ b). subst (λ x. Contains (owners ++ a ∷ []) x) same (Contains-push owners a))
+            (Contains-push_cases found a b there),
+      );
+      once = all_pairs_push (λ b c. b ≢ c) owners a h.once
+          (λ k d within same. fresh (k, within, get_or_default owners k a d within ∙ same));
+      few = let few = h.few in omega (arith, few, length_push found a, length_push owners a);
+      marked = λ b. (
+        λ there.
+            ⊎_elim {C = (b < length (set marks a n)) × get_or (set marks a n) b 0 ≡ n}
+            (λ (same : b ≡ a). (omega (arith, known, same, length-set marks a n), subst (λ x. get_or (set marks a n) x 0 ≡ n) (sym same) (get_or-set_same marks a n 0 known)))
+            (λ (other : b ≢ a).
+            let before : Contains owners b = ⊎_elim {C = Contains owners b} (λ (h : Contains owners b). h) (λ (same : a ≡ b). absurd (other (sym same))) (Contains-push_cases owners a b there) in
+            let is = (h.marked b).0 before in
+            (omega (arith, is.0, length-set marks a n), get_or-set_other marks a b n 0 other ∙ is.1))
+            (cases_eq b a),
+        λ is.
+            ⊎_elim {C = Contains (owners ++ a ∷ []) b}
+            (λ (same : b ≡ a). subst (λ x. Contains (owners ++ a ∷ []) x) (sym same) (Contains-push owners a))
+            (λ (other : b ≢ a). Contains-append_left owners (a ∷ []) b ((h.marked b).1 (omega (arith, is.0, length-set marks a n), sym (get_or-set_other marks a b n 0 other) ∙ is.1)))
+            (cases_eq b a),
+      );
+      up_to = All-set (λ (mark : ℕ). mark ≤ n) marks a n (omega arith) h.up_to;
+    }
+
+-- what two more affinities do, one after the other
+pub two_marked : (P : List ℕ → Type 0) (Q R : List ℕ → Type 0) (found : List ℕ) (a b : ℕ)
+    → ((found : List ℕ) → P found → Q (found ++ a ∷ [])) → ((found : List ℕ) → Q found → R (found ++ b ∷ []))
+    → P found → R (found ++ a ∷ b ∷ [])
+two_marked P Q R found a b first second h = subst R (append_assoc found (a ∷ []) (b ∷ [])) (second (found ++ a ∷ []) (first found h))
+
+-- the marks before the next message
+pub marked_before : (n : ℕ) (marks found owners : List ℕ) → AreMarked n marks found owners → All (λ mark. mark < n + 1) marks
+marked_before n marks found owners h k d within =
+    let less : get_or marks k d ≤ n = h.up_to k d within in omega (arith, less)
+
+-- the owners of all cells
+pub lists_owners : (n : ℕ) (marks : List ℕ) (spaces : List Space) (ops : List Op) (owners : List ℕ)
+    → AreMarked n marks (owners_in spaces (cells_of ops)) owners → ListsOwners spaces ops owners
+lists_owners n marks spaces ops owners h = record {
   each = λ a. (
-    λ has.
-        owner_from spaces ops a
-        (subst (λ xs. Contains xs a) all
-        (Contains-permutation _ _ a (IsPermutation-sym _ _ moved)
-        (Contains-from_dedup eqb sorted a (subst (λ xs. Contains xs a) is has)))),
-    λ owner.
-        subst (λ xs. Contains xs a) (sym is)
-        (Contains-dedup_nat sorted a
-        (Contains-permutation _ _ a moved (subst (λ xs. Contains xs a) (sym all) (owner_in spaces ops a owner)))),
+    λ has. owner_from spaces ops a ((h.each a).0 has),
+    λ owner. (h.each a).1 (owner_in spaces ops a owner),
   );
-  rising = rw is (IsStrictlyIncreasing-dedup sorted rises);
+  once = h.once;
 }
 
 -- the owners of the first n messages

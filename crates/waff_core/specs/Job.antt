@@ -1,7 +1,6 @@
 -- Jobs: what a replay replays.
-use Rattle.std.specs.Prelude.{◌≡◌, ◌↔◌, ℕ, ◌-◌, ◌<◌, ◌≤◌, List, [], length, All, Some, Contains}
+use Rattle.std.specs.Prelude.{◌≡◌, ◌≢◌, ◌↔◌, ℕ, ◌-◌, ◌<◌, ◌≤◌, List, [], length, All, AllPairs, Some, Contains}
 use Rattle.std.specs.Prelude.{slice_get, slice_index_or}
-use Rattle.std.specs.List.Sorted.{IsStrictlyIncreasing}
 use Rattle.waff_model.specs.Cells.{cells_of}
 use Rattle.waff_model.specs.Layout.{Hierarchy, Space, IsCell, IsLayout, owner_of}
 use Rattle.waff_model.specs.Numbers.{IsAmongFirst}
@@ -42,10 +41,14 @@ pub record IsOwner (spaces : List Space) (ops : List Op) (a : ℕ) : Type 0 wher
   pub named : Contains (cells_of ops) cell
   pub owned : owner_of spaces cell ≡ a
 
--- the owners of a footprint, each once, in rising order
+-- none of the numbers stands twice
+abbrev pub StandOnce : List ℕ → Type 0
+StandOnce numbers = AllPairs (λ a b. a ≢ b) numbers
+
+-- the owners of a footprint, each once
 pub record ListsOwners (spaces : List Space) (ops : List Op) (owners : List ℕ) : Type 0 where
   pub each : (a : ℕ) → Contains owners a ↔ IsOwner spaces ops a
-  pub rising : IsStrictlyIncreasing owners
+  pub once : StandOnce owners
 
 -- the owners of message n, from 1
 abbrev pub owners_of : List (List ℕ) → ℕ → List ℕ

@@ -1,10 +1,11 @@
 -- The owners of footprints.
-use Rattle.std.specs.Prelude.{◌≡◌, ℕ, ◌≤◌, List, length, map, All}
+use Rattle.std.specs.Prelude.{◌≡◌, ◌↔◌, ℕ, ◌<◌, ◌≤◌, List, length, map, All, Contains}
+use Rattle.std.specs.Prelude.{slice_index_or}
 use Rattle.waff_model.specs.Layout.{Space, owner_of}
 use Rattle.waff_model.specs.declared.cell.Cell.{Cell}
 use Rattle.waff_model.specs.declared.op.Op.{Op}
 use Rattle.waff_cells.specs.Serial.{ops_of}
-use Rattle.waff_core.specs.Job.{ListsOwners, owners_of}
+use Rattle.waff_core.specs.Job.{ListsOwners, StandOnce, owners_of}
 
 -- the owner of each cell, in the same order
 abbrev pub owners_in : List Space → List Cell → List ℕ
@@ -17,3 +18,12 @@ pub record AreOwners (spaces : List Space) (ops : List (List Op)) (owners : List
   pub each : (n : ℕ) → 1 ≤ n → n ≤ length ops
       → ListsOwners spaces (ops_of ops n) (owners_of owners n)
   pub few : All (λ owners. length owners ≤ 64) owners
+
+-- those that were found, each once; of all affinities they alone have the mark n, and none has a later
+-- one
+pub record AreMarked (n : ℕ) (marks : List ℕ) (found owners : List ℕ) : Type 0 where
+  pub each : (a : ℕ) → Contains owners a ↔ Contains found a
+  pub once : StandOnce owners
+  pub few : length owners ≤ length found
+  pub marked : (a : ℕ) → Contains owners a ↔ ((a < length marks) × slice_index_or marks a 0 ≡ n)
+  pub up_to : All (λ mark. mark ≤ n) marks

@@ -141,8 +141,7 @@ impl Job {
         self.needs.of(n)
     }
 
-    /// The numbers of the affinities that own a cell of the footprint of message `n`, in rising
-    /// order.
+    /// The numbers of the affinities that own a cell of the footprint of message `n`, each once.
     pub fn owners(&self, n: u32) -> &[u16]
         requires number { IsIn self.now n }
         ensures owners { result.now ≡ owners_of self.now.owners n }

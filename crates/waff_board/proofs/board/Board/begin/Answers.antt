@@ -1,9 +1,8 @@
 use Rattle.std.proofs.Common.{◌≡◌, ℕ, ◌-◌, ◌≤◌, Vec, Global, length, arith, sym, ap, ◌∙◌, subst}
-use Rattle.std.specs.List.Sorted.{IsStrictlyIncreasing}
 use Rattle.waff_cells.specs.Held.{rows_of}
 use Rattle.waff_cells.specs.Serial.{serial}
 use Rattle.waff_cells.specs.Parcel.{AreParcels}
-use Rattle.waff_core.specs.Job.{JobValue, owners_of}
+use Rattle.waff_core.specs.Job.{JobValue, StandOnce, owners_of}
 use Rattle.waff_board.specs.Hands.{rows_at}
 use Rattle.waff_board.specs.Plays.{begun_view}
 use Rattle.waff_board.specs.Seats.{has_seen}
@@ -50,17 +49,17 @@ take_out-requires-clause-rows c = λ k d within.
     let ok = hand.parcels.ok in
     omega (arith, known, tree, rows, ok)
 
-pub take_out-requires-clause-rising : goal.take_out-requires-clause-rising
-take_out-requires-clause-rising c =
+pub take_out-requires-clause-once : goal.take_out-requires-clause-once
+take_out-requires-clause-once c =
     let J = c.self.inside.setup.job in
     let m = c.cleared.inside.message in
     let same : c.cleared.inside.hand.chair.me.0.job ≡ J
     = ap (λ (t : Token). t.view.job) c.cleared.view_is ∙ c.requires.1 ∙ sym (ap (λ (b : BoardValue). b.job) c.self.view_is) in
-    subst (λ xs. IsStrictlyIncreasing xs) (sym c.owners.ensures.owners)
+    subst (λ xs. StandOnce xs) (sym c.owners.ensures.owners)
     (c.self.invariant.job.owners m (record {
       from = c.cleared.inside.from;
       to = subst (λ (j : JobValue). m ≤ length j.ops) same c.cleared.inside.to;
-    })).rising
+    })).once
 
 pub invariant_of-result : goal.invariant_of-result
 invariant_of-result c =

@@ -1,10 +1,9 @@
 use Rattle.std.proofs.Common.{◌≡◌, ℕ, ◌+◌, ◌≤◌, Vec, Global, map, length, arith, sym, ap, ◌∙◌, subst}
 use Rattle.atomic_table.specs.Table.{Me}
-use Rattle.std.specs.List.Sorted.{IsStrictlyIncreasing}
 use Rattle.waff_cells.specs.Held.{rows_of}
 use Rattle.waff_cells.specs.Serial.{serial}
 use Rattle.waff_cells.specs.Parcel.{AreParcels}
-use Rattle.waff_core.specs.Job.{JobValue, owners_of}
+use Rattle.waff_core.specs.Job.{JobValue, StandOnce, owners_of}
 use Rattle.waff_board.specs.Hands.{rows_at}
 use Rattle.waff_board.specs.Plays.{finished_view}
 use Rattle.waff_board.specs.Seats.{has_seen}
@@ -93,14 +92,14 @@ put_in-requires-clause-rows c = λ k d within.
     let ok = hand.parcels.ok in
     omega (arith, known, tree, rows, ok)
 
-pub put_in-requires-clause-rising : goal.put_in-requires-clause-rising
-put_in-requires-clause-rising c =
+pub put_in-requires-clause-once : goal.put_in-requires-clause-once
+put_in-requires-clause-once c =
     let J = c.self.inside.setup.job in
     let m = c.finished.inside.message in
     let same : c.finished.inside.hand.chair.me.0.job ≡ J
     = ap (λ (t : Token). t.view.job) c.finished.view_is ∙ c.requires.1 ∙ sym (ap (λ (b : BoardValue). b.job) c.self.view_is) in
-    subst (λ xs. IsStrictlyIncreasing xs) (sym c.owners.ensures.owners)
+    subst (λ xs. StandOnce xs) (sym c.owners.ensures.owners)
     (c.self.invariant.job.owners m (record {
       from = c.finished.inside.from;
       to = subst (λ (j : JobValue). m ≤ length j.ops) same c.finished.inside.to;
-    })).rising
+    })).once
