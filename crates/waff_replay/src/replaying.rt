@@ -20,11 +20,6 @@ use waff_board::{Board, CloseError, EndSeat, Seat};
 use waff_cells::State;
 use waff_core::Job;
 
-/// As many operations as a message has at least, on average, for other workers than the calling thread
-/// to run one after the other without a rest: a shorter message takes less time than to hand data from
-/// thread to thread.
-const LONG: u64 = 4;
-
 /// The state that the job's messages leave when this many workers run them, each in a thread of its
 /// own. The calling thread is one of the workers. Where a thread can't be started there are fewer
 /// workers.
@@ -40,14 +35,13 @@ pub fn replay<R: Threads + Wait + Sync, G: Gate>(
     ensures cells { IfOk result (λ state. (cell : Cell)
         → cells_in state cell ≡ serial job.ops (length job.ops) cell) }
 {
-    let pauses = !has_long_messages(&job);
     let Ok((board, mut others)) = Board::new(alloc, job, workers) else {
         return Err(AllocError);
     };
     let Some(mine) = others.pop() else {
         unreachable!()
     };
-    let end = settle(rt, &board, team(rt, &board, mine, others, gate, pauses));
+    let end = settle(rt, &board, team(rt, &board, mine, others, gate));
     match board.close(end) {
         Ok(state) => Ok(state),
         Err(CloseError::Memory) => Err(AllocError),
@@ -55,39 +49,29 @@ pub fn replay<R: Threads + Wait + Sync, G: Gate>(
     }
 }
 
-/// Whether the messages of a job are long on average. It decides the time of a replay alone.
-fn has_long_messages(job: &Job) -> bool {
-    let mut ops = 0u64;
-    for n in 1..job.len() + 1 {
-        ops = ops.saturating_add(job.message(n).ops.len() as u64);
-    }
-    LONG * u64::from(job.len()) <= ops
-}
-
-/// Has a thread work on each of the other seats, with pauses or without, and works on this one.
+/// Has a thread work on each of the other seats, and works on this one.
 fn team<R: Threads + Wait + Sync, G: Gate>(
     rt: &R,
     board: &Board,
     mine: Seat,
     mut others: Vec<Seat>,
     gate: &G,
-    pauses: bool,
 ) -> EndSeat
     requires mine { IsOf board.now mine }
     requires others { All (IsOf board.now) others.items }
     ensures { IsOf board.now result }
 {
     let Some(other) = others.pop() else {
-        return work(rt, board, mine, gate, false);
+        return work(rt, board, mine, gate);
     };
     let theirs = move || -> EndSeat
         requires { IsSync R.row × IsSync G.row × IsOf board.now other }
-    { work(rt, board, other, gate, pauses) };
+    { work(rt, board, other, gate) };
     let ours = move || -> EndSeat
         requires { IsSync R.row × IsSync G.row × IsOf board.now mine
             × All (IsOf board.now) others.items }
         ensures { IsOf board.entry.now result }
-    { team(rt, board, mine, others, gate, pauses) };
+    { team(rt, board, mine, others, gate) };
     let (_, end) = thread::join(rt, theirs, ours);
     end
 }

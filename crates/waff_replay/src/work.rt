@@ -5,37 +5,34 @@ ghost use Rattle.waff_board.specs.Tokens.{IsOf};
 use crate::gate::Gate;
 use std::hint::spin_loop;
 use std::sync::Wait;
-use std::thread::yield_now;
+use std::thread::{Parker, yield_now};
+use std::time::Duration;
 use waff_board::{Board, Clear, Cleared, Draw, Drawn, EndSeat, Seat};
 
 /// As many looks in a row as a worker makes before it lets other threads run.
 const LOOKS: u32 = 100;
 
-/// As many times as a worker lets other threads run at most before it draws.
-const RESTS: u32 = 1023;
+/// As long as a worker rests at most before it draws, in microseconds.
+const LONGEST_REST: u32 = 1023;
+
+/// A rest from which on a worker sleeps, in microseconds: to fall asleep and wake takes about as long.
+const SLEEP: u32 = 64;
 
 /// Runs messages until the order is used up. A worker that had to wait for one rests before it draws
 /// the next, longer each time in a row: where few messages can run at once, few workers run them, as
-/// handing data from thread to thread takes longer than running a message. One that pauses rests after
-/// each message as if it had waited.
-pub(crate) fn work<R: Wait, G: Gate>(
-    rt: &R,
-    board: &Board,
-    mut seat: Seat,
-    gate: &G,
-    pauses: bool,
-) -> EndSeat
+/// handing data from thread to thread takes longer than running a message.
+pub(crate) fn work<R: Wait, G: Gate>(rt: &R, board: &Board, mut seat: Seat, gate: &G) -> EndSeat
     requires { IsOf board.now seat }
     ensures { IsOf board.now result }
 {
-    let mut rests = 0;
+    let mut pause = 0;
     for _ in rt.forever() {
-        rest(rests);
+        rest(rt, pause);
         match board.draw(seat) {
             Draw::Over(end) => return end,
             Draw::Got(drawn) => {
                 let (cleared, has_waited) = wait_until_clear(rt, board, drawn);
-                rests = next_rests(rests, has_waited || pauses);
+                pause = next_rest(pause, has_waited);
                 let grant = board.begin(cleared);
                 gate.before(&grant);
                 seat = board.finish(grant.run());
@@ -45,20 +42,24 @@ pub(crate) fn work<R: Wait, G: Gate>(
     unreachable!()
 }
 
-/// Lets other threads run this many times.
-fn rest(rests: u32) {
-    for _ in 0..rests {
-        yield_now();
+/// Rests for about so many microseconds. No answer depends on how long.
+fn rest<R: Wait>(rt: &R, micros: u32) {
+    if micros < SLEEP {
+        for _ in 0..micros {
+            yield_now();
+        }
+    } else {
+        Parker::new().park_timeout(rt, Duration::from_micros(u64::from(micros)));
     }
 }
 
-/// How often a worker rests after a message: about twice as often as before the message if it is to
-/// rest longer, and else a little less often.
-fn next_rests(rests: u32, longer: bool) -> u32 {
-    if longer {
-        rests.saturating_mul(2).saturating_add(1).min(RESTS)
+/// How long a worker rests after a message: about twice as long as before it if it had to wait for the
+/// message, and else a little less long.
+fn next_rest(micros: u32, has_waited: bool) -> u32 {
+    if has_waited {
+        micros.saturating_mul(2).saturating_add(1).min(LONGEST_REST)
     } else {
-        rests.saturating_sub(rests / 16 + 1)
+        micros.saturating_sub(micros / 16 + 1)
     }
 }
 
