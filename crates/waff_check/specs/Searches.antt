@@ -1,11 +1,9 @@
--- The search for the first overlap, place by place, and what the searches for faults of starts find.
-use Rattle.std.specs.Prelude.{ℕ, ◌+◌, ◌<◌, ◌≤◌, Option, Some, None, MatchOption}
+-- The search for the first overlap, place by place.
+use Rattle.std.specs.Prelude.{ℕ, ◌+◌, ◌<◌, ◌≤◌, Option, Some, None}
 use Rattle.waff_model.specs.declared.limits.TheConstants.{MAX_MESSAGES}
 use Rattle.waff_plan.specs.Planned.{planned_pairs, planned_starts, planned_work}
 use Rattle.waff_plan.specs.declared.planned.Planned.{Planned}
-use Rattle.waff_check.specs.Faults.{IsFirstOverlap, IsLeastOf, NoneOf, Overlaps}
-use Rattle.waff_check.specs.Verdicts.{Claim, PairOverlaps, TickIsCrowded, WorkerIsWrong}
-use Rattle.waff_check.specs.Verdicts.{before_of, start_in, work_of_claim}
+use Rattle.waff_check.specs.Faults.{Overlaps}
 
 -- i is the place, from 0, of one of the messages, of which there are at most MAX_MESSAGES
 pub record IsSearchable (planned : Planned) (i : ℕ) : Type 0 where
@@ -21,14 +19,3 @@ HasOverlap planned i = (j : ℕ)
 abbrev pub IsFirstPlace : (ℕ → Type 0) → ℕ → Option ℕ → Type 0
 IsFirstPlace P n None = (i : ℕ) → i < n → P i → ⊥
 IsFirstPlace P n (Some place) = (place < n) × P place × ((i : ℕ) → i < place → P i → ⊥)
-
--- the first tick at which too many messages run, if there is one
-abbrev pub IsFirstCrowd : Claim → Option ℕ → Type 0
-IsFirstCrowd claim found =
-    MatchOption found (NoneOf (TickIsCrowded claim)) (IsLeastOf (TickIsCrowded claim))
-
--- the first overlap and the first message whose worker is wrong, if there are any
-pub record AreFirstFaults (claim : Claim) (found : Option (ℕ × ℕ) × Option ℕ) : Type 0 where
-  pub overlap : MatchOption found.0 ((i j : ℕ) → PairOverlaps claim i j → ⊥)
-      (λ pair. IsFirstOverlap (before_of claim) (work_of_claim claim) (start_in claim) pair.0 pair.1)
-  pub worker : MatchOption found.1 (NoneOf (WorkerIsWrong claim)) (IsLeastOf (WorkerIsWrong claim))

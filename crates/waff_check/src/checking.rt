@@ -1,10 +1,8 @@
 //! The check of a plan that is given.
 
 ghost use Rattle.std.specs.Prelude.{◌≡◌, length, IfOk};
-ghost use Rattle.std.specs.Thread.{IsSync};
 ghost use Rattle.waff_plan.specs.Planned.{planned_starts, planned_work};
 ghost use Rattle.waff_check.specs.Claimed.{claimed};
-ghost use Rattle.waff_check.specs.Searches.{AreFirstFaults, IsFirstCrowd};
 ghost use Rattle.waff_check.specs.Verdicts.{IsClaim, IsManned, IsPraise, IsVerdict, claim_of};
 ghost use Rattle.waff_plan_text.specs.Given.{IsGiven};
 ghost use Rattle.waff_check.specs.Promises.{PromisesBound, PromisesChain, PromisesObeys};
@@ -20,7 +18,6 @@ use crate::totals::has_totals;
 use crate::verdict::Verdict;
 use crate::worker::wrong_worker;
 use std::alloc::{AllocError, Global};
-use std::thread;
 use std::thread::Threads;
 use waff_assign::{Assigned, Case};
 use waff_model::{Trace, Tree};
@@ -90,65 +87,21 @@ fn find<'a, R: Threads + Sync>(
     verdict
 }
 
-// The verdict: each fault is looked for where no earlier one is there. Only the ticks are looked at
-// in a thread of their own, beside the pairs and the workers.
+// The verdict: each fault is looked for where no earlier one is there.
 fn judge<R: Threads + Sync>(rt: &R, alloc: Global, claim: &Claim<'_>) -> Result<Verdict, AllocError>
     ensures { IfOk result (IsVerdict (claimed claim.now)) }
 {
-    let others = move || -> Result<(Option<(u32, u32)>, Option<u32>), AllocError>
-        requires { IsSync R.row }
-        ensures { IfOk result (AreFirstFaults (claimed claim.entry.now)) }
-    { first_faults(rt, alloc, claim) };
-    let ticks = move || -> Result<Option<u64>, AllocError>
-        ensures { IfOk result (IsFirstCrowd (claimed claim.entry.now)) }
-    { first_crowd(alloc, claim) };
-    let (found, crowd) = thread::join(rt, others, ticks);
-    let found = found?;
-    let crowd = crowd?;
-    Ok(judge_found(claim, found, crowd))
-}
-
-// The verdict on a plan with these first faults of the starts and the workers, if there are any.
-fn judge_found(
-    claim: &Claim<'_>,
-    found: (Option<(u32, u32)>, Option<u32>),
-    crowd: Option<u64>,
-) -> Verdict
-    requires found { AreFirstFaults (claimed claim.now) found }
-    requires crowd { IsFirstCrowd (claimed claim.now) crowd }
-    ensures { IsVerdict (claimed claim.now) result }
-{
-    let (overlap, worker) = found;
-    if let Some((first, second)) = overlap {
-        return Verdict::Overlap { first, second };
+    let workers = claim.given.workers();
+    if let Some((first, second)) = first_overlap(rt, alloc, &claim.planned)? {
+        return Ok(Verdict::Overlap { first, second });
     }
-    if let Some(tick) = crowd {
-        return Verdict::TooManyAt { tick };
+    if let Some(tick) = crowded(alloc, claim.planned.plan, workers)? {
+        return Ok(Verdict::TooManyAt { tick });
     }
-    if let Some(message) = worker {
-        return Verdict::Worker { message };
+    if let Some(message) = wrong_worker(alloc, claim, workers)? {
+        return Ok(Verdict::Worker { message });
     }
-    judge_manned(claim)
-}
-
-// The first tick at which too many messages run.
-fn first_crowd(alloc: Global, claim: &Claim<'_>) -> Result<Option<u64>, AllocError>
-    ensures { IfOk result (IsFirstCrowd (claimed claim.now)) }
-{
-    crowded(alloc, claim.planned.plan, claim.given.workers())
-}
-
-// The first overlap, and the first message whose worker is wrong.
-fn first_faults<R: Threads + Sync>(
-    rt: &R,
-    alloc: Global,
-    claim: &Claim<'_>,
-) -> Result<(Option<(u32, u32)>, Option<u32>), AllocError>
-    ensures { IfOk result (AreFirstFaults (claimed claim.now)) }
-{
-    let overlap = first_overlap(rt, alloc, &claim.planned)?;
-    let worker = wrong_worker(alloc, claim, claim.given.workers())?;
-    Ok((overlap, worker))
+    Ok(judge_manned(claim))
 }
 
 // The verdict on a plan whose messages keep their order and have right workers.
