@@ -1,6 +1,5 @@
 -- Laws of the parts of a text, and of numbers.
-use Rattle.std.proofs.Common.{◌≡◌, ℕ, ◌+◌, ◌-◌, ◌<◌, ◌≤◌, ◌^◌, List, [], ◌∷◌, ◌∙◌, length, take, drop, get_or, Bool, true, false, cond, Some, None, position, refl, sym, ap, arith, inl, inr, ◌⊎◌}
-use Rattle.std.proofs.Math.Nat.{pow-le-pow_right}
+use Rattle.std.proofs.Common.{◌≡◌, ℕ, ◌+◌, ◌-◌, ◌<◌, ◌≤◌, List, [], ◌∷◌, ◌∙◌, length, take, drop, get_or, Bool, true, false, cond, Some, None, position, refl, sym, ap, arith, inl, inr, ◌⊎◌}
 use Rattle.std.specs.Prelude.{◌==◌, nat_lt, if◌then◌else◌, option_and_then, option_map}
 use Rattle.std.specs.Char.{digit_value, is_ascii_digit}
 use Rattle.std.specs.Int.{IsInRange}
@@ -40,13 +39,6 @@ pub parts-no_place : (c : ℕ) (text : List ℕ) → None ≡ position (λ b. b 
 parts-no_place c text is =
     let past : length text ≤ position_or_len (λ b. b == c) text = grind (arith, nat_tests, is) in
     slice_split_none (λ b. b == c) text (λ k d in_text. fails_before_first (λ b. b == c) text k d (omega arith))
-
--- a number of at most 18 digits
-pub few_digits : (n place : ℕ) → n < 10 ^ place → place < 19 → n < 1000000000000000000
-few_digits n place below few =
-    let few : place ≤ 18 = omega (arith, few) in
-    let most : 10 ^ place ≤ 10 ^ 18 = pow-le-pow_right {n = 10} (omega arith) {i = place} {j = 18} few in
-    omega (arith, below, most)
 
 -- the value of a digit
 pub value_of_digit : (c : ℕ) → is_ascii_digit c ≡ true → digit_value c ≡ c - 48

@@ -42,33 +42,11 @@ fn with_digit(value: Option<u64>, digit: u8) -> Option<u64>
     value?.checked_mul(10)?.checked_add(u64::from(digit))
 }
 
-// So many digits write a number below 2^64, whatever they are.
-const SHORT: usize = 19;
-
-// The number that so few bytes write if each is a digit.
-fn short_number(bytes: &[u8]) -> Option<u64>
-    requires { length bytes.now ≤ SHORT }
-    ensures { result ≡ (if list_all is_ascii_digit bytes.now then Some
-        (digits_value 10 bytes.now) else None) }
-{
-    let mut value: u64 = 0;
-    for byte in bytes {
-        if !byte.is_ascii_digit() {
-            return None;
-        }
-        value = value * 10 + u64::from(*byte - b'0');
-    }
-    Some(value)
-}
-
 // The number that bytes write if each is a digit.
 fn digits_number(bytes: &[u8]) -> Option<Option<u64>>
     ensures { result ≡ (if list_all is_ascii_digit bytes.now then Some
         (texts.small (digits_value 10 bytes.now)) else None) }
 {
-    if bytes.len() <= SHORT {
-        return Some(Some(short_number(bytes)?));
-    }
     let mut value = Some(0);
     for byte in bytes {
         if !byte.is_ascii_digit() {
@@ -119,27 +97,7 @@ pub fn first_number(text: &[u8]) -> Option<(u64, &[u8])>
     ensures { option_map texts.with_rest result ≡ texts.first_number text.now }
 {
     let mut value: u64 = 0;
-    let short = text.len().min(SHORT);
-    for place in 0..short {
-        let byte = text[place];
-        if !byte.is_ascii_digit() {
-            return number_until(text, place, value);
-        }
-        value = value * 10 + u64::from(byte - b'0');
-    }
-    number_from(text, short, value)
-}
-
-// The same, where the digits before this place write this value.
-#[inline(never)]
-fn number_from(text: &[u8], from: usize, value: u64) -> Option<(u64, &[u8])>
-    requires within { from ≤ length text.now }
-    requires digits { list_all is_ascii_digit (take from text.now) ≡ true }
-    requires value { value ≡ digits_value 10 (take from text.now) }
-    ensures { option_map texts.with_rest result ≡ texts.first_number text.now }
-{
-    let mut value = value;
-    for place in from..text.len() {
+    for place in 0..text.len() {
         let byte = text[place];
         if !byte.is_ascii_digit() {
             return number_until(text, place, value);
