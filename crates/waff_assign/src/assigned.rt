@@ -1,9 +1,10 @@
 //! The affinities assigned to the messages of a trace.
 
-ghost use Rattle.std.specs.Prelude.{◌≡◌, ◌≤◌, ℕ, length};
+ghost use Rattle.std.specs.Prelude.{◌≡◌, ◌≤◌, ℕ, length, IfOk};
 ghost use Rattle.waff_model.specs.Numbers.{IsAmongFirst};
 ghost use Rattle.waff_assign.specs.Order.{affinity_of};
 
+use std::alloc::{AllocError, Global};
 use std::marker::Model;
 use waff_model::AffinityId;
 use waff_model::limits::MAX_MESSAGES;
@@ -50,6 +51,16 @@ impl Assigned {
         ensures few { length self.now ≤ MAX_MESSAGES }
     {
         self.affinities.len() as u32
+    }
+
+    /// The numbers of all affinities, in the order of arrival.
+    pub fn numbers(&self, alloc: Global) -> Result<Vec<u32>, AllocError>
+        ensures { IfOk result (λ numbers. numbers.items ≡ self.now) }
+    {
+        self.affinities
+            .iter()
+            .map(|affinity| u32::from(affinity.0))
+            .collect(alloc)
     }
 
     /// The affinity of message `n`, from 1.

@@ -10,7 +10,7 @@ ghost use Rattle.waff_draw.specs.Lanes.{walk_from};
 
 use crate::marks::marks;
 use std::alloc::{AllocError, Global};
-use waff_assign::{Assigned, Case};
+use waff_assign::Case;
 use waff_model::{AffinityId, Tree};
 
 /// A lane: an affinity, and how many steps below the root it is.
@@ -46,7 +46,7 @@ fn used(alloc: Global, case: &Case<'_>) -> Result<Vec<bool>, AllocError>
     ensures each { IfOk result (λ used. (a : ℕ) → a < length case.now.tree.now
         → slice_index_or used.items a false ≡ is_among case.now.assigned.now a) }
 {
-    let affinities = affinities_of(alloc, case.assigned)?;
+    let affinities = case.assigned.numbers(alloc)?;
     marks(alloc, case.tree.len() as usize, affinities.as_slice())
 }
 
@@ -62,17 +62,6 @@ fn walked(alloc: Global, tree: &Tree) -> Result<Vec<Lane>, AllocError>
     let mut lanes = Vec::with_capacity(alloc, count as usize)?;
     walk(families.as_slice(), 0, 0, count, &mut lanes)?;
     Ok(lanes)
-}
-
-/// The affinity of each message, in the order of arrival.
-fn affinities_of(alloc: Global, assigned: &Assigned) -> Result<Vec<u32>, AllocError>
-    ensures { IfOk result (λ affinities. affinities.items ≡ assigned.now) }
-{
-    let mut affinities = Vec::with_capacity(alloc, assigned.len() as usize)?;
-    for n in 1..assigned.len() + 1 {
-        affinities.push_reserved(u32::from(assigned.of(n).0));
-    }
-    Ok(affinities)
 }
 
 /// The children of each affinity, in order.

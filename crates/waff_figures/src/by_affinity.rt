@@ -14,7 +14,6 @@ use crate::below::costs_below;
 use crate::grouped::Grouped;
 use crate::tally::{Tally, tallies};
 use std::alloc::{AllocError, Global};
-use waff_assign::Assigned;
 use waff_model::{AffinityId, Tree};
 use waff_plan::Planned;
 
@@ -33,7 +32,7 @@ pub fn affinities_text(
 {
     let tree = planned.case.tree;
     let _total = planned.plan.total();
-    let affinities = affinities_of(alloc, planned.case.assigned)?;
+    let affinities = planned.case.assigned.numbers(alloc)?;
     let grouped = Grouped {
         plan: planned.plan,
         groups: affinities.as_slice(),
@@ -61,17 +60,6 @@ fn tallied_text(
     text.push_str("affinity,parent,messages,cost,below,chain\n")?;
     push_rows(&mut text, tree, tallies, below)?;
     Ok(text)
-}
-
-/// The affinity of each message, in the order of arrival.
-fn affinities_of(alloc: Global, assigned: &Assigned) -> Result<Vec<u32>, AllocError>
-    ensures { IfOk result (λ affinities. affinities.items ≡ assigned.now) }
-{
-    let mut affinities = Vec::with_capacity(alloc, assigned.len() as usize)?;
-    for n in 1..assigned.len() + 1 {
-        affinities.push_reserved(u32::from(assigned.of(n).0));
-    }
-    Ok(affinities)
 }
 
 /// Appends the lines of all affinities.
