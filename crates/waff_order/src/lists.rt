@@ -1,7 +1,7 @@
 //! Lists of lists, kept flat, and the needs of messages as such lists.
 
 ghost use Rattle.std.specs.Prelude.{◌≡◌, ◌+◌, ◌-◌, ◌^◌, ◌<◌, ◌≤◌, [], ◌∷◌, ◌++◌, length, sum_by};
-ghost use Rattle.std.specs.Prelude.{slice_index_or, slice_range, IfOk, OnOk};
+ghost use Rattle.std.specs.Prelude.{slice_index_or, slice_range, IfOk, OnErr, OnOk};
 ghost use Rattle.std.specs.List.Sorted.{IsStrictlyIncreasing};
 ghost use Rattle.waff_model.specs.Numbers.{IsAmongFirst};
 ghost use Rattle.waff_order.specs.Needs.{needs_of, AreLists};
@@ -58,10 +58,11 @@ impl<T> Lists<T> {
 }
 
 impl<T: Copy> Lists<T> {
-    /// Appends a list.
+    /// Appends a list, of which nothing is left where memory is refused.
     pub fn push(&mut self, list: &[T]) -> Result<(), AllocError>
         requires short { sum_by length self.old + length list.now < 2 ^ 32 }
-        ensures { OnOk result (self.new ≡ self.old ++ list.now ∷ []) }
+        ensures pushed { OnOk result (self.new ≡ self.old ++ list.now ∷ []) }
+        ensures unchanged { OnErr result (self.new ≡ self.old) }
     {
         self.ends.reserve(1)?;
         self.all.extend_from_slice(list)?;

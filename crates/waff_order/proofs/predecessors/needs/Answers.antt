@@ -52,7 +52,7 @@ loop-m-preserved c =
     let needs = chosen added.1 (get_or noted (first_of spans assigned (n + 1)) 0) in
     let items : c.as_slice.result.now ≡ needs
     = c.as_slice.ensures.value ∙ added.3 ∙ ap (λ (p : Span). chosen added.1 (get_or noted p.first 0)) same in
-    let pushed : c.push.new.self ≡ lists ++ needs ∷ [] = c.in_ok-push.ensures ∙ ap (λ xs. lists ++ xs ∷ []) items in
+    let pushed : c.push.new.self ≡ lists ++ needs ∷ [] = c.in_ok-push.ensures.pushed ∙ ap (λ xs. lists ++ xs ∷ []) items in
     let put : c.add.new.self.opened ≡ set added.0 (first_of spans assigned (n + 1)) (n + 1)
     = added.4 ∙ ap (λ (p : Span). set added.0 p.first c.loop-m.m) same ∙ ap (λ m. set added.0 (first_of spans assigned (n + 1)) m) next in
     let notes = subst (λ m. IsNoted by_number (first_of spans assigned (n + 1)) (end_of spans assigned (n + 1)) m noted c.add.new.self.latest) next

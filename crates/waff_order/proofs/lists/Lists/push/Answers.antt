@@ -26,8 +26,8 @@ invariant_of-self-2 g c =
     = c.push_reserved.ensures.items ∙ ap (λ xs. xs ++ c.len.result ∷ []) c.in_ok-reserve.ensures.items ∙ ap (λ end. ends ++ end ∷ []) last in
     rw (items, pushed) (cuts_push all list 0 ends c.self.invariant)
 
-pub returns : goal.returns
-returns g c =
+pub returns-clause-pushed : goal.returns-clause-pushed
+returns-clause-pushed g c =
     let all = c.self.inside.all.items in
     let list = c.args.list.now in
     let ends = c.self.inside.ends.items in
