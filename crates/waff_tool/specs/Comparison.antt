@@ -90,7 +90,7 @@ compare_lines version k total classical hierarchical refined =
     ∷ []
 
 -- the affinities of the messages of a trace under a hierarchy, and what is told of it for k workers
-pub record AreMeasured (layout : Hierarchy) (trace : Arrivals) (k : ℕ)
+pub record AreAssignedAndMeasured (layout : Hierarchy) (trace : Arrivals) (k : ℕ)
     (made : List ℕ × Measured) : Type 0 where
   pub assignment : IsAssignment layout trace.messages made.0
   pub known : All (λ a. a < length layout.tree) made.0

@@ -6,7 +6,7 @@ ghost use Rattle.waff_model.specs.Layout.{SameSpaces};
 ghost use Rattle.waff_model.specs.Messages.{sizes_of};
 ghost use Rattle.waff_plan.specs.Bound.{IsWorkers};
 ghost use Rattle.waff_read.specs.Hierarchies.{hierarchy_of};
-ghost use Rattle.waff_tool.specs.Comparison.{AreHierarchies, AreMeasured, AreModels, IsCompared};
+ghost use Rattle.waff_tool.specs.Comparison.{AreHierarchies, AreAssignedAndMeasured, AreModels, IsCompared};
 ghost use Rattle.waff_tool.specs.Comparison.{IsCompareText, RefusesComparison};
 ghost use Rattle.waff_inputs.specs.Deliveries.{Delivers, Makes};
 
@@ -160,12 +160,12 @@ fn compared_text<R: Threads + Sync>(
     let under_classical = move || -> Result<(Assigned, Measured), AllocError>
         requires { IsSync R.row × (trace.now.sizes ≡ sizes_of classical.now.spaces)
             × IsWorkers k }
-        ensures { IfOk result (AreMeasured classical.entry.now trace.entry.now k) }
+        ensures { IfOk result (AreAssignedAndMeasured classical.entry.now trace.entry.now k) }
     { assign_and_measure(rt, alloc, classical, trace, k) };
     let under_hierarchical = move || -> Result<(Assigned, Measured), AllocError>
         requires { IsSync R.row × (trace.now.sizes ≡ sizes_of hierarchical.now.spaces)
             × IsWorkers k }
-        ensures { IfOk result (AreMeasured hierarchical.entry.now trace.entry.now k) }
+        ensures { IfOk result (AreAssignedAndMeasured hierarchical.entry.now trace.entry.now k) }
     { assign_and_measure(rt, alloc, hierarchical, trace, k) };
     let (coarse, fine) = thread::join(rt, under_classical, under_hierarchical);
     let (coarse, of_classical) = coarse?;
@@ -195,7 +195,7 @@ fn assign_and_measure<R: Threads + Sync>(
 ) -> Result<(Assigned, Measured), AllocError>
     requires fits { trace.now.sizes ≡ sizes_of layout.now.spaces }
     requires workers { IsWorkers k }
-    ensures { IfOk result (AreMeasured layout.now trace.now k) }
+    ensures { IfOk result (AreAssignedAndMeasured layout.now trace.now k) }
 {
     let assigned = assign(alloc, layout, trace)?;
     let case = Case {
