@@ -4,4 +4,4 @@
 pub const LONG_VERSION: &str = "\
 0.1.0
 kit: rattle-kit-13f logic dac8208d650f15bf
-sources: 35995cf498c9de5c";
+sources: 4165ea5702da937c";
