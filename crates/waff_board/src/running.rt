@@ -134,7 +134,6 @@ impl<'a> Grant<'a> {
     }
 
     /// Runs the message's operations on the parcels.
-    #[inline(always)]
     pub fn run(self) -> Finished<'a>
         ensures message { result.message ≡ self.entry.message }
         ensures table { result.table ≡ self.entry.table }

@@ -12,7 +12,6 @@ use crate::rows;
 use waff_model::{Cell, Layout, Ops};
 
 /// Runs operations on parcels.
-#[inline(always)]
 pub fn run(parcels: &mut [Vec<u64>], layout: &Layout, ops: &Ops)
     requires held { All (IsHeld layout.now.spaces (rows_of parcels.old)) (cells_of ops.now) }
     ensures sizes { HasSizes (rows_of parcels.new) (map length (rows_of parcels.old)) }

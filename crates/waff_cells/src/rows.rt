@@ -23,7 +23,6 @@ pub(crate) fn run<A: Addresses>(rows: &mut [Vec<u64>], addresses: &A, ops: &Ops)
 }
 
 /// Runs the operation on the rows.
-#[inline(always)]
 fn run_op<A: Addresses>(rows: &mut [Vec<u64>], addresses: &A, op: Op)
     requires has { All (A.has addresses.now) (cells_of_op op) }
     requires within { AreWithin (map length (rows_of rows.old))

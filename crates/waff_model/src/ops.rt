@@ -69,7 +69,6 @@ impl Ops {
     }
 
     /// Appends an operation.
-    #[inline(always)]
     pub fn push(&mut self, op: Op) -> Result<(), AllocError>
         ensures pushed { OnOk result (self.new ≡ self.old ++ op ∷ []) }
         ensures unchanged { OnErr result (self.new ≡ self.old) }
@@ -86,7 +85,6 @@ impl Ops {
     }
 
     // Appends an operation for which there is no room, or which is not packed.
-    #[inline(never)]
     fn push_elsewhere(&mut self, op: Op) -> Result<(), AllocError>
         ensures pushed { OnOk result (self.new ≡ self.old ++ op ∷ []) }
         ensures unchanged { OnErr result (self.new ≡ self.old) }
@@ -98,7 +96,6 @@ impl Ops {
     }
 
     /// How many operations there are.
-    #[inline(always)]
     pub fn len(&self) -> usize
         ensures { result ≡ length self.now }
     {
@@ -113,7 +110,6 @@ impl Ops {
     }
 
     /// The operation at an index, from 0.
-    #[inline(always)]
     pub fn get(&self, index: usize) -> Op
         requires { index < length self.now }
         ensures { slice_get self.now index ≡ Some result }
@@ -123,7 +119,6 @@ impl Ops {
 }
 
 impl Kept {
-    #[inline(always)]
     fn len(&self) -> usize
         ensures { result ≡ length (kept_ops self.now) }
     {
@@ -134,7 +129,6 @@ impl Kept {
         }
     }
 
-    #[inline(always)]
     fn get(&self, index: usize) -> Op
         requires { index < length (kept_ops self.now) }
         ensures { slice_get (kept_ops self.now) index ≡ Some result }

@@ -20,7 +20,6 @@ pub(crate) struct PackedOp {
 
 impl PackedOp {
     /// The operation, where its numbers are small.
-    #[inline(always)]
     pub fn of(op: Op) -> Option<PackedOp>
         ensures small { IsSome result ↔ IsSmall op }
         ensures same { IfSome result (λ packed. op_of packed ≡ op) }
@@ -29,7 +28,6 @@ impl PackedOp {
     }
 
     /// The operation that this one stands for.
-    #[inline(always)]
     pub fn op(self) -> Op
         ensures { result ≡ op_of self }
     {
@@ -50,7 +48,6 @@ impl PackedOp {
 }
 
 /// The operation, whose numbers are small.
-#[inline(always)]
 fn packed(op: Op) -> PackedOp
     requires { IsSmall op }
     ensures { op_of result ≡ op }
@@ -65,7 +62,6 @@ fn packed(op: Op) -> PackedOp
 }
 
 /// The operation of this verb on a cell, with this value.
-#[inline(always)]
 fn with_value(verb: Verb, cell: Cell, value: u32) -> PackedOp
     requires { cell.space < 2 ^ 8 }
     ensures { op_of result ≡ op_by verb cell (cell_at 0 value) value }
@@ -80,7 +76,6 @@ fn with_value(verb: Verb, cell: Cell, value: u32) -> PackedOp
 }
 
 /// The operation of this verb on two cells.
-#[inline(always)]
 fn with_other(verb: Verb, cell: Cell, other: Cell) -> PackedOp
     requires cell { cell.space < 2 ^ 8 }
     requires other { other.space < 2 ^ 8 }
@@ -96,7 +91,6 @@ fn with_other(verb: Verb, cell: Cell, other: Cell) -> PackedOp
 }
 
 /// The cell with this index in a space.
-#[inline(always)]
 fn cell_at(space: u8, index: u32) -> Cell
     ensures { result ≡ cell_at space index }
 {
@@ -107,7 +101,6 @@ fn cell_at(space: u8, index: u32) -> Cell
 }
 
 /// Whether the numbers of the operation are small.
-#[inline(always)]
 fn is_small(op: Op) -> bool
     ensures { IsTrue result ↔ IsSmall op }
 {

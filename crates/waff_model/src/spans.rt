@@ -34,12 +34,10 @@ pub trait Later: Copy + Drop {
 impl Later for u32 {
     ghost order = { by_number };
 
-    #[inline]
     fn none() -> u32 {
         0
     }
 
-    #[inline]
     fn later(self, other: u32) -> u32 {
         self.max(other)
     }
@@ -79,7 +77,6 @@ impl<T: Later> Blocks<T> {
     }
 
     /// How many places there are.
-    #[inline]
     fn len(&self) -> usize
         ensures { result ≡ length self.now }
     {
@@ -87,7 +84,6 @@ impl<T: Later> Blocks<T> {
     }
 
     /// What counts at this place.
-    #[inline]
     fn at(&self, place: usize) -> T
         requires { place < length self.now }
         ensures { result ≡ value_at T.order self.now place }
@@ -140,7 +136,6 @@ impl<T: Later> Spread<T> {
     }
 
     /// What counts at this place.
-    #[inline]
     pub fn at(&self, place: usize) -> T
         requires { place < length self.now }
         ensures { result ≡ value_at T.order self.now place }
@@ -194,7 +189,6 @@ impl<T: Later> Standing<T> {
     }
 
     /// The value stands at this place, where a later one does not.
-    #[inline]
     pub fn put(&mut self, place: usize, value: T)
         requires { place < length self.old }
         ensures { self.new ≡ slice_set self.old place
@@ -258,7 +252,6 @@ impl Opened {
     }
 
     /// Message `m` is open at this place.
-    #[inline]
     pub fn put(&mut self, place: usize, m: u32)
         requires { place < length self.old }
         ensures { self.new ≡ slice_set self.old place m }

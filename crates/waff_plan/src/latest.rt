@@ -72,7 +72,6 @@ impl Found {
 impl Later for Found {
     ghost order = { latest_order };
 
-    #[inline]
     fn none() -> Found {
         Found {
             message: Latest {
@@ -82,7 +81,6 @@ impl Later for Found {
         }
     }
 
-    #[inline]
     fn later(self, other: Found) -> Found {
         if is_later(self.message, other.message) {
             other

@@ -7,7 +7,6 @@ use itoa::Buffer;
 use std::alloc::AllocError;
 
 /// Appends the number in decimal.
-#[inline]
 pub fn push_number(text: &mut String, number: u64) -> Result<(), AllocError>
     ensures { OnOk result (Adds text.old text.new (decimal number)) }
 {

@@ -10,7 +10,6 @@ use waff_model::{Cell, Verb};
 use waff_parse::first_number;
 
 /// What stands behind the first bytes of a text, where it begins with these.
-#[inline(always)]
 #[tactic(auto, unfolding(crate::specs::Beginnings::behind))]
 pub(crate) fn behind<'t>(text: &'t [u8], first: &[u8]) -> Option<&'t [u8]>
     ensures { option_map (λ rest. rest.now) result ≡ beginnings.behind first.now text.now }
@@ -19,7 +18,6 @@ pub(crate) fn behind<'t>(text: &'t [u8], first: &[u8]) -> Option<&'t [u8]>
 }
 
 // The cell that a text begins with.
-#[inline(always)]
 #[tactic(auto, unfolding(crate::specs::Beginnings::first_cell))]
 fn first_cell<'t>(spaces: &SpaceTable<'_>, text: &'t [u8]) -> Option<(Cell, &'t [u8])>
     ensures { option_map beginnings.with_rest result ≡ beginnings.first_cell spaces.now text.now }
@@ -36,7 +34,6 @@ fn first_cell<'t>(spaces: &SpaceTable<'_>, text: &'t [u8]) -> Option<(Cell, &'t 
 
 // The parts of an operation of this verb, on the cell and the number that a text begins with, with a
 // space between them.
-#[inline(always)]
 #[tactic(auto, unfolding(crate::specs::Beginnings::cell_and_number))]
 fn with_number<'t>(spaces: &SpaceTable<'_>, verb: Verb, text: &'t [u8]) -> Option<(Parts, &'t [u8])>
     ensures { option_map beginnings.made_with_rest result ≡ beginnings.with_number
@@ -49,7 +46,6 @@ fn with_number<'t>(spaces: &SpaceTable<'_>, verb: Verb, text: &'t [u8]) -> Optio
 
 // The parts of an operation of this verb, on the two cells that a text begins with, with a space
 // between them.
-#[inline(always)]
 #[tactic(auto, unfolding(crate::specs::Beginnings::two_cells))]
 fn with_other<'t>(spaces: &SpaceTable<'_>, verb: Verb, text: &'t [u8]) -> Option<(Parts, &'t [u8])>
     ensures { option_map beginnings.made_with_rest result ≡ beginnings.with_other

@@ -74,7 +74,6 @@ fn read_release(text: Option<&str>) -> Result<u32, TraceFault>
 }
 
 // The message that fields spell in the record with this number.
-#[inline(always)]
 #[tactic(auto, unfolding(crate::specs::Messages::message_of_fields))]
 fn message_of_fields(
     alloc: Global,

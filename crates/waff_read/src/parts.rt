@@ -19,7 +19,6 @@ pub(crate) struct Parts {
 
 impl Parts {
     /// The parts of an operation with this verb, whatever it wants of the others.
-    #[inline(always)]
     pub(crate) fn of(verb: Verb, cell: Cell, value: u64, other: Cell) -> Self
         ensures { beginnings.made result ≡ op_by verb cell other value }
     {
@@ -34,7 +33,6 @@ impl Parts {
     /// Appends the operation that is made of these parts. Each verb pushes its own: an operation
     /// that comes from one of several branches goes through memory, and is read there in other
     /// pieces than it was written in, for which a processor waits.
-    #[inline(always)]
     pub(crate) fn push_to(self, list: &mut Ops) -> Result<(), AllocError>
         ensures { OnOk result (list.new ≡ list.old ++ beginnings.made self ∷ []) }
     {

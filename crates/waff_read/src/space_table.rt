@@ -69,7 +69,6 @@ impl<'a> SpaceTable<'a> {
     }
 
     // The space on the shelf of this name, where it has this name.
-    #[inline(always)]
     fn on_shelf(&self, name: &[u8]) -> Option<u32>
         ensures named { IfSome result (λ s.
             beginnings.space_of_name self.now name.now ≡ Some s) }
@@ -84,7 +83,6 @@ impl<'a> SpaceTable<'a> {
     }
 
     // The number of the space with this name, if it is a name.
-    #[inline(always)]
     fn named(&self, name: &[u8]) -> Option<u32>
         ensures named { result ≡ beginnings.space_of_name self.now name.now }
         ensures within { IfSome result (λ s. s < length self.now) }
@@ -96,7 +94,6 @@ impl<'a> SpaceTable<'a> {
     }
 
     // The same, looked up in the table of names.
-    #[inline(never)]
     fn looked_up(&self, name: &[u8]) -> Option<u32>
         ensures named { result ≡ beginnings.space_of_name self.now name.now }
         ensures within { IfSome result (λ s. s < length self.now) }
@@ -109,7 +106,6 @@ impl<'a> SpaceTable<'a> {
     }
 
     /// The space whose name stands before the first `:` of a text, and the text after that.
-    #[inline(always)]
     #[tactic(auto, unfolding(crate::specs::Beginnings::first_space))]
     pub(crate) fn first_space<'t>(&self, text: &'t [u8]) -> Option<(u32, &'t [u8])>
         ensures begins { option_map beginnings.with_rest result
@@ -140,7 +136,6 @@ fn first_colon(text: &[u8]) -> Option<usize>
 }
 
 /// The shelf of a name, by its last two bytes.
-#[inline(always)]
 fn shelf_of(name: &[u8]) -> usize
     ensures { result < SHELVES }
 {

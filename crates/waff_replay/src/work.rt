@@ -64,7 +64,6 @@ fn next_rest(micros: u32, has_waited: bool) -> u32 {
 }
 
 /// Looks at the needs of the message until all are done. Answers whether it had to wait too.
-#[inline(always)]
 fn wait_until_clear<R: Wait>(rt: &R, board: &Board, mut drawn: Drawn) -> (Cleared, bool)
     requires { IsOf board.now drawn }
     ensures { IsOf board.now result.0 }
