@@ -6,7 +6,8 @@
 - A block of code that is marked as `rust`, `antt` or `edit` stands in a source, but for blanks; `...` stands for lines left out. The
   first words of each line of a block marked `tree` are functions or types.
 - docs/proof.md names nothing that the sources do not have, and each crate of the kit that they stand on.
-- docs/testing.md names each script, docs/architecture.md each crate with what its first lines say and what it stands on.
+- docs/testing.md names each script, docs/architecture.md each crate with what its first lines say and what it stands on; crates.txt has
+  the same words.
 - Each entry of docs/DECISIONS.md has its reason, and what it was chosen over.
 - README.md has the line of the kit that `dist/waff` was proved with.
 """
@@ -15,6 +16,7 @@ import re
 
 from sources import DEFINITION, NAME, ROOT, TOKEN, TYPE, fields_of, functions_of
 
+CRATES = ROOT / "crates.txt"
 ARCHITECTURE = ROOT / "docs" / "architecture.md"
 LINK = re.compile(r"\[((?:[^\[\]]|\[[^\[\]]*\]\([^()]*\))*)\]\(([^()\s]+)\)")
 FOLDERS = ("bench", "crates", "dist", "docs", "examples", "tests", "workloads")
@@ -152,6 +154,7 @@ class Reader:
         shown = [line for _, line in page.lines if line.startswith("|")]
         for line in HEADER + crate_rows():
             self.tell(line in shown, page.name, f"no line {line[:60]}.. (tests/promises/run write)")
+        self.tell(crate_lines() == CRATES.read_text().splitlines(), CRATES.name, "other words (tests/promises/run write)")
 
     def read_decisions(self, page):
         entries = re.split(r"^### ", page.path.read_text(), flags=re.M)[1:]
@@ -197,10 +200,10 @@ def first_sentence(crate):
 def crate_rows():
     """The rows of the table of crates, in the order of crates.txt."""
     rows, layer = [], ""
-    for line in (ROOT / "crates.txt").read_text().splitlines()[1:]:
-        if line.startswith("#"):
-            layer = line.lstrip("# ")
-        elif line:
+    for line in CRATES.read_text().splitlines():
+        if line.startswith("## "):
+            layer = line.removeprefix("## ")
+        elif re.match(r"\w", line):
             head, _, below = line.partition(":")
             name = head.split()[0]
             rows.append(f"| {layer} | `{name}` | {first_sentence(name)} | {', '.join(f'`{b}`' for b in below.split())} |")
@@ -208,14 +211,27 @@ def crate_rows():
     return rows
 
 
+def crate_lines():
+    """The lines of crates.txt, where each crate stands below what it says of itself first."""
+    lines = []
+    for number, line in enumerate(CRATES.read_text().splitlines()):
+        name = re.match(r"\w+", line)
+        if name:
+            lines.append(f"# {first_sentence(name.group())}")
+        if number == 0 or not line.startswith("# "):
+            lines.append(line)
+    return lines
+
+
 def kit_crates():
     """The crates of the kit that the crates stand on."""
-    below = re.findall(r"^\w.*?:(.*)", (ROOT / "crates.txt").read_text(), re.M)
+    below = re.findall(r"^\w.*?:(.*)", CRATES.read_text(), re.M)
     return sorted({name for line in below for name in line.split() if not name.startswith("waff")})
 
 
 def write_crates():
-    """Writes the table of crates anew."""
+    """Writes the words of crates.txt and the table of crates anew."""
+    CRATES.write_text("\n".join(crate_lines()) + "\n")
     lines = ARCHITECTURE.read_text().splitlines()
     start = lines.index(HEADER[0])
     end = start
