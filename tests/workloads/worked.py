@@ -83,6 +83,122 @@ read,5,21,read Vol.data:0;read Vol.data:1
 """,
         ("first parts of calls, which are told with their second parts: 2",),
     ),
+    # Two shells in two folders, each with a call that makes a process at the same time. The child of the second one is seen before
+    # that call returns: its folder is /b, whichever call began first.
+    Worked(
+        "strace: a process that is seen before the call that made it returns",
+        "strace -",
+        """
+10 1.000000 chdir("/a") = 0 <0.000001>
+20 1.000001 chdir("/b") = 0 <0.000001>
+10 1.000010 clone(child_stack=NULL, flags=SIGCHLD <unfinished ...>
+20 1.000011 clone(child_stack=NULL, flags=SIGCHLD <unfinished ...>
+22 1.000012 openat(AT_FDCWD, "x", O_RDONLY) = 3 <0.000005>
+20 1.000013 <... clone resumed>) = 22 <0.000100>
+10 1.000014 <... clone resumed>) = 11 <0.000100>
+11 1.000015 openat(AT_FDCWD, "x", O_RDONLY) = 3 <0.000005>
+10 1.000020 stat("/a/x", {}) = 0 <0.000001>
+10 1.000021 stat("/b/x", {}) = 0 <0.000001>
+""",
+        """
+open,5,0,read Vol.inode:0
+open,5,3,read Vol.inode:1
+stat,1,8,read Vol.inode:1
+stat,1,9,read Vol.inode:0
+""",
+    ),
+    # The child comes to its end before the call that made it returns; a later process of the same number is another one's child.
+    Worked(
+        "strace: a number that two processes have",
+        "strace -",
+        """
+1 1.000000 chdir("/a") = 0 <0.000001>
+1 1.000001 vfork( <unfinished ...>
+9 1.000002 open("x", O_RDONLY) = 3 <0.000001>
+9 1.000003 +++ exited with 0 +++
+1 1.000004 <... vfork resumed>) = 9 <0.000003>
+1 1.000005 chdir("/b") = 0 <0.000001>
+1 1.000006 fork() = 9 <0.000001>
+9 1.000007 open("x", O_RDONLY) = 3 <0.000001>
+1 1.000008 stat("/a/x", {}) = 0 <0.000001>
+1 1.000009 stat("/b/x", {}) = 0 <0.000001>
+""",
+        """
+open,1,0,read Vol.inode:0
+open,1,5,read Vol.inode:1
+stat,1,6,read Vol.inode:0
+stat,1,7,read Vol.inode:1
+""",
+    ),
+    # Two calls of one process that make another, of which the first never returns, and a process that neither has made.
+    Worked(
+        "strace: two calls of one process that are not finished",
+        "strace -",
+        """
+1 1.000000 vfork( <unfinished ...>
+1 1.000001 vfork( <unfinished ...>
+1 1.000002 <... vfork resumed>) = 2 <0.000100>
+3 1.000003 sync() = 3 <0.000001>
+""",
+        "sync,1,0,read Vol.vol:0\n",
+        ("calls that were not finished: 1",),
+    ),
+    # Two calls that make processes never return: nobody can tell whose child 3 is, and that is told.
+    Worked(
+        "strace: a process whose parent is not known",
+        "strace -",
+        """
+1 1.000000 vfork( <unfinished ...>
+2 1.000001 vfork( <unfinished ...>
+3 1.000003 sync() = 3 <0.000001>
+""",
+        "sync,1,0,read Vol.vol:0\n",
+        ("processes whose parent is not known", "calls that were not finished: 2"),
+    ),
+    # Instruction pointers (-i) and numbers of calls (-n) stand before the call. -xx shows each byte of a name: /v/a, /v/b.
+    Worked(
+        "strace: -i, -n, -xx",
+        "strace -",
+        """
+1 1.000000 [00007fb211879ad7] open("\\x2f\\x76\\x2f\\x61", O_RDONLY) = 3 <0.000001>
+1 1.000001 [ 257] open("/v/b", O_RDONLY) = 4 <0.000001>
+1 1.000002 [00007fb211879ad7] stat("/v/\\141", {}) = 0 <0.000001>
+1 1.000003 [  4] [????????????????] stat("\\x2f\\x76\\x2f\\x62", {}) = 0 <0.000001>
+""",
+        """
+open,1,0,read Vol.inode:0
+open,1,1,read Vol.inode:1
+stat,1,2,read Vol.inode:0
+stat,1,3,read Vol.inode:1
+""",
+    ),
+    # -y and -yy show paths: the folder of the process, where a symbolic link leads, what was open before, and names in which
+    # results seem to stand.
+    Worked(
+        "strace: -y",
+        "strace -",
+        """
+1 1.000000 openat(AT_FDCWD</v/a = 1>, "f", O_RDONLY) = 3</v/a = 1/f> <0.000001>
+1 1.000001 stat("/v/a = 1/f", {}) = 0 <0.000001>
+1 1.000002 openat(AT_FDCWD</v/a = 1>, "link", O_RDONLY) = 4</v/x) = 5/g> <0.000001>
+1 1.000003 read(4</v/x) = 5/g>, "", 10) = 10 <0.000002>
+1 1.000004 stat("/v/x) = 5/g", {}) = 0 <0.000001>
+1 1.000005 read(9</v/h>, "", 5000) = 5000 <0.000002>
+1 1.000006 stat("f", {}) = 0 <0.000001>
+1 1.000007 openat(AT_FDCWD, "/dev/null", O_RDONLY) = 5</dev/null<char 1:3>> <0.000001>
+1 1.000008 write(1<pipe:[77]>, ") = 3", 5) = 5 <0.000001>
+""",
+        """
+open,1,0,read Vol.inode:0
+stat,1,1,read Vol.inode:0
+open,1,2,read Vol.inode:1
+read,2,3,read Vol.data:0
+stat,1,4,read Vol.inode:1
+read,2,5,read Vol.data:2;read Vol.data:3
+stat,1,6,read Vol.inode:0
+""",
+        ("calls on files elsewhere: 1",),
+    ),
     # A log on standard error: the first process has no number as long as it is alone, and what strace says of a new process cuts a
     # line in two. The thread shares the table, so process 4 reads what 5 opened.
     Worked(

@@ -47,11 +47,14 @@ def shown(text):
 
 
 class Lines:
-    """The lines of one log: how many there are, and what became of those that no message comes of."""
+    """The lines of one log: how many there are, what became of those that no message comes of, and what else is to be told.
+    `wanted` says how such a log is recorded."""
 
-    def __init__(self, name, count):
+    def __init__(self, name, count, wanted=""):
         self.name = "standard input" if name == "-" else name
         self.count = count
+        self.wanted = wanted
+        self.notes = collections.Counter()
         self.strange = []
         self.strange_count = 0
         self.without = collections.Counter()
@@ -75,6 +78,8 @@ class Lines:
         tell(f"{self.name}: {self.count} lines")
         for why, count in sorted((+self.without).items(), key=lambda item: (-item[1], item[0])):
             tell(f"{self.name}: no message comes of {why}: {count}")
+        for what, count in sorted(self.notes.items()):
+            tell(f"{self.name}: {what}: {count}")
         if self.backwards:
             tell(f"{self.name}: lines at an earlier time than one before them: {self.backwards}; the trace is sorted by time")
         if self.strange_count:
@@ -82,7 +87,7 @@ class Lines:
             for number, line in self.strange:
                 tell(f"{self.name}:{number}: {shown(line)}")
         if self.strange_count and self.strange_count + self.without["blank lines"] == self.count:
-            raise Refusal(3, f"{shown(self.name)}: no line of it is understood")
+            raise Refusal(3, f"{shown(self.name)}: no line of it is understood{f': {self.wanted}' if self.wanted else ''}")
 
 
 # The program that tells something on standard error.

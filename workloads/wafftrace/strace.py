@@ -1,18 +1,32 @@
 """Logs of `strace -f -ttt -T`: processes, their descriptors, the files and directories behind these, and offsets in them."""
 
 import collections
+import os
 import posixpath
 import re
 
-from .logs import Data, Lines, Meta, is_number, read_lines
+from .logs import Data, Lines, Meta, Refusal, is_number, read_lines, shown
 from .model import VOLUME, Volume
 
-HEAD = re.compile(r"(?:\[pid +(\d{1,9})\] +|(\d{1,9}) +)?(\d{1,12})\.(\d{6}|\d{9}) (.*)", re.ASCII)
-TAIL = re.compile(r"(-?\d{1,18}|\?|0x[0-9a-f]{1,16})(?:<.*?>)?([^<]*?)(?: <(\d{1,9})\.(\d{6}|\d{9})>)?$", re.ASCII)
-DESCRIPTOR = re.compile(r"(\d{1,9})(?:<([^>]*)>)?", re.ASCII)
+# A line: who, when, perhaps an instruction pointer (-i) or the number of a call (-n), and what.
+HEAD = re.compile(
+    r"(?:\[pid +(\d{1,9})\] +|(\d{1,9}) +)?(\d{1,12})\.(\d{6}|\d{9}) (?:\[(?: *\d{1,4}|[0-9a-f?]{8,16})\] )*(.*)", re.ASCII
+)
+# What stands behind the arguments of a call: its result, perhaps the path of a descriptor (-y, -yy), and how long it took.
+PATH_SHOWN = r"<([^<>]*)(?:<[^<>]*>)?>"
+TAIL = re.compile(
+    rf"(-?\d{{1,18}}|\?|0x[0-9a-f]{{1,16}})(?:{PATH_SHOWN})?([^<>]*?)(?: <(\d{{1,9}})\.(\d{{6}}|\d{{9}})>)?$", re.ASCII
+)
 TEXT = r'"((?:[^"\\]|\\.)*)"'
-PATH = re.compile(r"(?:(AT_FDCWD|\d{1,9})(?:<[^>]*>)?, )?" + TEXT, re.ASCII)
+# The arguments up to the bracket behind them: what stands in quotes, and the paths of descriptors, may have brackets.
+ARGUMENTS = re.compile(r'(?:[^"<)]|"(?:[^"\\]|\\.)*"(?:\.\.\.)?|<[^<>]*>|<|\)(?! += ))*\) += ', re.ASCII)
+DESCRIPTOR = re.compile(rf"(\d{{1,9}})(?:{PATH_SHOWN})?", re.ASCII)
+PATH = re.compile(rf"(?:(AT_FDCWD|\d{{1,9}})(?:{PATH_SHOWN})?, )?" + TEXT, re.ASCII)
 SIZE = re.compile(r"st_size=(\d{1,18})", re.ASCII)
+ESCAPED = re.compile(r"\\(x[0-9a-f]{2}|[0-7]{1,3}|.)", re.ASCII)
+LETTERS = {"n": "\n", "t": "\t", "r": "\r", "v": "\v", "f": "\f"}
+FORKED = re.compile(r"(?:clone3?|v?fork)\(", re.ASCII)
+FLAGS_WANTED = "strace -f -ttt -T -o LOG"
 
 # What strace says on standard error, which may come in the middle of a line of a log that goes there too.
 ATTACHED = re.compile(r"strace: Process (\d{1,9}) attached", re.ASCII)
@@ -26,6 +40,29 @@ NOT_OPENED = "calls on descriptors that are no file which the log opens (pipes, 
 def nanoseconds(seconds, digits):
     """Seconds with six or nine digits after the point, in nanoseconds."""
     return int(seconds + digits) * (1000 if len(digits) == 6 else 1)
+
+
+def unescaped(text):
+    """A path as it is, where strace shows bytes of it as `\\303`, `\\xc3` (-x, -xx) or `\\n`."""
+    if "\\" not in text:
+        return text
+
+    def character(match):
+        word = match[1]
+        if word[0] == "x":
+            return chr(int(word[1:], 16))
+        return chr(int(word, 8) & 255) if word[0] in "01234567" else LETTERS.get(word, word)
+
+    # Bytes that were read as UTF-8 are bytes again first, as those that are shown are.
+    found = ESCAPED.sub(character, text.encode("utf-8", "surrogateescape").decode("latin-1"))
+    return found.encode("latin-1").decode("utf-8", "surrogateescape")
+
+
+def absolute(path):
+    """A path that strace shows of a descriptor; None where it is none (a pipe, a socket)."""
+    if path is None or not path.startswith("/"):
+        return None
+    return unescaped(path).removesuffix(" (deleted)")
 
 
 class Open:
@@ -62,14 +99,15 @@ class Process:
 
 
 class Call:
-    """A call that has returned: times are in nanoseconds."""
+    """A call that has returned: its result, the path of it where that is a descriptor and strace shows it, its times in nanoseconds."""
 
-    __slots__ = ("args", "process", "result", "time", "took")
+    __slots__ = ("args", "path", "process", "result", "time", "took")
 
-    def __init__(self, process, args, result, time, took):
+    def __init__(self, process, args, result, path, time, took):
         self.process = process
         self.args = args
         self.result = result
+        self.path = path
         self.time = time
         self.took = took
 
@@ -77,6 +115,69 @@ class Call:
         """The last argument as a number, or the one before it (2); None where it is none."""
         words = self.args.rstrip(") ").rsplit(", ", place)
         return int(words[1]) if len(words) > place and is_number(words[1]) else None
+
+
+class Event:
+    """A line of the log: whose it is, its time in nanoseconds, and what it tells. `pid` is None where it tells that strace has
+    attached itself to a process."""
+
+    __slots__ = ("line", "number", "pid", "rest", "time")
+
+    def __init__(self, number, line, pid, time, rest):
+        self.number = number
+        self.line = line
+        self.pid = pid
+        self.time = time
+        self.rest = rest
+
+
+class Birth:
+    """A call that made a process: whose call, its arguments, and the places of the events with which it began and returned."""
+
+    __slots__ = ("args", "begun", "parent", "returned")
+
+    def __init__(self, parent, args, begun, returned):
+        self.parent = parent
+        self.args = args
+        self.begun = begun
+        self.returned = returned
+
+
+def births_of(events):
+    """For each process the calls that made one of this number, in their order."""
+    found, begun = collections.defaultdict(collections.deque), {}
+    for at, event in enumerate(events):
+        pid, rest = event.pid, event.rest
+        if pid is None or "clone" not in rest and "fork" not in rest:
+            continue
+        first = at
+        if rest.startswith("<... "):
+            # The first process of a log on standard error has no number at first.
+            first, text = begun.pop(pid, None) or begun.pop("", None) or (None, None)
+            if first is None:
+                continue
+            rest = text + rest[rest.find(RESUMED) + len(RESUMED) :]
+        elif not FORKED.match(rest):
+            continue
+        elif rest.endswith(UNFINISHED):
+            begun[pid] = at, rest[: -len(UNFINISHED)]
+            continue
+        args, tail = parted(rest)
+        if tail and tail[1].isdecimal() and int(tail[1]):
+            found[str(int(tail[1]))].append(Birth(pid, args, first, at))
+    return found
+
+
+def parted(args):
+    """The arguments of a call, and what stands behind them, as TAIL finds it."""
+    at = args.rfind(" = ")
+    tail = TAIL.match(args, at + 3) if at >= 0 and args[:at].rstrip().endswith(")") else None
+    if tail is None:
+        behind = ARGUMENTS.match(args)
+        if behind is None:
+            return args, None
+        at, tail = behind.end() - 3, TAIL.match(args, behind.end())
+    return args[:at], tail
 
 
 class Reader:
@@ -89,35 +190,28 @@ class Reader:
         self.paths = {}
         self.folders = set()
         self.processes = {}
-        self.forking = []
+        self.births = {}
         self.attached = set()
         self.idle = collections.Counter()
 
     # Lines
 
     def read(self, lines):
-        begun = ""
-        for number, line in enumerate(lines, 1):
-            line, begun = begun + line, ""
-            head = HEAD.match(line)
-            if "strace: Process " in line:
-                attached = ATTACHED.search(line)
-                if attached:
-                    self.attached.add(attached[1])
-                    self.log.without["attached processes"] += 1
-                    begun = line[: attached.start()]
-                    continue
-            if head is None:
-                self.log.not_understood(number, line)
+        events = list(self.events(lines))
+        first = next((event for event in events if event.pid is not None), None)
+        if first and first.time == 0:
+            raise Refusal(3, f"{shown(self.log.name)}: its times are from line to line (-r): record it with `{FLAGS_WANTED}`")
+        self.births = births_of(events)
+        for at, event in enumerate(events):
+            if event.pid is None:
+                self.attached.add(event.rest)
                 continue
-            attached, first, seconds, digits, rest = head.groups()
-            time = nanoseconds(seconds, digits)
-            self.log.at(time)
-            if not self.event(attached or first or "", time, rest):
-                self.log.not_understood(number, line)
-        pending = sum(it.pending is not None for it in self.processes.values())
+            self.log.at(event.time)
+            if not self.event(at, event):
+                self.log.not_understood(event.number, event.line)
+        pending = {id(it): it for it in self.processes.values() if it.pending is not None}
         if pending:
-            self.log.without["calls that were not finished"] += pending
+            self.log.without["calls that were not finished"] += len(pending)
         if self.idle:
             most = ", ".join(f"{name} {count}" for name, count in self.idle.most_common(6))
             others = len(self.idle) - 6
@@ -125,25 +219,42 @@ class Reader:
                 self.idle.values()
             )
 
-    def event(self, pid, time, rest):
+    def events(self, lines):
+        """What the lines tell, in their order."""
+        begun = ""
+        for number, line in enumerate(lines, 1):
+            line, begun = begun + line, ""
+            if "strace: Process " in line:
+                attached = ATTACHED.search(line)
+                if attached:
+                    self.log.without["attached processes"] += 1
+                    begun = line[: attached.start()]
+                    yield Event(number, line, None, 0, attached[1])
+                    continue
+            head = HEAD.match(line)
+            if head is None:
+                self.log.not_understood(number, line)
+                continue
+            alone, first, seconds, digits, rest = head.groups()
+            yield Event(number, line, alone or first or "", nanoseconds(seconds, digits), rest)
+
+    def event(self, at, event):
         """Takes what a line tells of a process. False where it is not understood."""
+        pid, time, rest = event.pid, event.time, event.rest
         process = self.processes.get(pid)
         if process is None:
-            process = self.processes[pid] = self.newcomer(pid)
+            process = self.processes[pid] = self.newcomer(pid, at)
         if rest.endswith(UNFINISHED):
-            name = rest.partition("(")[0]
+            if process.pending is not None:
+                self.log.without["calls that were not finished"] += 1
             process.pending = time, rest[: -len(UNFINISHED)]
             self.log.without["first parts of calls, which are told with their second parts"] += 1
-            if name in FORKS:
-                self.forking.append(process)
             return "(" in rest
         if rest.startswith("<... "):
             if process.pending is None:
                 return False
             time, begun = process.pending
             process.pending = None
-            if process in self.forking:
-                self.forking.remove(process)
             rest = begun + rest[rest.find(RESUMED) + len(RESUMED) :]
         elif rest.startswith(("+++ ", "--- ")):
             self.log.without["signals and ends of processes"] += 1
@@ -152,25 +263,32 @@ class Reader:
                     self.log.without["calls that were not finished"] += 1
                 del self.processes[pid]
             return True
-        return self.call(process, time, rest)
+        return self.call(at, process, time, rest)
 
-    def newcomer(self, pid):
-        """A process that was not seen: the child of a call that is not finished; the first one, which a log on standard error
-        gives no number as long as it is alone; or else one from before the log."""
-        if self.forking and (pid in self.attached or not self.attached):
-            parent = self.forking.pop(0)
-            return parent.child(parent.pending[1])
+    def newcomer(self, pid, at):
+        """A process that was not seen: the child of a call that has begun and returns later in the log; the first one, which a
+        log on standard error gives no number as long as it is alone; the child of the only call that makes one and never
+        returns; or else one from before the log."""
+        births = self.births.get(pid)
+        if births and births[0].begun < at:
+            birth = births.popleft()
+            parent = self.processes.get(birth.parent) or self.newcomer(birth.parent, at)
+            return parent.child(birth.args)
         if "" in self.processes and pid not in self.attached:
             return self.processes[""]
+        forking = [it for it in self.processes.values() if it.pending is not None and FORKED.match(it.pending[1])]
+        if len(forking) == 1 and not births:
+            return forking[0].child(forking[0].pending[1])
+        if forking:
+            self.log.notes["processes whose parent is not known: names that begin in their folders are of other files"] += 1
         return Process({}, set(), [self.directory])
 
-    def call(self, process, time, rest):
+    def call(self, at, process, time, rest):
         name, bracket, args = rest.partition("(")
-        at = args.rfind(" = ")
-        tail = TAIL.match(args, at + 3) if bracket and at >= 0 else None
+        args, tail = parted(args) if bracket else ("", None)
         if tail is None:
             return False
-        result, _, seconds, digits = tail.groups()
+        result, path, _, seconds, digits = tail.groups()
         handler = CALLS.get(name)
         if handler is None:
             self.idle[name] += 1
@@ -179,7 +297,10 @@ class Reader:
         else:
             took = nanoseconds(seconds, digits) if digits else None
             answer = int(result, 16 if result.startswith("0x") else 10)
-            return handler(self, Call(process, args[:at], answer, time, took)) is not False
+            if name in FORKS:
+                self.fork(at, process, args, answer)
+                return True
+            return handler(self, Call(process, args, answer, absolute(path), time, took)) is not False
         return True
 
     # Paths and descriptors
@@ -189,26 +310,28 @@ class Reader:
             return True
         return bool(self.under) and path != self.under and not path.startswith(self.under + "/")
 
-    def full(self, process, start, text):
-        """A path from the root, or from a directory that is not known."""
-        if not text.startswith("/"):
-            base = process.directory[0]
-            if start not in (None, "AT_FDCWD"):
-                found = process.files.get(int(start))
-                base = found.path if found else None
-            text = f"{base}/{text}" if base else text
-        path = posixpath.normpath(text)
-        return path[1:] if path.startswith("//") else path
+    def base(self, process, start, shown):
+        """The directory that a name begins in, None where it is not known. What strace shows of it is so."""
+        shown = absolute(shown)
+        if start in (None, "AT_FDCWD"):
+            if shown:
+                process.directory[0] = shown
+            return process.directory[0]
+        found = process.files.get(int(start))
+        return shown or (found.path if found else None)
 
     def path(self, call, text=None):
-        """The path that a call names first, None where it names none."""
+        """The path that a call names first, from the root or from a directory that is not known; None where it names none."""
         match = text or PATH.match(call.args)
         if match is None:
             return None
-        if match[2] == "" and match[1] not in (None, "AT_FDCWD"):
-            found = call.process.files.get(int(match[1]))
-            return found.path if found else None
-        return self.full(call.process, match[1], match[2])
+        start, shown, text = match.groups()
+        base = self.base(call.process, start, shown)
+        if text == "" and start not in (None, "AT_FDCWD"):
+            return base
+        text = unescaped(text)
+        path = posixpath.normpath(f"{base}/{text}" if base and not text.startswith("/") else text)
+        return path[1:] if path.startswith("//") else path
 
     def file(self, path):
         file = self.paths.get(path)
@@ -227,8 +350,8 @@ class Reader:
         if match is None:
             return None
         found = call.process.files.get(int(match[1]))
-        if found is None and match[2] and match[2].startswith("/"):
-            path = match[2].removesuffix(" (deleted)")
+        path = absolute(match[2])
+        if found is None and path:
             found = self.new_open(path, "")
             call.process.files[int(match[1])] = found
         if found is None:
@@ -346,6 +469,9 @@ class Reader:
         flags = call.args[match.end() :] if flags is None else flags
         if "O_TMPFILE" in flags:
             path = f"{path}/#{call.time}"
+        elif call.path and "O_PATH" not in flags:
+            # Where symbolic links lead to.
+            path = call.path
         found = self.new_open(path, flags) if path not in self.paths or self.is_outside(path) else None
         is_made = found is not None and ("O_CREAT" in flags or "O_TMPFILE" in flags)
         found = found or self.new_open(path, flags)
@@ -407,7 +533,7 @@ class Reader:
     def named(self, call):
         """The file that a call names by a path or by a descriptor; None where it is none of the volume."""
         match = PATH.match(call.args)
-        if match is None or (match[2] == "" and match[1] is not None and match[1] != "AT_FDCWD"):
+        if match is None or (match[3] == "" and match[1] not in (None, "AT_FDCWD")):
             found = self.opened(call)
             return found.file if found else None
         path = self.path(call, match)
@@ -543,11 +669,13 @@ class Reader:
 
     # Processes
 
-    def fork(self, call):
+    def fork(self, at, process, args, answer):
+        """A call that makes a process has returned. Where lines of the child came before, it is there, and perhaps gone."""
         self.idle["fork"] += 1
-        pid = str(call.result)
-        if call.result and pid not in self.processes:
-            self.processes[pid] = call.process.child(call.args)
+        births = self.births.get(str(answer))
+        if births and births[0].returned == at:
+            births.popleft()
+            self.processes[str(answer)] = process.child(args)
 
     def new_program(self, call):
         self.idle["execve"] += 1
@@ -562,8 +690,7 @@ class Reader:
     def change_to_open(self, call):
         self.idle["fchdir"] += 1
         match = DESCRIPTOR.match(call.args)
-        found = call.process.files.get(int(match[1])) if match else None
-        call.process.directory[0] = found.path if found else None
+        call.process.directory[0] = self.base(call.process, match[1], match[2]) if match else None
 
     def tell_directory(self, call):
         self.idle["getcwd"] += 1
@@ -604,7 +731,7 @@ def calls():
         Reader.remove: "unlink unlinkat",
         Reader.remove_directory: "rmdir",
         Reader.rename: "rename renameat renameat2",
-        Reader.fork: " ".join(FORKS),
+        Reader.fork: " ".join(FORKS),  # by `call`
         Reader.new_program: "execve execveat",
         Reader.change_directory: "chdir",
         Reader.change_to_open: "fchdir",
@@ -629,9 +756,10 @@ CALLS = calls()
 def read(asked):
     """The volume and the requests of the log."""
     lines = read_lines(asked.log)
-    log = Lines(asked.log, len(lines))
-    under = posixpath.normpath(asked.under) if asked.under else None
-    reader = Reader(log, under, asked.cwd)
+    log = Lines(asked.log, len(lines), f"record it with `{FLAGS_WANTED}`")
+    directory = os.path.abspath(asked.cwd) if asked.cwd else None
+    under = posixpath.normpath(posixpath.join(directory or os.getcwd(), asked.under)) if asked.under else None
+    reader = Reader(log, under, directory)
     reader.read(lines)
     log.report()
     return reader.store, reader.requests

@@ -167,7 +167,9 @@ def of_log(read):
 
     def run(asked):
         store, requests = read(asked)
-        if requests and asked.cost == "latency" and all(it.took is None for it in requests):
+        if not requests:
+            raise Refusal(3, "the log has no request that is kept, so there is no trace")
+        if asked.cost == "latency" and all(it.took is None for it in requests):
             tell("the log has no latencies: costs are those of sizes")
             asked.cost = "size"
         shape = model.Shape(store, requests, asked)
