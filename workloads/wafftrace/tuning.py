@@ -9,7 +9,7 @@ import tempfile
 import tomllib
 
 from .logs import Refusal, read_text, shown, tell
-from .traces import write_file
+from .traces import read_trace, write_file
 from .words import Words, number, run_words
 
 ROOT = os.path.dirname(os.path.dirname(os.path.dirname(os.path.realpath(__file__))))
@@ -93,12 +93,30 @@ def largest(tree):
 
 
 class Figures:
-    """What the program tells of a tree's list plan: its length, how long its messages wait in all, and their mean latency."""
+    """What the program tells of a tree's list plan: its length, how long its messages wait in all, their mean latency, and the one
+    that 99 of 100 are at most."""
 
     def __init__(self, row):
         self.length = int(row["list"])
         self.waits = int(row["waits"])
         self.mean = row["mean"]
+        self.p99 = int(row["p99"])
+
+
+# By what trees are sorted: first the figure that was asked for, then the others. All trees have the same costs and releases, so the
+# order of the waits is that of the means, and is not rounded.
+ORDERS = {
+    "length": lambda it: (it.length, it.waits, it.p99),
+    "mean": lambda it: (it.waits, it.p99, it.length),
+    "p99": lambda it: (it.p99, it.waits, it.length),
+}
+
+
+def order_of(length, trace):
+    """What trees are sorted by where nobody says: by the mean latency where the last message is released in the second half of the
+    plan, so that it is the releases that make the plan long, and else by the length."""
+    last = max((it.release for it in trace.messages), default=0)
+    return "mean" if 2 * last >= length and last else "length"
 
 
 def rank(program, trees, trace, workers):
@@ -134,8 +152,8 @@ def words():
     top = Words(
         prog="waff-tune",
         description="Tries other numbers of stripes and other units for spaces of a tree, and tells for each how the proved program"
-        " plans the trace for K workers: its length, and the mean latency of its messages. The best comes first: by the length, then"
-        " by the mean, then by fewer stripes. The first line is the tree as it is. Tested, not proved; its numbers are the program's.",
+        " plans the trace for K workers: its length, the mean latency of its messages, and the latency that 99 of 100 have at most."
+        " The best comes first. The first line is the tree as it is. Tested, not proved; its numbers are the program's.",
     )
     top.add_argument("hier", metavar="HIER")
     top.add_argument("trace", metavar="TRACE")
@@ -145,6 +163,11 @@ def words():
     )
     top.add_argument("--stripes", type=numbers, metavar="N,N..", default=list(STRIPES), help="numbers of stripes (1,2,4 .. 32)")
     top.add_argument("--unit", type=numbers, metavar="N,N..", help="units (1,2,4 .. 1024, up to the size of the space)")
+    top.add_argument(
+        "--by", choices=list(ORDERS),
+        help="the best is the tree of the least length, mean or p99; without it of the least mean where the last message is released"
+        " in the second half of the plan under the tree as it is, else of the least length",
+    )
     top.add_argument("--write", metavar="FILE", help="write the best tree to this file")
     top.add_argument(
         "--program", metavar="FILE", default=os.environ.get("WAFF", os.path.join(ROOT, "waff")), help="the proved program"
@@ -156,7 +179,7 @@ def tune(asked):
     if asked.trace == "-":
         raise Refusal(2, "the trace is read once for each tree, so it is a file")
     tree = read_tree(asked.hier)
-    read_text(asked.trace)
+    trace = read_trace(asked.trace)
     spaces = list(dict.fromkeys(asked.space or largest(tree)))
     for space in spaces:
         if space not in tree.maps:
@@ -169,10 +192,11 @@ def tune(asked):
     trees = [tree.with_stripes(spaces, *it) for it in tries]
     tell(f"{len(trees)} trees with other stripes or units for {', '.join(spaces)}")
     first, *others = rank([asked.program], [tree, *trees], asked.trace, asked.workers)
-    # All trees have the same costs and releases, so the order of the waits is that of the means, and is not rounded.
-    found = sorted(zip(others, tries, trees, strict=True), key=lambda it: (it[0].length, it[0].waits, it[1]))
-    lines = ["stripes,unit,length,mean", f"-,-,{first.length},{first.mean}"]
-    lines += [f"{stripes},{unit},{it.length},{it.mean}" for it, (stripes, unit), _ in found]
+    by = asked.by or order_of(first.length, trace)
+    tell(f"the best is the tree of the least {by}")
+    found = sorted(zip(others, tries, trees, strict=True), key=lambda it: (ORDERS[by](it[0]), it[1]))
+    lines = ["stripes,unit,length,mean,p99", f"-,-,{first.length},{first.mean},{first.p99}"]
+    lines += [f"{stripes},{unit},{it.length},{it.mean},{it.p99}" for it, (stripes, unit), _ in found]
     if asked.write:
         write_file(asked.write, found[0][2].text())
     return "\n".join(lines) + "\n"
