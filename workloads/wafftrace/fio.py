@@ -5,6 +5,7 @@ The times of version 3 are in microseconds, as fio 3.33 writes them; latencies a
 
 import collections
 import re
+from fractions import Fraction
 
 from .logs import Data, Lines, Meta, Refusal, is_number, read_lines, shown, tell
 from .model import VOLUME, Volume
@@ -53,29 +54,30 @@ class Reader:
             file = self.known[name] = self.store.new_file(name)
         return file
 
-    def read(self, name, latencies):
+    def read(self, name, latencies, start):
+        """Adds the requests of a log whose job started so many nanoseconds after the others."""
         lines = read_lines(name)
         log = Lines(name, len(lines))
         if lines:
             header = HEADER.fullmatch(lines[0].strip())
             if header is None:
                 raise Refusal(3, f"{shown(log.name)}: no iolog: its first line is not `fio version 2 iolog` or `.. 3 ..`")
-            self.actions(log, lines, header[1] == "3", latencies)
+            self.actions(log, lines, header[1] == "3", latencies, start)
             log.without["the header"] = 1
         log.report()
         left = sum(len(it) for it in latencies.waiting.values()) if latencies else 0
         if left:
             tell(f"{latencies.lines.name}: latencies of no request: {left}")
 
-    def actions(self, log, lines, has_times, latencies):
-        now = 0
+    def actions(self, log, lines, has_times, latencies, start):
+        now = start
         for number, line in enumerate(lines[1:], 2):
             words = line.split()
             if has_times:
                 if not words or not is_number(words[0]):
                     log.not_understood(number, line)
                     continue
-                now = int(words.pop(0)) * 1000
+                now = start + int(words.pop(0)) * 1000
                 log.at(now)
             if len(words) == 4 and is_number(words[2]) and is_number(words[3]):
                 if words[1] == "wait" and not has_times:
@@ -110,11 +112,27 @@ class Reader:
         return True
 
 
+def starts_of(asked):
+    """When the job of each log started, in nanoseconds."""
+    starts = dict.fromkeys(asked.logs, 0)
+    for word in asked.starts or ():
+        name, _, seconds = word.rpartition("=")
+        if name not in starts or re.fullmatch(r"[0-9]{1,9}(\.[0-9]{1,9})?", seconds) is None:
+            raise Refusal(2, f"--starts {shown(word)}: wanted is LOG=SECONDS, of a LOG that is given")
+        starts[name] = int(Fraction(seconds) * 10**9)
+    return starts
+
+
 def read(asked):
     """The volume and the requests of the logs. `asked.latencies` has as many files as there are logs, or none."""
+    if not asked.logs:
+        raise Refusal(2, "fio: no LOG is given (--latencies takes all names behind it, so the logs stand before it)")
     if asked.latencies and len(asked.latencies) != len(asked.logs):
         raise Refusal(2, f"fio: {len(asked.logs)} logs and {len(asked.latencies)} logs of latencies: one is wanted for each")
+    starts = starts_of(asked)
+    if len(asked.logs) > 1 and not asked.starts:
+        tell("the times of each log are from the start of its own job, and all jobs are taken to start together (--starts)")
     reader = Reader()
     for place, name in enumerate(asked.logs):
-        reader.read(name, Latencies(asked.latencies[place]) if asked.latencies else None)
+        reader.read(name, Latencies(asked.latencies[place]) if asked.latencies else None, starts[name])
     return reader.store, reader.requests

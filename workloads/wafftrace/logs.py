@@ -18,6 +18,8 @@ class Refusal(Exception):
 def read_text(name):
     """The text of a file, or of standard input for `-`. Bytes that are no UTF-8 are kept as they are."""
     try:
+        if name == "-" and sys.stdin is None:
+            raise Refusal(4, "standard input: it is closed")
         if name == "-":
             return sys.stdin.buffer.read().decode("utf-8", "surrogateescape")
         with open(name, "rb") as file:

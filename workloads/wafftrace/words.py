@@ -108,9 +108,14 @@ def words():
         return found
 
     found = part("fio", "the trace of iologs of fio (version 2 or 3), one for each job", of_log(fio.read), COST_HELP)
-    found.add_argument("logs", nargs="+", metavar="LOG", help="an iolog; `-` is standard input")
+    found.add_argument("logs", nargs="*", metavar="LOG", help="an iolog (write_iolog) of one job; `-` is standard input")
     found.add_argument(
-        "--latencies", nargs="+", metavar="FILE", help="the logs of latencies of these jobs (write_lat_log), in the order of LOG"
+        "--latencies", nargs="+", metavar="FILE",
+        help="the logs of completion latencies of these jobs (write_lat_log: NAME_clat.1.log, with log_offset=1), in the order of LOG",
+    )
+    found.add_argument(
+        "--starts", nargs="+", metavar="LOG=SECONDS",
+        help="when the job of a log started, after the first one (startdelay, stonewall); without it all start together",
     )
     imported(found)
     of_volume(found)
@@ -188,9 +193,14 @@ def run_words(given, parser, run):
     """Runs what words ask for, and answers the exit status: 0, or 2 for words, 3 for a bad file, 4 for one that cannot be read
     or written. What is refused is told in one line."""
     signal.signal(signal.SIGPIPE, signal.SIG_DFL)
+    # A standard stream that was closed before the program began is none in Python.
+    if sys.stderr is None:
+        sys.stderr = open(os.devnull, "w")
     sys.stderr.reconfigure(errors="backslashreplace")
     logs.told_by = parser().prog
     try:
+        if sys.stdout is None:
+            raise Refusal(4, "standard output: it is closed")
         asked = parser().parse_args(given)
         if sum(it == "-" for it in given) > 1:
             raise Refusal(2, "two files from standard input")
