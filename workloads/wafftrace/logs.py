@@ -41,11 +41,11 @@ def read_lines(name):
     return lines
 
 
-def shown(text):
+def shown(text, most=SHOWN_CHARACTERS):
     """A text on one line, cut where it is long; bytes that are no printable ASCII as `\\xHH`."""
-    bytes_shown = text[:SHOWN_CHARACTERS].encode("utf-8", "surrogateescape")
+    bytes_shown = text[:most].encode("utf-8", "surrogateescape")
     plain = "".join(chr(byte) if 32 <= byte < 127 else f"\\x{byte:02x}" for byte in bytes_shown)
-    return plain + ("..." if len(text) > SHOWN_CHARACTERS else "")
+    return plain + ("..." if len(text) > most else "")
 
 
 class Lines:

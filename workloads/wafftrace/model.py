@@ -1,8 +1,10 @@
 """A volume or devices as spaces of cells, and requests as messages of a trace over them."""
 
+import csv
+import io
 import operator
 
-from .logs import Data, File, Refusal, tell
+from .logs import Data, File, Refusal, shown, tell
 
 # Limits of a hierarchy and of a trace (docs/formats.md).
 CELLS = 262144
@@ -81,6 +83,19 @@ class Volume:
             return number // self.directories_a_cell
         return number // self.inodes_a_cell if space == "inode" else 0
 
+    def cells(self, cell):
+        """Which cells are whose: space, first and last cell, and name, of the data of files, of inodes and of directories."""
+        for file in self.files:
+            if file.end:
+                yield VOLUME + ".data", file.base // cell, (file.base + file.end - 1) // cell, file.name
+        for space, numbers in (
+            ("inode", [(file.inode, file.name) for file in self.files]),
+            ("dir", sorted((file.directory, file.name) for file in self.files if file.directory is not None)),
+        ):
+            for number, name in numbers:
+                index = self.index(space, number)
+                yield f"{VOLUME}.{space}", index, index, name
+
     def tree(self, spaces, stripes, unit):
         logical = [VOLUME + ".S%d" % n for n in range(stripes)]
         ranges = [VOLUME + ".R%d" % n for n in range(stripes)]
@@ -125,6 +140,12 @@ class Devices:
 
     def index(self, _space, _number):
         return 0
+
+    def cells(self, cell):
+        """Which cells are whose: space, first and last cell, and name."""
+        for file in self.files:
+            yield file.name + ".dev", 0, 0, file.name
+            yield self.data_space(file), 0, max(1, upwards(file.end, cell)) - 1, file.name
 
     def tree(self, spaces, stripes, unit):
         affinities = [("Serial", None)]
@@ -299,6 +320,15 @@ class Messages:
 
 def trace_text(messages):
     return "\n".join(messages.lines) + "\n"
+
+
+def map_text(store, shape):
+    """Which cells are whose, as CSV. Bytes of names that are no UTF-8, and controls, are shown as `\\xHH`."""
+    text = io.StringIO()
+    rows = csv.writer(text, lineterminator="\n")
+    rows.writerow(("space", "first", "last", "name"))
+    rows.writerows((space, first, last, shown(name, len(name))) for space, first, last, name in store.cells(shape.cell))
+    return text.getvalue()
 
 
 def tree_text(store, shape, stripes):

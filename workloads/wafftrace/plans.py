@@ -62,6 +62,17 @@ class Tree:
         return shared[0]
 
 
+def affinities_of(tree, trace, name):
+    """For each message of the trace of this file its affinity, and the cells that it names."""
+    called = shown(name)
+    for number, it in enumerate(trace.messages, 2):
+        named = cells(called, number, it.ops)
+        owners = [tree.owner(cell) for cell in named]
+        if None in owners:
+            raise Refusal(3, f"{called}: record {number}: a cell that the hierarchy does not have")
+        yield tree.lowest(owners), named
+
+
 def read_starts(name, count):
     """The start and the worker (None where there is none) of each message. The rows are a message's number, its start and, if the
     plan is for workers, its worker; a header is skipped."""
@@ -118,13 +129,7 @@ def plan(asked):
     trace = read_trace(asked.trace)
     messages = trace.messages
     starts, workers, has_workers = read_starts(asked.starts, len(messages))
-    called = shown(asked.trace)
-    affinities = []
-    for number, it in enumerate(messages, 2):
-        owners = [tree.owner(cell) for cell in cells(called, number, it.ops)]
-        if None in owners:
-            raise Refusal(3, f"{called}: record {number}: a cell that the hierarchy does not have")
-        affinities.append(tree.lowest(owners))
+    affinities = [affinity for affinity, _ in affinities_of(tree, trace, asked.trace)]
     finishes = [start + it.cost for start, it in zip(starts, messages, strict=True)]
     chain = chain_of(tree, affinities, trace, finishes)
     count = asked.workers or max((it for it in workers if it is not None), default=1) if has_workers or asked.workers else None

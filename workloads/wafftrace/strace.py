@@ -657,6 +657,7 @@ class Reader:
         file = self.file(old)
         blocks = self.gone(new)[1] if new in self.paths else None
         self.paths[new] = self.paths.pop(old)
+        file.name = new
         self.folders.add(posixpath.dirname(new))
         if old in self.folders:
             for path in [it for it in self.paths if it.startswith(old + "/")]:

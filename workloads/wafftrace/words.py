@@ -8,7 +8,7 @@ import signal
 import sys
 from fractions import Fraction
 
-from . import blocks, fio, logs, model, plans, strace, traces
+from . import blocks, fio, hot, logs, model, plans, strace, traces
 from .logs import Refusal, is_number, tell
 
 COST_HELP = """\
@@ -58,6 +58,9 @@ def speed(word):
 def imported(part):
     """The words that all kinds of logs take."""
     part.add_argument("--tree", metavar="FILE", help="write a hierarchy that accepts the trace to this file")
+    part.add_argument(
+        "--map", metavar="FILE", help="write which cells are whose to this file (space, first and last cell, path or device)"
+    )
     part.add_argument(
         "--cell",
         type=number(1, 1 << 50, "number of bytes"),
@@ -157,6 +160,12 @@ def words():
     found = part("stats", "what a trace has, and how much of it is over the limits of waff", traces.stats)
     found.add_argument("trace", metavar="TRACE")
 
+    found = part("hot", "which files and names the time of affinities is of", hot.hot)
+    found.add_argument("hier", metavar="HIER")
+    found.add_argument("trace", metavar="TRACE")
+    found.add_argument("--map", metavar="FILE", required=True, help="which cells are whose, as an import of the log wrote it")
+    found.add_argument("--affinity", metavar="A", nargs="+", help="of these affinities alone")
+
     found = part("plan", "the text of a plan that another scheduler made, for `waff check` and `waff draw`", plans.plan)
     found.add_argument("hier", metavar="HIER")
     found.add_argument("trace", metavar="TRACE")
@@ -184,6 +193,8 @@ def of_log(read):
         model.warn(messages)
         if asked.tree:
             traces.write_file(asked.tree, text)
+        if asked.map:
+            traces.write_file(asked.map, model.map_text(store, shape))
         return model.trace_text(messages)
 
     return run
