@@ -9,6 +9,7 @@ import tempfile
 import tomllib
 
 from .logs import Refusal, read_text, shown, tell
+from .searching import search
 from .traces import read_trace, write_file
 from .words import Words, number, run_words
 
@@ -119,26 +120,26 @@ def order_of(length, trace):
     return "mean" if 2 * last >= length and last else "length"
 
 
-def rank(program, trees, trace, workers):
+def rank(asked, trees):
     """The figures of the trees' list plans, in order, as `waff rank` tells them."""
     figures = []
     for at in range(0, len(trees), MOST_RANKED):
-        figures += rank_some(program, trees[at : at + MOST_RANKED], trace, workers)
+        figures += rank_some(asked, trees[at : at + MOST_RANKED])
     return figures
 
 
-def rank_some(program, trees, trace, workers):
+def rank_some(asked, trees):
     with tempfile.TemporaryDirectory() as folder:
         names = [os.path.join(folder, f"{number}.toml") for number, _ in enumerate(trees, 1)]
         for name, tree in zip(names, trees, strict=True):
             write_file(name, tree.text())
         try:
             done = subprocess.run(
-                [*program, "rank", "--workers", str(workers), "--", trace, *names],
+                [asked.program, "rank", "--workers", str(asked.workers), "--rule", asked.rule, "--", asked.trace, *names],
                 capture_output=True, text=True, check=False, stdin=subprocess.DEVNULL,
             )
         except OSError as fault:
-            raise Refusal(4, f"{shown(program[0])}: {fault.strerror}") from None
+            raise Refusal(4, f"{shown(asked.program)}: {fault.strerror}") from None
     if done.returncode != 0:
         raise Refusal(3, f"the program refuses: {shown(done.stderr.strip())}")
     return [Figures(row) for row in csv.DictReader(done.stdout.splitlines())]
@@ -159,14 +160,20 @@ def words():
     top.add_argument("trace", metavar="TRACE")
     top.add_argument("--workers", type=number(1, 64, "number"), metavar="K", required=True)
     top.add_argument(
-        "--space", nargs="+", metavar="NAME", help="spaces that are tuned together; without it the largest of those with stripes"
+        "--space", nargs="+", metavar="NAME", help="spaces that are tuned together; without it the largest of those with stripes, and in a search all of several cells"
     )
-    top.add_argument("--stripes", type=numbers, metavar="N,N..", default=list(STRIPES), help="numbers of stripes (1,2,4 .. 32)")
+    top.add_argument("--stripes", type=numbers, metavar="N,N..", help="numbers of stripes (1,2,4 .. 32)")
     top.add_argument("--unit", type=numbers, metavar="N,N..", help="units (1,2,4 .. 1024, up to the size of the space)")
     top.add_argument(
         "--by", choices=list(ORDERS),
         help="the best is the tree of the least length, mean or p99; without it of the least mean where the last message is released"
         " in the second half of the plan under the tree as it is, else of the least length",
+    )
+    top.add_argument("--rule", choices=["arrival", "longest"], default="arrival", help="the rule of the plans (arrival)")
+    top.add_argument(
+        "--search", action="store_true",
+        help="search for a tree instead: change the unit, the number of stripes or the affinities of one space after another, or of"
+        " two together, each time as is best, until nothing gains; tells each change",
     )
     top.add_argument("--write", metavar="FILE", help="write the best tree to this file")
     top.add_argument(
@@ -180,18 +187,25 @@ def tune(asked):
         raise Refusal(2, "the trace is read once for each tree, so it is a file")
     tree = read_tree(asked.hier)
     trace = read_trace(asked.trace)
-    spaces = list(dict.fromkeys(asked.space or largest(tree)))
+    # A space of one cell stands for the whole of a volume or a device, so a search leaves it where it is.
+    usual = [space for space, size in tree.spaces if size > 1] if asked.search else largest(tree)
+    spaces = list(dict.fromkeys(asked.space or usual))
     for space in spaces:
         if space not in tree.maps:
             raise Refusal(2, f"--space {shown(space)}: {shown(asked.hier)} has no such space")
+    if asked.search and (asked.stripes or asked.unit):
+        raise Refusal(2, "--search tries stripes and units of its own: it takes no --stripes and no --unit")
+    if asked.search:
+        return searched(asked, tree, spaces, trace)
     most = max(size for space, size in tree.spaces if space in spaces)
     units = asked.unit or [unit for unit in UNITS if unit <= most]
-    tries = list(dict.fromkeys(itertools.product(asked.stripes, units)))
-    if len(tries) > MOST_TREES or max(asked.stripes) > MOST_OWNERS:
-        raise Refusal(2, f"{len(tries)} trees of up to {max(asked.stripes)} stripes: at most {MOST_TREES} of {MOST_OWNERS}")
+    stripes = asked.stripes or STRIPES
+    tries = list(dict.fromkeys(itertools.product(stripes, units)))
+    if len(tries) > MOST_TREES or max(stripes) > MOST_OWNERS:
+        raise Refusal(2, f"{len(tries)} trees of up to {max(stripes)} stripes: at most {MOST_TREES} of {MOST_OWNERS}")
     trees = [tree.with_stripes(spaces, *it) for it in tries]
     tell(f"{len(trees)} trees with other stripes or units for {', '.join(spaces)}")
-    first, *others = rank([asked.program], [tree, *trees], asked.trace, asked.workers)
+    first, *others = rank(asked, [tree, *trees])
     by = asked.by or order_of(first.length, trace)
     tell(f"the best is the tree of the least {by}")
     found = sorted(zip(others, tries, trees, strict=True), key=lambda it: (ORDERS[by](it[0]), it[1]))
@@ -199,6 +213,18 @@ def tune(asked):
     lines += [f"{stripes},{unit},{it.length},{it.mean},{it.p99}" for it, (stripes, unit), _ in found]
     if asked.write:
         write_file(asked.write, found[0][2].text())
+    return "\n".join(lines) + "\n"
+
+
+def searched(asked, tree, spaces, trace):
+    """The changes that a search made for these spaces, and the figures after each."""
+    longest = max((it.ops.count(";") + 1 for it in trace.messages), default=1)
+    by = asked.by or order_of(rank(asked, [tree])[0].length, trace)
+    tell(f"the best is the tree of the least {by}")
+    steps, best = search(tree, spaces, longest, lambda trees: rank(asked, trees), ORDERS[by])
+    if asked.write:
+        write_file(asked.write, best.text())
+    lines = ["change,length,mean,p99", *(f"{what},{it.length},{it.mean},{it.p99}" for what, it in steps)]
     return "\n".join(lines) + "\n"
 
 
