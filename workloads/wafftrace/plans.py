@@ -127,14 +127,19 @@ def plan(asked):
     """The text of the plan, for `waff check` and `waff draw`."""
     tree = Tree(asked.hier)
     trace = read_trace(asked.trace)
-    messages = trace.messages
-    starts, workers, has_workers = read_starts(asked.starts, len(messages))
+    starts, workers, has_workers = read_starts(asked.starts, len(trace.messages))
     affinities = [affinity for affinity, _ in affinities_of(tree, trace, asked.trace)]
-    finishes = [start + it.cost for start, it in zip(starts, messages, strict=True)]
-    chain = chain_of(tree, affinities, trace, finishes)
     count = asked.workers or max((it for it in workers if it is not None), default=1) if has_workers or asked.workers else None
     if count is not None and not 1 <= count <= MOST_WORKERS:
         raise Refusal(3, f"{shown(asked.starts)}: {count} workers: a plan is for 1 to {MOST_WORKERS}")
+    return plan_text(tree, affinities, trace, starts, workers, count)
+
+
+def plan_text(tree, affinities, trace, starts, workers, count):
+    """The text of a plan with these starts and workers, for so many workers or (None) with no limit on them."""
+    messages = trace.messages
+    finishes = [start + it.cost for start, it in zip(starts, messages, strict=True)]
+    chain = chain_of(tree, affinities, trace, finishes)
 
     total = sum(it.cost for it in messages)
     length = max(finishes, default=0)
