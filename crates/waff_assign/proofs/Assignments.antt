@@ -1,10 +1,10 @@
 -- The affinities of messages, one message after another, and the cells of a message as cells of the
 -- layout.
-use Rattle.std.proofs.Common.{◌≡◌, ◌≢◌, ℕ, ◌+◌, ◌-◌, ◌<◌, ◌≤◌, List, [], ◌∷◌, ◌++◌, Some, length, get_or, All, slice_get, arith, sym, ◌∙◌, ap, subst, ⊎_elim, unwrap_or}
+use Rattle.std.proofs.Common.{◌≡◌, ◌≢◌, ℕ, ◌+◌, ◌-◌, ◌<◌, ◌≤◌, List, [], ◌∷◌, ◌++◌, Some, length, get_or, All, slice_get, arith, sym, ◌∙◌, ap, subst, ⊎_elim}
 use Rattle.std.proofs.lemmas.Bool.{cases_eq}
 use Rattle.std.proofs.lemmas.List.{length-append, length-map, map_push, get_or_push, get_or_append_left}
 use Rattle.std.proofs.lemmas.List.Elements.{All-push}
-use Rattle.std.proofs.lemmas.Option.{slice_get-map, unwrap_or-slice_get, same_Some}
+use Rattle.std.proofs.lemmas.Option.{same_Some}
 use Rattle.waff_model.specs.Cells.{cells_of, cells_of_op, LiesIn}
 use Rattle.waff_model.specs.Layout.{Hierarchy, Space, IsCell, size_at}
 use Rattle.waff_model.specs.Messages.{sizes_of}
@@ -13,6 +13,7 @@ use Rattle.waff_model.specs.declared.message.Message.{Message}
 use Rattle.waff_model.specs.declared.op.Op.{Op}
 use Rattle.waff_model.specs.declared.op.Op.TheVariants.{Set, Add, Copy, Swap, Read}
 use Rattle.waff_model.specs.declared.tree.AffinityId.{AffinityId}
+use Rattle.waff_model.proofs.TraceLemmas.{slice_index-sizes_of}
 use Rattle.waff_assign.specs.Order.{numbers_of, affinity_of}
 use Rattle.waff_assign.specs.Lowest.{IsInFootprint, IsLowest}
 
@@ -31,17 +32,12 @@ cells_of_some (op ∷ ops) some =
     let first = cells_of_op_some op in
     omega (arith, length-append (cells_of_op op) (cells_of ops))
 
--- the size of a space, from the list of the sizes
-pub size_is : (spaces : List Space) (s : ℕ) → get_or (sizes_of spaces) s 0 ≡ size_at spaces s
-size_is spaces s =
-    sym (unwrap_or-slice_get (sizes_of spaces) s 0) ∙ ap (λ o. unwrap_or o 0) (slice_get-map (λ (space : Space). space.size) spaces s)
-
 -- cells that lie in spaces of these sizes are cells of a layout with these sizes
 pub cells_of_layout : (sizes : List ℕ) (spaces : List Space) (cells : List Cell) → sizes ≡ sizes_of spaces
     → All (LiesIn sizes) cells → All (IsCell spaces) cells
 cells_of_layout sizes spaces cells same lie k d within =
     let cell = get_or cells k d in
-    let size : get_or sizes cell.space 0 ≡ size_at spaces cell.space = ap (λ xs. get_or xs cell.space 0) same ∙ size_is spaces cell.space in
+    let size : get_or sizes cell.space 0 ≡ size_at spaces cell.space = ap (λ xs. get_or xs cell.space 0) same ∙ slice_index-sizes_of spaces cell.space in
     subst (λ n. cell.index < n) size (lie k d within)
 
 -- the first n messages are assigned the lowest affinities that cover their footprints

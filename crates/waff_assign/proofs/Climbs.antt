@@ -1,13 +1,8 @@
 -- Steps to the parent in a tree of affinities.
-use Rattle.std.proofs.Common.{◌≡◌, ◌≢◌, ℕ, zero, suc, ◌<◌, List, length, Option, Some, None, IsSome, arith, refl, sym, ◌∙◌, subst, ⊎_elim}
-use Rattle.std.proofs.lemmas.Bool.{cases_eq, false≢true}
-use Rattle.waff_model.proofs.TreeLemmas.{reflexive, above_child, above_parent}
+use Rattle.std.proofs.Common.{◌≡◌, ◌≢◌, ℕ, zero, suc, ◌<◌, List, length, Some, None, arith, sym, ◌∙◌, subst, ⊎_elim}
+use Rattle.std.proofs.lemmas.Bool.{cases_eq}
+use Rattle.waff_model.proofs.TreeLemmas.{some_of, reflexive, above_child, above_parent}
 use Rattle.waff_model.specs.Tree.{Node, parent_of, AtOrAbove, IsRooted, IsTree}
-
--- a value that is there
-some_value : (o : Option ℕ) → IsSome o → (p : ℕ) × (o ≡ Some p)
-some_value (Some p) h = (p, refl)
-some_value None h = absurd (false≢true h)
 
 -- the root is at or above each affinity
 root_above_by : (tree : List Node) → IsRooted tree → (bound b : ℕ) → b < bound → b < length tree → AtOrAbove tree 0 b
@@ -16,7 +11,7 @@ root_above_by tree rooted (suc bound) b short within =
     ⊎_elim {C = AtOrAbove tree 0 b}
     (λ (top : b ≡ 0). subst (λ x. AtOrAbove tree 0 x) (sym top) (reflexive tree 0))
     (λ (under : b ≢ 0).
-    let has_parent = some_value (parent_of tree b) (rooted.others b (omega arith) within) in
+    let has_parent = some_of (parent_of tree b) (rooted.others b (omega arith) within) in
     let earlier : has_parent.0 < b = rooted.earlier b has_parent.0 has_parent.1 in
     above_child tree 0 b has_parent.0 has_parent.1
     (root_above_by tree rooted bound has_parent.0 (omega arith) (omega arith)))
@@ -31,7 +26,7 @@ root_from_none tree is_tree b within none =
     ⊎_elim {C = b ≡ 0}
     (λ (top : b ≡ 0). top)
     (λ (under : b ≢ 0).
-    let has_parent = some_value (parent_of tree b) (is_tree.rooted.others b (omega arith) within) in
+    let has_parent = some_of (parent_of tree b) (is_tree.rooted.others b (omega arith) within) in
     let both : None ≡ Some has_parent.0 = sym none ∙ has_parent.1 in cc)
     (cases_eq b 0)
 

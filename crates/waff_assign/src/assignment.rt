@@ -1,7 +1,7 @@
 //! The assignment of affinities to messages.
 
 ghost use Rattle.std.specs.Prelude.{◌≡◌, ◌<◌, ◌≤◌, ◌++◌, length, All, Contains, IfOk, OnOk};
-ghost use Rattle.waff_assign.specs.Lowest.{AreLowest, IsAssignment, IsInFootprint, IsLowest};
+ghost use Rattle.waff_assign.specs.Lowest.{IsAssignment, IsInFootprint, IsLowest};
 ghost use Rattle.waff_model.specs.Cells.{cells_of, cells_of_op};
 ghost use Rattle.waff_model.specs.Layout.{IsCell};
 ghost use Rattle.waff_model.specs.Messages.{sizes_of};
@@ -15,8 +15,6 @@ use waff_model::{AffinityId, Cell, Layout, Op, Ops, Trace};
 pub fn assign(alloc: Global, layout: &Layout, trace: &Trace) -> Result<Assigned, AllocError>
     requires fits { trace.now.sizes ≡ sizes_of layout.now.spaces }
     ensures assignment { IfOk result (IsAssignment layout.now trace.now.messages) }
-    ensures count { IfOk result (λ assigned. length assigned ≡ length trace.now.messages) }
-    ensures lowest { IfOk result (AreLowest layout.now trace.now.messages) }
     ensures known { IfOk result (All (λ a. a < length layout.now.tree)) }
 {
     let mut affinities = Vec::with_capacity(alloc, trace.len() as usize)?;
@@ -54,15 +52,11 @@ fn lowest_of_op(layout: &Layout, op: Op) -> AffinityId
     ensures lowest { IsLowest layout.now (Contains (cells_of_op op)) result.0 }
     ensures within { result.0 < length layout.now.tree }
 {
-    match op {
-        Op::Set { cell, .. } | Op::Add { cell, .. } | Op::Read { cell } => layout.owner(cell),
-        Op::Copy {
-            cell,
-            source: other,
-        }
-        | Op::Swap { cell, other } => {
-            lowest_above(layout.tree(), layout.owner(cell), layout.owner(other))
-        }
+    let (cell, other) = op.cells();
+    let low = layout.owner(cell);
+    match other {
+        Some(other) => lowest_above(layout.tree(), low, layout.owner(other)),
+        None => low,
     }
 }
 
@@ -80,16 +74,10 @@ pub(crate) fn push_cells(cells: &mut Vec<Cell>, ops: &Ops) -> Result<(), AllocEr
 fn push_cells_of_op(cells: &mut Vec<Cell>, op: Op) -> Result<(), AllocError>
     ensures { OnOk result (cells.new.items ≡ cells.old.items ++ cells_of_op op) }
 {
-    match op {
-        Op::Set { cell, .. } | Op::Add { cell, .. } | Op::Read { cell } => cells.push(cell)?,
-        Op::Copy {
-            cell,
-            source: other,
-        }
-        | Op::Swap { cell, other } => {
-            cells.push(cell)?;
-            cells.push(other)?;
-        }
+    let (cell, other) = op.cells();
+    cells.push(cell)?;
+    if let Some(other) = other {
+        cells.push(other)?;
     }
     Ok(())
 }

@@ -1,10 +1,10 @@
 //! The affinity of each message of a trace: the lowest that covers its footprint.
 //!
-//! A footprint is the owners of the cells that a message names. Messages whose affinities are at or
-//! above one another exclude each other, and the earlier runs first: that order of pairs is what
-//! all crates above plan, check and replay by.
-//! - `footprints`: the footprint of a message; `covering`: the lowest affinity at or above all of
-//!   it.
+//! A footprint is the set of the cells that a message names; an affinity covers it that is at or
+//! above the owner of each. Messages whose affinities are at or above one another exclude each
+//! other, and the earlier runs first: that order of pairs is what all crates above plan, check and
+//! replay by.
+//! - `footprints`: the footprint of a message; `covering`: the lowest affinity that covers cells.
 //! - `assignment`: the affinities of all messages, `assigned`.
 //! - `case`: a trace under a tree, with these affinities.
 //! - `order`: whether two messages are an ordered pair.

@@ -12,7 +12,7 @@ use Rattle.waff_cells.specs.Held.{Address, AreWithin, number_at, IsWithin}
 use Rattle.waff_cells.proofs.HeldCells.{AreApart, Hold, HoldAfter}
 use Rattle.waff_cells.specs.Parcel.{AreParcels, HaveParcelSizes, IsOwned, lies_at}
 use Rattle.waff_cells.specs.RowEffects.{with_number_at, row_effect, row_meaning}
-use Rattle.waff_cells.proofs.Meanings.{all_left, all_right}
+use Rattle.waff_model.proofs.OpCells.{all_left, all_right}
 use Rattle.waff_cells.proofs.Writes.{inside, written_sizes, written_holds}
 use Rattle.waff_cells.proofs.Holdings.{parcels_apart, parcel_address, parcel_sizes, hold_parcels, part_parcels}
 

@@ -5,7 +5,7 @@ use Rattle.waff_model.specs.Cells.{cells_of, LiesIn}
 use Rattle.waff_model.specs.Layout.{Space, IsCell, owner_of}
 use Rattle.waff_model.specs.Messages.{sizes_of}
 use Rattle.waff_model.specs.declared.cell.Cell.{Cell}
-use Rattle.waff_assign.proofs.Assignments.{size_is}
+use Rattle.waff_model.proofs.TraceLemmas.{slice_index-sizes_of}
 use Rattle.waff_cells.specs.Parcel.{IsOwned}
 use Rattle.waff_cells.specs.Serial.{ops_of}
 use Rattle.waff_core.specs.Job.{JobValue, IsJob, IsIn, owners_of}
@@ -16,7 +16,7 @@ pub cells_lie : (sizes : List ℕ) (spaces : List Space) (cells : List Cell) →
     → All (IsCell spaces) cells → All (LiesIn sizes) cells
 cells_lie sizes spaces cells same are k d within =
     let cell = get_or cells k d in
-    let size : get_or sizes cell.space 0 ≡ _ = ap (λ xs. get_or xs cell.space 0) same ∙ size_is spaces cell.space in
+    let size : get_or sizes cell.space 0 ≡ _ = ap (λ xs. get_or xs cell.space 0) same ∙ slice_index-sizes_of spaces cell.space in
     subst (λ n. cell.index < n) (sym size) (are k d within)
 
 -- the cells that message n names are those of its owners

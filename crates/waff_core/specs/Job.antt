@@ -1,9 +1,10 @@
 -- Jobs: what a replay replays.
-use Rattle.std.specs.Prelude.{◌≡◌, ◌≢◌, ◌↔◌, ℕ, ◌-◌, ◌<◌, ◌≤◌, List, [], length, All, AllPairs, Some, Contains}
+use Rattle.std.specs.Prelude.{◌≡◌, ◌↔◌, ℕ, ◌-◌, ◌<◌, ◌≤◌, List, [], length, All, Some, Contains}
 use Rattle.std.specs.Prelude.{slice_get, slice_index_or}
 use Rattle.waff_model.specs.Cells.{cells_of}
 use Rattle.waff_model.specs.Layout.{Hierarchy, Space, IsCell, IsLayout, owner_of}
 use Rattle.waff_model.specs.Numbers.{IsAmongFirst}
+pub use Rattle.waff_model.specs.Numbers.{StandOnce}
 use Rattle.waff_model.specs.declared.cell.Cell.{Cell}
 use Rattle.waff_model.specs.declared.limits.TheConstants.{MAX_OPS}
 use Rattle.waff_model.specs.declared.message.Message.{Message}
@@ -40,10 +41,6 @@ pub record IsOwner (spaces : List Space) (ops : List Op) (a : ℕ) : Type 0 wher
   pub cell : Cell
   pub named : Contains (cells_of ops) cell
   pub owned : owner_of spaces cell ≡ a
-
--- none of the numbers stands twice
-abbrev pub StandOnce : List ℕ → Type 0
-StandOnce numbers = AllPairs (λ a b. a ≢ b) numbers
 
 -- the owners of a footprint, each once
 pub record ListsOwners (spaces : List Space) (ops : List Op) (owners : List ℕ) : Type 0 where

@@ -71,19 +71,12 @@ fn push_owners_of_op(
         → AreMarked n marks.new (found ++ owners_in layout.now.spaces (cells_of_op op))
         owners.new.items) }
 {
-    match op {
-        Op::Set { cell, .. } | Op::Add { cell, .. } | Op::Read { cell } => {
-            push_owner(owners, marks, n, layout.owner(cell))
-        }
-        Op::Copy {
-            cell,
-            source: other,
-        }
-        | Op::Swap { cell, other } => {
-            let (one, two) = (layout.owner(cell), layout.owner(other));
-            push_owner(owners, marks, n, one)?;
-            push_owner(owners, marks, n, two)
-        }
+    let (cell, other) = op.cells();
+    let first = layout.owner(cell);
+    push_owner(owners, marks, n, first)?;
+    match other {
+        Some(other) => push_owner(owners, marks, n, layout.owner(other)),
+        None => Ok(()),
     }
 }
 

@@ -47,13 +47,13 @@ module _ (tree : List Node) (rooted : IsRooted tree) (shares : List Share) (span
     ];
   }
 
-module _ (tree : List Node) (rooted : IsRooted tree) (shares : List Share) (shared : AreShares tree shares) (spans : List Span) where
+module _ (tree : List Node) (rooted : IsRooted tree) (shares : List Share) (shared : AreShares tree shares 0) (spans : List Span) where
   -- the places of a child and its share end among those of its parent
   pub child_few : (b p : ℕ) → ArePlacedBefore tree shares spans b → b < length tree → parent_of tree b ≡ Some p → (p < length spans) × ((span_at spans p).first + (share_at shares b).offset + (share_at shares b).size ≤ length tree)
   child_few b p are within parent =
       let up : p < b = rooted.earlier b p parent in
       let placed = are.each p up in
-      (omega (arith, are.count), omega (arith, placed.end, placed.few, shared.within b p within parent))
+      (omega (arith, are.count), omega (arith, placed.end, placed.few, shared.within b p (omega arith) within parent))
 
   -- and so where the place of the parent is read
   pub child_fits : (b p : ℕ) (up : Span) → up ≡ get_or spans p up → ArePlacedBefore tree shares spans b → b < length tree → parent_of tree b ≡ Some p → up.first + (share_at shares b).offset + (share_at shares b).size ≤ length tree
@@ -87,10 +87,10 @@ module _ (tree : List Node) (rooted : IsRooted tree) (shares : List Share) (shar
     parents = λ b within. (are.each b within).parent;
     filled = λ b within. omega (arith, (are.each b within).end, shared.filled b within);
     few = λ b within. (are.each b within).few;
-    after = λ b p within parent. omega (arith, (are.each b within).first p parent, shared.after b p within parent);
+    after = λ b p within parent. omega (arith, (are.each b within).first p parent, shared.after b p (omega arith) within parent);
     within = λ b p within parent.
         let up : p < b = rooted.earlier b p parent in
-        omega (arith, (are.each b within).end, (are.each b within).first p parent, (are.each p (omega arith)).end, shared.within b p within parent);
+        omega (arith, (are.each b within).end, (are.each b within).first p parent, (are.each p (omega arith)).end, shared.within b p (omega arith) within parent);
     apart = λ b c p order within parent_b parent_c.
-        omega (arith, (are.each c within).end, (are.each c within).first p parent_c, (are.each b (omega arith)).first p parent_b, shared.apart b c p order within parent_b parent_c);
+        omega (arith, (are.each c within).end, (are.each c within).first p parent_c, (are.each b (omega arith)).first p parent_b, shared.apart b c p (omega arith) order within parent_b parent_c);
   }

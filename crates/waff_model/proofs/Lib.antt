@@ -1,4 +1,4 @@
-mod NodeEntries
+pub mod NodeEntries
 pub mod RefusalLemmas
 pub mod TreeLemmas
 mod PreorderLemmas
@@ -12,5 +12,7 @@ mod RunLemmas
 pub mod TraceLemmas
 pub mod LaterLemmas
 mod BlockLemmas
-mod WholeLemmas
 pub mod TakeLemmas
+pub mod SpanLemmas
+pub mod OpCells
+pub mod Members

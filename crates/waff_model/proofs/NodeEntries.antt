@@ -10,7 +10,7 @@ use Rattle.std.proofs.lemmas.Bool.Decides.{nat_tests}
 use Rattle.std.specs.Map.{keys_of}
 use Rattle.indexmap.specs.IndexMap.{insert_entry}
 use Rattle.waff_model.specs.Tree.{Node, number_of}
-use Rattle.waff_model.specs.Nodes.{node_of, nodes_of}
+use Rattle.waff_model.specs.Nodes.{entry_node, nodes_of}
 
 position_or_len-map : {X Y : Type 0} (p : Y → Bool) (f : X → Y) (xs : List X) → position_or_len p (map f xs) ≡ position_or_len (λ x. p (f x)) xs
 position_or_len-map p f [] = refl
@@ -28,7 +28,7 @@ fails_where_none p xs i d none within =
 module _ {A : Type 0} where
   pub number_of-nodes_of : (es : List (String A × Option ℕ)) (name : List ℕ) → number_of (nodes_of es) name ≡ position (λ key. bytes_eq name (string_bytes key)) (keys_of es)
   number_of-nodes_of es name =
-      position-map (λ (node : Node). bytes_eq name node.name) node_of es ∙ sym (position-map (λ (key : String A). bytes_eq name (string_bytes key)) (λ e. e.0) es)
+      position-map (λ (node : Node). bytes_eq name node.name) entry_node es ∙ sym (position-map (λ (key : String A). bytes_eq name (string_bytes key)) (λ e. e.0) es)
 
   insert_entry-absent : (es : List (String A × Option ℕ)) (key : String A) (parent : Option ℕ) → ((i : ℕ) → i < length es → string_eq key (get_or es i (key, parent)).0 ≡ false) → insert_entry string_eq es key parent ≡ es ++ (key, parent) ∷ []
   insert_entry-absent [] key parent none = refl
@@ -42,4 +42,4 @@ module _ {A : Type 0} where
       let absent : (i : ℕ) → i < length es → string_eq key (get_or es i (key, parent)).0 ≡ false =
       λ i within. rw (← get_or-map (λ (e : String A × Option ℕ). e.0) es i (key, parent) key within)
       (fails_where_none (λ k. bytes_eq (string_bytes key) (string_bytes k)) (keys_of es) i key missing (rw length-map within)) in
-      rw (insert_entry-absent es key parent absent) (map_push node_of es (key, parent))
+      rw (insert_entry-absent es key parent absent) (map_push entry_node es (key, parent))

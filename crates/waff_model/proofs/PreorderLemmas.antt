@@ -1,11 +1,11 @@
 -- Places that nest as a tree's affinities do tell what is at or above what.
-use Rattle.std.proofs.Common.{◌≡◌, ℕ, zero, suc, ◌+◌, ◌<◌, ◌≤◌, ◌⊎◌, ◌↔◌, inl, inr, List, length, get_or, Option, Some, None, IsSome, refl, sym, subst, arith}
+use Rattle.std.proofs.Common.{◌≡◌, ℕ, zero, suc, ◌+◌, ◌<◌, ◌≤◌, ◌⊎◌, ◌↔◌, inl, inr, List, length, get_or, Some, None, sym, subst, arith}
 use Rattle.std.proofs.lemmas.Bool.{cases_order}
 use Rattle.std.proofs.lemmas.List.{get_or_default}
 use Rattle.waff_model.specs.Tree.{Node, parent_of, Leads, AtOrAbove, IsRooted}
 use Rattle.waff_model.specs.declared.preorder.Span.{Span}
 use Rattle.waff_model.specs.Preorder.{span_at, Spans, AreSpans, AreNested}
-use Rattle.waff_model.proofs.TreeLemmas.{reflexive, above_child, above_parent, earlier}
+use Rattle.waff_model.proofs.TreeLemmas.{some_of, reflexive, above_child, above_parent, earlier}
 
 -- a read of an affinity's place, whatever stands past the end
 pub place_at_any : (spans : List Span) (b : ℕ) (p : Span) → b < length spans → get_or spans b p ≡ span_at spans b
@@ -26,10 +26,6 @@ apart_inside p q r nests (inr past) = inr (omega arith)
 apart_swapped : (p q : Span) → Apart p q → Apart q p
 apart_swapped p q (inl before) = inr before
 apart_swapped p q (inr past) = inl past
-
-some_of : (o : Option ℕ) → IsSome o → (p : ℕ) × (o ≡ Some p)
-some_of None none = absurd (cc)
-some_of (Some p) some = (p, refl)
 
 module _ (tree : List Node) (spans : List Span) (rooted : IsRooted tree) (are : AreSpans tree spans) where
   nests_in_parent : (b p : ℕ) → b < length tree → parent_of tree b ≡ Some p → Nests (span_at spans p) (span_at spans b)

@@ -8,21 +8,7 @@ use Rattle.std.proofs.Math.Seq.{take-set-lt}
 use Rattle.std.specs.List.{sum_by}
 use Rattle.waff_model.specs.Tree.{Node, parent_of, IsRooted}
 use Rattle.waff_model.specs.declared.preorder.Share.{Share}
-use Rattle.waff_model.specs.Preorder.{leaf, share_at, AreShares}
-
--- the sizes of the affinities before k that are not yet part of another's
-abbrev pub sizes_before : List Share → ℕ → ℕ
-sizes_before shares k = sum_by (λ (s : Share). s.size) (take k shares)
-
--- the affinities from k on have their shares of their parents' places
-pub record AreSharesFrom (tree : List Node) (shares : List Share) (k : ℕ) : Type 0 where
-  pub count : length shares ≡ length tree
-  pub filled : (b : ℕ) → b < length tree → 0 < (share_at shares b).size
-  pub few : (b : ℕ) → b < length tree → (share_at shares b).size ≤ length tree
-  pub left : sizes_before shares k ≤ length tree
-  pub after : (b p : ℕ) → k ≤ b → b < length tree → parent_of tree b ≡ Some p → 0 < (share_at shares b).offset
-  pub within : (b p : ℕ) → k ≤ b → b < length tree → parent_of tree b ≡ Some p → (share_at shares b).offset + (share_at shares b).size ≤ (share_at shares p).size
-  pub apart : (b c p : ℕ) → k ≤ b → b < c → c < length tree → parent_of tree b ≡ Some p → parent_of tree c ≡ Some p → (share_at shares c).offset + (share_at shares c).size ≤ (share_at shares b).offset
+use Rattle.waff_model.specs.Preorder.{leaf, share_at, sizes_before, AreShares}
 
 -- the shares once the affinity b has its share of its parent p
 abbrev pub given : List Share → ℕ → ℕ → ℕ → List Share
@@ -84,7 +70,7 @@ module _ (shares : List Share) (b p m : ℕ) (before : p < b) (here : b < length
         left = given_left;
       }
 
-module _ (tree : List Node) (rooted : IsRooted tree) (shares new : List Share) (b p : ℕ) (before : p < b) (here : b < length tree) (parent : parent_of tree b ≡ Some p) (are : AreSharesFrom tree shares (b + 1)) (step : IsGiven shares new b p) where
+module _ (tree : List Node) (rooted : IsRooted tree) (shares new : List Share) (b p : ℕ) (before : p < b) (here : b < length tree) (parent : parent_of tree b ≡ Some p) (are : AreShares tree shares (b + 1)) (step : IsGiven shares new b p) where
   both_few : (share_at shares p).size + (share_at shares b).size ≤ length tree
   both_few = omega (arith, both_sizes shares b p before (omega (arith, are.count)), are.left)
 
@@ -104,7 +90,7 @@ module _ (tree : List Node) (rooted : IsRooted tree) (shares new : List Share) (
   same_parent q parent_q = cc
 
   -- and so the affinities from b on have their shares
-  pub shares_given : AreSharesFrom tree new b
+  pub shares_given : AreShares tree new b
   shares_given = record {
     count = step.count ∙ are.count;
     filled = λ c within. omega (arith, are.filled c within, (size_of_new c within).0);
@@ -138,7 +124,7 @@ module _ (tree : List Node) (rooted : IsRooted tree) (shares new : List Share) (
 
 module _ (tree : List Node) (shares : List Share) where
   -- an affinity without parent takes no share
-  pub none_given : (b : ℕ) → b < length tree → parent_of tree b ≡ None → AreSharesFrom tree shares (b + 1) → AreSharesFrom tree shares b
+  pub none_given : (b : ℕ) → b < length tree → parent_of tree b ≡ None → AreShares tree shares (b + 1) → AreShares tree shares b
   none_given b here none are = record {
     count = are.count;
     filled = are.filled;
@@ -161,7 +147,7 @@ module _ (tree : List Node) (shares : List Share) where
     no_parent c q same parent = let n : parent_of tree c ≡ None = subst (λ b. parent_of tree b ≡ None) same none in absurd (cc)
 
   -- at the start each takes its own place
-  pub start_given : shares ≡ replicate (length tree) leaf → AreSharesFrom tree shares (length tree)
+  pub start_given : shares ≡ replicate (length tree) leaf → AreShares tree shares (length tree)
   start_given leaves =
       let each : (b : ℕ) → b < length tree → (share_at shares b).size ≡ 1 = λ b within. rw leaves (ap (λ s. s.size) (get_or-replicate (length tree) b leaf (record { offset = 0; size = 0 }) within)) in
       record {
@@ -174,14 +160,3 @@ module _ (tree : List Node) (shares : List Share) where
         within = λ b q from within parent. absurd (omega arith);
         apart = λ b c q from order within parent parent_c. absurd (omega arith);
       }
-
-  -- in the end all have their shares
-  pub all_given : AreSharesFrom tree shares 0 → AreShares tree shares
-  all_given are = record {
-    count = are.count;
-    filled = are.filled;
-    few = are.few;
-    after = λ b p within. are.after b p (omega arith) within;
-    within = λ b p within. are.within b p (omega arith) within;
-    apart = λ b c p order. are.apart b c p (omega arith) order;
-  }

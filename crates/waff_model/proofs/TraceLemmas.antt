@@ -35,7 +35,7 @@ pub sizes_of-pass : (spaces : List Space) → list_all has_size (zip (sizes_of s
 sizes_of-pass [] = refl
 sizes_of-pass (space ∷ spaces) = rw (eq-eqb space.size space.size refl) (sizes_of-pass spaces)
 
-slice_index-sizes_of : (spaces : List Space) (s : ℕ) → slice_index (sizes_of spaces) s ≡ size_at spaces s
+pub slice_index-sizes_of : (spaces : List Space) (s : ℕ) → slice_index (sizes_of spaces) s ≡ size_at spaces s
 slice_index-sizes_of [] s = refl
 slice_index-sizes_of (space ∷ spaces) zero = refl
 slice_index-sizes_of (space ∷ spaces) (suc s) = slice_index-sizes_of spaces s

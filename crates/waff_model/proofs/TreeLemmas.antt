@@ -9,6 +9,11 @@ use Rattle.waff_model.specs.TreeRefusal.{refusal_of, node_checks, is_unknown}
 use Rattle.waff_model.proofs.RefusalLemmas.{none_holds}
 use Rattle.waff_model.specs.Tree.{Node, parent_of, Leads, AtOrAbove, Excludes, IsRooted}
 
+-- a number that is there
+pub some_of : (o : Option ℕ) → IsSome o → (p : ℕ) × (o ≡ Some p)
+some_of None none = absurd (cc)
+some_of (Some p) some = (p, refl)
+
 module _ (tree : List Node) where
   -- each affinity is at or above itself
   pub reflexive : (a : ℕ) → AtOrAbove tree a a

@@ -28,10 +28,14 @@ pub record Hierarchy : Type 0 where
 abbrev pub names_of : List Space → List (List ℕ)
 names_of spaces = map (λ space. space.name) spaces
 
+-- the sizes of spaces
+abbrev pub sizes_of : List Space → List ℕ
+sizes_of spaces = map (λ space. space.size) spaces
+
 -- the same spaces: equal lists of names and of sizes
 pub record SameSpaces (spaces others : List Space) : Type 0 where
   pub names : names_of spaces ≡ names_of others
-  pub sizes : map (λ space. space.size) spaces ≡ map (λ space. space.size) others
+  pub sizes : sizes_of spaces ≡ sizes_of others
 
 -- the name of the space s
 abbrev pub name_at : List Space → ℕ → Option (List ℕ)

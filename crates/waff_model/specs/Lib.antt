@@ -17,6 +17,5 @@ pub mod ParcelLaws
 pub mod Numbers
 pub mod Messages
 pub mod Later
-pub mod LaterLaws
 pub mod Blocks
-pub mod Taken
+pub mod Spans

@@ -1,6 +1,6 @@
 -- Messages and traces, and the limits that they keep.
-use Rattle.std.specs.Prelude.{◌≡◌, ℕ, ◌≤◌, true, List, length, map, All}
-use Rattle.waff_model.specs.Layout.{Space}
+use Rattle.std.specs.Prelude.{◌≡◌, ℕ, ◌≤◌, true, List, length, All}
+pub use Rattle.waff_model.specs.Layout.{sizes_of}
 use Rattle.waff_model.specs.Names.{is_name}
 use Rattle.waff_model.specs.Cells.{cells_of, LiesIn}
 use Rattle.waff_model.specs.declared.limits.TheConstants.{MAX_COST, MAX_RELEASE, MAX_OPS}
@@ -15,10 +15,6 @@ pub record Arrivals : Type 0 where
   pub version : Version
   pub sizes : List ℕ
   pub messages : List Message
-
--- the sizes of spaces
-abbrev pub sizes_of : List Space → List ℕ
-sizes_of spaces = map (λ space. space.size) spaces
 
 -- the message is within the limits, and its cells lie in spaces of these sizes
 pub record IsMessage (version : Version) (sizes : List ℕ) (message : Message) : Type 0 where

@@ -1,5 +1,6 @@
 -- The spans of affinities in preorder: those below an affinity follow right after it.
 use Rattle.std.specs.Prelude.{◌≡◌, ℕ, ◌+◌, ◌<◌, ◌≤◌, ◌↔◌, List, length, Some, None, slice_index_or}
+use Rattle.std.specs.Prelude.{sum_by, take}
 use Rattle.waff_model.specs.Tree.{Node, parent_of, AtOrAbove}
 use Rattle.waff_model.specs.declared.preorder.Span.{Span}
 use Rattle.waff_model.specs.declared.preorder.Share.{Share}
@@ -34,17 +35,22 @@ leaf = record { offset = 0; size = 1 }
 abbrev pub share_at : List Share → ℕ → Share
 share_at shares b = slice_index_or shares b (record { offset = 0; size = 0 })
 
--- shares of a tree: a child's lies in its parent's, after the parent's own place, and those of two
--- children are apart
-pub record AreShares (tree : List Node) (shares : List Share) : Type 0 where
+-- the sizes of the affinities before k that are not yet part of another's
+abbrev pub sizes_before : List Share → ℕ → ℕ
+sizes_before shares k = sum_by (λ share. share.size) (take k shares)
+
+-- the affinities from k on have their shares: a child's lies in its parent's, after the parent's
+-- own place, and those of two children are apart
+pub record AreShares (tree : List Node) (shares : List Share) (k : ℕ) : Type 0 where
   pub count : length shares ≡ length tree
   pub filled : (b : ℕ) → b < length tree → 0 < (share_at shares b).size
   pub few : (b : ℕ) → b < length tree → (share_at shares b).size ≤ length tree
-  pub after : (b p : ℕ) → b < length tree → parent_of tree b ≡ Some p
+  pub left : sizes_before shares k ≤ length tree
+  pub after : (b p : ℕ) → k ≤ b → b < length tree → parent_of tree b ≡ Some p
       → 0 < (share_at shares b).offset
-  pub within : (b p : ℕ) → b < length tree → parent_of tree b ≡ Some p
+  pub within : (b p : ℕ) → k ≤ b → b < length tree → parent_of tree b ≡ Some p
       → (share_at shares b).offset + (share_at shares b).size ≤ (share_at shares p).size
-  pub apart : (b c p : ℕ) → b < c → c < length tree
+  pub apart : (b c p : ℕ) → k ≤ b → b < c → c < length tree
       → parent_of tree b ≡ Some p → parent_of tree c ≡ Some p
       → (share_at shares c).offset + (share_at shares c).size ≤ (share_at shares b).offset
 

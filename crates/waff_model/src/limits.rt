@@ -7,28 +7,28 @@ pub const MAX_AFFINITIES: usize = 4096;
 pub const MAX_SPACES: usize = 256;
 
 /// The size of a space, in cells.
-pub const MAX_SIZE: u32 = 262144;
+pub const MAX_SIZE: u32 = 262_144;
 
 /// Cells over all spaces of a layout.
-pub const MAX_CELLS: u32 = 262144;
+pub const MAX_CELLS: u32 = 262_144;
 
 /// The unit of a map, in cells.
-pub const MAX_UNIT: u32 = 262144;
+pub const MAX_UNIT: u32 = 262_144;
 
 /// Affinities that a map lists.
 pub const MAX_OWNERS: usize = 256;
 
 /// Messages of a trace.
-pub const MAX_MESSAGES: usize = 65536;
+pub const MAX_MESSAGES: usize = 65_536;
 
 /// Operations of a message.
 pub const MAX_OPS: usize = 32;
 
 /// The cost of a message, in ticks.
-pub const MAX_COST: u32 = 1000000;
+pub const MAX_COST: u32 = 1_000_000;
 
 /// The release of a message, in ticks.
-pub const MAX_RELEASE: u32 = 1000000000;
+pub const MAX_RELEASE: u32 = 1_000_000_000;
 
 /// Workers of a plan.
 pub const MAX_WORKERS: u32 = 64;

@@ -35,11 +35,11 @@ const SHORT: usize = 16;
 /// A text of its own. A short one lies in the value itself, so that the names of many messages are
 /// not as many allocations.
 pub struct Text {
-    kept: Kept,
+    kept: Bytes,
 }
 
 #[derive(Drop)]
-enum Kept {
+enum Bytes {
     Short(ArrayString<SHORT>),
     Long(String),
 }
@@ -67,8 +67,8 @@ impl Text {
         ensures { IfOk result (λ t. t ≡ text.now) }
     {
         let kept = match ArrayString::from(text) {
-            Ok(short) => Kept::Short(short),
-            Err(_) => Kept::Long(String::from_str(alloc, text)?),
+            Ok(short) => Bytes::Short(short),
+            Err(_) => Bytes::Long(String::from_str(alloc, text)?),
         };
         Ok(Text { kept })
     }
@@ -78,8 +78,8 @@ impl Text {
         ensures { result.now ≡ self.now }
     {
         match &self.kept {
-            Kept::Short(text) => text.as_str(),
-            Kept::Long(text) => text.as_str(),
+            Bytes::Short(text) => text.as_str(),
+            Bytes::Long(text) => text.as_str(),
         }
     }
 }

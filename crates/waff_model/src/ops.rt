@@ -73,22 +73,6 @@ impl Ops {
         ensures pushed { OnOk result (self.new ≡ self.old ++ op ∷ []) }
         ensures unchanged { OnErr result (self.new ≡ self.old) }
     {
-        if let Kept::Packed(list) = &mut self.kept {
-            if list.len() < list.capacity() {
-                if let Some(packed) = PackedOp::of(op) {
-                    list.push_reserved(packed);
-                    return Ok(());
-                }
-            }
-        }
-        self.push_elsewhere(op)
-    }
-
-    // Appends an operation for which there is no room, or which is not packed.
-    fn push_elsewhere(&mut self, op: Op) -> Result<(), AllocError>
-        ensures pushed { OnOk result (self.new ≡ self.old ++ op ∷ []) }
-        ensures unchanged { OnErr result (self.new ≡ self.old) }
-    {
         match PackedOp::of(op) {
             Some(packed) => push_packed(self.alloc, &mut self.kept, packed),
             None => push_plain(self.alloc, &mut self.kept, op),
@@ -141,7 +125,7 @@ impl Kept {
     }
 }
 
-// Appends a packed operation for which there is no room.
+// Appends a packed operation.
 fn push_packed(alloc: Global, kept: &mut Kept, op: PackedOp) -> Result<(), AllocError>
     ensures pushed { OnOk result (kept_ops kept.new ≡ kept_ops kept.old ++ op_of op ∷ []) }
     ensures unchanged { OnErr result (kept_ops kept.new ≡ kept_ops kept.old) }
@@ -152,7 +136,7 @@ fn push_packed(alloc: Global, kept: &mut Kept, op: PackedOp) -> Result<(), Alloc
             *kept = Kept::Packed(list);
         }
         Kept::Packed(list) => {
-            if list.is_empty() {
+            if list.capacity() == 0 {
                 *kept = Kept::One(op);
             } else {
                 list.push(op)?;

@@ -47,7 +47,7 @@ pub(crate) fn spans_of(nodes: &Nodes) -> Result<Vec<Span>, AllocError>
 fn share_out(nodes: &Nodes, shares: &mut [Share])
     requires tree { IsRooted nodes.now }
     requires leaves { shares.old ≡ replicate (length nodes.now) leaf }
-    ensures { AreShares nodes.now shares.new }
+    ensures { AreShares nodes.now shares.new 0 }
 {
     for at in (0..shares.len()).rev() {
         if let Some(parent) = nodes.parent(at) {
@@ -62,7 +62,7 @@ fn share_out(nodes: &Nodes, shares: &mut [Share])
 /// Gives each affinity its span, from the first to the last, by its share of its parent's.
 fn arrange(nodes: &Nodes, shares: &[Share]) -> Result<Vec<Span>, AllocError>
     requires tree { IsRooted nodes.now }
-    requires shares { AreShares nodes.now shares.now }
+    requires shares { AreShares nodes.now shares.now 0 }
     ensures { IfOk result (λ spans. AreSpans nodes.now spans.items) }
 {
     let mut spans: Vec<Span> = Vec::with_capacity(nodes.allocator(), shares.len())?;

@@ -3,11 +3,12 @@
 //!
 //! The places are cut into blocks, so that a long span is passed block by block.
 
-ghost use Rattle.std.specs.Prelude.{◌≡◌, ◌<◌, ◌≤◌, length, replicate, IfOk, OnOk, slice_set};
-ghost use Rattle.waff_model.specs.Later.{Order, TellsLatest, IsNoted, by_number};
+ghost use Rattle.std.specs.Prelude.{◌≡◌, ◌+◌, ◌-◌, ◌<◌, ◌≤◌, ◌++◌, length, replicate, slice_set};
+ghost use Rattle.std.specs.Prelude.{vec_capacity, IfOk, OnErr, OnOk};
+ghost use Rattle.waff_model.specs.Later.{Join, IsMonoid, by_number};
 ghost use Rattle.waff_model.specs.Later.{latest_of, latest_in, value_at};
-ghost use Rattle.waff_model.specs.Taken.{IsThinned, Takes};
-ghost use Rattle.waff_model.specs.LaterLaws.{number_laws};
+ghost use Rattle.waff_model.specs.Spans.{map_in, messages_in};
+ghost use Rattle.std.proofs.Common.{arith};
 
 use std::alloc::{AllocError, Global};
 use std::marker::Model;
@@ -15,24 +16,25 @@ use std::marker::Model;
 /// Each block is of so many places.
 const BLOCK: usize = 64;
 
-/// Values of which the later one counts, with one that stands for nothing and counts for nothing.
+/// Values that are joined into the later one, with one that stands for nothing: a commutative
+/// monoid.
 pub trait Later: Copy + Drop {
-    ghost order: { Order Self };
+    ghost join: { Join Self };
 
     /// What stands where there is no value.
     fn none() -> Self
-        ensures { result ≡ order.none };
+        ensures { result ≡ join.none };
 
     /// The later of the two.
     fn later(self, other: Self) -> Self
-        ensures { result ≡ order.later self other };
+        ensures { result ≡ join.later self other };
 
-    ghost laws: { TellsLatest order };
+    ghost laws: { IsMonoid join };
 }
 
 /// The number of a message, 0 for none.
 impl Later for u32 {
-    ghost order = { by_number };
+    ghost join = { by_number };
 
     fn none() -> u32 {
         0
@@ -42,7 +44,11 @@ impl Later for u32 {
         self.max(other)
     }
 
-    ghost laws = { number_laws };
+    ghost laws = { record {
+      unit = λ x. omega arith;
+      associates = λ x y z. omega arith;
+      commutes = λ x y. omega arith;
+    } };
 }
 
 /// Values noted at spans of places, by places and blocks.
@@ -60,7 +66,7 @@ impl<T: Later> Model for Blocks<T> {
 
     ghost Value = { List T };
 
-    ghost view = { λ s. spread_from T.order s.blocks.items 0 s.places.items };
+    ghost view = { λ s. spread_from T.join s.blocks.items 0 s.places.items };
 
     ghost invariant = { λ s. AreCut s.places.items s.blocks.items };
 }
@@ -68,7 +74,7 @@ impl<T: Later> Model for Blocks<T> {
 impl<T: Later> Blocks<T> {
     /// Nothing is noted at these many places.
     fn none(alloc: Global, count: usize) -> Result<Self, AllocError>
-        ensures { IfOk result (λ blocks. blocks ≡ replicate count T.order.none) }
+        ensures { IfOk result (λ blocks. blocks ≡ replicate count T.join.none) }
     {
         Ok(Blocks {
             places: filled(alloc, count)?,
@@ -86,7 +92,7 @@ impl<T: Later> Blocks<T> {
     /// What counts at this place.
     fn at(&self, place: usize) -> T
         requires { place < length self.now }
-        ensures { result ≡ value_at T.order self.now place }
+        ensures { result ≡ value_at T.join self.now place }
     {
         self.places[place].later(self.blocks[place / BLOCK])
     }
@@ -95,7 +101,7 @@ impl<T: Later> Blocks<T> {
     fn note(&mut self, from: usize, to: usize, value: T)
         requires forward { from ≤ to }
         requires within { to ≤ length self.old }
-        ensures { IsNoted T.order from to value self.old self.new }
+        ensures { self.new ≡ map_in (λ v. T.join.later v value) self.old from to }
     {
         let (first, last) = (from.div_ceil(BLOCK), to / BLOCK);
         if last <= first {
@@ -122,13 +128,13 @@ impl<T: Later> Model for Spread<T> {
 
     ghost Value = { List T };
 
-    ghost view = { λ s. map (λ x. T.order.later x s.whole) s.blocks };
+    ghost view = { λ s. map (λ x. T.join.later x s.whole) s.blocks };
 }
 
 impl<T: Later> Spread<T> {
     /// Nothing is noted at these many places.
     pub fn none(alloc: Global, count: usize) -> Result<Self, AllocError>
-        ensures { IfOk result (λ spread. spread ≡ replicate count T.order.none) }
+        ensures { IfOk result (λ spread. spread ≡ replicate count T.join.none) }
     {
         let blocks = Blocks::none(alloc, count)?;
         let whole = T::none();
@@ -138,7 +144,7 @@ impl<T: Later> Spread<T> {
     /// What counts at this place.
     pub fn at(&self, place: usize) -> T
         requires { place < length self.now }
-        ensures { result ≡ value_at T.order self.now place }
+        ensures { result ≡ value_at T.join self.now place }
     {
         self.blocks.at(place).later(self.whole)
     }
@@ -147,7 +153,7 @@ impl<T: Later> Spread<T> {
     pub fn note(&mut self, from: usize, to: usize, value: T)
         requires forward { from ≤ to }
         requires within { to ≤ length self.old }
-        ensures { IsNoted T.order from to value self.old self.new }
+        ensures { self.new ≡ map_in (λ v. T.join.later v value) self.old from to }
     {
         if from == 0 && to == self.blocks.len() {
             self.whole = self.whole.later(value);
@@ -174,13 +180,13 @@ impl<T: Later> Model for Standing<T> {
 
     ghost view = { λ s. s.places.items };
 
-    ghost invariant = { λ s. AreSummed T.order s.places.items s.blocks.items };
+    ghost invariant = { λ s. AreSummed T.join s.places.items s.blocks.items };
 }
 
 impl<T: Later> Standing<T> {
     /// Nothing stands at these many places.
     pub fn none(alloc: Global, count: usize) -> Result<Self, AllocError>
-        ensures { IfOk result (λ standing. standing ≡ replicate count T.order.none) }
+        ensures { IfOk result (λ standing. standing ≡ replicate count T.join.none) }
     {
         Ok(Standing {
             places: filled(alloc, count)?,
@@ -192,7 +198,7 @@ impl<T: Later> Standing<T> {
     pub fn put(&mut self, place: usize, value: T)
         requires { place < length self.old }
         ensures { self.new ≡ slice_set self.old place
-            (T.order.later (value_at T.order self.old place) value) }
+            (T.join.later (value_at T.join self.old place) value) }
     {
         let block = place / BLOCK;
         self.places[place] = self.places[place].later(value);
@@ -203,7 +209,7 @@ impl<T: Later> Standing<T> {
     pub fn latest(&self, from: usize, to: usize) -> T
         requires forward { from ≤ to }
         requires within { to ≤ length self.now }
-        ensures { result ≡ latest_in T.order self.now from to }
+        ensures { result ≡ latest_in T.join self.now from to }
     {
         let (first, last) = (from.div_ceil(BLOCK), to / BLOCK);
         if last <= first {
@@ -266,15 +272,20 @@ impl Opened {
     pub fn take(&mut self, from: usize, to: usize, list: &mut Vec<u32>) -> Result<(), AllocError>
         requires forward { from ≤ to }
         requires within { to ≤ length self.old }
-        ensures { OnOk result (Takes from to self.old self.new list.old.items list.new.items) }
+        ensures taken { OnOk result
+            (list.new.items ≡ list.old.items ++ messages_in self.old from to) }
+        ensures closed { OnOk result (self.new ≡ map_in (λ m. 0) self.old from to) }
+        ensures unchanged { OnErr result
+            ((self.new ≡ self.old) × (list.new.items ≡ list.old.items)) }
     {
+        list.reserve(to - from)?;
         let until = to.min(self.end.max(from));
         let mut at = from;
         while at < until {
             let block = at / BLOCK;
             let end = until.min((block + 1) * BLOCK);
             if self.blocks[block] {
-                take_each(&mut self.places, at, end, list)?;
+                take_each(&mut self.places, at, end, list);
                 self.blocks[block] = end - at < BLOCK;
             }
             at = end;
@@ -288,7 +299,7 @@ impl Opened {
 
 /// So many values that stand for nothing.
 fn filled<T: Later>(alloc: Global, count: usize) -> Result<Vec<T>, AllocError>
-    ensures { IfOk result (λ values. values.items ≡ replicate count T.order.none) }
+    ensures { IfOk result (λ values. values.items ≡ replicate count T.join.none) }
 {
     let mut values = Vec::new(alloc);
     values.resize(count, T::none())?;
@@ -299,7 +310,8 @@ fn filled<T: Later>(alloc: Global, count: usize) -> Result<Vec<T>, AllocError>
 fn note_each<T: Later>(values: &mut [T], from: usize, to: usize, value: T)
     requires forward { from ≤ to }
     requires within { to ≤ length values.old }
-    ensures { IsNoted T.order from to value values.old values.new }
+    ensures noted { values.new ≡ map_in (λ v. T.join.later v value) values.old from to }
+    ensures count { length values.new ≡ length values.old }
 {
     for place in from..to {
         values[place] = values[place].later(value);
@@ -308,7 +320,7 @@ fn note_each<T: Later>(values: &mut [T], from: usize, to: usize, value: T)
 
 /// The latest of the values.
 fn latest<T: Later>(values: &[T]) -> T
-    ensures { result ≡ latest_of T.order values.now }
+    ensures { result ≡ latest_of T.join values.now }
 {
     let mut latest = T::none();
     for value in values {
@@ -318,24 +330,21 @@ fn latest<T: Later>(values: &[T]) -> T
 }
 
 /// Takes the messages at the places from `from` up to `to`, looked at one by one.
-fn take_each(
-    places: &mut [u32],
-    from: usize,
-    to: usize,
-    list: &mut Vec<u32>,
-) -> Result<(), AllocError>
+fn take_each(places: &mut [u32], from: usize, to: usize, list: &mut Vec<u32>)
     requires forward { from ≤ to }
     requires within { to ≤ length places.old }
-    ensures thinned { IsThinned places.old places.new }
-    ensures takes { OnOk result
-        (Takes from to places.old places.new list.old.items list.new.items) }
+    requires room { length list.old.items + (to - from) ≤ vec_capacity list.old }
+    ensures taken { list.new.items ≡ list.old.items ++ messages_in places.old from to }
+    ensures closed { places.new ≡ map_in (λ m. 0) places.old from to }
+    ensures count { length places.new ≡ length places.old }
+    ensures few { length list.new.items ≤ length list.old.items + (to - from) }
+    ensures room { vec_capacity list.new ≡ vec_capacity list.old }
 {
     for place in from..to {
         let m = places[place];
         if m > 0 {
-            list.push(m)?;
+            list.push_reserved(m);
             places[place] = 0;
         }
     }
-    Ok(())
 }

@@ -4,8 +4,9 @@ use Rattle.std.proofs.lemmas.Bool.{cases_eq, cases_lt}
 use Rattle.std.proofs.lemmas.List.{get_or-set_same, get_or-set_other}
 use Rattle.std.proofs.lemmas.List.Elements.{Contains-get_or}
 use Rattle.waff_order.specs.Open.{IsOpen, AreTaken, IsLatestAbove}
-use Rattle.waff_model.specs.Later.{IsNoted, by_number}
-use Rattle.waff_model.proofs.TakeLemmas.{none_at}
+use Rattle.waff_model.specs.Spans.{map_in, messages_in}
+use Rattle.waff_model.proofs.SpanLemmas.{length-map_in, at_before, at_within, at_after, messages_at, at_listed}
+use Rattle.waff_model.proofs.TakeLemmas.{none_at, gone_at}
 use Rattle.waff_order.specs.Runs.{AreGathered}
 
 -- each open message stands at its place in the table, and nothing else
@@ -68,11 +69,11 @@ module _ (Above : ℕ → ℕ → Type 0) where
       (spans : (i j : ℕ) → 1 ≤ i → i ≤ count → 1 ≤ j → j ≤ count → ((first i ≤ first j) × (first j < end i)) ↔ Above i j)
       (filled : (i : ℕ) → 1 ≤ i → i ≤ count → first i < end i) (n : ℕ) (room : n + 1 ≤ count) where
     -- what the next message takes
-    pub taken : (old new list : List ℕ) → AreHeld Above first n old → AreGathered (first (n + 1)) (end (n + 1)) old new list → AreTaken Above n list
-    taken old new list h gathers = record {
+    pub taken : (old list : List ℕ) → AreHeld Above first n old → AreGathered (messages_in old (first (n + 1)) (end (n + 1))) list → AreTaken Above n list
+    taken old list h gathers = record {
       takes = λ k d within.
           let i : ℕ = get_or list k d in
-          let at = gathers.only i (Contains-get_or list k d within) in
+          let at = messages_at old (first (n + 1)) (end (n + 1)) i ((gathers.each i).0 (Contains-get_or list k d within)) in
           let p : ℕ = at.place in
           let is : get_or old p 0 ≡ i = at.is in
           let some : 0 < i = at.some in
@@ -91,32 +92,36 @@ module _ (Above : ℕ → ℕ → Type 0) where
           elim (cases_lt (first i) (first (n + 1))) [
             | inl before ↦ inr (λ is. let low : first (n + 1) ≤ first i = (law.1 is).0 in omega arith)
             | inr low ↦ elim (cases_lt (first i) (end (n + 1))) [
-              | inl high ↦ inl (subst (λ x. Contains list x) here (gathers.takes (first i) low high (omega arith)))
+              | inl high ↦ inl (subst (λ x. Contains list x) here ((gathers.each (get_or old (first i) 0)).1 (at_listed old (first (n + 1)) (end (n + 1)) (first i) low high (omega arith))))
               | inr past ↦ inr (λ is. let high : first i < end (n + 1) = (law.1 is).1 in omega arith)
             ]
           ];
       rising = gathers.rising;
     }
 
+    -- the messages that it leaves
+    abbrev left : List ℕ → List ℕ
+    left old = map_in (λ m. 0) old (first (n + 1)) (end (n + 1))
+
     -- what is held after it
-    pub held_more : (old new list : List ℕ) → first (n + 1) < length old → AreHeld Above first n old → AreGathered (first (n + 1)) (end (n + 1)) old new list
-        → AreHeld Above first (n + 1) (set new (first (n + 1)) (n + 1))
-    held_more old new list short h gathers =
-        let clears = gathers.clears in
+    pub held_more : (old : List ℕ) → first (n + 1) < length old → AreHeld Above first n old
+        → AreHeld Above first (n + 1) (set (left old) (first (n + 1)) (n + 1))
+    held_more old short h =
         let at = first (n + 1) in
-        let here : get_or (set new at (n + 1)) at 0 ≡ n + 1 = get_or-set_same new at (n + 1) 0 (omega (arith, clears.count)) in
+        let long = length-map_in (λ m. 0) old at (end (n + 1)) in
+        let here : get_or (set (left old) at (n + 1)) at 0 ≡ n + 1 = get_or-set_same (left old) at (n + 1) 0 (omega (arith, long)) in
         let full : first (n + 1) < end (n + 1) = filled (n + 1) (omega arith) room in
         record {
           held = λ p some. elim (cases_eq p at) [
             | inl same ↦
-                let is : n + 1 ≡ get_or (set new at (n + 1)) p 0 = sym here ∙ ap (λ x. get_or (set new at (n + 1)) x 0) (sym same) in
+                let is : n + 1 ≡ get_or (set (left old) at (n + 1)) p 0 = sym here ∙ ap (λ x. get_or (set (left old) at (n + 1)) x 0) (sym same) in
                 subst (λ x. IsOpen Above (n + 1) x × (first x ≡ p)) is (open_last n, sym same)
             | inr other ↦
-                let kept : get_or (set new at (n + 1)) p 0 ≡ get_or new p 0 = get_or-set_other new at p (n + 1) 0 other in
+                let kept : get_or (set (left old) at (n + 1)) p 0 ≡ get_or (left old) p 0 = get_or-set_other (left old) at p (n + 1) 0 other in
                 held_other p (omega (arith, kept)) kept
           ];
           each = λ i is_open. elim (cases_eq i (n + 1)) [
-            | inl last ↦ subst (λ x. get_or (set new at (n + 1)) (first x) 0 ≡ x) (sym last) here
+            | inl last ↦ subst (λ x. get_or (set (left old) at (n + 1)) (first x) 0 ≡ x) (sym last) here
             | inr other ↦
                 let there = open_before n i other is_open in
                 let from : 1 ≤ i = is_open.from in
@@ -124,10 +129,10 @@ module _ (Above : ℕ → ℕ → Type 0) where
                 let law = spans (n + 1) i (omega arith) room from (omega arith) in
                 let old_at : get_or old (first i) 0 ≡ i = h.each i there.0 in
                 elim (cases_lt (first i) at) [
-                  | inl before ↦ get_or-set_other new at (first i) (n + 1) 0 (λ same. omega arith) ∙ clears.before (first i) before ∙ old_at
+                  | inl before ↦ get_or-set_other (left old) at (first i) (n + 1) 0 (λ same. omega arith) ∙ at_before (λ m. 0) old at (end (n + 1)) (first i) 0 before ∙ old_at
                   | inr low ↦ elim (cases_lt (first i) (end (n + 1))) [
                     | inl high ↦ absurd (there.1 (law.0 (low, high)))
-                    | inr past ↦ get_or-set_other new at (first i) (n + 1) 0 (λ same. omega arith) ∙ clears.after (first i) past ∙ old_at
+                    | inr past ↦ get_or-set_other (left old) at (first i) (n + 1) 0 (λ same. omega arith) ∙ at_after (λ m. 0) old at (end (n + 1)) (first i) 0 past ∙ old_at
                   ]
                 ]
           ];
@@ -149,42 +154,41 @@ module _ (Above : ℕ → ℕ → Type 0) where
               place,
             )
 
-        held_other : (p : ℕ) → 0 < get_or new p 0 → get_or (set new (first (n + 1)) (n + 1)) p 0 ≡ get_or new p 0
-            → IsOpen Above (n + 1) (get_or (set new (first (n + 1)) (n + 1)) p 0) × (first (get_or (set new (first (n + 1)) (n + 1)) p 0) ≡ p)
+        held_other : (p : ℕ) → 0 < get_or (left old) p 0 → get_or (set (left old) (first (n + 1)) (n + 1)) p 0 ≡ get_or (left old) p 0
+            → IsOpen Above (n + 1) (get_or (set (left old) (first (n + 1)) (n + 1)) p 0) × (first (get_or (set (left old) (first (n + 1)) (n + 1)) p 0) ≡ p)
         held_other p some kept = elim (cases_lt p (first (n + 1))) [
           | inl before ↦
-              let same : get_or old p 0 ≡ get_or new p 0 = sym (gathers.clears.before p before) in
+              let same : get_or old p 0 ≡ get_or (left old) p 0 = sym (at_before (λ m. 0) old (first (n + 1)) (end (n + 1)) p 0 before) in
               subst (λ x. IsOpen Above (n + 1) x × (first x ≡ p)) (same ∙ sym kept) (held_outside p (inl before) (omega (arith, same)))
           | inr low ↦ elim (cases_lt p (end (n + 1))) [
-            | inl high ↦ let none : get_or new p 0 ≡ 0 = gathers.clears.cleared p low high in absurd (omega arith)
+            | inl high ↦ let none : get_or (left old) p 0 ≡ 0 = gone_at old (first (n + 1)) (end (n + 1)) p low high in absurd (omega arith)
             | inr past ↦
-                let same : get_or old p 0 ≡ get_or new p 0 = sym (gathers.clears.after p past) in
+                let same : get_or old p 0 ≡ get_or (left old) p 0 = sym (at_after (λ m. 0) old (first (n + 1)) (end (n + 1)) p 0 past) in
                 subst (λ x. IsOpen Above (n + 1) x × (first x ≡ p)) (same ∙ sym kept) (held_outside p (inr past) (omega (arith, same)))
           ]
         ]
 
     -- what is noted after it
-    pub latest_next : (old new : List ℕ) → AreLatest Above first count n (λ p. get_or old p 0)
-        → IsNoted by_number (first (n + 1)) (end (n + 1)) (n + 1) old new
-        → AreLatest Above first count (n + 1) (λ p. get_or new p 0)
-    latest_next old new h notes m from to =
+    pub latest_next : (old : List ℕ) → end (n + 1) ≤ length old → AreLatest Above first count n (λ p. get_or old p 0)
+        → AreLatest Above first count (n + 1) (λ p. get_or (map_in (λ v. max v (n + 1)) old (first (n + 1)) (end (n + 1))) p 0)
+    latest_next old short h m from to =
         let law = spans (n + 1) m (omega arith) room from to in
         let before = h m from to in
         let above = get_or old (first m) 0 in
         elim (cases_lt (first m) (first (n + 1))) [
           | inl early ↦
-              subst (λ x. IsLatestAbove Above (n + 1) m x) (sym (notes.before (first m) early))
+              subst (λ x. IsLatestAbove Above (n + 1) m x) (sym (at_before (λ v. max v (n + 1)) old (first (n + 1)) (end (n + 1)) (first m) 0 early))
               (latest_more n m above (λ is. let low : first (n + 1) ≤ first m = (law.1 is).0 in omega arith) before)
           | inr low ↦ elim (cases_lt (first m) (end (n + 1))) [
             | inl high ↦
-                let short : above ≤ n = elim (cases_lt 0 above) [
+                let few : above ≤ n = elim (cases_lt 0 above) [
                   | inl some ↦ (before.some some).0
                   | inr none ↦ omega arith
                 ] in
                 let larger : max above (n + 1) ≡ n + 1 = omega arith in
-                subst (λ x. IsLatestAbove Above (n + 1) m x) (sym (notes.noted (first m) low high ∙ larger)) (latest_last n m (law.0 (low, high)))
+                subst (λ x. IsLatestAbove Above (n + 1) m x) (sym (at_within (λ v. max v (n + 1)) old (first (n + 1)) (end (n + 1)) (first m) 0 low high (omega arith) ∙ larger)) (latest_last n m (law.0 (low, high)))
             | inr past ↦
-                subst (λ x. IsLatestAbove Above (n + 1) m x) (sym (notes.after (first m) past))
+                subst (λ x. IsLatestAbove Above (n + 1) m x) (sym (at_after (λ v. max v (n + 1)) old (first (n + 1)) (end (n + 1)) (first m) 0 past))
                 (latest_more n m above (λ is. let high : first m < end (n + 1) = (law.1 is).1 in omega arith) before)
           ]
         ]

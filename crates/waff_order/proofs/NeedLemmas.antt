@@ -2,12 +2,9 @@
 use Rattle.std.proofs.Common.{◌≡◌, ◌≢◌, ℕ, zero, suc, ◌+◌, ◌-◌, ◌<◌, ◌≤◌, ◌⊎◌, inl, inr, List, [], ◌∷◌, ◌++◌, length, Contains, arith, sym, subst, ⊎_elim}
 use Rattle.std.proofs.lemmas.Bool.{cases_eq, cases_lt}
 use Rattle.std.proofs.lemmas.List.{get_or_past, get_or_push, get_or_append_left, length_push}
+use Rattle.waff_model.proofs.Members.{in_none}
 use Rattle.waff_assign.specs.Order.{PathBy, Path}
 use Rattle.waff_order.specs.Needs.{needs_of, IsNeed}
-
--- nothing is in an empty list
-none_in_nil : {X : Type 0} (x : X) → Contains [] x → ⊥
-none_in_nil x h = let within = h.1 in omega (arith, within)
 
 -- a need is one of a message that has a list
 pub need_within : (needs : List (List ℕ)) (i j : ℕ) → IsNeed needs i j → j ≤ length needs
@@ -16,7 +13,7 @@ need_within needs i j h =
     (λ (below : j - 1 < length needs). let from : 1 ≤ j = h.from in omega arith)
     (λ (past : length needs ≤ j - 1).
     let empty : needs_of needs j ≡ [] = get_or_past needs (j - 1) [] past in
-    absurd (none_in_nil i (subst (λ xs. Contains xs i) empty h.listed)))
+    absurd (in_none i (subst (λ xs. Contains xs i) empty h.listed)))
     (cases_lt (j - 1) (length needs))
 
 -- a need stays one

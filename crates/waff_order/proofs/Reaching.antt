@@ -1,13 +1,13 @@
 -- What the tables and the lists hold after the first messages, and after one more.
-use Rattle.std.proofs.Common.{◌≡◌, ℕ, ◌+◌, ◌-◌, ◌*◌, ◌<◌, ◌≤◌, ◌↔◌, List, All, [], ◌∷◌, ◌++◌, length, get_or, set, replicate, sum_by, arith, ◌∙◌}
+use Rattle.std.proofs.Common.{◌≡◌, ℕ, ◌+◌, ◌-◌, ◌*◌, ◌<◌, ◌≤◌, ◌↔◌, max, List, All, [], ◌∷◌, ◌++◌, length, get_or, set, replicate, sum_by, arith, ◌∙◌}
 use Rattle.std.proofs.lemmas.List.{length-set, length-replicate}
 use Rattle.std.proofs.lemmas.List.Sums.{sum_by_push}
 use Rattle.waff_model.specs.Tree.{Node, IsTree}
 use Rattle.waff_model.specs.Preorder.{span_at, AreNested}
-use Rattle.waff_model.specs.Later.{IsNoted, by_number}
-use Rattle.waff_model.specs.Taken.{held}
+use Rattle.waff_model.specs.Spans.{map_in, messages_in}
 use Rattle.waff_model.specs.declared.preorder.Span.{Span}
-use Rattle.waff_model.proofs.TakeLemmas.{held-put, held-none, none_at}
+use Rattle.waff_model.proofs.SpanLemmas.{held, length-map_in, held-put, held-taken, held-none}
+use Rattle.waff_model.proofs.TakeLemmas.{none_at}
 use Rattle.waff_assign.specs.Order.{affinity_of}
 use Rattle.waff_order.specs.Needs.{IsWithinDepth}
 use Rattle.waff_order.specs.Open.{IsAbove, AreTaken, IsLatestAbove, chosen}
@@ -64,13 +64,20 @@ module _ (tree : List Node) (assigned : List ℕ) (spans : List Span) (is_tree :
       }
 
   module _ (lists : List (List ℕ)) (messages noted : List ℕ) (n : ℕ) (room : n + 1 ≤ length assigned)
-      (h : IsReached tree assigned spans lists messages noted n) (left gathered : List ℕ)
-      (gathers : AreGathered (first_of spans assigned (n + 1)) (end_of spans assigned (n + 1)) messages left gathered) where
+      (h : IsReached tree assigned spans lists messages noted n) (gathered : List ℕ)
+      (gathers : AreGathered (messages_in messages (first_of spans assigned (n + 1)) (end_of spans assigned (n + 1))) gathered) where
+    -- the messages that are left
+    abbrev left : List ℕ
+    left = map_in (λ m. 0) messages (first_of spans assigned (n + 1)) (end_of spans assigned (n + 1))
+
+    left_count : length gathered + held left ≤ held messages
+    left_count = omega (arith, held-taken messages (first_of spans assigned (n + 1)) (end_of spans assigned (n + 1)), gathers.few)
+
     abbrev pub above : ℕ
     above = get_or noted (first_of spans assigned (n + 1)) 0
 
     takes : AreTaken (IsAbove tree assigned) n gathered
-    takes = taken (IsAbove tree assigned) (first_of spans assigned) (end_of spans assigned) (length assigned) covers filled n room messages left gathered h.holds gathers
+    takes = taken (IsAbove tree assigned) (first_of spans assigned) (end_of spans assigned) (length assigned) covers filled n room messages gathered h.holds gathers
 
     is_latest : IsLatestAbove (IsAbove tree assigned) n (n + 1) above
     is_latest = h.latest (n + 1) (omega arith) room
@@ -80,7 +87,7 @@ module _ (tree : List Node) (assigned : List ℕ) (spans : List Span) (is_tree :
     needs_count =
         let few = length-chosen (IsAbove tree assigned) gathered above in
         let put = held-put left (first_of spans assigned (n + 1)) (n + 1) in
-        omega (arith, few, put, gathers.sum, h.total)
+        omega (arith, few, put, left_count, h.total)
 
     flat_count : IsWithinDepth tree 0 → sum_by length lists + length (chosen gathered above) + held (set left (first_of spans assigned (n + 1)) (n + 1)) ≤ n + 1
     flat_count depth =
@@ -92,12 +99,11 @@ module _ (tree : List Node) (assigned : List ℕ) (spans : List Span) (is_tree :
         (λ i from to. let lead = h.needs.closed.leads i from to in (lead.0, lead.1))
         takes is_latest in
         let put = held-put left (first_of spans assigned (n + 1)) (n + 1) in
-        omega (arith, few, put, gathers.sum, h.flat depth)
+        omega (arith, few, put, left_count, h.flat depth)
 
-    pub reached_more : (new_noted : List ℕ)
-        → IsNoted by_number (first_of spans assigned (n + 1)) (end_of spans assigned (n + 1)) (n + 1) noted new_noted
-        → IsReached tree assigned spans (lists ++ chosen gathered above ∷ []) (set left (first_of spans assigned (n + 1)) (n + 1)) new_noted (n + 1)
-    reached_more new_noted notes =
+    pub reached_more : IsReached tree assigned spans (lists ++ chosen gathered above ∷ []) (set left (first_of spans assigned (n + 1)) (n + 1))
+        (map_in (λ v. max v (n + 1)) noted (first_of spans assigned (n + 1)) (end_of spans assigned (n + 1))) (n + 1)
+    reached_more =
         let more = chosen gathered above in
         let at = first_of spans assigned (n + 1) in
         let within : affinity_of assigned (n + 1) < length tree = known_affinity (n + 1) (omega arith) room in
@@ -106,12 +112,12 @@ module _ (tree : List Node) (assigned : List ℕ) (spans : List Span) (is_tree :
         let long : sum_by length (lists ++ more ∷ []) ≡ sum_by length lists + length more = sum_by_push length lists more in
         record {
           needs = up_to_more tree assigned lists gathered above n room h.needs takes is_latest;
-          count = length-set left at (n + 1) ∙ gathers.clears.count ∙ h.count;
-          holds = held_more (IsAbove tree assigned) (first_of spans assigned) (end_of spans assigned) (length assigned) covers filled n room messages left gathered
-              (omega (arith, h.count)) h.holds gathers;
-          noted_count = notes.count ∙ h.noted_count;
-          latest = latest_next (IsAbove tree assigned) (first_of spans assigned) (end_of spans assigned) (length assigned) covers filled n room noted new_noted
-              h.latest notes;
+          count = length-set left at (n + 1) ∙ length-map_in (λ m. 0) messages at (end_of spans assigned (n + 1)) ∙ h.count;
+          holds = held_more (IsAbove tree assigned) (first_of spans assigned) (end_of spans assigned) (length assigned) covers filled n room messages
+              (omega (arith, h.count)) h.holds;
+          noted_count = length-map_in (λ v. max v (n + 1)) noted at (end_of spans assigned (n + 1)) ∙ h.noted_count;
+          latest = latest_next (IsAbove tree assigned) (first_of spans assigned) (end_of spans assigned) (length assigned) covers filled n room noted
+              (omega (arith, h.noted_count)) h.latest;
           total = let bound = needs_count in omega (arith, bound, long);
           flat = λ depth. let bound = flat_count depth in omega (arith, bound, long);
         }

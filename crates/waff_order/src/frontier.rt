@@ -1,8 +1,8 @@
 //! The messages that a later one may need.
 
-ghost use Rattle.std.specs.Prelude.{◌≡◌, ◌<◌, ◌≤◌, List, ℕ, [], length, replicate, IfOk, OnOk};
+ghost use Rattle.std.specs.Prelude.{◌≡◌, ◌<◌, ◌≤◌, max, List, ℕ, length, replicate, IfOk, OnOk};
 ghost use Rattle.std.specs.Prelude.{slice_index, slice_set};
-ghost use Rattle.waff_model.specs.Later.{IsNoted, by_number};
+ghost use Rattle.waff_model.specs.Spans.{map_in, messages_in};
 ghost use Rattle.waff_order.specs.Open.{chosen};
 ghost use Rattle.waff_order.specs.Runs.{AreGathered};
 
@@ -29,37 +29,22 @@ impl Frontier {
         Ok(Frontier { opened, latest })
     }
 
-    /// Lists the needs of message `m`, whose affinity has this span, and notes it as open.
+    /// Lists the needs of message `m`, whose affinity has this span, closes those that were open
+    /// there, and notes `m` as open.
     pub fn add(&mut self, span: Span, m: u32, needs: &mut Vec<u32>) -> Result<(), AllocError>
         requires forward { span.first < span.end }
         requires within { span.end ≤ length self.old.opened }
         requires noted { span.end ≤ length self.old.latest }
-        ensures { OnOk result ((left : List ℕ) × (gathered : List ℕ)
-            × AreGathered span.first span.end self.old.opened left gathered
-            × (needs.new.items ≡ chosen gathered (slice_index self.old.latest span.first))
-            × (self.new.opened ≡ slice_set left span.first m)
-            × IsNoted by_number span.first span.end m self.old.latest self.new.latest) }
-    {
-        needs.clear();
-        self.take(span, needs)?;
-        let (first, end) = (span.first as usize, span.end as usize);
-        self.opened.put(first, m);
-        self.latest.note(first, end, m);
-        Ok(())
-    }
-
-    /// Lists the needs of a message with this span, and closes the messages that it takes.
-    fn take(&mut self, span: Span, needs: &mut Vec<u32>) -> Result<(), AllocError>
-        requires forward { span.first < span.end }
-        requires within { span.end ≤ length self.old.opened }
-        requires noted { span.end ≤ length self.old.latest }
-        requires empty { needs.old.items ≡ [] }
-        ensures taken { OnOk result ((gathered : List ℕ)
-            × AreGathered span.first span.end self.old.opened self.new.opened gathered
+        ensures needs { OnOk result ((gathered : List ℕ)
+            × AreGathered (messages_in self.old.opened span.first span.end) gathered
             × (needs.new.items ≡ chosen gathered (slice_index self.old.latest span.first))) }
-        ensures latest { self.new.latest ≡ self.old.latest }
+        ensures opened { OnOk result (self.new.opened
+            ≡ slice_set (map_in (λ n. 0) self.old.opened span.first span.end) span.first m) }
+        ensures latest { OnOk result
+            (self.new.latest ≡ map_in (λ n. max n m) self.old.latest span.first span.end) }
     {
         let (first, end) = (span.first as usize, span.end as usize);
+        needs.clear();
         self.opened.take(first, end, needs)?;
         needs.sort_unstable();
         needs.dedup();
@@ -67,6 +52,8 @@ impl Frontier {
         if needs.is_empty() && above > 0 {
             needs.push(above)?;
         }
+        self.opened.put(first, m);
+        self.latest.note(first, end, m);
         Ok(())
     }
 }

@@ -5,7 +5,9 @@ use Rattle.std.proofs.lemmas.Bool.{cases_eq, cases_lt}
 use Rattle.std.proofs.lemmas.List.{get_or-set_same, get_or-set_other, get_or_past, get_or-replicate, get_or-take, get_or-drop, length-replicate, length-take-le, length-drop}
 use Rattle.waff_model.specs.Tree.{Node, Excludes}
 use Rattle.waff_model.specs.Preorder.{span_at, Spans, AreNested}
-use Rattle.waff_model.specs.Later.{IsNoted, latest_of, latest_in}
+use Rattle.waff_model.specs.Later.{latest_of, latest_in}
+use Rattle.waff_model.specs.Spans.{map_in}
+use Rattle.waff_model.proofs.SpanLemmas.{at_before, at_within, at_after}
 use Rattle.waff_model.specs.declared.preorder.Span.{Span}
 use Rattle.waff_assign.specs.Order.{affinity_of}
 use Rattle.waff_plan.specs.Work.{IsAmongFirst}
@@ -127,24 +129,24 @@ latest_meeting spans assigned finish n span table latest forward within h is =
 
 -- one more message, noted at the places of its affinity
 pub over_more : (spans : List Span) (assigned : List ℕ) (finish : ℕ → ℕ) (n : ℕ) (span : Span) (message : Latest)
-    (old new : List (Option Latest)) → message.number ≡ n + 1 → message_span spans assigned (n + 1) ≡ span
-    → finish (n + 1) ≡ message.finish → IsNoted latest_order span.first span.end (Some message) old new
-    → AreOver spans assigned finish n old → AreOver spans assigned finish (n + 1) new
-over_more spans assigned finish n span message old new number is finish_is noted h p =
+    (old : List (Option Latest)) → span.end ≤ length old → message.number ≡ n + 1 → message_span spans assigned (n + 1) ≡ span
+    → finish (n + 1) ≡ message.finish → AreOver spans assigned finish n old
+    → AreOver spans assigned finish (n + 1) (map_in (λ l. later_of l (Some message)) old span.first span.end)
+over_more spans assigned finish n span message old short number is finish_is h p =
     let At : ℕ → Type 0 = λ i. ((message_span spans assigned i).first ≤ p) × (p < (message_span spans assigned i).end) in
     let first : (message_span spans assigned (n + 1)).first ≡ span.first = ap (λ (x : Span). x.first) is in
     let end : (message_span spans assigned (n + 1)).end ≡ span.end = ap (λ (x : Span). x.end) is in
     let found = h p in
     elim (cases_lt p span.first) [
       | inl early ↦
-          subst (λ x. IsFound (λ i. IsAmongFirst (n + 1) i × At i) finish x) (sym (noted.before p early))
+          subst (λ x. IsFound (λ i. IsAmongFirst (n + 1) i × At i) finish x) (sym (at_before (λ l. later_of l (Some message)) old span.first span.end p None early))
           (found_passed At finish n (get_or old p None) (λ here. let low = here.0 in omega (arith, low)) found)
       | inr low ↦ elim (cases_lt p span.end) [
         | inl high ↦
-            subst (λ x. IsFound (λ i. IsAmongFirst (n + 1) i × At i) finish x) (sym (noted.noted p low high))
+            subst (λ x. IsFound (λ i. IsAmongFirst (n + 1) i × At i) finish x) (sym (at_within (λ l. later_of l (Some message)) old span.first span.end p None low high (omega arith)))
             (found_noted At finish n (get_or old p None) message number finish_is (omega arith, omega arith) found)
         | inr late ↦
-            subst (λ x. IsFound (λ i. IsAmongFirst (n + 1) i × At i) finish x) (sym (noted.after p late))
+            subst (λ x. IsFound (λ i. IsAmongFirst (n + 1) i × At i) finish x) (sym (at_after (λ l. later_of l (Some message)) old span.first span.end p None late))
             (found_passed At finish n (get_or old p None) (λ here. let high = here.1 in omega (arith, high)) found)
       ]
     ]

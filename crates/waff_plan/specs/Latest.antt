@@ -1,7 +1,7 @@
 -- The latest of some messages, with its finish.
 use Rattle.std.specs.Prelude.{◌≡◌, ℕ, Bool, ◌&&◌, ◌||◌, ◌==◌, nat_lt, Option, Some, None}
 use Rattle.std.specs.Prelude.{if◌then◌else◌}
-use Rattle.waff_model.specs.Later.{Order}
+use Rattle.waff_model.specs.Later.{Join}
 use Rattle.waff_plan.specs.Chain.{IsLatest}
 use Rattle.waff_plan.specs.declared.latest.Latest.{Latest}
 
@@ -17,7 +17,7 @@ later_of (Some one) None = Some one
 later_of (Some one) (Some other) = if is_later one other then Some other else Some one
 
 -- messages by which is later, where None is none
-abbrev pub latest_order : Order (Option Latest)
+abbrev pub latest_order : Join (Option Latest)
 latest_order = record { none = None; later = later_of }
 
 -- the latest message that Is holds of, with its finish

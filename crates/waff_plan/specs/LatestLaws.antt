@@ -3,7 +3,7 @@ use Rattle.std.proofs.Common.{◌≡◌, ℕ, Bool, true, false, Option, Some, N
 use Rattle.std.proofs.Common.{arith, refl, sym, ◌∙◌, ap}
 use Rattle.std.proofs.lemmas.Bool.{false≢true}
 use Rattle.std.proofs.lemmas.Bool.Decides.{nat_tests}
-use Rattle.waff_model.specs.Later.{TellsLatest}
+use Rattle.waff_model.specs.Later.{IsMonoid}
 use Rattle.waff_plan.specs.Latest.{is_later, later_of, latest_order}
 use Rattle.waff_plan.specs.declared.latest.Latest.{Latest}
 
@@ -81,5 +81,5 @@ all_swaps (Some one) None = refl
 all_swaps (Some one) (Some other) =
     swaps one other (is_later one other) (is_later other one) refl refl
 
-pub latest_laws : TellsLatest latest_order
-latest_laws = record { first = λ x. refl; joined = all_joined; swaps = all_swaps }
+pub latest_laws : IsMonoid latest_order
+latest_laws = record { unit = λ x. refl; associates = all_joined; commutes = all_swaps }

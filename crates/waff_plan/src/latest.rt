@@ -70,7 +70,7 @@ impl Found {
 /// The later is the one that finishes later, and of two that finish at the same tick the one with
 /// the lower number.
 impl Later for Found {
-    ghost order = { latest_order };
+    ghost join = { latest_order };
 
     fn none() -> Found {
         Found {

@@ -20,7 +20,7 @@ use Rattle.waff_read.specs.Affinities.{name_at, node_in, place_of, tree_from, tr
 use Rattle.waff_read.specs.Checks.{passed}
 use Rattle.waff_read.specs.Documents.{text_at}
 use Rattle.waff_read.specs.Refused.{IsParent, IsAffinity, AreAffinities, TreeIsExact, HasTreeFault, number, FirstAffinityDecides}
-use Rattle.waff_read.proofs.NameLemmas.{position_map}
+use Rattle.waff_model.proofs.NodeEntries.{position-map}
 
 none_of : {A : Type 0} (o : Option A) → is_some o ≡ false → o ≡ None
 none_of None h = refl
@@ -34,7 +34,7 @@ module _ (before : List Node) where
   names = map (λ node. node.name) before
 
   place_is : (name : List ℕ) → place_of names name ≡ unwrap_or (number_of before name) MAX_AFFINITIES
-  place_is name = ap (λ (o : Option ℕ). unwrap_or o MAX_AFFINITIES) (position_map (bytes_eq name) (λ (n : Node). n.name) before)
+  place_is name = ap (λ (o : Option ℕ). unwrap_or o MAX_AFFINITIES) (position-map (bytes_eq name) (λ (n : Node). n.name) before)
 
   known : (name : List ℕ) (p : ℕ) → number_of before name ≡ Some p → place_of names name ≡ p
   known name p is = place_is name ∙ ap (λ (o : Option ℕ). unwrap_or o MAX_AFFINITIES) is

@@ -16,7 +16,7 @@ use Rattle.waff_model.specs.declared.tree.TreeError.{TreeError}
 use Rattle.waff_model.proofs.RefusalLemmas.{none_holds}
 use Rattle.waff_read.specs.Checks.{passed}
 use Rattle.waff_read.specs.Affinities.{node_in, tree_from, tree_of}
-use Rattle.waff_read.proofs.NameLemmas.{position_map}
+use Rattle.waff_model.proofs.NodeEntries.{position-map}
 
 none_unless_some : {A : Type 0} (o : Option A) → is_some o ≡ false → o ≡ None
 none_unless_some None h = refl
@@ -27,7 +27,7 @@ pub new_name : (tree : List Node) (node : Node) (names : List (List ℕ)) → re
 new_name tree node names accepted same =
     let checks = none_holds (node_checks tree node) accepted in
     let absent : number_of tree node.name ≡ None = none_unless_some (number_of tree node.name) checks.1.0 in
-    rw same (position_map (bytes_eq node.name) (λ (n : Node). n.name) tree ∙ absent)
+    rw same (position-map (bytes_eq node.name) (λ (n : Node). n.name) tree ∙ absent)
 
 -- what the test of a list without elements says where it fails
 pub is_filled : (n : ℕ) (b : Bool) → b ≡ (n == 0) → b ≡ false → 0 < n

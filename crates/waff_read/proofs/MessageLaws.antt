@@ -1,5 +1,5 @@
 -- A message that was read is within the limits, and its cells lie in the spaces.
-use Rattle.std.proofs.Common.{◌≡◌, ℕ, zero, suc, ◌+◌, ◌≤◌, List, [], ◌∷◌, length, slice_index, Bool, true, false, Option, Some, None, Result, Ok, Err, refl, ap, arith}
+use Rattle.std.proofs.Common.{◌≡◌, ℕ, ◌+◌, ◌≤◌, List, [], ◌∷◌, length, slice_index, Bool, true, false, Option, Some, None, Result, Ok, Err, refl, ap, arith}
 use Rattle.std.specs.Prelude.{All, IfOk, IfSome, codes, ok_or, option_and_then, nat_lt, ◌==◌, if◌then◌else◌}
 use Rattle.std.specs.Str.{bytes_eq}
 use Rattle.std.proofs.lemmas.Bool.{ltb-true, ltb-false}
@@ -15,6 +15,7 @@ use Rattle.waff_model.specs.declared.message.Version.{Version}
 use Rattle.waff_model.specs.declared.message.Version.TheVariants.{V1, V2}
 use Rattle.waff_model.specs.declared.op.Op.{Op}
 use Rattle.waff_model.specs.declared.op.Op.TheVariants as op
+use Rattle.waff_model.proofs.TraceLemmas.{slice_index-sizes_of}
 use Rattle.waff_parse.specs.Fields.{Field, three_of, four_of}
 use Rattle.waff_parse.specs.Refusals.{◌>>=◌, pair}
 use Rattle.waff_parse.specs.Rows.{Record}
@@ -27,12 +28,6 @@ use Rattle.waff_read.specs.Messages.{cost_of, counted, message_of, message_of_fi
 use Rattle.waff_read.specs.TraceFaults.{number}
 use Rattle.waff_read.specs.declared.trace_fault.TraceFault.{TraceFault}
 use Rattle.waff_read.specs.declared.trace_fault.TraceFault.TheVariants as fault
-
--- the size of a space, by the list of sizes
-slice_index-sizes_of : (spaces : List Space) (s : ℕ) → slice_index (sizes_of spaces) s ≡ size_at spaces s
-slice_index-sizes_of [] s = refl
-slice_index-sizes_of (space ∷ spaces) zero = refl
-slice_index-sizes_of (space ∷ spaces) (suc s) = slice_index-sizes_of spaces s
 
 -- what both ways of a test give
 if-if : {A : Type 0} (P : A → Type 0) (b : Bool) (x y : Result A TraceFault) → IfOk x P → IfOk y P → IfOk (if b then x else y) P

@@ -10,11 +10,11 @@ use Rattle.std.proofs.lemmas.List.Sums.{position_or_len_is}
 use Rattle.std.proofs.lemmas.Option.{slice_get-get_or}
 use Rattle.std.proofs.lemmas.Slice.Eq.{bytes_eq-Decides}
 use Rattle.waff_model.specs.Layout.{Space, name_at, names_of, space_named}
-use Rattle.waff_read.proofs.NameLemmas.{position_map}
+use Rattle.waff_model.proofs.NodeEntries.{position-map}
 
 -- the place of a name is the number of the space of this name
 pub place_of_name : (spaces : List Space) (name : List ℕ) → position (bytes_eq name) (names_of spaces) ≡ space_named spaces name
-place_of_name spaces name = position_map (bytes_eq name) (λ (space : Space). space.name) spaces
+place_of_name spaces name = position-map (bytes_eq name) (λ (space : Space). space.name) spaces
 
 abbrev no_space : Space
 no_space = record { name = []; size = 0; unit = 0; to = [] }

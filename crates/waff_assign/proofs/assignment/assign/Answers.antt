@@ -26,14 +26,11 @@ loop-n-preserved c =
       room = c.push_reserved.ensures.capacity ∙ c.loop-n.invariant.room;
     }
 
-pub returns-clause-lowest : goal.returns-clause-lowest
-returns-clause-lowest c = λ n message from at.
-    let within = slice_get_within c.args.trace.now.messages (n - 1) message at in
-    let there = c.loop-n.invariant.lowest.each n message from (omega (arith, within)) at in
-    subst (λ xs. IsLowest c.args.layout.now (IsInFootprint message.ops) (affinity_of xs n)) (sym c.new.ensures) there
-
 pub returns-clause-assignment : goal.returns-clause-assignment
 returns-clause-assignment c = record {
   count = ap length c.new.ensures ∙ simp length-map (omega (arith, c.len-n-end.ensures.count));
-  lowest = returns-clause-lowest c;
+  lowest = λ n message from at.
+      let within = slice_get_within c.args.trace.now.messages (n - 1) message at in
+      let there = c.loop-n.invariant.lowest.each n message from (omega (arith, within)) at in
+      subst (λ xs. IsLowest c.args.layout.now (IsInFootprint message.ops) (affinity_of xs n)) (sym c.new.ensures) there;
 }

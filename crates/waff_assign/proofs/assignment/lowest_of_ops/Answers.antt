@@ -5,7 +5,7 @@ use Rattle.waff_model.specs.Layout.{IsCell}
 use Rattle.waff_model.specs.Tree.{Node, AtOrAbove}
 use Rattle.waff_assign.specs.Lowest.{IsLowest, IsInFootprint}
 use Rattle.waff_assign.proofs.Coverings.{lowest_of_both, root_is_lowest}
-use Rattle.waff_assign.proofs.OpCells.{cells_of_more, cells_of_one, among_all}
+use Rattle.waff_model.proofs.OpCells.{cells_of_more, cells_of_one, among_all}
 use Rattle.waff_assign.proofs.assignment.lowest_of_ops.Goals as goal
 
 pub lowest_of_op-low-requires : goal.lowest_of_op-low-requires

@@ -1,6 +1,6 @@
 use Rattle.std.proofs.Common.{◌++◌, ◌∙◌, ap}
 use Rattle.waff_model.specs.Cells.{cells_of_op}
-use Rattle.waff_assign.proofs.OpCells.{cells_of_more}
+use Rattle.waff_model.proofs.OpCells.{cells_of_more}
 use Rattle.waff_assign.proofs.assignment.push_cells.Goals as goal
 
 pub loop-index-preserved : goal.loop-index-preserved

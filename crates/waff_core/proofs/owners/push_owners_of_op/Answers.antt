@@ -1,28 +1,39 @@
-use Rattle.std.proofs.Common.{◌≡◌, ◌∷◌, ◌∙◌, ℕ, List, [], ap, refl, ⊎_elim}
+use Rattle.std.proofs.Common.{◌≡◌, ◌∷◌, ◌∙◌, ℕ, List, [], All, ap, refl, subst}
+use Rattle.std.specs.Option.{option_to_list}
 use Rattle.std.proofs.lemmas.Result.{on_ok_weaker}
+use Rattle.std.proofs.lemmas.List.Elements.{All-head, All-tail}
 use Rattle.waff_model.specs.Cells.{cells_of_op}
-use Rattle.waff_model.specs.Layout.{owner_of}
-use Rattle.waff_model.specs.declared.op.Op.{Op}
+use Rattle.waff_model.specs.Layout.{IsCell, owner_of}
 use Rattle.waff_core.specs.Owners.{AreMarked, owners_in}
 use Rattle.waff_core.proofs.Listing.{two_marked}
 use Rattle.waff_core.proofs.owners.push_owners_of_op.Goals as goal
 
-pub returns-in_ok-push_owner-in-Copy-clause-owners : goal.returns-in_ok-push_owner-in-Copy-clause-owners
-returns-in_ok-push_owner-in-Copy-clause-owners c =
+pub owner-first-requires : goal.owner-first-requires
+owner-first-requires c =
+    All-head (IsCell c.args.layout.now.spaces) c.cells-other.result.0 _ (subst (All (IsCell c.args.layout.now.spaces)) c.cells-other.ensures c.requires.cells)
+
+pub owner-requires : goal.owner-requires
+owner-requires c =
+    let all : cells_of_op c.args.op ≡ c.cells-other.result.0 ∷ c.in-Some.other ∷ []
+    = c.cells-other.ensures ∙ ap (λ o. c.cells-other.result.0 ∷ option_to_list o) c.in-Some.is in
+    All-head (IsCell c.args.layout.now.spaces) c.in-Some.other []
+    (All-tail (IsCell c.args.layout.now.spaces) c.cells-other.result.0 (c.in-Some.other ∷ []) (subst (All (IsCell c.args.layout.now.spaces)) all c.requires.cells))
+
+pub returns-in-Some-clause-owners : goal.returns-in-Some-clause-owners
+returns-in-Some-clause-owners c =
     let n = c.args.n in
     let spaces = c.args.layout.now.spaces in
+    let first = c.owner-first.result.0 in
+    let second = c.owner.result.0 in
     let marked = λ (marks : List ℕ) (owners found : List ℕ). AreMarked n marks found owners in
-    let owners : Op → List ℕ = λ op. owners_in spaces (cells_of_op op) in
-    let named : owner_of spaces c.in-Copy.cell ∷ owner_of spaces c.in-Copy.other ∷ [] ≡ c.owner-one.result.0 ∷ c.owner-two.result.0 ∷ []
-    = rw (c.owner-one.ensures.owner, c.owner-two.ensures.owner) refl in
-    let two : owners_in spaces (cells_of_op c.args.op) ≡ c.owner-one.result.0 ∷ c.owner-two.result.0 ∷ []
-    = ⊎_elim {C = owners_in spaces (cells_of_op c.args.op) ≡ c.owner-one.result.0 ∷ c.owner-two.result.0 ∷ []}
-    (λ is. ap owners is ∙ named)
-    (λ is. ap owners is ∙ named)
-    c.in-Copy.is in
-    on_ok_weaker c.push_owner-in-Copy.result
-    (λ second found h. rw two
+    let all : cells_of_op c.args.op ≡ c.cells-other.result.0 ∷ c.in-Some.other ∷ []
+    = c.cells-other.ensures ∙ ap (λ o. c.cells-other.result.0 ∷ option_to_list o) c.in-Some.is in
+    let named : owner_of spaces c.cells-other.result.0 ∷ owner_of spaces c.in-Some.other ∷ [] ≡ first ∷ second ∷ []
+    = rw (c.owner-first.ensures.owner, c.owner.ensures.owner) refl in
+    let two : owners_in spaces (cells_of_op c.args.op) ≡ first ∷ second ∷ [] = ap (owners_in spaces) all ∙ named in
+    on_ok_weaker c.push_owner-in-Some.result
+    (λ last found h. rw two
     (two_marked (marked c.args.marks.now c.args.owners.now.items) (marked c.push_owner.new.marks c.push_owner.new.owners.items)
-    (marked c.push_owner-in-Copy.new.marks c.push_owner-in-Copy.new.owners.items) found c.owner-one.result.0 c.owner-two.result.0
-    c.in_ok-push_owner-in-Copy.ensures.owners second h))
-    c.push_owner-in-Copy.ensures.owners
+    (marked c.push_owner-in-Some.new.marks c.push_owner-in-Some.new.owners.items) found first second
+    c.in_ok-push_owner.ensures.owners last h))
+    c.push_owner-in-Some.ensures.owners

@@ -1,13 +1,13 @@
-use Rattle.std.proofs.Common.{◌≡◌, ◌+◌, ◌-◌, ◌≤◌, ◌++◌, ◌∷◌, [], length, get_or, set, replicate, sum_by, arith, sym, ◌∙◌, ap, subst}
+use Rattle.std.proofs.Common.{◌≡◌, ◌+◌, ◌-◌, ◌≤◌, ◌++◌, ◌∷◌, [], length, get_or, set, replicate, sum_by, max, arith, sym, ◌∙◌, ap, ap₂, subst}
 use Rattle.waff_model.specs.Preorder.{span_at}
 use Rattle.waff_model.specs.declared.preorder.Span.{Span}
 use Rattle.waff_order.specs.Needs.{AreNeeds, IsWithinDepth}
 use Rattle.waff_assign.specs.Order.{affinity_of}
 use Rattle.waff_order.specs.Open.{chosen}
-use Rattle.waff_model.specs.Later.{IsNoted, by_number}
+use Rattle.waff_model.specs.Spans.{map_in, messages_in}
 use Rattle.waff_order.specs.Runs.{AreGathered}
 use Rattle.waff_order.proofs.UpTo.{needs_by_depth, up_to_all, up_to_lists}
-use Rattle.waff_order.proofs.Reaching.{message_span, first_of, end_of, reached_none, needs_count, reached_more}
+use Rattle.waff_order.proofs.Reaching.{message_span, first_of, reached_none, needs_count, reached_more}
 use Rattle.waff_order.proofs.predecessors.needs.Goals as goal
 
 pub loop-m-init : goal.loop-m-init
@@ -24,14 +24,14 @@ push-requires c =
     let spans = c.spans-spans.result.now in
     let n = c.loop-m.m - 1 in
     let next : c.loop-m.m ≡ n + 1 = omega arith in
-    let added = c.in_ok-add.ensures in
+    let added = c.in_ok-add.ensures.needs in
     let same : span_at spans c.of.result.0 ≡ message_span spans assigned (n + 1)
     = ap (λ a. span_at spans a) (c.of.ensures ∙ ap (λ i. affinity_of assigned i) next) in
-    let gathers = subst (λ (p : Span). AreGathered p.first p.end c.loop-m.frontier.opened added.0 added.1) same added.2 in
-    let items : c.add.new.needs.items ≡ chosen added.1 (get_or c.loop-m.frontier.latest (first_of spans assigned (n + 1)) 0)
-    = added.3 ∙ ap (λ (p : Span). chosen added.1 (get_or c.loop-m.frontier.latest p.first 0)) same in
+    let gathers = subst (λ (p : Span). AreGathered (messages_in c.loop-m.frontier.opened p.first p.end) added.0) same added.1 in
+    let items : c.add.new.needs.items ≡ chosen added.0 (get_or c.loop-m.frontier.latest (first_of spans assigned (n + 1)) 0)
+    = added.2 ∙ ap (λ (p : Span). chosen added.0 (get_or c.loop-m.frontier.latest p.first 0)) same in
     let bound = needs_count c.args.tree.now assigned spans c.len.ensures.tree c.spans-spans.ensures c.requires c.loop-m.lists c.loop-m.frontier.opened c.loop-m.frontier.latest n
-    (omega arith) c.loop-m.invariant added.0 added.1 gathers in
+    (omega arith) c.loop-m.invariant added.0 gathers in
     let few : length assigned ≤ 65536 = c.len-2.ensures.few in
     omega (arith, bound, ap length items, ap length c.as_slice.ensures.value, few)
 
@@ -43,24 +43,21 @@ loop-m-preserved c =
     let lists = c.loop-m.lists in
     let messages = c.loop-m.frontier.opened in
     let noted = c.loop-m.frontier.latest in
-    let added = c.in_ok-add.ensures in
+    let added = c.in_ok-add.ensures.needs in
     let n = c.loop-m.m - 1 in
     let next : c.loop-m.m ≡ n + 1 = omega arith in
     let same : span_at spans c.of.result.0 ≡ message_span spans assigned (n + 1)
     = ap (λ a. span_at spans a) (c.of.ensures ∙ ap (λ i. affinity_of assigned i) next) in
-    let gathers = subst (λ (p : Span). AreGathered p.first p.end messages added.0 added.1) same added.2 in
-    let needs = chosen added.1 (get_or noted (first_of spans assigned (n + 1)) 0) in
+    let gathers = subst (λ (p : Span). AreGathered (messages_in messages p.first p.end) added.0) same added.1 in
+    let needs = chosen added.0 (get_or noted (first_of spans assigned (n + 1)) 0) in
     let items : c.as_slice.result.now ≡ needs
-    = c.as_slice.ensures.value ∙ added.3 ∙ ap (λ (p : Span). chosen added.1 (get_or noted p.first 0)) same in
+    = c.as_slice.ensures.value ∙ added.2 ∙ ap (λ (p : Span). chosen added.0 (get_or noted p.first 0)) same in
     let pushed : c.push.new.self ≡ lists ++ needs ∷ [] = c.in_ok-push.ensures.pushed ∙ ap (λ xs. lists ++ xs ∷ []) items in
-    let put : c.add.new.self.opened ≡ set added.0 (first_of spans assigned (n + 1)) (n + 1)
-    = added.4 ∙ ap (λ (p : Span). set added.0 p.first c.loop-m.m) same ∙ ap (λ m. set added.0 (first_of spans assigned (n + 1)) m) next in
-    let notes = subst (λ m. IsNoted by_number (first_of spans assigned (n + 1)) (end_of spans assigned (n + 1)) m noted c.add.new.self.latest) next
-    (subst (λ (p : Span). IsNoted by_number p.first p.end c.loop-m.m noted c.add.new.self.latest) same added.5) in
+    let put = c.in_ok-add.ensures.opened ∙ ap₂ (λ (p : Span) m. set (map_in (λ n. 0) messages p.first p.end) p.first m) same next in
+    let notes = c.in_ok-add.ensures.latest ∙ ap₂ (λ (p : Span) m. map_in (λ n. max n m) noted p.first p.end) same next in
     let one_more : c.loop-m.m + 1 - 1 ≡ n + 1 = omega arith in
-    rw (pushed, put, one_more)
-    (reached_more tree assigned spans c.len.ensures.tree c.spans-spans.ensures c.requires lists messages noted n (omega arith) c.loop-m.invariant
-    added.0 added.1 gathers c.add.new.self.latest notes)
+    rw (pushed, put, notes, one_more)
+    (reached_more tree assigned spans c.len.ensures.tree c.spans-spans.ensures c.requires lists messages noted n (omega arith) c.loop-m.invariant added.0 gathers)
 
 pub new-requires : goal.new-requires
 new-requires c =

@@ -4,5 +4,5 @@ use Rattle.waff_model.proofs.spans.Blocks.len.Goals as goal
 
 pub returns : goal.returns
 returns g c =
-    c.len.ensures ∙ c.self.inside.places.ok.0 ∙ sym (length-spread g.T.Later.order c.self.inside.blocks.items 0 c.self.inside.places.items)
+    c.len.ensures ∙ c.self.inside.places.ok.0 ∙ sym (length-spread g.T.Later.join c.self.inside.blocks.items 0 c.self.inside.places.items)
     ∙ ap length c.self.view_is

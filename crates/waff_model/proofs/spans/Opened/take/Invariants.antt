@@ -1,6 +1,6 @@
-use Rattle.std.proofs.Common.{◌≡◌, ◌-◌, ◌≤◌}
+use Rattle.std.proofs.Common.{◌≡◌, ◌+◌, ◌-◌, ◌≤◌, ◌++◌, length, vec_capacity}
 use Rattle.waff_model.specs.Blocks.{AreFilled}
-use Rattle.waff_model.specs.Taken.{Takes}
+use Rattle.waff_model.specs.Spans.{map_in, messages_in}
 use Rattle.waff_model.proofs.spans.Opened.take.Given as goal
 
 abbrev pub invariant-loop-at : goal.invariant-loop-at
@@ -9,7 +9,9 @@ invariant-loop-at l = record {
   within : l.at ≤ l.until;
   end : l.self-inside.end ≡ l.initial.self-inside.end;
   filled : AreFilled l.self-inside.places.items l.self-inside.blocks.items;
-  takes : Takes l.initial.from l.at l.initial.self-inside.places.items l.self-inside.places.items l.initial.list.items l.list.items;
+  taken : l.list.items ≡ l.initial.list.items ++ messages_in l.initial.self-inside.places.items l.initial.from l.at;
+  closed : l.self-inside.places.items ≡ map_in (λ m. 0) l.initial.self-inside.places.items l.initial.from l.at;
+  room : length l.list.items + (l.until - l.at) ≤ vec_capacity l.list;
 }
 
 abbrev pub decreases-loop-at : goal.decreases-loop-at

@@ -1,8 +1,10 @@
-use Rattle.std.proofs.Common.{◌+◌, ◌<◌, length, get_or, set, None, arith, sym, ◌∙◌, ap, subst}
-use Rattle.waff_model.specs.Later.{IsNoted}
+use Rattle.std.proofs.Common.{◌≡◌, ◌+◌, ◌<◌, length, get_or, set, None, arith, sym, ◌∙◌, ap, subst}
+use Rattle.std.proofs.lemmas.List.{length-set}
+use Rattle.waff_model.specs.Spans.{map_in}
+use Rattle.waff_model.proofs.SpanLemmas.{length-map_in}
 use Rattle.waff_model.specs.declared.preorder.Span.{Span}
-use Rattle.waff_plan.specs.Latest.{later_of, latest_order}
-use Rattle.waff_plan.specs.Table.{message_span, AreStanding, LatestTable, IsTable}
+use Rattle.waff_plan.specs.Latest.{later_of}
+use Rattle.waff_plan.specs.Table.{message_span, AreStanding, AreOver, LatestTable, IsTable}
 use Rattle.waff_plan.proofs.Tables.{standing_more, over_more, last_more}
 use Rattle.waff_plan.proofs.table.Table.note.Goals as goal
 
@@ -20,8 +22,17 @@ returns-clause-table c = λ spans assigned finish n table number is finish_is.
       own = subst (AreStanding (n + 1) (λ i. (message_span spans assigned i).first) finish) (sym put)
           (standing_more (λ i. (message_span spans assigned i).first) finish n first old.own c.args.message within number
           (ap (λ (p : Span). p.first) is) finish_is h.own);
-      over = over_more spans assigned finish n c.args.span c.args.message old.over c.note.new.self number is finish_is
-          (subst (λ x. IsNoted latest_order first end x old.over c.note.new.self) c.one-2.ensures c.note.ensures) h.over;
+      over = subst (AreOver spans assigned finish (n + 1)) (sym (c.note.ensures ∙ ap (λ x. map_in (λ l. later_of l x) old.over first end) c.one-2.ensures))
+          (over_more spans assigned finish n c.args.span c.args.message old.over (omega (arith, long, c.self.invariant, c.requires.within)) number is finish_is h.over);
       last = last_more spans assigned finish n old.last _ _ number is finish_is
           c.later_placed.ensures.later c.later_placed.ensures.one_of_both h.last;
     }
+
+pub invariant_of-self : goal.invariant_of-self
+invariant_of-self c =
+    let old = c.self.inside in
+    let first = c.args.span.first in
+    let own = ap length c.put.ensures ∙ length-set old.own first (later_of (get_or old.own first None) c.one.result) in
+    let over = ap length c.note.ensures ∙ length-map_in (λ l. later_of l c.one-2.result) old.over first c.args.span.end in
+    let both : length c.note.new.self ≡ length c.put.new.self = omega (arith, own, over, c.self.invariant) in
+    both

@@ -18,15 +18,15 @@ cells_of_more before ops i op is =
 
 -- what all cells of operations are, the cells of each operation are
 module _ (P : Cell → Type 0) where
-  all_left : (xs ys : List Cell) → All P (xs ++ ys) → All P xs
+  pub all_left : (xs ys : List Cell) → All P (xs ++ ys) → All P xs
   all_left xs ys all k d within =
       subst P (get_or_append_left xs ys d k within) (all k d (omega (arith, length-append xs ys)))
 
-  all_right : (xs ys : List Cell) → All P (xs ++ ys) → All P ys
+  pub all_right : (xs ys : List Cell) → All P (xs ++ ys) → All P ys
   all_right xs ys all k d within =
       subst P (get_or-append-add xs ys k d) (all (length xs + k) d (omega (arith, length-append xs ys)))
 
-  cells_at : (ops : List Op) (i : ℕ) (d : Op) → i < length ops → All P (cells_of ops) → All P (cells_of_op (get_or ops i d))
+  pub cells_at : (ops : List Op) (i : ℕ) (d : Op) → i < length ops → All P (cells_of ops) → All P (cells_of_op (get_or ops i d))
   cells_at [] i d within all = absurd (omega arith)
   cells_at (op ∷ ops) zero d within all = all_left (cells_of_op op) (cells_of ops) all
   cells_at (op ∷ ops) (suc i) d within all = cells_at ops i d (omega arith) (all_right (cells_of_op op) (cells_of ops) all)
