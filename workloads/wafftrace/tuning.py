@@ -4,9 +4,11 @@ import csv
 import itertools
 import os
 import re
+import shlex
 import subprocess
 import tempfile
 import tomllib
+from concurrent.futures import ThreadPoolExecutor
 
 from .logs import Refusal, read_text, shown, tell
 from .searching import search
@@ -122,27 +124,59 @@ def order_of(length, trace):
 
 def rank(asked, trees):
     """The figures of the trees' list plans, in order, as `waff rank` tells them."""
-    figures = []
-    for at in range(0, len(trees), MOST_RANKED):
-        figures += rank_some(asked, trees[at : at + MOST_RANKED])
+    if asked.folder and not os.path.isdir(asked.folder):
+        raise Refusal(4, f"{shown(asked.folder)}: no folder")
+    with tempfile.TemporaryDirectory(dir=asked.folder) as folder:
+        names = [os.path.abspath(os.path.join(folder, f"{number}.toml")) for number, _ in enumerate(trees, 1)]
+        for name, tree in zip(names, trees, strict=True):
+            write_file(name, tree.text())
+        jobs = [job(asked, part) for part in parts(names)]
+        texts = told_by_runner(asked, jobs) if asked.runner else told_here(asked, jobs)
+    figures = [Figures(row) for text in texts for row in csv.DictReader(text.splitlines())]
+    if len(figures) != len(trees):
+        raise Refusal(3, f"{len(figures)} trees were told of, and {len(trees)} were asked for")
     return figures
 
 
-def rank_some(asked, trees):
-    with tempfile.TemporaryDirectory() as folder:
-        names = [os.path.join(folder, f"{number}.toml") for number, _ in enumerate(trees, 1)]
-        for name, tree in zip(names, trees, strict=True):
-            write_file(name, tree.text())
-        try:
-            done = subprocess.run(
-                [asked.program, "rank", "--workers", str(asked.workers), "--rule", asked.rule, "--", asked.trace, *names],
-                capture_output=True, text=True, check=False, stdin=subprocess.DEVNULL,
-            )
-        except OSError as fault:
-            raise Refusal(4, f"{shown(asked.program)}: {fault.strerror}") from None
+def parts(names):
+    """The names in parts that one call of the program takes, at least as many as there are processors."""
+    size = max(1, min(MOST_RANKED, -(-len(names) // (os.cpu_count() or 1))))
+    return [names[at : at + size] for at in range(0, len(names), size)]
+
+
+def job(asked, names):
+    """The words of a call that ranks the trees of these files."""
+    program = os.path.abspath(asked.program) if os.sep in asked.program else asked.program
+    words = [program, "rank", "--workers", str(asked.workers), "--rule", asked.rule, "--", os.path.abspath(asked.trace)]
+    return [*words, *names]
+
+
+def told_here(asked, jobs):
+    """What calls tell, in their order: as many run at once as there are processors."""
+
+    def call(words):
+        return subprocess.run(words, capture_output=True, text=True, check=False, stdin=subprocess.DEVNULL)
+
+    try:
+        with ThreadPoolExecutor(os.cpu_count()) as pool:
+            done = list(pool.map(call, jobs))
+    except OSError as fault:
+        raise Refusal(4, f"{shown(asked.program)}: {fault.strerror}") from None
+    for it in done:
+        if it.returncode != 0:
+            raise Refusal(3, f"the program refuses: {shown(it.stderr.strip())}")
+    return [it.stdout for it in done]
+
+
+def told_by_runner(asked, jobs):
+    """What calls tell, in their order, where a command of the shell runs them: it takes a line for each on standard input."""
+    with tempfile.TemporaryFile("w+") as lines:
+        lines.writelines(shlex.join(words) + "\n" for words in jobs)
+        lines.seek(0)
+        done = subprocess.run(asked.runner, shell=True, stdin=lines, capture_output=True, text=True, check=False)
     if done.returncode != 0:
-        raise Refusal(3, f"the program refuses: {shown(done.stderr.strip())}")
-    return [Figures(row) for row in csv.DictReader(done.stdout.splitlines())]
+        raise Refusal(3, f"{shown(asked.runner)}: {shown(done.stderr.strip() or f'status {done.returncode}')}")
+    return re.split(r"(?m)^(?=hierarchy,)", done.stdout)[1:]
 
 
 def numbers(word):
@@ -176,6 +210,12 @@ def words():
         " two together, each time as is best, until nothing gains; tells each change",
     )
     top.add_argument("--write", metavar="FILE", help="write the best tree to this file")
+    top.add_argument(
+        "--with", metavar="COMMAND", dest="runner",
+        help="a command of the shell that runs the calls of the program: it gets a line of shell for each, and prints what they print,"
+        " in their order (`parallel -k`); without it they run here, as many at once as there are processors",
+    )
+    top.add_argument("--folder", metavar="DIR", help="where the trees that are tried are written (a folder of their own in it)")
     top.add_argument(
         "--program", metavar="FILE", default=os.environ.get("WAFF", os.path.join(ROOT, "waff")), help="the proved program"
     )
