@@ -5,8 +5,8 @@ use Rattle.std.proofs.lemmas.List.{get_or_push, get_or_append_left}
 use Rattle.waff_model.specs.Tree.{Node, parent_of, IsRooted}
 use Rattle.waff_model.specs.declared.preorder.Span.{Span}
 use Rattle.waff_model.specs.declared.preorder.Share.{Share}
-use Rattle.waff_model.proofs.PreorderLemmas.{place_at_any}
-use Rattle.waff_model.specs.Preorder.{span_at, share_at, AreShares, AreSpans}
+use Rattle.waff_model.proofs.PreorderLemmas.{place_at_any, AreSpans}
+use Rattle.waff_model.specs.Preorder.{span_at, share_at, AreShares}
 
 -- the place of the affinity b follows from that of its parent
 pub record IsPlaced (tree : List Node) (shares : List Share) (spans : List Span) (b : ℕ) (span : Span) : Type 0 where

@@ -4,12 +4,22 @@ use Rattle.std.proofs.lemmas.Bool.{cases_order}
 use Rattle.std.proofs.lemmas.List.{get_or_default}
 use Rattle.waff_model.specs.Tree.{Node, parent_of, Leads, AtOrAbove, IsRooted}
 use Rattle.waff_model.specs.declared.preorder.Span.{Span}
-use Rattle.waff_model.specs.Preorder.{span_at, Spans, AreSpans, AreNested}
+use Rattle.waff_model.specs.Preorder.{span_at, Spans, AreNested}
 use Rattle.waff_model.proofs.TreeLemmas.{some_of, reflexive, above_child, above_parent, earlier}
 
 -- a read of an affinity's place, whatever stands past the end
 pub place_at_any : (spans : List Span) (b : ℕ) (p : Span) → b < length spans → get_or spans b p ≡ span_at spans b
 place_at_any spans b p within = get_or_default spans b p (record { parent = None; first = 0; end = 0 }) within
+
+-- spans in preorder: a child's lies in its parent's, after the parent's own place, and those of two children are apart
+pub record AreSpans (tree : List Node) (spans : List Span) : Type 0 where
+  pub count : length spans ≡ length tree
+  pub parents : (b : ℕ) → b < length tree → (span_at spans b).parent ≡ parent_of tree b
+  pub filled : (b : ℕ) → b < length tree → (span_at spans b).first < (span_at spans b).end
+  pub few : (b : ℕ) → b < length tree → (span_at spans b).end ≤ length tree
+  pub after : (b p : ℕ) → b < length tree → parent_of tree b ≡ Some p → (span_at spans p).first < (span_at spans b).first
+  pub within : (b p : ℕ) → b < length tree → parent_of tree b ≡ Some p → (span_at spans b).end ≤ (span_at spans p).end
+  pub apart : (b c p : ℕ) → b < c → c < length tree → parent_of tree b ≡ Some p → parent_of tree c ≡ Some p → (span_at spans c).end ≤ (span_at spans b).first
 
 -- the places of q lie among those below p
 abbrev Nests : Span → Span → Type 0
@@ -108,8 +118,8 @@ module _ (tree : List Node) (spans : List Span) (rooted : IsRooted tree) (are : 
       ]
 
   -- an affinity's places are those of the affinities that it is at or above
-  pub spans_where_above : (a b : ℕ) → a < length tree → b < length tree → Spans (span_at spans a) (span_at spans b) ↔ AtOrAbove tree a b
+  spans_where_above : (a b : ℕ) → a < length tree → b < length tree → Spans (span_at spans a) (span_at spans b) ↔ AtOrAbove tree a b
   spans_where_above a b within_a within_b = (spans_above a b within_a within_b, above_spans a b within_b)
 
   pub nested : AreNested tree spans
-  nested = record { count = are.count; filled = are.filled; few = are.few; tells = spans_where_above }
+  nested = record { count = are.count; parents = are.parents; filled = are.filled; few = are.few; tells = spans_where_above }

@@ -13,20 +13,6 @@ span_at spans b = slice_index_or spans b (record { parent = None; first = 0; end
 abbrev pub Spans : Span → Span → Type 0
 Spans p q = (p.first ≤ q.first) × (q.first < p.end)
 
--- spans in preorder: a child's lies in its parent's, after the parent's own place, and those of two
--- children are apart
-pub record AreSpans (tree : List Node) (spans : List Span) : Type 0 where
-  pub count : length spans ≡ length tree
-  pub parents : (b : ℕ) → b < length tree → (span_at spans b).parent ≡ parent_of tree b
-  pub filled : (b : ℕ) → b < length tree → (span_at spans b).first < (span_at spans b).end
-  pub few : (b : ℕ) → b < length tree → (span_at spans b).end ≤ length tree
-  pub after : (b p : ℕ) → b < length tree → parent_of tree b ≡ Some p
-      → (span_at spans p).first < (span_at spans b).first
-  pub within : (b p : ℕ) → b < length tree
-      → parent_of tree b ≡ Some p → (span_at spans b).end ≤ (span_at spans p).end
-  pub apart : (b c p : ℕ) → b < c → c < length tree → parent_of tree b ≡ Some p
-      → parent_of tree c ≡ Some p → (span_at spans c).end ≤ (span_at spans b).first
-
 -- the share of an affinity with none below it
 abbrev pub leaf : Share
 leaf = record { offset = 0; size = 1 }
@@ -54,10 +40,11 @@ pub record AreShares (tree : List Node) (shares : List Share) (k : ℕ) : Type 0
       → parent_of tree b ≡ Some p → parent_of tree c ≡ Some p
       → (share_at shares c).offset + (share_at shares c).size ≤ (share_at shares b).offset
 
--- spans that nest: one affinity is at or above another exactly where the other's first place is one
+-- spans in preorder: one affinity is at or above another exactly where the other's first place is one
 -- of its own
 pub record AreNested (tree : List Node) (spans : List Span) : Type 0 where
   pub count : length spans ≡ length tree
+  pub parents : (b : ℕ) → b < length tree → (span_at spans b).parent ≡ parent_of tree b
   pub filled : (b : ℕ) → b < length tree → (span_at spans b).first < (span_at spans b).end
   pub few : (b : ℕ) → b < length tree → (span_at spans b).end ≤ length tree
   pub tells : (a b : ℕ) → a < length tree → b < length tree

@@ -132,7 +132,7 @@ fn push_packed(alloc: Global, kept: &mut Kept, op: PackedOp) -> Result<(), Alloc
 {
     match kept {
         Kept::One(first) => {
-            let list = pair_of(alloc, *first, op)?;
+            let list = vec![in alloc; *first, op]?;
             *kept = Kept::Packed(list);
         }
         Kept::Packed(list) => {
@@ -147,15 +147,6 @@ fn push_packed(alloc: Global, kept: &mut Kept, op: PackedOp) -> Result<(), Alloc
     Ok(())
 }
 
-fn pair_of(alloc: Global, first: PackedOp, second: PackedOp) -> Result<Vec<PackedOp>, AllocError>
-    ensures { IfOk result (λ list. list.items ≡ first ∷ second ∷ []) }
-{
-    let mut list = Vec::with_capacity(alloc, 2)?;
-    list.push_reserved(first);
-    list.push_reserved(second);
-    Ok(list)
-}
-
 // Appends an operation that is not packed, so that none is.
 fn push_plain(alloc: Global, kept: &mut Kept, op: Op) -> Result<(), AllocError>
     ensures pushed { OnOk result (kept_ops kept.new ≡ kept_ops kept.old ++ op ∷ []) }
@@ -163,24 +154,17 @@ fn push_plain(alloc: Global, kept: &mut Kept, op: Op) -> Result<(), AllocError>
 {
     match kept {
         Kept::One(first) => {
-            let list = with_plain(alloc, &[*first], op)?;
+            let list = vec![in alloc; first.op(), op]?;
             *kept = Kept::Plain(list);
         }
         Kept::Packed(first) => {
-            let list = with_plain(alloc, first, op)?;
+            let mut list = unpacked(alloc, first)?;
+            list.push(op)?;
             *kept = Kept::Plain(list);
         }
         Kept::Plain(list) => list.push(op)?,
     }
     Ok(())
-}
-
-fn with_plain(alloc: Global, first: &[PackedOp], op: Op) -> Result<Vec<Op>, AllocError>
-    ensures { IfOk result (λ list. list.items ≡ map op_of first.now ++ op ∷ []) }
-{
-    let mut list = unpacked(alloc, first)?;
-    list.push(op)?;
-    Ok(list)
 }
 
 fn unpacked(alloc: Global, packed: &[PackedOp]) -> Result<Vec<Op>, AllocError>

@@ -2,7 +2,7 @@
 
 ghost use Rattle.std.specs.Prelude.{◌≡◌, ◌↔◌, length, replicate, IsTrue, IfOk};
 ghost use Rattle.waff_model.specs.Tree.{IsRooted};
-ghost use Rattle.waff_model.specs.Preorder.{Spans, AreSpans, leaf, AreShares};
+ghost use Rattle.waff_model.specs.Preorder.{Spans, AreNested, leaf, AreShares};
 
 use crate::nodes::Nodes;
 use std::alloc::AllocError;
@@ -35,7 +35,7 @@ struct Share {
 /// The spans of the affinities of a tree.
 pub(crate) fn spans_of(nodes: &Nodes) -> Result<Vec<Span>, AllocError>
     requires { IsRooted nodes.now }
-    ensures { IfOk result (λ spans. AreSpans nodes.now spans.items) }
+    ensures { IfOk result (λ spans. AreNested nodes.now spans.items) }
 {
     let leaf = Share { offset: 0, size: 1 };
     let mut shares = vec![in nodes.allocator(); leaf; nodes.len()]?;
@@ -63,7 +63,7 @@ fn share_out(nodes: &Nodes, shares: &mut [Share])
 fn arrange(nodes: &Nodes, shares: &[Share]) -> Result<Vec<Span>, AllocError>
     requires tree { IsRooted nodes.now }
     requires shares { AreShares nodes.now shares.now 0 }
-    ensures { IfOk result (λ spans. AreSpans nodes.now spans.items) }
+    ensures { IfOk result (λ spans. AreNested nodes.now spans.items) }
 {
     let mut spans: Vec<Span> = Vec::with_capacity(nodes.allocator(), shares.len())?;
     for (at, share) in shares.iter().enumerate() {

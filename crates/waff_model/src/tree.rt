@@ -5,7 +5,7 @@ ghost use Rattle.std.specs.Prelude.{option_map, unwrap_or, None, IsTrue, IfOk, I
 ghost use Rattle.std.specs.Prelude.{OnErr};
 ghost use Rattle.waff_model.specs.Tree.{parent_of, number_of, name_of, AtOrAbove, Excludes, IsRooted};
 ghost use Rattle.waff_model.specs.Tree.{IsTree};
-ghost use Rattle.waff_model.specs.Preorder.{AreNested, AreSpans};
+ghost use Rattle.waff_model.specs.Preorder.{AreNested};
 ghost use Rattle.waff_model.specs.TreeRefusal.{node_of, refusal_of};
 
 use crate::limits::MAX_AFFINITIES;
@@ -106,7 +106,7 @@ impl TreeBuilder {
 /// The spans of the affinities, where there is one.
 fn spans_or_refusal(nodes: &Nodes) -> Result<Vec<Span>, TreeError>
     requires { IsRooted nodes.now }
-    ensures spans { IfOk result (λ spans. AreSpans nodes.now spans.items) }
+    ensures spans { IfOk result (λ spans. AreNested nodes.now spans.items) }
     ensures some { OnOk result (0 < length nodes.now) }
     ensures refused { IfErr result (λ e.
         e ≡ (if length nodes.now == 0 then TreeError.NoRoot else TreeError.Memory)) }
@@ -150,13 +150,13 @@ pub struct Tree {
 impl Model for Tree {
     ghost use Rattle.std.specs.Prelude.{List};
     ghost use Rattle.waff_model.specs.Tree.{Node, IsTree};
-    ghost use Rattle.waff_model.specs.Preorder.{AreSpans};
+    ghost use Rattle.waff_model.specs.Preorder.{AreNested};
 
     ghost Value = { List Node };
 
     ghost view = { λ t. t.nodes };
 
-    ghost invariant = { λ t. IsTree t.nodes × AreSpans t.nodes t.spans.items };
+    ghost invariant = { λ t. IsTree t.nodes × AreNested t.nodes t.spans.items };
 }
 
 impl Tree {

@@ -75,10 +75,9 @@ impl<T: Copy> Lists<T> {
 fn bounds<T>(all: &[T], ends: &[u32], n: u32) -> (usize, usize)
     requires cuts { AreCuts all.now 0 ends.now }
     requires number { IsAmongFirst (length ends.now) n }
-    ensures forward { result.0 ≤ result.1 }
-    ensures within { result.1 ≤ length all.now }
-    ensures part { slice_range all.now result.0 result.1
-        ≡ slice_index_or (parts all.now 0 ends.now) (n - 1) [] }
+    ensures { (result.0 ≤ result.1) × (result.1 ≤ length all.now)
+        × (slice_range all.now result.0 result.1
+        ≡ slice_index_or (parts all.now 0 ends.now) (n - 1) []) }
 {
     let index = n as usize - 1;
     let to = ends[index] as usize;

@@ -2,7 +2,7 @@ use Rattle.std.proofs.Common.{◌≡◌, ◌<◌, ◌+◌, length, Some, subst, 
 use Rattle.waff_model.specs.Tree.{parent_of}
 use Rattle.waff_model.specs.Preorder.{share_at, span_at}
 use Rattle.waff_model.specs.declared.preorder.Span.{Span}
-use Rattle.waff_model.proofs.PreorderLemmas.{place_at_any}
+use Rattle.waff_model.proofs.PreorderLemmas.{place_at_any, nested}
 use Rattle.waff_model.proofs.ArrangeLemmas.{ArePlacedBefore, IsPlaced, placed_more, all_placed, parent_placed, root_placed, child_fits}
 use Rattle.waff_model.proofs.preorder.arrange.Goals as goal
 use Rattle.waff_model.proofs.preorder.arrange.Goals.{in-Some, in-None}
@@ -32,8 +32,9 @@ loop-at-preserved c =
 
 pub returns : goal.returns
 returns c =
-    all_placed c.args.nodes.now c.requires.tree c.args.shares.now c.requires.shares c.loop-at.spans.items
-    (subst (ArePlacedBefore c.args.nodes.now c.args.shares.now c.loop-at.spans.items) (omega (arith, c.requires.shares.count)) c.loop-at.invariant)
+    nested c.args.nodes.now c.loop-at.spans.items c.requires.tree
+    (all_placed c.args.nodes.now c.requires.tree c.args.shares.now c.requires.shares c.loop-at.spans.items
+    (subst (ArePlacedBefore c.args.nodes.now c.args.shares.now c.loop-at.spans.items) (omega (arith, c.requires.shares.count)) c.loop-at.invariant))
 
 pub parent-parent-requires : goal.parent-parent-requires
 parent-parent-requires c = omega (arith, c.requires.shares.count)
