@@ -6,15 +6,16 @@ use Rattle.std.proofs.lemmas.List.{get_or_default}
 use Rattle.std.proofs.lemmas.List.Elements.{All-contains}
 use Rattle.std.proofs.lemmas.List.FromFn.{length-range_with_len}
 use Rattle.std.proofs.lemmas.List.Sums.{sum_by-cons, count_by-le-length}
-use Rattle.waff_assign.specs.Order.{Relation}
 use Rattle.waff_plan.specs.Work.{Work, IsNumber, numbers, finish_of}
 use Rattle.waff_plan.specs.Obeys.{IsForward}
 use Rattle.waff_plan.specs.Timing.{start_of}
+use Rattle.waff_list.specs.Load.{Load, Placed, before_in}
+use Rattle.waff_list.specs.Seating.{worker_of}
 use Rattle.waff_list.specs.Seats.{IsSeated}
-use Rattle.waff_list.specs.Progress.{IsProgress, IsSmall, GoesOn, IsNextTick, IsLastTick, IsMade}
+use Rattle.waff_list.specs.Progress.{IsProgress, IsSmall, IsNextTick, IsLastTick, IsMade}
 use Rattle.waff_list.specs.declared.work.TheConstants.{NEVER}
 use Rattle.waff_list.specs.Waiting.{Runs, AreFinishes}
-use Rattle.waff_list.proofs.Settling.{settled_all, settled_plan}
+use Rattle.waff_list.proofs.Making.{settled_all, settled_plan}
 
 -- how many finishes and releases come after now
 abbrev pub events_after : Work → (ℕ → ℕ) → ℕ → ℕ
@@ -73,16 +74,15 @@ on_time_none work start =
     let long : length (numbers work) ≡ work.count = length-range_with_len 1 work.count in
     omega (arith, finishes, releases, long)
 
-module _ (before : Relation) (priority : ℕ → ℕ) (work : Work) (k : ℕ) (forward : IsForward before work) (small : IsSmall work)
-    (old starts seats free_at order : List ℕ) (now next turn end : ℕ)
+module _ (work : Work) (small : IsSmall work) (old starts : List ℕ) (now next : ℕ)
     (placed : (m : ℕ) → IsNumber work m → (start_of old m ≤ now) ⊎ (start_of old m ≡ NEVER))
-    (on : GoesOn before priority work k old starts seats free_at order now turn end) (finishes : List (ℕ × ℕ)) (running : AreFinishes work (start_of starts) now finishes)
-    (tick : IsNextTick work finishes now next) where
+    (kept : (m : ℕ) → IsNumber work m → start_of old m ≤ now → start_of starts m ≡ start_of old m)
+    (finishes : List (ℕ × ℕ)) (running : AreFinishes work (start_of starts) now finishes) (tick : IsNextTick work finishes now next) where
   -- a finish after the next tick came after now before
   finish_back : (m : ℕ) → IsNumber work m → now < finish_of work (start_of starts) m → now < finish_of work (start_of old) m
   finish_back m number later =
       ⊎_elim {C = now < finish_of work (start_of old) m}
-      (λ (early : start_of old m ≤ now). let same : start_of starts m ≡ start_of old m = on.kept m number early in omega arith)
+      (λ (early : start_of old m ≤ now). let same : start_of starts m ≡ start_of old m = kept m number early in omega arith)
       (λ (never : start_of old m ≡ NEVER). let less : next < NEVER = tick.tick in let past : now < next = tick.later in omega arith)
       (placed m number)
 
@@ -152,13 +152,15 @@ module _ (before : Relation) (priority : ℕ → ℕ) (work : Work) (k : ℕ) (f
   on_time_next h = omega (arith, h, next_is_near, events_fewer)
 
 -- where no event is left, all messages are placed
-pub made_of_last : (before : Relation) (priority : ℕ → ℕ) (work : Work) (k : ℕ) → IsForward before work → IsSmall work
-    → (starts seats free_at order : List ℕ) (now : ℕ) → 1 ≤ k → now ≤ 2 ^ 49
-    → IsProgress before priority work k starts seats free_at order now (work.count + 1) (now + 1)
-    → (finishes : List (ℕ × ℕ)) → AreFinishes work (start_of starts) now finishes → IsLastTick work finishes now → IsMade before priority work k starts seats order
-made_of_last before priority work k forward small starts seats free_at order now some early h finishes running last =
+pub made_of_last : (load : Load) → IsForward (before_in load) load.work → IsSmall load.work → (placed : Placed) (now : ℕ) → 1 ≤ load.workers → now ≤ 2 ^ 49
+    → IsProgress load placed now (load.work.count + 1) (now + 1)
+    → (finishes : List (ℕ × ℕ)) → AreFinishes load.work (start_of placed.starts) now finishes → IsLastTick load.work finishes now → IsMade load placed
+made_of_last load forward small placed now some early h finishes running last =
+    let work = load.work in
+    let starts = placed.starts in
+    let seats = placed.seats in
     let start = start_of starts in
-    let done = λ (m : ℕ) (number : IsNumber work m) (begun : start_of starts m ≤ now).
+    let done = λ (m : ℕ) (number : IsNumber load.work m) (begun : start_of placed.starts m ≤ now).
     ⊎_elim {C = finish_of work (start_of starts) m ≤ now}
     (λ (late : now < finish_of work (start_of starts) m).
     let cost : work.cost m < 2 ^ 32 = small.cost m number in
@@ -167,10 +169,10 @@ made_of_last before priority work k forward small starts seats free_at order now
     absurd (omega arith))
     (λ (is : finish_of work (start_of starts) m ≤ now). is)
     (cases_lt now (finish_of work (start_of starts) m)) in
-    let all = λ (m : ℕ) (number : IsNumber work m).
-    settled_all before priority work k forward start (start_of seats) now some (omega arith) done last.releases h.settled (suc m) m (omega arith) number in
-    let number_at = λ (i : ℕ) (inside : i < work.count).
-    let number : IsNumber work (i + 1) = record { from = omega arith; to = omega arith } in number in
+    let all = λ (m : ℕ) (number : IsNumber load.work m).
+    settled_all load forward start (worker_of seats) now some (omega arith) done last.releases h.settled (suc m) m (omega arith) number in
+    let number_at = λ (i : ℕ) (inside : i < load.work.count).
+    let number : IsNumber load.work (i + 1) = record { from = omega arith; to = omega arith } in number in
     record {
       starts_count = h.starts_count;
       seats_count = h.seats_count;
@@ -178,15 +180,15 @@ made_of_last before priority work k forward small starts seats free_at order now
           let same : get_or starts i d ≡ get_or starts (i + 1 - 1) 0 = get_or_default starts i d 0 inside ∙ ap (λ v. get_or starts v 0) (omega arith) in
           let begun : start_of starts (i + 1) ≤ now = all (i + 1) (number_at i (omega (arith, h.starts_count))) in
           omega arith;
-      plan = settled_plan before priority work k forward start (start_of seats) now all h.settled;
+      plan = settled_plan load forward start (worker_of seats) now all h.settled;
       seated = λ m number. h.settled.seated m number (all m number);
       known = λ i d inside.
           let number = number_at i (omega (arith, h.seats_count)) in
           let same : get_or seats i d ≡ get_or seats (i + 1 - 1) 0 = get_or_default seats i d 0 inside ∙ ap (λ v. get_or seats v 0) (omega arith) in
-          let seat : IsSeated work start (start_of seats) (i + 1) = h.settled.seated (i + 1) number (all (i + 1) number) in
-          let from : 1 ≤ start_of seats (i + 1) = seat.from in
-          let to : start_of seats (i + 1) ≤ k = h.settled.within (i + 1) number (all (i + 1) number) in
-          (omega arith, omega arith);
+          let seat : IsSeated work start (worker_of seats) (i + 1) = h.settled.seated (i + 1) number (all (i + 1) number) in
+          let from : 1 ≤ worker_of seats (i + 1) = seat.from in
+          let to : worker_of seats (i + 1) ≤ load.workers = h.settled.within (i + 1) number (all (i + 1) number) in
+          record { from = omega arith; to = omega arith };
       listed = record {
         messages = λ i d inside. let there = h.listed.messages i d inside in there.0;
         each = λ m number. h.listed.each m number (all m number);

@@ -1,27 +1,12 @@
 -- The messages that run, as messages are placed and finish.
-use Rattle.std.proofs.Common.{◌≡◌, ◌≢◌, ℕ, zero, suc, ◌+◌, ◌<◌, ◌≤◌, ◌⊎◌, inl, inr, map, List, [], ◌∷◌, Contains, arith, refl, ap, sym, ◌∙◌, subst, ⊎_elim}
+use Rattle.std.proofs.Common.{◌≡◌, ◌≢◌, ℕ, suc, ◌+◌, ◌<◌, ◌≤◌, ◌⊎◌, List, [], ◌∷◌, Contains, arith, refl, ap, sym, subst, ⊎_elim}
 use Rattle.std.specs.List.Sorted.{IsPermutation}
-use Rattle.std.specs.declared.cmp.Reverse.{Reverse}
 use Rattle.std.proofs.lemmas.Bool.{cases_eq}
-use Rattle.std.proofs.lemmas.List.{get_or-map, length-map}
 use Rattle.std.proofs.lemmas.List.Elements.{All-nil, All-cons, All-contains, All-contains_itself, All-weaker}
 use Rattle.std.proofs.lemmas.List.Sorted.{Contains-permutation, All-permutation}
 use Rattle.waff_plan.specs.Work.{Work, IsNumber, finish_of}
 use Rattle.waff_list.specs.Waiting.{Runs, AreFinishes, HaveFinished}
 use Rattle.waff_list.specs.declared.work.TheConstants.{NEVER}
-
--- an element of a list, or of a list of others by what is inside them
-pub contains_rest_of : {X : Type 0} (x y : X) (xs : List X) → Contains (x ∷ xs) y → Contains xs y ⊎ (y ≡ x)
-contains_rest_of x y xs (zero, within, is) = inr (sym is)
-contains_rest_of x y xs (suc k, within, is) = inl (k, omega arith, is)
-
-pub contains_map : (xs : List (Reverse (ℕ × ℕ))) (x : Reverse (ℕ × ℕ)) → Contains xs x → Contains (map (λ (r : Reverse (ℕ × ℕ)). r.0) xs) x.0
-contains_map xs x there =
-    let within = there.1 in (
-      there.0,
-      omega (arith, within, length-map xs (λ (r : Reverse (ℕ × ℕ)). r.0)),
-      get_or-map (λ (r : Reverse (ℕ × ℕ)). r.0) xs there.0 x x.0 within ∙ ap (λ (r : Reverse (ℕ × ℕ)). r.0) there.2,
-    )
 
 -- none runs at the beginning
 pub finishes_none : (work : Work) (start : ℕ → ℕ) → ((m : ℕ) → IsNumber work m → start m ≡ NEVER) → AreFinishes work start 0 []

@@ -67,7 +67,6 @@ used_until_finish before priority work k start follows m rest s number released 
     (λ (waiting : t < start m).
     let ready : IsReady before work start t m = record {
       number = number;
-      waits = omega arith;
       released = omega arith;
       free = λ i is_before. let done : finish_of work start i ≤ s = free i is_before in omega (arith, done);
     } in

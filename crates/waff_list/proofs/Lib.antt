@@ -1,23 +1,17 @@
 pub mod Graham
 pub mod Pigeonhole
+mod Each
 mod Running
-mod Settling
-mod Placing
-mod Freeing
-mod Progressing
+mod Making
+mod Filling
+mod Waking
 pub mod TraceWork
 mod Events
-mod Filling
 mod PathPlans
 mod ChainBounds
 mod CountLemmas
 mod FinishLemmas
-mod IdleLemmas
-mod ReadyLemmas
 mod Choosing
-mod Starting
-mod WakingLemmas
-mod WakeLemmas
 mod OrderingLemmas
 mod TrailLemmas
 mod DependentLemmas

@@ -45,7 +45,6 @@ same_paths_same_plans near before work to from priority k start h = record {
     ready_near : (t m : ℕ) → IsReady before work start t m → IsReady near work start t m
     ready_near t m ready = record {
       number = ready.number;
-      waits = ready.waits;
       released = ready.released;
       free = λ i pair. let path = from i m pair in path_by_free before work start t m ordered ready.free path.0 i path.1;
     }

@@ -1,5 +1,5 @@
 -- The work of the messages of a trace, and the order of their needs.
-use Rattle.std.proofs.Common.{◌≡◌, ℕ, ◌-◌, ◌^◌, ◌<◌, ◌≤◌, List, [], length, get_or, arith, subst, sym}
+use Rattle.std.proofs.Common.{◌≡◌, ℕ, ◌-◌, ◌^◌, ◌<◌, ◌≤◌, List, [], length, get_or, arith, subst, sym, ◌∙◌}
 use Rattle.std.proofs.lemmas.List.{get_or-map, length-map}
 use Rattle.waff_model.specs.declared.message.Message.{Message}
 use Rattle.waff_model.specs.Messages.{Arrivals, IsMessage, IsTrace}
@@ -11,6 +11,7 @@ use Rattle.waff_plan.specs.declared.timing.Timing.{Timing}
 use Rattle.waff_order.specs.Needs.{IsNeed, AreLists}
 use Rattle.waff_order.proofs.NeedLemmas.{need_within}
 use Rattle.waff_list.specs.Progress.{work_of_messages, IsSmall}
+use Rattle.waff_list.specs.declared.task.Task.{Task}
 
 -- of no message
 abbrev nobody : Message
@@ -49,10 +50,16 @@ module _ (trace : Arrivals) (is_trace : IsTrace trace) where
         subst (λ (t : Timing). t.release < 2 ^ 32) (sym (at m number)) (omega (arith, within));
   }
 
--- needs go forward
+-- needs go forward, also those of a task
 pub needs_forward : (needs : List (List ℕ)) (work : Work) → AreLists needs → length needs ≡ work.count → IsForward (IsNeed needs) work
 needs_forward needs work lists same = record {
   from = lists.from;
   earlier = lists.earlier;
   to = λ i j h. let within = need_within needs i j h in omega (arith, within);
 }
+
+pub lengths_of : (task : Task) → length task.needs.now ≡ (work_of_messages task.trace.now.messages).count
+lengths_of task = task.lengths ∙ sym (count_is task.trace.now.messages)
+
+pub forward_of : (task : Task) → IsForward (IsNeed task.needs.now) (work_of_messages task.trace.now.messages)
+forward_of task = needs_forward task.needs.now (work_of_messages task.trace.now.messages) task.lists (lengths_of task)

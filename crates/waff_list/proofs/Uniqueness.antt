@@ -124,7 +124,6 @@ module _ (before : Relation) (work : Work) (k : ℕ) (forward : IsForward before
       → start m ≡ t → t ≤ other m → IsReady before work other t m
   ready_in_other priority start other t m plan same number here waits = record {
     number = number;
-    waits = waits;
     released = let released : work.release m ≤ start m = plan.within.obeys.released m number in omega arith;
     free = λ i pair.
         let earlier : i < m = forward.earlier i m pair in

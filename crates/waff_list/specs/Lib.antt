@@ -1,4 +1,5 @@
 pub mod ListRule
+pub mod Load
 pub mod Seats
 pub mod Bound
 pub mod Progress

@@ -14,11 +14,10 @@ IsTakenFirst priority i j = (priority j < priority i) ⊎ ((priority i ≡ prior
 abbrev pub arrival : ℕ → ℕ
 arrival m = 0
 
--- m is ready at the tick t: it has not started before t, its release is no later than t, and each
--- message that is before it has finished by t
+-- m is ready at the tick t: its release is no later than t, and each message that is before it has
+-- finished by t
 pub record IsReady (before : Relation) (work : Work) (start : ℕ → ℕ) (t m : ℕ) : Type 0 where
   pub number : IsNumber work m
-  pub waits : t ≤ start m
   pub released : work.release m ≤ t
   pub free : (i : ℕ) → before i m → finish_of work start i ≤ t
 

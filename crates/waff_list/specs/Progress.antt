@@ -1,41 +1,36 @@
 -- A list plan while it is made, tick after tick, and at each tick message after message. A message
 -- that is not placed yet has the start `never`, which is later than every tick.
-use Rattle.std.specs.Prelude.{◌≡◌, ◌≢◌, ℕ, ◌-◌, ◌^◌, ◌<◌, ◌≤◌, ◌⊎◌, List, length, All, AllPairs}
-use Rattle.std.specs.Prelude.{Contains, slice_index}
-use Rattle.waff_assign.specs.Order.{Relation}
+use Rattle.std.specs.Prelude.{◌≡◌, ◌≢◌, ℕ, ◌^◌, ◌<◌, ◌≤◌, ◌⊎◌, List, length, All, AllPairs}
+use Rattle.std.specs.Prelude.{Contains}
+use Rattle.waff_model.specs.Numbers.{IsAmongFirst}
 use Rattle.waff_plan.specs.Work.{Work, IsNumber, finish_of}
 use Rattle.waff_plan.specs.Workers.{running}
 use Rattle.waff_plan.specs.Timing.{start_of}
 pub use Rattle.waff_plan.specs.Timetable.{work_of_messages}
 use Rattle.waff_list.specs.ListRule.{IsReady, IsTakenFirst, IsListPlan}
+use Rattle.waff_list.specs.Load.{Load, Placed, Pending, before_in, priority_in}
+use Rattle.waff_list.specs.Seating.{worker_of}
 use Rattle.waff_list.specs.Seats.{ComesBefore, IsSeated, IsInOrder}
+use Rattle.waff_list.specs.Unique.{AreSeated}
+use Rattle.waff_list.specs.Waiting.{AreFinishes, AreLeft, AreManned, AreReady, IsReleased}
 use Rattle.waff_model.specs.declared.limits.TheConstants.{MAX_TICK}
 use Rattle.waff_list.specs.declared.work.TheConstants.{NEVER}
 
 -- the messages that are placed have started by now, and at now they are below the message turn; they
 -- obey, have their workers, and follow the list rule at each tick before end
-pub record IsSettled (before : Relation) (priority : ℕ → ℕ) (work : Work) (k : ℕ)
-    (start worker : ℕ → ℕ) (now turn end : ℕ) : Type 0 where
-  pub placed : (m : ℕ) → IsNumber work m → (start m ≤ now) ⊎ (start m ≡ NEVER)
-  pub turns : (m : ℕ) → IsNumber work m → start m ≡ now → m < turn
-  pub released : (m : ℕ) → IsNumber work m → start m ≤ now → work.release m ≤ start m
-  pub ordered : (i j : ℕ) → before i j → start j ≤ now → finish_of work start i ≤ start j
-  pub seated : (m : ℕ) → IsNumber work m → start m ≤ now → IsSeated work start worker m
-  pub within : (m : ℕ) → IsNumber work m → start m ≤ now → worker m ≤ k
-  pub busy : (t m : ℕ) → t < end
-      → IsReady before work start t m → t < start m → running work start t ≡ k
-  pub in_turn : (t m other : ℕ) → t < end → IsReady before work start t m → t < start m
-      → IsNumber work other → IsTakenFirst priority m other → start other ≢ t
-
--- the tick at which each worker is free: the finish of the message that it ran last
-pub record AreFreeAt (work : Work) (start worker : ℕ → ℕ)
-    (now : ℕ) (free_at : List ℕ) : Type 0 where
-  pub held : (m : ℕ) → IsNumber work m → start m ≤ now
-      → (finish_of work start m ≤ now)
-      ⊎ (finish_of work start m ≡ slice_index free_at (worker m - 1))
-  pub holder : (w : ℕ) → 1 ≤ w → w ≤ length free_at → now < slice_index free_at (w - 1)
-      → (m : ℕ) × IsNumber work m × (start m ≤ now)
-      × (worker m ≡ w) × (finish_of work start m ≡ slice_index free_at (w - 1))
+pub record IsSettled (load : Load) (start worker : ℕ → ℕ) (now turn end : ℕ) : Type 0 where
+  pub placed : (m : ℕ) → IsNumber load.work m → (start m ≤ now) ⊎ (start m ≡ NEVER)
+  pub turns : (m : ℕ) → IsNumber load.work m → start m ≡ now → m < turn
+  pub released : (m : ℕ) → IsNumber load.work m → start m ≤ now → load.work.release m ≤ start m
+  pub ordered : (i j : ℕ) → before_in load i j → start j ≤ now
+      → finish_of load.work start i ≤ start j
+  pub seated : (m : ℕ) → IsNumber load.work m → start m ≤ now → IsSeated load.work start worker m
+  pub within : (m : ℕ) → IsNumber load.work m → start m ≤ now → worker m ≤ load.workers
+  pub busy : (t m : ℕ) → t < end → IsReady (before_in load) load.work start t m → t < start m
+      → running load.work start t ≡ load.workers
+  pub in_turn : (t m other : ℕ) → t < end → IsReady (before_in load) load.work start t m
+      → t < start m → IsNumber load.work other → IsTakenFirst (priority_in load) m other
+      → start other ≢ t
 
 -- the order lists the messages that are placed, those that come before others first
 pub record IsOrderSoFar (work : Work) (start : ℕ → ℕ) (now : ℕ) (order : List ℕ) : Type 0 where
@@ -43,22 +38,25 @@ pub record IsOrderSoFar (work : Work) (start : ℕ → ℕ) (now : ℕ) (order :
   pub each : (m : ℕ) → IsNumber work m → start m ≤ now → Contains order m
   pub sorted : AllPairs (ComesBefore start) order
 
--- all that is kept while a plan is made
-pub record IsProgress (before : Relation) (priority : ℕ → ℕ) (work : Work) (k : ℕ)
-    (starts seats free_at order : List ℕ) (now turn end : ℕ) : Type 0 where
-  pub starts_count : length starts ≡ work.count
-  pub seats_count : length seats ≡ work.count
-  pub workers_count : length free_at ≡ k
-  pub settled : IsSettled before priority work k (start_of starts) (start_of seats) now turn end
-  pub workers : AreFreeAt work (start_of starts) (start_of seats) now free_at
-  pub listed : IsOrderSoFar work (start_of starts) now order
+-- the plan has been made up to the tick now and the message turn
+pub record IsProgress (load : Load) (placed : Placed) (now turn end : ℕ) : Type 0 where
+  pub starts_count : length placed.starts ≡ load.work.count
+  pub seats_count : length placed.seats ≡ load.work.count
+  pub settled : IsSettled load (start_of placed.starts) (worker_of placed.seats) now turn end
+  pub listed : IsOrderSoFar load.work (start_of placed.starts) now placed.order
 
--- the plan has been made up to the tick now and the message turn, and what was placed before stays
--- placed
-pub record GoesOn (before : Relation) (priority : ℕ → ℕ) (work : Work) (k : ℕ)
-    (old starts seats free_at order : List ℕ) (now turn end : ℕ) : Type 0 where
-  pub progress : IsProgress before priority work k starts seats free_at order now turn end
-  pub kept : (m : ℕ) → IsNumber work m → start_of old m ≤ now → start_of starts m ≡ start_of old m
+-- and what was placed before stays placed
+pub record GoesOn (load : Load) (old : List ℕ) (placed : Placed) (now turn end : ℕ) : Type 0 where
+  pub progress : IsProgress load placed now turn end
+  pub kept : (m : ℕ) → IsNumber load.work m → start_of old m ≤ now
+      → start_of placed.starts m ≡ start_of old m
+
+-- what is kept of the messages that run at now and of those that wait
+pub record IsKept (load : Load) (placed : Placed) (pending : Pending) (now : ℕ) : Type 0 where
+  pub finishes : AreFinishes load.work (start_of placed.starts) now pending.finishes
+  pub manned : AreManned load.workers placed.seats pending.finishes pending.idle
+  pub left : AreLeft load.needs (start_of placed.starts) pending.finishes pending.left
+  pub ready : AreReady load.work (IsReleased load.work now) pending.left placed.order pending.ready
 
 -- next is the least tick after now at which a message finishes or is released
 pub record IsNextTick (work : Work) (finishes : List (ℕ × ℕ)) (now next : ℕ) : Type 0 where
@@ -75,15 +73,15 @@ pub record IsLastTick (work : Work) (finishes : List (ℕ × ℕ)) (now : ℕ) :
   pub releases : (m : ℕ) → IsNumber work m → work.release m ≤ now
 
 -- all messages are placed
-pub record IsMade (before : Relation) (priority : ℕ → ℕ) (work : Work) (k : ℕ)
-    (starts seats order : List ℕ) : Type 0 where
-  pub starts_count : length starts ≡ work.count
-  pub seats_count : length seats ≡ work.count
-  pub printable : All (λ start. start ≤ MAX_TICK) starts
-  pub plan : IsListPlan before priority work k (start_of starts)
-  pub seated : (m : ℕ) → IsNumber work m → IsSeated work (start_of starts) (start_of seats) m
-  pub known : All (λ w. (1 ≤ w) × (w ≤ k)) seats
-  pub listed : IsInOrder work (start_of starts) order
+pub record IsMade (load : Load) (placed : Placed) : Type 0 where
+  pub starts_count : length placed.starts ≡ load.work.count
+  pub seats_count : length placed.seats ≡ load.work.count
+  pub printable : All (λ start. start ≤ MAX_TICK) placed.starts
+  pub plan : IsListPlan
+      (before_in load) (priority_in load) load.work load.workers (start_of placed.starts)
+  pub seated : AreSeated load.work (start_of placed.starts) (worker_of placed.seats)
+  pub known : All (IsAmongFirst load.workers) placed.seats
+  pub listed : IsInOrder load.work (start_of placed.starts) placed.order
 
 -- each message runs at least one tick, and costs and releases are numbers of 32 bits
 pub record IsSmall (work : Work) : Type 0 where

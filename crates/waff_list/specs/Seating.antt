@@ -3,7 +3,7 @@
 use Rattle.std.specs.Prelude.{◌≡◌, ℕ, ◌-◌, ◌≤◌, List, length, All, slice_index}
 use Rattle.waff_plan.specs.Timetable.{Timetable}
 use Rattle.waff_plan.specs.Timing.{work_of}
-use Rattle.waff_plan.specs.Work.{IsNumber}
+use Rattle.waff_plan.specs.Work.{IsAmongFirst, IsNumber}
 use Rattle.waff_model.specs.declared.limits.TheConstants.{MAX_WORKERS}
 
 pub record Seating : Type 0 where
@@ -15,7 +15,7 @@ pub record Seating : Type 0 where
 -- each message has a worker, one of at most 64, and the order lists messages
 pub record IsSeating (seating : Seating) : Type 0 where
   pub seats_count : length seating.seats ≡ length seating.table.timings
-  pub known : All (λ w. (1 ≤ w) × (w ≤ seating.workers)) seating.seats
+  pub known : All (IsAmongFirst seating.workers) seating.seats
   pub messages : All (IsNumber (work_of seating.table.timings)) seating.order
   pub some : 1 ≤ seating.workers
   pub few : seating.workers ≤ MAX_WORKERS

@@ -1,12 +1,16 @@
 -- What the planner keeps of the messages that are not placed yet: how many needs of each have not
 -- finished, those that are ready, those that each message is a need of, and those that are still to
 -- be released; and of those that run, when they finish.
-use Rattle.std.specs.Prelude.{◌≡◌, ◌≢◌, ℕ, ◌+◌, ◌-◌, ◌<◌, ◌≤◌, ◌⊎◌, List, length, All, AllPairs}
-use Rattle.std.specs.Prelude.{Contains, slice_index, slice_index_or, count_by, sum_by, ◌==◌}
-use Rattle.waff_assign.specs.Order.{Relation}
+use Rattle.std.specs.Prelude.{◌≡◌, ◌≢◌, ℕ, ◌+◌, ◌-◌, ◌<◌, ◌≤◌, ◌⊎◌, List, ◌∷◌, ◌++◌, length, map}
+use Rattle.std.specs.Prelude.{All, AllPairs, Contains, slice_index, slice_index_or, take, count_by}
+use Rattle.std.specs.Prelude.{sum_by, ◌==◌}
+use Rattle.std.specs.List.Sorted.{IsPermutation}
+use Rattle.waff_model.specs.Numbers.{IsAmongFirst}
 use Rattle.waff_plan.specs.Work.{Work, IsNumber, finish_of}
 use Rattle.waff_order.specs.Needs.{needs_of}
 use Rattle.waff_list.specs.ListRule.{IsTakenFirst}
+use Rattle.waff_list.specs.Load.{priority_of}
+use Rattle.waff_list.specs.Seating.{worker_of}
 use Rattle.waff_list.specs.declared.work.TheConstants.{NEVER}
 
 -- the messages that are ready, and the priority of each message of the trace
@@ -14,59 +18,49 @@ pub record Ready : Type 0 where
   pub messages : List ℕ
   pub priorities : List ℕ
 
--- the priority of message m, from 1; 0 where none is listed
-abbrev pub priority_of : List ℕ → ℕ → ℕ
-priority_of priorities m = slice_index priorities (m - 1)
-
--- m has joined a heap
-pub record Joins (old : List ℕ) (m : ℕ) (new : List ℕ) : Type 0 where
-  pub here : Contains new m
-  pub kept : (x : ℕ) → Contains old x → Contains new x
-  pub only : (x : ℕ) → Contains new x → Contains old x ⊎ (x ≡ m)
-  pub more : length new ≡ length old + 1
-
--- m has left a heap
-pub record Leaves (old : List ℕ) (m : ℕ) (new : List ℕ) : Type 0 where
-  pub one : Contains old m
-  pub others : (x : ℕ) → Contains old x → (x ≡ m) ⊎ Contains new x
-  pub only : (x : ℕ) → Contains new x → Contains old x
-  pub fewer : length new + 1 ≡ length old
-
 -- m, the least number of a heap, has left it
 pub record LeavesLeast (old : List ℕ) (m : ℕ) (new : List ℕ) : Type 0 where
-  pub leaves : Leaves old m new
+  pub rest : IsPermutation old (m ∷ new)
   pub least : (x : ℕ) → Contains new x → m ≤ x
 
 -- m, which is taken before all others, has left those that are ready
 pub record LeavesFirst (old : Ready) (m : ℕ) (new : Ready) : Type 0 where
-  pub leaves : Leaves old.messages m new.messages
+  pub rest : IsPermutation old.messages (m ∷ new.messages)
   pub first : (x : ℕ) → Contains new.messages x
       → (x ≡ m) ⊎ IsTakenFirst (priority_of old.priorities) m x
   pub same : new.priorities ≡ old.priorities
 
--- the numbers from 1 to n
-pub record AreFirst (n : ℕ) (xs : List ℕ) : Type 0 where
-  pub only : (x : ℕ) → Contains xs x → (1 ≤ x) × (x ≤ n)
-  pub each : (x : ℕ) → 1 ≤ x → x ≤ n → Contains xs x
+-- the count of message m, from 1
+abbrev pub left_of : List ℕ → ℕ → ℕ
+left_of left m = slice_index left (m - 1)
 
--- each worker that is free at now is idle, and all that are idle are workers
-pub record AreIdle (free_at : List ℕ) (now : ℕ) (idle : List ℕ) : Type 0 where
-  pub only : (w : ℕ) → Contains idle w → (1 ≤ w) × (w ≤ length free_at)
-  pub each : (w : ℕ) → 1 ≤ w → w ≤ length free_at → slice_index free_at (w - 1) ≤ now
-      → Contains idle w
+-- how often m is listed
+abbrev pub times : ℕ → List ℕ → ℕ
+times m xs = count_by (λ x. x == m) xs
 
--- m is released before the tick end, and each message that is before it has finished by now
-pub record IsFree (before : Relation) (work : Work)
-    (start : ℕ → ℕ) (now end m : ℕ) : Type 0 where
+-- a list of all that pass a test, each once
+pub record AreEach (Passes : ℕ → Type 0) (xs : List ℕ) : Type 0 where
+  pub only : (x : ℕ) → Contains xs x → Passes x
+  pub each : (x : ℕ) → Passes x → times x xs ≡ 1
+
+-- each worker is idle or that of one message that runs
+abbrev pub AreManned : ℕ → List ℕ → List (ℕ × ℕ) → List ℕ → Type 0
+AreManned workers seats finishes idle =
+    AreEach (IsAmongFirst workers) (idle ++ map (λ r. worker_of seats r.1) finishes)
+
+-- m needs nothing more, and has been released
+pub record IsUp (work : Work) (Released : ℕ → Type 0) (left : List ℕ) (m : ℕ) : Type 0 where
   pub number : IsNumber work m
-  pub released : work.release m < end
-  pub free : (i : ℕ) → before i m → finish_of work start i ≤ now
+  pub over : left_of left m ≡ 0
+  pub released : Released m
 
--- the messages that are ready: each that is free and has not been placed, and none that is not free
-pub record AreReady (before : Relation) (work : Work) (start : ℕ → ℕ)
-    (now end : ℕ) (ready : List ℕ) : Type 0 where
-  pub only : (m : ℕ) → Contains ready m → IsFree before work start now end m
-  pub each : (m : ℕ) → IsFree before work start now end m → now < start m → Contains ready m
+-- m has been released by now
+abbrev pub IsReleased : Work → ℕ → ℕ → Type 0
+IsReleased work now m = work.release m ≤ now
+
+-- each message that needs nothing more and has been released is placed or ready
+abbrev pub AreReady : Work → (ℕ → Type 0) → List ℕ → List ℕ → List ℕ → Type 0
+AreReady work Released left order ready = AreEach (IsUp work Released left) (order ++ ready)
 
 -- a message that runs at now, after the tick at which it finishes
 abbrev pub Runs : Work → (ℕ → ℕ) → ℕ → ℕ × ℕ → Type 0
@@ -80,19 +74,6 @@ pub record AreFinishes (work : Work) (start : ℕ → ℕ)
       → Contains finishes (finish_of work start m, m)
   pub only : All (Runs work start now) finishes
 
--- the workers of the messages that finish have become idle
-pub record AreFreed (seats : List ℕ)
-    (old new : List (ℕ × ℕ)) (idle idle_after : List ℕ) : Type 0 where
-  pub kept : (w : ℕ) → Contains idle w → Contains idle_after w
-  pub freed : (r : ℕ × ℕ) → Contains old r
-      → Contains new r ⊎ Contains idle_after (slice_index seats (r.1 - 1))
-  pub only : (w : ℕ) → Contains idle_after w
-      → Contains idle w ⊎ ((r : ℕ × ℕ) × Contains old r × (w ≡ slice_index seats (r.1 - 1)))
-
--- how often m is listed
-abbrev pub times : ℕ → List ℕ → ℕ
-times m xs = count_by (λ x. x == m) xs
-
 -- how many needs of m have not been placed
 abbrev pub unplaced_needs : List (List ℕ) → (ℕ → ℕ) → ℕ → ℕ
 unplaced_needs needs start m = count_by (λ i. start i == NEVER) (needs_of needs m)
@@ -100,10 +81,6 @@ unplaced_needs needs start m = count_by (λ i. start i == NEVER) (needs_of needs
 -- how many needs of m run
 abbrev pub running_needs : List (List ℕ) → List (ℕ × ℕ) → ℕ → ℕ
 running_needs needs finishes m = sum_by (λ r. times r.1 (needs_of needs m)) finishes
-
--- the count of message m, from 1
-abbrev pub left_of : List ℕ → ℕ → ℕ
-left_of left m = slice_index left (m - 1)
 
 -- the count of each message: how many of its needs have not finished, as they have not been placed
 -- or run
@@ -138,10 +115,14 @@ pub record AreDependents (needs dependents : List (List ℕ)) (n : ℕ) : Type 0
       → times m (needs_of dependents i) ≡ times i (needs_of needs m)
   pub only : (i m : ℕ) → Contains (needs_of dependents i) m → (1 ≤ m) × (m ≤ n)
 
--- the releases of all messages, the first to be released first
+-- the messages, in the order of their releases
+abbrev pub messages_in : List (ℕ × ℕ) → List ℕ
+messages_in releases = map (λ r. r.1) releases
+
+-- the releases of all messages, each once, the first to be released first
 pub record AreReleases (work : Work) (releases : List (ℕ × ℕ)) : Type 0 where
-  pub each : (m : ℕ) → IsNumber work m → Contains releases (work.release m, m)
-  pub only : All (λ r. IsNumber work r.1 × (work.release r.1 ≡ r.0)) releases
+  pub messages : AreEach (IsNumber work) (messages_in releases)
+  pub ticks : All (λ r. work.release r.1 ≡ r.0) releases
   pub sorted : AllPairs (λ r s. r.0 ≤ s.0) releases
 
 -- this many messages have been released by now, and no more
@@ -157,17 +138,13 @@ pub record IsNextRelease (work : Work) (now next : ℕ) : Type 0 where
   pub releases : (m : ℕ) → IsNumber work m → (work.release m ≤ now) ⊎ (next ≤ work.release m)
   pub one : (next ≡ NEVER) ⊎ ((m : ℕ) × IsNumber work m × (work.release m ≡ next))
 
--- the message that is released in this place
-abbrev pub released_at : List (ℕ × ℕ) → ℕ → ℕ
-released_at releases i = (slice_index_or releases i (0, 0)).1
+-- m is one of the messages of the releases that have been passed
+abbrev pub IsPassed : List (ℕ × ℕ) → ℕ → ℕ → Type 0
+IsPassed releases passed m = Contains (take passed (messages_in releases)) m
 
--- the messages that are released from one place to another have joined those that are ready, where
--- they need nothing more
-pub record Admits (releases : List (ℕ × ℕ)) (from to : ℕ) (left : List ℕ)
-    (old new : Ready) : Type 0 where
-  pub kept : (m : ℕ) → Contains old.messages m → Contains new.messages m
-  pub added : (i : ℕ) → from ≤ i → i < to → left_of left (released_at releases i) ≡ 0
-      → Contains new.messages (released_at releases i)
-  pub only : (m : ℕ) → Contains new.messages m → Contains old.messages m ⊎ ((i : ℕ) × (i < to)
-      × (i < length releases) × (m ≡ released_at releases i) × (left_of left m ≡ 0))
-  pub same : new.priorities ≡ old.priorities
+-- where all that needed nothing more and was released by a tick was placed or ready, so it is now
+abbrev pub StayReady : Work → (ℕ → Type 0) → List ℕ → List ℕ
+    → (ℕ → Type 0) → List ℕ → List ℕ → Type 0
+StayReady work OldReleased old_left old_ready Released left ready =
+    (order : List ℕ) → AreReady work OldReleased old_left order old_ready
+    → AreReady work Released left order ready

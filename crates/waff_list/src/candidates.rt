@@ -1,7 +1,9 @@
 //! The candidates for a free worker: the messages that are ready, the one that is taken first first.
 
-ghost use Rattle.std.specs.Prelude.{◌≡◌, ◌↔◌, ◌≤◌, [], IsTrue, OnOk, MatchOption};
-ghost use Rattle.waff_list.specs.Waiting.{Joins, LeavesFirst, priority_of};
+ghost use Rattle.std.specs.Prelude.{◌≡◌, ◌↔◌, ◌≤◌, [], ◌∷◌, IsTrue, OnOk, MatchOption};
+ghost use Rattle.std.specs.List.Sorted.{IsPermutation};
+ghost use Rattle.waff_list.specs.Load.{priority_of};
+ghost use Rattle.waff_list.specs.Waiting.{LeavesFirst};
 
 use std::alloc::{AllocError, Global};
 use std::cmp::Reverse;
@@ -19,7 +21,8 @@ impl Model for Candidates {
     ghost use Rattle.std.specs.Prelude.{◌≡◌, map, All};
     ghost use Rattle.std.specs.Ordering.{nat_cmp, ordering_then};
     ghost use Rattle.std.specs.BinaryHeap.{IsHeap, heap_items};
-    ghost use Rattle.waff_list.specs.Waiting.{Ready, priority_of};
+    ghost use Rattle.waff_list.specs.Load.{priority_of};
+    ghost use Rattle.waff_list.specs.Waiting.{Ready};
 
     ghost Value = { Ready };
 
@@ -59,7 +62,7 @@ impl Candidates {
     /// Message `m` is ready.
     pub fn push(&mut self, m: u32) -> Result<(), AllocError>
         requires { 1 ≤ m }
-        ensures joins { OnOk result (Joins self.old.messages m self.new.messages) }
+        ensures joins { OnOk result (IsPermutation (m ∷ self.old.messages) self.new.messages) }
         ensures priorities { OnOk result (self.new.priorities ≡ self.old.priorities) }
     {
         let priority = self.priority(m);

@@ -1,14 +1,16 @@
 //! The workers that are free, the least first.
 
-ghost use Rattle.std.specs.Prelude.{◌≡◌, [], OnOk, IfOk, MatchOption};
-ghost use Rattle.waff_list.specs.Waiting.{AreFirst, Joins, LeavesLeast};
+ghost use Rattle.std.specs.Prelude.{◌≡◌, [], ◌∷◌, OnOk, IfOk, MatchOption};
+ghost use Rattle.std.specs.List.Sorted.{IsPermutation};
+ghost use Rattle.waff_model.specs.Numbers.{IsAmongFirst};
+ghost use Rattle.waff_list.specs.Waiting.{AreEach, LeavesLeast};
 
 use std::alloc::{AllocError, Global};
 use std::cmp::Reverse;
 use std::collections::BinaryHeap;
 use std::marker::Model;
 
-/// The numbers of the workers that may be free.
+/// The numbers of the workers that are free.
 #[derive(Drop)]
 pub(crate) struct Idle {
     heap: BinaryHeap<Reverse<u32>>,
@@ -37,7 +39,7 @@ impl Idle {
 
     /// All workers.
     pub fn all(alloc: Global, workers: u32) -> Result<Self, AllocError>
-        ensures { IfOk result (AreFirst workers) }
+        ensures { IfOk result (AreEach (IsAmongFirst workers)) }
     {
         let mut idle = Idle::new(alloc);
         for worker in 0..workers {
@@ -48,7 +50,7 @@ impl Idle {
 
     /// The worker is free.
     pub fn push(&mut self, worker: u32) -> Result<(), AllocError>
-        ensures { OnOk result (Joins self.old worker self.new) }
+        ensures { OnOk result (IsPermutation (worker ∷ self.old) self.new) }
     {
         self.heap.push(Reverse(worker))?;
         Ok(())

@@ -1,7 +1,6 @@
 //! What holds of the plans that follow the list rule, whoever made them, and whatever the priority
-//! of the messages. Each law is a function
-//! that does nothing and whose contract is the law, for the ordered pairs of a tree of affinities
-//! and the affinities assigned to the messages.
+//! of the messages. Each law is a function that does nothing and whose contract is the law, for the
+//! ordered pairs of a tree of affinities and the affinities assigned to the messages.
 
 ghost use Rattle.std.specs.Prelude.{◌≡◌, ℕ, List, length};
 ghost use Rattle.waff_model.specs.Tree.{Node};

@@ -8,11 +8,11 @@ ghost use Rattle.waff_plan.specs.Timetable.{starts_in, timings_of, work_in};
 ghost use Rattle.waff_order.specs.Needs.{IsNeed};
 ghost use Rattle.waff_list.specs.Bound.{ListBound, ListRatio, ListTwice};
 ghost use Rattle.waff_list.specs.ListRule.{IsListPlan, arrival};
+ghost use Rattle.waff_list.specs.Load.{priority_of};
 ghost use Rattle.waff_list.specs.Rules.{IsPlanBy};
 ghost use Rattle.waff_list.specs.Seats.{IsInOrder};
 ghost use Rattle.waff_list.specs.Seating.{worker_of};
 ghost use Rattle.waff_list.specs.Unique.{AreSeated};
-ghost use Rattle.waff_list.specs.Waiting.{priority_of};
 
 use crate::WorkerPlan;
 use crate::planner::make;

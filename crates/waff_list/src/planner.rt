@@ -2,14 +2,15 @@
 //! workers that are free, those first that are taken first.
 
 ghost use Rattle.std.specs.Prelude.{◌≡◌, ℕ, ◌+◌, ◌^◌, ◌<◌, ◌≤◌, [], IfOk, OnOk, length, map};
+ghost use Rattle.waff_model.specs.Numbers.{IsAmongFirst};
 ghost use Rattle.waff_plan.specs.Bound.{IsWorkers};
-ghost use Rattle.waff_plan.specs.Work.{IsNumber};
-ghost use Rattle.waff_order.specs.Needs.{IsNeed, needs_of};
-ghost use Rattle.waff_list.specs.Progress.{work_of_messages, IsMade, IsSmall};
-ghost use Rattle.waff_list.specs.Waiting.{AreFreed, ArePassed, AreReleases, FallAlike};
-ghost use Rattle.waff_list.specs.Waiting.{HaveFinished};
-ghost use Rattle.waff_list.specs.Waiting.{left_of, priority_of, times};
-ghost use Rattle.waff_list.specs.Planning.{AreCounted, IsBegun, IsFilled, IsKept, Wakes};
+ghost use Rattle.waff_order.specs.Needs.{needs_of};
+ghost use Rattle.waff_list.specs.Load.{Load};
+ghost use Rattle.waff_list.specs.Progress.{work_of_messages, GoesOn, IsKept, IsMade, IsProgress};
+ghost use Rattle.waff_list.specs.Progress.{IsSmall};
+ghost use Rattle.waff_list.specs.Waiting.{AreManned, ArePassed, AreReleases, FallAlike};
+ghost use Rattle.waff_list.specs.Waiting.{HaveFinished, left_of, times};
+ghost use Rattle.waff_list.specs.Planning.{AreCounted, Wakes, load_of, pending_in, placed_in};
 
 use crate::chosen::Chosen;
 use crate::finishes::Finishes;
@@ -34,30 +35,31 @@ pub(crate) fn make(
 ) -> Result<Progress, AllocError>
     requires lengths { length needs.now ≡ length trace.now.messages }
     requires workers { IsWorkers k }
-    ensures { IfOk result (λ made. IsMade (IsNeed needs.now) (priority_of priorities.items)
-        (work_of_messages trace.now.messages) k
-        made.starts.items made.seats.items made.order.items) }
+    ensures { IfOk result (λ made. IsMade (record {
+      needs = needs.now;
+      priorities = priorities.items;
+      work = work_of_messages trace.now.messages;
+      workers = k;
+    }) (placed_in made)) }
 {
-    let task = Task::new(alloc, needs, trace)?;
+    let task = Task::new(alloc, needs, trace, k)?;
     let mut waiting = Waiting::new(alloc, needs, priorities)?;
-    let made = begin(alloc, &task, k, &mut waiting);
+    let made = begin(alloc, &task, &mut waiting);
     drop(waiting);
     drop(task);
     made
 }
 
-/// Makes the plan for k workers where no need has finished yet and no message is ready.
-fn begin(alloc: Global, task: &Task, k: u32, waiting: &mut Waiting) -> Result<Progress, AllocError>
-    requires workers { IsWorkers k }
+/// Makes the plan where no need has finished yet and no message is ready.
+fn begin(alloc: Global, task: &Task, waiting: &mut Waiting) -> Result<Progress, AllocError>
     requires left { waiting.old.left.items ≡ map length task.now.needs.now }
     requires ready { waiting.old.ready.messages ≡ [] }
-    ensures { IfOk result (λ made. IsMade (IsNeed task.now.needs.now)
-        (priority_of waiting.old.ready.priorities) (work_of_messages task.now.trace.now.messages)
-        k made.starts.items made.seats.items made.order.items) }
+    ensures { IfOk result (λ made.
+        IsMade (load_of task.now waiting.old.ready.priorities) (placed_in made)) }
 {
     let mut releases = Releases::new(alloc, task.trace)?;
     releases.pass(0, waiting.left.as_slice(), &mut waiting.ready)?;
-    let mut progress = Progress::new(alloc, task.needs.len(), k)?;
+    let mut progress = Progress::new(alloc, task.needs.len(), task.workers)?;
     let mut chosen = Chosen::none(alloc);
     let done = go_on(task, &mut chosen, &mut releases, &mut progress, waiting);
     drop(chosen);
@@ -76,19 +78,16 @@ fn go_on(
     progress: &mut Progress,
     waiting: &mut Waiting,
 ) -> Result<(), AllocError>
-    requires begun { IsBegun task.now.needs.now (priority_of waiting.old.ready.priorities)
-        task.now.trace.now.messages progress.old 0 }
-    requires kept { IsKept task.now.needs.now task.now.trace.now.messages
-        progress.old waiting.old 0 1 }
+    requires begun { IsProgress (load_of task.now waiting.old.ready.priorities)
+        (placed_in progress.old) 0 1 0 }
+    requires kept { IsKept (load_of task.now waiting.old.ready.priorities)
+        (placed_in progress.old) (pending_in progress.old waiting.old) 0 }
     requires releases { AreReleases
         (work_of_messages task.now.trace.now.messages) releases.old.sorted.items }
     requires passed { ArePassed releases.old.sorted.items releases.old.passed 0 }
     requires small { IsSmall (work_of_messages task.now.trace.now.messages) }
-    requires workers { 1 ≤ length progress.old.free_at.items }
-    ensures { IfOk result (λ _. IsMade (IsNeed task.now.needs.now)
-        (priority_of waiting.old.ready.priorities) (work_of_messages task.now.trace.now.messages)
-        (length progress.old.free_at.items)
-        progress.new.starts.items progress.new.seats.items progress.new.order.items) }
+    ensures { IfOk result (λ _.
+        IsMade (load_of task.now waiting.old.ready.priorities) (placed_in progress.new)) }
 {
     let mut now = 0;
     loop {
@@ -122,25 +121,19 @@ fn fill(
     waiting: &mut Waiting,
 ) -> Result<(), AllocError>
     requires tick { now + 2 ^ 32 < NEVER }
-    requires begun { IsBegun task.now.needs.now (priority_of waiting.old.ready.priorities)
-        task.now.trace.now.messages progress.old now }
-    requires kept { IsKept task.now.needs.now task.now.trace.now.messages
-        progress.old waiting.old now (now + 1) }
-    ensures filled { IfOk result (λ _. IsFilled task.now.needs.now
-        (priority_of waiting.old.ready.priorities) task.now.trace.now.messages
-        progress.old progress.new now) }
-    ensures kept { IfOk result (λ _. IsKept task.now.needs.now task.now.trace.now.messages
-        progress.new waiting.new now (now + 1)) }
+    requires begun { IsProgress (load_of task.now waiting.old.ready.priorities)
+        (placed_in progress.old) now 1 now }
+    requires kept { IsKept (load_of task.now waiting.old.ready.priorities)
+        (placed_in progress.old) (pending_in progress.old waiting.old) now }
+    ensures filled { IfOk result (λ _. GoesOn (load_of task.now waiting.old.ready.priorities)
+        progress.old.starts.items (placed_in progress.new)
+        now ((work_of_messages task.now.trace.now.messages).count + 1) (now + 1)) }
+    ensures kept { IfOk result (λ _. IsKept (load_of task.now waiting.old.ready.priorities)
+        (placed_in progress.new) (pending_in progress.new waiting.new) now) }
     ensures priorities { IfOk result (λ _.
         waiting.new.ready.priorities ≡ waiting.old.ready.priorities) }
 {
-    chosen.choose(
-        now,
-        progress.starts.as_slice(),
-        progress.free_at.as_slice(),
-        &mut progress.idle,
-        &mut waiting.ready,
-    )?;
+    chosen.choose(&mut progress.idle, &mut waiting.ready)?;
     for at in 0..chosen.messages.len() {
         let m = chosen.messages[at];
         progress.place(m, chosen.workers[at], now, cost_of(task.trace, m))?;
@@ -160,15 +153,15 @@ fn wake(
     waiting: &mut Waiting,
 ) -> Result<(), AllocError>
     requires next { next < NEVER }
-    requires counted { AreCounted task.now.needs.now task.now.trace.now.messages
-        finishes.old waiting.old }
+    requires counted { AreCounted task.now.needs.now finishes.old waiting.old.left.items }
     requires seats { length seats.now ≡ length task.now.trace.now.messages }
     ensures counts { OnOk result (FallAlike task.now.needs.now finishes.old waiting.old.left.items
         finishes.new waiting.new.left.items) }
     ensures wakes { OnOk result (Wakes (work_of_messages task.now.trace.now.messages) now
         waiting.old waiting.new) }
     ensures finished { OnOk result (HaveFinished next finishes.old finishes.new) }
-    ensures freed { OnOk result (AreFreed seats.now finishes.old finishes.new idle.old idle.new) }
+    ensures manned { OnOk result ((workers : ℕ) → AreManned workers seats.now finishes.old idle.old
+        → AreManned workers seats.now finishes.new idle.new) }
 {
     while let Some(m) = finishes.pop_by(next) {
         idle.push(seats[m as usize - 1])?;
@@ -179,8 +172,8 @@ fn wake(
 
 /// Tells those that need message `m` that it has finished.
 fn tell_all(task: &Task, m: u32, now: u64, waiting: &mut Waiting) -> Result<(), AllocError>
-    requires number { IsNumber (work_of_messages task.now.trace.now.messages) m }
-    requires count { length waiting.old.left.items ≡ length task.now.trace.now.messages }
+    requires number { IsAmongFirst (length task.now.needs.now) m }
+    requires count { length waiting.old.left.items ≡ length task.now.needs.now }
     requires counts { (d : ℕ) → 1 ≤ d → d ≤ length task.now.needs.now
         → times m (needs_of task.now.needs.now d) ≤ left_of waiting.old.left.items d }
     ensures counts { OnOk result ((d : ℕ) → 1 ≤ d → d ≤ length task.now.needs.now

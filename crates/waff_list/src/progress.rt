@@ -2,7 +2,8 @@
 
 ghost use Rattle.std.specs.Prelude.{◌≡◌, ◌+◌, ◌^◌, ◌<◌, [], replicate};
 ghost use Rattle.std.specs.Prelude.{IfOk, OnOk};
-ghost use Rattle.waff_list.specs.Waiting.{AreFirst};
+ghost use Rattle.waff_model.specs.Numbers.{IsAmongFirst};
+ghost use Rattle.waff_list.specs.Waiting.{AreEach};
 
 use crate::finishes::Finishes;
 use crate::idle::Idle;
@@ -16,8 +17,6 @@ pub(crate) struct Progress {
     pub starts: Vec<u64>,
     /// The worker of each message, 0 where it is not placed yet.
     pub seats: Vec<u32>,
-    /// For each worker the tick at which it is free.
-    pub free_at: Vec<u64>,
     /// The messages that run, the first to finish first.
     pub finishes: Finishes,
     /// The workers that are free, the least first.
@@ -27,23 +26,21 @@ pub(crate) struct Progress {
 }
 
 impl Progress {
-    ghost use Rattle.waff_list.specs.Planning.{AreInside, IsPlaced};
+    ghost use Rattle.waff_list.specs.Planning.{IsInside, IsPlaced};
 
     /// Nothing is placed yet.
     pub fn new(alloc: Global, messages: u32, workers: u32) -> Result<Self, AllocError>
         ensures starts { IfOk result (λ progress.
             progress.starts.items ≡ replicate messages NEVER) }
         ensures seats { IfOk result (λ progress. progress.seats.items ≡ replicate messages 0) }
-        ensures free_at { IfOk result (λ progress. progress.free_at.items ≡ replicate workers 0) }
         ensures finishes { IfOk result (λ progress. progress.finishes ≡ []) }
-        ensures idle { IfOk result (λ progress. AreFirst workers progress.idle) }
+        ensures idle { IfOk result (λ progress. AreEach (IsAmongFirst workers) progress.idle) }
         ensures order { IfOk result (λ progress. progress.order.items ≡ []) }
     {
         let count = messages as usize;
         Ok(Progress {
             starts: vec![in alloc; NEVER; count]?,
             seats: vec![in alloc; 0; count]?,
-            free_at: vec![in alloc; 0; workers as usize]?,
             finishes: Finishes::new(alloc),
             idle: Idle::all(alloc, workers)?,
             order: Vec::with_capacity(alloc, count)?,
@@ -58,7 +55,7 @@ impl Progress {
         now: u64,
         cost: u64,
     ) -> Result<(), AllocError>
-        requires inside { AreInside self.old message worker }
+        requires inside { IsInside self.old message }
         requires tick { now + cost < 2 ^ 64 }
         ensures { OnOk result (IsPlaced self.old message worker now cost self.new) }
     {
@@ -67,7 +64,6 @@ impl Progress {
         self.finishes.push(finish, message)?;
         self.starts[message as usize - 1] = now;
         self.seats[message as usize - 1] = worker;
-        self.free_at[worker as usize - 1] = finish;
         Ok(())
     }
 }

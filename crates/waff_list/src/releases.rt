@@ -1,10 +1,11 @@
 //! The releases of messages, in their order.
 
 ghost use Rattle.std.specs.Prelude.{◌≡◌, ℕ, ◌<◌, ◌≤◌, length, All, IfOk, OnOk};
+ghost use Rattle.waff_model.specs.Numbers.{IsAmongFirst};
 ghost use Rattle.std.specs.Prelude.{slice_index_or};
 ghost use Rattle.waff_plan.specs.Work.{Work};
 ghost use Rattle.waff_list.specs.Progress.{work_of_messages, IsSmall};
-ghost use Rattle.waff_list.specs.Waiting.{AreReleases, ArePassed, IsNextRelease, Admits};
+ghost use Rattle.waff_list.specs.Waiting.{AreReleases, ArePassed, IsPassed, IsNextRelease, StayReady};
 
 use crate::candidates::Candidates;
 use crate::work::{NEVER, release_of};
@@ -51,13 +52,16 @@ impl Releases {
     /// Passes those that are released by now. Those that need nothing more are ready.
     pub fn pass(&mut self, now: u64, left: &[u32], ready: &mut Candidates) -> Result<(), AllocError>
         requires within { self.old.passed ≤ length self.old.sorted.items }
-        requires messages { All (λ r. (1 ≤ r.1) × (r.1 ≤ length left.now)) self.old.sorted.items }
+        requires messages { All (λ r. IsAmongFirst (length left.now) r.1) self.old.sorted.items }
         ensures sorted { OnOk result (self.new.sorted.items ≡ self.old.sorted.items) }
         ensures passed { OnOk result (((i : ℕ) (d : ℕ × ℕ) → i < self.old.passed
             → i < length self.old.sorted.items → (slice_index_or self.old.sorted.items i d).0 ≤ now)
             → ArePassed self.old.sorted.items self.new.passed now) }
-        ensures admits { OnOk result (Admits self.old.sorted.items self.old.passed self.new.passed
-            left.now ready.old ready.new) }
+        ensures ready { OnOk result ((work : Work) → AreReleases work self.old.sorted.items
+            → StayReady work (IsPassed self.old.sorted.items self.old.passed)
+            left.now ready.old.messages (IsPassed self.old.sorted.items self.new.passed)
+            left.now ready.new.messages) }
+        ensures priorities { OnOk result (ready.new.priorities ≡ ready.old.priorities) }
     {
         while self.passed < self.sorted.len() && self.sorted[self.passed].0 <= now {
             let m = self.sorted[self.passed].1;

@@ -1,6 +1,7 @@
 //! What is to be planned: the messages of a trace with their needs.
 
-ghost use Rattle.std.specs.Prelude.{◌≡◌, ◌<◌, length, IfOk};
+ghost use Rattle.std.specs.Prelude.{◌≡◌, length, IfOk};
+ghost use Rattle.waff_plan.specs.Bound.{IsWorkers};
 ghost use Rattle.waff_order.specs.Needs.{AreLists};
 ghost use Rattle.waff_list.specs.Trails.{AreLinked, trails};
 ghost use Rattle.waff_list.specs.Waiting.{AreDependents};
@@ -10,30 +11,40 @@ use std::alloc::{AllocError, Global};
 use waff_model::Trace;
 use waff_order::Needs;
 
-/// The messages of a trace, the needs of each, and those that need each.
+/// The messages of a trace, the needs of each, those that need each, and how many workers there are.
 #[derive(Drop)]
 pub(crate) struct Task<'a> {
     pub needs: &'a Needs,
     pub trace: &'a Trace,
     pub dependents: Dependents,
+    pub workers: u32,
     ghost lists: { AreLists needs.now },
     ghost lengths: { length needs.now ≡ length trace.now.messages },
     ghost linked: { AreLinked dependents },
     ghost told: { AreDependents needs.now (trails dependents) (length needs.now) },
+    ghost some: { IsWorkers workers },
 }
 
 impl<'a> Task<'a> {
-    /// The messages of this trace with these needs.
-    pub fn new(alloc: Global, needs: &'a Needs, trace: &'a Trace) -> Result<Self, AllocError>
-        requires { length needs.now ≡ length trace.now.messages }
+    /// The messages of this trace with these needs, for `k` workers.
+    pub fn new(
+        alloc: Global,
+        needs: &'a Needs,
+        trace: &'a Trace,
+        k: u32,
+    ) -> Result<Self, AllocError>
+        requires lengths { length needs.now ≡ length trace.now.messages }
+        requires workers { IsWorkers k }
         ensures needs { IfOk result (λ task. task.needs.now ≡ needs.entry.now) }
         ensures trace { IfOk result (λ task. task.trace.now ≡ trace.entry.now) }
+        ensures workers { IfOk result (λ task. task.workers ≡ k) }
     {
         let dependents = Dependents::of_needs(alloc, needs)?;
         Ok(Task {
             needs,
             trace,
             dependents,
+            workers: k,
         })
     }
 }

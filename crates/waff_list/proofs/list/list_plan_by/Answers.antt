@@ -2,7 +2,7 @@
 use Rattle.std.proofs.Common.{◌≡◌, [], ap, ◌∙◌, Result, Ok, Err, IfOk}
 use Rattle.waff_assign.specs.Order.{Path}
 use Rattle.waff_order.specs.Needs.{IsNeed}
-use Rattle.waff_list.specs.Waiting.{priority_of}
+use Rattle.waff_list.specs.Load.{priority_of}
 use Rattle.waff_list.proofs.list.list_plan_by.Goals as goal
 use Rattle.waff_list.proofs.list.list_plan_by.Goals.{in-Arrival, in-Longest+in_ok-priorities-in-Longest}
 

@@ -2,7 +2,7 @@ use Rattle.std.proofs.Common.{◌∙◌, ap}
 use Rattle.waff_plan.specs.Timing.{start_of}
 use Rattle.waff_order.specs.Needs.{IsNeed}
 use Rattle.waff_list.specs.Progress.{work_of_messages}
-use Rattle.waff_list.specs.Waiting.{priority_of}
+use Rattle.waff_list.specs.Load.{priority_of}
 use Rattle.waff_list.proofs.PathPlans.{plan_over_paths}
 use Rattle.waff_list.proofs.list.planned.Goals as goal
 

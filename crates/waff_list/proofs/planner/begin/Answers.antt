@@ -1,89 +1,73 @@
-use Rattle.std.proofs.Common.{◌≡◌, ℕ, ◌-◌, ◌≤◌, inr, List, [], length, replicate, arith, sym, ◌∙◌, ap, subst}
-use Rattle.std.proofs.lemmas.List.{get_or-replicate, length-map, length-replicate}
-use Rattle.waff_plan.specs.Work.{Work, IsNumber}
+use Rattle.std.proofs.Common.{◌≡◌, ℕ, List, [], length, get_or, replicate, arith, sym, ◌∙◌, ap, subst}
+use Rattle.std.proofs.lemmas.List.{append-nil, get_or_default, length-map}
+use Rattle.waff_model.specs.Numbers.{IsAmongFirst}
+use Rattle.waff_plan.specs.Work.{IsNumber}
 use Rattle.waff_plan.specs.Timing.{start_of}
-use Rattle.waff_order.specs.Needs.{IsNeed}
-use Rattle.waff_list.specs.Progress.{work_of_messages, IsProgress}
-use Rattle.waff_list.specs.Waiting.{priority_of, AreFirst, AreReady, AreReleases, ArePassed, Admits, AreLeft, AreFinishes}
+use Rattle.waff_list.specs.Planning.{load_of, placed_in}
+use Rattle.waff_list.specs.Progress.{IsProgress}
+use Rattle.waff_list.specs.Waiting.{AreEach, AreReady, AreReleases, ArePassed, AreLeft, AreManned, IsPassed, StayReady}
 use Rattle.waff_list.specs.declared.work.TheConstants.{NEVER}
-use Rattle.waff_list.proofs.TraceWork.{count_is, needs_forward}
-use Rattle.waff_list.proofs.Progressing.{progress_none}
 use Rattle.waff_list.proofs.CountLemmas.{left_none}
+use Rattle.waff_list.proofs.Each.{contains_map}
 use Rattle.waff_list.proofs.FinishLemmas.{finishes_none}
-use Rattle.waff_list.proofs.IdleLemmas.{idle_none}
-use Rattle.waff_list.proofs.WakeLemmas.{AreKnown, ready_none, ready_pass}
+use Rattle.waff_list.proofs.Making.{never_at, progress_none}
+use Rattle.waff_list.proofs.TraceWork.{count_is, lengths_of, forward_of}
+use Rattle.waff_list.proofs.Waking.{ready_none, ready_of_passed}
 use Rattle.waff_list.proofs.planner.begin.Goals as goal
-
--- nothing is placed at the beginning
-never_at : (work : Work) (m : ℕ) → IsNumber work m → start_of (replicate work.count NEVER) m ≡ NEVER
-never_at work m number =
-    let from : 1 ≤ m = number.from in
-    let to : m ≤ work.count = number.to in
-    get_or-replicate work.count (m - 1) NEVER 0 (omega arith)
 
 pub go_on-done-requires : goal.go_on-done-requires
 go_on-done-requires c =
-    let needs = c.args.task.now.needs.now in
-    let messages = c.args.task.now.trace.now.messages in
-    let before = IsNeed needs in
-    let priority = priority_of c.args.waiting.now.ready.priorities in
-    let work = work_of_messages messages in
-    let same : length needs ≡ work.count = c.args.task.now.lengths ∙ sym (count_is messages) in
-    let forward = needs_forward needs work c.args.task.now.lists same in
+    let task = c.args.task.now in
+    let load = load_of task c.args.waiting.now.ready.priorities in
+    let work = load.work in
+    let same = lengths_of task in
+    let forward = forward_of task in
     let count : c.len.result ≡ work.count = c.len.ensures.count ∙ same in
-    let few = c.args.task.now.lists.few in
     let h = c.in_ok-progress.ensures in
-    let free : length c.in_ok-progress.progress.free_at.items ≡ c.args.k = ap length h.free_at ∙ length-replicate c.args.k 0 in
+    let p = c.in_ok-progress.progress in
     let sorted = c.in_ok-releases.releases.sorted.items in
     let are : AreReleases work sorted = c.in_ok-releases.ensures.releases in
     let pass = c.in_ok-pass.ensures in
     let none : c.in_ok-releases.releases.passed ≡ 0 = c.in_ok-releases.ensures.none in
     let passed : ArePassed sorted c.pass.new.self.passed 0 = pass.passed (λ i d early inside. absurd (omega (arith, none))) in
-    let p = c.in_ok-progress.progress in
-    let start = start_of p.starts.items in
     let starts : p.starts.items ≡ replicate work.count NEVER = h.starts ∙ ap (λ n. replicate n NEVER) count in
-    let never = λ (m : ℕ) (number : IsNumber work m). subst (λ xs. start_of xs m ≡ NEVER) (sym starts) (never_at work m number) in
+    let never = λ (m : ℕ) (number : IsNumber (load_of c.args.task.now c.args.waiting.now.ready.priorities).work m).
+    subst (λ xs. start_of xs m ≡ NEVER) (sym starts) (never_at load forward m number) in
     let left : List ℕ = c.args.waiting.now.left.items in
-    let counts : AreLeft needs start [] left = subst (λ xs. AreLeft needs start [] xs) (sym c.requires.left) (left_none needs work forward same start never) in
-    let running = finishes_none work start never in
-    let admits : Admits sorted c.in_ok-releases.releases.passed c.pass.new.self.passed left c.args.waiting.now.ready c.pass.new.ready
-    = subst (λ xs. Admits sorted c.in_ok-releases.releases.passed c.pass.new.self.passed xs c.args.waiting.now.ready c.pass.new.ready) c.as_slice.ensures.value pass.admits in
-    let known : AreKnown needs work start 0 [] left
-    = record { short = omega arith; running = running; counts = counts; placed = λ m number. inr (never m number) } in
-    let ready = ready_pass needs work forward same start 0 0 [] sorted left c.args.waiting.now.ready c.pass.new.ready c.in_ok-releases.releases.passed c.pass.new.self.passed
-    (omega arith) known are (λ i d early inside. absurd (omega (arith, none))) passed admits
-    (subst (λ xs. AreReady before work start 0 0 xs) (sym c.requires.ready) (ready_none before work start)) in
-    let progress : IsProgress before priority work c.args.k p.starts.items p.seats.items p.free_at.items p.order.items 0 1 0
-    = rw (h.starts, h.seats, h.free_at, h.order, count) (progress_none before priority work c.args.k forward (omega (arith, few))) in
+    let counts : AreLeft load.needs (start_of p.starts.items) [] left
+    = subst (λ xs. AreLeft load.needs (start_of p.starts.items) [] xs) (sym c.requires.left) (left_none load.needs work forward same (start_of p.starts.items) never) in
+    let ready : AreReady work (IsPassed sorted c.in_ok-releases.releases.passed) left [] c.args.waiting.now.ready.messages
+    = rw (none, c.requires.ready) (ready_none work sorted left) in
+    let stay : StayReady work (IsPassed sorted c.in_ok-releases.releases.passed) left c.args.waiting.now.ready.messages (IsPassed sorted c.pass.new.self.passed) left c.pass.new.ready.messages
+    = subst (λ xs. StayReady work (IsPassed sorted c.in_ok-releases.releases.passed) xs c.args.waiting.now.ready.messages (IsPassed sorted c.pass.new.self.passed) xs c.pass.new.ready.messages)
+    c.as_slice.ensures.value (pass.ready work are) in
+    let manned : AreManned task.workers p.seats.items [] p.idle = subst (λ xs. AreEach (IsAmongFirst task.workers) xs) (sym (append-nil p.idle)) h.idle in
+    let progress : IsProgress load (placed_in p) 0 1 0 = rw (h.starts, h.seats, h.order, count) (progress_none load forward (omega (arith, task.lists.few))) in
     record {
-      begun = rw pass.admits.same
-          (subst (λ n. IsProgress before priority work n p.starts.items p.seats.items p.free_at.items p.order.items 0 1 0) (sym free) progress);
-      kept = record {
-        finishes = subst (λ (xs : List (ℕ × ℕ)). AreFinishes work start 0 xs) (sym h.finishes) running;
-        idle = idle_none p.free_at.items p.idle 0 (subst (λ n. AreFirst n p.idle) (sym free) h.idle);
-        left = subst (λ (xs : List (ℕ × ℕ)). AreLeft needs start xs left) (sym h.finishes) counts;
-        ready = ready;
-      };
+      begun = rw pass.priorities progress;
+      kept = rw (pass.priorities, h.finishes, h.order) (record {
+        finishes = finishes_none work (start_of p.starts.items) never;
+        manned = manned;
+        left = counts;
+        ready = ready_of_passed work sorted c.pass.new.self.passed 0 are passed left [] c.pass.new.ready.messages (stay [] ready);
+      });
       releases = rw pass.sorted are;
       passed = rw pass.sorted passed;
       small = c.in_ok-releases.ensures.small;
-      workers = omega (arith, free, c.requires.workers.from);
     }
 
 pub pass-requires : goal.pass-requires
 pass-requires c =
     let task = c.args.task.now in
+    let sorted = c.in_ok-releases.releases.sorted.items in
     record {
       within = omega (arith, c.in_ok-releases.ensures.none);
       messages = λ k d inside.
-          let listed = c.in_ok-releases.ensures.releases.only k d inside in
-          let from = listed.0.from in
-          let to = listed.0.to in
+          let r = get_or sorted k d in
+          let number = c.in_ok-releases.ensures.releases.messages.only r.1 (contains_map (λ (s : ℕ × ℕ). s.1) sorted r (k, inside, get_or_default sorted k r d inside)) in
           let left = ap length c.as_slice.ensures.value ∙ ap length c.requires.left ∙ length-map task.needs.now length in
-          (from, omega (arith, to, count_is task.trace.now.messages, task.lengths, left));
+          record { from = number.from; to = omega (arith, number.to, count_is task.trace.now.messages, task.lengths, left) };
     }
 
 pub returns-in-Ok : goal.returns-in-Ok
-returns-in-Ok c =
-    let free : length c.in_ok-progress.progress.free_at.items ≡ c.args.k = ap length c.in_ok-progress.ensures.free_at ∙ length-replicate c.args.k 0 in
-    rw (c.in_ok-pass.ensures.admits.same, free) at c.in-Ok.ensures
+returns-in-Ok c = rw c.in_ok-pass.ensures.priorities at c.in-Ok.ensures

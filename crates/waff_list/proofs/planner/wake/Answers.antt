@@ -1,104 +1,81 @@
-use Rattle.std.proofs.Common.{◌≡◌, ℕ, suc, List, sym, ◌-◌, ◌<◌, ◌≤◌, ◌⊎◌, inl, inr, ◌∷◌, length, get_or, Contains, arith, refl, ap, subst, ⊎_elim}
+use Rattle.std.proofs.Common.{◌≡◌, ℕ, List, sym, ◌∙◌, ◌<◌, ◌≤◌, ◌⊎◌, inl, inr, ◌∷◌, ◌++◌, length, map, Contains, arith, ap, subst, ⊎_elim}
 use Rattle.std.proofs.lemmas.List.Elements.{All-contains}
 use Rattle.std.proofs.lemmas.List.Sorted.{IsPermutation-sym, Contains-permutation, length_permutation, sum_by_popped}
-use Rattle.waff_plan.specs.Work.{IsNumber}
+use Rattle.waff_model.specs.Numbers.{IsAmongFirst}
 use Rattle.waff_order.specs.Needs.{needs_of}
-use Rattle.waff_list.specs.Progress.{work_of_messages}
-use Rattle.waff_list.specs.Waiting.{AreFreed, times}
-use Rattle.waff_list.proofs.TraceWork.{count_is}
-use Rattle.waff_list.proofs.FinishLemmas.{contains_rest_of}
-use Rattle.waff_list.proofs.WakingLemmas.{wakes_join}
+use Rattle.waff_list.specs.Seating.{worker_of}
+use Rattle.waff_list.specs.Waiting.{AreManned, times}
+use Rattle.waff_list.proofs.Each.{contains_first, contains_more, contains_rest_of, each_moved, manned_less}
 use Rattle.waff_list.proofs.planner.wake.Goals as goal
+use Rattle.waff_list.proofs.planner.wake.Goals.{In-Some}
+
+-- the message that is taken out ran
+abbrev popped : In-Some → ℕ × ℕ
+popped c = (c.in-Some.ensures.0, c.in-Some.m)
+
+was : (c : In-Some) → (r : ℕ × ℕ) → Contains (popped c ∷ c.pop_by.new.self) r → Contains c.loop-m.finishes r
+was c r there = Contains-permutation (popped c ∷ c.pop_by.new.self) c.loop-m.finishes r (IsPermutation-sym c.loop-m.finishes (popped c ∷ c.pop_by.new.self) c.in-Some.ensures.2) there
+
+number : (c : In-Some) → IsAmongFirst (length c.args.task.now.needs.now) c.in-Some.m
+number c = All-contains (λ (r : ℕ × ℕ). IsAmongFirst (length c.args.task.now.needs.now) r.1) c.args.finishes.now (popped c) c.requires.counted.numbers
+    (c.loop-m.invariant.only (popped c) (was c (popped c) (contains_first (popped c) c.pop_by.new.self)))
 
 pub overflow_sub-m : goal.overflow_sub-m
-overflow_sub-m c =
-    let popped = c.in-Some.ensures in
-    let pair : ℕ × ℕ = (popped.0, c.in-Some.m) in
-    let there = Contains-permutation (pair ∷ c.pop_by.new.self) c.loop-m.finishes pair
-    (IsPermutation-sym c.loop-m.finishes (pair ∷ c.pop_by.new.self) popped.2) (0, omega arith, refl) in
-    let number = All-contains (λ (r : ℕ × ℕ). IsNumber (work_of_messages c.args.task.now.trace.now.messages) r.1) c.args.finishes.now pair c.requires.counted.numbers
-    (c.loop-m.invariant.only pair there) in
-    number.from
+overflow_sub-m c = (number (goal.at.overflow_sub-m c).In-Some).from
 
 pub bounds-seats-m : goal.bounds-seats-m
 bounds-seats-m c =
-    let popped = c.in-Some.ensures in
-    let pair : ℕ × ℕ = (popped.0, c.in-Some.m) in
-    let there = Contains-permutation (pair ∷ c.pop_by.new.self) c.loop-m.finishes pair
-    (IsPermutation-sym c.loop-m.finishes (pair ∷ c.pop_by.new.self) popped.2) (0, omega arith, refl) in
-    let number = All-contains (λ (r : ℕ × ℕ). IsNumber (work_of_messages c.args.task.now.trace.now.messages) r.1) c.args.finishes.now pair c.requires.counted.numbers
-    (c.loop-m.invariant.only pair there) in
-    let from = number.from in
-    let to = number.to in
-    omega (arith, from, to, c.requires.seats, count_is c.args.task.now.trace.now.messages)
+    let known = number (goal.at.bounds-seats-m c).In-Some in
+    omega (arith, known.from, known.to, c.requires.seats, c.args.task.now.lengths)
 
 pub tell_all-requires-clause-number : goal.tell_all-requires-clause-number
-tell_all-requires-clause-number c =
-    let popped = c.in-Some.ensures in
-    let pair : ℕ × ℕ = (popped.0, c.in-Some.m) in
-    let there = Contains-permutation (pair ∷ c.pop_by.new.self) c.loop-m.finishes pair
-    (IsPermutation-sym c.loop-m.finishes (pair ∷ c.pop_by.new.self) popped.2) (0, omega arith, refl) in
-    All-contains (λ (r : ℕ × ℕ). IsNumber (work_of_messages c.args.task.now.trace.now.messages) r.1) c.args.finishes.now pair c.requires.counted.numbers
-    (c.loop-m.invariant.only pair there)
+tell_all-requires-clause-number c = number (goal.at.tell_all-requires-clause-number c).In-Some
 
 pub tell_all-requires-clause-counts : goal.tell_all-requires-clause-counts
 tell_all-requires-clause-counts c = λ d from to.
-    let popped = c.in-Some.ensures in
     let xs = needs_of c.args.task.now.needs.now d in
-    let part = sum_by_popped (λ (r : ℕ × ℕ). times r.1 xs) (popped.0, c.in-Some.m) c.loop-m.finishes c.pop_by.new.self popped.2 in
+    let part = sum_by_popped (λ (r : ℕ × ℕ). times r.1 xs) (popped (goal.at.tell_all-requires-clause-counts c).In-Some) c.loop-m.finishes c.pop_by.new.self c.in-Some.ensures.2 in
     omega (arith, part, c.loop-m.invariant.counts d from to, c.requires.counted.counts d from to)
 
 pub loop-m-smaller : goal.loop-m-smaller
 loop-m-smaller c =
-    let popped = c.in-Some.ensures in
-    let pair : ℕ × ℕ = (popped.0, c.in-Some.m) in
-    let long : length (pair ∷ c.pop_by.new.self) ≡ length c.loop-m.finishes = length_permutation c.loop-m.finishes (pair ∷ c.pop_by.new.self) popped.2 in
+    let pair = popped (goal.at.loop-m-smaller c).In-Some in
+    let long : length (pair ∷ c.pop_by.new.self) ≡ length c.loop-m.finishes = length_permutation c.loop-m.finishes (pair ∷ c.pop_by.new.self) c.in-Some.ensures.2 in
     let less : length c.pop_by.new.self < length c.loop-m.finishes = omega (arith, long) in
     less
 
 pub loop-m-preserved : goal.loop-m-preserved
 loop-m-preserved c =
-    let popped = c.in-Some.ensures in
+    let f = (goal.at.loop-m-preserved c).In-Some in
+    let pair = popped f in
     let h = c.loop-m.invariant in
-    let pair : ℕ × ℕ = (popped.0, c.in-Some.m) in
     let old = c.loop-m.finishes in
     let new = c.pop_by.new.self in
     let told = c.in_ok-tell_all.ensures in
     let seats = c.args.seats.now in
-    let joins = c.in_ok-push.ensures in
     record {
       counts = λ d from to.
           let xs = needs_of c.args.task.now.needs.now d in
-          let part = sum_by_popped (λ (r : ℕ × ℕ). times r.1 xs) pair old new popped.2 in
+          let part = sum_by_popped (λ (r : ℕ × ℕ). times r.1 xs) pair old new c.in-Some.ensures.2 in
           omega (arith, part, h.counts d from to, told.counts d from to);
-      wakes = wakes_join (work_of_messages c.args.task.now.trace.now.messages) c.args.now c.args.waiting.now c.loop-m.waiting c.tell_all.new.waiting h.wakes told.wakes;
+      wakes = record {
+        count = told.wakes.count ∙ h.wakes.count;
+        ready = λ order ready. told.wakes.ready order (h.wakes.ready order ready);
+        same = told.wakes.same ∙ h.wakes.same;
+      };
       kept = λ (r : ℕ × ℕ) there. ⊎_elim {C = (r.0 ≤ c.args.next) ⊎ Contains new r}
           (λ (done : r.0 ≤ c.args.next). inl done)
-          (λ (was : Contains old r).
+          (λ (ran : Contains old r).
           ⊎_elim {C = (r.0 ≤ c.args.next) ⊎ Contains new r}
           (λ (still : Contains new r). inr still)
-          (λ (same : r ≡ pair). let at = ap (λ (s : ℕ × ℕ). s.0) same in let done : r.0 ≤ c.args.next = omega (arith, at, popped.1) in inl done)
-          (contains_rest_of pair r new (Contains-permutation old (pair ∷ new) r popped.2 was)))
+          (λ (same : r ≡ pair). let at = ap (λ (s : ℕ × ℕ). s.0) same in let done : r.0 ≤ c.args.next = omega (arith, at, c.in-Some.ensures.1) in inl done)
+          (contains_rest_of pair r new (Contains-permutation old (pair ∷ new) r c.in-Some.ensures.2 ran)))
           (h.kept r there);
-      only = λ (r : ℕ × ℕ) there.
-          let within = there.1 in
-          h.only r (Contains-permutation (pair ∷ new) old r (IsPermutation-sym old (pair ∷ new) popped.2) (suc there.0, omega (arith, within), there.2));
-      freed = record {
-        kept = λ w there. joins.kept w (h.freed.kept w there);
-        freed = λ (r : ℕ × ℕ) there. ⊎_elim {C = Contains new r ⊎ Contains c.push.new.self (get_or seats (r.1 - 1) 0)}
-            (λ (was : Contains old r).
-            ⊎_elim {C = Contains new r ⊎ Contains c.push.new.self (get_or seats (r.1 - 1) 0)}
-            (λ (still : Contains new r). inl still)
-            (λ (same : r ≡ pair). inr (subst (λ (s : ℕ × ℕ). Contains c.push.new.self (get_or seats (s.1 - 1) 0)) (sym same) joins.here))
-            (contains_rest_of pair r new (Contains-permutation old (pair ∷ new) r popped.2 was)))
-            (λ (idle : Contains c.loop-m.idle (get_or seats (r.1 - 1) 0)). inr (joins.kept (get_or seats (r.1 - 1) 0) idle))
-            (h.freed.freed r there);
-        only = λ w there. ⊎_elim {C = Contains c.args.idle.now w ⊎ ((r : ℕ × ℕ) × Contains c.args.finishes.now r × (w ≡ get_or seats (r.1 - 1) 0))}
-            (λ (was : Contains c.loop-m.idle w). h.freed.only w was)
-            (λ (same : w ≡ get_or seats (c.in-Some.m - 1) 0).
-            inr (pair, h.only pair (Contains-permutation (pair ∷ new) old pair (IsPermutation-sym old (pair ∷ new) popped.2) (0, omega arith, refl)), same))
-            (joins.only w there);
-      };
+      only = λ (r : ℕ × ℕ) there. h.only r (was f r (contains_more pair r new there));
+      manned = λ workers at_first.
+          let run = λ (r : ℕ × ℕ). worker_of seats r.1 in
+          each_moved (IsAmongFirst workers) (c.loop-m.idle ++ map run old) (h.manned workers at_first) (c.push.new.self ++ map run new)
+          (manned_less run c.loop-m.idle old pair new c.push.new.self c.in-Some.ensures.2 c.in_ok-push.ensures);
     }
 
 pub returns-clause-finished : goal.returns-clause-finished
@@ -109,14 +86,14 @@ returns-clause-finished c =
     record {
       kept = λ (r : ℕ × ℕ) there. ⊎_elim {C = (r.0 ≤ c.args.next) ⊎ Contains c.pop_by.new.self r}
           (λ (done : r.0 ≤ c.args.next). inl done)
-          (λ (was : Contains old r). inr (subst (λ (xs : List (ℕ × ℕ)). Contains xs r) (sym none.0) was))
+          (λ (ran : Contains old r). inr (subst (λ (xs : List (ℕ × ℕ)). Contains xs r) (sym none.0) ran))
           (h.kept r there);
       only = λ (r : ℕ × ℕ) there.
-          let was = subst (λ (xs : List (ℕ × ℕ)). Contains xs r) none.0 there in
-          (h.only r was, All-contains (λ (s : ℕ × ℕ). c.args.next < s.0) old r none.1 was);
+          let ran = subst (λ (xs : List (ℕ × ℕ)). Contains xs r) none.0 there in
+          (h.only r ran, All-contains (λ (s : ℕ × ℕ). c.args.next < s.0) old r none.1 ran);
     }
 
-pub returns-clause-freed : goal.returns-clause-freed
-returns-clause-freed c =
+pub returns-clause-manned : goal.returns-clause-manned
+returns-clause-manned c = λ workers at_first.
     let none = c.in_default.ensures in
-    subst (λ (xs : List (ℕ × ℕ)). AreFreed c.args.seats.now c.args.finishes.now xs c.args.idle.now c.loop-m.idle) (sym none.0) c.loop-m.invariant.freed
+    subst (λ (xs : List (ℕ × ℕ)). AreManned workers c.args.seats.now xs c.loop-m.idle) (sym none.0) (c.loop-m.invariant.manned workers at_first)

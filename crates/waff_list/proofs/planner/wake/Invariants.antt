@@ -1,6 +1,6 @@
 use Rattle.std.proofs.Common.{ℕ, ◌≤◌, ◌⊎◌, length, Contains}
 use Rattle.waff_list.specs.Progress.{work_of_messages}
-use Rattle.waff_list.specs.Waiting.{AreFreed, FallAlike}
+use Rattle.waff_list.specs.Waiting.{AreManned, FallAlike}
 use Rattle.waff_list.specs.Planning.{Wakes}
 use Rattle.waff_list.proofs.planner.wake.Given as goal
 
@@ -10,7 +10,7 @@ invariant-loop-m l = record {
   wakes : Wakes (work_of_messages l.task.trace.now.messages) l.now l.initial.waiting l.waiting;
   kept : (r : ℕ × ℕ) → Contains l.initial.finishes r → (r.0 ≤ l.next) ⊎ Contains l.finishes r;
   only : (r : ℕ × ℕ) → Contains l.finishes r → Contains l.initial.finishes r;
-  freed : AreFreed l.seats l.initial.finishes l.finishes l.initial.idle l.idle;
+  manned : (workers : ℕ) → AreManned workers l.seats l.initial.finishes l.initial.idle → AreManned workers l.seats l.finishes l.idle;
 }
 
 abbrev pub decreases-loop-m : goal.decreases-loop-m

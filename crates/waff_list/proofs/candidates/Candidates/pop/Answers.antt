@@ -5,8 +5,9 @@ use Rattle.std.proofs.lemmas.List.{nil_from_length}
 use Rattle.std.proofs.lemmas.List.Elements.{All-map, All-head, All-tail, All-contains, All-from_recursion}
 use Rattle.std.proofs.lemmas.List.Sorted.{IsPermutation-map, All-permutation}
 use Rattle.waff_list.specs.ListRule.{IsTakenFirst}
-use Rattle.waff_list.specs.Waiting.{Ready, LeavesFirst, priority_of}
-use Rattle.waff_list.proofs.ReadyLemmas.{leaves_of, first_of}
+use Rattle.waff_list.specs.Load.{priority_of}
+use Rattle.waff_list.specs.Waiting.{Ready, LeavesFirst}
+use Rattle.waff_list.proofs.Choosing.{first_of}
 use Rattle.waff_list.proofs.OrderingLemmas.{not_less_then}
 use Rattle.waff_list.proofs.candidates.Candidates.pop.Goals as goal
 use Rattle.waff_list.proofs.candidates.Candidates.pop.Goals.{in-Some, in-None}
@@ -40,7 +41,7 @@ returns c = elim c.match-pop.branch [
       rw w.result-is
       (subst (λ (old : Ready). LeavesFirst old m (record { messages = map (λ (r : ℕ × Reverse ℕ). r.1.0) new; priorities = listed })) c.self.view_is
       (record {
-        leaves = leaves_of _ m _ (IsPermutation-map (λ (r : ℕ × Reverse ℕ). r.1.0) _ _ w.in-Some.ensures.permutation);
+        rest = (IsPermutation-map (λ (r : ℕ × Reverse ℕ). r.1.0) _ _ w.in-Some.ensures.permutation);
         first = λ x there. All-contains (λ y. (y ≡ m) ⊎ IsTakenFirst (priority_of listed) m y) (map (λ (r : ℕ × Reverse ℕ). r.1.0) new) x first there;
         same = refl;
       }))

@@ -1,10 +1,11 @@
-use Rattle.std.proofs.Common.{◌≡◌, ℕ, map, sym, ◌∙◌, ap, subst}
+use Rattle.std.proofs.Common.{◌≡◌, ℕ, ◌∷◌, map, sym, ◌∙◌, ap, subst}
 use Rattle.std.specs.BinaryHeap.{heap_items}
 use Rattle.std.specs.declared.cmp.Reverse.{Reverse}
 use Rattle.std.proofs.lemmas.List.Elements.{All-cons}
 use Rattle.std.proofs.lemmas.List.Sorted.{IsPermutation-map, All-permutation}
-use Rattle.waff_list.specs.Waiting.{Ready, Joins, priority_of}
-use Rattle.waff_list.proofs.ReadyLemmas.{joins_of}
+use Rattle.std.specs.List.Sorted.{IsPermutation}
+use Rattle.waff_list.specs.Load.{priority_of}
+use Rattle.waff_list.specs.Waiting.{Ready}
 use Rattle.waff_list.proofs.candidates.Candidates.push.Goals as goal
 
 pub invariant_of-self-2 : goal.invariant_of-self-2
@@ -18,5 +19,5 @@ invariant_of-self-2 c =
 
 pub returns-clause-joins : goal.returns-clause-joins
 returns-clause-joins c =
-    subst (λ (r : Ready). Joins r.messages c.args.m (map (λ (r : ℕ × Reverse ℕ). r.1.0) (heap_items c.push.new.self))) c.self.view_is
-    (joins_of _ _ _ (IsPermutation-map (λ (r : ℕ × Reverse ℕ). r.1.0) _ _ c.in_ok-push.ensures.permutation))
+    subst (λ (r : Ready). IsPermutation (c.args.m ∷ r.messages) (map (λ (r : ℕ × Reverse ℕ). r.1.0) (heap_items c.push.new.self))) c.self.view_is
+    (IsPermutation-map (λ (r : ℕ × Reverse ℕ). r.1.0) _ _ c.in_ok-push.ensures.permutation)

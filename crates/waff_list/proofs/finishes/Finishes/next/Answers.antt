@@ -3,7 +3,7 @@ use Rattle.std.specs.BinaryHeap.{heap_items}
 use Rattle.std.specs.declared.cmp.Reverse.{Reverse}
 use Rattle.std.proofs.lemmas.List.Elements.{All-map, All-weaker, All-from_recursion}
 use Rattle.waff_list.proofs.OrderingLemmas.{not_less_first}
-use Rattle.waff_list.proofs.FinishLemmas.{contains_map}
+use Rattle.waff_list.proofs.Each.{contains_map}
 use Rattle.waff_list.proofs.finishes.Finishes.next.Goals as goal
 
 pub returns-in-Some-clause-least : goal.returns-in-Some-clause-least
@@ -19,4 +19,4 @@ pub returns-in-Some-clause-one : goal.returns-in-Some-clause-one
 returns-in-Some-clause-one c =
     let items = heap_items c.self.inside.heap in
     let top = c.in-Some.field-0.now.0 in
-    inr (top.1, subst (λ (xs : List (ℕ × ℕ)). Contains xs top) c.self.view_is (contains_map items c.in-Some.field-0.now (0, c.in-Some.ensures.item.3.0, sym c.in-Some.ensures.lookup)))
+    inr (top.1, subst (λ (xs : List (ℕ × ℕ)). Contains xs top) c.self.view_is (contains_map (λ (r : Reverse (ℕ × ℕ)). r.0) items c.in-Some.field-0.now (0, c.in-Some.ensures.item.3.0, sym c.in-Some.ensures.lookup)))

@@ -7,7 +7,7 @@ use Rattle.std.proofs.lemmas.List.Elements.{All-map, All-weaker, All-from_recurs
 use Rattle.std.proofs.lemmas.List.Sorted.{IsPermutation-map, Contains-permutation}
 use Rattle.waff_list.specs.declared.work.TheConstants.{NEVER}
 use Rattle.waff_list.proofs.OrderingLemmas.{not_less_first}
-use Rattle.waff_list.proofs.FinishLemmas.{contains_rest_of}
+use Rattle.waff_list.proofs.Each.{contains_rest_of}
 use Rattle.waff_list.proofs.finishes.Finishes.pop_by.Goals as goal
 use Rattle.waff_list.proofs.finishes.Finishes.pop_by.Goals.{in-Some, in-None}
 

@@ -5,7 +5,6 @@ use Rattle.std.proofs.lemmas.List.{nil_from_length}
 use Rattle.std.proofs.lemmas.List.Elements.{All-map, All-weaker, All-from_recursion, All-contains}
 use Rattle.std.proofs.lemmas.List.Sorted.{IsPermutation-map}
 use Rattle.waff_list.specs.Waiting.{LeavesLeast}
-use Rattle.waff_list.proofs.ReadyLemmas.{leaves_of}
 use Rattle.waff_list.proofs.OrderingLemmas.{not_less}
 use Rattle.waff_list.proofs.idle.Idle.pop.Goals as goal
 use Rattle.waff_list.proofs.idle.Idle.pop.Goals.{in-Some, in-None}
@@ -20,7 +19,7 @@ returns c = elim c.match-pop.branch [
       rw w.result-is
       (subst (λ xs. LeavesLeast xs m (map (λ (r : Reverse ℕ). r.0) new)) c.self.view_is
       (record {
-        leaves = leaves_of _ m _ (IsPermutation-map (λ (r : Reverse ℕ). r.0) _ _ w.in-Some.ensures.permutation);
+        rest = (IsPermutation-map (λ (r : Reverse ℕ). r.0) _ _ w.in-Some.ensures.permutation);
         least = λ x there. All-contains (λ y. m ≤ y) (map (λ (r : Reverse ℕ). r.0) new) x (All-map (λ y. m ≤ y) (λ (r : Reverse ℕ). r.0) new least) there;
       }))
   | in-None w ↦

@@ -1,5 +1,5 @@
 use Rattle.std.proofs.Common.{arith}
-use Rattle.waff_list.proofs.WakeLemmas.{next_release_is, next_release_none}
+use Rattle.waff_list.proofs.Waking.{next_release_is, next_release_none}
 use Rattle.waff_list.proofs.releases.Releases.next.Goals as goal
 
 pub returns-then-self-len : goal.returns-then-self-len

@@ -1,10 +1,19 @@
-use Rattle.std.proofs.Common.{◌≡◌, ◌≢◌, ℕ, ◌<◌, ◌≤◌, length, get_or, arith, sym, ◌∙◌, ap, subst, ⊎_elim}
+use Rattle.std.proofs.Common.{◌≡◌, ◌≢◌, ℕ, ◌<◌, ◌≤◌, length, get_or, arith, refl, sym, ◌∙◌, ap, subst, ⊎_elim}
 use Rattle.std.proofs.lemmas.List.{get_or_read}
 use Rattle.std.proofs.lemmas.Bool.{cases_eq}
-use Rattle.waff_list.specs.Waiting.{left_of}
-use Rattle.waff_list.proofs.WakeLemmas.{passed_more, admits_one, admits_other}
+use Rattle.waff_list.proofs.Waking.{passed_more, passes_ready, passes_other}
 use Rattle.waff_list.proofs.releases.Releases.pass.Goals as goal
 use Rattle.waff_list.proofs.releases.Releases.pass.Goals.{then-left-m-eq0+in_ok-push, else-left-m-eq0}
+
+pub loop-self-init : goal.loop-self-init
+loop-self-init c = record {
+  same = refl;
+  forward = omega arith;
+  within = c.requires.within;
+  released = λ i from before. absurd (omega arith);
+  ready = λ work are order was. was;
+  priorities = refl;
+}
 
 pub loop-self-preserved : goal.loop-self-preserved
 loop-self-preserved c =
@@ -30,13 +39,16 @@ loop-self-preserved c =
           (λ (is : i ≡ passed). subst (λ j. (get_or sorted j (0, 0)).0 ≤ c.args.now) (sym is) (omega arith))
           (λ (other : i ≢ passed). h.released i from (omega arith))
           (cases_eq i passed);
-      admits = elim c.if-left-m-eq0.branch [
+      ready = λ work are order was. elim c.if-left-m-eq0.branch [
         | then-left-m-eq0+in_ok-push w ↦ rw w.ready-is
-            (admits_one sorted c.args.self.now.passed passed left c.args.ready.now c.loop-self.ready inside h.admits c.index-in-loop-self.result.now.1 w.push.new.self message
-            w.if-left-m-eq0.true w.in_ok-push.ensures.joins w.in_ok-push.ensures.priorities)
+            (passes_ready work sorted passed are inside left c.loop-self.ready.messages c.index-in-loop-self.result.now.1 message w.push.new.self.messages
+            w.if-left-m-eq0.true w.in_ok-push.ensures.joins order (h.ready work are order was))
         | else-left-m-eq0 w ↦ rw w.ready-is
-            (admits_other sorted c.args.self.now.passed passed left c.args.ready.now c.loop-self.ready inside h.admits
-            (λ none. w.if-left-m-eq0.false (subst (λ x. left_of left x ≡ 0) (sym message) none)))
+            (passes_other work sorted passed are inside left c.loop-self.ready.messages c.index-in-loop-self.result.now.1 message w.if-left-m-eq0.false order (h.ready work are order was))
+      ];
+      priorities = elim c.if-left-m-eq0.branch [
+        | then-left-m-eq0+in_ok-push w ↦ rw w.ready-is (w.in_ok-push.ensures.priorities ∙ h.priorities)
+        | else-left-m-eq0 w ↦ rw w.ready-is h.priorities
       ];
     }
 

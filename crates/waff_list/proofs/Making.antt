@@ -1,0 +1,642 @@
+-- A list plan while it is made: one message more is placed, the tick has been filled, and the next tick begins.
+use Rattle.std.proofs.Common.{◌≡◌, ◌≢◌, ℕ, zero, suc, ◌+◌, ◌-◌, ◌^◌, ◌<◌, ◌≤◌, ◌⊎◌, inl, inr, false, List, [], ◌∷◌, ◌++◌, length, map, get_or, set, replicate, All, Contains, arith, ap, sym, ◌∙◌, subst, ⊎_elim, get_or-set_same, get_or-set_other, length-set}
+use Rattle.std.specs.List.Sorted.{IsPermutation}
+use Rattle.std.proofs.lemmas.Bool.{cases_lt, cases_eq}
+use Rattle.std.proofs.lemmas.List.{get_or-replicate, length-replicate}
+use Rattle.std.proofs.lemmas.List.Elements.{All-nil, All-push, All-weaker, All-get_or, All-contains, Contains-append_left, Contains-append_cases, Contains-push}
+use Rattle.std.proofs.lemmas.List.Quantifiers.{all_pairs_push}
+use Rattle.waff_assign.specs.Order.{Relation}
+use Rattle.waff_plan.specs.Work.{Work, IsNumber, IsAmongFirst, finish_of}
+use Rattle.waff_plan.specs.Obeys.{IsForward}
+use Rattle.waff_plan.specs.Workers.{runs_at, running}
+use Rattle.waff_plan.specs.Timing.{start_of}
+use Rattle.waff_list.specs.ListRule.{IsReady, IsTakenFirst, IsListPlan}
+use Rattle.waff_list.specs.Load.{Load, Placed, before_in, priority_in}
+use Rattle.waff_list.specs.Seats.{ComesBefore, HoldsWorker, IsSeated}
+use Rattle.waff_list.specs.Seating.{worker_of}
+use Rattle.waff_list.specs.Progress.{IsSettled, IsOrderSoFar, IsProgress, IsNextTick}
+use Rattle.waff_list.specs.Waiting.{AreEach, AreManned, AreFinishes, Runs}
+use Rattle.waff_list.specs.declared.work.TheConstants.{NEVER}
+use Rattle.waff_list.proofs.Each.{each_there, each_moved, each_apart, contains_rest_of, contains_first, contains_map, contains_mapped, manned_more}
+use Rattle.waff_list.proofs.Running.{AreSeatedAt, runs_parts, runs_before_start, runs_after_finish, runs_from, runs_same, running_same, running_none, running_within, running_all, running_fewer}
+
+-- the same numbers but at x, which has y
+pub record IsMovedTo (old new : ℕ → ℕ) (x y : ℕ) : Type 0 where
+  pub here : new x ≡ y
+  pub others : (i : ℕ) → 1 ≤ i → i ≢ x → new i ≡ old i
+
+-- what holds a worker still does, where both start as before
+holds_same : (work : Work) (start later : ℕ → ℕ) (i m : ℕ) → start i ≡ later i → start m ≡ later m → HoldsWorker work start i m → HoldsWorker work later i m
+holds_same work start later i m same_i same_m h =
+    let parts : (start i ≤ start m) × (start m < start i + work.cost i) = runs_parts work start (start m) i h.runs in
+    let begun : start i ≤ start m = parts.0 in
+    let still : start m < start i + work.cost i = parts.1 in
+    record {
+      number = h.number;
+      sooner = ⊎_elim {C = ComesBefore later i m}
+          (λ (before : start i < start m). inl (omega arith))
+          (λ (both : (start i ≡ start m) × (i < m)). inr (omega (arith, both.0), both.1))
+          h.sooner;
+      runs = runs_from work later (later m) i (omega arith) (omega arith);
+    }
+
+module _ (load : Load) (forward : IsForward (before_in load) load.work) where
+  abbrev work : Work
+  work = load.work
+
+  abbrev before : Relation
+  before = before_in load
+
+  abbrev priority : ℕ → ℕ
+  priority = priority_in load
+
+  abbrev k : ℕ
+  k = load.workers
+
+  -- messages that run have been placed, so they have their workers
+  pub seated_at : (start worker : ℕ → ℕ) (now turn end t : ℕ) → IsSettled load start worker now turn end → t ≤ now → AreSeatedAt work k start worker t
+  seated_at start worker now turn end t h early = record {
+    seated = λ m number runs. let begun = runs_parts work start t m runs in let at : start m ≤ t = begun.0 in h.seated m number (omega arith);
+    within = λ m number runs. let begun = runs_parts work start t m runs in let at : start m ≤ t = begun.0 in h.within m number (omega arith);
+  }
+
+  -- the first of a pair is a message
+  pub first_number : (i j : ℕ) → before i j → IsNumber work i
+  first_number i j h =
+      let from : 1 ≤ i = forward.from i j h in
+      let earlier : i < j = forward.earlier i j h in
+      let to : j ≤ work.count = forward.to i j h in
+      record { from = from; to = omega arith }
+
+  pub second_number : (i j : ℕ) → before i j → IsNumber work j
+  second_number i j h =
+      let from : 1 ≤ i = forward.from i j h in
+      let earlier : i < j = forward.earlier i j h in
+      record { from = omega arith; to = forward.to i j h }
+
+  -- the turn goes on
+  pub settled_skip : (start worker : ℕ → ℕ) (now turn next end : ℕ) → turn ≤ next
+      → IsSettled load start worker now turn end → IsSettled load start worker now next end
+  settled_skip start worker now turn next end on h = record {
+    placed = h.placed;
+    turns = λ m number is. let there = h.turns m number is in omega (arith, there);
+    released = h.released;
+    ordered = h.ordered;
+    seated = h.seated;
+    within = h.within;
+    busy = h.busy;
+    in_turn = h.in_turn;
+  }
+
+  -- a message that is ready at now and has not been placed: k run, and it is taken before none that starts at now
+  abbrev pub IsPassedOver : (ℕ → ℕ) → ℕ → Type 0
+  IsPassedOver start now = (m : ℕ) → IsReady before work start now m → now < start m
+      → (running work start now ≡ k) × ((other : ℕ) → IsNumber work other → IsTakenFirst priority m other → start other ≢ now)
+
+  -- the tick has been filled
+  pub settled_filled : (start worker : ℕ → ℕ) (now turn : ℕ) → IsPassedOver start now
+      → IsSettled load start worker now turn now → IsSettled load start worker now turn (now + 1)
+  settled_filled start worker now turn over h = record {
+    placed = h.placed;
+    turns = h.turns;
+    released = h.released;
+    ordered = h.ordered;
+    seated = h.seated;
+    within = h.within;
+    busy = λ t m soon ready waits. ⊎_elim {C = running work start t ≡ k}
+        (λ (past : t < now). h.busy t m past ready waits)
+        (λ (here : now ≤ t).
+        let same : t ≡ now = omega arith in
+        let at = over m (subst (λ x. IsReady before work start x m) same ready) (subst (λ x. x < start m) same waits) in
+        subst (λ x. running work start x ≡ k) (sym same) at.0)
+        (cases_lt t now);
+    in_turn = λ t m other soon ready waits number first is. ⊎_elim {C = ⊥}
+        (λ (past : t < now). h.in_turn t m other past ready waits number first is)
+        (λ (here : now ≤ t).
+        let same : t ≡ now = omega arith in
+        let at = over m (subst (λ x. IsReady before work start x m) same ready) (subst (λ x. x < start m) same waits) in
+        at.1 other number first (is ∙ same))
+        (cases_lt t now);
+  }
+
+  -- from one tick to the next at which a message finishes or is released
+  pub settled_advance : (start worker : ℕ → ℕ) (now next : ℕ) → now < next → next < NEVER
+      → ((m : ℕ) → IsNumber work m → (finish_of work start m ≤ now) ⊎ (next ≤ finish_of work start m))
+      → ((m : ℕ) → IsNumber work m → (work.release m ≤ now) ⊎ (next ≤ work.release m))
+      → IsSettled load start worker now (work.count + 1) (now + 1) → IsSettled load start worker next 1 next
+  settled_advance start worker now next later short finishes releases h =
+      let back = λ (m : ℕ) (number : IsNumber work m) (is : start m ≤ next).
+      ⊎_elim {C = start m ≤ now}
+      (λ (early : start m ≤ now). early)
+      (λ (never : start m ≡ NEVER). absurd (omega arith))
+      (h.placed m number) in
+      record {
+        placed = λ m number. ⊎_elim {C = (start m ≤ next) ⊎ (start m ≡ NEVER)}
+            (λ (early : start m ≤ now). inl (omega arith)) (λ (never : start m ≡ NEVER). inr never) (h.placed m number);
+        turns = λ m number is. let early : start m ≤ now = back m number (omega arith) in absurd (omega arith);
+        released = λ m number is. h.released m number (back m number is);
+        ordered = λ i j pair is. h.ordered i j pair (back j (second_number i j pair) is);
+        seated = λ m number is. h.seated m number (back m number is);
+        within = λ m number is. h.within m number (back m number is);
+        busy = λ t m soon ready waits. busy_between t m soon ready waits;
+        in_turn = λ t m other soon ready waits number first is. ⊎_elim {C = ⊥}
+            (λ (old : t < now + 1). h.in_turn t m other old ready waits number first is)
+            (λ (new : now + 1 ≤ t). let early : start other ≤ now = back other number (omega arith) in omega arith)
+            (cases_lt t (now + 1));
+      }
+    where
+      ready_at_now : (t m : ℕ) → now ≤ t → t < next → IsReady before work start t m → IsReady before work start now m
+      ready_at_now t m from_now before_next ready = record {
+        number = ready.number;
+        released = let released : work.release m ≤ t = ready.released in
+            ⊎_elim {C = work.release m ≤ now} (λ (early : work.release m ≤ now). early) (λ (late : next ≤ work.release m). absurd (omega arith))
+            (releases m ready.number);
+        free = λ i pair. let done : finish_of work start i ≤ t = ready.free i pair in
+            ⊎_elim {C = finish_of work start i ≤ now} (λ (early : finish_of work start i ≤ now). early)
+            (λ (late : next ≤ finish_of work start i). absurd (omega arith))
+            (finishes i (first_number i m pair));
+      }
+
+      runs_like_now : (t m : ℕ) → now ≤ t → t < next → IsNumber work m → runs_at work start t m ≡ runs_at work start now m
+      runs_like_now t m from_now before_next number =
+          ⊎_elim {C = runs_at work start t m ≡ runs_at work start now m}
+          (λ (done : finish_of work start m ≤ now).
+          runs_after_finish work start t m (omega arith) ∙ sym (runs_after_finish work start now m done))
+          (λ (still : next ≤ finish_of work start m).
+          ⊎_elim {C = runs_at work start t m ≡ runs_at work start now m}
+          (λ (begun : start m ≤ now). runs_from work start t m (omega arith) (omega arith) ∙ sym (runs_from work start now m begun (omega arith)))
+          (λ (never : start m ≡ NEVER). runs_before_start work start t m (omega arith) ∙ sym (runs_before_start work start now m (omega arith)))
+          (h.placed m number))
+          (finishes m number)
+
+      busy_between : (t m : ℕ) → t < next → IsReady before work start t m → t < start m → running work start t ≡ k
+      busy_between t m past ready waits =
+          ⊎_elim {C = running work start t ≡ k}
+          (λ (old : t < now). h.busy t m (omega arith) ready waits)
+          (λ (new : now ≤ t).
+          let number : IsNumber work m = ready.number in
+          let bound : m ≤ work.count = number.to in
+          running_same work start start t now (λ i i_number. runs_like_now t i new past i_number)
+          ∙ h.busy now m (omega arith) (ready_at_now t m new past ready) (omega arith))
+          (cases_lt t now)
+
+  -- where no message finishes or is released later, all are placed
+  pub settled_all : (start worker : ℕ → ℕ) (now : ℕ) → 1 ≤ k → now < NEVER → ((m : ℕ) → IsNumber work m → start m ≤ now → finish_of work start m ≤ now)
+      → ((m : ℕ) → IsNumber work m → work.release m ≤ now) → IsSettled load start worker now (work.count + 1) (now + 1)
+      → (bound m : ℕ) → m < bound → IsNumber work m → start m ≤ now
+  settled_all start worker now some short finishes releases h zero m less number = absurd (omega arith)
+  settled_all start worker now some short finishes releases h (suc bound) m less number =
+      ⊎_elim {C = start m ≤ now}
+      (λ (early : start m ≤ now). early)
+      (λ (never : start m ≡ NEVER).
+      let ready : IsReady before work start now m = record {
+        number = number;
+        released = releases m number;
+        free = λ i pair.
+            let first = first_number i m pair in
+            let sooner : i < m = forward.earlier i m pair in
+            finishes i first (settled_all start worker now some short finishes releases h bound i (omega arith) first);
+      } in
+      let to : m ≤ work.count = number.to in
+      let full : running work start now ≡ k = h.busy now m (omega arith) ready (omega arith) in
+      let none : running work start now ≡ 0 = running_none work start now
+      (λ i i_number. ⊎_elim {C = runs_at work start now i ≡ false}
+      (λ (early : start i ≤ now). runs_after_finish work start now i (finishes i i_number early))
+      (λ (other : start i ≡ NEVER). runs_before_start work start now i (omega arith))
+      (h.placed i i_number)) in
+      absurd (omega arith))
+      (h.placed m number)
+
+  -- the plan in which all messages are placed is a list plan
+  pub settled_plan : (start worker : ℕ → ℕ) (now : ℕ) → ((m : ℕ) → IsNumber work m → start m ≤ now)
+      → IsSettled load start worker now (work.count + 1) (now + 1) → IsListPlan before priority work k start
+  settled_plan start worker now all h = record {
+    within = record {
+      obeys = record {
+        released = λ m number. h.released m number (all m number);
+        ordered = λ i j pair. h.ordered i j pair (all j (second_number i j pair));
+      };
+      within = λ t. running_within work k start worker t (record {
+        seated = λ m number runs. h.seated m number (all m number);
+        within = λ m number runs. h.within m number (all m number);
+      });
+    };
+    follows = record {
+      busy = λ t m ready waits. h.busy t m (soon t m ready waits) ready waits;
+      in_turn = λ t m other ready waits. h.in_turn t m other (soon t m ready waits) ready waits;
+    };
+  }
+    where
+      soon : (t m : ℕ) → IsReady before work start t m → t < start m → t < now + 1
+      soon t m ready waits = let early : start m ≤ now = all m ready.number in omega arith
+
+  -- the worker of a message that runs, and where a worker is idle and where none is
+  module _ (start worker : ℕ → ℕ) (now : ℕ) (finishes : List (ℕ × ℕ)) (run : AreFinishes work start now finishes) where
+    its_worker : (m : ℕ) → IsNumber work m → start m ≤ now → now < finish_of work start m → Contains (map (λ r. worker r.1) finishes) (worker m)
+    its_worker m number early late = contains_map (λ r. worker r.1) finishes (finish_of work start m, m) (run.each m number early late)
+
+  module _ (start worker : ℕ → ℕ) (now turn end : ℕ) (settled : IsSettled load start worker now turn end) (finishes : List (ℕ × ℕ)) (idle : List ℕ)
+      (run : AreFinishes work start now finishes) (manned : AreEach (IsAmongFirst k) (idle ++ map (λ r. worker r.1) finishes)) where
+    pub all_run : idle ≡ [] → running work start now ≡ k
+    all_run none = running_all work k start worker now (seated_at start worker now turn end now settled (omega arith))
+        (λ w some less.
+        let there = each_there (IsAmongFirst k) (idle ++ map (λ r. worker r.1) finishes) manned w (record { from = some; to = less }) in
+        let busy = subst (λ free. Contains (free ++ map (λ r. worker r.1) finishes) w) none there in
+        let one = contains_mapped (λ r. worker r.1) finishes w busy in
+        let runs = All-contains (Runs work start now) finishes one.0 run.only one.1 in
+        (one.0.1, runs.0, runs_from work start now one.0.1 runs.1 (subst (λ f. now < f) (sym runs.3) runs.2), one.2))
+
+    pub room_left : (w : ℕ) → Contains idle w → running work start now < k
+    room_left w free =
+        let known = manned.only w (Contains-append_left idle (map (λ r. worker r.1) finishes) w free) in
+        running_fewer work k start worker now (seated_at start worker now turn end now settled (omega arith)) w known.from known.to
+        (λ m number runs same.
+        let parts = runs_parts work start now m runs in
+        each_apart (IsAmongFirst k) idle (map (λ r. worker r.1) finishes) manned w free
+        (subst (λ v. Contains (map (λ r. worker r.1) finishes) v) same (its_worker start worker now finishes run m number parts.0 parts.1)))
+
+  -- a list with one number changed
+  moved_by_set : (xs : List ℕ) (x y : ℕ) → 1 ≤ x → x ≤ length xs → IsMovedTo (start_of xs) (start_of (set xs (x - 1) y)) x y
+  moved_by_set xs x y from to = record {
+    here = get_or-set_same xs (x - 1) y 0 (omega arith);
+    others = λ i i_from other. let apart : i - 1 ≢ x - 1 = omega arith in get_or-set_other xs (x - 1) (i - 1) y 0 apart;
+  }
+
+  -- nothing is placed at the beginning
+  pub never_at : (m : ℕ) → IsNumber work m → start_of (replicate work.count NEVER) m ≡ NEVER
+  never_at m number =
+      let from : 1 ≤ m = number.from in
+      let to : m ≤ work.count = number.to in
+      get_or-replicate work.count (m - 1) NEVER 0 (omega arith)
+
+  module _ (start worker later seats : ℕ → ℕ) (now x w : ℕ) (number : IsNumber work x) (short : now < NEVER) (cost : 1 ≤ work.cost x)
+      (moved : IsMovedTo start later x now) (sat : IsMovedTo worker seats x w)
+      (unplaced : now < start x) (settled : IsSettled load start worker now x now) where
+    never : start x ≡ NEVER
+    never = ⊎_elim {C = start x ≡ NEVER} (λ (early : start x ≤ now). absurd (omega arith)) (λ (is : start x ≡ NEVER). is) (settled.placed x number)
+
+    kept : (m : ℕ) → IsNumber work m → m ≢ x → later m ≡ start m
+    kept m m_number other = moved.others m m_number.from other
+
+    kept_seat : (m : ℕ) → IsNumber work m → m ≢ x → seats m ≡ worker m
+    kept_seat m m_number other = sat.others m m_number.from other
+
+    at_x : later x ≡ now
+    at_x = moved.here
+
+    -- what was placed is another message
+    pub placed_is_other : (m : ℕ) → start m ≤ now → m ≢ x
+    placed_is_other m early same = let at : start m ≡ start x = ap start same in omega arith
+
+    -- and comes before x
+    before_x : (m : ℕ) → IsNumber work m → start m ≤ now → ComesBefore later m x
+    before_x m m_number early =
+        let m_at : later m ≡ start m = kept m m_number (placed_is_other m early) in
+        ⊎_elim {C = ComesBefore later m x}
+        (λ (sooner : start m < now). inl (omega (arith, at_x)))
+        (λ (late : now ≤ start m). inr (omega (arith, at_x), settled.turns m m_number (omega arith)))
+        (cases_lt (start m) now)
+
+    -- what starts by now is x or was placed
+    pub placed_cases : (m : ℕ) → IsNumber work m → later m ≤ now → (m ≡ x) ⊎ ((m ≢ x) × (start m ≤ now))
+    placed_cases m m_number early =
+        ⊎_elim {C = (m ≡ x) ⊎ ((m ≢ x) × (start m ≤ now))}
+        (λ (same : m ≡ x). inl same)
+        (λ (other : m ≢ x). let at : later m ≡ start m = kept m m_number other in inr (other, omega arith))
+        (cases_eq m x)
+
+    -- a message that holds its worker when one that was placed starts is not x
+    holder_is_other : (i m : ℕ) → IsNumber work m → start m ≤ now → HoldsWorker work later i m → i ≢ x
+    holder_is_other i m m_number early holds same =
+        let m_at : later m ≡ start m = kept m m_number (placed_is_other m early) in
+        let i_at : later i ≡ now = ap later same ∙ at_x in
+        ⊎_elim {C = ⊥}
+        (λ (sooner : later i < later m). omega arith)
+        (λ (both : (later i ≡ later m) × (i < m)).
+        let at_now : later i ≡ later m = both.0 in
+        let less : i < m = both.1 in
+        let turn : m < x = settled.turns m m_number (omega arith) in
+        omega arith)
+        holds.sooner
+
+    -- those that were placed keep their workers
+    pub seated_kept : (m : ℕ) → IsNumber work m → start m ≤ now → IsSeated work later seats m
+    seated_kept m m_number early =
+        let other = placed_is_other m early in
+        let seat = settled.seated m m_number early in
+        let m_at : later m ≡ start m = kept m m_number other in
+        let m_seat : seats m ≡ worker m = kept_seat m m_number other in
+        record {
+          from = let some : 1 ≤ worker m = seat.from in omega arith;
+          free = λ i holds same.
+              let i_number = holds.number in
+              let i_other = holder_is_other i m m_number early holds in
+              let i_at : later i ≡ start i = kept i i_number i_other in
+              let i_seat : seats i ≡ worker i = kept_seat i i_number i_other in
+              seat.free i (holds_same work later start i m i_at m_at holds) (sym i_seat ∙ same ∙ m_seat);
+          least = λ v some less.
+              let there = seat.least v some (omega arith) in
+              let i = there.0 in
+              let holds = there.1 in
+              let begun = runs_parts work start (start m) i holds.runs in
+              let i_early : start i ≤ start m = begun.0 in
+              let i_other = placed_is_other i (omega arith) in
+              (i, holds_same work start later i m (sym (kept i holds.number i_other)) (sym m_at) holds, kept_seat i holds.number i_other ∙ there.2);
+        }
+
+    -- what is ready in the new plan by now, and waits, was ready and waited
+    pub ready_back : (t m : ℕ) → t ≤ now → IsReady before work later t m → t < later m → IsReady before work start t m × (t < start m)
+    ready_back t m early ready waits =
+        let m_number = ready.number in
+        let still : t < start m = ⊎_elim {C = t < start m}
+        (λ (same : m ≡ x). let at : start m ≡ NEVER = ap start same ∙ never in omega arith)
+        (λ (other : m ≢ x). let at : later m ≡ start m = kept m m_number other in omega arith)
+        (cases_eq m x) in (
+          record {
+            number = m_number;
+            released = ready.released;
+            free = λ i pair.
+                let i_number = first_number i m pair in
+                let done : later i + work.cost i ≤ t = ready.free i pair in
+                ⊎_elim {C = start i + work.cost i ≤ t}
+                (λ (same : i ≡ x).
+                let at : later i ≡ now = ap later same ∙ at_x in
+                let some : 1 ≤ work.cost i = subst (λ y. 1 ≤ work.cost y) (sym same) cost in
+                absurd (omega arith))
+                (λ (other : i ≢ x). let at : later i ≡ start i = kept i i_number other in omega arith)
+                (cases_eq i x);
+          },
+          still,
+        )
+
+    running_back : (t : ℕ) → t < now → running work later t ≡ running work start t
+    running_back t early = running_same work later start t t (λ m m_number.
+        ⊎_elim {C = runs_at work later t m ≡ runs_at work start t m}
+        (λ (same : m ≡ x).
+        let at : later m ≡ now = ap later same ∙ at_x in
+        let was : start m ≡ NEVER = ap start same ∙ never in
+        runs_before_start work later t m (omega arith) ∙ sym (runs_before_start work start t m (omega arith)))
+        (λ (other : m ≢ x). runs_same work later start t m (kept m m_number other))
+        (cases_eq m x))
+
+    -- x is placed at now on the worker w, where fewer than k ran
+    pub settled_place : work.release x ≤ now → ((i : ℕ) → before i x → finish_of work start i ≤ now) → running work start now < k
+        → IsSeated work later seats x → w ≤ k → IsSettled load later seats now (x + 1) now
+    settled_place released free room seat within = record {
+      placed = λ m m_number. ⊎_elim {C = (later m ≤ now) ⊎ (later m ≡ NEVER)}
+          (λ (same : m ≡ x). let at : later m ≡ now = ap later same ∙ at_x in inl (omega arith))
+          (λ (other : m ≢ x). subst (λ s. (s ≤ now) ⊎ (s ≡ NEVER)) (sym (kept m m_number other)) (settled.placed m m_number))
+          (cases_eq m x);
+      turns = λ m m_number is. ⊎_elim {C = m < x + 1}
+          (λ (same : m ≡ x). omega arith)
+          (λ (other : m ≢ x). let turn : m < x = settled.turns m m_number (sym (kept m m_number other) ∙ is) in omega arith)
+          (cases_eq m x);
+      released = λ m m_number early. ⊎_elim {C = work.release m ≤ later m}
+          (λ (same : m ≡ x). subst (λ y. work.release y ≤ later y) (sym same) (subst (λ s. work.release x ≤ s) (sym at_x) released))
+          (λ (both : (m ≢ x) × (start m ≤ now)).
+          let at : later m ≡ start m = kept m m_number both.0 in
+          let there : work.release m ≤ start m = settled.released m m_number both.1 in
+          omega arith)
+          (placed_cases m m_number early);
+      ordered = λ i j pair early.
+          let i_number = first_number i j pair in
+          let j_number = second_number i j pair in
+          let sooner : i < j = forward.earlier i j pair in
+          ⊎_elim {C = later i + work.cost i ≤ later j}
+          (λ (same : j ≡ x).
+          let i_other : i ≢ x = omega arith in
+          let i_at : later i ≡ start i = kept i i_number i_other in
+          let j_at : later j ≡ now = ap later same ∙ at_x in
+          let done : start i + work.cost i ≤ now = free i (subst (λ y. before i y) same pair) in
+          omega arith)
+          (λ (both : (j ≢ x) × (start j ≤ now)).
+          let there : start i + work.cost i ≤ start j = settled.ordered i j pair both.1 in
+          let j_early : start j ≤ now = both.1 in
+          let i_early : start i ≤ now = omega arith in
+          let i_at : later i ≡ start i = kept i i_number (placed_is_other i i_early) in
+          let j_at : later j ≡ start j = kept j j_number both.0 in
+          omega arith)
+          (placed_cases j j_number early);
+      seated = λ m m_number early. ⊎_elim {C = IsSeated work later seats m}
+          (λ (same : m ≡ x). subst (λ y. IsSeated work later seats y) (sym same) seat)
+          (λ (both : (m ≢ x) × (start m ≤ now)). seated_kept m m_number both.1)
+          (placed_cases m m_number early);
+      within = λ m m_number early. ⊎_elim {C = seats m ≤ k}
+          (λ (same : m ≡ x). let at : seats m ≡ w = ap seats same ∙ sat.here in omega arith)
+          (λ (both : (m ≢ x) × (start m ≤ now)).
+          let at : seats m ≡ worker m = kept_seat m m_number both.0 in
+          let there : worker m ≤ k = settled.within m m_number both.1 in
+          omega arith)
+          (placed_cases m m_number early);
+      busy = λ t m soon ready waits.
+          let was = ready_back t m (omega arith) ready waits in
+          running_back t soon ∙ settled.busy t m soon was.0 was.1;
+      in_turn = λ t m other soon ready waits other_number first is.
+          let was = ready_back t m (omega arith) ready waits in
+          ⊎_elim {C = ⊥}
+          (λ (same : other ≡ x). let at : later other ≡ now = ap later same ∙ at_x in omega arith)
+          (λ (apart : other ≢ x). settled.in_turn t m other soon was.0 was.1 other_number first (sym (kept other other_number apart) ∙ is))
+          (cases_eq other x);
+    }
+
+    order_more : (order : List ℕ) → IsOrderSoFar work start now order → IsOrderSoFar work later now (order ++ x ∷ [])
+    order_more order h = record {
+      messages = All-push (λ m. IsNumber work m × (later m ≤ now)) order x
+          (All-weaker (λ m. IsNumber work m × (start m ≤ now)) (λ m. IsNumber work m × (later m ≤ now))
+          (λ m there. let at : later m ≡ start m = kept m there.0 (placed_is_other m there.1) in let early : start m ≤ now = there.1 in (there.0, omega arith)) order h.messages)
+          (number, omega (arith, at_x));
+      each = λ m m_number early. ⊎_elim {C = Contains (order ++ x ∷ []) m}
+          (λ (same : m ≡ x). subst (λ y. Contains (order ++ x ∷ []) y) (sym same) (Contains-push order x))
+          (λ (both : (m ≢ x) × (start m ≤ now)). Contains-append_left order (x ∷ []) m (h.each m m_number both.1))
+          (placed_cases m m_number early);
+      sorted = all_pairs_push (ComesBefore later) order x
+          (λ i j d less inside.
+          let first = All-get_or (λ m. IsNumber work m × (start m ≤ now)) order i d (omega arith) h.messages in
+          let second = All-get_or (λ m. IsNumber work m × (start m ≤ now)) order j d inside h.messages in
+          let a = get_or order i d in
+          let b = get_or order j d in
+          let first_at : later a ≡ start a = kept a first.0 (placed_is_other a first.1) in
+          let second_at : later b ≡ start b = kept b second.0 (placed_is_other b second.1) in
+          ⊎_elim {C = ComesBefore later a b}
+          (λ (sooner : start a < start b). inl (omega arith))
+          (λ (both : (start a ≡ start b) × (a < b)). inr (omega (arith, both.0), both.1))
+          (h.sorted i j d less inside))
+          (λ i d inside.
+          let first = All-get_or (λ m. IsNumber work m × (start m ≤ now)) order i d inside h.messages in
+          before_x (get_or order i d) first.0 first.1);
+    }
+
+    -- the message is seated on the least worker that is idle
+    seated_here : (finishes : List (ℕ × ℕ)) (idle : List ℕ) → AreFinishes work start now finishes
+        → AreEach (IsAmongFirst k) ((w ∷ idle) ++ map (λ r. worker r.1) finishes) → ((v : ℕ) → Contains idle v → w ≤ v) → IsSeated work later seats x
+    seated_here finishes idle run manned smallest =
+        let at_w : seats x ≡ w = sat.here in
+        let w_known = manned.only w (contains_first w (idle ++ map (λ r. worker r.1) finishes)) in
+        record {
+          from = let some : 1 ≤ w = w_known.from in omega arith;
+          free = λ i holds same.
+              let parts : (later i ≤ later x) × (later x < later i + work.cost i) = runs_parts work later (later x) i holds.runs in
+              let begun : later i ≤ later x = parts.0 in
+              let still : later x < later i + work.cost i = parts.1 in
+              ⊎_elim {C = ⊥}
+              (λ (is_x : i ≡ x). ⊎_elim {C = ⊥}
+              (λ (sooner : later i < later x). let at : later i ≡ later x = ap later is_x in omega arith)
+              (λ (both : (later i ≡ later x) × (i < x)). omega (arith, both.1))
+              holds.sooner)
+              (λ (both : (i ≢ x) × (start i ≤ now)).
+              let i_at : later i ≡ start i = kept i holds.number both.0 in
+              let i_seat : worker i ≡ w = sym (kept_seat i holds.number both.0) ∙ same ∙ at_w in
+              each_apart (IsAmongFirst k) (w ∷ idle) (map (λ r. worker r.1) finishes) manned w (contains_first w idle)
+              (subst (λ v. Contains (map (λ r. worker r.1) finishes) v) i_seat (its_worker start worker now finishes run i holds.number both.1 (omega arith))))
+              (placed_cases i holds.number (omega arith));
+          least = λ v some less.
+              let to : w ≤ k = w_known.to in
+              let there = each_there (IsAmongFirst k) ((w ∷ idle) ++ map (λ r. worker r.1) finishes) manned v (record { from = some; to = omega arith }) in
+              ⊎_elim {C = (i : ℕ) × HoldsWorker work later i x × (seats i ≡ v)}
+              (λ (free : Contains (w ∷ idle) v). ⊎_elim {C = (i : ℕ) × HoldsWorker work later i x × (seats i ≡ v)}
+              (λ (behind : Contains idle v). let no_less : w ≤ v = smallest v behind in absurd (omega arith))
+              (λ (same : v ≡ w). absurd (omega arith))
+              (contains_rest_of w v idle free))
+              (λ (busy : Contains (map (λ r. worker r.1) finishes) v).
+              let one = contains_mapped (λ r. worker r.1) finishes v busy in
+              let m = one.0.1 in
+              let runs = All-contains (Runs work start now) finishes one.0 run.only one.1 in
+              let m_number : IsNumber work m = runs.0 in
+              let early : start m ≤ now = runs.1 in
+              let late : now < one.0.0 = runs.2 in
+              let finish : start m + work.cost m ≡ one.0.0 = runs.3 in
+              let m_at : later m ≡ start m = kept m m_number (placed_is_other m early) in (
+                m,
+                record {
+                  number = m_number;
+                  sooner = before_x m m_number early;
+                  runs = runs_from work later (later x) m (omega arith) (omega arith);
+                },
+                kept_seat m m_number (placed_is_other m early) ∙ one.2,
+              ))
+              (Contains-append_cases (w ∷ idle) (map (λ r. worker r.1) finishes) v there);
+        }
+
+  -- a message is placed on the least worker that is idle
+  module _ (placed : Placed) (finishes : List (ℕ × ℕ)) (idle : List ℕ) (now x w : ℕ) (number : IsNumber work x) (short : now < NEVER) (cost : 1 ≤ work.cost x)
+      (unplaced : now < start_of placed.starts x) (h : IsProgress load placed now x now) (run : AreFinishes work (start_of placed.starts) now finishes)
+      (manned : AreManned k placed.seats finishes (w ∷ idle)) (smallest : (v : ℕ) → Contains idle v → w ≤ v) where
+    abbrev pub more_placed : Placed
+    more_placed = record { starts = set placed.starts (x - 1) now; seats = set placed.seats (x - 1) w; order = placed.order ++ x ∷ [] }
+
+    pub moved_here : IsMovedTo (start_of placed.starts) (start_of more_placed.starts) x now
+    moved_here = let starts_long : length placed.starts ≡ work.count = h.starts_count in moved_by_set placed.starts x now number.from (omega (arith, number.to))
+
+    seated_there : IsMovedTo (worker_of placed.seats) (worker_of more_placed.seats) x w
+    seated_there = let seats_long : length placed.seats ≡ work.count = h.seats_count in moved_by_set placed.seats x w number.from (omega (arith, number.to))
+
+    pub progress_place : work.release x ≤ now → ((i : ℕ) → before i x → finish_of work (start_of placed.starts) i ≤ now) → IsProgress load more_placed now (x + 1) now
+    progress_place released free =
+        let start = start_of placed.starts in
+        let worker = worker_of placed.seats in
+        let later = start_of more_placed.starts in
+        let seats = worker_of more_placed.seats in
+        let known = manned.only w (contains_first w (idle ++ map (λ r. worker_of placed.seats r.1) finishes)) in
+        let room = room_left start worker now x now h.settled finishes (w ∷ idle) run manned w (contains_first w idle) in
+        let seat = seated_here start worker later seats now x w number short cost moved_here seated_there unplaced h.settled finishes idle run manned smallest in
+        record {
+          starts_count = length-set placed.starts (x - 1) now ∙ h.starts_count;
+          seats_count = length-set placed.seats (x - 1) w ∙ h.seats_count;
+          settled = settled_place start worker later seats now x w number short cost moved_here seated_there unplaced h.settled released free room seat known.to;
+          listed = order_more start worker later seats now x w number short cost moved_here seated_there unplaced h.settled placed.order h.listed;
+        }
+
+    pub manned_place : (more : List (ℕ × ℕ)) → IsPermutation ((now + work.cost x, x) ∷ finishes) more → AreManned k more_placed.seats more idle
+    manned_place more pushed =
+        let kept : All (λ (r : ℕ × ℕ). worker_of placed.seats r.1 ≡ worker_of more_placed.seats r.1) finishes
+        = All-weaker (Runs work (start_of placed.starts) now) (λ (r : ℕ × ℕ). worker_of placed.seats r.1 ≡ worker_of more_placed.seats r.1)
+        (λ (r : ℕ × ℕ) runs.
+        let r_number : IsNumber work r.1 = runs.0 in
+        let early : start_of placed.starts r.1 ≤ now = runs.1 in
+        sym (seated_there.others r.1 r_number.from (λ same. let at : start_of placed.starts r.1 ≡ start_of placed.starts x = ap (start_of placed.starts) same in omega arith)))
+        finishes run.only in
+        each_moved (IsAmongFirst k) (w ∷ idle ++ map (λ r. worker_of placed.seats r.1) finishes) manned (idle ++ map (λ r. worker_of more_placed.seats r.1) more)
+        (subst (λ v. IsPermutation (v ∷ idle ++ map (λ r. worker_of placed.seats r.1) finishes) (idle ++ map (λ r. worker_of more_placed.seats r.1) more)) seated_there.here
+        (manned_more (λ r. worker_of placed.seats r.1) idle finishes (now + work.cost x, x) more (λ r. worker_of more_placed.seats r.1) kept pushed))
+
+  -- nothing is placed yet
+  pub progress_none : work.count ≤ 2 ^ 32 → IsProgress load (record { starts = replicate work.count NEVER; seats = replicate work.count 0; order = [] }) 0 1 0
+  progress_none few =
+      let not_placed = λ (m : ℕ) (number : IsNumber work m) (early : start_of (replicate work.count NEVER) m ≤ 0).
+      let at : start_of (replicate work.count NEVER) m ≡ NEVER = never_at m number in
+      let none : ⊥ = omega arith in
+      none in
+      record {
+        starts_count = length-replicate work.count NEVER;
+        seats_count = length-replicate work.count 0;
+        settled = record {
+          placed = λ m number. inr (never_at m number);
+          turns = λ m number is. absurd (not_placed m number (omega (arith, is)));
+          released = λ m number early. absurd (not_placed m number early);
+          ordered = λ i j pair early. absurd (not_placed j (second_number i j pair) early);
+          seated = λ m number early. absurd (not_placed m number early);
+          within = λ m number early. absurd (not_placed m number early);
+          busy = λ t m soon ready waits. absurd (omega arith);
+          in_turn = λ t m other soon ready waits number first is. omega arith;
+        };
+        listed = record {
+          messages = All-nil _;
+          each = λ m number early. absurd (not_placed m number early);
+          sorted = λ i j d less inside. absurd (omega arith);
+        };
+      }
+
+  -- the turn goes on, and the tick has been filled
+  pub progress_filled : (placed : Placed) (now turn : ℕ) → turn ≤ work.count + 1 → IsPassedOver (start_of placed.starts) now
+      → IsProgress load placed now turn now → IsProgress load placed now (work.count + 1) (now + 1)
+  progress_filled placed now turn on over h = record {
+    starts_count = h.starts_count;
+    seats_count = h.seats_count;
+    settled = settled_filled (start_of placed.starts) (worker_of placed.seats) now (work.count + 1) over
+        (settled_skip (start_of placed.starts) (worker_of placed.seats) now turn (work.count + 1) now on h.settled);
+    listed = h.listed;
+  }
+
+  pub progress_skip : (placed : Placed) (now turn next : ℕ) → turn ≤ next → IsProgress load placed now turn now → IsProgress load placed now next now
+  progress_skip placed now turn next on h = record {
+    starts_count = h.starts_count;
+    seats_count = h.seats_count;
+    settled = settled_skip (start_of placed.starts) (worker_of placed.seats) now turn next now on h.settled;
+    listed = h.listed;
+  }
+
+  -- on to the next tick at which a message finishes or is released
+  pub progress_advance : (placed : Placed) (now next : ℕ) (finishes : List (ℕ × ℕ)) → AreFinishes work (start_of placed.starts) now finishes → IsNextTick work finishes now next
+      → IsProgress load placed now (work.count + 1) (now + 1) → IsProgress load placed next 1 next
+  progress_advance placed now next finishes run tick h =
+      let start = start_of placed.starts in
+      let later : now < next = tick.later in
+      let short : next < NEVER = tick.tick in
+      let back = λ (m : ℕ) (number : IsNumber work m) (is : start_of placed.starts m ≤ next).
+      let early : start m ≤ now = ⊎_elim {C = start m ≤ now}
+      (λ (early : start m ≤ now). early)
+      (λ (never : start m ≡ NEVER). absurd (omega arith))
+      (h.settled.placed m number) in
+      early in
+      let ends = λ (m : ℕ) (number : IsNumber work m).
+      let one : (finish_of work start m ≤ now) ⊎ (next ≤ finish_of work start m) =
+      ⊎_elim {C = (finish_of work start m ≤ now) ⊎ (next ≤ finish_of work start m)}
+      (λ (early : start m ≤ now).
+      ⊎_elim {C = (finish_of work start m ≤ now) ⊎ (next ≤ finish_of work start m)}
+      (λ (late : now < finish_of work start m). inr (All-contains (λ (r : ℕ × ℕ). next ≤ r.0) finishes (finish_of work start m, m) tick.first (run.each m number early late)))
+      (λ (done : finish_of work start m ≤ now). inl done)
+      (cases_lt now (finish_of work start m)))
+      (λ (never : start m ≡ NEVER). inr (omega arith))
+      (h.settled.placed m number) in
+      one in
+      record {
+        starts_count = h.starts_count;
+        seats_count = h.seats_count;
+        settled = settled_advance start (worker_of placed.seats) now next later short ends tick.releases h.settled;
+        listed = record {
+          messages = All-weaker (λ m. IsNumber work m × (start m ≤ now)) (λ m. IsNumber work m × (start m ≤ next))
+              (λ m there. let early : start m ≤ now = there.1 in (there.0, omega arith)) placed.order h.listed.messages;
+          each = λ m number is. h.listed.each m number (back m number is);
+          sorted = h.listed.sorted;
+        };
+      }

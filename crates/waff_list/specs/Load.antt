@@ -1,0 +1,37 @@
+-- What is planned, and what the planner has placed and keeps while it does.
+use Rattle.std.specs.Prelude.{ℕ, ◌-◌, List, slice_index}
+use Rattle.waff_assign.specs.Order.{Relation}
+use Rattle.waff_plan.specs.Work.{Work}
+use Rattle.waff_order.specs.Needs.{IsNeed}
+
+-- messages with their needs, their priorities and their work, for so many workers
+pub record Load : Type 0 where
+  pub needs : List (List ℕ)
+  pub priorities : List ℕ
+  pub work : Work
+  pub workers : ℕ
+
+-- the priority of message m, from 1; 0 where none is listed
+abbrev pub priority_of : List ℕ → ℕ → ℕ
+priority_of priorities m = slice_index priorities (m - 1)
+
+-- a message is before those that need it
+abbrev pub before_in : Load → Relation
+before_in load = IsNeed load.needs
+
+abbrev pub priority_in : Load → ℕ → ℕ
+priority_in load = priority_of load.priorities
+
+-- the start and the worker of each message, and the messages that are placed, in their order
+pub record Placed : Type 0 where
+  pub starts : List ℕ
+  pub seats : List ℕ
+  pub order : List ℕ
+
+-- the messages that run with their finishes, the workers that are idle, how many needs of each
+-- message have not finished, and the messages that are ready
+pub record Pending : Type 0 where
+  pub finishes : List (ℕ × ℕ)
+  pub idle : List ℕ
+  pub left : List ℕ
+  pub ready : List ℕ
