@@ -3,7 +3,8 @@
 use crate::document::{push_row, rows, text_at, text_of};
 use crate::fields::{push_no_name, push_too_many};
 use crate::named::Named;
-use crate::words::Words;
+use crate::shown::Shown;
+use crate::words::{Words, say};
 use toml::Value;
 use waff_model::limits::MAX_AFFINITIES;
 use waff_model::{AffinityId, TreeError, is_name};
@@ -14,9 +15,11 @@ pub(crate) fn push_no_tree(words: &mut Words, document: &Value, error: TreeError
     let named = Named::of(words, affinities, "name");
     match first_refused(&named, affinities, error) {
         Some(number) => push_error(words, &named, affinities, number, error),
-        None => words.text(
-            "where: hierarchy, affinity\nfound: no affinity\nwanted: one affinity or more, the root first\n",
-        ),
+        None => {
+            say!(words; Where: "hierarchy, affinity");
+            say!(words; Found: "no affinity");
+            say!(words; Wanted: "one affinity or more, the root first");
+        }
     }
 }
 
@@ -60,9 +63,8 @@ fn push_error(
         TreeError::Name => push_no_name(words, "name", name),
         TreeError::Twice => push_twice(words, named, name),
         TreeError::SecondRoot => {
-            words.text(
-                "found: no parent\nwanted: a parent, as each affinity but the first has one\n",
-            )
+            say!(words; Found: "no parent");
+            say!(words; Wanted: "a parent, as each affinity but the first has one");
         }
         TreeError::ParentUnknown => {
             push_unknown(words, named, number, text_of(affinities, number, "parent"))
@@ -77,26 +79,25 @@ fn push_error(
 /// Appends that an affinity before has the name.
 fn push_twice(words: &mut Words, named: &Named<'_>, name: &str) {
     let other = named.place_of(name).unwrap_or(0);
-    words.shown("found: the name `", name);
-    words.count("`, which affinity ", other);
-    words.text(" has\nwanted: a name that no affinity before it has\n");
+    say!(words; Found: "the name `{}`, which affinity {other} has", Shown(name.as_bytes()));
+    say!(words; Wanted: "a name that no affinity before it has");
 }
 
 /// Appends that a parent is none of the affinities before.
 fn push_unknown(words: &mut Words, named: &Named<'_>, number: usize, parent: &str) {
-    words.shown("found: the parent `", parent);
-    match named.place_of(parent) {
-        Some(place) if place == number => words.text("`, which is the affinity itself\n"),
-        Some(place) => {
-            words.count("`, which is affinity ", place);
-            words.text(", behind it\n");
-        }
-        None => words.text("`, which no affinity has as its name\n"),
+    let place = named.place_of(parent);
+    let parent = Shown(parent.as_bytes());
+    match place {
+        Some(place) if place == number =>
+            say!(words; Found: "the parent `{parent}`, which is the affinity itself"),
+        Some(place) =>
+            say!(words; Found: "the parent `{parent}`, which is affinity {place}, behind it"),
+        None => say!(words; Found: "the parent `{parent}`, which no affinity has as its name"),
     }
     if number == 0 {
-        words.text("wanted: no parent, as the first affinity is the root\n");
+        say!(words; Wanted: "no parent, as the first affinity is the root");
     } else {
-        words.text("wanted: the name of an affinity that stands before it\n");
+        say!(words; Wanted: "the name of an affinity that stands before it");
     }
 }
 
@@ -105,10 +106,8 @@ pub(crate) fn push_third_level(words: &mut Words, document: &Value, affinity: Af
     let affinities = rows(document, "affinity");
     let number = usize::from(affinity.0);
     push_row(words, "affinity", affinities, number);
-    words.shown("found: the parent `", text_of(affinities, number, "parent"));
-    words.shown(
-        "` in a classical hierarchy\nwanted: the root `",
-        text_of(affinities, 0, "name"),
-    );
-    words.text("` as parent, or the model \"hierarchical\"\n");
+    let parent = Shown(text_of(affinities, number, "parent").as_bytes());
+    let root = Shown(text_of(affinities, 0, "name").as_bytes());
+    say!(words; Found: "the parent `{parent}` in a classical hierarchy");
+    say!(words; Wanted: "the root `{root}` as parent, or the model \"hierarchical\"");
 }

@@ -1,6 +1,7 @@
 //! A document of TOML that is of another shape than a hierarchy.
 
-use crate::words::Words;
+use crate::shown::Shown;
+use crate::words::{Words, say};
 use toml::Value;
 use waff_read::Key;
 
@@ -36,74 +37,66 @@ pub(crate) fn text_of<'a>(tables: &'a [Value], number: usize, key: &str) -> &'a 
 pub(crate) fn push_row(words: &mut Words, kind: &str, tables: &[Value], number: usize) {
     let key = if kind == "map" { "space" } else { "name" };
     let name = text_of(tables, number, key);
-    words.name("where: hierarchy, ", kind);
-    words.count(" ", number);
-    if !name.is_empty() {
-        words.name(", ", key);
-        words.shown(" `", name);
-        words.text("`");
+    if name.is_empty() {
+        say!(words; Where: "hierarchy, {kind} {number}");
+    } else {
+        say!(words; Where: "hierarchy, {kind} {number}, {key} `{}`", Shown(name.as_bytes()));
     }
-    words.text("\n");
 }
 
 /// Appends that the document names no model.
 pub(crate) fn push_no_model(words: &mut Words, document: &Value) {
-    words.text("where: hierarchy, the key model\n");
+    say!(words; Where: "hierarchy, the key model");
     push_found(words, "model", document.get("model"));
-    words.text("wanted: \"classical\" or \"hierarchical\"\n");
+    say!(words; Wanted: "\"classical\" or \"hierarchical\"");
 }
 
 /// Appends what stands at a key.
 fn push_found(words: &mut Words, key: &str, found: Option<&Value>) {
     match found {
-        None => words.name("found: no ", key),
+        None => say!(words; Found: "no {key}"),
         Some(value) => push_value(words, key, value),
     }
-    words.text("\n");
 }
 
 fn push_value(words: &mut Words, key: &str, value: &Value) {
-    words.name("found: ", key);
     match value.as_str() {
-        Some(told) => {
-            words.shown(": the text `", told);
-            words.text("`");
-        }
-        None => words.name(": a value of the type ", value.type_str()),
+        Some(told) => say!(words; Found: "{key}: the text `{}`", Shown(told.as_bytes())),
+        None => say!(words; Found: "{key}: a value of the type {}", value.type_str()),
     }
 }
 
 /// The type that a value is wanted to be of.
 #[derive(Clone, Copy)]
-enum Wanted {
+enum Shape {
     Text,
     TextOrNone,
     Integer,
     Texts,
 }
 
-impl Wanted {
+impl Shape {
     fn fits(self, found: Option<&Value>) -> bool {
         let Some(value) = found else {
-            return matches!(self, Wanted::TextOrNone);
+            return matches!(self, Shape::TextOrNone);
         };
         match self {
-            Wanted::Text | Wanted::TextOrNone => value.is_str(),
-            Wanted::Integer => value.is_integer(),
-            Wanted::Texts => match value.as_array() {
+            Shape::Text | Shape::TextOrNone => value.is_str(),
+            Shape::Integer => value.is_integer(),
+            Shape::Texts => match value.as_array() {
                 Some(texts) => are_texts(texts.as_slice()),
                 None => false,
             },
         }
     }
 
-    /// The line that tells what is wanted.
+    /// What is wanted.
     fn words(self) -> &'static str {
         match self {
-            Wanted::Text => "wanted: a text\n",
-            Wanted::TextOrNone => "wanted: a text, or no such key\n",
-            Wanted::Integer => "wanted: an integer\n",
-            Wanted::Texts => "wanted: an array of texts\n",
+            Shape::Text => "a text",
+            Shape::TextOrNone => "a text, or no such key",
+            Shape::Integer => "an integer",
+            Shape::Texts => "an array of texts",
         }
     }
 }
@@ -125,37 +118,37 @@ pub(crate) fn push_no_key(words: &mut Words, document: &Value, key: Key) {
         Key::Spaces => push_no_tables(words, document, "space"),
         Key::Maps => push_no_tables(words, document, "map"),
         Key::Name => push_no_names(words, document),
-        Key::Parent => push_misfit(words, document, "affinity", "parent", Wanted::TextOrNone),
-        Key::Size => push_misfit(words, document, "space", "size", Wanted::Integer),
-        Key::Space => push_misfit(words, document, "map", "space", Wanted::Text),
-        Key::Unit => push_misfit(words, document, "map", "unit", Wanted::Integer),
-        Key::To => push_misfit(words, document, "map", "to", Wanted::Texts),
+        Key::Parent => push_misfit(words, document, "affinity", "parent", Shape::TextOrNone),
+        Key::Size => push_misfit(words, document, "space", "size", Shape::Integer),
+        Key::Space => push_misfit(words, document, "map", "space", Shape::Text),
+        Key::Unit => push_misfit(words, document, "map", "unit", Shape::Integer),
+        Key::To => push_misfit(words, document, "map", "to", Shape::Texts),
     }
 }
 
 /// Appends which affinity, or else which space, has no name.
 fn push_no_names(words: &mut Words, document: &Value) {
     let affinities = rows(document, "affinity");
-    let kind = match first_misfit(affinities, "name", Wanted::Text) {
+    let kind = match first_misfit(affinities, "name", Shape::Text) {
         Some(_) => "affinity",
         None => "space",
     };
-    push_misfit(words, document, kind, "name", Wanted::Text);
+    push_misfit(words, document, kind, "name", Shape::Text);
 }
 
 /// Appends the first table of this kind whose value at the key is not of its type, what it is, and
 /// what is wanted.
-fn push_misfit(words: &mut Words, document: &Value, kind: &str, key: &str, wanted: Wanted) {
+fn push_misfit(words: &mut Words, document: &Value, kind: &str, key: &str, wanted: Shape) {
     let tables = rows(document, kind);
     if let Some(number) = first_misfit(tables, key, wanted) {
         push_row(words, kind, tables, number);
         push_found(words, key, value_of(tables, number, key));
     }
-    words.text(wanted.words());
+    say!(words; Wanted: "{}", wanted.words());
 }
 
 /// The first table whose value at the key is not of its type.
-fn first_misfit(tables: &[Value], key: &str, wanted: Wanted) -> Option<usize> {
+fn first_misfit(tables: &[Value], key: &str, wanted: Shape) -> Option<usize> {
     for number in 0..tables.len() {
         if !wanted.fits(tables[number].get(key)) {
             return Some(number);
@@ -185,19 +178,15 @@ fn first_no_table(values: &[Value]) -> Option<usize> {
 /// Appends that there is no array of tables of this kind.
 fn push_no_tables(words: &mut Words, document: &Value, kind: &str) {
     let tables = rows(document, kind);
-    let found = match first_no_table(tables) {
+    match first_no_table(tables) {
         Some(number) => {
-            words.name("where: hierarchy, ", kind);
-            words.count(" ", number);
-            tables.get(number)
+            say!(words; Where: "hierarchy, {kind} {number}");
+            push_found(words, kind, tables.get(number));
         }
         None => {
-            words.name("where: hierarchy, the key ", kind);
-            document.get(kind)
+            say!(words; Where: "hierarchy, the key {kind}");
+            push_found(words, kind, document.get(kind));
         }
-    };
-    words.text("\n");
-    push_found(words, kind, found);
-    words.name("wanted: an array of tables, [[", kind);
-    words.text("]]\n");
+    }
+    say!(words; Wanted: "an array of tables, [[{kind}]]");
 }

@@ -3,8 +3,9 @@
 ghost use Rattle.std.specs.Prelude.{◌≡◌, ◌↔◌, ◌<◌, ◌≤◌, IsTrue, length};
 
 use crate::walk::push_line;
-use crate::words::Words;
+use crate::words::{Head, Words, say};
 use std::alloc::{AllocError, Global};
+use std::fmt;
 use waff_assign::Case;
 use waff_model::{AffinityId, Message, Tree};
 use waff_plan::Totals;
@@ -148,17 +149,19 @@ impl<'a> Hearing<'a> {
         let Some(message) = self.message(n) else {
             return;
         };
-        words.message("", n);
-        words.name(": ", message.name.as_str());
-        words.name(", affinity ", self.affinity(n));
-        words.number(", release ", u64::from(message.release));
-        words.number(", cost ", u64::from(message.cost));
-        words.number(", start ", self.start(n));
-        words.number(", finish ", self.told_finish(n));
-        if let Some(worker) = self.worker(n) {
-            words.number(", worker ", worker);
+        let facts = format_args!(
+            "{}, affinity {}, release {}, cost {}, start {}, finish {}",
+            message.name.as_str(),
+            self.affinity(n),
+            message.release,
+            message.cost,
+            self.start(n),
+            self.told_finish(n)
+        );
+        match self.worker(n) {
+            Some(worker) => words.say(Head::Message(n), format_args!("{facts}, worker {worker}")),
+            None => words.say(Head::Message(n), facts),
         }
-        words.text("\n");
     }
 
     /// Appends why the affinities of two messages exclude each other.
@@ -176,8 +179,8 @@ fn push_why(words: &mut Words, tree: &Tree, first: AffinityId, second: AffinityI
     requires second { second.0 < length tree.now }
 {
     if first == second {
-        words.name("why: both run in ", tree.name(first));
-        words.text(", and an affinity excludes itself\n");
+        let name = tree.name(first);
+        say!(words; Why: "both run in {name}, and an affinity excludes itself");
     } else if tree.at_or_above(first, second) {
         push_way(words, tree, second, first);
     } else {
@@ -185,26 +188,37 @@ fn push_why(words: &mut Words, tree: &Tree, first: AffinityId, second: AffinityI
     }
 }
 
-/// Appends the way in the tree from an affinity up to one above it.
+/// Appends that an affinity is below another, and the way in the tree from the one up to the other.
 fn push_way(words: &mut Words, tree: &Tree, low: AffinityId, high: AffinityId)
     requires low { low.0 < length tree.now }
     requires high { high.0 < length tree.now }
 {
-    push_below(words, tree.name(low), tree.name(high));
-    for number in (0..low.0).rev() {
-        let between = AffinityId(number);
-        if tree.at_or_above(between, low) && tree.at_or_above(high, between) {
-            words.name(" -> ", tree.name(between));
-        }
-    }
-    words.text("\n");
+    let (below, above) = (tree.name(low), tree.name(high));
+    let way = Way { tree, low, high };
+    say!(words; Why: "{below} and {above} exclude each other, as {below} is below {above}: {way}");
 }
 
-/// Appends that an affinity is below another, and where the way begins.
-fn push_below(words: &mut Words, below: &str, above: &str) {
-    words.name("why: ", below);
-    words.name(" and ", above);
-    words.name(" exclude each other, as ", below);
-    words.name(" is below ", above);
-    words.name(": ", below);
+/// The way in a tree from an affinity up to one above it.
+#[derive(Clone, Copy)]
+struct Way<'a> {
+    tree: &'a Tree,
+    low: AffinityId,
+    high: AffinityId,
+    ghost known_low: { low.0 < length tree.now },
+    ghost known_high: { high.0 < length tree.now },
+}
+
+impl<'a> fmt::Display for Way<'a> {
+    fn fmt<W: fmt::Write>(&self, f: &mut fmt::Formatter<W>) -> fmt::Result {
+        write!(f, "{}", self.tree.name(self.low))?;
+        for number in (0..self.low.0).rev() {
+            let between = AffinityId(number);
+            if self.tree.at_or_above(between, self.low)
+                && self.tree.at_or_above(self.high, between)
+            {
+                write!(f, " -> {}", self.tree.name(between))?;
+            }
+        }
+        Ok(())
+    }
 }

@@ -1,20 +1,22 @@
 //! A hierarchy that is refused.
 
+ghost use Rattle.std.specs.Prelude.{IfOk, string_bytes};
+ghost use Rattle.waff_explain.specs.Lines.{AreHeadedLines};
+
 use crate::affinities::{push_no_tree, push_third_level};
 use crate::document::{push_no_key, push_no_model};
 use crate::layouts::push_no_layout;
+use crate::shown::Shown;
 use crate::walk::feeds;
-use crate::words::Words;
+use crate::words::{Words, say};
 use std::alloc::{AllocError, Global};
 use toml::Value;
 use waff_read::HierError;
 
 /// Where the fault is for which the hierarchy is refused, what was found and what is wanted.
-pub fn hierarchy_words(
-    alloc: Global,
-    bytes: &[u8],
-    fault: HierError,
-) -> Result<String, AllocError> {
+pub fn hierarchy_words(alloc: Global, bytes: &[u8], fault: HierError) -> Result<String, AllocError>
+    ensures { IfOk result (λ text. AreHeadedLines (string_bytes text)) }
+{
     let mut words = Words::new(alloc);
     match toml::table_from_slice(alloc, bytes) {
         Ok(table) => push_fault(&mut words, &Value::Table(table), fault),
@@ -45,17 +47,17 @@ fn push_no_document(words: &mut Words, bytes: &[u8], e: &toml::de::Error) {
         None => 0,
     };
     push_line(words, bytes, start);
-    words.name("found: no TOML: ", e.message());
-    words.text("\nwanted: a document in TOML\n");
+    say!(words; Found: "no TOML: {}", e.message());
+    say!(words; Wanted: "a document in TOML");
 }
 
 /// Appends the line in which a byte stands.
 fn push_line(words: &mut Words, bytes: &[u8], start: usize) {
     let before = bytes.get(..start).unwrap_or(b"");
     let rest = bytes.get(last_line(before)..).unwrap_or(b"");
-    words.number("where: hierarchy, line ", feeds(before).saturating_add(1));
-    words.bytes(": ", first_line(rest));
-    words.text("\n");
+    let number = feeds(before).saturating_add(1);
+    let line = Shown(first_line(rest));
+    say!(words; Where: "hierarchy, line {number}: {line}");
 }
 
 /// Where the last line begins.

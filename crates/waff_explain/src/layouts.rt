@@ -3,7 +3,8 @@
 use crate::document::{push_row, rows, text_at, text_of};
 use crate::fields::push_no_name;
 use crate::named::Named;
-use crate::words::Words;
+use crate::shown::Shown;
+use crate::words::{Words, say};
 use toml::Value;
 use waff_model::limits::{MAX_CELLS, MAX_OWNERS, MAX_SIZE, MAX_SPACES, MAX_UNIT};
 use waff_model::{LayoutError, is_name};
@@ -30,9 +31,9 @@ pub(crate) fn push_no_layout(words: &mut Words, document: &Value, error: LayoutE
 fn push_no_space(words: &mut Words, spaces: &[Value], maps: &[Value]) {
     let found = spaces.len();
     if found == 0 || found > MAX_SPACES {
-        words.count("where: hierarchy, space\nfound: ", found);
-        words.count(" spaces\nwanted: 1 to ", MAX_SPACES);
-        words.text(" spaces\n");
+        say!(words; Where: "hierarchy, space");
+        say!(words; Found: "{found} spaces");
+        say!(words; Wanted: "1 to {} spaces", MAX_SPACES);
         return;
     }
     match first_nameless(spaces) {
@@ -59,8 +60,9 @@ fn push_no_space_of(words: &mut Words, spaces: &[Value], maps: &[Value]) {
     let named = Named::of(words, spaces, "name");
     if let Some(number) = named.first_stranger(maps, "space") {
         push_row(words, "map", maps, number);
-        words.shown("found: the space `", text_of(maps, number, "space"));
-        words.text("`, which is no space's name\nwanted: the name of a space\n");
+        let space = Shown(text_of(maps, number, "space").as_bytes());
+        say!(words; Found: "the space `{space}`, which is no space's name");
+        say!(words; Wanted: "the name of a space");
     }
 }
 
@@ -69,7 +71,8 @@ fn push_no_map(words: &mut Words, spaces: &[Value], maps: &[Value]) {
     let mapped = Named::of(words, maps, "space");
     if let Some(number) = mapped.first_stranger(spaces, "name") {
         push_row(words, "space", spaces, number);
-        words.text("found: no map of the space\nwanted: one map of each space\n");
+        say!(words; Found: "no map of the space");
+        say!(words; Wanted: "one map of each space");
     }
 }
 
@@ -79,17 +82,9 @@ fn push_twice(words: &mut Words, tables: &[Value], kind: &str, key: &str) {
     if let Some(number) = named.first_twice(tables, key) {
         push_row(words, kind, tables, number);
         let other = named.place_of(text_of(tables, number, key)).unwrap_or(0);
-        push_other(words, kind, key, other);
+        say!(words; Found: "the {key} of {kind} {other}");
+        say!(words; Wanted: "one {kind} for each {key}");
     }
-}
-
-fn push_other(words: &mut Words, kind: &str, key: &str, other: usize) {
-    words.name("found: the ", key);
-    words.name(" of ", kind);
-    words.count(" ", other);
-    words.name("\nwanted: one ", kind);
-    words.name(" for each ", key);
-    words.text("\n");
 }
 
 /// Appends which table has a number outside of 1 to the most.
@@ -98,17 +93,10 @@ fn push_no_integer(words: &mut Words, tables: &[Value], kind: &str, key: &str, m
         let found = integer_at(&tables[number], key);
         if found < 1 || found > most {
             push_row(words, kind, tables, number);
-            return push_integer(words, key, found, most);
+            say!(words; Found: "the {key} {found}");
+            return say!(words; Wanted: "a {key} from 1 to {most}");
         }
     }
-}
-
-fn push_integer(words: &mut Words, key: &str, found: i64, most: i64) {
-    words.name("found: the ", key);
-    words.integer(" ", found);
-    words.name("\nwanted: a ", key);
-    words.integer(" from 1 to ", most);
-    words.text("\n");
 }
 
 fn integer_at(row: &Value, key: &str) -> i64 {
@@ -130,7 +118,8 @@ fn push_owners_among(words: &mut Words, named: &Named<'_>, maps: &[Value]) {
         let found = owners.len();
         if found == 0 || found > MAX_OWNERS {
             push_row(words, "map", maps, number);
-            return push_many(words, found);
+            say!(words; Found: "{found} names in to");
+            return say!(words; Wanted: "1 to {} names", MAX_OWNERS);
         }
         if let Some(owner) = stranger(named, owners) {
             push_row(words, "map", maps, number);
@@ -139,15 +128,9 @@ fn push_owners_among(words: &mut Words, named: &Named<'_>, maps: &[Value]) {
     }
 }
 
-fn push_many(words: &mut Words, found: usize) {
-    words.count("found: ", found);
-    words.count(" names in to\nwanted: 1 to ", MAX_OWNERS);
-    words.text(" names\n");
-}
-
 fn push_stranger(words: &mut Words, owner: &str) {
-    words.shown("found: `", owner);
-    words.text("` in to, which no affinity has as its name\nwanted: names of affinities\n");
+    say!(words; Found: "`{}` in to, which no affinity has as its name", Shown(owner.as_bytes()));
+    say!(words; Wanted: "names of affinities");
 }
 
 /// The first owner that is no affinity.
@@ -167,7 +150,7 @@ fn push_cells(words: &mut Words, spaces: &[Value]) {
     for row in spaces {
         cells = cells.saturating_add(integer_at(row, "size"));
     }
-    words.integer("where: hierarchy, space\nfound: ", cells);
-    words.number(" cells over all spaces\nwanted: ", u64::from(MAX_CELLS));
-    words.text(" cells or fewer\n");
+    say!(words; Where: "hierarchy, space");
+    say!(words; Found: "{cells} cells over all spaces");
+    say!(words; Wanted: "{} cells or fewer", MAX_CELLS);
 }

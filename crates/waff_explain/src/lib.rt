@@ -11,9 +11,10 @@
 //! - `sizes`: how much there is where nothing is wrong.
 //! - `verdicts`: a verdict, over `hearing` (a case, and the plan that was given for it).
 //!
-//! `words` is a text that grows by pieces, `walk` goes over the records of CSV and tells where each
-//! stands. What is refused is the matter of the readers, which decide: these words look at the
-//! refused bytes again and tell what the readers saw. What was accepted is lent to them.
+//! `words` has the lines, each with its head, and `shown` how a line shows bytes of a file. `walk`
+//! goes over the records of CSV and tells where each stands. What is refused is the matter of the
+//! readers, which decide: these words look at the refused bytes again and tell what the readers saw.
+//! What was accepted is lent to them. Each line begins with one of the heads (`AreHeadedLines`).
 #![tactic(auto)]
 
 mod affinities;
@@ -25,6 +26,7 @@ mod layouts;
 mod named;
 mod operations;
 mod plan_texts;
+mod shown;
 mod sizes;
 mod traces;
 mod verdicts;

@@ -1,6 +1,8 @@
 //! What is wrong with an operation of a message.
 
-use crate::words::Words;
+use crate::shown::Shown;
+use crate::words::{Words, say};
+use std::fmt;
 use waff_model::{Layout, is_name};
 use waff_parse::{cut, number};
 use waff_read::TraceError;
@@ -41,35 +43,34 @@ impl<'a> Flaw<'a> {
 
     /// Appends what was found, and what is wanted.
     pub(crate) fn push_words(self, words: &mut Words, piece: u64, op: &str) {
-        words.number("found: operation ", piece);
-        words.shown(", `", op);
+        say!(words; Found: "operation {piece}, `{}`: {self}", Shown(op.as_bytes()));
         match self {
-            Flaw::Words => words.text(
-                "`: these words are no operation\nwanted: `set C N`, `add C N`, `copy C D`, `swap C D` or `read C`\n",
-            ),
-            Flaw::Cell(word) => {
-                words.shown("`: `", word);
-                words.text(
-                    "` is no cell\nwanted: a cell: a name, `:` and a number without a leading zero\n",
-                );
-            }
-            Flaw::Number(word) => {
-                words.shown("`: `", word);
-                words.text(
-                    "` is no number in range\nwanted: a number from 0 to 18446744073709551615 without a leading zero\n",
-                );
-            }
-            Flaw::Space(word) => {
-                words.name("`: no space has the name `", word);
-                words.text("`\nwanted: the name of a space of the hierarchy\n");
-            }
-            Flaw::Index(word, size) => {
-                words.name("`: `", word);
-                words.number(
-                    "` is behind the end of its space\nwanted: a number below the size of the space, which is ",
-                    u64::from(size),
-                );
-                words.text("\n");
+            Flaw::Words =>
+                say!(words; Wanted: "`set C N`, `add C N`, `copy C D`, `swap C D` or `read C`"),
+            Flaw::Cell(_) =>
+                say!(words; Wanted: "a cell: a name, `:` and a number without a leading zero"),
+            Flaw::Number(_) =>
+                say!(words; Wanted: "a number from 0 to {} without a leading zero", u64::MAX),
+            Flaw::Space(_) => say!(words; Wanted: "the name of a space of the hierarchy"),
+            Flaw::Index(_, size) =>
+                say!(words; Wanted: "a number below the size of the space, which is {size}"),
+        }
+    }
+}
+
+impl<'a> fmt::Display for Flaw<'a> {
+    fn fmt<W: fmt::Write>(&self, f: &mut fmt::Formatter<W>) -> fmt::Result {
+        match *self {
+            Flaw::Words => write!(f, "these words are no operation"),
+            Flaw::Cell(word) => write!(f, "`{}` is no cell", Shown(word.as_bytes())),
+            Flaw::Number(word) => write!(f, "`{}` is no number in range", Shown(word.as_bytes())),
+            Flaw::Space(name) => write!(f, "no space has the name `{name}`"),
+            Flaw::Index(word, _) => {
+                write!(
+                    f,
+                    "`{}` is behind the end of its space",
+                    Shown(word.as_bytes())
+                )
             }
         }
     }

@@ -1,8 +1,12 @@
 //! The text of a plan that is refused.
 
+ghost use Rattle.std.specs.Prelude.{IfOk, string_bytes};
+ghost use Rattle.waff_explain.specs.Lines.{AreHeadedLines};
+
 use crate::fields::{push_no_name, push_no_number, push_no_text};
+use crate::shown::Shown;
 use crate::walk::{Walk, find_behind_header};
-use crate::words::Words;
+use crate::words::{Words, say};
 use std::alloc::{AllocError, Global};
 use waff_model::limits::{MAX_TICK, MAX_WORKERS};
 use waff_model::{Trace, Version, is_name};
@@ -16,7 +20,9 @@ pub fn plan_text_words(
     trace: &Trace,
     plan: &[u8],
     fault: PlanTextError,
-) -> Result<String, AllocError> {
+) -> Result<String, AllocError>
+    ensures { IfOk result (λ text. AreHeadedLines (string_bytes text)) }
+{
     let mut words = Words::new(alloc);
     push_refusal(&mut words, trace.version(), trace.len(), plan, fault);
     words.finish()
@@ -48,9 +54,10 @@ fn push_refusal(
 fn push_fault(words: &mut Words, messages: u32, walk: &Walk<'_>, fault: PlanTextError) {
     match fault {
         PlanTextError::Csv { .. } => push_no_text(words, walk),
-        PlanTextError::Header { .. } => words.text(
-            "found: no header\nwanted: the header message,affinity,start,finish,worker\n",
-        ),
+        PlanTextError::Header { .. } => {
+            say!(words; Found: "no header");
+            say!(words; Wanted: "the header message,affinity,start,finish,worker");
+        }
         PlanTextError::Row { .. } => push_no_row(words, messages, walk),
         PlanTextError::Missing { message } => push_missing(words, message, messages),
         PlanTextError::TooLarge { .. } => push_too_large(words, walk),
@@ -79,22 +86,16 @@ fn summary_of(words: &mut Words, bytes: &[u8]) -> u64 {
 }
 
 fn push_missing(words: &mut Words, message: u32, messages: u32) {
-    words.message("found: no row of ", message);
-    words.number(
-        "\nwanted: a row of each message from 1 to ",
-        u64::from(messages),
-    );
-    words.text("\n");
+    say!(words; Found: "no row of message {message}");
+    say!(words; Wanted: "a row of each message from 1 to {messages}");
 }
 
 /// Appends what the record has that no row has.
 fn push_no_row(words: &mut Words, messages: u32, walk: &Walk<'_>) {
     let fields = walk.len();
     if fields != 5 {
-        words.count("found: fields: ", fields);
-        return words.text(
-            "\nwanted: five fields: a message, an affinity, a start, a finish and a worker\n",
-        );
+        say!(words; Found: "fields: {fields}");
+        return say!(words; Wanted: "five fields: a message, an affinity, a start, a finish and a worker");
     }
     if number_within(walk.field(0), 1, u64::from(messages)).is_none() {
         return push_no_number(words, "message", walk.field(0), 1, u64::from(messages));
@@ -113,25 +114,24 @@ fn push_no_times(words: &mut Words, walk: &Walk<'_>) {
     if number(walk.field(3)).is_none() {
         return push_no_number(words, "finish", walk.field(3), 0, MAX_TICK);
     }
-    words.bytes("found: the worker `", walk.bytes(4));
-    words.text("`\nwanted: a number without a leading zero, or `-` in a plan without workers\n");
+    say!(words; Found: "the worker `{}`", Shown(walk.bytes(4)));
+    say!(words; Wanted: "a number without a leading zero, or `-` in a plan without workers");
 }
 
 /// Appends which record is the first row of the message.
 fn push_twice(words: &mut Words, bytes: &[u8], message: &str) {
     let (first, _) = find_behind_header(words, bytes, message);
-    words.name("found: a row of message ", message);
-    words.number(", which has one in record ", first);
-    words.text("\nwanted: one row of each message\n");
+    say!(words; Found: "a row of message {message}, which has one in record {first}");
+    say!(words; Wanted: "one row of each message");
 }
 
 /// Appends which field is above the limit.
 fn push_too_large(words: &mut Words, walk: &Walk<'_>) {
     if let Some(place) = too_large(walk) {
-        words.shown("found: the number ", walk.field(place));
-        words.count(" in field ", place.saturating_add(1));
-        words.number("\nwanted: a number from 0 to ", MAX_TICK);
-        words.text("\n");
+        let found = Shown(walk.field(place).as_bytes());
+        let number = place.saturating_add(1);
+        say!(words; Found: "the number {found} in field {number}");
+        say!(words; Wanted: "a number from 0 to {}", MAX_TICK);
     }
 }
 
@@ -148,40 +148,20 @@ fn too_large(walk: &Walk<'_>) -> Option<usize> {
 
 /// Appends which line of the summary was wanted, by how many come before it.
 fn push_no_line(words: &mut Words, version: Version, messages: u32, before: u64) {
-    words.text("found: another record than the next of the summary, or none\n");
+    say!(words; Found: "another record than the next of the summary, or none");
     let place = match version {
         Version::V1 if before > 3 => before.saturating_add(1),
         _ => before,
     };
     match place {
-        0 => push_no_workers(words),
-        3 => push_no_chain(words, u64::from(messages)),
-        _ => words.text(line_of(place)),
-    }
-}
-
-fn push_no_workers(words: &mut Words) {
-    words.number(
-        "wanted: `workers,-`, or `workers,K` with K from 1 to ",
-        u64::from(MAX_WORKERS),
-    );
-    words.text("\n");
-}
-
-fn push_no_chain(words: &mut Words, messages: u64) {
-    words.number("wanted: `chain,` and numbers from 1 to ", messages);
-    words.number(" joined by one space, ", messages);
-    words.text(" of them or fewer\n");
-}
-
-/// The line that tells what is wanted at a place of the summary.
-fn line_of(place: u64) -> &'static str {
-    match place {
-        1 => "wanted: `total,N`\n",
-        2 => "wanted: `length,N`\n",
-        4 => "wanted: `release,N`\n",
-        5 => "wanted: `cost,N`\n",
-        6 => "wanted: `bound,N,N`\n",
-        _ => "wanted: the end of the text\n",
+        0 => say!(words; Wanted: "`workers,-`, or `workers,K` with K from 1 to {}", MAX_WORKERS),
+        1 => say!(words; Wanted: "`total,N`"),
+        2 => say!(words; Wanted: "`length,N`"),
+        3 =>
+            say!(words; Wanted: "`chain,` and numbers from 1 to {messages} joined by one space, {messages} of them or fewer"),
+        4 => say!(words; Wanted: "`release,N`"),
+        5 => say!(words; Wanted: "`cost,N`"),
+        6 => say!(words; Wanted: "`bound,N,N`"),
+        _ => say!(words; Wanted: "the end of the text"),
     }
 }

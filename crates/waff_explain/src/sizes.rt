@@ -1,6 +1,9 @@
 //! How much there is where nothing is wrong.
 
-use crate::words::Words;
+ghost use Rattle.std.specs.Prelude.{IfOk, string_bytes};
+ghost use Rattle.waff_explain.specs.Lines.{AreHeadedLines};
+
+use crate::words::{Head, Words, say};
 use std::alloc::{AllocError, Global};
 use waff_model::{Layout, Trace};
 
@@ -10,21 +13,30 @@ pub fn sizes_words(
     alloc: Global,
     layout: &Layout,
     trace: Option<&Trace>,
-) -> Result<String, AllocError> {
+) -> Result<String, AllocError>
+    ensures { IfOk result (λ text. AreHeadedLines (string_bytes text)) }
+{
     let mut words = Words::new(alloc);
-    push_sizes(&mut words, layout);
-    if let Some(trace) = trace {
-        words.number(", messages: ", u64::from(trace.len()));
-    }
-    words.text("\n");
+    push_sizes(&mut words, layout, trace);
     words.finish()
 }
 
-fn push_sizes(words: &mut Words, layout: &Layout) {
+/// Appends how much there is.
+pub(crate) fn push_sizes(words: &mut Words, layout: &Layout, trace: Option<&Trace>) {
+    let affinities = layout.tree().len();
+    let cells = cell_count(layout);
+    match trace {
+        Some(trace) =>
+            say!(words; Affinities: "{affinities}, cells: {cells}, messages: {}", trace.len()),
+        None => say!(words; Affinities: "{affinities}, cells: {cells}"),
+    }
+}
+
+/// How many cells all spaces have.
+fn cell_count(layout: &Layout) -> u64 {
     let mut cells: u64 = 0;
     for space in 0..layout.space_count() {
         cells = cells.saturating_add(u64::from(layout.space_size(space)));
     }
-    words.number("affinities: ", u64::from(layout.tree().len()));
-    words.number(", cells: ", cells);
+    cells
 }

@@ -1,9 +1,12 @@
 //! A trace that is refused.
 
+ghost use Rattle.std.specs.Prelude.{IfOk, string_bytes};
+ghost use Rattle.waff_explain.specs.Lines.{AreHeadedLines};
+
 use crate::fields::{push_no_name, push_no_number, push_no_text, push_too_many};
 use crate::operations::flaw_of;
 use crate::walk::Walk;
-use crate::words::Words;
+use crate::words::{Words, say};
 use std::alloc::{AllocError, Global};
 use waff_model::Layout;
 use waff_model::limits::{MAX_COST, MAX_MESSAGES, MAX_OPS, MAX_RELEASE};
@@ -16,7 +19,9 @@ pub fn trace_words(
     layout: &Layout,
     trace: &[u8],
     fault: TraceError,
-) -> Result<String, AllocError> {
+) -> Result<String, AllocError>
+    ensures { IfOk result (λ text. AreHeadedLines (string_bytes text)) }
+{
     let mut words = Words::new(alloc);
     push_refusal(&mut words, layout, trace, fault);
     words.finish()
@@ -62,9 +67,10 @@ fn push_fault(
 ) {
     match fault {
         TraceError::Csv { .. } => push_no_text(words, walk),
-        TraceError::Header { .. } => words.text(
-            "found: no header\nwanted: the header message,cost,ops or message,cost,release,ops\n",
-        ),
+        TraceError::Header { .. } => {
+            say!(words; Found: "no header");
+            say!(words; Wanted: "the header message,cost,ops or message,cost,release,ops");
+        }
         TraceError::Fields { .. } => push_fields(words, walk.len(), fields),
         TraceError::Name { .. } => push_no_name(words, "name", walk.field(0)),
         TraceError::Cost { .. } => {
@@ -79,24 +85,22 @@ fn push_fault(
 }
 
 fn push_fields(words: &mut Words, found: usize, fields: usize) {
-    words.count("found: fields: ", found);
-    words.count("\nwanted: fields: ", fields);
-    words.text(", as the header has\n");
+    say!(words; Found: "fields: {found}");
+    say!(words; Wanted: "fields: {fields}, as the header has");
 }
 
 /// Appends which message is one too many.
 fn push_last(words: &mut Words, message: u64) {
-    words.number("found: message ", message);
-    words.count("\nwanted: ", MAX_MESSAGES);
-    words.text(" messages or fewer\n");
+    say!(words; Found: "message {message}");
+    say!(words; Wanted: "{} messages or fewer", MAX_MESSAGES);
 }
 
 /// Appends what is wrong with the operations of a message.
 fn push_no_ops(words: &mut Words, layout: &Layout, ops: &str, fault: TraceError) {
     match fault {
         TraceError::NoOps { .. } => {
-            words.count("found: no operation\nwanted: 1 to ", MAX_OPS);
-            words.text(" operations joined by `;`\n");
+            say!(words; Found: "no operation");
+            say!(words; Wanted: "1 to {} operations joined by `;`", MAX_OPS);
         }
         TraceError::TooManyOps { .. } => {
             push_too_many(words, "operations", ops.split(';').count(), MAX_OPS)

@@ -1,26 +1,31 @@
 //! A verdict, with the messages that it names.
 
-ghost use Rattle.std.specs.Prelude.{◌≡◌, length};
+ghost use Rattle.std.specs.Prelude.{◌≡◌, IfOk, length, string_bytes};
+ghost use Rattle.waff_explain.specs.Lines.{AreHeadedLines};
 
 use crate::hearing::Hearing;
-use crate::words::Words;
+use crate::sizes::push_sizes;
+use crate::words::{Words, say};
 use std::alloc::{AllocError, Global};
 use waff_assign::Case;
 use waff_check::Verdict;
+use waff_model::Layout;
 use waff_plan::Totals;
 use waff_plan_text::GivenPlan;
 
 /// What the verdict tells of the plan that was given for the case, whose text these bytes are: where
 /// a fault is, the messages that it names, what was found and what is wanted, or else how good the
-/// plan is.
+/// plan is and how much there is under the layout.
 pub fn verdict_words(
     alloc: Global,
+    layout: &Layout,
     case: &Case<'_>,
     given: &GivenPlan,
     plan: &[u8],
     verdict: Verdict,
 ) -> Result<String, AllocError>
     requires { length given.now.rows ≡ length case.now.trace.now.messages }
+    ensures { IfOk result (λ text. AreHeadedLines (string_bytes text)) }
 {
     let hearing = Hearing {
         case: *case,
@@ -28,11 +33,11 @@ pub fn verdict_words(
         bytes: plan,
     };
     let mut words = Words::new(alloc);
-    push_finding(&mut words, &hearing, verdict);
+    push_finding(&mut words, layout, &hearing, verdict);
     words.finish()
 }
 
-fn push_finding(words: &mut Words, hearing: &Hearing<'_>, verdict: Verdict) {
+fn push_finding(words: &mut Words, layout: &Layout, hearing: &Hearing<'_>, verdict: Verdict) {
     match verdict {
         Verdict::Overlap { first, second } => push_overlap(words, hearing, first, second),
         Verdict::TooManyAt { tick } => push_crowd(words, hearing, tick),
@@ -42,40 +47,30 @@ fn push_finding(words: &mut Words, hearing: &Hearing<'_>, verdict: Verdict) {
         Verdict::Totals => push_totals(words, hearing),
         Verdict::NotAChain { place } => push_no_link(words, hearing, place),
         Verdict::Early { message } => push_early(words, hearing, message),
-        Verdict::Obeys => {
-            words.text("found: no fault, and no more is known of how short the plan is\n")
+        Verdict::Obeys | Verdict::Shortest | Verdict::WithinBound => {
+            push_no_fault(words, hearing, verdict);
+            push_sizes(words, layout, Some(hearing.case.trace));
         }
-        Verdict::Shortest => push_shortest(words, hearing),
-        Verdict::WithinBound => push_within_bound(words, hearing),
     }
 }
 
 /// Appends two messages that overlap, and why they must not.
 fn push_overlap(words: &mut Words, hearing: &Hearing<'_>, first: u32, second: u32) {
-    let end = hearing.end(first);
+    let (start, end) = (hearing.start(second), hearing.end(first));
     hearing.push_message(words, first);
     hearing.push_message(words, second);
-    words.message("found: ", second);
-    words.number(" starts at ", hearing.start(second));
-    words.message(", before ", first);
-    words.number(" has finished at ", end);
-    words.text("\n");
+    say!(words; Found: "message {second} starts at {start}, before message {first} has finished at {end}");
     hearing.push_exclusion(words, first, second);
-    words.message("wanted: ", second);
-    words.number(" starts at ", end);
-    words.text(" or later\n");
+    say!(words; Wanted: "message {second} starts at {end} or later");
 }
 
 /// Appends the messages that run at a tick, one more than there are workers.
 fn push_crowd(words: &mut Words, hearing: &Hearing<'_>, tick: u64) {
     let workers = hearing.workers();
-    words.number("where: plan, tick ", tick);
-    words.text("\n");
+    say!(words; Where: "plan, tick {tick}");
     let running = push_running(words, hearing, tick, workers);
-    words.number("found: running at tick ", tick);
-    words.number(": ", u64::from(running));
-    words.number("\nwanted: ", u64::from(workers));
-    words.text(" or fewer, the number of workers\n");
+    say!(words; Found: "running at tick {tick}: {running}");
+    say!(words; Wanted: "{workers} or fewer, the number of workers");
 }
 
 /// Appends the first messages that run at a tick, one more than this many; how many run.
@@ -97,18 +92,17 @@ fn push_worker(words: &mut Words, hearing: &Hearing<'_>, message: u32) {
     let workers = u64::from(hearing.workers());
     hearing.push_message(words, message);
     let Some(worker) = hearing.worker(message) else {
-        words.number("found: no worker\nwanted: a worker from 1 to ", workers);
-        return words.text(", as the plan has workers\n");
+        say!(words; Found: "no worker");
+        return say!(words; Wanted: "a worker from 1 to {workers}, as the plan has workers");
     };
+    if 1 <= worker && worker <= workers {
+        return push_taken(words, hearing, message, worker);
+    }
+    say!(words; Found: "worker {worker}");
     if workers == 0 {
-        words.number("found: worker ", worker);
-        words.text("\nwanted: `-`, as the plan has no workers\n");
-    } else if worker < 1 || workers < worker {
-        words.number("found: worker ", worker);
-        words.number("\nwanted: a worker from 1 to ", workers);
-        words.text("\n");
+        say!(words; Wanted: "`-`, as the plan has no workers");
     } else {
-        push_taken(words, hearing, message, worker);
+        say!(words; Wanted: "a worker from 1 to {workers}");
     }
 }
 
@@ -124,34 +118,29 @@ fn push_taken(words: &mut Words, hearing: &Hearing<'_>, message: u32, worker: u6
 /// Appends the message that the worker runs at a tick of another.
 fn push_both(words: &mut Words, hearing: &Hearing<'_>, message: u32, worker: u64, other: u32) {
     hearing.push_message(words, other);
-    words.number("found: worker ", worker);
-    words.message(" runs ", other);
-    words.message(" at a tick of ", message);
-    words.text("\nwanted: a worker that runs no message of lower number at that time\n");
+    say!(words; Found: "worker {worker} runs message {other} at a tick of message {message}");
+    say!(words; Wanted: "a worker that runs no message of lower number at that time");
 }
 
 fn push_affinity(words: &mut Words, hearing: &Hearing<'_>, message: u32) {
     hearing.push_message(words, message);
-    words.name("found: the affinity ", hearing.told_affinity(message));
-    words.name("\nwanted: the affinity ", hearing.affinity(message));
-    words.message(", the lowest one that covers the cells of ", message);
-    words.text("\n");
+    let (told, affinity) = (hearing.told_affinity(message), hearing.affinity(message));
+    say!(words; Found: "the affinity {told}");
+    say!(words; Wanted: "the affinity {affinity}, the lowest one that covers the cells of message {message}");
 }
 
 fn push_finish(words: &mut Words, hearing: &Hearing<'_>, message: u32) {
     hearing.push_message(words, message);
-    words.number("found: the finish ", hearing.told_finish(message));
-    words.number("\nwanted: the finish ", hearing.end(message));
-    words.text(", which is start and cost\n");
+    let (told, end) = (hearing.told_finish(message), hearing.end(message));
+    say!(words; Found: "the finish {told}");
+    say!(words; Wanted: "the finish {end}, which is start and cost");
 }
 
 fn push_early(words: &mut Words, hearing: &Hearing<'_>, message: u32) {
     hearing.push_message(words, message);
-    words.message("found: ", message);
-    words.number(" starts at ", hearing.start(message));
-    words.message(", before its release\nwanted: ", message);
-    words.number(" starts at ", hearing.release(message));
-    words.text(" or later\n");
+    let (start, release) = (hearing.start(message), hearing.release(message));
+    say!(words; Found: "message {message} starts at {start}, before its release");
+    say!(words; Wanted: "message {message} starts at {release} or later");
 }
 
 /// Appends the lines of the summary that are wrong.
@@ -174,11 +163,8 @@ fn push_differences(words: &mut Words, told: Totals, made: Totals) {
 
 fn push_difference(words: &mut Words, what: &str, told: u64, made: u64) {
     if told != made {
-        words.name("found: the ", what);
-        words.number(" ", told);
-        words.name("\nwanted: the ", what);
-        words.number(" ", made);
-        words.text("\n");
+        say!(words; Found: "the {what} {told}");
+        say!(words; Wanted: "the {what} {made}");
     }
 }
 
@@ -189,41 +175,29 @@ fn push_no_link(words: &mut Words, hearing: &Hearing<'_>, place: u64) {
     hearing.push_line(words, "chain");
     hearing.push_facts(words, before);
     hearing.push_facts(words, message);
-    words.message("found: ", message);
-    words.number(" at place ", place);
-    push_why(words, before, message);
-    words.message("wanted: a message behind ", before);
-    words.text(", their affinities exclude each other\n");
-}
-
-/// Appends why two messages are no ordered pair.
-fn push_why(words: &mut Words, before: u32, message: u32) {
     if message <= before {
-        words.message(" of the chain, which does not come after ", before);
-        words.text("\n");
+        say!(words; Found: "message {message} at place {place} of the chain, which does not come after message {before}");
     } else {
-        words.message(" of the chain, whose affinity and that of ", before);
-        words.text(" do not exclude each other\n");
+        say!(words; Found: "message {message} at place {place} of the chain, whose affinity and that of message {before} do not exclude each other");
     }
+    say!(words; Wanted: "a message behind message {before}, their affinities exclude each other");
 }
 
-fn push_shortest(words: &mut Words, hearing: &Hearing<'_>) {
-    let totals = hearing.given.summary().totals;
-    words.number(
-        "found: no fault, and no plan that obeys is shorter: the chain's release ",
-        totals.release,
-    );
-    words.number(" and cost ", totals.cost);
-    words.number(" make the length ", totals.length);
-    words.text("\n");
-}
-
-fn push_within_bound(words: &mut Words, hearing: &Hearing<'_>) {
-    let totals = hearing.given.summary().totals;
-    words.number(
-        "found: no fault, and the plan is within the bound for its workers: ",
-        totals.left,
-    );
-    words.number(" is at most ", totals.right);
-    words.text("\n");
+/// Appends how good a plan is that has no fault.
+fn push_no_fault(words: &mut Words, hearing: &Hearing<'_>, verdict: Verdict) {
+    let Totals {
+        release,
+        cost,
+        length,
+        left,
+        right,
+        ..
+    } = hearing.given.summary().totals;
+    match verdict {
+        Verdict::Shortest =>
+            say!(words; Found: "no fault, and no plan that obeys is shorter: the chain's release {release} and cost {cost} make the length {length}"),
+        Verdict::WithinBound =>
+            say!(words; Found: "no fault, and the plan is within the bound for its workers: {left} is at most {right}"),
+        _ => say!(words; Found: "no fault, and no more is known of how short the plan is"),
+    }
 }

@@ -1,6 +1,7 @@
 //! The records of CSV in turn, and where each stands.
 
-use crate::words::Words;
+use crate::shown::Shown;
+use crate::words::{Words, say};
 use csv::{ByteRecord, Reader};
 use std::alloc::Global;
 use std::str;
@@ -100,7 +101,7 @@ impl<'a> Walk<'a> {
         if self.go_to(at) {
             self.push_place(words, file);
         } else {
-            push_end(words, file, at);
+            say!(words; Where: "{file}, its end, where record {at} would stand");
         }
     }
 
@@ -112,11 +113,8 @@ impl<'a> Walk<'a> {
         };
         let whole = part(self.bytes, from, self.rdr.position().byte());
         let (blank, record) = split_ends(whole);
-        words.name("where: ", file);
-        words.number(", record ", self.at);
-        words.number(", line ", line.saturating_add(feeds(blank)));
-        words.bytes(": ", record);
-        words.text("\n");
+        let (at, line) = (self.at, line.saturating_add(feeds(blank)));
+        say!(words; Where: "{file}, record {at}, line {line}: {}", Shown(record));
     }
 }
 
@@ -139,13 +137,6 @@ pub(crate) fn find_behind_header(words: &mut Words, bytes: &[u8], first: &str) -
     let at = walk.at;
     walk.end(words);
     (at, is_found)
-}
-
-/// Appends that a file ends before the record of this number.
-fn push_end(words: &mut Words, file: &str, at: u64) {
-    words.name("where: ", file);
-    words.number(", its end, where record ", at);
-    words.text(" would stand\n");
 }
 
 fn part(bytes: &[u8], from: u64, to: u64) -> &[u8] {

@@ -1,20 +1,72 @@
-//! A text that grows by pieces.
+//! The lines of an explanation, which grow in number.
+
+ghost use Rattle.std.specs.Prelude.{◌≡◌, Some, IfOk, List, ℕ, string_bytes};
+ghost use Rattle.waff_explain.specs.Lines.{IsHeadedLine, AreHeadedLines, head_text};
 
 use std::alloc::{AllocError, Global};
+use std::fmt;
+use std::marker::Model;
+use waff_parse::cut;
 
-/// The most bytes that are shown.
-const MOST: usize = 1000;
+/// What a line begins with, which tells what it has.
+#[derive(Clone, Copy)]
+pub enum Head {
+    /// The file, and the place in it.
+    Where,
+    /// What there is to tell of the message of this number.
+    Message(u32),
+    /// What stands there.
+    Found,
+    /// Why two affinities exclude each other.
+    Why,
+    /// What should stand there.
+    Wanted,
+    /// How much there is.
+    Affinities,
+}
 
-/// A text that grows by pieces. Where memory is refused it keeps that, and what comes then is left
-/// out, so that only its end has to be asked.
+impl fmt::Display for Head {
+    ghost output = { λ head. Some (head_text head) };
+
+    fn fmt<W: fmt::Write>(&self, f: &mut fmt::Formatter<W>) -> fmt::Result {
+        match self {
+            Head::Where => write!(f, "where: "),
+            Head::Message(n) => write!(f, "message {n}: "),
+            Head::Found => write!(f, "found: "),
+            Head::Why => write!(f, "why: "),
+            Head::Wanted => write!(f, "wanted: "),
+            Head::Affinities => write!(f, "affinities: "),
+        }
+    }
+}
+
+/// Appends to words a line with a head, which has what a format makes.
+macro_rules! say {
+    ($words:expr; $head:ident: $($said:tt)+) => {
+        $words.say($crate::words::Head::$head, format_args!($($said)+))
+    };
+}
+
+pub(crate) use say;
+
+/// Lines of an explanation. Where memory is refused they keep that, and what comes then is left
+/// out, so that only their end has to be asked.
 #[derive(Drop)]
 pub struct Words {
     text: String,
     is_refused: bool,
 }
 
+impl Model for Words {
+    ghost Value = { List ℕ };
+
+    ghost view = { λ w. string_bytes w.text };
+
+    ghost invariant = { λ w. AreHeadedLines (string_bytes w.text) };
+}
+
 impl Words {
-    /// An empty text.
+    /// No lines.
     pub fn new(alloc: Global) -> Self {
         Words {
             text: String::new(alloc),
@@ -27,96 +79,43 @@ impl Words {
         *self.text.allocator()
     }
 
-    /// The text, unless memory was refused.
-    pub fn finish(self) -> Result<String, AllocError> {
+    /// The text of the lines, unless memory was refused.
+    pub fn finish(self) -> Result<String, AllocError>
+        ensures { IfOk result (λ text. AreHeadedLines (string_bytes text)) }
+    {
         if self.is_refused {
             return Err(AllocError);
         }
         Ok(self.text)
     }
 
-    /// Keeps that memory was refused for what the text tells of.
+    /// Keeps that memory was refused for what the lines tell of.
     pub fn refuse(&mut self) {
         self.is_refused = true;
     }
 
-    /// Appends a text.
-    pub fn text(&mut self, text: &str) {
+    /// Appends a line with this head.
+    pub fn say<D: fmt::Display + Drop>(&mut self, head: Head, said: D) {
+        match line_of(self.alloc(), head, said) {
+            Ok(line) => self.push(line.as_str()),
+            Err(_) => self.refuse(),
+        }
+    }
+
+    fn push(&mut self, line: &str)
+        requires { IsHeadedLine line.now }
+    {
         if !self.is_refused {
-            self.is_refused = self.text.push_str(text).is_err();
+            self.is_refused = self.text.push_str(line).is_err();
         }
     }
+}
 
-    /// Appends a text and a name.
-    pub fn name(&mut self, before: &str, name: &str) {
-        self.text(before);
-        self.text(name);
-    }
-
-    /// Appends a text and a number.
-    pub fn number(&mut self, before: &str, number: u64) {
-        self.text(before);
-        if !self.is_refused {
-            self.is_refused = write!(self.text, "{number}").is_err();
-        }
-    }
-
-    /// Appends a text and an integer.
-    pub fn integer(&mut self, before: &str, integer: i64) {
-        self.text(before);
-        if !self.is_refused {
-            self.is_refused = write!(self.text, "{integer}").is_err();
-        }
-    }
-
-    /// Appends a text and how many there are.
-    pub fn count(&mut self, before: &str, count: usize) {
-        self.number(before, count as u64);
-    }
-
-    /// Appends a text and which message it is.
-    pub fn message(&mut self, before: &str, message: u32) {
-        self.text(before);
-        self.number("message ", u64::from(message));
-    }
-
-    /// Appends a text, and another one on one line.
-    pub fn shown(&mut self, before: &str, text: &str) {
-        self.bytes(before, text.as_bytes());
-    }
-
-    /// Appends a text, and bytes on one line: as they stand where they are printable ASCII, and
-    /// else by their numbers; the first ones of many.
-    pub fn bytes(&mut self, before: &str, bytes: &[u8]) {
-        self.text(before);
-        for byte in bytes.get(..MOST).unwrap_or(bytes) {
-            self.byte(*byte);
-        }
-        if MOST < bytes.len() {
-            self.count(".. (", bytes.len());
-            self.text(" bytes)");
-        }
-    }
-
-    fn byte(&mut self, byte: u8) {
-        match byte {
-            b'\n' => self.text("\\n"),
-            b'\r' => self.text("\\r"),
-            b'\t' => self.text("\\t"),
-            0x20..=0x7e => self.character(byte as char),
-            _ => self.code(byte),
-        }
-    }
-
-    fn character(&mut self, character: char) {
-        if !self.is_refused {
-            self.is_refused = self.text.push(character).is_err();
-        }
-    }
-
-    fn code(&mut self, byte: u8) {
-        if !self.is_refused {
-            self.is_refused = write!(self.text, "\\x{byte:02x}").is_err();
-        }
-    }
+/// A line with this head: what is said, up to a line feed.
+fn line_of<D: fmt::Display + Drop>(alloc: Global, head: Head, said: D) -> Result<String, AllocError>
+    ensures { IfOk result (λ line. IsHeadedLine (string_bytes line)) }
+{
+    let said = format!(in alloc; "{said}")?;
+    let (shown, _) = cut(said.as_str(), '\n');
+    format!(in alloc; "{head}{shown}\n")
 }

@@ -5,6 +5,7 @@ mod ComparisonLemmas
 mod ComparisonRefusals
 mod ExplainedFaults
 mod ExplainedLaws
+mod ExplainedLines
 mod FigureUniqueness
 mod LineLaws
 mod OrderLemmas

@@ -1,6 +1,6 @@
 -- What an explanation of one to three files tells: the fault or the verdict that the other commands
 -- tell of the same files.
-use Rattle.std.specs.Prelude.{◌≡◌, ℕ, List, [], ◌∷◌, ◌++◌, Option, Some, None, Ok, codes}
+use Rattle.std.specs.Prelude.{◌≡◌, ◌≢◌, ℕ, List, [], ◌∷◌, ◌++◌, Option, Some, None, Ok, codes}
 use Rattle.waff_model.specs.Layout.{Hierarchy}
 use Rattle.waff_model.specs.Messages.{Arrivals}
 use Rattle.waff_read.specs.Hierarchies.{hierarchy_of}
@@ -8,6 +8,7 @@ use Rattle.waff_read.specs.Traces.{trace_of}
 use Rattle.waff_tool.specs.CheckText.{IsCheckText, RefusesCheck, status_after, verdict_text}
 use Rattle.waff_inputs.specs.Inputs.{Refuses, RefusesHierarchy, TellsOfFiles}
 use Rattle.waff_inputs.specs.Fault.{fault_line, status_of}
+use Rattle.waff_explain.specs.Lines.{AreHeadedLines, IsHeadedLine}
 use Rattle.waff_tool.specs.declared.explains.Explained.{Explained}
 use Rattle.waff_tool.specs.declared.explains.Explained.TheVariants as explained
 use Rattle.waff_inputs.specs.declared.fault.ToolError.{ToolError}
@@ -59,15 +60,22 @@ first_line explained.Well = codes "nothing is wrong" ++ 10 ∷ []
 first_line (explained.Fault error) = fault_line error ++ 10 ∷ []
 first_line (explained.Verdict v) = verdict_text v
 
--- a text that begins with a line
-abbrev pub BeginsWith : List ℕ → List ℕ → Type 0
-BeginsWith line text = (words : List ℕ) × (text ≡ line ++ words)
+-- a text that is a line, and below it lines that each begin with one of the heads
+pub record IsToldBelow (line text : List ℕ) : Type 0 where
+  pub words : List ℕ
+  pub headed : AreHeadedLines words
+  pub whole : text ≡ line ++ words
 
 -- the text of an explanation
 pub record IsExplanation (hierarchy_file : List ℕ)
     (trace_file plan_file : Option (List ℕ)) (e : Explained) (text : List ℕ) : Type 0 where
   pub is_explained : IsExplained hierarchy_file trace_file plan_file e
-  pub begins : BeginsWith (first_line e) text
+  pub told : IsToldBelow (first_line e) text
+
+-- no line with a head is a first line, so none is taken for a fault or a verdict
+abbrev pub LinesAreNoFirstLines : Type 0
+LinesAreNoFirstLines =
+    (line : List ℕ) (e : Explained) → IsHeadedLine line → line ≢ first_line e
 
 -- the exit status after an explanation: that of the fault or the verdict
 abbrev pub status_explained : Explained → ℕ

@@ -7,9 +7,11 @@ ghost use Rattle.waff_read.specs.HierRefusals.{Tells};
 ghost use Rattle.waff_read.specs.Hierarchies.{hierarchy_of};
 ghost use Rattle.waff_read.specs.Traces as traces;
 ghost use Rattle.waff_plan_text.specs.PlanTexts as texts;
+ghost use Rattle.waff_explain.specs.Lines.{AreHeadedLines};
 ghost use Rattle.waff_inputs.specs.Deliveries.{Delivers};
 ghost use Rattle.waff_inputs.specs.Inputs.{Accepts};
-ghost use Rattle.waff_tool.specs.Explanations.{IsExplained, IsExplanation, RefusesWork};
+ghost use Rattle.waff_tool.specs.Explanations.{IsExplained, IsExplanation, LinesAreNoFirstLines};
+ghost use Rattle.waff_tool.specs.Explanations.{RefusesWork};
 ghost use Rattle.waff_tool.specs.Explanations.{first_line, status_explained};
 
 use crate::checks::{made_line, verdict_of, verdict_status};
@@ -55,8 +57,8 @@ struct Explanation {
 
 /// Writes in plain words where the first fault of the files is, what was found and what is wanted,
 /// or what the verdict on the plan tells; answers which fault or verdict that is. The text begins
-/// with the line that the other commands print. A plan without a trace is not looked at. Nothing is
-/// written before the whole text is made.
+/// with the line that the other commands print, and each further line with a head (`Head`). A plan
+/// without a trace is not looked at. Nothing is written before the whole text is made.
 pub fn explain_text<R: Threads + Sync, W: Write>(
     rt: &R,
     alloc: Global,
@@ -275,8 +277,7 @@ fn refuse_plan(
     tell(alloc, Explained::Fault(error), words)
 }
 
-/// The explanation of a plan that was read: the verdict, and how much there is where it tells no
-/// fault.
+/// The explanation of a plan that was read: the verdict.
 fn explain_verdict<R: Threads + Sync>(
     rt: &R,
     alloc: Global,
@@ -296,27 +297,8 @@ fn explain_verdict<R: Threads + Sync>(
         made.explained (string_bytes made.text)) }
 {
     let verdict = verdict_of(rt, alloc, case, given)?;
-    let words = all_words(alloc, layout, case, given, plan, verdict);
+    let words = verdict_words(alloc, layout, case, given, plan, verdict);
     tell(alloc, Explained::Verdict(verdict), words)
-}
-
-/// The words for a verdict, and how much there is where it tells no fault.
-fn all_words(
-    alloc: Global,
-    layout: &Layout,
-    case: &Case<'_>,
-    given: &GivenPlan,
-    plan: &[u8],
-    verdict: Verdict,
-) -> Result<String, AllocError>
-    requires rows { length given.now.rows ≡ length case.now.trace.now.messages }
-{
-    let mut words = verdict_words(alloc, case, given, plan, verdict)?;
-    if verdict_status(&verdict) == 0 {
-        let sizes = sizes_words(alloc, layout, Some(case.trace))?;
-        words.push_str(sizes.as_str())?;
-    }
-    Ok(words)
 }
 
 /// The explanation whose text is the line that tells what is explained, and then these words, if
@@ -326,6 +308,7 @@ fn tell(
     explained: Explained,
     words: Result<String, AllocError>,
 ) -> Result<Explanation, AllocError>
+    requires { IfOk words (λ words. AreHeadedLines (string_bytes words)) }
     ensures { IfOk result (λ made. (hierarchy : List ℕ) (trace plan : Option (List ℕ))
         → IsExplained hierarchy trace plan explained
         → IsExplanation hierarchy trace plan made.explained (string_bytes made.text)) }
@@ -350,3 +333,9 @@ fn made_first_line(alloc: Global, explained: Explained) -> Result<String, AllocE
         Explained::Verdict(verdict) => made_line(alloc, verdict),
     }
 }
+
+/// No further line of an explanation is the line of a fault or a verdict: a function that does
+/// nothing and whose contract is the law.
+pub fn lines_are_no_first_lines()
+    ensures { LinesAreNoFirstLines }
+{}

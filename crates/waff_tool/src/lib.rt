@@ -41,7 +41,7 @@ pub use assigns::assign_text;
 pub use checks::{check_text, verdict_status};
 pub use comparison::compare_text;
 pub use draws::{Picture, draw_text};
-pub use explains::{Explained, explain_text, explained_status};
+pub use explains::{Explained, explain_text, explained_status, lines_are_no_first_lines};
 pub use plans::{plan_text, plan_text_by};
 pub use ranks::{MAX_RANKED, rank_text};
 pub use rates::rate_text;

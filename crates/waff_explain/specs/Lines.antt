@@ -1,0 +1,29 @@
+-- The lines of an explanation below its first line.
+use Rattle.std.specs.Prelude.{◌≡◌, ◌≢◌, ℕ, List, [], ◌∷◌, ◌++◌, All, codes}
+use Rattle.std.specs.List.{concat}
+use Rattle.std.specs.Fmt.{decimal}
+use Rattle.waff_explain.specs.declared.words.Head.{Head}
+use Rattle.waff_explain.specs.declared.words.Head.TheVariants as head
+
+-- what a line begins with
+abbrev pub head_text : Head → List ℕ
+head_text head.Where = codes "where: "
+head_text (head.Message n) = codes "message " ++ decimal n ++ codes ": "
+head_text head.Found = codes "found: "
+head_text head.Why = codes "why: "
+head_text head.Wanted = codes "wanted: "
+head_text head.Affinities = codes "affinities: "
+
+-- a line that begins with one of the heads and ends with a line feed, and there is none before its
+-- end
+pub record IsHeadedLine (line : List ℕ) : Type 0 where
+  pub head : Head
+  pub said : List ℕ
+  pub one_line : All (λ byte. byte ≢ 10) said
+  pub whole : line ≡ head_text head ++ (said ++ 10 ∷ [])
+
+-- a text of such lines, one after the other
+pub record AreHeadedLines (text : List ℕ) : Type 0 where
+  pub lines : List (List ℕ)
+  pub headed : All IsHeadedLine lines
+  pub whole : concat lines ≡ text

@@ -1,0 +1,58 @@
+-- No line of an explanation below its first one is a first line.
+use Rattle.std.proofs.Common.{◌≡◌, ◌∙◌, ℕ, ◌+◌, ◌*◌, List, [], ◌∷◌, ◌++◌, Bool, true, false, true≢false, refl, sym, ap, codes}
+use Rattle.std.specs.Prelude.{◌==◌, ◌≢◌, ◌&&◌, ◌||◌, slice_index}
+use Rattle.waff_explain.specs.Lines.{IsHeadedLine, head_text}
+use Rattle.waff_explain.specs.declared.words.Head.{Head}
+use Rattle.waff_explain.specs.declared.words.Head.TheVariants as head
+use Rattle.waff_check.specs.declared.verdict.Verdict.TheVariants as verdict
+use Rattle.waff_inputs.specs.declared.fault.ToolError.TheVariants as tool
+use Rattle.waff_tool.specs.Explanations.{first_line, LinesAreNoFirstLines}
+use Rattle.waff_tool.specs.declared.explains.Explained.{Explained}
+use Rattle.waff_tool.specs.declared.explains.Explained.TheVariants as explained
+
+-- the first three bytes of a text, as one number
+abbrev three : List ℕ → ℕ
+three text = slice_index text 0 * 65536 + slice_index text 1 * 256 + slice_index text 2
+
+-- whether a text begins as a head does; `affinities` and `affinity` part at their eighth byte
+abbrev begins : List ℕ → Bool
+begins text =
+    (three text == three (codes "where: "))
+    || ((three text == three (codes "message "))
+    || ((three text == three (codes "found: "))
+    || ((three text == three (codes "why: "))
+    || ((three text == three (codes "wanted: "))
+    || ((three text == three (codes "affinities: ")) && (slice_index text 7 == 105))))))
+
+head_begins : (h : Head) (rest : List ℕ) → begins (head_text h ++ rest) ≡ true
+head_begins head.Where rest = refl
+head_begins (head.Message n) rest = refl
+head_begins head.Found rest = refl
+head_begins head.Why rest = refl
+head_begins head.Wanted rest = refl
+head_begins head.Affinities rest = refl
+
+first_begins : (e : Explained) → begins (first_line e) ≡ false
+first_begins explained.Well = refl
+first_begins (explained.Fault (tool.Hier file fault)) = refl
+first_begins (explained.Fault (tool.Trace fault)) = refl
+first_begins (explained.Fault (tool.PlanText fault)) = refl
+first_begins (explained.Fault tool.SpacesDiffer) = refl
+first_begins (explained.Fault tool.ModelsSame) = refl
+first_begins (explained.Fault tool.Write) = refl
+first_begins (explained.Fault tool.Memory) = refl
+first_begins (explained.Verdict (verdict.Overlap first second)) = refl
+first_begins (explained.Verdict (verdict.TooManyAt tick)) = refl
+first_begins (explained.Verdict (verdict.Worker message)) = refl
+first_begins (explained.Verdict (verdict.Affinity message)) = refl
+first_begins (explained.Verdict (verdict.Finish message)) = refl
+first_begins (explained.Verdict verdict.Totals) = refl
+first_begins (explained.Verdict (verdict.NotAChain place)) = refl
+first_begins (explained.Verdict (verdict.Early message)) = refl
+first_begins (explained.Verdict verdict.Obeys) = refl
+first_begins (explained.Verdict verdict.Shortest) = refl
+first_begins (explained.Verdict verdict.WithinBound) = refl
+
+pub lines_are_no_first_lines : LinesAreNoFirstLines
+lines_are_no_first_lines line e is same =
+    true≢false (sym (head_begins is.head (is.said ++ 10 ∷ [])) ∙ (ap begins (sym is.whole ∙ same) ∙ first_begins e))
