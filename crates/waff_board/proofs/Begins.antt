@@ -6,7 +6,7 @@ use mathlib.Core.Option.{Option, some, none}
 use mathlib.Core.Logic.{dite}
 use native.Mathlib.Decide.{ℕ_discrete}
 use lib.ListN.{get_elem?}
-use Rattle.atomic_table.specs.Table.{Allows, homes_after, carried_after}
+use Rattle.atomic_table.specs.Table.{Allows, State, stepped, homes_after, carried_after}
 use Rattle.waff_order.specs.Needs.{IsNeed}
 use Rattle.waff_cells.specs.Meaning.{Cells}
 use Rattle.waff_cells.specs.Serial.{SameParcel, ops_of, serial}
@@ -22,8 +22,9 @@ use Rattle.waff_board.specs.Rule.{Holds}
 use Rattle.waff_board.specs.Plays.{Parcels, begun_view}
 use Rattle.waff_board.specs.declared.view.Setup.{Setup}
 use Rattle.waff_board.specs.declared.view.View.{View}
-use Rattle.waff_board.proofs.Known.{Known, known, runs_more}
-use Rattle.waff_board.proofs.Moves.{Moves, draws_stay, ran_stays, seats_moved}
+use Rattle.waff_board.proofs.Known.{Known, known}
+use Rattle.waff_board.proofs.Nexts.{IsNext, holds_next}
+use Rattle.waff_board.proofs.Moves.{Moves, phase_here, draws_stay, ran_stays, seats_moved}
 use Rattle.waff_board.proofs.Owners.{AreApart, once_apart}
 use Rattle.waff_board.proofs.Phases.{IsStill, runs_after}
 use Rattle.waff_board.proofs.Handing.{IsHome, Taken, take_all}
@@ -183,39 +184,46 @@ module _ (job : JobValue) (is : IsJob job) (seats : ℕ) (core : Core) (known : 
     seen = h.seen;
   }
 
--- a seat that holds a message and has seen all its needs done may begin it
-pub begins : {S : Type 0} (items : S → List ℕ) (setup : Setup) (slots id m : ℕ) (v : View) → v.phase ≡ Drawn m
-    → ((i : ℕ) → IsNeed setup.job.needs i m → HasSeen v i)
-    → Allows (Holds items setup) slots id (v, []) m (λ _. 1)
-    (λ _ after. (after.0 ≡ begun_view v m) × Parcels items setup.job.layout.spaces (serial setup.job.ops (m - 1)) (owners_of setup.job.owners m) after.1)
-begins {S} items setup slots id m v is_drawn seen s h sized at small =
-    let job = setup.job in
-    let is = h.told.job in
-    let core = h.core in
-    let x = v.actor in
-    let mine : Shown job core v = h.seats.each id v at in
-    let holds : phase_of core.phases x ≡ Some (Drawn m) = subst (λ p. phase_of core.phases x ≡ Some p) is_drawn mine.phase in
-    let facts : Known job setup.seats core = known job is setup.seats h.events core h.reached in
-    let clear : IsClear job core m = facts.enough m (λ i need. mine.seen i (seen i need)) in
-    let next : Core = begun_by core x m in
-    let r : Taken items job.layout.spaces (serial job.ops (m - 1)) s.homes (owners_of job.owners m)
-    = taken job is setup.seats core facts x m holds clear items s.homes h.slots in (
-      begun_view v m,
-      r.act,
-      r.valid,
+module _ {S : Type 0} (items : S → List ℕ) (setup : Setup) where
+  -- words and views after a begin of a message that is clear
+  pub begin_next : (s : State S View) (h : Holds items setup s) (id m : ℕ) (v : View) → get_elem? s.views id ≡ some v → v.phase ≡ Drawn m
+      → IsClear setup.job h.core m
+      → IsNext setup h.core (Begin v.actor) (begun_by h.core v.actor m) (set s.words m 1) (set s.views id (begun_view v m))
+  begin_next s h id m v at is_drawn clear =
+      let job = setup.job in
+      let is = h.told.job in
+      let core = h.core in
+      let x = v.actor in
+      let mine : Shown job core v = h.seats.each id v at in
+      let holds : phase_of core.phases x ≡ Some (Drawn m) = phase_here setup core s.views h.seats id v at (Drawn m) is_drawn in
+      let facts : Known job setup.seats core = known job is setup.seats h.events core h.reached in
       record {
-        told = h.told;
-        events = h.events ++ Begin x ∷ [];
-        core = next;
-        reached = runs_more job (opening setup.seats) core next h.events (Begin x) h.reached (m, holds, clear, refl);
+        steps = (m, holds, clear, refl);
         words = words_begun job is setup.seats core facts x m holds clear s.words h.words;
-        slots = slots_begun job is setup.seats core facts x m holds clear items s.homes h.slots r;
-        seats = seats_moved setup core next s.views id v (begun_view v m) at (moves_begun job is setup.seats core facts x m holds clear) h.seats refl refl
-            (shown_begun job is setup.seats core facts x m holds clear v refl mine)
+        seats = seats_moved setup core (begun_by core x m) s.views id v (begun_view v m) at (moves_begun job is setup.seats core facts x m holds clear)
+            h.seats refl refl (shown_begun job is setup.seats core facts x m holds clear v refl mine)
             (draws_stay setup core s.views id v at h.seats) (ran_stays setup core s.views id v at h.seats);
-      },
-      (refl, r.parcels),
-    )
+      }
+
+  -- a seat that holds a message and has seen all its needs done may begin it
+  pub begins : (slots id m : ℕ) (v : View) → v.phase ≡ Drawn m → ((i : ℕ) → IsNeed setup.job.needs i m → HasSeen v i)
+      → Allows (Holds items setup) slots id (v, []) m (λ _. 1)
+      (λ _ after. (after.0 ≡ begun_view v m) × Parcels items setup.job.layout.spaces (serial setup.job.ops (m - 1)) (owners_of setup.job.owners m) after.1)
+  begins slots id m v is_drawn seen s h sized at small =
+      let job = setup.job in
+      let facts : Known job setup.seats h.core = known job h.told.job setup.seats h.events h.core h.reached in
+      let clear : IsClear job h.core m = facts.enough m (λ i need. (h.seats.each id v at).seen i (seen i need)) in
+      let holds = phase_here setup h.core s.views h.seats id v at (Drawn m) is_drawn in
+      let r : Taken items job.layout.spaces (serial job.ops (m - 1)) s.homes (owners_of job.owners m)
+      = taken job h.told.job setup.seats h.core facts v.actor m holds clear items s.homes h.slots in (
+        begun_view v m,
+        r.act,
+        r.valid,
+        holds_next items setup s (stepped s m 1 id [] (begun_view v m) r.act) h (Begin v.actor) (begun_by h.core v.actor m)
+            (begin_next s h id m v at is_drawn clear)
+            (slots_begun job h.told.job setup.seats h.core facts v.actor m holds clear items s.homes h.slots r),
+        (refl, r.parcels),
+      )
 
 -- by the job of the view
 pub begins_at : {S : Type 0} (items : S → List ℕ) (setup : Setup) (slots id m : ℕ) (v : View) → v.phase ≡ Drawn m

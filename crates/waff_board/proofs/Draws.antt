@@ -3,10 +3,11 @@ use Rattle.std.proofs.Common.{◌≡◌, ◌≢◌, ◌⊎◌, inl, inr, ℕ, �
 use Rattle.std.proofs.Math.Nat.{mod-eq_of_lt}
 use Rattle.std.proofs.lemmas.List.{get_or-set_same, get_or-set_other}
 use Rattle.std.proofs.lemmas.Bool.{cases_lt}
-use Rattle.atomic_table.specs.Table.{Allows, keeps}
+use mathlib.Core.Option.{some}
+use lib.ListN.{get_elem?}
+use Rattle.atomic_table.specs.Table.{Allows, State, keeps, stepped}
 use Rattle.waff_core.specs.Job.{JobValue}
 use Rattle.waff_core.specs.Machine.{Core, IsAway, Runs, opening, phase_of, phase_drawn, drawn_by}
-use Rattle.waff_core.specs.declared.event.Event.{Event}
 use Rattle.waff_core.specs.declared.event.Event.TheVariants.{Draw}
 use Rattle.waff_core.specs.declared.phase.Phase.TheVariants.{Free, Running}
 use Rattle.waff_board.specs.Shows.{IsStatus, Words, Slots}
@@ -19,7 +20,8 @@ use Rattle.waff_board.proofs.Known.{known, runs_more}
 use Rattle.waff_core.proofs.Phases.{phase_same, phase_other}
 use Rattle.waff_board.proofs.Phases.{IsStill, runs_before, runs_after}
 use Rattle.waff_board.proofs.Listed.{Adds, adds_one}
-use Rattle.waff_board.proofs.Moves.{Moves, ran_stays, seats_moved}
+use Rattle.waff_board.proofs.Nexts.{IsNext, holds_next}
+use Rattle.waff_board.proofs.Moves.{Moves, phase_here, ran_stays, seats_moved}
 
 free_still : IsStill Free
 free_still n same = cc
@@ -102,41 +104,46 @@ draws_more drawn xs below once = adds_one (λ p. p < drawn) (λ p. p < drawn + 1
     more p is = ⊎_elim {C = (p < drawn) ⊎ (drawn ≡ p)}
         (λ (before : p < drawn). inl before) (λ (past : drawn ≤ p). inr (omega (arith, past, is))) (cases_lt p drawn)
 
-module _ (setup : Setup) where
-  -- a free seat may draw
-  pub draws : {S : Type 0} (items : S → List ℕ) (slots id : ℕ) (v : View) (held : List (ℕ × S)) → v.phase ≡ Free
-      → Allows (Holds items setup) slots id (v, held) 0 (λ n. (n + 1) % 2 ^ 64) (λ found after. after ≡ (drawn_view v found, held))
-  draws {S} items slots id v held is_free s h sized at small =
+module _ {S : Type 0} (items : S → List ℕ) (setup : Setup) where
+  -- words and views after a draw of a free seat
+  pub draw_next : (s : State S View) (h : Holds items setup s) (id p : ℕ) (v : View) → get_elem? s.views id ≡ some v → v.phase ≡ Free
+      → slice_index s.words 0 ≡ p
+      → IsNext setup h.core (Draw v.actor) (drawn_by setup.job h.core v.actor) (set s.words 0 ((p + 1) % 2 ^ 64)) (set s.views id (drawn_view v p))
+  draw_next s h id p v at is_free found =
       let job = setup.job in
       let core = h.core in
       let x = v.actor in
       let mine : Shown job core v = h.seats.each id v at in
-      let free : phase_of core.phases x ≡ Some Free = subst (λ p. phase_of core.phases x ≡ Some p) is_free mine.phase in
+      let free : phase_of core.phases x ≡ Some Free = phase_here setup core s.views h.seats id v at Free is_free in
       let next : Core = drawn_by job core x in
-      let events : List Event = h.events ++ Draw x ∷ [] in
-      let reached : Runs job (opening setup.seats) events next
+      let reached : Runs job (opening setup.seats) (h.events ++ Draw x ∷ []) next
       = runs_more job (opening setup.seats) core next h.events (Draw x) h.reached (free, refl) in
-      let drawn : slice_index s.words 0 ≡ core.drawn = h.words.draws in
-      let limit : core.drawn + 1 ≤ length job.ops + setup.seats = (known job h.told.job setup.seats events next reached).drawn in
+      let limit : core.drawn + 1 ≤ length job.ops + setup.seats = (known job h.told.job setup.seats (h.events ++ Draw x ∷ []) next reached).drawn in
       let short = h.told.short in
       let few = h.told.few in
       let fits : (core.drawn + 1) % 2 ^ 64 ≡ core.drawn + 1 = mod-eq_of_lt (omega (arith, limit, short, few)) in
-      let word : (slice_index s.words 0 + 1) % 2 ^ 64 ≡ core.drawn + 1 = rw drawn fits in (
-        drawn_view v (slice_index s.words 0),
+      let number : core.drawn ≡ p = sym h.words.draws ∙ found in
+      record {
+        steps = (free, refl);
+        words = subst (λ k. Words job next (set s.words 0 ((k + 1) % 2 ^ 64))) number
+            (subst (λ k. Words job next (set s.words 0 k)) (sym fits) (words_drawn job core x free s.words h.words));
+        seats = subst (λ k. Seats setup next (set s.views id (drawn_view v k))) number
+            (seats_moved setup core next s.views id v (drawn_view v core.drawn) at (moves_drawn job core x free) h.seats refl refl
+            (shown_drawn job core x free v refl mine)
+            (draws_more core.drawn v.draws (h.seats.draws.only id v at) (h.seats.draws.once id v at))
+            (ran_stays setup core s.views id v at h.seats));
+      }
+
+  -- a free seat may draw
+  pub draws : (slots id : ℕ) (v : View) (held : List (ℕ × S)) → v.phase ≡ Free
+      → Allows (Holds items setup) slots id (v, held) 0 (λ n. (n + 1) % 2 ^ 64) (λ found after. after ≡ (drawn_view v found, held))
+  draws slots id v held is_free s h sized at small =
+      let p = slice_index s.words 0 in
+      let free = phase_here setup h.core s.views h.seats id v at Free is_free in (
+        drawn_view v p,
         keeps,
         tt,
-        record {
-          told = h.told;
-          events = events;
-          core = next;
-          reached = reached;
-          words = subst (λ k. Words job next (set s.words 0 k)) (sym word) (words_drawn job core x free s.words h.words);
-          slots = slots_drawn job core x free items s.homes h.slots;
-          seats = subst (λ p. Seats setup next (set s.views id (drawn_view v p))) (sym drawn)
-              (seats_moved setup core next s.views id v (drawn_view v core.drawn) at (moves_drawn job core x free) h.seats refl refl
-              (shown_drawn job core x free v refl mine)
-              (draws_more core.drawn v.draws (h.seats.draws.only id v at) (h.seats.draws.once id v at))
-              (ran_stays setup core s.views id v at h.seats));
-        },
+        holds_next items setup s (stepped s 0 ((p + 1) % 2 ^ 64) id held (drawn_view v p) keeps) h (Draw v.actor)
+            (drawn_by setup.job h.core v.actor) (draw_next s h id p v at is_free refl) (slots_drawn setup.job h.core v.actor free items s.homes h.slots),
         refl,
       )

@@ -2,10 +2,11 @@
 use Rattle.std.proofs.Common.{◌≡◌, ◌≢◌, ◌⊎◌, inl, inr, ⊎_elim, ℕ, ◌==◌, ◌||◌, true, true≢false, List, [], ◌∷◌, ◌++◌, Some, AllPairs, Contains, set, slice_index, refl, ap, sym, ◌∙◌, subst, arith, length-set}
 use Rattle.std.proofs.lemmas.List.{get_or-set_same, get_or-set_other}
 use Rattle.std.proofs.lemmas.Option.{same_Some}
-use mathlib.Core.Option.{Option, none}
+use mathlib.Core.Option.{Option, some, none}
 use mathlib.Core.Logic.{dite}
 use native.Mathlib.Decide.{ℕ_discrete}
-use Rattle.atomic_table.specs.Table.{Allows, homes_after}
+use lib.ListN.{get_elem?}
+use Rattle.atomic_table.specs.Table.{Allows, State, stepped, homes_after}
 use Rattle.waff_cells.specs.Meaning.{meaning}
 use Rattle.waff_cells.specs.Serial.{SameParcel, ops_of, serial}
 use Rattle.waff_cells.proofs.MeaningLaws.{meaning_other}
@@ -21,10 +22,11 @@ use Rattle.waff_board.specs.Rule.{Holds}
 use Rattle.waff_board.specs.Plays.{Parcels, finished_view}
 use Rattle.waff_board.specs.declared.view.Setup.{Setup}
 use Rattle.waff_board.specs.declared.view.View.{View}
-use Rattle.waff_board.proofs.Known.{Known, known, runs_more}
+use Rattle.waff_board.proofs.Known.{Known, known}
+use Rattle.waff_board.proofs.Nexts.{IsNext, holds_next}
 use Rattle.waff_board.proofs.Seen.{finish_cases}
 use Rattle.waff_board.proofs.Listed.{Adds, adds_one, at_within}
-use Rattle.waff_board.proofs.Moves.{Moves, draws_stay, seats_moved}
+use Rattle.waff_board.proofs.Moves.{Moves, phase_here, draws_stay, seats_moved}
 use Rattle.waff_board.proofs.Owners.{decide_in}
 use Rattle.waff_board.proofs.Phases.{IsStill, runs_before}
 use Rattle.waff_board.proofs.Handing.{IsHome, Given, give_all, given}
@@ -187,38 +189,45 @@ module _ (job : JobValue) (is : IsJob job) (seats : ℕ) (core : Core) (known : 
     seen = seen_finished v h;
   }
 
--- a seat that runs a message, and has the parcels of the state after it, may finish it
-pub finishes : {S : Type 0} (items : S → List ℕ) (setup : Setup) (slots id m : ℕ) (v : View) (held : List (ℕ × S)) → v.phase ≡ Running m
-    → Parcels items setup.job.layout.spaces (serial setup.job.ops m) (owners_of setup.job.owners m) held
-    → Allows (Holds items setup) slots id (v, held) m (λ _. 2) (λ _ after. after ≡ (finished_view v m, []))
-finishes {S} items setup slots id m v held is_running parcels s h sized at small =
-    let job = setup.job in
-    let is = h.told.job in
-    let core = h.core in
-    let x = v.actor in
-    let mine : Shown job core v = h.seats.each id v at in
-    let runs : phase_of core.phases x ≡ Some (Running m) = subst (λ p. phase_of core.phases x ≡ Some p) is_running mine.phase in
-    let facts : Known job setup.seats core = known job is setup.seats h.events core h.reached in
-    let next : Core = ended_by job core x m in
-    let r : Given items job.layout.spaces (serial job.ops m) s.homes (owners_of job.owners m) held
-    = put job is setup.seats core facts x m runs items s.homes h.slots held parcels in (
-      finished_view v m,
-      give_all held,
-      r.valid,
+module _ {S : Type 0} (items : S → List ℕ) (setup : Setup) where
+  -- words and views after a finish
+  pub finish_next : (s : State S View) (h : Holds items setup s) (id m : ℕ) (v : View) → get_elem? s.views id ≡ some v → v.phase ≡ Running m
+      → IsNext setup h.core (End v.actor) (ended_by setup.job h.core v.actor m) (set s.words m 2) (set s.views id (finished_view v m))
+  finish_next s h id m v at is_running =
+      let job = setup.job in
+      let is = h.told.job in
+      let core = h.core in
+      let x = v.actor in
+      let mine : Shown job core v = h.seats.each id v at in
+      let runs : phase_of core.phases x ≡ Some (Running m) = phase_here setup core s.views h.seats id v at (Running m) is_running in
+      let facts : Known job setup.seats core = known job is setup.seats h.events core h.reached in
       record {
-        told = h.told;
-        events = h.events ++ End x ∷ [];
-        core = next;
-        reached = runs_more job (opening setup.seats) core next h.events (End x) h.reached (m, runs, refl);
+        steps = (m, runs, refl);
         words = words_finished job is setup.seats core facts x m runs s.words h.words;
-        slots = slots_finished job is setup.seats core facts x m runs items s.homes h.slots held r;
-        seats = seats_moved setup core next s.views id v (finished_view v m) at (moves_finished job is setup.seats core facts x m runs) h.seats refl refl
-            (shown_finished job is setup.seats core facts x m runs v refl mine)
+        seats = seats_moved setup core (ended_by job core x m) s.views id v (finished_view v m) at (moves_finished job is setup.seats core facts x m runs)
+            h.seats refl refl (shown_finished job is setup.seats core facts x m runs v refl mine)
             (draws_stay setup core s.views id v at h.seats)
             (ran_more job is setup.seats core facts x m runs v.ran (h.seats.ran.only id v at) (h.seats.ran.once id v at));
-      },
-      ap (λ (left : List (ℕ × S)). (finished_view v m, left)) r.none,
-    )
+      }
+
+  -- a seat that runs a message, and has the parcels of the state after it, may finish it
+  pub finishes : (slots id m : ℕ) (v : View) (held : List (ℕ × S)) → v.phase ≡ Running m
+      → Parcels items setup.job.layout.spaces (serial setup.job.ops m) (owners_of setup.job.owners m) held
+      → Allows (Holds items setup) slots id (v, held) m (λ _. 2) (λ _ after. after ≡ (finished_view v m, []))
+  finishes slots id m v held is_running parcels s h sized at small =
+      let job = setup.job in
+      let runs = phase_here setup h.core s.views h.seats id v at (Running m) is_running in
+      let facts : Known job setup.seats h.core = known job h.told.job setup.seats h.events h.core h.reached in
+      let r : Given items job.layout.spaces (serial job.ops m) s.homes (owners_of job.owners m) held
+      = put job h.told.job setup.seats h.core facts v.actor m runs items s.homes h.slots held parcels in (
+        finished_view v m,
+        give_all held,
+        r.valid,
+        holds_next items setup s (stepped s m 2 id held (finished_view v m) (give_all held)) h (End v.actor) (ended_by job h.core v.actor m)
+            (finish_next s h id m v at is_running)
+            (slots_finished job h.told.job setup.seats h.core facts v.actor m runs items s.homes h.slots held r),
+        ap (λ (left : List (ℕ × S)). (finished_view v m, left)) r.none,
+      )
 
 -- by the job of the view
 pub finishes_at : {S : Type 0} (items : S → List ℕ) (setup : Setup) (slots id m : ℕ) (v : View) (held : List (ℕ × S)) → v.phase ≡ Running m

@@ -2,6 +2,8 @@ mod Phases
 mod Known
 mod Listed
 mod Moves
+mod Nexts
+mod Events
 mod Seen
 mod Draws
 mod Numbers

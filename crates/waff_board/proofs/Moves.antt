@@ -5,6 +5,7 @@ use lib.ListN.{get_elem?}
 use Rattle.atomic_table.proofs.Lists.{at_set}
 use Rattle.waff_core.specs.Job.{JobValue}
 use Rattle.waff_core.specs.Machine.{Core, phase_of}
+use Rattle.waff_core.specs.declared.phase.Phase.{Phase}
 use Rattle.waff_core.specs.declared.phase.Phase.TheVariants.{Free}
 use Rattle.waff_board.specs.Seats.{Shown, Seats}
 use Rattle.waff_board.specs.declared.view.Setup.{Setup}
@@ -24,6 +25,11 @@ shown_moved job core next x v moves other h = record {
   phase = moves.others v.actor other ∙ h.phase;
   seen = λ n sees. moves.done n (h.seen n sees);
 }
+
+-- the phase of a seat is that of its actor
+pub phase_here : (setup : Setup) (core : Core) (views : List View) → Seats setup core views → (id : ℕ) (v : View) → get_elem? views id ≡ some v
+    → (phase : Phase) → v.phase ≡ phase → phase_of core.phases v.actor ≡ Some phase
+phase_here setup core views h id v at phase is = subst (λ p. phase_of core.phases v.actor ≡ Some p) is (h.each id v at).phase
 
 module _ (setup : Setup) (core next : Core) (views : List View) (id : ℕ) (v w : View)
     (at : get_elem? views id ≡ some v) (moves : Moves core v.actor next) (h : Seats setup core views) where

@@ -1,18 +1,21 @@
 -- What holds between any two atomic steps of a board, whichever threads make them.
-use Rattle.std.specs.Prelude.{◌≡◌, ◌⊎◌, ◌↔◌, ℕ, ◌+◌, ◌<◌, ◌≤◌, [], Some, length}
-use Rattle.std.specs.Prelude.{slice_get, slice_index}
+use Rattle.std.specs.Prelude.{◌≡◌, ◌⊎◌, ◌↔◌, ℕ, ◌+◌, ◌%◌, ◌^◌, ◌<◌, ◌≤◌, [], ◌∷◌, ◌++◌, Some, length}
+use Rattle.std.specs.Prelude.{slice_get, slice_index, slice_set}
 use Rattle.std.specs.Global.{Vec}
 use mathlib.Core.Option.{some}
 use lib.ListN.{get_elem?}
 use Rattle.atomic_table.specs.Table.{State}
 use Rattle.waff_core.specs.Job.{IsIn, StandsAt}
-use Rattle.waff_core.specs.Machine.{opening}
-use Rattle.waff_core.specs.declared.phase.Phase.TheVariants.{Drawn, Running}
+use Rattle.waff_core.specs.Machine.{Steps, opening}
+use Rattle.waff_core.specs.declared.event.Event.TheVariants.{Draw, Begin, End}
+use Rattle.waff_core.specs.declared.phase.Phase.TheVariants.{Free, Drawn, Running}
+use Rattle.waff_board.specs.Plays.{drawn_view, looked_view, begun_view, finished_view}
+use Rattle.waff_board.specs.Plays.{made_view, next_view}
 use Rattle.waff_board.specs.Rule.{Holds}
 use Rattle.waff_board.specs.Seats.{HasSeen, StandsInOne}
 use Rattle.waff_board.specs.declared.view.Setup.{Setup}
 use Rattle.waff_board.specs.declared.view.View.{View}
-use Rattle.waff_board.specs.declared.view.TheConstants.{DONE}
+use Rattle.waff_board.specs.declared.view.TheConstants.{RUNNING, DONE}
 
 -- the words, the slots at home and the views between two steps
 abbrev pub IsBetween : Setup → State (Vec ℕ) View → Type 0
@@ -98,3 +101,53 @@ abbrev pub DrawsAreFew : Setup → Type 0
 DrawsAreFew setup =
     (s : State (Vec ℕ) View) → IsBetween setup s
     → slice_index s.words 0 ≤ length setup.job.ops + setup.seats
+
+-- words, slots and views show one state of the core machine
+abbrev pub ShowsOneState : Setup → Type 0
+ShowsOneState setup =
+    (s : State (Vec ℕ) View) (one other : IsBetween setup s) → one.core ≡ other.core
+
+-- a step leads from s to t: it stores the word at this place, and the seat that makes it has the
+-- view w then
+pub record IsStep (s t : State (Vec ℕ) View) (place word seat : ℕ) (w : View) : Type 0 where
+  pub words : t.words ≡ slice_set s.words place word
+  pub views : t.views ≡ slice_set s.views seat w
+
+-- a draw is one draw of the core machine
+abbrev pub DrawIsOneEvent : Setup → Type 0
+DrawIsOneEvent setup =
+    (s t : State (Vec ℕ) View) (before : IsBetween setup s) (after : IsBetween setup t)
+    → (seat p : ℕ) (v : View) → Knows s seat v → v.phase ≡ Free → slice_index s.words 0 ≡ p
+    → IsStep s t 0 ((p + 1) % 2 ^ 64) seat (drawn_view v p)
+    → Steps setup.job before.core (Draw v.actor) after.core
+
+-- a begin is one begin of the core machine
+abbrev pub BeginIsOneEvent : Setup → Type 0
+BeginIsOneEvent setup =
+    (s t : State (Vec ℕ) View) (before : IsBetween setup s) (after : IsBetween setup t)
+    → (seat m : ℕ) (v : View) → Knows s seat v → v.phase ≡ Drawn m
+    → IsStep s t m RUNNING seat (begun_view v m)
+    → Steps setup.job before.core (Begin v.actor) after.core
+
+-- a finish is one end of the core machine
+abbrev pub FinishIsOneEvent : Setup → Type 0
+FinishIsOneEvent setup =
+    (s t : State (Vec ℕ) View) (before : IsBetween setup s) (after : IsBetween setup t)
+    → (seat m : ℕ) (v : View) → Knows s seat v → v.phase ≡ Running m
+    → IsStep s t m DONE seat (finished_view v m)
+    → Steps setup.job before.core (End v.actor) after.core
+
+-- a look leaves the state of the core machine
+abbrev pub LookIsNoEvent : Setup → Type 0
+LookIsNoEvent setup =
+    (s t : State (Vec ℕ) View) (before : IsBetween setup s) (after : IsBetween setup t)
+    → (seat n word : ℕ) (v : View) → Knows s seat v → slice_index s.words n ≡ word
+    → IsStep s t n word seat (looked_view v n word) → after.core ≡ before.core
+
+-- so does the making of a seat
+abbrev pub MakingIsNoEvent : Setup → Type 0
+MakingIsNoEvent setup =
+    (s t : State (Vec ℕ) View) (before : IsBetween setup s) (after : IsBetween setup t)
+    → (seat : ℕ) (v : View) → Knows s seat v → t.words ≡ s.words
+    → t.views ≡ slice_set s.views seat (made_view v) ++ next_view v ∷ []
+    → after.core ≡ before.core

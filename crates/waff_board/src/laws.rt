@@ -4,6 +4,8 @@
 ghost use Rattle.waff_board.specs.Laws.{ActorsDiffer, NumbersDiffer, NumbersAreDrawn};
 ghost use Rattle.waff_board.specs.Laws.{HandedOutOnce, RunByOne, RunOnce, DoneIsRun};
 ghost use Rattle.waff_board.specs.Laws.{SeenIsDone, DrawsAreFew, OpensUntouched};
+ghost use Rattle.waff_board.specs.Laws.{ShowsOneState, DrawIsOneEvent, BeginIsOneEvent};
+ghost use Rattle.waff_board.specs.Laws.{FinishIsOneEvent, LookIsNoEvent, MakingIsNoEvent};
 ghost use Rattle.waff_board.specs.declared.view.Setup.{Setup};
 
 /// No two seats are one actor.
@@ -54,4 +56,31 @@ pub fn draws_are_few()
 /// Where no seat has drawn, nothing is drawn or done, and every cell is 0.
 pub fn opens_untouched()
     ensures { (setup : Setup) → OpensUntouched setup }
+{}
+
+/// Words, slots and views show one state of the core machine. So a step that changes none of them,
+/// as one that takes a parcel out of a slot or puts one in, leaves the state.
+pub fn shows_one_state()
+    ensures { (setup : Setup) → ShowsOneState setup }
+{}
+
+/// A draw is one draw of the core machine.
+pub fn draw_is_one_event()
+    ensures { (setup : Setup) → DrawIsOneEvent setup }
+{}
+
+/// A begin is one begin of the core machine.
+pub fn begin_is_one_event()
+    ensures { (setup : Setup) → BeginIsOneEvent setup }
+{}
+
+/// A finish is one end of the core machine.
+pub fn finish_is_one_event()
+    ensures { (setup : Setup) → FinishIsOneEvent setup }
+{}
+
+/// A look and the making of a seat leave the state of the core machine.
+pub fn others_are_no_event()
+    ensures look { (setup : Setup) → LookIsNoEvent setup }
+    ensures making { (setup : Setup) → MakingIsNoEvent setup }
 {}

@@ -1,10 +1,12 @@
 //! The running board: a job that threads replay together, each through a seat of its own.
 //!
-//! Each event of the core machine is one atomic step on the board's table, in any schedule of
-//! threads; every other step leaves the machine's state as it is. A seat goes from token to token,
-//! each of which one call takes and the next one gives: `Seat`, draw, `Drawn`, clear, `Cleared`,
-//! begin, `Grant`, run, `Finished`, finish, `Seat`; at the end `EndSeat`, until it has seen all
-//! messages done, and close. From draw to the end nothing takes memory or waits.
+//! Between any two atomic steps on the board's table, in any schedule of threads, it shows one state
+//! of the core machine, which events reach. Each event is one step: a draw, a begin and a finish are
+//! one event each, and every other step leaves the state as it is (`laws`). A seat goes from token
+//! to token, each of which one call takes and the next one gives: `Seat`, draw, `Drawn`, clear,
+//! `Cleared`, begin, `Grant`, run, `Finished`, finish, `Seat`; at the end `EndSeat`, until it has
+//! seen all messages done, and close. From draw to the end no call waits, by its bounds, and none
+//! takes memory, by tests.
 //! - `law`: the rule between any two steps; `plays`: the kinds of steps; `view`, `hand`: what a
 //!   seat knows and holds.
 //! - `board`, `opening`: the board, and making it with its seats; `tokens`: what the calls take and

@@ -18,7 +18,8 @@ pub struct View {
     pub phase: Phase,
     /// The numbers that it drew.
     pub draws: LinkedList<u64>,
-    /// The messages that it looked at, each with whether it was done.
+    /// The messages that it looked at, each with whether the look told that it was done. One that a
+    /// look tells done is done; one that it does not may be done meanwhile.
     pub looks: LinkedList<(u32, bool)>,
     /// The messages that it finished.
     pub ran: LinkedList<u32>,

@@ -4,6 +4,8 @@ pub mod Sound
 pub mod Clearings
 mod Determined
 mod OneActor
+mod GoingOn
+pub mod Following
 mod Deciding
 mod Reaching
 mod OrderLength

@@ -6,7 +6,7 @@ use Rattle.waff_assign.specs.Order.{PathBy}
 use Rattle.waff_order.specs.Needs.{IsNeed}
 use Rattle.waff_core.specs.Job.{JobValue, IsJob, StandsAt}
 use Rattle.waff_core.specs.Machine.{Core, Runs, IsClear, opening, phase_of, phase_drawn, drawn_by, begun_by, ended_by}
-use Rattle.waff_core.specs.Laws.{rounds, OneActorEnds}
+use Rattle.waff_core.specs.Laws.{rounds, AreAllDone, OneActorEnds}
 use Rattle.waff_core.specs.declared.event.Event.{Event}
 use Rattle.waff_core.specs.declared.event.Event.TheVariants.{Draw, Begin, End}
 use Rattle.waff_core.specs.declared.phase.Phase.TheVariants.{Free, Drawn, Running}
@@ -29,11 +29,11 @@ path_stands_before job is (suc n) i m place other (k, need, path) at at_m =
     omega arith
 
 -- the messages at the places before this one are done
-abbrev AreDoneBefore : JobValue → Core → ℕ → Type 0
+abbrev pub AreDoneBefore : JobValue → Core → ℕ → Type 0
 AreDoneBefore job s places = (place m : ℕ) → place < places → StandsAt job.order place m → s.done m ≡ true
 
 -- where all before it are done, the message that stands next is clear
-next_is_clear : (job : JobValue) → IsJob job → (s : Core) (place m : ℕ) → StandsAt job.order place m → AreDoneBefore job s place → IsClear job s m
+pub next_is_clear : (job : JobValue) → IsJob job → (s : Core) (place m : ℕ) → StandsAt job.order place m → AreDoneBefore job s place → IsClear job s m
 next_is_clear job is s place m at done i ordered =
     let from : 1 ≤ i = ordered.from in
     let later : i < m = ordered.earlier in
@@ -104,17 +104,17 @@ rounds_run job is x (suc n) s count free done =
     (subst (λ k. AreDoneBefore job next k) (sym drew) (done_after job is x s m free at done)) in
     (more.0, round job is x s m free at done (rounds x n) more.0 more.1, more.2)
 
+-- where all places of the order are, all messages are
+pub all_are_done : (job : JobValue) → IsJob job → (s : Core) → AreDoneBefore job s (length job.order) → AreAllDone job s
+all_are_done job is s done m within =
+    let count : length job.needs ≡ length job.assigned = is.needs.count in
+    let also : length job.assigned ≡ length job.ops = is.count in
+    let last : m ≤ length job.ops = within.to in
+    let stands = is.order.each m within.from (omega arith) in
+    done stands.0 m (slice_get_within job.order stands.0 m stands.1) stands.1
+
 pub one_actor_ends : (job : JobValue) → IsJob job → OneActorEnds job
 one_actor_ends job is seats x from to =
     let run = rounds_run job is x (length job.order) (opening seats) (omega arith) (phase_free seats x from to)
-    (λ place m before stands. absurd (omega arith)) in (
-      run.0,
-      run.1,
-      λ m within.
-          let count : length job.needs ≡ length job.assigned = is.needs.count in
-          let also : length job.assigned ≡ length job.ops = is.count in
-          let last : m ≤ length job.ops = within.to in
-          let stands = is.order.each m within.from (omega arith) in
-          let short : stands.0 < length job.order = slice_get_within job.order stands.0 m stands.1 in
-          run.2 stands.0 m short stands.1,
-    )
+    (λ place m before stands. absurd (omega arith)) in
+    (run.0, run.1, all_are_done job is run.0 run.2)

@@ -9,7 +9,7 @@ use Rattle.waff_order.specs.Needs.{needs_of}
 use Rattle.waff_cells.specs.Meaning.{meaning}
 use Rattle.waff_cells.specs.Serial.{SameParcel, ops_of, serial}
 use Rattle.waff_core.specs.Job.{JobValue, IsIn, IsOwner}
-use Rattle.waff_core.specs.Machine.{Core, Runs, IsClear, IsAway, opening, phase_of}
+use Rattle.waff_core.specs.Machine.{Core, Runs, Steps, IsClear, IsAway, opening, phase_of}
 use Rattle.waff_core.specs.Refused.{FailsFirst}
 use Rattle.waff_core.specs.Statuses.{HasStatus, ShowsStatus}
 use Rattle.waff_core.specs.Settled.{IsLast, CellsAreSerial}
@@ -68,6 +68,20 @@ abbrev pub OneActorEnds : JobValue → Type 0
 OneActorEnds job =
     (seats x : ℕ) → 1 ≤ x → x ≤ seats
     → (s : Core) × Runs job (opening seats) (rounds x (length job.order)) s × AreAllDone job s
+
+-- in a state that is reached all messages are done, or the machine accepts an event: a free actor
+-- may draw, one may begin the message that it holds, or one may end the message that it runs
+abbrev pub NeverStuck : JobValue → Type 0
+NeverStuck job =
+    (seats : ℕ) (s : Core) → 1 ≤ seats → Reaches job seats s
+    → AreAllDone job s ⊎ ((event : Event) × (t : Core) × Steps job s event t)
+
+-- the draws, the phases and what is done decide a state that is reached: its cells follow
+abbrev pub CellsFollow : JobValue → Type 0
+CellsFollow job =
+    (seats : ℕ) (s t : Core) → Reaches job seats s → Reaches job seats t
+    → s.drawn ≡ t.drawn → s.phases ≡ t.phases
+    → ((m : ℕ) → IsIn job m → (s.done m ≡ true) ↔ (t.done m ≡ true)) → s ≡ t
 
 -- the number of draws is at most that of the messages and of the actors
 abbrev pub DrawsAreFew : JobValue → Type 0

@@ -6,7 +6,7 @@ ghost use Rattle.waff_core.specs.Laws.{RunsOnce, FailsOnce, RunsOrFails, NeverBo
 ghost use Rattle.waff_core.specs.Laws.{OneActorEnds, DrawsAreFew, EachHasOneStatus, ShowsWhatItHas};
 ghost use Rattle.waff_core.specs.Laws.{NeedsAreEnough, RunningDoNotExclude, AwayWithOne};
 ghost use Rattle.waff_core.specs.Laws.{BeginsAtHome, LastIsOne, AlwaysSerial, EachCellIsSerial};
-ghost use Rattle.waff_core.specs.Laws.{AllDoneIsSerial, BeginsSettled};
+ghost use Rattle.waff_core.specs.Laws.{AllDoneIsSerial, BeginsSettled, NeverStuck, CellsFollow};
 
 /// The machine is deterministic: a list of events leads from a state to no more than one.
 pub fn runs_once()
@@ -33,9 +33,14 @@ pub fn stays_accepted()
     ensures { (job : JobValue) → StaysAccepted job }
 {}
 
-/// No job is stuck: any one actor can run the whole order, and then all messages are done.
+/// Any one actor can run the whole order, and then all messages are done.
 pub fn one_actor_ends()
     ensures { (job : JobValue) → IsJob job → OneActorEnds job }
+{}
+
+/// No state that some actors reach is stuck: all messages are done, or some actor may do something.
+pub fn never_stuck()
+    ensures { (job : JobValue) → IsJob job → NeverStuck job }
 {}
 
 /// The number of draws is at most that of the messages and of the actors.
@@ -76,6 +81,11 @@ pub fn last_is_one()
 pub fn cells_are_serial()
     ensures parcels { (job : JobValue) → IsJob job → AlwaysSerial job }
     ensures cells { (job : JobValue) → IsJob job → EachCellIsSerial job }
+{}
+
+/// A state is decided by its draws, by what the actors do and by which messages are done.
+pub fn cells_follow()
+    ensures { (job : JobValue) → IsJob job → CellsFollow job }
 {}
 
 /// Where all messages are done the cells are those of arrival order.

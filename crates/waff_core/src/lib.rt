@@ -3,7 +3,8 @@
 //! A job is a trace with its affinities, its needs and an order in which messages are drawn. An
 //! actor draws the next message, begins it when all earlier messages that exclude it are done, and
 //! ends it. The machine is pure: no thread is in it. What the crates above rest on: whatever list
-//! of events it accepts, each cell has the value that the order of arrival gives it.
+//! of events it accepts, each cell has the value that the order of arrival gives it after the last
+//! message that is done and could touch it.
 //! - `job`, `order`, `refusal`: jobs, and why they are refused; `owners`, over `operations`: the owners
 //!   of footprints.
 //! - `event`, `phase`, `status`, `homes`: the parts of a state; `core_state`: the whole.

@@ -5,8 +5,8 @@ use waff_board::Grant;
 
 /// A gate that every message passes when its parcels are taken and its operations have not run yet.
 pub trait Gate: Sync {
-    /// Called once for each message, by the worker that runs it, at any time after the message has
-    /// begun.
+    /// Called once for each message, by the worker that runs it, after the message has begun and
+    /// before its operations run.
     fn before(&self, grant: &Grant<'_>);
 }
 

@@ -1,6 +1,8 @@
 //! What one worker does.
 
+ghost use Rattle.std.specs.Prelude.{◌≤◌};
 ghost use Rattle.waff_board.specs.Tokens.{IsOf};
+ghost use Rattle.waff_replay.specs.declared.work.TheConstants.{LONGEST_REST};
 
 use crate::gate::Gate;
 use std::hint::spin_loop;
@@ -43,7 +45,9 @@ pub(crate) fn work<R: Wait, G: Gate>(rt: &R, board: &Board, mut seat: Seat, gate
 }
 
 /// Rests for about so many microseconds. No answer depends on how long.
-fn rest<R: Wait>(rt: &R, micros: u32) {
+fn rest<R: Wait>(rt: &R, micros: u32)
+    requires { micros ≤ LONGEST_REST }
+{
     if micros < SLEEP {
         for _ in 0..micros {
             yield_now();
@@ -55,7 +59,10 @@ fn rest<R: Wait>(rt: &R, micros: u32) {
 
 /// How long a worker rests after a message: about twice as long as before it if it had to wait for the
 /// message, and else a little less long.
-fn next_rest(micros: u32, has_waited: bool) -> u32 {
+fn next_rest(micros: u32, has_waited: bool) -> u32
+    requires { micros ≤ LONGEST_REST }
+    ensures { result ≤ LONGEST_REST }
+{
     if has_waited {
         micros.saturating_mul(2).saturating_add(1).min(LONGEST_REST)
     } else {

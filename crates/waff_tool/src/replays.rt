@@ -34,8 +34,9 @@ use waff_order::predecessors::needs;
 use waff_replay::{Open, replay, serial};
 
 /// Writes the state that the messages of the trace leave under the hierarchy. They are replayed by
-/// this many workers, each in a thread of its own, in the order of the list plan for as many;
-/// releases are not waited for. Nothing is written before the whole text is made.
+/// this many workers, of which the calling thread is one, in the order of the list plan for as many:
+/// for one worker that of arrival, if no message has a release. Releases are not waited for. Nothing
+/// is written before the whole text is made.
 pub fn replay_text<R: Threads + Wait + Sync, W: Write>(
     rt: &R,
     alloc: Global,

@@ -70,11 +70,13 @@ fn of_the_samples(rt: HostRuntime) {
     leaves(&rt, rt.alloc(), &SECOND, 2, &Open);
 }
 
-/// A gate that counts how often each of the messages 1 to 16 comes.
+/// A gate that marks which of the messages 1 to 16 come.
 #[derive(Drop)]
 struct Tally {
-    /// A hexadecimal digit for each message, that of the first the lowest.
+    /// A bit for each message, that of the first the lowest.
     came: AtomicU64,
+    /// Whether a message came that is marked already, or has no mark.
+    again: AtomicBool,
 }
 
 impl Tally {
@@ -82,28 +84,36 @@ impl Tally {
     fn new() -> Self {
         Tally {
             came: AtomicU64::new(0),
+            again: AtomicBool::new(false),
         }
+    }
+
+    /// Whether each of so many messages, 16 or fewer, has come once, and no other.
+    fn is_once_each(&self, messages: u32) -> bool {
+        self.came.load(Ordering::SeqCst) == marks(messages) && !self.again.load(Ordering::SeqCst)
     }
 }
 
 impl Gate for Tally {
     fn before(&self, grant: &Grant<'_>) {
-        self.came
-            .fetch_add(digit(grant.message()), Ordering::SeqCst);
+        let mark = mark(grant.message());
+        if mark == 0 || self.came.fetch_or(mark, Ordering::SeqCst) & mark != 0 {
+            self.again.store(true, Ordering::SeqCst);
+        }
     }
 }
 
-/// A one in the digit of the message.
-fn digit(message: u32) -> u64 {
+/// The bit of the message.
+fn mark(message: u32) -> u64 {
     match message {
-        1..=16 => 1 << (4 * (message - 1)),
+        1..=16 => 1 << (message - 1),
         _ => 0,
     }
 }
 
-/// The tally in which each of so many messages, 16 or fewer, has come once.
-fn once_each(messages: u32) -> u64 {
-    (1..messages.min(16) + 1).fold(0, |sum, message| sum | digit(message))
+/// The bits of so many messages, 16 or fewer.
+fn marks(messages: u32) -> u64 {
+    (1..messages.min(16) + 1).fold(0, |sum, message| sum | mark(message))
 }
 
 #[test]
@@ -111,8 +121,7 @@ fn each_message_passes_the_gate_once(rt: HostRuntime) {
     for workers in [1, 2, 3, 16] {
         let tally = Tally::new();
         leaves(&rt, rt.alloc(), &FIRST, workers, &tally);
-        let came = tally.came.load(Ordering::SeqCst);
-        assert!(rt; came == once_each(6), "{workers} workers: {came:x}");
+        assert!(rt; tally.is_once_each(6), "{workers} workers");
     }
 }
 
@@ -123,8 +132,7 @@ const TURNS: u32 = 100_000_000;
 #[derive(Drop)]
 struct Meeting {
     tally: Tally,
-    /// The tally when all have come.
-    all: u64,
+    messages: u32,
     missed: AtomicBool,
 }
 
@@ -132,8 +140,7 @@ impl Gate for Meeting {
     fn before(&self, grant: &Grant<'_>) {
         self.tally.before(grant);
         for _ in 0..TURNS {
-            let came = self.tally.came.load(Ordering::SeqCst);
-            if came == self.all || self.missed.load(Ordering::SeqCst) {
+            if self.tally.is_once_each(self.messages) || self.missed.load(Ordering::SeqCst) {
                 return;
             }
             spin_loop();
@@ -141,6 +148,14 @@ impl Gate for Meeting {
         self.missed.store(true, Ordering::SeqCst);
     }
 }
+
+/// Messages 1 and 2 exclude nobody.
+const TWO: Case<'static> = Case {
+    hierarchy: H1,
+    trace: "message,cost,ops\nm1,1,set f:0 1\nm2,1,set g:0 1\n",
+    messages: 2,
+    wanted: "f:0 1, g:0 1",
+};
 
 /// Messages 1, 2 and 3 exclude nobody.
 const THREE: Case<'static> = Case {
@@ -196,12 +211,15 @@ fn all_meet<R: Threads + Wait + Abort + Sync>(rt: &R, alloc: Global, case: &Case
 {
     let meeting = Meeting {
         tally: Tally::new(),
-        all: once_each(case.messages),
+        messages: case.messages,
         missed: AtomicBool::new(false),
     };
     leaves(rt, alloc, case, case.messages, &meeting);
-    let came = meeting.tally.came.load(Ordering::SeqCst);
-    assert!(rt; came == meeting.all, "{} came: {came:x}", case.messages);
+    assert!(rt;
+        meeting.tally.is_once_each(case.messages),
+        "{} come",
+        case.messages
+    );
     assert!(rt;
         !meeting.missed.load(Ordering::SeqCst),
         "{} missed",
@@ -211,8 +229,44 @@ fn all_meet<R: Threads + Wait + Abort + Sync>(rt: &R, alloc: Global, case: &Case
 
 #[test]
 fn as_many_workers_as_messages_hold_grants_at_once(rt: HostRuntime) {
+    all_meet(&rt, rt.alloc(), &TWO);
     all_meet(&rt, rt.alloc(), &THREE);
     all_meet(&rt, rt.alloc(), &SIXTEEN);
+}
+
+/// As many turns as a message stays inside a gate: longer than threads take to start.
+const STAY: u32 = 1_000_000;
+
+/// A gate that counts the messages that are inside it at once.
+#[derive(Drop)]
+struct Room {
+    inside: AtomicU64,
+    /// As many as were inside at most.
+    most: AtomicU64,
+}
+
+impl Gate for Room {
+    fn before(&self, _grant: &Grant<'_>) {
+        let inside = self.inside.fetch_add(1, Ordering::SeqCst).saturating_add(1);
+        self.most.fetch_max(inside, Ordering::SeqCst);
+        for _ in 0..STAY {
+            spin_loop();
+        }
+        self.inside.fetch_sub(1, Ordering::SeqCst);
+    }
+}
+
+#[test]
+fn no_more_workers_than_asked_for_hold_grants_at_once(rt: HostRuntime) {
+    for workers in [1, 2] {
+        let room = Room {
+            inside: AtomicU64::new(0),
+            most: AtomicU64::new(0),
+        };
+        leaves(&rt, rt.alloc(), &THREE, workers, &room);
+        let most = room.most.load(Ordering::SeqCst);
+        assert!(rt; most <= u64::from(workers), "{workers} workers: {most}");
+    }
 }
 
 /// A trace of so many additions to one cell.

@@ -13,7 +13,7 @@ fetch_add-number-requires c =
     let chair = c.seat.inside.hand.chair in (
       ap (λ (t : Token). t.table) c.seat.view_is ∙ c.requires.0 ∙ sym (ap (λ (b : BoardValue). b.table) c.self.view_is),
       omega (arith, words),
-      draws table.key (λ parcel. parcel.items) table.table_id.slots chair.id chair.me.0 chair.me.1 c.seat.inside.free,
+      draws (λ parcel. parcel.items) table.key table.table_id.slots chair.id chair.me.0 chair.me.1 c.seat.inside.free,
     )
 
 pub invariant_of-result : goal.invariant_of-result
