@@ -1,5 +1,5 @@
 -- A begin keeps the rule.
-use Rattle.std.proofs.Common.{◌≡◌, ◌⊎◌, inl, inr, ⊎_elim, ℕ, ◌-◌, true, true≢false, List, [], ◌∷◌, ◌++◌, Some, Contains, set, slice_index, refl, ap, sym, ◌∙◌, subst, arith, length-set}
+use Rattle.std.proofs.Common.{◌≡◌, ◌⊎◌, inl, inr, ⊎_elim, ℕ, ◌-◌, true, true≢false, List, [], Some, Contains, set, slice_index, refl, ap, sym, ◌∙◌, subst, arith, length-set}
 use Rattle.std.proofs.lemmas.List.{get_or-set_same, get_or-set_other}
 use Rattle.std.proofs.lemmas.Option.{same_Some}
 use mathlib.Core.Option.{Option, some, none}
@@ -11,7 +11,7 @@ use Rattle.waff_order.specs.Needs.{IsNeed}
 use Rattle.waff_cells.specs.Meaning.{Cells}
 use Rattle.waff_cells.specs.Serial.{SameParcel, ops_of, serial}
 use Rattle.waff_core.specs.Job.{JobValue, IsJob, IsIn, IsOwner, owners_of}
-use Rattle.waff_core.specs.Machine.{Core, IsAway, IsClear, opening, phase_of, begun_by}
+use Rattle.waff_core.specs.Machine.{Core, IsAway, IsClear, phase_of, begun_by}
 use Rattle.waff_core.specs.declared.event.Event.TheVariants.{Begin}
 use Rattle.waff_core.specs.declared.phase.Phase.TheVariants.{Drawn, Running}
 use Rattle.waff_core.proofs.Phases.{phase_same, phase_other}

@@ -1,5 +1,5 @@
 -- Each event of the core machine is one step of the board, and every other step leaves the machine's state.
-use Rattle.std.proofs.Common.{◌≡◌, ◌≢◌, ◌↔◌, ⊎_elim, ℕ, zero, suc, ◌+◌, ◌<◌, ◌≤◌, true, List, [], ◌∷◌, ◌++◌, Some, length, set, get_or, slice_get, slice_index, refl, ap, sym, ◌∙◌, subst, arith, length-set}
+use Rattle.std.proofs.Common.{◌≡◌, ◌≢◌, ◌↔◌, ⊎_elim, ℕ, zero, suc, ◌<◌, ◌≤◌, true, List, [], ◌∷◌, ◌++◌, Some, length, set, get_or, slice_get, slice_index, refl, ap, sym, ◌∙◌, subst, arith, length-set}
 use Rattle.std.proofs.lemmas.Bool.{cases_lt}
 use Rattle.std.proofs.lemmas.List.{ext_get_or, get_or-set_other, length_push, set-get_or}
 use Rattle.std.proofs.lemmas.Option.{get_or_from_slice_get}
@@ -7,13 +7,12 @@ use Rattle.std.specs.Global.{Vec}
 use mathlib.Core.Option.{some}
 use lib.ListN.{get_elem?}
 use Rattle.atomic_table.specs.Table.{State}
-use Rattle.atomic_table.proofs.Lists.{at_set, set_here, some_there}
+use Rattle.atomic_table.proofs.Lists.{at_set, set_here}
 use Rattle.waff_core.specs.Job.{IsIn}
 use Rattle.waff_core.specs.Laws.{Reaches}
 use Rattle.waff_core.specs.Machine.{Core, IsClear, Steps, opening, phase_of}
 use Rattle.waff_core.specs.declared.event.Event.{Event}
-use Rattle.waff_core.specs.declared.phase.Phase.{Phase}
-use Rattle.waff_core.specs.declared.phase.Phase.TheVariants.{Free, Running}
+use Rattle.waff_core.specs.declared.phase.Phase.TheVariants.{Free}
 use Rattle.waff_core.proofs.Following.{cells_follow}
 use Rattle.waff_core.proofs.Sound.{seats_stay}
 use Rattle.waff_board.specs.Laws.{IsBetween, ShowsOneState, DrawIsOneEvent, BeginIsOneEvent, FinishIsOneEvent, LookIsNoEvent, MakingIsNoEvent}

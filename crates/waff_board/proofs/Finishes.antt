@@ -11,7 +11,7 @@ use Rattle.waff_cells.specs.Meaning.{meaning}
 use Rattle.waff_cells.specs.Serial.{SameParcel, ops_of, serial}
 use Rattle.waff_cells.proofs.MeaningLaws.{meaning_other}
 use Rattle.waff_core.specs.Job.{JobValue, IsJob, IsIn, IsOwner, owners_of}
-use Rattle.waff_core.specs.Machine.{Core, IsAway, IsClear, opening, phase_of, ended_by}
+use Rattle.waff_core.specs.Machine.{Core, IsAway, IsClear, phase_of, ended_by}
 use Rattle.waff_core.specs.declared.event.Event.TheVariants.{End}
 use Rattle.waff_core.specs.declared.phase.Phase.TheVariants.{Free, Running}
 use Rattle.waff_core.proofs.Phases.{phase_same, phase_other}

@@ -1,15 +1,14 @@
 -- The draws, the phases and what is done decide a state that is reached.
-use Rattle.std.proofs.Common.{◌≡◌, ◌↔◌, ℕ, inr, Bool, true, false, List, [], ◌∷◌, refl, ap, sym, ◌∙◌, subst, ⊎_elim, ◌<◌, ◌≤◌, arith}
+use Rattle.std.proofs.Common.{◌≡◌, ◌↔◌, ℕ, inr, Bool, true, false, List, [], ◌∷◌, refl, sym, ◌∙◌, subst, ⊎_elim, ◌<◌, ◌≤◌, arith}
 use Rattle.std.proofs.lemmas.Bool.{cases_lt}
 use Rattle.std.proofs.Math.Path.{fun_ext}
 use Rattle.waff_model.specs.Layout.{IsCell, size_at, owner_of}
 use Rattle.waff_model.specs.declared.cell.Cell.{Cell}
-use Rattle.waff_cells.specs.Serial.{ops_of, serial}
+use Rattle.waff_cells.specs.Serial.{ops_of}
 use Rattle.waff_cells.proofs.MeaningLaws.{meaning_other}
 use Rattle.waff_core.specs.Job.{JobValue, IsJob, IsIn}
 use Rattle.waff_core.specs.Machine.{Core, Runs, Steps, opening}
 use Rattle.waff_core.specs.Laws.{CellsFollow, Reaches}
-use Rattle.waff_core.specs.Settled.{IsLast}
 use Rattle.waff_core.specs.declared.event.Event.{Event}
 use Rattle.waff_core.specs.declared.event.Event.TheVariants.{Draw, Begin, End}
 use Rattle.waff_core.proofs.Arrival.{cells_are_serial, each_cell_is_serial}
