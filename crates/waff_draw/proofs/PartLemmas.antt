@@ -1,12 +1,13 @@
 -- What is shown of a message, and the lines of the axis.
-use Rattle.std.proofs.Common.{◌≡◌, ◌↔◌, ℕ, ◌+◌, ◌-◌, ◌*◌, ◌/◌, ◌<◌, ◌≤◌, inl, inr, max, min, Bool, true, false, cond, List, [], ◌∷◌, Option, Some, None, IfSome, leb, arith, refl, sym, ◌∙◌, ap}
+use Rattle.std.proofs.Common.{◌≡◌, ◌↔◌, ℕ, ◌+◌, ◌-◌, ◌*◌, ◌/◌, ◌<◌, ◌≤◌, inl, inr, max, min, Bool, true, false, cond, List, [], ◌∷◌, Option, Some, None, IfSome, leb, arith, refl, sym, ◌∙◌, ap, subst}
 use Rattle.std.proofs.lemmas.Bool.{cases_lt, leb-true}
 use Rattle.std.proofs.Math.Nat.{add-mul, div-lt_iff_lt-mul, lt-div-mul-add, mul-le-mul_right}
 use Rattle.waff_plan.proofs.Longest.{finish_of-le-length_of}
 use Rattle.waff_draw.specs.Axis.{first_step, multiple_from, round_numbers, step_of}
-use Rattle.waff_draw.specs.Laws.{HasLines, IsOneOf, ShowsAll, ShowsTicksInPart, whole_part}
+use Rattle.waff_draw.specs.Laws.{HasLine, HasLines, IsOneOf, IsRound, ShowsAll, ShowsTicksInPart, whole_part}
 use Rattle.waff_draw.specs.Parts.{end_from}
 use Rattle.waff_draw.specs.Scene.{Scene, end_in, finish_in, from_in, length_in, span_in, start_in, work_of_scene}
+use Rattle.waff_draw.specs.Svg.{line_in}
 
 -- the ticks from a start for a cost, and those from one tick up to another
 cut : (start cost from end t : ℕ)
@@ -72,8 +73,24 @@ ends_behind : (length from : ℕ) (to : Option ℕ) → IfSome to (λ end. from 
 ends_behind length from None some = omega arith
 ends_behind length from (Some to) some = some
 
-pub axis_has_lines : (scene : Scene) → HasLines scene
-axis_has_lines scene k from to =
+line_is_round : (scene : Scene) (tick : ℕ) → HasLine scene tick → IsRound scene tick
+line_is_round scene tick line =
+    let inside : from_in scene < end_in scene = ends_behind (length_in scene) scene.part.from scene.part.to scene.part.some in
+    let step = step_of (span_in scene) in
+    let q = (from_in scene + step - 1) / step in
+    let ten : span_in scene ≤ 10 * step = reaches (span_in scene) round_numbers in
+    let some : 0 < step = omega (arith, inside, ten) in
+    let up : from_in scene ≤ q * step = multiple_up step (from_in scene) some in
+    let at : q * step + line.i * step ≡ tick = line.at in
+    let end : q * step + line.i * step ≤ end_in scene = line.drawn in
+    record { from = omega (arith, up, at); to = omega (arith, at, end); k = q + line.i; multiple = sym at ∙ sym (add-mul q line.i step) }
+
+round_has_line : (scene : Scene) (tick : ℕ) → IsRound scene tick → HasLine scene tick
+round_has_line scene tick round =
+    let k = round.k in
+    let is : tick ≡ k * step_of (span_in scene) = round.multiple in
+    let from : from_in scene ≤ k * step_of (span_in scene) = subst (λ t. from_in scene ≤ t) is round.from in
+    let to : k * step_of (span_in scene) ≤ end_in scene = subst (λ t. t ≤ end_in scene) is round.to in
     let inside : from_in scene < end_in scene = ends_behind (length_in scene) scene.part.from scene.part.to scene.part.some in
     let step = step_of (span_in scene) in
     let q = (from_in scene + step - 1) / step in
@@ -85,4 +102,8 @@ axis_has_lines scene k from to =
     let line : q * step + (k - q) * step ≡ k * step = sym sum ∙ ap (λ n. n * step) whole in
     let up : from_in scene ≤ q * step = multiple_up step (from_in scene) some in
     let fit : (k - q) * step ≤ span_in scene = omega (arith, line, up, to) in
-    (k - q, few_steps (k - q) step (span_in scene) some fit ten, line)
+    let at : line_in scene (k - q) ≡ tick = line ∙ sym is in
+    record { i = k - q; one = few_steps (k - q) step (span_in scene) some fit ten; at = at; drawn = subst (λ t. t ≤ end_in scene) (sym at) round.to }
+
+pub axis_has_lines : (scene : Scene) → HasLines scene
+axis_has_lines scene tick = (line_is_round scene tick, round_has_line scene tick)

@@ -68,9 +68,20 @@ ShowsAll scene =
     → (shown_start scene n ≡ start_in scene n)
     × (shown_ticks scene n ≡ (work_of_scene scene).cost n)
 
--- the axis has a line at each multiple of its step that is in the part or at its end
+-- one of the eleven lines of the axis stands at this tick, and is not past the end of the part
+pub record HasLine (scene : Scene) (tick : ℕ) : Type 0 where
+  pub i : ℕ
+  pub one : i < 11
+  pub at : line_in scene i ≡ tick
+  pub drawn : line_in scene i ≤ end_in scene
+
+-- the tick is a multiple of the step, in the part or at its end
+pub record IsRound (scene : Scene) (tick : ℕ) : Type 0 where
+  pub from : from_in scene ≤ tick
+  pub to : tick ≤ end_in scene
+  pub k : ℕ
+  pub multiple : tick ≡ k * step_of (span_in scene)
+
+-- the lines of the axis stand at these ticks and at no other
 abbrev pub HasLines : Scene → Type 0
-HasLines scene =
-    (k : ℕ) → from_in scene ≤ k * step_of (span_in scene)
-    → k * step_of (span_in scene) ≤ end_in scene
-    → (i : ℕ) × (i < 11) × (line_in scene i ≡ k * step_of (span_in scene))
+HasLines scene = (tick : ℕ) → HasLine scene tick ↔ IsRound scene tick

@@ -41,7 +41,8 @@ pub fn whole_shows_all()
     ensures { (scene : Scene) → scene.part ≡ whole_part → ShowsAll scene }
 {}
 
-/// The axis has a line at each multiple of its step that is in the part or at its end.
+/// The lines of the axis stand at the multiples of its step that are in the part or at its end, and
+/// at no other tick.
 pub fn axis_has_lines()
     ensures { (scene : Scene) → HasLines scene }
 {}
