@@ -253,13 +253,19 @@ def samples(trace="X1.csv"):
 def commands():
     """The names of the commands that the program knows, from its help."""
     listed = run(["--help"]).stdout.decode().partition("Commands:")[2].partition("\n\n")[0]
-    return set(re.findall(r"^  ([a-z]+)  ", listed, re.M)) - {"help"}
+    names = set(re.findall(r"^  ([a-z]+)  ", listed, re.M)) - {"help"}
+    if not names:
+        sys.exit("hostile: the help of the program lists no command")
+    return names
 
 
 def known_words():
-    """The words of each command that the program knows."""
-    known = commands()
-    return [line for line in WORDS if line.split()[0] in known]
+    """The words of each command that the program knows: there are some of each."""
+    names = commands()
+    without = names - {line.split()[0] for line in WORDS}
+    if without:
+        sys.exit("hostile: no words of %s" % ", ".join(sorted(without)))
+    return [line for line in WORDS if line.split()[0] in names]
 
 
 def scratch():

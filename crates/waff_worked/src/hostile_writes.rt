@@ -14,8 +14,8 @@ use waff_samples::{
 };
 use waff_tool::{
     Part, Picture, ReadFault, ToolError, assign_text, check_text, compare_text, draw_text,
-    explain_text, plan_text, rate_text, read_whole, replay_text, sweep_text, sweep_workers,
-    where_text,
+    explain_text, plan_text, plan_text_by, rank_text, rate_text, read_whole, replay_text,
+    sweep_text, sweep_workers, waits_text, where_text,
 };
 
 /// The calls that write a text.
@@ -24,6 +24,7 @@ enum Call {
     Assign,
     Plan,
     PlanForTwo,
+    PlanByLongest,
     Check,
     Compare,
     Replay,
@@ -34,6 +35,8 @@ enum Call {
     Events,
     Explain,
     Rate,
+    Waits,
+    Rank,
 }
 
 /// Has room for some bytes, of which it takes a few at once, and then fails, or takes none.
@@ -73,6 +76,15 @@ fn write_text<R: Threads + Wait + Sync>(
         Call::Assign => assign_text(rt, alloc, hierarchy, trace, writer),
         Call::Plan => plan_text(rt, alloc, hierarchy, trace, None, writer),
         Call::PlanForTwo => plan_text(rt, alloc, hierarchy, trace, Some(2), writer),
+        Call::PlanByLongest => plan_text_by(
+            rt,
+            alloc,
+            hierarchy,
+            trace,
+            Some(2),
+            Rule::Longest,
+            writer,
+        ),
         Call::Compare => compare_text(rt, alloc, C1.as_bytes(), hierarchy, trace, 2, writer),
         Call::Replay => replay_text(rt, alloc, hierarchy, trace, 2, writer),
         Call::Sweep => {
@@ -88,6 +100,18 @@ fn write_text<R: Threads + Wait + Sync>(
         }
         Call::Affinities => where_text(rt, alloc, hierarchy, trace, false, writer),
         Call::Names => where_text(rt, alloc, hierarchy, trace, true, writer),
+        Call::Waits => {
+            let (workers, rule) = (Some(2), Rule::Arrival);
+            waits_text(rt, alloc, hierarchy, trace, workers, rule, true, writer)
+        }
+        Call::Rank => {
+            let mut trees = Vec::new(alloc);
+            for tree in [H1, C1] {
+                trees.push(tree.as_bytes().to_vec(alloc)?)?;
+            }
+            let rule = Rule::Longest;
+            rank_text(rt, alloc, trees.as_slice(), trace, 2, rule, writer)
+        }
         _ => write_of_plan(rt, alloc, call, writer),
     }
 }
@@ -209,7 +233,15 @@ const MORE: usize = 10_000;
 
 #[test]
 fn leave_the_part_of_other_texts_that_was_taken(rt: HostRuntime) {
-    for call in [Call::Picture, Call::Events, Call::Explain, Call::Rate] {
+    for call in [
+        Call::Picture,
+        Call::Events,
+        Call::Explain,
+        Call::Rate,
+        Call::Waits,
+        Call::Rank,
+        Call::PlanByLongest,
+    ] {
         let whole = given(&rt, rt.alloc(), call, MORE, MORE);
         is_given(&rt, rt.alloc(), call, whole.as_slice());
     }

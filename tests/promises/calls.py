@@ -1,0 +1,24 @@
+"""Reads the tests of refused memory and of writers that fail against the calls of waff_tool.
+
+Each public call that writes a text has to be made in each of these files.
+"""
+import re
+
+from sources import ROOT
+
+CALL = re.compile(r"^pub fn (\w+)<[^(]*\bW: Write\b", re.M)
+
+TESTS = ("tests/refusals/texts.rt.txt", "tests/refusals/samples.rt.txt", "crates/waff_worked/src/hostile_writes.rt")
+
+
+def read():
+    """Answers how many calls of the tests it found and which it missed."""
+    sources = sorted((ROOT / "crates/waff_tool/src").glob("*.rt"))
+    calls = [name for path in sources for name in CALL.findall(path.read_text())]
+    missing = [] if calls else ["crates/waff_tool has no call that writes a text"]
+    passed = 0
+    for test in TESTS:
+        made = set(re.findall(r"\b(\w+)\(", (ROOT / test).read_text()))
+        passed += len(made.intersection(calls))
+        missing += [f"{test}: no test makes the call `{name}`" for name in calls if name not in made]
+    return passed, missing
