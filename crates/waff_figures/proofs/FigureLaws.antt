@@ -17,7 +17,7 @@ module _ (work : Work) (start other : ℕ → ℕ) (same : AreSame work start ot
   latency_same : (m : ℕ) → 1 ≤ m → m < 1 + work.count → latency_of work start m ≡ latency_of work other m
   latency_same m from to = ap (λ s. s + work.cost m - work.release m) (at m from to)
 
-  waits_same : waits_of work start ≡ waits_of work other
+  pub waits_same : waits_of work start ≡ waits_of work other
   waits_same =
       sum_same (λ m. start m - work.release m) (λ m. other m - work.release m) 1 work.count (λ m from to. ap (λ s. s - work.release m) (at m from to))
 

@@ -7,6 +7,7 @@ pub mod AddingUp
 pub mod RowLemmas
 mod PercentileLemmas
 pub mod FigureLaws
+mod LeastLaws
 mod NameLaws
 mod WaitLemmas
 mod WaitRowLemmas

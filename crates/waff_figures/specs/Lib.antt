@@ -1,5 +1,6 @@
 pub mod Percentile
 pub mod Figures
+pub mod Least
 pub mod Sweep
 pub mod Rate
 pub mod Tally

@@ -1,7 +1,8 @@
 -- The lines that tell how good one plan is (own).
 use Rattle.std.specs.Prelude.{ℕ, List, [], ◌∷◌, codes, decimal}
 use Rattle.waff_plan_text.specs.Spelling.{worker_field}
-use Rattle.waff_plan_text.specs.Ratio.{ratio_field, ratio_up_field}
+use Rattle.waff_plan_text.specs.Ratio.{ratio_field}
+use Rattle.waff_figures.specs.Least.{over_field}
 use Rattle.waff_figures.specs.Sweep.{busy_field}
 use Rattle.waff_figures.specs.declared.figures.Figures.{Figures}
 
@@ -14,7 +15,7 @@ rate_lines figures =
     ∷ (codes "speedup" ∷ ratio_field figures.total figures.length ∷ [])
     ∷ (codes "busy" ∷ busy_field figures.workers figures.total figures.length ∷ [])
     ∷ (codes "least" ∷ decimal figures.least ∷ [])
-    ∷ (codes "over" ∷ ratio_up_field figures.length figures.least ∷ [])
+    ∷ (codes "over" ∷ over_field figures ∷ [])
     ∷ (codes "waits" ∷ decimal figures.waits ∷ [])
     ∷ (codes "mean" ∷ ratio_field figures.latencies figures.messages ∷ [])
     ∷ (codes "p50" ∷ decimal figures.p50 ∷ [])

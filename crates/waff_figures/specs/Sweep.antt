@@ -1,15 +1,15 @@
 -- The lines of a sweep: how long the trace takes, by the number of workers (own).
-use Rattle.std.specs.Prelude.{◌≡◌, ℕ, ◌*◌, ◌≤◌, List, [], ◌∷◌, ◌++◌, Option, Some, None, All, map}
+use Rattle.std.specs.Prelude.{◌≡◌, ℕ, ◌*◌, List, [], ◌∷◌, ◌++◌, Option, Some, None, All, map}
 use Rattle.std.specs.Prelude.{codes, decimal}
 use Rattle.waff_assign.specs.Order.{Relation}
 use Rattle.waff_plan.specs.Timing.{start_of}
-use Rattle.waff_plan.specs.Work.{Work, length_of}
-use Rattle.waff_plan.specs.Workers.{IsWorkerPlan}
+use Rattle.waff_plan.specs.Work.{Work}
 use Rattle.waff_list.specs.Rules.{IsPlanBy}
 use Rattle.waff_list.specs.declared.rule.Rule.{Rule}
 use Rattle.waff_plan_text.specs.Spelling.{worker_field}
 use Rattle.waff_figures.specs.Figures.{AreFigures}
-use Rattle.waff_plan_text.specs.Ratio.{ratio_field, ratio_up_field}
+use Rattle.waff_figures.specs.Least.{IsLowerBound, over_field}
+use Rattle.waff_plan_text.specs.Ratio.{ratio_field}
 use Rattle.waff_figures.specs.declared.figures.Figures.{Figures}
 
 -- the numbers of workers that a sweep tells of where none are asked for
@@ -32,7 +32,7 @@ busy_field (Some k) total length = ratio_field total (k * length)
 abbrev pub quality_fields : Figures → List (List ℕ)
 quality_fields figures =
     decimal figures.least
-    ∷ ratio_up_field figures.length figures.least
+    ∷ over_field figures
     ∷ decimal figures.waits
     ∷ ratio_field figures.latencies figures.messages
     ∷ decimal figures.p50
@@ -61,8 +61,7 @@ pub record IsListed (rule : Rule) (before : Relation) (work : Work) (shortest : 
   pub starts : List ℕ
   pub list : IsPlanBy rule before work k (start_of starts)
   pub figures_are : AreFigures (Some k) work shortest (start_of starts) figures
-  pub least : (other : ℕ → ℕ) → IsWorkerPlan before work k other
-      → figures.least ≤ length_of work other
+  pub least : IsLowerBound (Some k) before work figures.least
 
 -- the figures of the plans by this rule for these numbers of workers, for each in turn
 pub record AreListed (rule : Rule) (before : Relation) (work : Work) (shortest : ℕ)

@@ -1,16 +1,21 @@
 //! What is told of one plan.
 
-ghost use Rattle.std.specs.Prelude.{◌≡◌, ◌^◌, ◌<◌, IfOk, IfSome, length, sum_by};
+ghost use Rattle.std.specs.Prelude.{◌≡◌, ◌^◌, ◌<◌, ℕ, List, IfOk, IfSome, length, sum_by};
 ghost use Rattle.std.specs.List.Sorted.{IsNonDecreasing, IsPermutation};
+ghost use Rattle.waff_model.specs.Tree.{Node};
+ghost use Rattle.waff_assign.specs.Order.{IsOrdered};
 ghost use Rattle.waff_plan.specs.Timetable.{starts_in, work_in};
 ghost use Rattle.waff_plan.specs.Bound.{IsWorkers};
 ghost use Rattle.waff_plan.specs.Work.{IsAmongFirst, Work, greatest, numbers};
 ghost use Rattle.waff_figures.specs.Figures.{AreFigures, FiguresAreOne, latencies_of, latency_of};
 ghost use Rattle.waff_figures.specs.Figures.{least_of, waits_of};
+ghost use Rattle.waff_figures.specs.Least.{LeastIsLowerBound, OneIsShortest, OverIsUpperBound};
 
 use crate::percentile::percentile;
 use std::alloc::{AllocError, Global};
 use waff_plan::Plan;
+use waff_plan::laws::{least_is_shortest, none_is_shorter};
+use waff_plan_text::laws::ratio_up_is_upper_bound;
 
 /// What is told of a plan, in ticks.
 #[derive(Clone, Copy)]
@@ -136,7 +141,33 @@ fn sorted_latencies(alloc: Global, plan: &Plan) -> Result<Vec<u64>, AllocError>
 }
 
 /// Two figures of plans with the same starts are equal: a function that does nothing and whose
-/// contract is the law.
+/// contract is the law. Those below only call other laws.
 pub fn figures_are_one()
     ensures equal { (work : Work) → FiguresAreOne work }
 {}
+
+/// No obeying plan for as many workers is shorter than `least`.
+pub fn least_is_lower_bound()
+    ensures bound { (tree : List Node) (assigned : List ℕ) (work : Work)
+        → LeastIsLowerBound (IsOrdered tree assigned) work }
+{
+    least_is_shortest();
+    none_is_shorter();
+}
+
+/// A plan is at most `over` times as long as any obeying plan for as many workers, where `over` is
+/// as printed.
+pub fn over_is_upper_bound()
+    ensures bound { (tree : List Node) (assigned : List ℕ) (work : Work)
+        → OverIsUpperBound (IsOrdered tree assigned) work }
+{
+    ratio_up_is_upper_bound();
+}
+
+/// Where `over` is `1.00`, no obeying plan for as many workers is shorter.
+pub fn one_is_shortest()
+    ensures shortest { (tree : List Node) (assigned : List ℕ) (work : Work)
+        → OneIsShortest (IsOrdered tree assigned) work }
+{
+    over_is_upper_bound();
+}

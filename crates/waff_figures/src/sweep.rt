@@ -11,14 +11,13 @@ ghost use Rattle.waff_figures.specs.Sweep.{AreListed, IsListed, sweep_lines, swe
 ghost use Rattle.waff_figures.specs.Sweep.{sweep_workers};
 
 use crate::fields::{BusyField, QualityFields, WorkerField};
-use crate::figures::{Figures, figures_of};
+use crate::figures::{Figures, figures_of, least_is_lower_bound};
 use std::alloc::{AllocError, Global};
 use waff_list::laws::needs_make_the_same_plans;
 use waff_list::{Rule, list_plan_by};
 use waff_order::Needs;
 use waff_order::predecessors::needs;
 use waff_plan::Planned;
-use waff_plan::laws::none_is_shorter;
 use waff_plan_text::Ratio;
 
 /// The numbers of workers that a sweep tells of where none are asked for.
@@ -117,7 +116,7 @@ fn figures_for(
 {
     let made = list_plan_by(alloc, needs, unlimited.case.trace, rule, k)?;
     needs_make_the_same_plans();
-    none_is_shorter();
+    least_is_lower_bound();
     figures_of(alloc, made.plan(), Some(k), unlimited.plan.length())
 }
 

@@ -10,6 +10,7 @@ ghost use Rattle.waff_plan_text.specs.Exact.{PlanIsExact};
 ghost use Rattle.waff_plan_text.specs.Given.{Given, SummaryLines};
 ghost use Rattle.waff_plan_text.specs.Headers.{HeaderIsExact};
 ghost use Rattle.waff_plan_text.specs.Laws.{WrittenIsRead};
+ghost use Rattle.waff_plan_text.specs.Ratio.{HundredthsAreOne, RatioUpIsUpperBound};
 ghost use Rattle.waff_plan_text.specs.Refused.{FirstFaultDecides};
 ghost use Rattle.waff_plan_text.specs.SpelledLines.{LinesAreExact};
 ghost use Rattle.waff_plan_text.specs.SpelledSummaries.{SummaryIsExact};
@@ -55,4 +56,14 @@ pub fn lines_are_exact()
 /// it is another record, and where there is none.
 pub fn header_is_exact()
     ensures exact { (records : List Record) → HeaderIsExact records }
+{}
+
+/// A printed number of hundredths is one number.
+pub fn hundredths_are_one()
+    ensures one { HundredthsAreOne }
+{}
+
+/// A ratio that is printed rounded up is at most what is printed.
+pub fn ratio_up_is_upper_bound()
+    ensures bound { RatioUpIsUpperBound }
 {}

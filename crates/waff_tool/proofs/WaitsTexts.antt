@@ -1,15 +1,16 @@
 -- What was told of the waits of a plan is the text of the files, and there is one.
-use Rattle.std.proofs.Common.{◌≡◌, ℕ, List, Bool, Option, Some, None, sym, ◌∙◌, ap}
+use Rattle.std.proofs.Common.{◌≡◌, ℕ, zero, suc, ◌⊎◌, inl, inr, List, [], ◌∷◌, ◌++◌, Bool, Option, Some, None, Contains, get_or, arith, sym, ◌∙◌, ap, subst}
+use Rattle.std.proofs.lemmas.List.Elements.{Contains-append_cases}
 use Rattle.waff_model.specs.Layout.{Hierarchy}
 use Rattle.waff_model.specs.Messages.{Arrivals}
 use Rattle.waff_model.specs.Tree.{Node}
 use Rattle.waff_model.specs.declared.message.Message.{Message}
 use Rattle.waff_assign.specs.Order.{IsOrdered, Relation}
-use Rattle.waff_plan.specs.Obeys.{IsForward, Obeys}
+use Rattle.waff_plan.specs.Obeys.{IsForward, IsLeast, Obeys}
 use Rattle.waff_plan.specs.Timetable.{timings_of}
 use Rattle.waff_plan.specs.Timing.{start_of, work_of}
 use Rattle.waff_plan.specs.Unique.{AreSame}
-use Rattle.waff_plan.specs.Work.{Work}
+use Rattle.waff_plan.specs.Work.{Work, length_of}
 use Rattle.waff_plan.specs.declared.timing.Timing.{Timing}
 use Rattle.waff_plan.proofs.Uniqueness.{least_is_one}
 use Rattle.waff_list.specs.Unique.{EachRuns}
@@ -17,18 +18,23 @@ use Rattle.waff_list.specs.declared.rule.Rule.{Rule}
 use Rattle.waff_list.proofs.RuleLemmas.{plan_by_priority, rule_plan_is_one}
 use Rattle.waff_plan_text.specs.Lines.{text_of}
 use Rattle.waff_figures.specs.ByName.{message_names}
+use Rattle.waff_figures.specs.Figures.{AreFigures, waits_of}
+use Rattle.waff_figures.specs.Sweep.{AreListed, IsListed}
 use Rattle.waff_figures.specs.Waits.{AreWaits}
 use Rattle.waff_figures.specs.WaitLaws.{TicksAddUp}
 use Rattle.waff_figures.specs.WaitRows.{AreRows}
 use Rattle.waff_figures.specs.WaitText.{are_alike, waits_lines}
+use Rattle.waff_figures.specs.declared.figures.Figures.{Figures}
 use Rattle.waff_figures.specs.declared.wait_rows.Row.{Row}
 use Rattle.waff_figures.specs.declared.waits.Wait.{Wait}
+use Rattle.waff_figures.proofs.FigureLaws.{waits_same}
 use Rattle.waff_figures.proofs.WaitUnique.{alike_laws, rows_are_one}
 use Rattle.waff_inputs.specs.Inputs.{Accepts}
 use Rattle.waff_inputs.proofs.SameInput.{moved_back, same_input}
 use Rattle.waff_tool.specs.PlanText.{work_of_trace}
-use Rattle.waff_tool.specs.WaitsText.{IsPlanFor, IsWaitsText, WaitsTextIsOne}
+use Rattle.waff_tool.specs.WaitsText.{IsPlanFor, IsWaitsText, WaitsAreSwept, WaitsTextIsOne}
 use Rattle.waff_tool.proofs.CertificateLemmas.{pairs_forward}
+use Rattle.waff_tool.proofs.FigureUniqueness.{IsSwept}
 use Rattle.waff_tool.proofs.TextUniqueness.{trace_runs}
 
 -- what is told of a plan with these timings and starts
@@ -97,3 +103,42 @@ waits_text_is_one rule hierarchy_file trace_file workers by_name text other p q 
     let rows = rows_are_one before work forward (are_alike by_name p.assigned names) (start_of p.starts) (start_of q.starts) p.waits q.waits p.rows q.rows
     (alike_laws by_name p.assigned names) plans p.are_waits told.1 p.are_rows told.2 in
     p.lines ∙ ap (λ rs. text_of (waits_lines by_name p.layout.tree p.assigned names rs)) rows ∙ sym told.3
+
+-- the lines of a sweep for as many workers are of the same plan
+module _ (rule : Rule) (before : Relation) (work : Work) (forward : IsForward before work) (runs : EachRuns work) (shortest : ℕ) (limit : Option ℕ) (start : ℕ → ℕ)
+    (planned : IsPlanFor rule before work limit start) (line : Figures) where
+  waits_listed : IsListed rule before work shortest line → line.workers ≡ limit → waits_of work start ≡ line.waits
+  waits_listed listed for =
+      let number : limit ≡ Some listed.k = sym for ∙ listed.figures_are.workers in
+      let plan = subst (λ w. IsPlanFor rule before work w start) number planned in
+      let same = rule_plan_is_one before work forward runs rule listed.k start (start_of listed.starts) plan listed.list in
+      waits_same work start (start_of listed.starts) same ∙ sym listed.figures_are.waits
+
+  waits_unlimited : (starts : List ℕ) → IsLeast before work (start_of starts) → AreFigures None work shortest (start_of starts) line → line.workers ≡ limit
+      → waits_of work start ≡ line.waits
+  waits_unlimited starts least figures for =
+      let number : limit ≡ None = sym for ∙ figures.workers in
+      let plan = subst (λ w. IsPlanFor rule before work w start) number planned in
+      waits_same work start (start_of starts) (least_is_one before work start (start_of starts) plan least) ∙ sym figures.waits
+
+  waits_in_line : (workers starts : List ℕ) (listed : List Figures) (unlimited : Figures) → IsLeast before work (start_of starts)
+      → AreListed rule before work shortest workers listed → AreFigures None work shortest (start_of starts) unlimited
+      → Contains (listed ++ unlimited ∷ []) line → line.workers ≡ limit → waits_of work start ≡ line.waits
+  waits_in_line workers starts listed unlimited least each last has for = by (Contains-append_cases listed (unlimited ∷ []) line has)
+    where
+      by : Contains listed line ⊎ Contains (unlimited ∷ []) line → waits_of work start ≡ line.waits
+      by (inl (i, inside, is)) = waits_listed (subst (λ f. IsListed rule before work shortest f) is (each.each i line inside)) for
+      by (inr (zero, inside, is)) = waits_unlimited starts least (subst (λ f. AreFigures None work shortest (start_of starts) f) is last) for
+      by (inr (suc i, inside, is)) = absurd (omega (arith, inside))
+
+pub waits_are_swept : (rule : Rule) (hierarchy_file trace_file : List ℕ) (limit : Option ℕ) (by_name : Bool) → WaitsAreSwept rule hierarchy_file trace_file limit by_name
+waits_are_swept rule hierarchy_file trace_file limit by_name workers text sweep line told swept has for =
+    let same = same_input hierarchy_file trace_file told.layout swept.layout told.trace swept.trace told.assigned swept.assigned told.accepts swept.accepts in
+    let moved = moved_back (IsSwept rule workers swept.starts swept.listed swept.unlimited) told.layout swept.layout told.trace swept.trace told.assigned swept.assigned same
+    (swept.least, swept.are_listed, swept.are_unlimited) in
+    let before = IsOrdered told.layout.tree told.assigned in
+    let work = work_of_trace told.trace in
+    let forward = pairs_forward told.layout.tree told.assigned told.trace.messages told.accepts.assignment.count in
+    told.adds_up
+    ∙ waits_in_line rule before work forward (trace_runs told.layout trace_file told.trace told.accepts.is_trace) (length_of work (start_of swept.starts)) limit
+    (start_of told.starts) told.planned line workers swept.starts swept.listed swept.unlimited moved.0 moved.1 moved.2 has for

@@ -12,6 +12,7 @@ use Rattle.waff_plan_text.specs.Lines.{text_of}
 use Rattle.waff_figures.specs.ByAffinity.{AreCostsBelow, affinities_lines}
 use Rattle.waff_figures.specs.ByName.{message_names, names_lines}
 use Rattle.waff_figures.specs.Figures.{AreFigures}
+use Rattle.waff_figures.specs.Least.{IsLowerBound}
 use Rattle.waff_figures.specs.Laws.{ChainAddsUp, CostsAddUp, NamesAddUp}
 use Rattle.waff_figures.specs.Sweep.{AreListed, sweep_lines}
 use Rattle.waff_figures.specs.declared.figures.Figures.{Figures}
@@ -19,8 +20,8 @@ use Rattle.waff_tool.specs.Certificates.{IsCertified}
 use Rattle.waff_inputs.specs.Inputs.{Accepts}
 use Rattle.waff_tool.specs.PlanText.{work_of_trace}
 
--- the text of a sweep: the figures of the plan by this rule for each of these numbers of workers,
--- none of which is beaten by more than `least` allows, and those of the least plan
+-- the text of a sweep: the figures of the plan by this rule for each of these numbers of workers, and
+-- those of the least plan; no obeying plan for as many workers is shorter than the `least` of a line
 pub record IsSweepText (rule : Rule) (hierarchy_file trace_file workers text : List ℕ)
     : Type 0 where
   pub layout : Hierarchy
@@ -35,6 +36,7 @@ pub record IsSweepText (rule : Rule) (hierarchy_file trace_file workers text : L
       (work_of_trace trace) (length_of (work_of_trace trace) (start_of starts)) workers listed
   pub are_unlimited : AreFigures None (work_of_trace trace)
       (length_of (work_of_trace trace) (start_of starts)) (start_of starts) unlimited
+  pub bound : IsLowerBound None (IsOrdered layout.tree assigned) (work_of_trace trace) unlimited.least
   pub lines : text ≡ text_of (sweep_lines listed unlimited)
 
 -- the text of where the time goes by affinity, with the printed chain of the least plan; its

@@ -10,18 +10,21 @@ use Rattle.waff_plan_text.specs.Lines.{text_of}
 use Rattle.waff_check.specs.Verdicts.{starts_of}
 use Rattle.waff_check.specs.declared.verdict.Verdict.{Verdict}
 use Rattle.waff_figures.specs.Figures.{AreFigures}
+use Rattle.waff_figures.specs.Least.{IsLowerBound}
 use Rattle.waff_figures.specs.Rate.{rate_lines}
 use Rattle.waff_figures.specs.declared.figures.Figures.{Figures}
 use Rattle.waff_tool.specs.CheckText.{IsCheckText, verdict_fields}
 use Rattle.waff_tool.specs.Figures.{IsSweepText}
 use Rattle.waff_tool.specs.PlanText.{IsPlanText, IsWorkerPlanText, work_of_trace}
 
--- the figures of a plan with these starts, whoever made it, against the least plan
+-- the figures of a plan with these starts, whoever made it, against the least plan; no obeying plan for
+-- as many workers is shorter than `least`
 pub record AreRated (before : Relation) (work : Work) (limit : Option ℕ) (start : ℕ → ℕ)
     (figures : Figures) : Type 0 where
   pub starts : List ℕ
   pub least : IsLeast before work (start_of starts)
   pub are_figures : AreFigures limit work (length_of work (start_of starts)) start figures
+  pub bound : IsLowerBound limit before work figures.least
 
 -- the lines of a verdict and of the figures of a plan
 abbrev pub rated_lines : Verdict → Figures → List (List (List ℕ))

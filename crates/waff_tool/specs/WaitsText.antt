@@ -1,5 +1,5 @@
 -- What `waits` prints for the bytes of its files.
-use Rattle.std.specs.Prelude.{◌≡◌, ℕ, Bool, List, Option, Some, None, sum_by}
+use Rattle.std.specs.Prelude.{◌≡◌, ℕ, Bool, List, [], ◌∷◌, ◌++◌, Option, Some, None, Contains, sum_by}
 use Rattle.waff_model.specs.Layout.{Hierarchy}
 use Rattle.waff_model.specs.Messages.{Arrivals}
 use Rattle.waff_assign.specs.Order.{IsOrdered, Relation}
@@ -14,9 +14,11 @@ use Rattle.waff_figures.specs.Figures.{waits_of}
 use Rattle.waff_figures.specs.Waits.{AreWaits}
 use Rattle.waff_figures.specs.WaitRows.{AreRows}
 use Rattle.waff_figures.specs.WaitText.{are_alike, waits_lines}
+use Rattle.waff_figures.specs.declared.figures.Figures.{Figures}
 use Rattle.waff_figures.specs.declared.wait_rows.Row.{Row}
 use Rattle.waff_figures.specs.declared.waits.Wait.{Wait}
 use Rattle.waff_inputs.specs.Inputs.{Accepts}
+use Rattle.waff_tool.specs.Figures.{IsSweepText}
 use Rattle.waff_tool.specs.PlanText.{work_of_trace}
 
 -- the plan by this rule for this number of workers, or the least plan, whatever the rule, where there
@@ -51,3 +53,13 @@ abbrev pub WaitsTextIsOne : Rule → List ℕ → List ℕ → Option ℕ → Bo
 WaitsTextIsOne rule hierarchy_file trace_file workers by_name =
     (text other : List ℕ) → IsWaitsText rule hierarchy_file trace_file workers by_name text
     → IsWaitsText rule hierarchy_file trace_file workers by_name other → text ≡ other
+
+-- the ticks of all rows add up to the `waits` of each line of a sweep by the same rule that is for as
+-- many workers, or without
+abbrev pub WaitsAreSwept : Rule → List ℕ → List ℕ → Option ℕ → Bool → Type 0
+WaitsAreSwept rule hierarchy_file trace_file limit by_name =
+    (workers text sweep : List ℕ) (line : Figures)
+    → (told : IsWaitsText rule hierarchy_file trace_file limit by_name text)
+    → (swept : IsSweepText rule hierarchy_file trace_file workers sweep)
+    → Contains (swept.listed ++ swept.unlimited ∷ []) line → line.workers ≡ limit
+    → sum_by (λ row. row.ticks) told.rows ≡ line.waits

@@ -21,6 +21,7 @@ use std::io::Write;
 use std::thread::Threads;
 use waff_assign::Case;
 use waff_check::{GivenPlan, Verdict, check};
+use waff_figures::figures::least_is_lower_bound;
 use waff_figures::{Figures, figures_of, push_rate};
 use waff_inputs::{Accepted, ToolError, deliver};
 use waff_plan::unlimited::plan;
@@ -109,6 +110,7 @@ fn given_figures(alloc: Global, case: &Case<'_>, given: &GivenPlan) -> Result<Fi
     drop(unlimited);
     let handed = given.plan(alloc, case.trace)?;
     let figures = figures_of(alloc, &handed, given.workers(), shortest)?;
+    least_is_lower_bound();
     Ok(figures)
 }
 

@@ -9,6 +9,7 @@ ghost use Rattle.waff_tool.specs.Figures.{IsSweepText, SweepTextIsOne};
 use std::alloc::{AllocError, Global};
 use std::io::Write;
 use std::thread::Threads;
+use waff_figures::figures::least_is_lower_bound;
 use waff_figures::{figures_of, figures_text, list_figures};
 use waff_inputs::{Accepted, ToolError, accept, deliver};
 use waff_list::Rule;
@@ -71,6 +72,7 @@ fn swept_text(
     let case = accepted.case();
     let plan = plan(alloc, case.tree, case.assigned, case.trace)?;
     let unlimited = figures_of(alloc, &plan, None, plan.length())?;
+    least_is_lower_bound();
     let planned = Planned { case, plan: &plan };
     let listed = list_figures(alloc, &planned, rule, workers)?;
     let text = figures_text(alloc, listed.as_slice(), &unlimited);

@@ -4,7 +4,7 @@ ghost use Rattle.std.specs.Prelude.{None, Some, IfSome, length, string_bytes};
 ghost use Rattle.waff_plan.specs.Bound.{IsWorkers};
 ghost use Rattle.waff_inputs.specs.Deliveries.{Delivers, Makes};
 ghost use Rattle.waff_inputs.specs.Inputs.{Accepts, Refuses};
-ghost use Rattle.waff_tool.specs.WaitsText.{IsWaitsText, WaitsTextIsOne};
+ghost use Rattle.waff_tool.specs.WaitsText.{IsWaitsText, WaitsAreSwept, WaitsTextIsOne};
 
 use std::alloc::{AllocError, Global};
 use std::io::Write;
@@ -127,4 +127,11 @@ fn worker_waits(
 pub fn waits_text_is_one()
     ensures equal { (rule : Rule) (hierarchy_file trace_file : List ℕ) (workers : Option ℕ)
         (by_name : Bool) → WaitsTextIsOne rule hierarchy_file trace_file workers by_name }
+{}
+
+/// The ticks that it tells add up to the `waits` of each line of a sweep by the same rule for as many
+/// workers.
+pub fn waits_are_swept()
+    ensures equal { (rule : Rule) (hierarchy_file trace_file : List ℕ) (workers : Option ℕ)
+        (by_name : Bool) → WaitsAreSwept rule hierarchy_file trace_file workers by_name }
 {}

@@ -1,8 +1,10 @@
-use Rattle.std.proofs.Common.{◌≡◌, ◌≤◌, Some, sym, ◌∙◌, subst}
+use Rattle.std.proofs.Common.{◌≡◌, Some, sym, ◌∙◌, subst}
 use Rattle.std.proofs.lemmas.Result.{IfOk-weaker}
+use Rattle.waff_assign.specs.Order.{IsOrdered}
 use Rattle.waff_plan.specs.Timing.{start_of, work_of}
 use Rattle.waff_plan.specs.Work.{length_of}
 use Rattle.waff_figures.specs.Figures.{AreFigures}
+use Rattle.waff_figures.specs.Least.{IsLowerBound}
 use Rattle.waff_figures.proofs.sweep.figures_for.Goals as goal
 
 pub returns-clause-listed : goal.returns-clause-listed
@@ -21,8 +23,7 @@ returns-clause-listed c =
       starts = made.table.starts;
       list = rw timings at list;
       figures_are = told;
-      least = λ other is.
-          subst (λ n. n ≤ length_of work other) (sym told.least)
-          (c.none_is_shorter.ensures case.tree.now case.assigned.now work c.args.k (start_of plan.starts) other c.requires.workers.from c.requires.least is);
+      least = subst (λ n. IsLowerBound (Some c.args.k) (IsOrdered case.tree.now case.assigned.now) work n) (sym told.least)
+          (c.least_is_lower_bound.ensures.bound case.tree.now case.assigned.now work (Some c.args.k) (start_of plan.starts) c.requires.workers c.requires.least);
     })
     (rw (c.plan.ensures.plan, timings, c.length.ensures.length) at c.figures_of.ensures)

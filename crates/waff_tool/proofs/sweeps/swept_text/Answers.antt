@@ -1,9 +1,13 @@
-use Rattle.std.proofs.Common.{◌≡◌, ℕ, List, string_bytes, ◌∙◌, ap}
+use Rattle.std.proofs.Common.{◌≡◌, ℕ, List, None, string_bytes, sym, ◌∙◌, ap, subst}
 use Rattle.std.proofs.lemmas.Result.{IfOk-weaker}
+use Rattle.waff_assign.specs.Order.{IsOrdered}
+use Rattle.waff_plan.specs.Timing.{start_of}
 use Rattle.waff_plan_text.specs.Lines.{text_of}
+use Rattle.waff_figures.specs.Least.{IsLowerBound}
 use Rattle.waff_figures.specs.Sweep.{sweep_lines}
 use Rattle.waff_inputs.specs.Inputs.{Accepts}
 use Rattle.waff_tool.specs.Figures.{IsSweepText}
+use Rattle.waff_tool.specs.PlanText.{work_of_trace}
 use Rattle.waff_tool.proofs.CertificateLemmas.{as_many}
 use Rattle.waff_tool.proofs.sweeps.swept_text.Goals as goal
 
@@ -44,6 +48,8 @@ returns c =
       least = least;
       are_listed = are;
       are_unlimited = told;
+      bound = subst (λ n. IsLowerBound None (IsOrdered layout.tree assigned) (work_of_trace trace) n) (sym told.least)
+          (c.least_is_lower_bound.ensures.bound layout.tree assigned (work_of_trace trace) None (start_of plan.starts) tt least);
       lines = lines ∙ ap (λ fs. text_of (sweep_lines fs unlimited)) c.as_slice.ensures.value;
     })
     c.figures_text-text.ensures
