@@ -105,12 +105,8 @@ fn write_text<R: Threads + Wait + Sync>(
             waits_text(rt, alloc, hierarchy, trace, workers, rule, true, writer)
         }
         Call::Rank => {
-            let mut trees = Vec::new(alloc);
-            for tree in [H1, C1] {
-                trees.push(tree.as_bytes().to_vec(alloc)?)?;
-            }
-            let rule = Rule::Longest;
-            rank_text(rt, alloc, trees.as_slice(), trace, 2, rule, writer)
+            let trees = [H1.as_bytes().to_vec(alloc)?, C1.as_bytes().to_vec(alloc)?];
+            rank_text(rt, alloc, &trees, trace, 2, Rule::Longest, writer)
         }
         _ => write_of_plan(rt, alloc, call, writer),
     }
