@@ -227,20 +227,24 @@ fn leave_the_part_that_was_taken(rt: HostRuntime) {
 /// More bytes than each of these texts has.
 const MORE: usize = 10_000;
 
-#[test]
-fn leave_the_part_of_other_texts_that_was_taken(rt: HostRuntime) {
-    for call in [
-        Call::Picture,
-        Call::Events,
-        Call::Explain,
-        Call::Rate,
-        Call::Waits,
-        Call::Rank,
-        Call::PlanByLongest,
-    ] {
-        let whole = given(&rt, rt.alloc(), call, MORE, MORE);
-        is_given(&rt, rt.alloc(), call, whole.as_slice());
+/// Writers of each number of bytes have to be given what one with room for all is given.
+fn are_given<R: Threads + Wait + Sync + Abort>(rt: &R, alloc: Global, calls: &[Call]) {
+    for call in calls {
+        let whole = given(rt, alloc, *call, MORE, MORE);
+        is_given(rt, alloc, *call, whole.as_slice());
     }
+}
+
+#[test]
+fn leave_the_part_of_a_text_about_a_plan_that_was_taken(rt: HostRuntime) {
+    let calls = [Call::Picture, Call::Events, Call::Explain, Call::Rate];
+    are_given(&rt, rt.alloc(), &calls);
+}
+
+#[test]
+fn leave_the_part_of_a_text_by_a_rule_that_was_taken(rt: HostRuntime) {
+    let calls = [Call::PlanByLongest, Call::Waits, Call::Rank];
+    are_given(&rt, rt.alloc(), &calls);
 }
 
 /// Gives some bytes, a few at once, and then an error.
