@@ -6,7 +6,7 @@ use Rattle.std.proofs.lemmas.List.Elements.{Contains-get_or, Contains-append_lef
 use Rattle.waff_model.specs.Tree.{AtOrAbove}
 use Rattle.waff_model.specs.Layout.{Hierarchy, owner_of, IsCell, IsLayout}
 use Rattle.waff_model.specs.declared.cell.Cell.{Cell}
-use Rattle.waff_model.proofs.ParcelTableLemmas.{owner_is_affinity}
+use Rattle.waff_model.proofs.OwnerLemmas.{owner_is_affinity}
 use Rattle.waff_model.proofs.TreeLemmas.{reflexive, transitive}
 use Rattle.waff_assign.specs.Lowest.{Covers, IsLowest}
 use Rattle.waff_assign.proofs.Climbs.{root_above}

@@ -9,7 +9,7 @@ use Rattle.waff_model.specs.Layout.{IsCell, IsLayout, owner_of}
 use Rattle.waff_model.specs.Parcel.{offset_of, parcel_size}
 use Rattle.waff_model.specs.declared.cell.Cell.{Cell}
 use Rattle.waff_model.proofs.ParcelLemmas.{offset_within}
-use Rattle.waff_model.proofs.ParcelTableLemmas.{owner_is_affinity}
+use Rattle.waff_model.proofs.OwnerLemmas.{owner_is_affinity}
 use Rattle.waff_cells.specs.Gathered.{LieIn, cells_of_parcels}
 use Rattle.waff_cells.specs.Held.{rows_of}
 use Rattle.waff_cells.specs.Meaning.{Cells}

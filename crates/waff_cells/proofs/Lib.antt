@@ -7,3 +7,4 @@ pub mod Holdings
 mod InRows
 pub mod RowRuns
 mod Gathers
+mod ParcelTables

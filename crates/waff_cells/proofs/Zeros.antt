@@ -14,7 +14,7 @@ pub zero_sizes : (sizes : List ℕ) → HasSizes (zero_rows sizes) sizes
 zero_sizes [] = refl
 zero_sizes (n ∷ sizes) = ap₂ (λ (x : ℕ) (xs : List ℕ). x ∷ xs) (length-replicate n 0) (zero_sizes sizes)
 
-zero_at : (n i : ℕ) → let z : ℕ = 0 in get_or (replicate n z) i z ≡ z
+pub zero_at : (n i : ℕ) → let z : ℕ = 0 in get_or (replicate n z) i z ≡ z
 zero_at zero i = refl
 zero_at (suc n) zero = refl
 zero_at (suc n) (suc i) = zero_at n i

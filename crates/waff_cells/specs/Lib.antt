@@ -3,6 +3,7 @@ pub mod Serial
 pub mod Grid
 pub mod Held
 pub mod Parcel
+pub mod ParcelTable
 pub mod RowEffects
 pub mod Gathered
 pub mod Laws

@@ -8,32 +8,32 @@ ghost use Rattle.waff_cells.specs.Grid.{HasSizes};
 ghost use Rattle.waff_cells.specs.Parcel.{AreParcels, HaveParcelSizes, IsHeld, IsOwned};
 
 use crate::addresses::Addresses;
+use crate::parcel_table::ParcelTable;
 use crate::rows;
 use waff_model::{Cell, Layout, Ops};
 
 /// Runs operations on parcels.
-pub fn run(parcels: &mut [Vec<u64>], layout: &Layout, ops: &Ops)
-    requires held { All (IsHeld layout.now.spaces (rows_of parcels.old)) (cells_of ops.now) }
+pub fn run(parcels: &mut [Vec<u64>], table: &ParcelTable, ops: &Ops)
+    requires held { All (IsHeld table.now.spaces (rows_of parcels.old)) (cells_of ops.now) }
     ensures sizes { HasSizes (rows_of parcels.new) (map length (rows_of parcels.old)) }
     ensures parcels { (owners : List ℕ) (cells : Cells)
-        → All (IsOwned layout.now.spaces owners) (cells_of ops.now)
-        → AreParcels layout.now.spaces owners cells (rows_of parcels.old)
-        → AreParcels layout.now.spaces owners (meaning ops.now cells) (rows_of parcels.new) }
+        → All (IsOwned table.now.spaces owners) (cells_of ops.now)
+        → AreParcels table.now.spaces owners cells (rows_of parcels.old)
+        → AreParcels table.now.spaces owners (meaning ops.now cells) (rows_of parcels.new) }
 {
-    rows::run(parcels, &InParcels { layout }, ops);
+    rows::run(parcels, table, ops);
 }
 
 /// The number of the cell, where it is one of the parcels of these affinities.
-pub fn get(parcels: &[Vec<u64>], layout: &Layout, owners: &[u16], cell: Cell) -> Option<u64>
-    requires { HaveParcelSizes layout.now.spaces owners.now (rows_of parcels.now) }
-    ensures owned { IsSome result ↔ IsOwned layout.now.spaces owners.now cell }
+pub fn get(parcels: &[Vec<u64>], table: &ParcelTable, owners: &[u16], cell: Cell) -> Option<u64>
+    requires { HaveParcelSizes table.now.spaces owners.now (rows_of parcels.now) }
+    ensures owned { IsSome result ↔ IsOwned table.now.spaces owners.now cell }
     ensures number { (cells : Cells)
-        → AreParcels layout.now.spaces owners.now cells (rows_of parcels.now)
+        → AreParcels table.now.spaces owners.now cells (rows_of parcels.now)
         → IfSome result (λ number. number ≡ cells cell) }
 {
-    if is_owned(layout, owners, cell) {
-        let (owner, offset) = layout.place(cell);
-        Some(rows::number_at(parcels, (owner.0 as usize, offset as usize)))
+    if is_owned(table.layout(), owners, cell) {
+        Some(rows::number_at(parcels, table.address(cell)))
     } else {
         None
     }
@@ -44,24 +44,4 @@ fn is_owned(layout: &Layout, owners: &[u16], cell: Cell) -> bool
     ensures { IsTrue result ↔ IsOwned layout.now.spaces owners.now cell }
 {
     layout.has(cell) && owners.contains(&layout.owner(cell).0)
-}
-
-/// Where parcels hold each cell: in the row of its owner, at its offset.
-#[derive(Drop)]
-struct InParcels<'a> {
-    layout: &'a Layout,
-}
-
-impl<'a> Addresses for InParcels<'a> {
-    ghost use Rattle.waff_model.specs.Layout.{IsCell};
-    ghost use Rattle.waff_cells.specs.Parcel.{lies_at};
-
-    ghost has = { λ s cell. IsCell s.layout.now.spaces cell };
-
-    ghost at = { λ s. lies_at s.layout.now.spaces };
-
-    fn address(&self, cell: Cell) -> (usize, usize) {
-        let (owner, offset) = self.layout.place(cell);
-        (owner.0 as usize, offset as usize)
-    }
 }

@@ -7,8 +7,7 @@ mod ArrangeLemmas
 pub mod LayoutLemmas
 mod SpaceLemmas
 pub mod ParcelLemmas
-pub mod ParcelTableLemmas
-mod RunLemmas
+pub mod OwnerLemmas
 pub mod TraceLemmas
 pub mod LaterLemmas
 mod BlockLemmas

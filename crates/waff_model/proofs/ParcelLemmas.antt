@@ -1,18 +1,18 @@
 -- The order of cells, and the cells of one owner in it.
-use Rattle.std.proofs.Common.{◌≡◌, ℕ, zero, suc, ◌+◌, ◌-◌, ◌<◌, ◌≤◌, inl, inr, cond, eqb, List, [], ◌∷◌, ◌++◌, length, take, get_or, sum_by, refl, ap, sym, subst, ◌∙◌, arith, length-append, eq-eqb, zero-add}
-use Rattle.std.proofs.lemmas.Bool.{cases_Bool, cases_lt, cases_order, eqb-true}
-use Rattle.std.proofs.lemmas.List.{get_or_append_left, get_or-append-add, take-take}
-use Rattle.std.proofs.lemmas.List.Sums.{sum_by-cons, sum_by-take-le, count_by_more_yes}
+use Rattle.std.proofs.Common.{◌≡◌, ℕ, zero, suc, ◌+◌, ◌-◌, ◌<◌, ◌≤◌, inl, inr, cond, eqb, List, [], ◌∷◌, ◌++◌, length, take, get_or, sum_by, refl, ap, sym, subst, ◌∙◌, arith, length-append, eq-eqb, zero-add, ◌≢◌}
+use Rattle.std.proofs.lemmas.Bool.{cases_Bool, cases_lt, cases_order, eqb-true, ne_eqb}
+use Rattle.std.proofs.lemmas.List.{get_or_append_left, get_or-append-add, take-take, take_all}
+use Rattle.std.proofs.lemmas.List.Sums.{sum_by-cons, sum_by-take-le, count_by_more_yes, count_by_more_no, count_by-le-length}
 use Rattle.std.proofs.lemmas.List.FromFn.{length-map-range_with_len, get_or-map-range_with_len}
 use Rattle.waff_model.specs.declared.cell.Cell.{Cell}
 use Rattle.waff_model.specs.Layout.{Space, IsCell, size_at, owner_at, owner_of}
-use Rattle.waff_model.specs.Parcel.{owners_across, owners_in, cells_ahead, cells_before, count_of, parcel_size, offset_of}
+use Rattle.waff_model.specs.Parcel.{owners_across, owners_in, cells_ahead, cells_before, count_of, parcel_size, owned_among, offset_of}
 
 length-owners_across : (space : Space) → length (owners_across space) ≡ space.size
 length-owners_across space = length-map-range_with_len (owner_at space) 0 space.size
 
 -- there are as many owners as cells
-pub length-owners_in : (spaces : List Space) → length (owners_in spaces) ≡ sum_by (λ space. space.size) spaces
+length-owners_in : (spaces : List Space) → length (owners_in spaces) ≡ sum_by (λ space. space.size) spaces
 length-owners_in [] = refl
 length-owners_in (space ∷ spaces) =
     let parts : length (owners_in (space ∷ spaces)) ≡ length (owners_across space) + length (owners_in spaces) = length-append (owners_across space) (owners_in spaces) in
@@ -23,6 +23,13 @@ length-owners_in (space ∷ spaces) =
 
 cells_ahead-cons : (space : Space) (spaces : List Space) (s : ℕ) → cells_ahead (space ∷ spaces) (suc s) ≡ space.size + cells_ahead spaces s
 cells_ahead-cons space spaces s = sum_by-cons (λ (s : Space). s.size) space (take s spaces)
+
+-- the cells of one space more
+ahead_more : (spaces : List Space) (s : ℕ) → s < length spaces → cells_ahead spaces (suc s) ≡ cells_ahead spaces s + size_at spaces s
+ahead_more [] s within = absurd (omega arith)
+ahead_more (space ∷ spaces) zero within = omega (arith, cells_ahead-cons space spaces zero)
+ahead_more (space ∷ spaces) (suc s) within =
+    omega (arith, cells_ahead-cons space spaces (suc s), cells_ahead-cons space spaces s, ahead_more spaces s (omega arith))
 
 -- a cell stands among all cells
 before_all : (spaces : List Space) (s i : ℕ) → i < size_at spaces s → cells_ahead spaces s + i < sum_by (λ space. space.size) spaces
@@ -62,7 +69,7 @@ same_number (space ∷ spaces) (suc s) i (suc t) j one other same =
     (ap suc both.0, both.1)
 
 -- each number in the order is a cell's
-pub cell_numbered : (spaces : List Space) (k : ℕ) → k < sum_by (λ space. space.size) spaces → (cell : Cell) × IsCell spaces cell × (cells_before spaces cell ≡ k)
+cell_numbered : (spaces : List Space) (k : ℕ) → k < sum_by (λ space. space.size) spaces → (cell : Cell) × IsCell spaces cell × (cells_before spaces cell ≡ k)
 cell_numbered [] k within = absurd (omega arith)
 cell_numbered (space ∷ spaces) k within =
     elim (cases_lt k space.size) [
@@ -74,7 +81,7 @@ cell_numbered (space ∷ spaces) k within =
     ]
 
 -- one more cell of a
-pub count_more : (owners : List ℕ) (k a : ℕ) → k < length owners → get_or owners k 0 ≡ a → count_of a (take (k + 1) owners) ≡ count_of a (take k owners) + 1
+count_more : (owners : List ℕ) (k a : ℕ) → k < length owners → get_or owners k 0 ≡ a → count_of a (take (k + 1) owners) ≡ count_of a (take k owners) + 1
 count_more owners k a within owned = count_by_more_yes (λ owner. eqb owner a) owners k 0 within (eq-eqb (get_or owners k 0) a owned)
 
 -- fewer of a's cells come before the earlier of two numbers, where the cell there is a's
@@ -85,7 +92,7 @@ count_less owners k n a before within owned =
     let same : count_of a (take (k + 1) (take n owners)) ≡ count_of a (take (k + 1) owners) = ap (count_of a) (take-take (k + 1) n owners (omega arith)) in
     omega arith
 
-pub count_whole : (owners : List ℕ) (k a : ℕ) → k < length owners → get_or owners k 0 ≡ a → count_of a (take k owners) < count_of a owners
+count_whole : (owners : List ℕ) (k a : ℕ) → k < length owners → get_or owners k 0 ≡ a → count_of a (take k owners) < count_of a owners
 count_whole owners k a within owned =
     let one = count_more owners k a within owned in
     let less : count_of a (take (k + 1) owners) ≤ count_of a owners = sum_by-take-le (λ owner. cond (eqb owner a) 1 0) owners (k + 1) in
@@ -114,11 +121,40 @@ count_reached (owner ∷ owners) a n below =
     ]
 
 module _ (spaces : List Space) where
-  pub cells_before-all : (cell : Cell) → IsCell spaces cell → cells_before spaces cell < length (owners_in spaces)
+  cells_before-all : (cell : Cell) → IsCell spaces cell → cells_before spaces cell < length (owners_in spaces)
   cells_before-all cell is_cell = omega (arith, length-owners_in spaces, before_all spaces cell.space cell.index is_cell)
 
-  pub owner_of_number : (cell : Cell) → IsCell spaces cell → get_or (owners_in spaces) (cells_before spaces cell) 0 ≡ owner_of spaces cell
+  owner_of_number : (cell : Cell) → IsCell spaces cell → get_or (owners_in spaces) (cells_before spaces cell) 0 ≡ owner_of spaces cell
   owner_of_number cell is_cell = owner_stands spaces cell.space cell.index is_cell
+
+  next_number : (cell : Cell) → cells_before spaces cell + 1 ≡ cells_ahead spaces cell.space + (cell.index + 1)
+  next_number cell = omega arith
+
+  -- one cell more counts for its owner, and for no other
+  pub owned_more : (cell : Cell) → IsCell spaces cell → (a : ℕ) → owner_of spaces cell ≡ a → owned_among spaces (cells_ahead spaces cell.space + (cell.index + 1)) a ≡ owned_among spaces (cells_before spaces cell) a + 1
+  owned_more cell is_cell a owned =
+      ap (λ k. owned_among spaces k a) (sym (next_number cell))
+      ∙ count_more (owners_in spaces) (cells_before spaces cell) a (cells_before-all cell is_cell) (owner_of_number cell is_cell ∙ owned)
+
+  pub owned_same : (cell : Cell) → IsCell spaces cell → (a : ℕ) → owner_of spaces cell ≢ a → owned_among spaces (cells_ahead spaces cell.space + (cell.index + 1)) a ≡ owned_among spaces (cells_before spaces cell) a
+  owned_same cell is_cell a other =
+      ap (λ k. owned_among spaces k a) (sym (next_number cell))
+      ∙ count_by_more_no (λ owner. eqb owner a) (owners_in spaces) (cells_before spaces cell) 0 (cells_before-all cell is_cell)
+      (ne_eqb (get_or (owners_in spaces) (cells_before spaces cell) 0) a (λ same. other (sym (owner_of_number cell is_cell) ∙ same)))
+
+  pub ahead_of_next : (s : ℕ) → s < length spaces → cells_ahead spaces (s + 1) ≡ cells_ahead spaces s + size_at spaces s
+  ahead_of_next s within = let next : s + 1 ≡ suc s = omega arith in ap (cells_ahead spaces) next ∙ ahead_more spaces s within
+
+  -- no affinity owns more cells than there are
+  pub owned_few : (k a : ℕ) → owned_among spaces k a ≤ sum_by (λ space. space.size) spaces
+  owned_few k a =
+      omega (arith, sum_by-take-le (λ owner. cond (eqb owner a) 1 0) (owners_in spaces) k, count_by-le-length (λ owner. eqb owner a) (owners_in spaces), length-owners_in spaces)
+
+  -- all cells are among those of all spaces
+  pub owned_all : (n a : ℕ) → length spaces ≤ n → owned_among spaces (cells_ahead spaces n) a ≡ parcel_size spaces a
+  owned_all n a all =
+      let cells : cells_ahead spaces n ≡ sum_by (λ space. space.size) spaces = ap (sum_by (λ (space : Space). space.size)) (take_all n spaces all) in
+      ap (count_of a) (take_all (cells_ahead spaces n) (owners_in spaces) (omega (arith, cells, length-owners_in spaces)))
 
   -- a cell's offset is below the size of its owner's parcel
   pub offset_within : (cell : Cell) → IsCell spaces cell → offset_of spaces cell < parcel_size spaces (owner_of spaces cell)

@@ -12,7 +12,6 @@ pub mod LayoutRefusal
 pub mod PackedOps
 pub mod KeptOps
 pub mod Parcel
-pub mod ParcelTable
 pub mod ParcelLaws
 pub mod Numbers
 pub mod Messages

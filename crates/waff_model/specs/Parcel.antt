@@ -28,7 +28,10 @@ count_of a owners = count_by (λ owner. owner == a) owners
 abbrev pub parcel_size : List Space → ℕ → ℕ
 parcel_size spaces a = count_of a (owners_in spaces)
 
+-- how many of the first k cells the affinity a owns
+abbrev pub owned_among : List Space → ℕ → ℕ → ℕ
+owned_among spaces k a = count_of a (take k (owners_in spaces))
+
 -- the offset of a cell in its owner's parcel: how many of the cells before it have its owner
 abbrev pub offset_of : List Space → Cell → ℕ
-offset_of spaces cell =
-    count_of (owner_of spaces cell) (take (cells_before spaces cell) (owners_in spaces))
+offset_of spaces cell = owned_among spaces (cells_before spaces cell) (owner_of spaces cell)

@@ -9,8 +9,6 @@ ghost use Rattle.waff_model.specs.Tree.{IsTree, number_of};
 ghost use Rattle.waff_model.specs.Layout.{IsLayout, IsCell, SameSpaces, name_at, size_at};
 ghost use Rattle.waff_model.specs.Layout.{space_named, owner_of};
 ghost use Rattle.waff_model.specs.LayoutOf.{owners_of, map_of, space_of, hierarchy_of};
-ghost use Rattle.waff_model.specs.Parcel.{parcel_size, offset_of};
-ghost use Rattle.waff_model.specs.ParcelTable.{IsParcelTable};
 ghost use Rattle.waff_model.specs.LayoutRefusal.{layout_refusal};
 
 use crate::cell::Cell;
@@ -18,7 +16,6 @@ use crate::kind::Kind;
 use crate::layout_rows::{LayoutError, MapSpec, SpaceSpec, refusal, size_of, within};
 use crate::limits::MAX_UNIT;
 use crate::name::Text;
-use crate::parcels::{Parcels, parcels_of};
 use crate::space::Space;
 use crate::tree::{AffinityId, Tree};
 use std::alloc::{AllocError, Global};
@@ -29,20 +26,17 @@ pub struct Layout {
     kind: Kind,
     tree: Tree,
     spaces: Vec<Space>,
-    parcels: Parcels,
 }
 
 impl Model for Layout {
     ghost use Rattle.waff_model.specs.Layout.{Hierarchy, IsLayout};
-    ghost use Rattle.waff_model.specs.ParcelTable.{IsParcelTable};
 
     ghost Value = { Hierarchy };
 
     ghost view = { λ l. record { kind = l.kind; tree = l.tree; spaces = l.spaces.items } };
 
     ghost invariant = { λ l.
-        IsLayout (record { kind = l.kind; tree = l.tree; spaces = l.spaces.items })
-        × IsParcelTable l.tree l.spaces.items l.parcels };
+        IsLayout (record { kind = l.kind; tree = l.tree; spaces = l.spaces.items }) };
 }
 
 // Written out: a derived drop is proved again in each crate that lets go of the value.
@@ -52,11 +46,9 @@ impl Drop for Layout {
             kind: _,
             tree,
             spaces,
-            parcels,
         } = self;
         drop(tree);
         drop(spaces);
-        drop(parcels);
     }
 }
 
@@ -77,13 +69,8 @@ impl Layout {
         ensures refused { IfErr result (λ e.
             e ≡ unwrap_or (layout_refusal tree spaces.now maps.now) LayoutError.Memory) }
     {
-        match laid_out(alloc, &tree, spaces, maps) {
-            Ok((spaces, parcels)) => Ok(Layout {
-                kind,
-                tree,
-                spaces,
-                parcels,
-            }),
+        match spaces_or_refusal(alloc, &tree, spaces, maps) {
+            Ok(spaces) => Ok(Layout { kind, tree, spaces }),
             Err(refusal) => Err(refusal),
         }
     }
@@ -169,43 +156,20 @@ impl Layout {
         ensures owner { result.0 ≡ owner_of self.now.spaces cell }
         ensures within { result.0 < length self.now.tree }
     {
-        self.place(cell).0
-    }
-
-    /// How many cells the affinity owns.
-    pub fn parcel_len(&self, a: AffinityId) -> u32
-        requires { a.0 < length self.now.tree }
-        ensures { result ≡ parcel_size self.now.spaces a.0 }
-    {
-        self.parcels.sizes[a.0 as usize]
-    }
-
-    /// The owner of the cell, and the cell's place in the owner's parcel: how many of the owner's
-    /// cells come before it.
-    pub fn place(&self, cell: Cell) -> (AffinityId, u32)
-        requires { IsCell self.now.spaces cell }
-        ensures owner { result.0.0 ≡ owner_of self.now.spaces cell }
-        ensures affinity { result.0.0 < length self.now.tree }
-        ensures place { result.1 ≡ offset_of self.now.spaces cell }
-        ensures within { result.1 < parcel_size self.now.spaces result.0.0 }
-    {
-        let parcels = &self.parcels;
-        let at = (parcels.starts[cell.space as usize] + cell.index) as usize;
-        (AffinityId(parcels.owners[at]), parcels.offsets[at])
+        let space = &self.spaces[cell.space as usize];
+        let to = space.to();
+        AffinityId(to[(cell.index / space.unit()) as usize % to.len()])
     }
 }
 
-/// The spaces of the rows and the table of their parcels, or why the rows are refused.
-fn laid_out(
+/// The spaces of the rows, with their maps, or why the rows are refused.
+fn spaces_or_refusal(
     alloc: Global,
     tree: &Tree,
     spaces: &[SpaceSpec],
     maps: &[MapSpec],
-) -> Result<(Vec<Space>, Parcels), LayoutError>
-    requires { IsTree tree.now }
-    ensures spaces { IfOk result (λ laid.
-        laid.0.items ≡ map (space_of tree.now maps.now) spaces.now) }
-    ensures parcels { IfOk result (λ laid. IsParcelTable tree.now laid.0.items laid.1) }
+) -> Result<Vec<Space>, LayoutError>
+    ensures spaces { IfOk result (λ v. v.items ≡ map (space_of tree.now maps.now) spaces.now) }
     ensures accepted { OnOk result (layout_refusal tree.now spaces.now maps.now ≡ None) }
     ensures refused { IfErr result (λ e.
         e ≡ unwrap_or (layout_refusal tree.now spaces.now maps.now) LayoutError.Memory) }
@@ -213,28 +177,10 @@ fn laid_out(
     if let Some(refusal) = refusal(tree, spaces, maps) {
         return Err(refusal);
     }
-    match lay_out(alloc, tree, spaces, maps) {
-        Ok(laid) => Ok(laid),
+    match spaces_of(alloc, tree, spaces, maps) {
+        Ok(spaces) => Ok(spaces),
         Err(_) => Err(LayoutError::Memory),
     }
-}
-
-/// The spaces of rows of which none is refused, and the table of their parcels.
-fn lay_out(
-    alloc: Global,
-    tree: &Tree,
-    spaces: &[SpaceSpec],
-    maps: &[MapSpec],
-) -> Result<(Vec<Space>, Parcels), AllocError>
-    requires tree { IsTree tree.now }
-    requires accepted { layout_refusal tree.now spaces.now maps.now ≡ None }
-    ensures spaces { IfOk result (λ laid.
-        laid.0.items ≡ map (space_of tree.now maps.now) spaces.now) }
-    ensures parcels { IfOk result (λ laid. IsParcelTable tree.now laid.0.items laid.1) }
-{
-    let spaces = spaces_of(alloc, tree, spaces, maps)?;
-    let parcels = parcels_of(alloc, tree, &spaces)?;
-    Ok((spaces, parcels))
 }
 
 /// Whether the spaces have the same names and sizes.

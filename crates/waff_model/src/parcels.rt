@@ -1,106 +1,62 @@
-//! The table of parcels: where each cell stands among the cells of its owner.
+//! The parcels of a layout, by counting over its cells.
 
-ghost use Rattle.std.specs.Prelude.{◌≡◌, ◌<◌, ◌^◌, ◌++◌, length, replicate, sum_by, All, IfOk};
-ghost use Rattle.std.specs.Prelude.{OnOk};
-ghost use Rattle.waff_model.specs.Parcel.{owners_in};
-ghost use Rattle.waff_model.specs.ParcelTable.{IsMapped, IsParcelTable, offsets_of, owners_by};
-ghost use Rattle.waff_model.specs.ParcelTable.{parcel_sizes, starts_of};
+ghost use Rattle.std.specs.Prelude.{◌≡◌, ◌+◌, ◌<◌, ◌≤◌, length};
+ghost use Rattle.waff_model.specs.Layout.{IsCell, owner_of, size_at};
+ghost use Rattle.waff_model.specs.Parcel.{cells_ahead, offset_of, owned_among, parcel_size};
 
-use crate::space::Space;
-use crate::tree::Tree;
-use std::alloc::{AllocError, Global};
+use crate::cell::Cell;
+use crate::layout::Layout;
+use crate::tree::AffinityId;
 
-/// For each cell, in the order of cells, its owner and its offset, and for each affinity the size
-/// of its parcel. The cells of a space start where `starts` says.
-#[derive(Drop)]
-pub(crate) struct Parcels {
-    pub(crate) starts: Vec<u32>,
-    pub(crate) owners: Vec<u16>,
-    pub(crate) offsets: Vec<u32>,
-    pub(crate) sizes: Vec<u32>,
-}
-
-/// The table of the parcels of these spaces over the tree.
-pub(crate) fn parcels_of(
-    alloc: Global,
-    tree: &Tree,
-    spaces: &[Space],
-) -> Result<Parcels, AllocError>
-    requires mapped { All IsMapped spaces.now }
-    requires affinities { All (λ a. a < length tree.now) (owners_in spaces.now) }
-    requires few { sum_by (λ s. s.size) spaces.now < 2 ^ 32 }
-    ensures { IfOk result (λ parcels. IsParcelTable tree.now spaces.now parcels) }
-{
-    let starts = starts_of(alloc, spaces)?;
-    let owners = owners_of(alloc, spaces)?;
-    let mut sizes = vec![in alloc; 0; tree.len() as usize]?;
-    let offsets = offsets_of(alloc, &owners, &mut sizes)?;
-    Ok(Parcels {
-        starts,
-        owners,
-        offsets,
-        sizes,
-    })
-}
-
-/// Where the cells of each space start.
-fn starts_of(alloc: Global, spaces: &[Space]) -> Result<Vec<u32>, AllocError>
-    requires { sum_by (λ s. s.size) spaces.now < 2 ^ 32 }
-    ensures { IfOk result (λ v. v.items ≡ starts_of spaces.now) }
-{
-    let mut starts = Vec::with_capacity(alloc, spaces.len())?;
-    let mut cells = 0;
-    for space in spaces {
-        starts.push_reserved(cells);
-        cells += space.size();
+impl Layout {
+    /// How many cells the affinity owns.
+    pub fn parcel_len(&self, a: AffinityId) -> u32
+        ensures { result ≡ parcel_size self.now.spaces a.0 }
+    {
+        count_ahead(self, a, self.space_count())
     }
-    Ok(starts)
-}
 
-/// The owners of all cells.
-fn owners_of(alloc: Global, spaces: &[Space]) -> Result<Vec<u16>, AllocError>
-    requires { All IsMapped spaces.now }
-    ensures { IfOk result (λ v. v.items ≡ owners_in spaces.now) }
-{
-    let mut owners = Vec::new(alloc);
-    for space in spaces {
-        add_owners(&mut owners, space.size(), space.unit(), space.to())?;
+    /// The owner of the cell, and the cell's place in the owner's parcel: how many of the owner's
+    /// cells come before it.
+    pub fn place(&self, cell: Cell) -> (AffinityId, u32)
+        requires { IsCell self.now.spaces cell }
+        ensures owner { result.0.0 ≡ owner_of self.now.spaces cell }
+        ensures affinity { result.0.0 < length self.now.tree }
+        ensures place { result.1 ≡ offset_of self.now.spaces cell }
+        ensures within { result.1 < parcel_size self.now.spaces result.0.0 }
+    {
+        let owner = self.owner(cell);
+        let ahead = count_ahead(self, owner, cell.space);
+        (owner, count_on(self, owner, ahead, cell.space, cell.index))
     }
-    Ok(owners)
 }
 
-/// Adds the owners of so many cells: runs of `unit` cells go to each in turn, over and over.
-fn add_owners(owners: &mut Vec<u16>, size: u32, unit: u32, to: &[u16]) -> Result<(), AllocError>
-    requires unit { 0 < unit }
-    requires owned { 0 < length to.now }
-    ensures { OnOk result (owners.new.items ≡ owners.old.items ++ owners_by size unit to.now) }
+/// How many cells of the spaces before `s` the affinity owns.
+fn count_ahead(layout: &Layout, a: AffinityId, s: u32) -> u32
+    requires { s ≤ length layout.now.spaces }
+    ensures { result ≡ owned_among layout.now.spaces (cells_ahead layout.now.spaces s) a.0 }
 {
-    let mut turn = 0;
-    let mut left = unit;
-    for index in 0..size {
-        owners.push(to[turn])?;
-        left -= 1;
-        if left == 0 {
-            left = unit;
-            turn = (turn + 1) % to.len();
+    let mut count = 0;
+    for before in 0..s {
+        count = count_on(layout, a, count, before, layout.space_size(before));
+    }
+    count
+}
+
+/// The count of cells before space `s` that the affinity owns, and then those of it below `end`.
+fn count_on(layout: &Layout, a: AffinityId, ahead: u32, s: u32, end: u32) -> u32
+    requires space { s < length layout.now.spaces }
+    requires end { end ≤ size_at layout.now.spaces s }
+    requires ahead { ahead ≡ owned_among layout.now.spaces (cells_ahead layout.now.spaces s) a.0 }
+    ensures { result ≡ owned_among layout.now.spaces (cells_ahead layout.now.spaces s + end) a.0 }
+{
+    // Its contract tells how many cells there are at most.
+    let _ = layout.space_count();
+    let mut count = ahead;
+    for index in 0..end {
+        if layout.owner(Cell { space: s, index }) == a {
+            count += 1;
         }
     }
-    Ok(())
-}
-
-/// The offsets of the cells with these owners, while the sizes of the parcels are counted.
-fn offsets_of(alloc: Global, owners: &[u16], sizes: &mut [u32]) -> Result<Vec<u32>, AllocError>
-    requires owners { All (λ a. a < length sizes.old) owners.now }
-    requires few { length owners.now < 2 ^ 32 }
-    requires zeros { sizes.old ≡ replicate (length sizes.old) 0 }
-    ensures offsets { IfOk result (λ v. v.items ≡ offsets_of owners.now) }
-    ensures sizes { OnOk result (sizes.new ≡ parcel_sizes (length sizes.old) owners.now) }
-{
-    let mut offsets = Vec::with_capacity(alloc, owners.len())?;
-    for owner in owners {
-        let size = sizes[*owner as usize];
-        offsets.push_reserved(size);
-        sizes[*owner as usize] = size + 1;
-    }
-    Ok(offsets)
+    count
 }

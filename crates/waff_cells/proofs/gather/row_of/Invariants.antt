@@ -6,6 +6,6 @@ use Rattle.waff_cells.proofs.gather.row_of.Given as goal
 
 abbrev pub invariant-loop-index : goal.invariant-loop-index
 invariant-loop-index l = record {
-  numbers : l.row.items ≡ map (λ i. cells_of_parcels l.layout.spaces (rows_of l.parcels) (record { space = l.s; index = i })) (range_with_len 0 l.index);
+  numbers : l.row.items ≡ map (λ i. cells_of_parcels l.table.spaces (rows_of l.parcels) (record { space = l.s; index = i })) (range_with_len 0 l.index);
   room : vec_capacity l.row ≡ l.size;
 }

@@ -1,6 +1,6 @@
 use Rattle.std.proofs.Common.{◌≡◌, ◌<◌, ◌↔◌, IsTrue, length, nat_lt, ltb-true, ltb-false, get_or, ap, subst, sym, ◌∙◌, arith, rules}
 use Rattle.waff_model.specs.Layout.{Hierarchy, size_at}
-use Rattle.waff_model.proofs.ParcelTableLemmas.{space_below, space_read}
+use Rattle.waff_model.proofs.OwnerLemmas.{space_below, space_read}
 use Rattle.waff_model.proofs.layout.Layout.has.Goals as goal
 
 pub returns-in-Some : goal.returns-in-Some

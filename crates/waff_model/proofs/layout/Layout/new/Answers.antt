@@ -3,11 +3,7 @@ use Rattle.waff_model.specs.Tree.{IsTree}
 use Rattle.waff_model.proofs.LayoutLemmas.{is_layout}
 use Rattle.waff_model.proofs.layout.Layout.new.Goals as goal
 
-pub laid_out-requires : goal.laid_out-requires
-laid_out-requires c = subst IsTree c.tree.view_is c.tree.invariant.0
-
 pub invariant_of-result : goal.invariant_of-result
 invariant_of-result c =
     let is_tree = subst IsTree c.tree.view_is c.tree.invariant.0 in
-    let laid = is_layout c.args.kind c.args.tree c.args.spaces.now c.args.maps.now is_tree c.in-Ok.ensures.accepted in
-    (rw c.in-Ok.ensures.spaces laid, c.in-Ok.ensures.parcels)
+    rw c.in-Ok.ensures.spaces (is_layout c.args.kind c.args.tree c.args.spaces.now c.args.maps.now is_tree c.in-Ok.ensures.accepted)
