@@ -70,7 +70,7 @@ fn state_left(
     ensures refused { IfErr result (Refuses chair.me.0) }
 {
     let parcels = parcels_left(table, chair, job, heap)?;
-    match State::of_parcels(heap, job.layout(), &parcels) {
+    match State::of_parcels(heap, job.parcel_table(), &parcels) {
         Ok(state) => Ok(state),
         Err(_) => Err(CloseError::Memory),
     }

@@ -15,8 +15,9 @@ use crate::tokens::Seat;
 use crate::view::{Setup, View};
 use atomic_table::Table;
 use std::alloc::{AllocError, Global};
+use waff_cells::ParcelTable;
 use waff_core::Job;
-use waff_model::{AffinityId, Layout};
+use waff_model::AffinityId;
 
 /// Why no board is made.
 #[derive(Clone, Copy, Debug)]
@@ -118,7 +119,7 @@ fn table_of(
     ensures me { IfOk result (λ made. made.1.me ≡ (first setup.now, [])) }
 {
     let words = vec![in alloc; 0; setup.job.len() as usize + 1]?;
-    let parcels = zero_parcels(alloc, setup.job.layout())?;
+    let parcels = zero_parcels(alloc, setup.job.parcel_table())?;
     match Table::new(alloc, &words, parcels, setup) {
         Ok(made) => Ok(made),
         Err(_) => Err(AllocError),
@@ -126,14 +127,14 @@ fn table_of(
 }
 
 /// The parcel of each affinity, with 0 in every cell.
-fn zero_parcels(alloc: Global, layout: &Layout) -> Result<Vec<Vec<u64>>, AllocError>
+fn zero_parcels(alloc: Global, table: &ParcelTable) -> Result<Vec<Vec<u64>>, AllocError>
     ensures { IfOk result (λ parcels. map (λ parcel. parcel.items) parcels.items
-        ≡ zero_parcels_of layout.now.spaces (length layout.now.tree)) }
+        ≡ zero_parcels_of table.now.spaces (length table.now.tree)) }
 {
-    let count = layout.tree().len();
+    let count = table.layout().tree().len();
     let mut parcels = Vec::with_capacity(alloc, count as usize)?;
     for a in 0..count {
-        let size = layout.parcel_len(AffinityId(a as u16));
+        let size = table.parcel_len(AffinityId(a as u16));
         parcels.push(vec![in alloc; 0; size as usize]?)?;
     }
     Ok(parcels)

@@ -35,7 +35,7 @@ impl<'a> Grant<'a> {
     {
         parcels::get(
             self.hand.parcels.as_slice(),
-            self.job.layout(),
+            self.job.parcel_table(),
             self.job.owners(self.message),
             cell,
         )
@@ -59,7 +59,7 @@ impl<'a> Finished<'a> {
         let owners = self.job.owners(self.message);
         parcels::get(
             self.hand.parcels.as_slice(),
-            self.job.layout(),
+            self.job.parcel_table(),
             owners,
             cell,
         )

@@ -148,7 +148,7 @@ impl<'a> Grant<'a> {
         } = hand;
         parcels::run(
             parcels.as_mut_slice(),
-            job.layout(),
+            job.parcel_table(),
             &job.message(message).ops,
         );
         let hand = Hand {

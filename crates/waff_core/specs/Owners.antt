@@ -1,10 +1,11 @@
 -- The owners of footprints.
 use Rattle.std.specs.Prelude.{◌≡◌, ◌↔◌, ℕ, ◌<◌, ◌≤◌, List, length, map, All, Contains}
 use Rattle.std.specs.Prelude.{slice_index_or}
-use Rattle.waff_model.specs.Layout.{Space, owner_of}
+use Rattle.waff_model.specs.Layout.{Hierarchy, Space, IsLayout, owner_of}
+use Rattle.waff_model.specs.Messages.{Arrivals, IsTrace}
 use Rattle.waff_model.specs.declared.cell.Cell.{Cell}
 use Rattle.waff_model.specs.declared.op.Op.{Op}
-use Rattle.waff_cells.specs.Serial.{ops_of}
+use Rattle.waff_cells.specs.Serial.{operations, ops_of}
 use Rattle.waff_core.specs.Job.{ListsOwners, StandOnce, owners_of}
 
 -- the owner of each cell, in the same order
@@ -27,3 +28,13 @@ pub record AreMarked (n : ℕ) (marks : List ℕ) (found owners : List ℕ) : Ty
   pub few : length owners ≤ length found
   pub marked : (a : ℕ) → Contains owners a ↔ ((a < length marks) × slice_index_or marks a 0 ≡ n)
   pub up_to : All (λ mark. mark ≤ n) marks
+
+-- what a job keeps beside what it is given, if the order is one: the table of the layout, the
+-- owners of the footprints, and a copy of the order
+pub record AreParts (layout : Hierarchy) (trace : Arrivals) (order : List ℕ)
+    (table : Hierarchy) (owners : List (List ℕ)) (copy : List ℕ) : Type 0 where
+  pub kept : table ≡ layout
+  pub is_layout : IsLayout layout
+  pub is_trace : IsTrace trace
+  pub are_owners : AreOwners layout.spaces (operations trace.messages) owners
+  pub copied : copy ≡ order

@@ -1,6 +1,6 @@
 //! Jobs.
 
-ghost use Rattle.std.specs.Prelude.{◌≡◌, ◌↔◌, ◌<◌, ◌≤◌, length, All, IsTrue, IfOk, IfErr};
+ghost use Rattle.std.specs.Prelude.{◌≡◌, ◌↔◌, ◌<◌, ◌≤◌, length, All, IsTrue, IfOk, IfErr, OnOk};
 ghost use Rattle.std.specs.Prelude.{slice_get};
 ghost use Rattle.waff_model.specs.Cells.{cells_of};
 ghost use Rattle.waff_model.specs.Layout.{IsCell, IsLayout};
@@ -9,9 +9,9 @@ ghost use Rattle.waff_model.specs.declared.limits.TheConstants.{MAX_MESSAGES};
 ghost use Rattle.waff_assign.specs.Lowest.{IsAssignment};
 ghost use Rattle.waff_assign.specs.Order.{IsOrdered};
 ghost use Rattle.waff_order.specs.Needs.{AreNeeds, needs_of};
-ghost use Rattle.waff_cells.specs.Serial.{operations, ops_of};
+ghost use Rattle.waff_cells.specs.Serial.{ops_of};
 ghost use Rattle.waff_core.specs.Job.{IsIn, IsJob, IsJobOf, IsOrder, owners_of};
-ghost use Rattle.waff_core.specs.Owners.{AreOwners};
+ghost use Rattle.waff_core.specs.Owners.{AreParts};
 
 use crate::order::is_order;
 use crate::owners::list_owners;
@@ -19,6 +19,7 @@ use crate::refusal::JobError;
 use std::alloc::{AllocError, Global};
 use std::marker::Model;
 use waff_assign::{Assigned, is_ordered};
+use waff_cells::ParcelTable;
 use waff_model::{Layout, Message, Trace};
 use waff_order::{Lists, Needs};
 
@@ -26,7 +27,7 @@ use waff_order::{Lists, Needs};
 /// the owners of their footprints, in the order in which they are handed out. Messages are numbered
 /// from 1.
 pub struct Job {
-    layout: Layout,
+    table: ParcelTable,
     trace: Trace,
     assigned: Assigned,
     needs: Needs,
@@ -41,7 +42,7 @@ impl Model for Job {
     ghost Value = { JobValue };
 
     ghost view = { λ j. record {
-      layout = j.layout;
+      layout = j.table;
       ops = operations j.trace.messages;
       assigned = j.assigned;
       needs = j.needs;
@@ -50,7 +51,7 @@ impl Model for Job {
     } };
 
     ghost invariant = { λ j. IsJob (record {
-      layout = j.layout;
+      layout = j.table;
       ops = operations j.trace.messages;
       assigned = j.assigned;
       needs = j.needs;
@@ -63,14 +64,14 @@ impl Model for Job {
 impl Drop for Job {
     fn drop(self) {
         let Job {
-            layout,
+            table,
             trace,
             assigned,
             needs,
             owners,
             order,
         } = self;
-        drop(layout);
+        drop(table);
         drop(trace);
         drop(assigned);
         drop(needs);
@@ -99,9 +100,9 @@ impl Job {
         ensures job { IfOk result IsJob }
         ensures refused { IfErr result (λ e. e ≡ JobError.Order → ¬ IsOrder needs order.now) }
     {
-        match lists_of(alloc, &layout, &trace, &needs, order) {
-            Ok((owners, order)) => Ok(Job {
-                layout,
+        match parts_of(alloc, layout, &trace, &needs, order) {
+            Ok((table, owners, order)) => Ok(Job {
+                table,
                 trace,
                 assigned,
                 needs,
@@ -109,7 +110,7 @@ impl Job {
                 order,
             }),
             Err(e) => {
-                drop((layout, trace, assigned, needs));
+                drop((trace, assigned, needs));
                 Err(e)
             }
         }
@@ -129,7 +130,15 @@ impl Job {
         ensures layout { result.now ≡ self.now.layout }
         ensures job { IsJob self.now }
     {
-        &self.layout
+        self.table.layout()
+    }
+
+    /// The layout with the table of its parcels.
+    pub fn parcel_table(&self) -> &ParcelTable
+        ensures layout { result.now ≡ self.now.layout }
+        ensures job { IsJob self.now }
+    {
+        &self.table
     }
 
     /// The needs of message `n`, in rising order.
@@ -172,25 +181,22 @@ impl Job {
         requires second { IsIn self.now j }
         ensures { IsTrue result ↔ IsOrdered self.now.layout.tree self.now.assigned i j }
     {
-        is_ordered(self.layout.tree(), &self.assigned, i, j)
+        is_ordered(self.layout().tree(), &self.assigned, i, j)
     }
 }
 
-/// The lists of a job: the owners of the messages, and the order, if it is one.
-fn lists_of(
+/// What a job keeps beside what it is given: the table, the owners, and the order, if it is one.
+fn parts_of(
     alloc: Global,
-    layout: &Layout,
+    layout: Layout,
     trace: &Trace,
     needs: &Needs,
     order: &[u32],
-) -> Result<(Lists<u16>, Vec<u32>), JobError>
-    requires fits { trace.now.sizes ≡ sizes_of layout.now.spaces }
-    ensures layout { IfOk result (λ lists. IsLayout layout.now) }
-    ensures trace { IfOk result (λ lists. IsTrace trace.now) }
-    ensures owners { IfOk result
-        (λ lists. AreOwners layout.now.spaces (operations trace.now.messages) lists.0) }
-    ensures order { IfOk result (λ lists. lists.1.items ≡ order.now) }
-    ensures is_order { IfOk result (λ lists. IsOrder needs.now order.now) }
+) -> Result<(ParcelTable, Lists<u16>, Vec<u32>), JobError>
+    requires fits { trace.now.sizes ≡ sizes_of layout.spaces }
+    ensures parts { IfOk result
+        (λ made. AreParts layout trace.now order.now made.0 made.1 made.2.items) }
+    ensures order { OnOk result (IsOrder needs.now order.now) }
     ensures refused { IfErr result (λ e. e ≡ JobError.Order → ¬ IsOrder needs.now order.now) }
 {
     match is_order(alloc, needs, order) {
@@ -198,29 +204,25 @@ fn lists_of(
         Ok(false) => return Err(JobError::Order),
         Err(_) => return Err(JobError::Memory),
     }
-    match copy_lists(alloc, layout, trace, order) {
-        Ok(lists) => Ok(lists),
+    match make_parts(alloc, layout, trace, order) {
+        Ok(parts) => Ok(parts),
         Err(_) => Err(JobError::Memory),
     }
 }
 
-/// The owners of the messages, and the order.
-fn copy_lists(
+/// The table, the owners and the order.
+fn make_parts(
     alloc: Global,
-    layout: &Layout,
+    layout: Layout,
     trace: &Trace,
     order: &[u32],
-) -> Result<(Lists<u16>, Vec<u32>), AllocError>
-    requires fits { trace.now.sizes ≡ sizes_of layout.now.spaces }
-    ensures layout { IfOk result (λ lists. IsLayout layout.now) }
-    ensures trace { IfOk result (λ lists. IsTrace trace.now) }
-    ensures owners { IfOk result
-        (λ lists. AreOwners layout.now.spaces (operations trace.now.messages) lists.0) }
-    ensures order { IfOk result (λ lists. lists.1.items ≡ order.now) }
+) -> Result<(ParcelTable, Lists<u16>, Vec<u32>), AllocError>
+    requires fits { trace.now.sizes ≡ sizes_of layout.spaces }
+    ensures { IfOk result
+        (λ made. AreParts layout trace.now order.now made.0 made.1 made.2.items) }
 {
-    // Its contract tells `IsLayout`.
-    let _ = layout.space_count();
-    let owners = list_owners(alloc, layout, trace)?;
+    let owners = list_owners(alloc, &layout, trace)?;
     let order = Vec::from_slice(alloc, order)?;
-    Ok((owners, order))
+    let table = ParcelTable::new(alloc, layout)?;
+    Ok((table, owners, order))
 }

@@ -12,9 +12,9 @@ returns-in-Ok-clause-cells c =
     let job = c.args.job.now in
     let state = c.in-Ok.state in
     everywhere job c.requires.job state (length job.ops)
-    (subst (λ (h : Hierarchy). HasSizes state (sizes_of h.spaces)) c.layout.ensures.layout c.in-Ok.ensures.sizes)
+    (subst (λ (h : Hierarchy). HasSizes state (sizes_of h.spaces)) c.parcel_table.ensures.layout c.in-Ok.ensures.sizes)
     (λ cell is_cell.
-    c.in-Ok.ensures.cells cell (subst (λ (h : Hierarchy). IsCell h.spaces cell) (sym c.layout.ensures.layout) is_cell)
-    ∙ ap (λ (h : Hierarchy). cells_of_parcels h.spaces (rows_of c.deref.result.now) cell) c.layout.ensures.layout
+    c.in-Ok.ensures.cells cell (subst (λ (h : Hierarchy). IsCell h.spaces cell) (sym c.parcel_table.ensures.layout) is_cell)
+    ∙ ap (λ (h : Hierarchy). cells_of_parcels h.spaces (rows_of c.deref.result.now) cell) c.parcel_table.ensures.layout
     ∙ ap (λ rows. cells_of_parcels job.layout.spaces (rows_of rows) cell) c.deref.ensures.value
     ∙ c.in_ok-parcels.ensures.cells cell is_cell)

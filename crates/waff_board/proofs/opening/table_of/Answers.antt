@@ -14,7 +14,7 @@ new-requires c =
     let few = c.len.ensures.few in
     let zeros : AreZeros setup.job (map (λ (p : Vec ℕ Global). p.items) items)
     = zeros_are setup.job (length setup.job.layout.tree) (map (λ (p : Vec ℕ Global). p.items) items)
-    (c.in_ok-parcels.ensures ∙ ap (λ (h : Hierarchy). zero_parcels_of h.spaces (length h.tree)) c.layout.ensures.layout) refl in
+    (c.in_ok-parcels.ensures ∙ ap (λ (h : Hierarchy). zero_parcels_of h.spaces (length h.tree)) c.parcel_table.ensures.layout) refl in
     let told : IsSetup setup = record { job = c.len.ensures.job; short = omega (arith, few); few = c.requires.seats.few } in
     let words : c.deref.result.now ≡ replicate (length setup.job.ops + 1) 0 = search rules in
     opens setup told c.requires.seats.some (λ (p : Vec ℕ Global). p.items) c.deref.result.now items words zeros
@@ -25,5 +25,5 @@ returns-in-Ok-clause-slots c =
     let items = c.in_ok-parcels.parcels.items in
     let zeros : AreZeros setup.job (map (λ (p : Vec ℕ Global). p.items) items)
     = zeros_are setup.job (length setup.job.layout.tree) (map (λ (p : Vec ℕ Global). p.items) items)
-    (c.in_ok-parcels.ensures ∙ ap (λ (h : Hierarchy). zero_parcels_of h.spaces (length h.tree)) c.layout.ensures.layout) refl in
+    (c.in_ok-parcels.ensures ∙ ap (λ (h : Hierarchy). zero_parcels_of h.spaces (length h.tree)) c.parcel_table.ensures.layout) refl in
     c.in-Ok.ensures.ok.1 ∙ sym (length-map items (λ (p : Vec ℕ Global). p.items)) ∙ zeros.0

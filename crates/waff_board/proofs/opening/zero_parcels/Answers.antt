@@ -7,7 +7,7 @@ use Rattle.waff_board.proofs.opening.zero_parcels.Goals as goal
 
 pub loop-a-preserved : goal.loop-a-preserved
 loop-a-preserved c =
-    let spaces = c.args.layout.now.spaces in
+    let spaces = c.args.table.now.spaces in
     let a = c.loop-a.a in
     let zeros : c.in_ok-vec.field-0.items ≡ replicate (parcel_size spaces a) 0 = search rules in
     ap (map (λ (v : Vec ℕ Global). v.items)) c.in_ok-push.ensures.items

@@ -17,8 +17,8 @@ get-requires c =
     let held : AreParcels v.job.layout.spaces (owners_of v.job.owners m) (serial v.job.ops (m - 1)) rows
     = subst (λ (xs : List (Vec ℕ Global)). AreParcels v.job.layout.spaces (owners_of v.job.owners m) (serial v.job.ops (m - 1)) (rows_of xs))
     (sym c.as_slice.ensures.value) token.before in
-    parcel_sizes c.layout.result.now.spaces c.owners.result.now (serial v.job.ops (m - 1)) rows
-    (parcels_in v.job token.job.now c.layout.result.now c.owners.result.now m (serial v.job.ops (m - 1)) rows token.of c.layout.ensures.layout
+    parcel_sizes c.parcel_table.result.now.spaces c.owners.result.now (serial v.job.ops (m - 1)) rows
+    (parcels_in v.job token.job.now c.parcel_table.result.now c.owners.result.now m (serial v.job.ops (m - 1)) rows token.of c.parcel_table.ensures.layout
     c.owners.ensures.owners held)
 
 pub returns-clause-held : goal.returns-clause-held
@@ -26,5 +26,5 @@ returns-clause-held c =
     let token = c.self.inside in
     let v = token.hand.chair.me.0 in
     subst (λ (t : Token). IsSome c.get.result ↔ IsCellOf t c.args.cell) c.self.view_is
-    (owned_in v.job token.job.now c.layout.result.now c.owners.result.now token.message c.args.cell c.get.result token.of c.layout.ensures.layout
+    (owned_in v.job token.job.now c.parcel_table.result.now c.owners.result.now token.message c.args.cell c.get.result token.of c.parcel_table.ensures.layout
     c.owners.ensures.owners c.get.ensures.owned)

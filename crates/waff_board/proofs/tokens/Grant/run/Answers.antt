@@ -23,10 +23,10 @@ run-requires c =
     (subst (λ (xs : List (Vec ℕ Global)). AreParcels v.job.layout.spaces (owners_of v.job.owners m) (serial v.job.ops (m - 1)) (rows_of xs))
     (sym c.as_mut_slice.ensures.value) c.self.inside.before) in
     let owned : All (IsOwned J.layout.spaces (owners_of J.owners m)) (cells_of (ops_of J.ops m))
-    = message_owned J c.layout.ensures.job m
+    = message_owned J c.parcel_table.ensures.job m
     (record { from = c.self.inside.from; to = subst (λ (j : JobValue). m ≤ length j.ops) (sym c.self.inside.of) c.self.inside.to }) in
     record {
-      held = subst (λ (l : Hierarchy). All (IsHeld l.spaces rows) (cells_of c.message.result.now.ops)) (sym c.layout.ensures.layout)
+      held = subst (λ (l : Hierarchy). All (IsHeld l.spaces rows) (cells_of c.message.result.now.ops)) (sym c.parcel_table.ensures.layout)
           (subst (λ (ops : List Op). All (IsHeld J.layout.spaces rows) (cells_of ops)) (sym c.message.ensures.ops)
           (held_cells J.layout.spaces (owners_of J.owners m) (serial J.ops (m - 1)) rows (cells_of (ops_of J.ops m)) before owned));
     }
@@ -42,16 +42,16 @@ invariant_of-result c =
     (subst (λ (xs : List (Vec ℕ Global)). AreParcels v.job.layout.spaces (owners_of v.job.owners m) (serial v.job.ops (m - 1)) (rows_of xs))
     (sym c.as_mut_slice.ensures.value) c.self.inside.before) in
     let owned : All (IsOwned J.layout.spaces (owners_of J.owners m)) (cells_of (ops_of J.ops m))
-    = message_owned J c.layout.ensures.job m
+    = message_owned J c.parcel_table.ensures.job m
     (record { from = c.self.inside.from; to = subst (λ (j : JobValue). m ≤ length j.ops) (sym same) c.self.inside.to }) in
     let left = rows_of c.run.new.parcels in
     let after : AreParcels J.layout.spaces (owners_of J.owners m) (meaning (ops_of J.ops m) (serial J.ops (m - 1))) left
     = subst (λ (ops : List Op). AreParcels J.layout.spaces (owners_of J.owners m) (meaning ops (serial J.ops (m - 1))) left) c.message.ensures.ops
-    (subst (λ (l : Hierarchy). AreParcels l.spaces (owners_of J.owners m) (meaning c.message.result.now.ops (serial J.ops (m - 1))) left) c.layout.ensures.layout
+    (subst (λ (l : Hierarchy). AreParcels l.spaces (owners_of J.owners m) (meaning c.message.result.now.ops (serial J.ops (m - 1))) left) c.parcel_table.ensures.layout
     (c.run.ensures.parcels (owners_of J.owners m) (serial J.ops (m - 1))
-    (subst (λ (l : Hierarchy). All (IsOwned l.spaces (owners_of J.owners m)) (cells_of c.message.result.now.ops)) (sym c.layout.ensures.layout)
+    (subst (λ (l : Hierarchy). All (IsOwned l.spaces (owners_of J.owners m)) (cells_of c.message.result.now.ops)) (sym c.parcel_table.ensures.layout)
     (subst (λ (ops : List Op). All (IsOwned J.layout.spaces (owners_of J.owners m)) (cells_of ops)) (sym c.message.ensures.ops) owned))
-    (subst (λ (l : Hierarchy). AreParcels l.spaces (owners_of J.owners m) (serial J.ops (m - 1)) (rows_of c.as_mut_slice.result.now)) (sym c.layout.ensures.layout) before))) in
+    (subst (λ (l : Hierarchy). AreParcels l.spaces (owners_of J.owners m) (serial J.ops (m - 1)) (rows_of c.as_mut_slice.result.now)) (sym c.parcel_table.ensures.layout) before))) in
     let done : AreParcels v.job.layout.spaces (owners_of v.job.owners m) (serial v.job.ops m) left
     = subst (λ (j : JobValue). AreParcels j.layout.spaces (owners_of j.owners m) (serial j.ops m) left) same
     (serial_after J.layout.spaces (owners_of J.owners m) J.ops m left c.self.inside.from after) in
