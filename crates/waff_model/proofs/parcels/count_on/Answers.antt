@@ -14,8 +14,13 @@ overflow_add-count c =
     let is_cell : IsCell spaces cell = omega (arith, c.requires.end) in
     let owned : owner_of spaces cell ≡ c.args.a.0
     = sym c.owner.ensures.owner ∙ eqb-true c.owner.result.0 c.args.a.0 (sym c.eq.ensures ∙ c.if-eq.true) in
-    omega (arith, c.loop-index.invariant, owned_more spaces cell is_cell c.args.a.0 owned,
-    owned_few spaces (cells_ahead spaces c.args.s + (c.loop-index.index + 1)) c.args.a.0, c.space_count.ensures.layout.cells)
+    omega (
+      arith,
+      c.loop-index.invariant,
+      owned_more spaces cell is_cell c.args.a.0 owned,
+      owned_few spaces (cells_ahead spaces c.args.s + (c.loop-index.index + 1)) c.args.a.0,
+      c.space_count.ensures.layout.cells,
+    )
 
 pub loop-index-preserved : goal.loop-index-preserved
 loop-index-preserved c =
