@@ -1,50 +1,44 @@
 //! One input for two files.
-ghost use Rattle.std.specs.Prelude.{◌≡◌, ◌==◌, ◌<◌, ◌++◌, length, ◌∷◌};
-ghost use Rattle.std.specs.List.{position};
-ghost use Rattle.waff_io.specs.Split.{lines_of, is_mark, before_mark, after_mark};
+ghost use Rattle.std.specs.Prelude.{◌≡◌, ◌<◌, length, option_map};
+ghost use Rattle.waff_io.specs.Split as split;
 
 /// What stands before and after the first line that is exactly `---`. The line itself and its end,
 /// a line feed or a carriage return and a line feed, belong to neither; the last line may lack its
 /// end. Without such a line, the whole and no bytes.
 pub fn split_input(input: &[u8]) -> (&[u8], &[u8])
-    ensures before { result.0.now ≡ before_mark input.now }
-    ensures after { result.1.now ≡ after_mark input.now }
+    ensures before { result.0.now ≡ split.before_mark input.now }
+    ensures after { result.1.now ≡ split.after_mark input.now }
 {
-    let mut start = 0;
-    while start < input.len() {
-        let (line, rest) = split_line(&input[start..]);
-        if ends_hierarchy(line) {
-            return (&input[..start], rest);
+    for place in 0..input.len() {
+        if !begins_line(input, place) {
+            continue;
         }
-        start += line.len();
+        if let Some(rest) = behind_mark(&input[place..]) {
+            return (&input[..place], rest);
+        }
     }
     (input, &[])
 }
 
-/// The first line with its end, and the rest.
-fn split_line(text: &[u8]) -> (&[u8], &[u8])
-    requires { 0 < length text.now }
-    ensures lines { lines_of text.now ≡ result.0.now ∷ lines_of result.1.now }
-    ensures parts { text.now ≡ result.0.now ++ result.1.now }
-    ensures some { 0 < length result.0.now }
+/// Whether a line begins at this place.
+fn begins_line(input: &[u8], place: usize) -> bool
+    requires { place < length input.now }
+    ensures { result ≡ split.begins_line input.now place }
 {
-    match line_feed(text) {
-        Some(end) => text.split_at(end + 1),
-        None => (text, &[]),
+    place == 0 || input[place - 1] == b'\n'
+}
+
+/// What stands behind the first line of a text, if that is exactly `---`.
+#[tactic(auto, unfolding(crate::specs::Split::behind_mark))]
+fn behind_mark(text: &[u8]) -> Option<&[u8]>
+    ensures { option_map (λ rest. rest.now) result ≡ split.behind_mark text.now }
+{
+    match text.strip_prefix(b"---".as_slice())? {
+        [] => Some(&[]),
+        [b'\n', rest @ ..] => Some(rest),
+        [b'\r', b'\n', rest @ ..] => Some(rest),
+        _ => None,
     }
-}
-
-/// Where the first line feed stands.
-fn line_feed(text: &[u8]) -> Option<usize>
-    ensures { result ≡ position (λ byte. byte == 10) text.now }
-{
-    text.iter().position(|byte| *byte == b'\n')
-}
-
-fn ends_hierarchy(line: &[u8]) -> bool
-    ensures { result ≡ is_mark line.now }
-{
-    line == b"---".as_slice() || line == b"---\n".as_slice() || line == b"---\r\n".as_slice()
 }
 
 #[cfg(test)]

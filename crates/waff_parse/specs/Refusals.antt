@@ -1,6 +1,5 @@
 -- Readings, which give a value or a fault, one after the other and side by side.
 use Rattle.std.specs.Prelude.{ℕ, List, [], ◌∷◌, ◌++◌, Result, Ok, Err, nat_le, if◌then◌else◌}
-use Rattle.std.specs.Global.{Vec}
 
 -- one reading after the other: the first fault counts
 infixl 10 ◌>>=◌
@@ -36,8 +35,3 @@ pair rank (Ok x) (Ok y) = Ok (x, y)
 pair rank (Ok x) (Err e) = Err e
 pair rank (Err e) (Ok y) = Err e
 pair rank (Err d) (Err e) = Err (least rank d e)
-
--- the list of the values in a vector
-abbrev pub items_of : {F A : Type 0} → Result (Vec A) F → Result (List A) F
-items_of (Ok v) = Ok v.items
-items_of (Err e) = Err e

@@ -1,8 +1,7 @@
 -- Parts of texts, and numbers.
-use Rattle.std.specs.Prelude.{ℕ, ◌^◌, List, [], length, drop, slice_index, take_while, Bool, not}
+use Rattle.std.specs.Prelude.{ℕ, ◌^◌, List, [], length, slice_index, Bool, not}
 use Rattle.std.specs.Prelude.{◌==◌, ◌&&◌, nat_lt, if◌then◌else◌, Option, Some, None}
-use Rattle.std.specs.Prelude.{option_and_then, option_map}
-use Rattle.std.specs.Borrow.{Bor}
+use Rattle.std.specs.Prelude.{option_and_then}
 use Rattle.std.specs.Char.{is_ascii_digit}
 use Rattle.std.specs.List.{slice_split, list_all}
 use Rattle.std.specs.Str.Parse.{digits_value}
@@ -40,16 +39,3 @@ within low high n = if nat_lt n low then None else if nat_lt high n then None el
 -- the number from low to high that a text writes, if it does
 abbrev pub number_within : ℕ → ℕ → List ℕ → Option ℕ
 number_within low high text = option_and_then (within low high) (number_of text)
-
--- the digits that a text begins with, as many in a row as there are
-abbrev pub first_digits : List ℕ → List ℕ
-first_digits text = take_while is_ascii_digit text
-
--- the number below 2^64 that these digits write, if they do, and what stands behind them
-unfoldable pub first_number : List ℕ → Option (ℕ × List ℕ)
-first_number text = option_map (λ n. (n, drop (length (first_digits text)) text))
-    (option_and_then small (number_of (first_digits text)))
-
--- a number and a text that was borrowed
-abbrev pub with_rest : ℕ × Bor (List ℕ) → ℕ × List ℕ
-with_rest r = (r.0, r.1.now)

@@ -19,10 +19,10 @@ mod stop;
 mod text;
 
 pub use fields::{five_fields, four_fields, three_fields, two_fields};
-pub use refusals::{Ranked, keep_least, least, pair};
+pub use refusals::{Ranked, least, pair};
 pub use rows::{NotText, next_text, text_rows};
 pub use stop::Stop;
-pub use text::{cut, first_number, number, number_within};
+pub use text::{cut, number, number_within};
 
 #[cfg(test)]
 mod tests;

@@ -1,9 +1,5 @@
-use crate::{
-    NotText, Ranked, Stop, cut, first_number, keep_least, least, next_text, number, number_within,
-    pair, text_rows,
-};
+use crate::{NotText, Ranked, Stop, cut, least, next_text, number, number_within, pair, text_rows};
 use csv::StringRecord;
-use std::test::Fail;
 
 // A fault that is its own rank.
 #[derive(Clone, Copy, Debug, PartialEq)]
@@ -24,15 +20,6 @@ fn the_least_fault_is_told(rt: HostRuntime) {
     assert_eq!(rt; sum, Ok((1, 2)));
     let refused: Result<(u32, u32), Fault> = pair(Err(Fault(4)), Err(Fault(3)));
     assert_eq!(rt; refused, Err(Fault(3)));
-}
-
-#[test]
-fn values_are_kept_until_a_fault(rt: HostRuntime) -> Result<(), Fail> {
-    let kept: Result<Vec<u32>, Fault> = keep_least(Ok(Vec::new(rt.alloc())), Ok(7))?;
-    assert!(rt; kept.is_ok());
-    let refused = keep_least(kept, Err(Fault(2)))?;
-    assert!(rt; refused.is_err());
-    Ok(())
 }
 
 #[test]
@@ -60,23 +47,6 @@ fn a_number_has_digits_and_no_leading_zero(rt: HostRuntime) {
     assert_eq!(rt; number_within("0", 1, 9), None);
     assert_eq!(rt; number_within("10", 1, 9), None);
     assert_eq!(rt; number_within("18446744073709551617", 1, 9), None);
-}
-
-#[test]
-fn a_number_ends_behind_its_digits(rt: HostRuntime) {
-    match first_number(b"12;x") {
-        Some((n, rest)) => {
-            assert_eq!(rt; n, 12);
-            assert_eq!(rt; rest.len(), 2);
-        }
-        None => assert!(rt; false),
-    }
-    assert!(rt; first_number(b"0").is_some());
-    assert!(rt; first_number(b"18446744073709551615 ").is_some());
-    assert!(rt; first_number(b"18446744073709551616").is_none());
-    assert!(rt; first_number(b"01").is_none());
-    assert!(rt; first_number(b"x1").is_none());
-    assert!(rt; first_number(b"").is_none());
 }
 
 #[test]

@@ -1,7 +1,7 @@
 //! Parts of a text, and numbers.
 
 ghost use Rattle.std.specs.Prelude.{ℕ, ◌≡◌, ◌==◌, position, ◌<◌, ◌≤◌, ◌∷◌, ◌+◌, ◌*◌, if◌then◌else◌};
-ghost use Rattle.std.specs.Prelude.{option_map, IfSome, Some, None, true, length, take};
+ghost use Rattle.std.specs.Prelude.{option_map, IfSome, Some, None};
 ghost use Rattle.std.specs.Char.{is_ascii_digit};
 ghost use Rattle.std.specs.List.{list_all};
 ghost use Rattle.std.specs.Str.Parse.{digits_value};
@@ -70,41 +70,6 @@ pub fn number(text: &str) -> Option<Option<u64>>
         return None;
     }
     digits_number(digits)
-}
-
-// The number that the digits of a text write, which end here and have this value, and the text
-// behind them.
-#[tactic(auto, unfolding(crate::specs::Texts::first_number))]
-fn number_until(text: &[u8], end: usize, value: u64) -> Option<(u64, &[u8])>
-    requires within { end ≤ length text.now }
-    requires digits { take end text.now ≡ texts.first_digits text.now }
-    requires value { value ≡ digits_value 10 (take end text.now) }
-    ensures { option_map texts.with_rest result ≡ texts.first_number text.now }
-{
-    if end == 0 {
-        return None;
-    }
-    if has_leading_zero(&text[..end]) {
-        return None;
-    }
-    Some((value, &text[end..]))
-}
-
-/// The number that the digits at the beginning of a text write, all that stand there in a row, and
-/// the text behind them: none exactly where there is no digit, where they have a leading zero, or
-/// where their number is 2^64 or more.
-pub fn first_number(text: &[u8]) -> Option<(u64, &[u8])>
-    ensures { option_map texts.with_rest result ≡ texts.first_number text.now }
-{
-    let mut value: u64 = 0;
-    for place in 0..text.len() {
-        let byte = text[place];
-        if !byte.is_ascii_digit() {
-            return number_until(text, place, value);
-        }
-        value = value.checked_mul(10)?.checked_add(u64::from(byte - b'0'))?;
-    }
-    number_until(text, text.len(), value)
 }
 
 /// The number from `low` to `high` that a text writes, if it writes one.

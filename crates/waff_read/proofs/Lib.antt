@@ -12,9 +12,6 @@ mod ExactLaws
 pub mod FaultLaws
 mod HierarchyLaws
 mod SpellingLaws
-mod BeginningLemmas
-mod FirstLaws
-mod FaultlessLaws
 mod TraceSpellings
 mod LineLaws
 mod HalfLaws

@@ -1,13 +1,16 @@
 -- Operations, of which one more than the limit is kept.
-use Rattle.std.proofs.Common.{◌≡◌, ℕ, zero, suc, ◌+◌, ◌≤◌, ◌<◌, List, [], ◌∷◌, ◌++◌, length, take, false, Result, Ok, Err, refl, sym, ap, ◌∙◌, arith}
-use Rattle.std.specs.Prelude.{IfOk, ◌==◌, nat_lt, if◌then◌else◌}
+use Rattle.std.proofs.Common.{◌≡◌, ℕ, zero, suc, ◌+◌, ◌≤◌, ◌<◌, List, [], ◌∷◌, ◌++◌, length, take, false, Option, Result, Ok, Err, Bor, refl, sym, ap, ◌∙◌, arith}
+use Rattle.std.specs.Prelude.{IfOk, ◌==◌, nat_lt, if◌then◌else◌, option_map}
 use Rattle.std.proofs.lemmas.List.{length-append, length-take, take_all, take_at}
 use Rattle.std.proofs.lemmas.Bool.{le-ltb, lt-ltb}
 use Rattle.waff_model.specs.Layout.{Space}
 use Rattle.waff_model.specs.declared.limits.TheConstants.{MAX_OPS}
 use Rattle.waff_model.specs.declared.op.Op.{Op}
 use Rattle.waff_parse.specs.Refusals.{◌>>=◌, both, one, pair}
-use Rattle.waff_read.specs.Ops.{first_ops, ops_of, pieces_of}
+use Rattle.waff_parse.specs.Texts.{parts, parts_after}
+use Rattle.waff_parse.specs.Walks.{gather}
+use Rattle.waff_parse.proofs.Laws.{gather-end, gather-step, nil-both}
+use Rattle.waff_read.specs.Ops.{first_ops, op_of, ops_of, pieces_of}
 use Rattle.waff_read.specs.TraceFaults.{number}
 use Rattle.waff_read.specs.declared.trace_fault.TraceFault.{TraceFault}
 use Rattle.waff_read.specs.declared.trace_fault.TraceFault.TheVariants as fault
@@ -18,16 +21,38 @@ take-take_append zero xs ys = refl
 take-take_append (suc n) [] ys = refl
 take-take_append (suc n) (x ∷ xs) ys = ap (λ (l : List _). x ∷ l) (take-take_append n xs ys)
 
-pub first_ops-both : (so_far : Result (List Op) TraceFault) (op : Result Op TraceFault)
-    → first_ops (both number (first_ops so_far) (one op)) ≡ first_ops (both number so_far (one op))
-first_ops-both (Ok list) (Ok o) = ap Ok (take-take_append (MAX_OPS + 1) list (o ∷ []))
-first_ops-both (Ok list) (Err e) = refl
-first_ops-both (Err e) (Ok o) = refl
+first_ops-both : (a b : Result (List Op) TraceFault) → first_ops (both number (first_ops a) b) ≡ first_ops (both number a b)
+first_ops-both (Ok xs) (Ok ys) = ap Ok (take-take_append (MAX_OPS + 1) xs ys)
+first_ops-both (Ok xs) (Err e) = refl
+first_ops-both (Err e) (Ok ys) = refl
 first_ops-both (Err d) (Err e) = refl
 
 pub first_ops-few : (so_far : Result (List Op) TraceFault) → IfOk (first_ops so_far) (λ list. length list ≤ MAX_OPS + 1)
 first_ops-few (Ok list) = omega (arith, length-take (MAX_OPS + 1) list)
 first_ops-few (Err e) = tt
+
+first_ops-all : (list : Result (List Op) TraceFault) → IfOk list (λ l. length l ≤ MAX_OPS + 1) → first_ops list ≡ list
+first_ops-all (Ok l) few = ap Ok (take_all (MAX_OPS + 1) l few)
+first_ops-all (Err e) few = refl
+
+-- the parts that are left of a text
+abbrev pub left_of : Option (Bor (List ℕ)) → List (List ℕ)
+left_of left = parts_after 59 (option_map (λ s. s.now) left)
+
+-- of the operations of all pieces none is read, one more is, or all are
+module _ (spaces : List Space) where
+  pub pieces-start : (text : List ℕ) → first_ops (both number (Ok []) (gather number (op_of spaces) (parts 59 text))) ≡ first_ops (pieces_of spaces text)
+  unfolding pieces_of
+  pieces-start text = ap first_ops (nil-both number (gather number (op_of spaces) (parts 59 text)))
+
+  pub pieces-more : (so_far list : Result (List Op) TraceFault) (piece : List ℕ) (others : List (List ℕ)) → list ≡ first_ops (both number so_far (one (op_of spaces piece)))
+      → first_ops (both number list (gather number (op_of spaces) others)) ≡ first_ops (both number so_far (gather number (op_of spaces) (piece ∷ others)))
+  pieces-more so_far list piece others is =
+      rw is (first_ops-both (both number so_far (one (op_of spaces piece))) (gather number (op_of spaces) others)
+      ∙ ap first_ops (gather-step number (op_of spaces) piece others so_far))
+
+  pub pieces-end : (list : Result (List Op) TraceFault) → IfOk list (λ l. length l ≤ MAX_OPS + 1) → list ≡ first_ops (both number list (gather number (op_of spaces) []))
+  pieces-end list few = sym (first_ops-all list few) ∙ ap first_ops (sym (gather-end number (op_of spaces) list))
 
 -- one more fits
 pub kept-one : (n : ℕ) (list : List Op) (op : Op) → length list ≤ n → list ++ op ∷ [] ≡ take (n + 1) (list ++ op ∷ [])

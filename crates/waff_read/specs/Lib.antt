@@ -7,7 +7,6 @@ pub mod HierRefusals
 pub mod Hierarchies
 pub mod TraceFaults
 pub mod Ops
-pub mod Beginnings
 pub mod Messages
 pub mod Traces
 pub mod Spellings

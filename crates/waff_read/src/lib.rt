@@ -4,21 +4,19 @@
 //!   `shape` (the keys and their types), `affinities` (the tree), `spaces` (the rows of a layout)
 //!   and `names` (affinities and spaces by name); `hier_error` has what it refuses.
 //! - `trace`: the reader of traces, over `message` (one record), `ops` (the operations of a
-//!   message), `op` (one operation), `beginnings` (what a text without a fault begins with, and the
-//!   rest of it), `parts` (what an operation is made of) and `space_table` (the spaces by name);
-//!   `trace_fault` has what it refuses. `halves`, over `lines` (a text cut between its records):
-//!   the same for long traces, by several threads.
+//!   message), `op` (one operation) and `space_table` (the spaces by name); `trace_fault` has what
+//!   it refuses. `halves`, over `lines` (a text cut between its records): the same for long traces,
+//!   by several threads.
 //! - `laws`: what holds of all files that are accepted or refused; `limit_laws`: that what is read
 //!   is within the limits.
 //!
 //! What the files stand for is defined in `specs/`. Of a hierarchy: `Hierarchies` (whole files),
 //! over `Documents`, `Shapes`, `Affinities` and `Spaces`. Of a trace: `Traces` (whole texts), over
 //! `Messages` (records) and `Ops` (operations as they are spelled), with `TraceFaults` (the order
-//! of the refusals); what the walk over operations finds, in `Beginnings`.
+//! of the refusals).
 #![tactic(auto)]
 
 mod affinities;
-mod beginnings;
 mod document;
 mod halves;
 mod hier_error;
@@ -30,7 +28,6 @@ mod message;
 mod names;
 mod op;
 mod ops;
-mod parts;
 mod shape;
 mod space_table;
 mod spaces;

@@ -28,20 +28,23 @@ fn cell_in(spaces: &SpaceTable<'_>, space: u32, index: Option<u64>) -> Result<Ce
     }
 }
 
-// The cell of a name and an index.
+// The cell of a name and an index. What a space is called is a name.
 fn named_cell(spaces: &SpaceTable<'_>, name: &str, index: &str) -> Result<Cell, TraceFault>
     ensures { result ≡ ops.cell_of_name spaces.now name.now index.now }
 {
-    if !is_name(name) {
-        return Err(TraceFault::Op);
-    }
-    let Some(index) = number(index) else {
-        return Err(TraceFault::Op);
-    };
     let Some(space) = spaces.find(name) else {
-        return Err(TraceFault::SpaceUnknown);
+        if !is_name(name) {
+            return Err(TraceFault::Op);
+        }
+        return match number(index) {
+            Some(_) => Err(TraceFault::SpaceUnknown),
+            None => Err(TraceFault::Op),
+        };
     };
-    cell_in(spaces, space, index)
+    match number(index) {
+        Some(index) => cell_in(spaces, space, index),
+        None => Err(TraceFault::Op),
+    }
 }
 
 // The cell that a text spells. An index with a `:` is no number.
@@ -90,23 +93,25 @@ fn read_two(
 ) -> Result<Op, TraceFault>
     ensures { result ≡ ops.op_of_two spaces.now verb.now first.now second.now }
 {
-    if verb == "set" {
-        let (cell, value) = pair(read_cell(spaces, first), read_value(second))?;
-        return Ok(Op::Set { cell, value });
+    match verb.as_bytes() {
+        b"set" => {
+            let (cell, value) = pair(read_cell(spaces, first), read_value(second))?;
+            Ok(Op::Set { cell, value })
+        }
+        b"add" => {
+            let (cell, value) = pair(read_cell(spaces, first), read_value(second))?;
+            Ok(Op::Add { cell, value })
+        }
+        b"copy" => {
+            let (cell, source) = pair(read_cell(spaces, first), read_cell(spaces, second))?;
+            Ok(Op::Copy { cell, source })
+        }
+        b"swap" => {
+            let (cell, other) = pair(read_cell(spaces, first), read_cell(spaces, second))?;
+            Ok(Op::Swap { cell, other })
+        }
+        _ => Err(TraceFault::Op),
     }
-    if verb == "add" {
-        let (cell, value) = pair(read_cell(spaces, first), read_value(second))?;
-        return Ok(Op::Add { cell, value });
-    }
-    if verb == "copy" {
-        let (cell, source) = pair(read_cell(spaces, first), read_cell(spaces, second))?;
-        return Ok(Op::Copy { cell, source });
-    }
-    if verb == "swap" {
-        let (cell, other) = pair(read_cell(spaces, first), read_cell(spaces, second))?;
-        return Ok(Op::Swap { cell, other });
-    }
-    Err(TraceFault::Op)
 }
 
 // The operation of a verb and the words after it. A second word with a space is neither a cell nor

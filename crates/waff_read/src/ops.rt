@@ -2,21 +2,19 @@
 
 ghost use Rattle.std.specs.Prelude.{◌≡◌, ◌≤◌, ◌+◌, [], ◌∷◌, ◌++◌, IfOk, OnOk};
 ghost use Rattle.std.specs.Prelude.{length, take};
-ghost use Rattle.std.specs.Result.{result_ok};
 ghost use Rattle.waff_model.specs.declared.limits.TheConstants.{MAX_OPS};
 ghost use Rattle.waff_parse.specs.Refusals.{both, one};
 ghost use Rattle.waff_parse.specs.Stopping.{Gives};
 ghost use Rattle.waff_read.specs.Ops as ops;
 ghost use Rattle.waff_read.specs.TraceFaults.{number};
 
-use crate::beginnings::{behind, first_parts};
 use crate::op::read_op;
 use crate::space_table::SpaceTable;
 use crate::trace_fault::TraceFault;
 use std::alloc::{AllocError, Global};
 use waff_model::limits::MAX_OPS;
 use waff_model::{Op, Ops};
-use waff_parse::{Stop, least};
+use waff_parse::{Stop, cut, least};
 
 // Adds an operation to those that are kept: the first ones, as far as one above the limit.
 fn keep(list: &mut Ops, op: Op) -> Result<(), AllocError>
@@ -59,49 +57,13 @@ fn read_pieces(
     ensures { IfOk result (λ r. r ≡ ops.first_ops (ops.pieces_of spaces.now text.now)) }
 {
     let mut list = Ok(Ops::new(alloc));
-    for piece in text.split(';') {
+    let mut left = Some(text);
+    while let Some(pieces) = left {
+        let (piece, others) = cut(pieces, ';');
         list = with_op(list, read_op(spaces, piece))?;
+        left = others;
     }
     Ok(list)
-}
-
-// About how many bytes an operation takes, with the `;` behind it.
-const OP_BYTES: usize = 16;
-
-// For how many operations of a text to make room.
-fn room_for(text: &[u8]) -> usize {
-    if text.contains(&b';') {
-        MAX_OPS.min(1 + text.len() / OP_BYTES)
-    } else {
-        1
-    }
-}
-
-// The operations of a text in one walk over its bytes: none exactly where it has a fault, or too
-// many operations.
-fn read_faultless(
-    alloc: Global,
-    spaces: &SpaceTable<'_>,
-    text: &[u8],
-) -> Result<Option<Ops>, AllocError>
-    ensures { IfOk result (λ found. found ≡ result_ok (ops.ops_of spaces.now text.now)) }
-{
-    let mut list = Ops::with_capacity(alloc, room_for(text))?;
-    let mut left = text;
-    for count in 0..MAX_OPS {
-        let Some((parts, rest)) = first_parts(spaces, left) else {
-            return Ok(None);
-        };
-        parts.push_to(&mut list)?;
-        if rest.is_empty() {
-            return Ok(Some(list));
-        }
-        let Some(more) = behind(rest, b";") else {
-            return Ok(None);
-        };
-        left = more;
-    }
-    Ok(None)
 }
 
 /// The operations of a message.
@@ -115,9 +77,6 @@ pub(crate) fn read_ops(
 {
     if text.is_empty() {
         return Err(Stop::Fault(TraceFault::NoOps));
-    }
-    if let Some(found) = read_faultless(alloc, spaces, text.as_bytes())? {
-        return Ok(found);
     }
     match read_pieces(alloc, spaces, text)? {
         Ok(list) => {

@@ -1,21 +1,19 @@
 //! The spaces of a layout, found by name in one step.
 
-ghost use Rattle.std.specs.Prelude.{◌≡◌, ◌==◌, ◌<◌, length, position, option_map, IfOk, IfSome};
-ghost use Rattle.std.specs.Prelude.{Some};
+ghost use Rattle.std.specs.Prelude.{◌≡◌, ◌<◌, length, IfOk, IfSome, true};
 ghost use Rattle.waff_model.specs.Layout.{IsLayout, names_of, size_at, space_named};
-ghost use Rattle.waff_read.specs.Beginnings as beginnings;
+ghost use Rattle.waff_model.specs.Names.{is_name};
 
 use crate::names::Names;
 use std::alloc::{AllocError, Global};
 use std::marker::Model;
-use std::str;
-use waff_model::{Layout, is_name};
+use waff_model::Layout;
 
 /// How many shelves there are for spaces.
 const SHELVES: usize = 1024;
 
 /// A layout, with a table of the names of its spaces, and on each shelf a space whose name may end
-/// in the bytes of that shelf.
+/// in the bytes of that shelf. Most names are found on their shelf, without a hash.
 #[derive(Drop)]
 pub(crate) struct SpaceTable<'a> {
     layout: &'a Layout,
@@ -61,60 +59,16 @@ impl<'a> SpaceTable<'a> {
     pub(crate) fn find(&self, name: &str) -> Option<u32>
         ensures found { result ≡ space_named self.now name.now }
         ensures within { IfSome result (λ s. s < length self.now) }
+        ensures named { IfSome result (λ s. is_name name.now ≡ true) }
     {
+        let space = self.shelves[shelf_of(name.as_bytes())];
+        if space < self.layout.space_count() && self.layout.space_name(space) == name {
+            return Some(space);
+        }
         match self.names.number(name) {
             Some(s) => Some(s as u32),
             None => None,
         }
-    }
-
-    // The space on the shelf of this name, where it has this name.
-    fn on_shelf(&self, name: &[u8]) -> Option<u32>
-        ensures named { IfSome result (λ s.
-            beginnings.space_of_name self.now name.now ≡ Some s) }
-        ensures within { IfSome result (λ s. s < length self.now) }
-    {
-        let space = self.shelves[shelf_of(name)];
-        if space < self.layout.space_count() && self.layout.space_name(space).as_bytes() == name {
-            Some(space)
-        } else {
-            None
-        }
-    }
-
-    // The number of the space with this name, if it is a name.
-    fn named(&self, name: &[u8]) -> Option<u32>
-        ensures named { result ≡ beginnings.space_of_name self.now name.now }
-        ensures within { IfSome result (λ s. s < length self.now) }
-    {
-        if let Some(space) = self.on_shelf(name) {
-            return Some(space);
-        }
-        self.looked_up(name)
-    }
-
-    // The same, looked up in the table of names.
-    fn looked_up(&self, name: &[u8]) -> Option<u32>
-        ensures named { result ≡ beginnings.space_of_name self.now name.now }
-        ensures within { IfSome result (λ s. s < length self.now) }
-    {
-        let name = str::from_utf8(name).ok()?;
-        if !is_name(name) {
-            return None;
-        }
-        self.find(name)
-    }
-
-    /// The space whose name stands before the first `:` of a text, and the text after that.
-    #[tactic(auto, unfolding(crate::specs::Beginnings::first_space))]
-    pub(crate) fn first_space<'t>(&self, text: &'t [u8]) -> Option<(u32, &'t [u8])>
-        ensures begins { option_map beginnings.with_rest result
-            ≡ beginnings.first_space self.now text.now }
-        ensures within { IfSome result (λ r. r.0 < length self.now) }
-    {
-        let end = first_colon(text)?;
-        let space = self.named(&text[..end])?;
-        Some((space, &text[end + 1..]))
     }
 
     /// The size of the space with this number, in cells.
@@ -125,14 +79,6 @@ impl<'a> SpaceTable<'a> {
         let layout = self.layout;
         layout.space_size(s)
     }
-}
-
-// The place of the first `:` of a text.
-fn first_colon(text: &[u8]) -> Option<usize>
-    ensures place { result ≡ position (λ b. b == 58) text.now }
-    ensures within { IfSome result (λ place. place < length text.now) }
-{
-    text.iter().position(|byte| *byte == b':')
 }
 
 /// The shelf of a name, by its last two bytes.

@@ -1,18 +1,17 @@
-use Rattle.std.proofs.Common.{sym}
-use Rattle.waff_io.proofs.SplitLemmas.{before_at_mark, after_at_mark, past_line}
+use Rattle.std.proofs.Common.{sym, arith}
+use Rattle.waff_io.proofs.SplitLemmas.{at_mark, without_mark}
 use Rattle.waff_io.proofs.split.split_input.Goals as goal
 
-pub returns-then-ends_hierarchy-clause-before : goal.returns-then-ends_hierarchy-clause-before
-returns-then-ends_hierarchy-clause-before c =
-    before_at_mark c.args.input.now c.split_line.result.0.now c.split_line.result.1.now c.loop-start.start
-    c.loop-start.invariant c.split_line.ensures.lines c.split_line.ensures.parts (sym c.if-ends_hierarchy.ensures)
+pub returns-in-Some-clause-before : goal.returns-in-Some-clause-before
+returns-in-Some-clause-before c =
+    (at_mark c.args.input.now c.in-Some.rest.now c.loop-place.place c.loop-place-test.true c.loop-place.invariant (sym c.if-not-begins_line.ensures) c.in-Some.ensures).0
 
-pub returns-then-ends_hierarchy-clause-after : goal.returns-then-ends_hierarchy-clause-after
-returns-then-ends_hierarchy-clause-after c =
-    after_at_mark c.args.input.now c.split_line.result.0.now c.split_line.result.1.now c.loop-start.start
-    c.loop-start.invariant c.split_line.ensures.lines c.split_line.ensures.parts (sym c.if-ends_hierarchy.ensures)
+pub returns-in-Some-clause-after : goal.returns-in-Some-clause-after
+returns-in-Some-clause-after c =
+    (at_mark c.args.input.now c.in-Some.rest.now c.loop-place.place c.loop-place-test.true c.loop-place.invariant (sym c.if-not-begins_line.ensures) c.in-Some.ensures).1
 
-pub loop-start-preserved : goal.loop-start-preserved
-loop-start-preserved c =
-    past_line c.args.input.now c.split_line.result.0.now c.split_line.result.1.now c.loop-start.start
-    c.loop-start.invariant c.split_line.ensures.lines c.split_line.ensures.parts (sym c.if-ends_hierarchy.ensures)
+pub returns-clause-before : goal.returns-clause-before
+returns-clause-before c = (without_mark c.args.input.now (λ k before. c.loop-place.invariant k (omega (arith, c.loop-place-test.false, before)))).0
+
+pub returns-clause-after : goal.returns-clause-after
+returns-clause-after c = (without_mark c.args.input.now (λ k before. c.loop-place.invariant k (omega (arith, c.loop-place-test.false, before)))).1
