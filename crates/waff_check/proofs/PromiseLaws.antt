@@ -118,7 +118,7 @@ module _ (claim : Claim) where
         record {
           workers = kept.1;
           bound = kept.2;
-          twice = λ other plan. twice k start other chain linked kept.2 plan;
-          ratio = λ none other plan. ratio k start other chain some none linked kept.2 plan;
+          twice = twice k start chain linked kept.2;
+          ratio = ratio k start chain some linked kept.2;
         },
       )

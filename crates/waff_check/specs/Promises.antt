@@ -1,6 +1,6 @@
 -- What a verdict without a fault implies.
-use Rattle.std.specs.Prelude.{◌≡◌, ◌≢◌, ℕ, ◌-◌, ◌*◌, ◌≤◌, Option, Some}
-use Rattle.waff_plan.specs.Bound.{IsWithinBound}
+use Rattle.std.specs.Prelude.{◌≡◌, ◌≢◌, ℕ, ◌≤◌, Option, Some}
+use Rattle.waff_plan.specs.Bound.{IsWithinBound, IsWithinTwice, IsWithinRatio}
 use Rattle.waff_plan.specs.Chain.{IsChain}
 use Rattle.waff_plan.specs.Obeys.{Obeys}
 use Rattle.waff_plan.specs.Work.{IsNumber, Work, length_of}
@@ -64,13 +64,8 @@ PromisesShortest claim v =
 pub record IsWithin (claim : Claim) (k : ℕ) : Type 0 where
   pub workers : workers_in claim ≡ Some k
   pub bound : IsWithinBound (work_of_claim claim) k (start_in claim) (chain_in claim)
-  pub twice : (other : ℕ → ℕ) → IsWorkerPlan (before_of claim) (work_of_claim claim) k other
-      → k * length_of (work_of_claim claim) (start_in claim)
-      ≤ 2 * k * length_of (work_of_claim claim) other
-  pub ratio : ((m : ℕ) → IsNumber (work_of_claim claim) m → (work_of_claim claim).release m ≡ 0)
-      → (other : ℕ → ℕ) → IsWorkerPlan (before_of claim) (work_of_claim claim) k other
-      → k * length_of (work_of_claim claim) (start_in claim)
-      ≤ (2 * k - 1) * length_of (work_of_claim claim) other
+  pub twice : IsWithinTwice (before_of claim) (work_of_claim claim) k (start_in claim)
+  pub ratio : IsWithinRatio (before_of claim) (work_of_claim claim) k (start_in claim)
 
 abbrev pub PromisesBound : Claim → Verdict → Type 0
 PromisesBound claim v = v ≡ verdict.WithinBound → (k : ℕ) × IsWithin claim k

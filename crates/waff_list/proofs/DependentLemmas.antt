@@ -2,23 +2,14 @@
 use Rattle.std.proofs.Common.{◌≡◌, ◌≢◌, ℕ, ◌+◌, ◌-◌, ◌<◌, ◌≤◌, ◌⊎◌, inl, inr, List, [], ◌∷◌, length, get_or, set, replicate, Contains, arith, refl, ap, sym, ◌∙◌, subst, ⊎_elim, get_or-set_same, get_or-set_other, length-set}
 use Rattle.std.proofs.lemmas.Bool.{cases_eq, cases_lt}
 use Rattle.std.proofs.lemmas.List.{get_or_past}
-use Rattle.std.proofs.lemmas.List.Elements.{Contains-push_cases, Contains-append_cases}
 use Rattle.waff_order.specs.Needs.{needs_of, IsNeed, AreLists}
 use Rattle.waff_order.proofs.NeedLemmas.{need_within}
-use Rattle.waff_list.specs.Waiting.{Grows, AreDependents, times}
+use Rattle.waff_list.specs.Waiting.{dependents_of, Grows, AreDependents, times}
 use Rattle.waff_list.specs.Trails.{trails}
 use Rattle.waff_list.specs.declared.dependents.Dependents.{Dependents}
 use Rattle.waff_list.proofs.CountLemmas.{times_none, times_cons_same, times_cons_other}
+use Rattle.waff_list.proofs.Each.{contains_rest_of}
 use Rattle.waff_list.proofs.TrailLemmas.{trails_none, no_trail}
-
-contains_cases : (xs : List ℕ) (m x : ℕ) → Contains (m ∷ xs) x → Contains xs x ⊎ (m ≡ x)
-contains_cases xs m x there =
-    ⊎_elim {C = Contains xs x ⊎ (m ≡ x)}
-    (λ (first : Contains (m ∷ []) x). ⊎_elim {C = Contains xs x ⊎ (m ≡ x)}
-    (λ (none : Contains [] x). let within = none.1 in absurd (omega (arith, within)))
-    (λ (is : m ≡ x). inr is) (Contains-push_cases [] m x first))
-    (λ (rest : Contains xs x). inl rest)
-    (Contains-append_cases (m ∷ []) xs x there)
 
 pub grows_none : (xs : List (List ℕ)) (m : ℕ) → Grows xs m xs
 grows_none xs m = record { count = refl; others = λ i x other. refl; only = λ i x there. inl there }
@@ -27,43 +18,42 @@ pub grows_join : (xs ys zs : List (List ℕ)) (m : ℕ) → Grows xs m ys → Gr
 grows_join xs ys zs m first second = record {
   count = second.count ∙ first.count;
   others = λ i x other. second.others i x other ∙ first.others i x other;
-  only = λ i x there. ⊎_elim {C = Contains (needs_of xs i) x ⊎ (x ≡ m)}
-      (λ (before : Contains (needs_of ys i) x). first.only i x before) (λ (is : x ≡ m). inr is) (second.only i x there);
+  only = λ i x there. ⊎_elim {C = Contains (dependents_of xs i) x ⊎ (x ≡ m)}
+      (λ (before : Contains (dependents_of ys i) x). first.only i x before) (λ (is : x ≡ m). inr is) (second.only i x there);
 }
 
 module _ (xs : List (List ℕ)) (i m : ℕ) (to : i - 1 < length xs) where
-  here : needs_of (set xs (i - 1) (m ∷ needs_of xs i)) i ≡ m ∷ needs_of xs i
-  here = get_or-set_same xs (i - 1) (m ∷ needs_of xs i) [] to
+  here : dependents_of (set xs (i - 1) (m ∷ dependents_of xs i)) i ≡ m ∷ dependents_of xs i
+  here = get_or-set_same xs (i - 1) (m ∷ dependents_of xs i) [] to
 
-  at : (j : ℕ) → (needs_of (set xs (i - 1) (m ∷ needs_of xs i)) j ≡ m ∷ needs_of xs j) ⊎ (needs_of (set xs (i - 1) (m ∷ needs_of xs i)) j ≡ needs_of xs j)
-  at j = ⊎_elim {C = (needs_of (set xs (i - 1) (m ∷ needs_of xs i)) j ≡ m ∷ needs_of xs j) ⊎ (needs_of (set xs (i - 1) (m ∷ needs_of xs i)) j ≡ needs_of xs j)}
-      (λ (same : j - 1 ≡ i - 1). inl (ap (λ k. get_or (set xs (i - 1) (m ∷ needs_of xs i)) k []) same ∙ here ∙ ap (λ k. m ∷ get_or xs k []) (sym same)))
-      (λ (other : j - 1 ≢ i - 1). inr (get_or-set_other xs (i - 1) (j - 1) (m ∷ needs_of xs i) [] other))
+  at : (j : ℕ) → (dependents_of (set xs (i - 1) (m ∷ dependents_of xs i)) j ≡ m ∷ dependents_of xs j) ⊎ (dependents_of (set xs (i - 1) (m ∷ dependents_of xs i)) j ≡ dependents_of xs j)
+  at j = ⊎_elim {C = (dependents_of (set xs (i - 1) (m ∷ dependents_of xs i)) j ≡ m ∷ dependents_of xs j) ⊎ (dependents_of (set xs (i - 1) (m ∷ dependents_of xs i)) j ≡ dependents_of xs j)}
+      (λ (same : j - 1 ≡ i - 1). inl (ap (λ k. get_or (set xs (i - 1) (m ∷ dependents_of xs i)) k []) same ∙ here ∙ ap (λ k. m ∷ get_or xs k []) (sym same)))
+      (λ (other : j - 1 ≢ i - 1). inr (get_or-set_other xs (i - 1) (j - 1) (m ∷ dependents_of xs i) [] other))
       (cases_eq (j - 1) (i - 1))
 
-  pub grows_one : Grows xs m (set xs (i - 1) (m ∷ needs_of xs i))
+  pub grows_one : Grows xs m (set xs (i - 1) (m ∷ dependents_of xs i))
   grows_one = record {
-    count = length-set xs (i - 1) (m ∷ needs_of xs i);
-    others = λ j x other. ⊎_elim {C = times x (needs_of (set xs (i - 1) (m ∷ needs_of xs i)) j) ≡ times x (needs_of xs j)}
-        (λ (more : needs_of (set xs (i - 1) (m ∷ needs_of xs i)) j ≡ m ∷ needs_of xs j).
-        ap (λ ys. times x ys) more ∙ times_cons_other (needs_of xs j) x other)
-        (λ (same : needs_of (set xs (i - 1) (m ∷ needs_of xs i)) j ≡ needs_of xs j). ap (λ ys. times x ys) same)
+    count = length-set xs (i - 1) (m ∷ dependents_of xs i);
+    others = λ j x other. ⊎_elim {C = times x (dependents_of (set xs (i - 1) (m ∷ dependents_of xs i)) j) ≡ times x (dependents_of xs j)}
+        (λ (more : dependents_of (set xs (i - 1) (m ∷ dependents_of xs i)) j ≡ m ∷ dependents_of xs j).
+        ap (λ ys. times x ys) more ∙ times_cons_other (dependents_of xs j) x other)
+        (λ (same : dependents_of (set xs (i - 1) (m ∷ dependents_of xs i)) j ≡ dependents_of xs j). ap (λ ys. times x ys) same)
         (at j);
-    only = λ j x there. ⊎_elim {C = Contains (needs_of xs j) x ⊎ (x ≡ m)}
-        (λ (more : needs_of (set xs (i - 1) (m ∷ needs_of xs i)) j ≡ m ∷ needs_of xs j).
-        ⊎_elim {C = Contains (needs_of xs j) x ⊎ (x ≡ m)} (λ (before : Contains (needs_of xs j) x). inl before) (λ (is : m ≡ x). inr (sym is))
-        (contains_cases (needs_of xs j) m x (subst (λ ys. Contains ys x) more there)))
-        (λ (same : needs_of (set xs (i - 1) (m ∷ needs_of xs i)) j ≡ needs_of xs j). inl (subst (λ ys. Contains ys x) same there))
+    only = λ j x there. ⊎_elim {C = Contains (dependents_of xs j) x ⊎ (x ≡ m)}
+        (λ (more : dependents_of (set xs (i - 1) (m ∷ dependents_of xs i)) j ≡ m ∷ dependents_of xs j).
+        contains_rest_of m x (dependents_of xs j) (subst (λ ys. Contains ys x) more there))
+        (λ (same : dependents_of (set xs (i - 1) (m ∷ dependents_of xs i)) j ≡ dependents_of xs j). inl (subst (λ ys. Contains ys x) same there))
         (at j);
   }
 
-  pub grown_here : times m (needs_of (set xs (i - 1) (m ∷ needs_of xs i)) i) ≡ times m (needs_of xs i) + 1
-  grown_here = ap (λ ys. times m ys) here ∙ times_cons_same (needs_of xs i) m
+  pub grown_here : times m (dependents_of (set xs (i - 1) (m ∷ dependents_of xs i)) i) ≡ times m (dependents_of xs i) + 1
+  grown_here = ap (λ ys. times m ys) here ∙ times_cons_same (dependents_of xs i) m
 
-  pub grown_other : (j : ℕ) → 1 ≤ i → 1 ≤ j → j ≢ i → needs_of (set xs (i - 1) (m ∷ needs_of xs i)) j ≡ needs_of xs j
+  pub grown_other : (j : ℕ) → 1 ≤ i → 1 ≤ j → j ≢ i → dependents_of (set xs (i - 1) (m ∷ dependents_of xs i)) j ≡ dependents_of xs j
   grown_other j from j_from other =
       let apart : j - 1 ≢ i - 1 = omega arith in
-      get_or-set_other xs (i - 1) (j - 1) (m ∷ needs_of xs i) [] apart
+      get_or-set_other xs (i - 1) (j - 1) (m ∷ dependents_of xs i) [] apart
 
 -- no message needs another yet
 pub dependents_none : (needs : List (List ℕ)) (d : Dependents) → d.firsts.items ≡ replicate (length needs) 0 → d.links.items ≡ []
@@ -74,7 +64,7 @@ dependents_none needs d firsts_are links_are =
       count = count;
       each = λ i m from m_from none. absurd (omega arith);
       only = λ i m there.
-          let empty : needs_of (trails d) i ≡ [] = ⊎_elim {C = get_or (trails d) (i - 1) [] ≡ []}
+          let empty : dependents_of (trails d) i ≡ [] = ⊎_elim {C = get_or (trails d) (i - 1) [] ≡ []}
           (λ (inside : i - 1 < length needs). no_trail d (length needs) firsts_are links_are (i - 1) inside)
           (λ (past : length needs ≤ i - 1). get_or_past (trails d) (i - 1) [] (omega (arith, count)))
           (cases_lt (i - 1) (length needs)) in
@@ -85,19 +75,19 @@ dependents_none needs d firsts_are links_are =
 
 -- one message more has been asked for its needs
 pub dependents_more : (needs old new : List (List ℕ)) (n : ℕ) → AreDependents needs old n → Grows old (n + 1) new
-    → ((i : ℕ) → 1 ≤ i → times (n + 1) (needs_of new i) ≡ times (n + 1) (needs_of old i) + times i (needs_of needs (n + 1)))
+    → ((i : ℕ) → 1 ≤ i → times (n + 1) (dependents_of new i) ≡ times (n + 1) (dependents_of old i) + times i (needs_of needs (n + 1)))
     → AreDependents needs new (n + 1)
 dependents_more needs old new n h grows added = record {
   count = grows.count ∙ h.count;
-  each = λ i m from m_from to. ⊎_elim {C = times m (needs_of new i) ≡ times i (needs_of needs m)}
+  each = λ i m from m_from to. ⊎_elim {C = times m (dependents_of new i) ≡ times i (needs_of needs m)}
       (λ (last : m ≡ n + 1).
-      let none = times_none (n + 1) (needs_of old i) (λ there. let within = h.only i (n + 1) there in omega (arith, within.1)) in
-      let all : times (n + 1) (needs_of new i) ≡ times i (needs_of needs (n + 1)) = omega (arith, added i from, none) in
-      subst (λ x. times x (needs_of new i) ≡ times i (needs_of needs x)) (sym last) all)
+      let none = times_none (n + 1) (dependents_of old i) (λ there. let within = h.only i (n + 1) there in omega (arith, within.1)) in
+      let all : times (n + 1) (dependents_of new i) ≡ times i (needs_of needs (n + 1)) = omega (arith, added i from, none) in
+      subst (λ x. times x (dependents_of new i) ≡ times i (needs_of needs x)) (sym last) all)
       (λ (other : m ≢ n + 1). grows.others i m other ∙ h.each i m from m_from (omega arith))
       (cases_eq m (n + 1));
   only = λ i m there. ⊎_elim {C = (1 ≤ m) × (m ≤ n + 1)}
-      (λ (before : Contains (needs_of old i) m). let within = h.only i m before in (within.0, omega (arith, within.1)))
+      (λ (before : Contains (dependents_of old i) m). let within = h.only i m before in (within.0, omega (arith, within.1)))
       (λ (is : m ≡ n + 1). (omega arith, omega arith))
       (grows.only i m there);
 }

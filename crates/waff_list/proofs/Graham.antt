@@ -2,7 +2,6 @@
 -- chain does.
 use Rattle.std.proofs.Common.{◌≡◌, ℕ, zero, suc, ◌+◌, ◌-◌, ◌*◌, ◌<◌, ◌≤◌, ◌⊎◌, inl, inr, List, [], ◌∷◌, Bool, true, cond, get_or, length, sum_by, count_by, arith, ap, sym, subst, ◌∙◌, ⊎_elim, mul-zero, mul-suc}
 use Rattle.std.proofs.lemmas.Bool.{cases_lt, cond-true}
-use Rattle.std.proofs.lemmas.Bool.Decides.{nat_tests}
 use Rattle.std.proofs.lemmas.List.FromFn.{length-range_with_len, get_or-range_with_len}
 use Rattle.std.proofs.lemmas.List.Sums.{sum_by-cons, sum_by-le-sum_by, get_or-le-sum_by}
 use Rattle.std.proofs.Math.Nat.{mul-le-mul_left}
@@ -15,10 +14,7 @@ use Rattle.waff_plan.proofs.Longest.{finish_of-le-length_of, length_of-le}
 use Rattle.waff_plan.proofs.Ticks.{ticks_below, run_below, run_below-suc}
 use Rattle.waff_list.specs.ListRule.{IsReady, FollowsListRule}
 use Rattle.waff_list.specs.Bound.{ListPlansAreWithinBound}
-
--- a message that has started and has not finished runs
-pub runs_between : (work : Work) (start : ℕ → ℕ) (t m : ℕ) → start m ≤ t → t < finish_of work start m → runs_at work start t m ≡ true
-runs_between work start t m started unfinished = grind (arith, nat_tests)
+use Rattle.waff_list.proofs.Running.{runs_from}
 
 -- where one element passes, the count is at least 1
 count_by_one : (p : ℕ → Bool) (xs : List ℕ) (i : ℕ) → i < length xs → p (get_or xs i 0) ≡ true → 1 ≤ count_by p xs
@@ -74,7 +70,7 @@ used_until_finish before priority work k start follows m rest s number released 
     (λ (started : start m ≤ t).
     ⊎_elim {C = IsUsed work start k t (m ∷ rest) ⊎ (finish_of work start m ≤ t)}
     (λ (unfinished : t < finish_of work start m).
-    let runs : runs_at work start t m ≡ true = runs_between work start t m started unfinished in
+    let runs : runs_at work start t m ≡ true = runs_from work start t m started unfinished in
     inl (inr (running_one work start t m number runs, count_by_one (runs_at work start t) (m ∷ rest) 0 (omega arith) runs)))
     (λ (finished : finish_of work start m ≤ t). inr finished)
     (cases_lt t (finish_of work start m)))

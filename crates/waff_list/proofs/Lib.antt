@@ -8,7 +8,6 @@ mod Waking
 pub mod TraceWork
 mod Events
 mod PathPlans
-mod ChainBounds
 mod CountLemmas
 mod FinishLemmas
 mod Choosing

@@ -5,8 +5,7 @@ use Rattle.waff_assign.specs.Order.{IsOrdered, PathBy, Path, Relation}
 use Rattle.waff_plan.specs.Work.{Work, finish_of}
 use Rattle.waff_order.specs.Needs.{IsNeed, AreNeeds}
 use Rattle.waff_order.proofs.NeedLemmas.{path_one, path_weaker}
-use Rattle.waff_list.specs.ListRule.{IsReady, IsListPlan}
-use Rattle.waff_list.specs.Bound.{SamePathsSamePlans}
+use Rattle.waff_list.specs.ListRule.{IsReady, IsListPlan, HaveSamePaths}
 use Rattle.waff_list.specs.Unique.{ListPlansAreShared}
 
 -- along a path that a plan keeps, the last starts only when the first has finished
@@ -27,8 +26,9 @@ path_by_free before work start t m ordered free (suc n) i (j, first, rest) =
     let others : start j + work.cost j ≤ t = path_by_free before work start t m ordered free n j rest in
     omega arith
 
-pub same_paths_same_plans : (near before : Relation) (work : Work) → SamePathsSamePlans near before work
-same_paths_same_plans near before work to from priority k start h = record {
+pub same_paths_same_plans : (near before : Relation) (work : Work) → HaveSamePaths near before → (priority : ℕ → ℕ) (k : ℕ) (start : ℕ → ℕ)
+    → IsListPlan near priority work k start → IsListPlan before priority work k start
+same_paths_same_plans near before work same priority k start h = record {
   within = record {
     obeys = record { released = h.within.obeys.released; ordered = ordered };
     within = h.within.within;
@@ -40,35 +40,41 @@ same_paths_same_plans near before work to from priority k start h = record {
 }
   where
     ordered : (i j : ℕ) → before i j → finish_of work start i ≤ start j
-    ordered i j pair = let path = to i j pair in path_by_ordered near work start h.within.obeys.ordered path.0 i j path.1
+    ordered i j pair = let path = same.to i j pair in path_by_ordered near work start h.within.obeys.ordered path.0 i j path.1
 
     ready_near : (t m : ℕ) → IsReady before work start t m → IsReady near work start t m
     ready_near t m ready = record {
       number = ready.number;
       released = ready.released;
-      free = λ i pair. let path = from i m pair in path_by_free before work start t m ordered ready.free path.0 i path.1;
+      free = λ i pair. let path = same.from i m pair in path_by_free before work start t m ordered ready.free path.0 i path.1;
     }
 
 pub shared_plans : (near before : Relation) (work : Work) → ListPlansAreShared near before work
-shared_plans near before work to from priority k start =
-    (same_paths_same_plans near before work to from priority k start, same_paths_same_plans before near work from to priority k start)
+shared_plans near before work same priority k start = (
+  same_paths_same_plans near before work same priority k start,
+  same_paths_same_plans before near work (record { to = same.from; from = same.to }) priority k start,
+)
+
+-- needs have the same paths as the paths through them, and those as the ordered pairs
+pub paths_of_needs : (tree : List Node) (assigned : List ℕ) (needs : List (List ℕ)) → AreNeeds tree assigned needs → HaveSamePaths (Path (IsNeed needs)) (IsOrdered tree assigned)
+paths_of_needs tree assigned needs are = record {
+  to = λ i j pair. path_one (Path (IsNeed needs)) i j (are.paths i j pair);
+  from = λ i j path. path_weaker (IsNeed needs) (IsOrdered tree assigned) are.ordered i j path;
+}
 
 -- needs and the paths through them
 pub plan_over_paths : (near : Relation) (work : Work) (priority : ℕ → ℕ) (k : ℕ) (start : ℕ → ℕ) → IsListPlan near priority work k start → IsListPlan (Path near) priority work k start
 plan_over_paths near work priority k start h =
-    same_paths_same_plans near (Path near) work (λ i j path. path) (λ i j pair. path_one (Path near) i j (path_one near i j pair)) priority k start h
+    same_paths_same_plans near (Path near) work (record { to = λ i j path. path; from = λ i j pair. path_one (Path near) i j (path_one near i j pair) }) priority k start h
 
 -- paths through needs and the ordered pairs
 pub plan_over_pairs : (tree : List Node) (assigned : List ℕ) (needs : List (List ℕ)) (work : Work) (priority : ℕ → ℕ) (k : ℕ) (start : ℕ → ℕ) → AreNeeds tree assigned needs
     → IsListPlan (Path (IsNeed needs)) priority work k start → IsListPlan (IsOrdered tree assigned) priority work k start
 plan_over_pairs tree assigned needs work priority k start are h =
-    same_paths_same_plans (Path (IsNeed needs)) (IsOrdered tree assigned) work
-    (λ i j pair. path_one (Path (IsNeed needs)) i j (are.paths i j pair))
-    (λ i j path. path_weaker (IsNeed needs) (IsOrdered tree assigned) are.ordered i j path) priority k start h
+    same_paths_same_plans (Path (IsNeed needs)) (IsOrdered tree assigned) work (paths_of_needs tree assigned needs are) priority k start h
 
 pub plan_over_needs : (tree : List Node) (assigned : List ℕ) (needs : List (List ℕ)) (work : Work) (priority : ℕ → ℕ) (k : ℕ) (start : ℕ → ℕ) → AreNeeds tree assigned needs
     → IsListPlan (IsOrdered tree assigned) priority work k start → IsListPlan (Path (IsNeed needs)) priority work k start
 plan_over_needs tree assigned needs work priority k start are h =
-    same_paths_same_plans (IsOrdered tree assigned) (Path (IsNeed needs)) work
-    (λ i j path. path_weaker (IsNeed needs) (IsOrdered tree assigned) are.ordered i j path)
-    (λ i j pair. path_one (Path (IsNeed needs)) i j (are.paths i j pair)) priority k start h
+    let same = paths_of_needs tree assigned needs are in
+    same_paths_same_plans (IsOrdered tree assigned) (Path (IsNeed needs)) work (record { to = same.from; from = same.to }) priority k start h

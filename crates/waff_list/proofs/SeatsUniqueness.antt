@@ -4,6 +4,7 @@ use Rattle.std.proofs.lemmas.Bool.{cases_lt, cases_eq, cases_order}
 use Rattle.std.specs.Prelude.{nat_le, nat_lt, ◌&&◌}
 use Rattle.waff_plan.specs.Work.{Work, IsNumber}
 use Rattle.waff_plan.specs.Unique.{AreSame}
+use Rattle.waff_list.proofs.Each.{none_there, contains_more}
 use Rattle.waff_list.specs.Seats.{ComesBefore, HoldsWorker, IsSeated, IsInOrder}
 use Rattle.waff_list.specs.Unique.{AreSeated, SeatsAreOne, OrderIsOne}
 
@@ -81,12 +82,6 @@ in_rest : (x : ℕ) (xs : List ℕ) (y : ℕ) → x ≢ y → Contains (x ∷ xs
 in_rest x xs y other (zero, within, same) = absurd (other same)
 in_rest x xs y other (suc i, within, same) = (i, omega arith, same)
 
-in_longer : (x : ℕ) (xs : List ℕ) (y : ℕ) → Contains xs y → Contains (x ∷ xs) y
-in_longer x xs y (i, within, same) = (suc i, omega arith, same)
-
-in_none : (y : ℕ) → Contains [] y → ⊥
-in_none y (i, within, same) = absurd (omega arith)
-
 module _ (start : ℕ → ℕ) where
   not_both : (x y : ℕ) → ComesBefore start x y → ComesBefore start y x → ⊥
   not_both x y (inl sooner) (inl later) = omega arith
@@ -109,13 +104,13 @@ module _ (start : ℕ → ℕ) where
   same_sorted : (xs ys : List ℕ) → AllPairs (ComesBefore start) xs → AllPairs (ComesBefore start) ys
       → ((x : ℕ) → Contains xs x → Contains ys x) → ((x : ℕ) → Contains ys x → Contains xs x) → xs ≡ ys
   same_sorted [] [] sorted other_sorted to from = refl
-  same_sorted [] (y ∷ ys) sorted other_sorted to from = absurd (in_none y (from y (zero, omega arith, refl)))
-  same_sorted (x ∷ xs) [] sorted other_sorted to from = absurd (in_none x (to x (zero, omega arith, refl)))
+  same_sorted [] (y ∷ ys) sorted other_sorted to from = absurd (none_there y (from y (zero, omega arith, refl)))
+  same_sorted (x ∷ xs) [] sorted other_sorted to from = absurd (none_there x (to x (zero, omega arith, refl)))
   same_sorted (x ∷ xs) (y ∷ ys) sorted other_sorted to from = elim (cases_eq x y) [
     | inl same ↦
         let rest : xs ≡ ys = same_sorted xs ys (rest_sorted x xs sorted) (rest_sorted y ys other_sorted)
-        (λ z has. in_rest y ys z (λ equal. not_itself x (subst (λ w. ComesBefore start x w) (sym (same ∙ equal)) (first_before x xs sorted z has))) (to z (in_longer x xs z has)))
-        (λ z has. in_rest x xs z (λ equal. not_itself y (subst (λ w. ComesBefore start y w) (sym (sym same ∙ equal)) (first_before y ys other_sorted z has))) (from z (in_longer y ys z has))) in
+        (λ z has. in_rest y ys z (λ equal. not_itself x (subst (λ w. ComesBefore start x w) (sym (same ∙ equal)) (first_before x xs sorted z has))) (to z (contains_more x z xs has)))
+        (λ z has. in_rest x xs z (λ equal. not_itself y (subst (λ w. ComesBefore start y w) (sym (sym same ∙ equal)) (first_before y ys other_sorted z has))) (from z (contains_more y z ys has))) in
         cc
     | inr different ↦
         let x_later = first_before y ys other_sorted x (in_rest y ys x (λ same. different (sym same)) (to x (zero, omega arith, refl))) in

@@ -8,7 +8,9 @@ use Rattle.waff_plan.specs.Work.{Work, IsNumber}
 use Rattle.waff_plan.specs.Obeys.{IsForward}
 use Rattle.waff_plan.specs.Chain.{LinksOn, IsChain, chain_cost}
 use Rattle.waff_order.specs.Needs.{IsNeed, AreNeeds}
-use Rattle.waff_order.proofs.NeedLemmas.{path_one, path_weaker}
+use Rattle.waff_order.proofs.NeedLemmas.{path_one}
+use Rattle.waff_list.specs.ListRule.{HaveSamePaths}
+use Rattle.waff_list.proofs.PathPlans.{paths_of_needs}
 use Rattle.waff_list.specs.Tails.{AreTails, TailsAreOne, TailIsGreatestChain, TailsAreShared}
 
 -- the later message of a pair is a message
@@ -103,38 +105,36 @@ path_by_one before work tail falls (suc n) i j (m, first, rest) is =
     let others : work.cost m + tail j ≤ tail m = path_by_falls before work tail falls n m j rest in
     (m, first, omega arith)
 
-pub same_paths_same_tails : (near before : Relation) (work : Work) → ((i j : ℕ) → before i j → Path near i j) → ((i j : ℕ) → near i j → Path before i j)
+pub same_paths_same_tails : (near before : Relation) (work : Work) → HaveSamePaths near before
     → (tail : ℕ → ℕ) → AreTails near work tail → AreTails before work tail
-same_paths_same_tails near before work to from tail tails = record {
+same_paths_same_tails near before work same tail tails = record {
   each = falls;
   one = λ m number. elim (tails.one m number) [
-    | inl (none, is) ↦ inl ((λ later pair. let path = to m later pair in let first = path_by_first near path.0 m later path.1 in none first.0 first.1), is)
-    | inr (later, pair, is) ↦ let path = from m later pair in inr (path_by_one before work tail falls path.0 m later path.1 is)
+    | inl (none, is) ↦ inl ((λ later pair. let path = same.to m later pair in let first = path_by_first near path.0 m later path.1 in none first.0 first.1), is)
+    | inr (later, pair, is) ↦ let path = same.from m later pair in inr (path_by_one before work tail falls path.0 m later path.1 is)
   ];
 }
   where
     falls : (i j : ℕ) → before i j → work.cost i + tail j ≤ tail i
-    falls i j pair = let path = to i j pair in path_by_falls near work tail tails.each path.0 i j path.1
+    falls i j pair = let path = same.to i j pair in path_by_falls near work tail tails.each path.0 i j path.1
 
 pub tails_are_shared : (near before : Relation) (work : Work) → TailsAreShared near before work
-tails_are_shared near before work to from tail =
-    (same_paths_same_tails near before work to from tail, same_paths_same_tails before near work from to tail)
+tails_are_shared near before work same tail =
+    (same_paths_same_tails near before work same tail, same_paths_same_tails before near work (record { to = same.from; from = same.to }) tail)
 
 -- pairs and the paths through them
 pub tails_over_paths : (near : Relation) (work : Work) (tail : ℕ → ℕ) → AreTails near work tail → AreTails (Path near) work tail
 tails_over_paths near work tail =
-    same_paths_same_tails near (Path near) work (λ i j path. path) (λ i j pair. path_one (Path near) i j (path_one near i j pair)) tail
+    same_paths_same_tails near (Path near) work (record { to = λ i j path. path; from = λ i j pair. path_one (Path near) i j (path_one near i j pair) }) tail
 
 module _ (tree : List Node) (assigned : List ℕ) (needs : List (List ℕ)) (work : Work) (tail : ℕ → ℕ) (are : AreNeeds tree assigned needs) where
   -- needs and the ordered pairs
   pub needs_share_tails : AreTails (IsNeed needs) work tail ↔ AreTails (IsOrdered tree assigned) work tail
   needs_share_tails =
-      tails_are_shared (IsNeed needs) (IsOrdered tree assigned) work are.paths
-      (λ i j need. path_one (IsOrdered tree assigned) i j (are.ordered i j need)) tail
+      tails_are_shared (IsNeed needs) (IsOrdered tree assigned) work
+      (record { to = are.paths; from = λ i j need. path_one (IsOrdered tree assigned) i j (are.ordered i j need) }) tail
 
   -- paths through needs and the ordered pairs
   pub paths_share_tails : AreTails (Path (IsNeed needs)) work tail ↔ AreTails (IsOrdered tree assigned) work tail
   paths_share_tails =
-      tails_are_shared (Path (IsNeed needs)) (IsOrdered tree assigned) work
-      (λ i j pair. path_one (Path (IsNeed needs)) i j (are.paths i j pair))
-      (λ i j path. path_weaker (IsNeed needs) (IsOrdered tree assigned) are.ordered i j path) tail
+      tails_are_shared (Path (IsNeed needs)) (IsOrdered tree assigned) work (paths_of_needs tree assigned needs are) tail

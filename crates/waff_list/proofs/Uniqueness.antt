@@ -3,12 +3,12 @@
 use Rattle.std.proofs.Common.{◌≡◌, ℕ, zero, suc, ◌+◌, ◌<◌, ◌≤◌, ◌⊎◌, ◌↔◌, ⊎_elim, inl, inr, Bool, true, false, cond, sum_by, refl, arith, sym, ap, subst, ◌∙◌}
 use Rattle.std.specs.List.{range_with_len}
 use Rattle.std.proofs.lemmas.Bool.{cases_lt, cases_order, false≢true}
-use Rattle.std.proofs.lemmas.Bool.Decides.{nat_tests}
 use Rattle.waff_assign.specs.Order.{Relation}
-use Rattle.waff_plan.specs.Work.{Work, IsNumber, finish_of}
+use Rattle.waff_plan.specs.Work.{Work, IsNumber}
 use Rattle.waff_plan.specs.Obeys.{IsForward}
 use Rattle.waff_plan.specs.Workers.{runs_at, running}
 use Rattle.waff_plan.proofs.Longest.{sum_more}
+use Rattle.waff_list.proofs.Running.{runs_parts, runs_from, runs_before_start}
 use Rattle.waff_list.specs.ListRule.{IsReady, IsTakenFirst, IsListPlan, arrival}
 use Rattle.waff_list.specs.Unique.{EachRuns, IsTotalOrder, TakeTheSame, ListPlanIsOne}
 
@@ -59,15 +59,6 @@ more_run work start other t m each number waits runs =
     sum_to_lt (λ i. cond (runs_at work other t i) 1 0) (λ i. cond (runs_at work start t i) 1 0) work.count m
     (λ i from to. one_le (runs_at work other t i) (runs_at work start t i) (each i (record { from = from; to = to })))
     number.from number.to (one_lt (runs_at work other t m) (runs_at work start t m) waits runs)
-
-runs_is : (work : Work) (start : ℕ → ℕ) (t m : ℕ) → runs_at work start t m ≡ true → (start m ≤ t) × (t < finish_of work start m)
-runs_is work start t m h = grind (arith, nat_tests)
-
-is_running : (work : Work) (start : ℕ → ℕ) (t m : ℕ) → start m ≤ t → t < finish_of work start m → runs_at work start t m ≡ true
-is_running work start t m started unfinished = grind (arith, nat_tests)
-
-not_started : (work : Work) (start : ℕ → ℕ) (t m : ℕ) → t < start m → runs_at work start t m ≡ false
-not_started work start t m later = grind (arith, nat_tests)
 
 -- two plans start the same messages at each tick below t
 pub record AreSameBelow (work : Work) (start other : ℕ → ℕ) (t : ℕ) : Type 0 where
@@ -166,18 +157,18 @@ module _ (before : Relation) (first second : ℕ → ℕ) (work : Work) (k : ℕ
       let within : running work start t ≤ k = plan.within.within t in
       let some : 1 ≤ work.cost m = runs m number in
       let each : (i : ℕ) → IsNumber work i → runs_at work other t i ≡ true → runs_at work start t i ≡ true = λ i i_number i_runs.
-      let is = runs_is work other t i i_runs in
+      let is = runs_parts work other t i i_runs in
       elim (cases_lt (other i) t) [
         | inl sooner ↦
             let at : start i ≡ other i = same.back i i_number sooner in
-            is_running work start t i (omega arith) (omega (arith, is.1))
+            runs_from work start t i (omega arith) (omega (arith, is.1))
         | inr not_sooner ↦
             let i_here : other i ≡ t = omega (arith, is.0) in
             let at : start i ≡ t = starts_too start other t m i plan other_plan same number here later i_number i_here in
-            is_running work start t i (omega arith) (omega (arith, is.1))
+            runs_from work start t i (omega arith) (omega (arith, is.1))
       ] in
       let more : running work other t < running work start t
-      = more_run work start other t m each number (not_started work other t m later) (is_running work start t m (omega arith) (omega arith)) in
+      = more_run work start other t m each number (runs_before_start work other t m later) (runs_from work start t m (omega arith) (omega arith)) in
       omega arith
 
   at_tick : (start other : ℕ → ℕ) (t m : ℕ) → IsListPlan before first work k start → IsListPlan before second work k other

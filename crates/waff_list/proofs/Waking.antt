@@ -6,7 +6,7 @@ use Rattle.std.proofs.lemmas.Bool.{cases_lt, cases_eq}
 use Rattle.std.proofs.lemmas.List.{get_or_default, get_or-map, get_or-take, length-map, length-take-le}
 use Rattle.std.proofs.lemmas.List.Elements.{Contains-append_left, Contains-push}
 use Rattle.waff_plan.specs.Work.{Work, IsNumber}
-use Rattle.waff_list.specs.Waiting.{AreReady, IsUp, IsReleased, IsPassed, StayReady, AreReleases, ArePassed, IsNextRelease, left_of, messages_in}
+use Rattle.waff_list.specs.Waiting.{AreReady, IsUp, IsReleased, IsPassed, StayReady, AreReleases, ArePassed, IsNextRelease, left_of, released_in}
 use Rattle.waff_list.specs.declared.work.TheConstants.{NEVER}
 use Rattle.waff_list.proofs.CountLemmas.{times_some, times_left}
 use Rattle.waff_list.proofs.Each.{none_there, one_of, contains_map, each_there, each_same, each_pushed}
@@ -66,12 +66,12 @@ module _ (work : Work) (now m : ℕ) (number : IsNumber work m) (left ready : Li
 
 -- where a message stands among the releases
 pub stands_at : (work : Work) (releases : List (ℕ × ℕ)) → AreReleases work releases → (m : ℕ) → IsNumber work m
-    → (i : ℕ) × (i < length releases) × (get_or (messages_in releases) i m ≡ m) × ((d : ℕ × ℕ) → (get_or releases i d).0 ≡ work.release m)
+    → (i : ℕ) × (i < length releases) × (get_or (released_in releases) i m ≡ m) × ((d : ℕ × ℕ) → (get_or releases i d).0 ≡ work.release m)
 stands_at work releases are m number =
-    let there = each_there (IsNumber work) (messages_in releases) are.messages m number in
+    let there = each_there (IsNumber work) (released_in releases) are.messages m number in
     let i = there.0 in
-    let long : length (messages_in releases) ≡ length releases = length-map releases (λ (r : ℕ × ℕ). r.1) in
-    let within : i < length (messages_in releases) = there.1 in
+    let long : length (released_in releases) ≡ length releases = length-map releases (λ (r : ℕ × ℕ). r.1) in
+    let within : i < length (released_in releases) = there.1 in
     let inside : i < length releases = omega arith in (
       i,
       inside,
@@ -149,7 +149,7 @@ passed_more releases passed more now on within released next h = record {
 -- the messages that have been passed are those that have been released
 module _ (work : Work) (releases : List (ℕ × ℕ)) (passed now : ℕ) (are : AreReleases work releases) (h : ArePassed releases passed now) where
   abbrev messages : List ℕ
-  messages = messages_in releases
+  messages = released_in releases
 
   count : length (take passed messages) ≡ passed
   count = let within : passed ≤ length releases = h.within in length-take-le passed messages (omega (arith, length-map releases (λ (r : ℕ × ℕ). r.1)))
@@ -214,29 +214,29 @@ module _ (work : Work) (releases : List (ℕ × ℕ)) (at : ℕ) (are : AreRelea
   abbrev now_up : ℕ → Type 0
   now_up = IsUp work (IsPassed releases (at + 1)) left
 
-  long : length (messages_in releases) ≡ length releases
+  long : length (released_in releases) ≡ length releases
   long = length-map releases (λ (r : ℕ × ℕ). r.1)
 
-  one_more : take (at + 1) (messages_in releases) ≡ take at (messages_in releases) ++ m ∷ []
+  one_more : take (at + 1) (released_in releases) ≡ take at (released_in releases) ++ m ∷ []
   one_more =
       let next : at + 1 ≡ suc at = omega arith in
-      ap (λ n. take n (messages_in releases)) next ∙ take-suc (messages_in releases) at m (omega (arith, long))
-      ∙ ap (λ x. take at (messages_in releases) ++ x ∷ []) (get_or-map (λ (r : ℕ × ℕ). r.1) releases at (0, 0) m inside ∙ sym is)
+      ap (λ n. take n (released_in releases)) next ∙ take-suc (released_in releases) at m (omega (arith, long))
+      ∙ ap (λ x. take at (released_in releases) ++ x ∷ []) (get_or-map (λ (r : ℕ × ℕ). r.1) releases at (0, 0) m inside ∙ sym is)
 
   its_number : IsNumber work m
-  its_number = are.messages.only m (subst (λ x. Contains (messages_in releases) x) (sym is)
+  its_number = are.messages.only m (subst (λ x. Contains (released_in releases) x) (sym is)
       (contains_map (λ (r : ℕ × ℕ). r.1) releases (get_or releases at (0, 0)) (at, inside, get_or_default releases at (get_or releases at (0, 0)) (0, 0) inside)))
 
   is_new : was m → ⊥
   is_new up =
-      let less = times_left m (messages_in releases) at m (omega (arith, long)) (get_or-map (λ (r : ℕ × ℕ). r.1) releases at (0, 0) m inside ∙ sym is) in
-      omega (arith, less, are.messages.each m its_number, times_some m (take at (messages_in releases)) up.released)
+      let less = times_left m (released_in releases) at m (omega (arith, long)) (get_or-map (λ (r : ℕ × ℕ). r.1) releases at (0, 0) m inside ∙ sym is) in
+      omega (arith, less, are.messages.each m its_number, times_some m (take at (released_in releases)) up.released)
 
   kept : (x : ℕ) → was x → now_up x
   kept x up = record {
     number = up.number;
     over = up.over;
-    released = subst (λ xs. Contains xs x) (sym one_more) (Contains-append_left (take at (messages_in releases)) (m ∷ []) x up.released);
+    released = subst (λ xs. Contains xs x) (sym one_more) (Contains-append_left (take at (released_in releases)) (m ∷ []) x up.released);
   }
 
   back : (x : ℕ) → now_up x → x ≢ m → was x
@@ -244,15 +244,15 @@ module _ (work : Work) (releases : List (ℕ × ℕ)) (at : ℕ) (are : AreRelea
     number = up.number;
     over = up.over;
     released = ⊎_elim {C = IsPassed releases at x}
-        (λ (there : Contains (take at (messages_in releases)) x). there)
+        (λ (there : Contains (take at (released_in releases)) x). there)
         (λ (same : x ≡ m). absurd (other same))
-        (one_of (take at (messages_in releases)) m x (subst (λ xs. Contains xs x) one_more up.released));
+        (one_of (take at (released_in releases)) m x (subst (λ xs. Contains xs x) one_more up.released));
   }
 
   pub passes_ready : (new : List ℕ) → left_of left m ≡ 0 → IsPermutation (m ∷ ready) new
       → StayReady work (IsPassed releases at) left ready (IsPassed releases (at + 1)) left new
   passes_ready new none pushed order h = each_pushed was now_up m order ready new h pushed is_new
-      (record { number = its_number; over = none; released = subst (λ xs. Contains xs m) (sym one_more) (Contains-push (take at (messages_in releases)) m) }) kept back
+      (record { number = its_number; over = none; released = subst (λ xs. Contains xs m) (sym one_more) (Contains-push (take at (released_in releases)) m) }) kept back
 
   pub passes_other : (left_of left m ≡ 0 → ⊥) → StayReady work (IsPassed releases at) left ready (IsPassed releases (at + 1)) left ready
   passes_other waits order h = each_same was (order ++ ready) h now_up kept

@@ -1,7 +1,7 @@
 -- The list rule for k workers (Graham 1969), for any priority of the messages: whenever a worker is
 -- free and messages are ready, the ready message that is taken first starts.
 use Rattle.std.specs.Prelude.{◌≡◌, ◌≢◌, ℕ, ◌<◌, ◌≤◌, ◌⊎◌}
-use Rattle.waff_assign.specs.Order.{Relation}
+use Rattle.waff_assign.specs.Order.{Path, Relation}
 use Rattle.waff_plan.specs.Work.{Work, IsNumber, finish_of}
 use Rattle.waff_plan.specs.Workers.{running, IsWorkerPlan}
 
@@ -34,3 +34,8 @@ pub record IsListPlan (before : Relation) (priority : ℕ → ℕ)
     (work : Work) (k : ℕ) (start : ℕ → ℕ) : Type 0 where
   pub within : IsWorkerPlan before work k start
   pub follows : FollowsListRule before priority work k start
+
+-- each pair of one set of pairs is a path through the other
+pub record HaveSamePaths (near before : Relation) : Type 0 where
+  pub to : (i j : ℕ) → before i j → Path near i j
+  pub from : (i j : ℕ) → near i j → Path before i j

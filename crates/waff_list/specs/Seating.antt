@@ -7,16 +7,16 @@ use Rattle.waff_plan.specs.Work.{IsAmongFirst, IsNumber}
 use Rattle.waff_model.specs.declared.limits.TheConstants.{MAX_WORKERS}
 
 pub record Seating : Type 0 where
-  pub table : Timetable
+  pub plan : Timetable
   pub workers : ℕ
   pub seats : List ℕ
   pub order : List ℕ
 
 -- each message has a worker, one of at most 64, and the order lists messages
 pub record IsSeating (seating : Seating) : Type 0 where
-  pub seats_count : length seating.seats ≡ length seating.table.timings
+  pub seats_count : length seating.seats ≡ length seating.plan.timings
   pub known : All (IsAmongFirst seating.workers) seating.seats
-  pub messages : All (IsNumber (work_of seating.table.timings)) seating.order
+  pub messages : All (IsNumber (work_of seating.plan.timings)) seating.order
   pub some : 1 ≤ seating.workers
   pub few : seating.workers ≤ MAX_WORKERS
 

@@ -2,10 +2,11 @@
 -- with it.
 use Rattle.std.specs.Prelude.{◌≡◌, ℕ, ◌+◌, ◌-◌, ◌≤◌, ◌⊎◌, ◌↔◌, List, ◌∷◌, length, Contains}
 use Rattle.std.specs.Prelude.{slice_index}
-use Rattle.waff_assign.specs.Order.{Relation, Path}
+use Rattle.waff_assign.specs.Order.{Relation}
 use Rattle.waff_plan.specs.Work.{Work, IsNumber}
 use Rattle.waff_plan.specs.Chain.{IsChain, chain_cost}
 use Rattle.waff_plan.specs.Unique.{AreSame}
+use Rattle.waff_list.specs.ListRule.{HaveSamePaths}
 
 -- the tail of message n, from 1
 abbrev pub tail_of : List ℕ → ℕ → ℕ
@@ -40,11 +41,10 @@ TailIsGreatestChain before work =
     (tail : ℕ → ℕ) (m : ℕ) → AreTails before work tail → IsNumber work m
     → IsGreatestCost before work m (tail m)
 
--- two sets of pairs have the same tails, where each pair of the one is a path through the other
+-- two sets of pairs with the same paths have the same tails
 abbrev pub TailsAreShared : Relation → Relation → Work → Type 0
 TailsAreShared near before work =
-    ((i j : ℕ) → before i j → Path near i j) → ((i j : ℕ) → near i j → Path before i j)
-    → (tail : ℕ → ℕ) → AreTails near work tail ↔ AreTails before work tail
+    HaveSamePaths near before → (tail : ℕ → ℕ) → AreTails near work tail ↔ AreTails before work tail
 
 -- each of these messages has at least this tail, and what has changed is this tail
 pub record AreRaised (old raised : List ℕ) (tail : ℕ) (new : List ℕ) : Type 0 where

@@ -1,10 +1,10 @@
 -- One thing each: of two messages the one that is taken first, the list plan for k workers, the
 -- workers of its messages, and its order.
 use Rattle.std.specs.Prelude.{◌≡◌, ◌≢◌, ℕ, ◌≤◌, ◌⊎◌, ◌↔◌, List}
-use Rattle.waff_assign.specs.Order.{Path, Relation}
+use Rattle.waff_assign.specs.Order.{Relation}
 use Rattle.waff_plan.specs.Work.{Work, IsNumber}
 use Rattle.waff_plan.specs.Unique.{AreSame}
-use Rattle.waff_list.specs.ListRule.{IsTakenFirst, IsListPlan}
+use Rattle.waff_list.specs.ListRule.{IsTakenFirst, IsListPlan, HaveSamePaths}
 use Rattle.waff_list.specs.Rules.{IsPlanBy}
 use Rattle.waff_list.specs.declared.rule.Rule.{Rule}
 use Rattle.waff_list.specs.Seats.{IsSeated, IsInOrder}
@@ -40,12 +40,10 @@ RulePlanIsOne before work =
     (rule : Rule) (k : ℕ) (start other : ℕ → ℕ) → IsPlanBy rule before work k start
     → IsPlanBy rule before work k other → AreSame work start other
 
--- two sets of pairs have the same list plans, where each pair of the one is a path through the
--- other
+-- two sets of pairs with the same paths have the same list plans
 abbrev pub ListPlansAreShared : Relation → Relation → Work → Type 0
 ListPlansAreShared near before work =
-    ((i j : ℕ) → before i j → Path near i j) → ((i j : ℕ) → near i j → Path before i j)
-    → (priority : ℕ → ℕ) (k : ℕ) (start : ℕ → ℕ)
+    HaveSamePaths near before → (priority : ℕ → ℕ) (k : ℕ) (start : ℕ → ℕ)
     → IsListPlan near priority work k start ↔ IsListPlan before priority work k start
 
 -- each message has the least worker that is free

@@ -1,7 +1,7 @@
 -- What the planner keeps of the messages that are not placed yet: how many needs of each have not
 -- finished, those that are ready, those that each message is a need of, and those that are still to
 -- be released; and of those that run, when they finish.
-use Rattle.std.specs.Prelude.{◌≡◌, ◌≢◌, ℕ, ◌+◌, ◌-◌, ◌<◌, ◌≤◌, ◌⊎◌, List, ◌∷◌, ◌++◌, length, map}
+use Rattle.std.specs.Prelude.{◌≡◌, ◌≢◌, ℕ, ◌+◌, ◌-◌, ◌<◌, ◌≤◌, ◌⊎◌, List, [], ◌∷◌, ◌++◌, length, map}
 use Rattle.std.specs.Prelude.{All, AllPairs, Contains, slice_index, slice_index_or, take, count_by}
 use Rattle.std.specs.Prelude.{sum_by, ◌==◌}
 use Rattle.std.specs.List.Sorted.{IsPermutation}
@@ -102,26 +102,30 @@ pub record HaveFinished (next : ℕ) (old new : List (ℕ × ℕ)) : Type 0 wher
   pub kept : (r : ℕ × ℕ) → Contains old r → (r.0 ≤ next) ⊎ Contains new r
   pub only : (r : ℕ × ℕ) → Contains new r → Contains old r × (next < r.0)
 
+-- the messages that need message i, from 1
+abbrev pub dependents_of : List (List ℕ) → ℕ → List ℕ
+dependents_of dependents i = slice_index_or dependents (i - 1) []
+
 -- lists to which m has been added at some places
 pub record Grows (old : List (List ℕ)) (m : ℕ) (new : List (List ℕ)) : Type 0 where
   pub count : length new ≡ length old
-  pub others : (i x : ℕ) → x ≢ m → times x (needs_of new i) ≡ times x (needs_of old i)
-  pub only : (i x : ℕ) → Contains (needs_of new i) x → Contains (needs_of old i) x ⊎ (x ≡ m)
+  pub others : (i x : ℕ) → x ≢ m → times x (dependents_of new i) ≡ times x (dependents_of old i)
+  pub only : (i x : ℕ) → Contains (dependents_of new i) x → Contains (dependents_of old i) x ⊎ (x ≡ m)
 
 -- the dependents of a message are those that need it, up to message n
 pub record AreDependents (needs dependents : List (List ℕ)) (n : ℕ) : Type 0 where
   pub count : length dependents ≡ length needs
   pub each : (i m : ℕ) → 1 ≤ i → 1 ≤ m → m ≤ n
-      → times m (needs_of dependents i) ≡ times i (needs_of needs m)
-  pub only : (i m : ℕ) → Contains (needs_of dependents i) m → (1 ≤ m) × (m ≤ n)
+      → times m (dependents_of dependents i) ≡ times i (needs_of needs m)
+  pub only : (i m : ℕ) → Contains (dependents_of dependents i) m → (1 ≤ m) × (m ≤ n)
 
 -- the messages, in the order of their releases
-abbrev pub messages_in : List (ℕ × ℕ) → List ℕ
-messages_in releases = map (λ r. r.1) releases
+abbrev pub released_in : List (ℕ × ℕ) → List ℕ
+released_in releases = map (λ r. r.1) releases
 
 -- the releases of all messages, each once, the first to be released first
 pub record AreReleases (work : Work) (releases : List (ℕ × ℕ)) : Type 0 where
-  pub messages : AreEach (IsNumber work) (messages_in releases)
+  pub messages : AreEach (IsNumber work) (released_in releases)
   pub ticks : All (λ r. work.release r.1 ≡ r.0) releases
   pub sorted : AllPairs (λ r s. r.0 ≤ s.0) releases
 
@@ -140,7 +144,7 @@ pub record IsNextRelease (work : Work) (now next : ℕ) : Type 0 where
 
 -- m is one of the messages of the releases that have been passed
 abbrev pub IsPassed : List (ℕ × ℕ) → ℕ → ℕ → Type 0
-IsPassed releases passed m = Contains (take passed (messages_in releases)) m
+IsPassed releases passed m = Contains (take passed (released_in releases)) m
 
 -- where all that needed nothing more and was released by a tick was placed or ready, so it is now
 abbrev pub StayReady : Work → (ℕ → Type 0) → List ℕ → List ℕ

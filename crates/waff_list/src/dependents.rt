@@ -3,9 +3,9 @@
 ghost use Rattle.std.specs.Prelude.{◌≡◌, ℕ, ◌+◌, ◌-◌, ◌^◌, ◌<◌, ◌≤◌, [], ◌∷◌, length, replicate};
 ghost use Rattle.std.specs.Prelude.{All, IfOk, OnOk, slice_index, slice_set};
 ghost use Rattle.waff_model.specs.Numbers.{IsAmongFirst};
-ghost use Rattle.waff_order.specs.Needs.{needs_of, AreLists};
+ghost use Rattle.waff_order.specs.Needs.{AreLists};
 ghost use Rattle.waff_list.specs.Trails.{AreLinked, link_at, trails};
-ghost use Rattle.waff_list.specs.Waiting.{AreDependents, Grows, times};
+ghost use Rattle.waff_list.specs.Waiting.{AreDependents, Grows, dependents_of, times};
 
 use std::alloc::{AllocError, Global};
 use waff_order::Needs;
@@ -63,7 +63,7 @@ impl Dependents {
         ensures one { OnOk result (length self.new.links.items
             ≡ length self.old.links.items + 1) }
         ensures added { OnOk result (trails self.new
-            ≡ slice_set (trails self.old) (i - 1) (m ∷ needs_of (trails self.old) i)) }
+            ≡ slice_set (trails self.old) (i - 1) (m ∷ dependents_of (trails self.old) i)) }
     {
         let next = self.first(i);
         self.links.push(Link { message: m, next })?;
@@ -80,8 +80,8 @@ impl Dependents {
         ensures more { OnOk result (length self.new.links.items
             ≡ length self.old.links.items + length needed.now) }
         ensures grows { OnOk result (Grows (trails self.old) m (trails self.new)) }
-        ensures added { OnOk result ((i : ℕ) → 1 ≤ i → times m (needs_of (trails self.new) i)
-            ≡ times m (needs_of (trails self.old) i) + times i needed.now) }
+        ensures added { OnOk result ((i : ℕ) → 1 ≤ i → times m (dependents_of (trails self.new) i)
+            ≡ times m (dependents_of (trails self.old) i) + times i needed.now) }
     {
         for at in 0..needed.len() {
             self.add(needed[at], m)?;

@@ -2,11 +2,11 @@
 
 ghost use Rattle.std.specs.Prelude.{◌≡◌, ◌<◌, length, All, IfOk};
 ghost use Rattle.waff_assign.specs.Order.{IsOrdered, Path};
-ghost use Rattle.waff_plan.specs.Bound.{IsWorkers};
+ghost use Rattle.waff_plan.specs.Bound.{IsWithinBound, IsWithinRatio, IsWithinTwice, IsWorkers};
 ghost use Rattle.waff_plan.specs.Chain.{IsChain, IsListed, IsPrinted, chain_cost, chain_release};
 ghost use Rattle.waff_plan.specs.Timetable.{starts_in, timings_of, work_in};
 ghost use Rattle.waff_order.specs.Needs.{IsNeed};
-ghost use Rattle.waff_list.specs.Bound.{ListBound, ListRatio, ListTwice};
+ghost use Rattle.waff_list.specs.Bound.{IsSomeListPlan};
 ghost use Rattle.waff_list.specs.ListRule.{IsListPlan, arrival};
 ghost use Rattle.waff_list.specs.Load.{priority_of};
 ghost use Rattle.waff_list.specs.Rules.{IsPlanBy};
@@ -35,14 +35,14 @@ pub fn list_plan(
 ) -> Result<WorkerPlan, AllocError>
     requires lengths { length needs.now ≡ length trace.now.messages }
     requires workers { IsWorkers k }
-    ensures timings { IfOk result (λ made. made.table.timings ≡ timings_of trace.now.messages) }
+    ensures timings { IfOk result (λ made. made.plan.timings ≡ timings_of trace.now.messages) }
     ensures workers { IfOk result (λ made. made.workers ≡ k) }
     ensures follows { IfOk result (λ made. IsListPlan
-        (Path (IsNeed needs.now)) arrival (work_in made.table) k (starts_in made.table)) }
+        (Path (IsNeed needs.now)) arrival (work_in made.plan) k (starts_in made.plan)) }
     ensures seated { IfOk result (λ made. AreSeated
-        (work_in made.table) (starts_in made.table) (worker_of made.seats)) }
+        (work_in made.plan) (starts_in made.plan) (worker_of made.seats)) }
     ensures order { IfOk result (λ made.
-        IsInOrder (work_in made.table) (starts_in made.table) made.order) }
+        IsInOrder (work_in made.plan) (starts_in made.plan) made.order) }
 {
     list_plan_by(alloc, needs, trace, Rule::Arrival, k)
 }
@@ -58,14 +58,14 @@ pub fn list_plan_by(
 ) -> Result<WorkerPlan, AllocError>
     requires lengths { length needs.now ≡ length trace.now.messages }
     requires workers { IsWorkers k }
-    ensures timings { IfOk result (λ made. made.table.timings ≡ timings_of trace.now.messages) }
+    ensures timings { IfOk result (λ made. made.plan.timings ≡ timings_of trace.now.messages) }
     ensures workers { IfOk result (λ made. made.workers ≡ k) }
     ensures follows { IfOk result (λ made. IsPlanBy
-        rule (Path (IsNeed needs.now)) (work_in made.table) k (starts_in made.table)) }
+        rule (Path (IsNeed needs.now)) (work_in made.plan) k (starts_in made.plan)) }
     ensures seated { IfOk result (λ made. AreSeated
-        (work_in made.table) (starts_in made.table) (worker_of made.seats)) }
+        (work_in made.plan) (starts_in made.plan) (worker_of made.seats)) }
     ensures order { IfOk result (λ made.
-        IsInOrder (work_in made.table) (starts_in made.table) made.order) }
+        IsInOrder (work_in made.plan) (starts_in made.plan) made.order) }
 {
     let priorities = match rule {
         Rule::Arrival => Vec::new(alloc),
@@ -84,44 +84,53 @@ fn planned(
 ) -> Result<WorkerPlan, AllocError>
     requires lengths { length needs.now ≡ length trace.now.messages }
     requires workers { IsWorkers k }
-    ensures timings { IfOk result (λ made. made.table.timings ≡ timings_of trace.now.messages) }
+    ensures timings { IfOk result (λ made. made.plan.timings ≡ timings_of trace.now.messages) }
     ensures workers { IfOk result (λ made. made.workers ≡ k) }
     ensures follows { IfOk result (λ made. IsListPlan (Path (IsNeed needs.now))
-        (priority_of priorities.items) (work_in made.table) k (starts_in made.table)) }
+        (priority_of priorities.items) (work_in made.plan) k (starts_in made.plan)) }
     ensures seated { IfOk result (λ made. AreSeated
-        (work_in made.table) (starts_in made.table) (worker_of made.seats)) }
+        (work_in made.plan) (starts_in made.plan) (worker_of made.seats)) }
     ensures order { IfOk result (λ made.
-        IsInOrder (work_in made.table) (starts_in made.table) made.order) }
+        IsInOrder (work_in made.plan) (starts_in made.plan) made.order) }
 {
     let made = make(alloc, needs, trace, k, priorities)?;
     let plan = Plan::of_starts(alloc, trace, made.starts.as_slice())?;
     Ok(WorkerPlan::new(plan, k, made.seats, made.order))
 }
 
-/// The printed chain of the list plan. Where the plan is that of the needs of this tree and
-/// assignment, its length is within the list bound of this chain, and so within a constant ratio of
-/// that of any worker plan.
+/// The printed chain of the list plan. Where the plan follows the list rule over the ordered pairs
+/// of this tree and assignment, its length is within the list bound of this chain, and so within a
+/// constant ratio of that of any worker plan.
 pub fn list_chain(
     alloc: Global,
     tree: &Tree,
     assigned: &Assigned,
     made: &WorkerPlan,
 ) -> Result<Chain, AllocError>
-    requires lengths { length made.now.table.timings ≡ length assigned.now }
+    requires lengths { length made.now.plan.timings ≡ length assigned.now }
     requires known { All (λ a. a < length tree.now) assigned.now }
     ensures printed { IfOk result (λ chain. IsPrinted (IsOrdered tree.now assigned.now)
-        (work_in made.now.table) (starts_in made.now.table) chain.messages) }
+        (work_in made.now.plan) (starts_in made.now.plan) chain.messages) }
     ensures chain { IfOk result (λ chain.
-        IsChain (IsOrdered tree.now assigned.now) (work_in made.now.table) chain.messages) }
+        IsChain (IsOrdered tree.now assigned.now) (work_in made.now.plan) chain.messages) }
     ensures listed { IfOk result (λ chain.
-        IsListed (length made.now.table.timings) chain.messages) }
+        IsListed (length made.now.plan.timings) chain.messages) }
     ensures cost { IfOk result (λ chain.
-        chain.cost ≡ chain_cost (work_in made.now.table) chain.messages) }
+        chain.cost ≡ chain_cost (work_in made.now.plan) chain.messages) }
     ensures release { IfOk result (λ chain.
-        chain.release ≡ chain_release (work_in made.now.table) chain.messages) }
-    ensures bound { IfOk result (ListBound tree.now assigned.now made.now) }
-    ensures twice { IfOk result (λ _. ListTwice tree.now assigned.now made.now) }
-    ensures ratio { IfOk result (λ _. ListRatio tree.now assigned.now made.now) }
+        chain.release ≡ chain_release (work_in made.now.plan) chain.messages) }
+    ensures bound { IfOk result (λ chain. IsSomeListPlan (IsOrdered tree.now assigned.now)
+        (work_in made.now.plan) made.now.workers (starts_in made.now.plan)
+        → IsWithinBound
+        (work_in made.now.plan) made.now.workers (starts_in made.now.plan) chain.messages) }
+    ensures twice { IfOk result (λ _. IsSomeListPlan (IsOrdered tree.now assigned.now)
+        (work_in made.now.plan) made.now.workers (starts_in made.now.plan)
+        → IsWithinTwice (IsOrdered tree.now assigned.now)
+        (work_in made.now.plan) made.now.workers (starts_in made.now.plan)) }
+    ensures ratio { IfOk result (λ _. IsSomeListPlan (IsOrdered tree.now assigned.now)
+        (work_in made.now.plan) made.now.workers (starts_in made.now.plan)
+        → IsWithinRatio (IsOrdered tree.now assigned.now)
+        (work_in made.now.plan) made.now.workers (starts_in made.now.plan)) }
 {
     chain(alloc, tree, assigned, made.plan())
 }

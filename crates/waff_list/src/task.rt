@@ -11,7 +11,7 @@ use std::alloc::{AllocError, Global};
 use waff_model::Trace;
 use waff_order::Needs;
 
-/// The messages of a trace, the needs of each, those that need each, and how many workers there are.
+/// The messages of a trace, the needs of each, those that need each, and the number of workers.
 #[derive(Drop)]
 pub(crate) struct Task<'a> {
     pub needs: &'a Needs,

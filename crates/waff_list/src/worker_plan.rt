@@ -24,14 +24,14 @@ impl Model for WorkerPlan {
     ghost Value = { Seating };
 
     ghost view = { λ p. record {
-      table = p.plan;
+      plan = p.plan;
       workers = p.workers;
       seats = p.seats.items;
       order = p.order.items;
     } };
 
     ghost invariant = { λ p. IsSeating (record {
-      table = p.plan;
+      plan = p.plan;
       workers = p.workers;
       seats = p.seats.items;
       order = p.order.items;
@@ -59,13 +59,13 @@ impl WorkerPlan {
     /// The plan with these workers, and with the messages in this order.
     pub(crate) fn new(plan: Plan, workers: u32, seats: Vec<u32>, order: Vec<u32>) -> Self
         requires { IsSeating (record {
-          table = plan;
+          plan = plan;
           workers = workers;
           seats = seats.items;
           order = order.items;
         }) }
         ensures { result ≡ record {
-          table = plan;
+          plan = plan;
           workers = workers;
           seats = seats.items;
           order = order.items;
@@ -81,7 +81,7 @@ impl WorkerPlan {
 
     /// When each message starts.
     pub fn plan(&self) -> &Plan
-        ensures plan { result.now ≡ self.now.table }
+        ensures plan { result.now ≡ self.now.plan }
         ensures seating { IsSeating self.now }
     {
         &self.plan
@@ -96,7 +96,7 @@ impl WorkerPlan {
 
     /// The worker of message `n`.
     pub fn worker(&self, n: u32) -> u32
-        requires number { IsAmongFirst (length self.now.table.timings) n }
+        requires number { IsAmongFirst (length self.now.plan.timings) n }
         ensures worker { result ≡ worker_of self.now.seats n }
         ensures some { 1 ≤ result }
         ensures within { result ≤ self.now.workers }
@@ -115,7 +115,7 @@ impl WorkerPlan {
     /// The messages by start tick, then arrival.
     pub fn order(&self) -> &[u32]
         ensures order { result.now ≡ self.now.order }
-        ensures messages { All (IsNumber (work_in self.now.table)) result.now }
+        ensures messages { All (IsNumber (work_in self.now.plan)) result.now }
     {
         self.order.as_slice()
     }

@@ -24,7 +24,7 @@ ratio k length total cost other some bound work chain =
     omega arith
 
 pub bound_is_within_twice : (before : ℕ → ℕ → Type 0) (work : Work) → BoundIsWithinTwice before work
-bound_is_within_twice before work k start other chain is_chain bound plan =
+bound_is_within_twice before work k start chain is_chain bound other plan =
     twice k (length_of work start) (total_of work) (chain_release work chain) (chain_cost work chain) (length_of work other) bound
     (total_is_within_workers before work k other plan)
     (chains_are_within_length before work chain other is_chain plan.obeys)
@@ -41,7 +41,7 @@ no_release before work none [] h = refl
 no_release before work none (m ∷ rest) h = none m (first_is_number before work m rest h)
 
 pub bound_is_within_ratio : (before : ℕ → ℕ → Type 0) (work : Work) → BoundIsWithinRatio before work
-bound_is_within_ratio before work k start other chain some none is_chain bound plan =
+bound_is_within_ratio before work k start chain some is_chain bound none other plan =
     let zero_release : chain_release work chain ≡ 0 = no_release before work none chain is_chain in
     let nothing : k * chain_release work chain ≡ 0 = ap (λ n. k * n) zero_release ∙ mul-zero k in
     let within : chain_release work chain + chain_cost work chain ≤ length_of work other

@@ -25,18 +25,26 @@ right_side work k chain =
 abbrev pub IsWithinBound : Work → ℕ → (ℕ → ℕ) → List ℕ → Type 0
 IsWithinBound work k start chain = left_side work k start ≤ right_side work k chain
 
--- what is within the bound of some chain is at most twice as long as any worker plan
-abbrev pub BoundIsWithinTwice : Relation → Work → Type 0
-BoundIsWithinTwice before work =
-    (k : ℕ) (start other : ℕ → ℕ) (chain : List ℕ)
-    → IsChain before work chain → IsWithinBound work k start chain
-    → IsWorkerPlan before work k other → k * length_of work start ≤ 2 * k * length_of work other
+-- a plan is at most twice as long as any worker plan for k
+abbrev pub IsWithinTwice : Relation → Work → ℕ → (ℕ → ℕ) → Type 0
+IsWithinTwice before work k start =
+    (other : ℕ → ℕ) → IsWorkerPlan before work k other
+    → left_side work k start ≤ 2 * k * length_of work other
 
 -- and at most 2 - 1/k times as long where no message has a release
+abbrev pub IsWithinRatio : Relation → Work → ℕ → (ℕ → ℕ) → Type 0
+IsWithinRatio before work k start =
+    ((m : ℕ) → IsNumber work m → work.release m ≡ 0)
+    → (other : ℕ → ℕ) → IsWorkerPlan before work k other
+    → left_side work k start ≤ (2 * k - 1) * length_of work other
+
+-- what is within the bound of some chain is so
+abbrev pub BoundIsWithinTwice : Relation → Work → Type 0
+BoundIsWithinTwice before work =
+    (k : ℕ) (start : ℕ → ℕ) (chain : List ℕ) → IsChain before work chain
+    → IsWithinBound work k start chain → IsWithinTwice before work k start
+
 abbrev pub BoundIsWithinRatio : Relation → Work → Type 0
 BoundIsWithinRatio before work =
-    (k : ℕ) (start other : ℕ → ℕ) (chain : List ℕ)
-    → 1 ≤ k → ((m : ℕ) → IsNumber work m → work.release m ≡ 0)
-    → IsChain before work chain → IsWithinBound work k start chain
-    → IsWorkerPlan before work k other
-    → k * length_of work start ≤ (2 * k - 1) * length_of work other
+    (k : ℕ) (start : ℕ → ℕ) (chain : List ℕ) → 1 ≤ k → IsChain before work chain
+    → IsWithinBound work k start chain → IsWithinRatio before work k start

@@ -14,13 +14,13 @@ returns-clause-listed c =
     let plan = c.args.unlimited.now.plan.now in
     let work = work_of plan.timings in
     let shortest = length_of work (start_of plan.starts) in
-    let timings : made.table.timings ≡ plan.timings = c.in_ok-made.ensures.timings ∙ sym c.args.unlimited.now.timings in
-    let list = c.needs_make_the_same_plans.ensures case.tree.now case.assigned.now c.args.needs.now (work_of made.table.timings) c.args.rule c.args.k
-    (start_of made.table.starts) c.requires.needs c.in_ok-made.ensures.follows in
-    IfOk-weaker c.figures_of.result (AreFigures (Some c.args.k) work shortest (start_of made.table.starts)) _
+    let timings : made.plan.timings ≡ plan.timings = c.in_ok-made.ensures.timings ∙ sym c.args.unlimited.now.timings in
+    let list = c.needs_make_the_same_plans.ensures case.tree.now case.assigned.now c.args.needs.now (work_of made.plan.timings) c.args.rule c.args.k
+    (start_of made.plan.starts) c.requires.needs c.in_ok-made.ensures.follows in
+    IfOk-weaker c.figures_of.result (AreFigures (Some c.args.k) work shortest (start_of made.plan.starts)) _
     (λ figures told. record {
       k = c.args.k;
-      starts = made.table.starts;
+      starts = made.plan.starts;
       list = rw timings at list;
       figures_are = told;
       least = subst (λ n. IsLowerBound (Some c.args.k) (IsOrdered case.tree.now case.assigned.now) work n) (sym told.least)

@@ -1,45 +1,51 @@
-use Rattle.std.proofs.Common.{◌≡◌, ℕ, List, Result, Ok, Err, IfOk, sym}
+use Rattle.std.proofs.Common.{◌≡◌, ℕ, ◌≤◌, List, length, Result, Ok, Err, IfOk, sym}
 use Rattle.waff_model.specs.Tree.{Node}
 use Rattle.waff_assign.specs.Order.{IsOrdered}
-use Rattle.waff_plan.specs.Chain.{IsPrinted, chain_cost, chain_release}
+use Rattle.waff_plan.specs.Bound.{IsWithinBound}
+use Rattle.waff_plan.specs.Chain.{IsChain, IsPrinted}
 use Rattle.waff_plan.specs.CostedChain.{CostedChain}
-use Rattle.waff_plan.specs.Timetable.{Timetable}
-use Rattle.waff_plan.specs.Timing.{work_of, start_of}
-use Rattle.waff_list.proofs.ChainBounds.{IsCosted, chain_bound, chain_twice, chain_ratio}
+use Rattle.waff_plan.specs.Timetable.{starts_in, work_in}
+use Rattle.waff_plan.specs.Work.{Work}
+use Rattle.waff_plan.proofs.Chains.{printed_is_chain}
+use Rattle.waff_plan.proofs.Forward.{IsOrdered_forward}
+use Rattle.waff_plan.proofs.Ratios.{bound_is_within_twice, bound_is_within_ratio}
+use Rattle.waff_list.specs.Bound.{IsSomeListPlan}
+use Rattle.waff_list.proofs.Graham.{list_plans_are_within_bound}
 use Rattle.waff_list.proofs.list.list_chain.Goals as goal
 
--- what the chain's call says, as one fact, and what follows from it
-costed : {E : Type 0} (tree : List Node) (assigned : List ℕ) (table : Timetable) (Q : CostedChain → Type 0) (r : Result CostedChain E)
-    → IfOk r (λ chain. IsPrinted (IsOrdered tree assigned) (work_of table.timings) (start_of table.starts) chain.messages)
-    → IfOk r (λ chain. chain.cost ≡ chain_cost (work_of table.timings) chain.messages)
-    → IfOk r (λ chain. chain.release ≡ chain_release (work_of table.timings) chain.messages)
-    → ((chain : CostedChain) → IsCosted tree assigned (work_of table.timings) (start_of table.starts) chain → Q chain) → IfOk r Q
-costed tree assigned table Q (Ok chain) printed cost release f = f chain (record { printed = printed; cost = cost; release = release })
-costed tree assigned table Q (Err e) printed cost release f = tt
+-- what follows from what the chain's call says
+then : {E : Type 0} (P Q : CostedChain → Type 0) (r : Result CostedChain E) → ((chain : CostedChain) → P chain → Q chain) → IfOk r P → IfOk r Q
+then P Q (Ok chain) follows h = follows chain h
+then P Q (Err e) follows h = tt
+
+module _ (tree : List Node) (assigned : List ℕ) (work : Work) (same : length assigned ≡ work.count) (k : ℕ) (some : 1 ≤ k) (start : ℕ → ℕ)
+    (chain : List ℕ) (printed : IsPrinted (IsOrdered tree assigned) work start chain) where
+  is_chain : IsChain (IsOrdered tree assigned) work chain
+  is_chain = printed_is_chain (IsOrdered tree assigned) work (IsOrdered_forward tree assigned work same) start chain printed
+
+  within : IsSomeListPlan (IsOrdered tree assigned) work k start → IsWithinBound work k start chain
+  within plan = list_plans_are_within_bound (IsOrdered tree assigned) work (IsOrdered_forward tree assigned work same) plan.0 k start chain some plan.1 printed
 
 pub returns-clause-bound : goal.returns-clause-bound
 returns-clause-bound c =
-    let table = c.args.made.now.table in
-    let some = c.plan.ensures.seating.some in
-    costed c.args.tree.now c.args.assigned.now table _ c.chain.result
-    (rw c.plan.ensures.plan at c.chain.ensures.printed) (rw c.plan.ensures.plan at c.chain.ensures.cost) (rw c.plan.ensures.plan at c.chain.ensures.release)
-    (λ chain h needs priority are plan. chain_bound c.args.tree.now c.args.assigned.now (work_of table.timings) (sym c.requires.lengths) c.args.made.now.workers some
-    (start_of table.starts) needs priority are plan chain h)
+    let table = c.args.made.now.plan in
+    then _ _ c.chain.result (λ chain printed plan. within c.args.tree.now c.args.assigned.now (work_in table) (sym c.requires.lengths) c.args.made.now.workers c.plan.ensures.seating.some
+    (starts_in table) chain.messages printed plan) (rw c.plan.ensures.plan at c.chain.ensures.printed)
 
 pub returns-clause-twice : goal.returns-clause-twice
 returns-clause-twice c =
-    let table = c.args.made.now.table in
-    let some = c.plan.ensures.seating.some in
-    costed c.args.tree.now c.args.assigned.now table _ c.chain.result
-    (rw c.plan.ensures.plan at c.chain.ensures.printed) (rw c.plan.ensures.plan at c.chain.ensures.cost) (rw c.plan.ensures.plan at c.chain.ensures.release)
-    (λ chain h needs priority other are plan. chain_twice c.args.tree.now c.args.assigned.now (work_of table.timings) (sym c.requires.lengths) c.args.made.now.workers some
-    (start_of table.starts) needs priority are plan chain h other)
+    let table = c.args.made.now.plan in
+    let before = IsOrdered c.args.tree.now c.args.assigned.now in
+    then _ _ c.chain.result (λ chain printed plan. bound_is_within_twice before (work_in table) c.args.made.now.workers (starts_in table) chain.messages
+    (is_chain c.args.tree.now c.args.assigned.now (work_in table) (sym c.requires.lengths) c.args.made.now.workers c.plan.ensures.seating.some (starts_in table) chain.messages printed)
+    (within c.args.tree.now c.args.assigned.now (work_in table) (sym c.requires.lengths) c.args.made.now.workers c.plan.ensures.seating.some (starts_in table) chain.messages printed plan))
+    (rw c.plan.ensures.plan at c.chain.ensures.printed)
 
 pub returns-clause-ratio : goal.returns-clause-ratio
 returns-clause-ratio c =
-    let table = c.args.made.now.table in
-    let some = c.plan.ensures.seating.some in
-    costed c.args.tree.now c.args.assigned.now table _ c.chain.result
-    (rw c.plan.ensures.plan at c.chain.ensures.printed) (rw c.plan.ensures.plan at c.chain.ensures.cost) (rw c.plan.ensures.plan at c.chain.ensures.release)
-    (λ chain h needs priority other are none plan. chain_ratio c.args.tree.now c.args.assigned.now (work_of table.timings) (sym c.requires.lengths) c.args.made.now.workers some
-    (start_of table.starts) needs priority are plan chain h other none)
+    let table = c.args.made.now.plan in
+    let before = IsOrdered c.args.tree.now c.args.assigned.now in
+    then _ _ c.chain.result (λ chain printed plan. bound_is_within_ratio before (work_in table) c.args.made.now.workers (starts_in table) chain.messages c.plan.ensures.seating.some
+    (is_chain c.args.tree.now c.args.assigned.now (work_in table) (sym c.requires.lengths) c.args.made.now.workers c.plan.ensures.seating.some (starts_in table) chain.messages printed)
+    (within c.args.tree.now c.args.assigned.now (work_in table) (sym c.requires.lengths) c.args.made.now.workers c.plan.ensures.seating.some (starts_in table) chain.messages printed plan))
+    (rw c.plan.ensures.plan at c.chain.ensures.printed)

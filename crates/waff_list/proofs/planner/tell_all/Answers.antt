@@ -3,10 +3,9 @@ use Rattle.std.proofs.lemmas.Bool.{cases_eq}
 use Rattle.std.proofs.lemmas.List.{get_or-map, length-map}
 use Rattle.std.proofs.lemmas.List.Elements.{All-get_or}
 use Rattle.waff_plan.specs.Work.{IsNumber}
-use Rattle.waff_order.specs.Needs.{needs_of}
 use Rattle.waff_list.specs.Progress.{work_of_messages}
 use Rattle.waff_list.specs.Trails.{link_at, trail, trails}
-use Rattle.waff_list.specs.Waiting.{left_of, times}
+use Rattle.waff_list.specs.Waiting.{dependents_of, left_of, times}
 use Rattle.waff_list.specs.declared.dependents.Link.{Link}
 use Rattle.waff_list.proofs.CountLemmas.{times_cons_same, times_cons_other}
 use Rattle.waff_list.proofs.Each.{contains_first, contains_more}
@@ -31,7 +30,7 @@ loop-at-init c =
     let long : length (trails task.dependents) ≡ length firsts = length-map firsts (λ n. trail links n n) in
     let inside : m - 1 < length firsts
     = omega (arith, long, task.told.count, c.requires.number.from, c.requires.number.to) in
-    let is : trail links c.first-at.result c.first-at.result ≡ needs_of (trails task.dependents) m
+    let is : trail links c.first-at.result c.first-at.result ≡ dependents_of (trails task.dependents) m
     = ap (λ n. trail links n n) c.first-at.ensures ∙ sym (get_or-map (λ n. trail links n n) firsts (m - 1) 0 [] inside) in
     record {
       within = subst (λ n. n ≤ length links) (sym c.first-at.ensures) (All-get_or (λ n. n ≤ length links) firsts (m - 1) 0 inside task.linked.firsts);
@@ -87,7 +86,7 @@ loop-at-preserved c =
     let d = link.message in
     let rest = trail links link.next link.next in
     let left = c.loop-at.waiting.left.items in
-    let all = needs_of (trails task.dependents) c.args.m in
+    let all = dependents_of (trails task.dependents) c.args.m in
     let long : length left ≡ work.count = c.loop-at.invariant.wakes.count ∙ c.requires.count ∙ task.lengths ∙ sym (count_is task.trace.now.messages) in
     let told = c.in_ok-tell.ensures in
     let earlier : link.next < at

@@ -1,9 +1,8 @@
 use Rattle.std.proofs.Common.{◌≡◌, ◌≢◌, ◌+◌, ◌-◌, ◌<◌, ◌≤◌, length, get_or, take, arith, refl, sym, ◌∙◌, ap, subst, ⊎_elim}
 use Rattle.std.proofs.lemmas.Bool.{cases_eq}
 use Rattle.std.proofs.lemmas.List.{take_all, length-map}
-use Rattle.waff_order.specs.Needs.{needs_of}
 use Rattle.waff_list.specs.Trails.{trail, trails}
-use Rattle.waff_list.specs.Waiting.{Grows, times}
+use Rattle.waff_list.specs.Waiting.{dependents_of, Grows, times}
 use Rattle.waff_list.specs.declared.dependents.Dependents.{Dependents}
 use Rattle.waff_list.proofs.CountLemmas.{times_here, times_other}
 use Rattle.waff_list.proofs.DependentLemmas.{grows_none, grows_join, grows_one, grown_here, grown_other}
@@ -41,14 +40,14 @@ loop-at-preserved c =
       more = omega (arith, h.one, c.loop-at.invariant.more);
       firsts = sym (length_trails new) ∙ one.count ∙ length_trails old ∙ c.loop-at.invariant.firsts;
       grows = grows_join (trails c.args.self.now) (trails old) (trails new) m c.loop-at.invariant.grows one;
-      added = λ i i_from. ⊎_elim {C = times m (needs_of (trails new) i) ≡ times m (needs_of (trails c.args.self.now) i) + times i (take (at + 1) needed)}
+      added = λ i i_from. ⊎_elim {C = times m (dependents_of (trails new) i) ≡ times m (dependents_of (trails c.args.self.now) i) + times i (take (at + 1) needed)}
           (λ (same : i ≡ x).
-          let here = subst (λ xs. times m (needs_of xs x) ≡ times m (needs_of (trails old) x) + 1) is (grown_here (trails old) x m inside) in
-          let moved = subst (λ y. times m (needs_of (trails new) y) ≡ times m (needs_of (trails old) y) + 1) (sym same) here in
+          let here = subst (λ xs. times m (dependents_of xs x) ≡ times m (dependents_of (trails old) x) + 1) is (grown_here (trails old) x m inside) in
+          let moved = subst (λ y. times m (dependents_of (trails new) y) ≡ times m (dependents_of (trails old) y) + 1) (sym same) here in
           let more = times_here i needed at 0 c.loop-at-test.true (sym same) in
           omega (arith, moved, more, c.loop-at.invariant.added i i_from))
           (λ (other : i ≢ x).
-          let kept = ap (λ ys. times m ys) (subst (λ xs. needs_of xs i ≡ needs_of (trails old) i) is (grown_other (trails old) x m inside i from i_from other)) in
+          let kept = ap (λ ys. times m ys) (subst (λ xs. dependents_of xs i ≡ dependents_of (trails old) i) is (grown_other (trails old) x m inside i from i_from other)) in
           let more = times_other i needed at 0 c.loop-at-test.true (λ same. other (sym same)) in
           omega (arith, kept, more, c.loop-at.invariant.added i i_from))
           (cases_eq i x);
@@ -57,4 +56,4 @@ loop-at-preserved c =
 pub returns-clause-added : goal.returns-clause-added
 returns-clause-added c = λ i from.
     let all : take c.loop-at.at c.args.needed.now ≡ c.args.needed.now = take_all c.loop-at.at c.args.needed.now (omega arith) in
-    c.loop-at.invariant.added i from ∙ ap (λ xs. times c.args.m (needs_of (trails c.args.self.now) i) + times i xs) all
+    c.loop-at.invariant.added i from ∙ ap (λ xs. times c.args.m (dependents_of (trails c.args.self.now) i) + times i xs) all

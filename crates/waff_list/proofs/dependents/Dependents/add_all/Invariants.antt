@@ -1,7 +1,6 @@
 use Rattle.std.proofs.Common.{◌≡◌, ℕ, ◌+◌, ◌≤◌, length, take}
-use Rattle.waff_order.specs.Needs.{needs_of}
 use Rattle.waff_list.specs.Trails.{AreLinked, trails}
-use Rattle.waff_list.specs.Waiting.{Grows, times}
+use Rattle.waff_list.specs.Waiting.{dependents_of, Grows, times}
 use Rattle.waff_list.proofs.dependents.Dependents.add_all.Given as goal
 
 abbrev pub invariant-loop-at : goal.invariant-loop-at
@@ -11,5 +10,5 @@ invariant-loop-at l = record {
   firsts : length l.self.firsts.items ≡ length l.initial.self.firsts.items;
   grows : Grows (trails l.initial.self) l.m (trails l.self);
   added : (i : ℕ) → 1 ≤ i
-      → times l.m (needs_of (trails l.self) i) ≡ times l.m (needs_of (trails l.initial.self) i) + times i (take l.at l.needed);
+      → times l.m (dependents_of (trails l.self) i) ≡ times l.m (dependents_of (trails l.initial.self) i) + times i (take l.at l.needed);
 }

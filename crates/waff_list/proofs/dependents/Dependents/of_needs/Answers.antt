@@ -4,7 +4,7 @@ use Rattle.std.proofs.lemmas.List.Elements.{Contains-get_or}
 use Rattle.std.specs.List.Sorted.{IsStrictlyIncreasing}
 use Rattle.waff_order.specs.Needs.{needs_of, IsNeed, AreLists}
 use Rattle.waff_list.specs.Trails.{trail, trails}
-use Rattle.waff_list.specs.Waiting.{Grows, AreDependents, times}
+use Rattle.waff_list.specs.Waiting.{dependents_of, Grows, AreDependents, times}
 use Rattle.waff_list.proofs.CountLemmas.{rising_fewer}
 use Rattle.waff_list.proofs.DependentLemmas.{dependents_none, dependents_more, needs_inside}
 use Rattle.waff_list.proofs.TrailLemmas.{linked_none}
@@ -53,8 +53,8 @@ loop-m-preserved c =
     let h = c.in_ok-add_all.ensures in
     let grows = subst (λ m. Grows old m new) next h.grows in
     let added = λ (i : ℕ) (from : 1 ≤ i).
-    subst (λ m. times m (needs_of new i) ≡ times m (needs_of old i) + times i (needs_of c.args.needs.now m)) next
-    (h.added i from ∙ ap (λ xs. times c.loop-m.m (needs_of old i) + times i xs) c.of.ensures.needs) in
+    subst (λ m. times m (dependents_of new i) ≡ times m (dependents_of old i) + times i (needs_of c.args.needs.now m)) next
+    (h.added i from ∙ ap (λ xs. times c.loop-m.m (dependents_of old i) + times i xs) c.of.ensures.needs) in
     let few = c.len.ensures.lists.few in
     let less = fewer c.args.needs.now c.of.result.now c.loop-m.m c.len.ensures.lists (omega arith) c.of.ensures.needs c.of.ensures.rising in
     record {

@@ -5,7 +5,7 @@ use Rattle.std.proofs.lemmas.List.Sorted.{IsNonDecreasingBy-from_sort, IsPermuta
 use Rattle.waff_model.specs.Numbers.{IsAmongFirst}
 use Rattle.waff_plan.specs.Work.{IsNumber}
 use Rattle.waff_list.specs.Progress.{work_of_messages}
-use Rattle.waff_list.specs.Waiting.{AreEach, messages_in}
+use Rattle.waff_list.specs.Waiting.{AreEach, released_in}
 use Rattle.waff_list.proofs.Each.{each_more, each_moved}
 use Rattle.waff_list.proofs.OrderingLemmas.{first_not_less}
 use Rattle.waff_list.proofs.TraceWork.{count_is, trace_is_small}
@@ -20,16 +20,16 @@ loop-m-preserved c =
     let pair : ℕ × ℕ = (c.release_of.result, m) in
     let items : c.push.new.self.items ≡ old ++ pair ∷ [] = c.in_ok-push.ensures.items in
     let release : c.release_of.result ≡ work.release m = c.release_of.ensures.release in
-    let split : messages_in (old ++ pair ∷ []) ≡ messages_in old ++ m ∷ [] = map-append (λ (r : ℕ × ℕ). r.1) old (pair ∷ []) in
-    let more : AreEach (IsAmongFirst (m + 1 - 1)) (m ∷ messages_in old) = each_more (IsAmongFirst (m - 1)) (messages_in old) h (IsAmongFirst (m + 1 - 1)) m
+    let split : released_in (old ++ pair ∷ []) ≡ released_in old ++ m ∷ [] = map-append (λ (r : ℕ × ℕ). r.1) old (pair ∷ []) in
+    let more : AreEach (IsAmongFirst (m + 1 - 1)) (m ∷ released_in old) = each_more (IsAmongFirst (m - 1)) (released_in old) h (IsAmongFirst (m + 1 - 1)) m
     (λ there. let known = h.only m there in let to : m ≤ m - 1 = known.to in omega arith)
     (record { from = omega arith; to = omega arith })
     (λ x known. let to : x ≤ m - 1 = known.to in record { from = known.from; to = omega arith })
     (λ x known other. let to : x ≤ m + 1 - 1 = known.to in record { from = known.from; to = omega arith }) in
     record {
-      messages = subst (λ xs. AreEach (IsAmongFirst (m + 1 - 1)) (messages_in xs)) (sym items) (subst (λ xs. AreEach (IsAmongFirst (m + 1 - 1)) xs) (sym split)
-          (each_moved (IsAmongFirst (m + 1 - 1)) (m ∷ messages_in old) more (messages_in old ++ m ∷ [])
-          (IsPermutation-sym (messages_in old ++ m ∷ []) (m ∷ messages_in old) (IsPermutation-to_front (messages_in old) m))));
+      messages = subst (λ xs. AreEach (IsAmongFirst (m + 1 - 1)) (released_in xs)) (sym items) (subst (λ xs. AreEach (IsAmongFirst (m + 1 - 1)) xs) (sym split)
+          (each_moved (IsAmongFirst (m + 1 - 1)) (m ∷ released_in old) more (released_in old ++ m ∷ [])
+          (IsPermutation-sym (released_in old ++ m ∷ []) (m ∷ released_in old) (IsPermutation-to_front (released_in old) m))));
       ticks = subst (λ xs. All (λ (r : ℕ × ℕ). work.release r.1 ≡ r.0) xs) (sym items)
           (All-push (λ (r : ℕ × ℕ). work.release r.1 ≡ r.0) old pair c.loop-m.invariant.ticks (sym release));
     }
@@ -43,9 +43,9 @@ returns-clause-releases c =
     let rises = IsNonDecreasingBy-from_sort (λ (r : ℕ × ℕ). r.0) new (λ k d from within. first_not_less (get_or new (k + 1) d) (get_or new k d) (c.sort_unstable.ensures.sorted k d from within)) in
     let end : c.loop-m.m - 1 ≡ work.count = omega (arith, count_is c.args.trace.now.messages) in
     record {
-      messages = each_moved (IsNumber work) (messages_in old)
-          (subst (λ n. AreEach (IsAmongFirst n) (messages_in old)) end c.loop-m.invariant.messages)
-          (messages_in new) (IsPermutation-map (λ (r : ℕ × ℕ). r.1) old new same);
+      messages = each_moved (IsNumber work) (released_in old)
+          (subst (λ n. AreEach (IsAmongFirst n) (released_in old)) end c.loop-m.invariant.messages)
+          (released_in new) (IsPermutation-map (λ (r : ℕ × ℕ). r.1) old new same);
       ticks = All-permutation (λ (r : ℕ × ℕ). work.release r.1 ≡ r.0) old new same c.loop-m.invariant.ticks;
       sorted = λ i j d before within. rises i j d (omega arith) within;
     }
