@@ -25,12 +25,8 @@ pub(crate) fn push_no_tree(words: &mut Words, document: &Value, error: TreeError
 
 /// The first affinity that has the error.
 fn first_refused(named: &Named<'_>, affinities: &[Value], error: TreeError) -> Option<usize> {
-    for number in 0..affinities.len() {
-        if has_error(named, number, &affinities[number], error) {
-            return Some(number);
-        }
-    }
-    None
+    let mut rows = affinities.iter().enumerate();
+    rows.position(|(number, row)| has_error(named, number, row, error))
 }
 
 /// Whether the affinity of a row has the error; those before it have none.

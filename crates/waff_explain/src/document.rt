@@ -55,14 +55,10 @@ pub(crate) fn push_no_model(words: &mut Words, document: &Value) {
 fn push_found(words: &mut Words, key: &str, found: Option<&Value>) {
     match found {
         None => say!(words; Found: "no {key}"),
-        Some(value) => push_value(words, key, value),
-    }
-}
-
-fn push_value(words: &mut Words, key: &str, value: &Value) {
-    match value.as_str() {
-        Some(told) => say!(words; Found: "{key}: the text `{}`", Shown(told.as_bytes())),
-        None => say!(words; Found: "{key}: a value of the type {}", value.type_str()),
+        Some(value) => match value.as_str() {
+            Some(told) => say!(words; Found: "{key}: the text `{}`", Shown(told.as_bytes())),
+            None => say!(words; Found: "{key}: a value of the type {}", value.type_str()),
+        },
     }
 }
 
@@ -84,7 +80,7 @@ impl Shape {
             Shape::Text | Shape::TextOrNone => value.is_str(),
             Shape::Integer => value.is_integer(),
             Shape::Texts => match value.as_array() {
-                Some(texts) => are_texts(texts.as_slice()),
+                Some(texts) => texts.as_slice().iter().all(|text| text.is_str()),
                 None => false,
             },
         }
@@ -99,16 +95,6 @@ impl Shape {
             Shape::Texts => "an array of texts",
         }
     }
-}
-
-/// Whether all values are texts.
-fn are_texts(values: &[Value]) -> bool {
-    for value in values {
-        if !value.is_str() {
-            return false;
-        }
-    }
-    true
 }
 
 /// Appends which table has no value of its type at the key, and what stands there.
@@ -149,12 +135,7 @@ fn push_misfit(words: &mut Words, document: &Value, kind: &str, key: &str, wante
 
 /// The first table whose value at the key is not of its type.
 fn first_misfit(tables: &[Value], key: &str, wanted: Shape) -> Option<usize> {
-    for number in 0..tables.len() {
-        if !wanted.fits(tables[number].get(key)) {
-            return Some(number);
-        }
-    }
-    None
+    tables.iter().position(|row| !wanted.fits(row.get(key)))
 }
 
 /// The value at a key of the table of this number.
@@ -167,12 +148,7 @@ fn value_of<'a>(tables: &'a [Value], number: usize, key: &str) -> Option<&'a Val
 
 /// The first value that is no table.
 fn first_no_table(values: &[Value]) -> Option<usize> {
-    for number in 0..values.len() {
-        if !values[number].is_table() {
-            return Some(number);
-        }
-    }
-    None
+    values.iter().position(|value| !value.is_table())
 }
 
 /// Appends that there is no array of tables of this kind.

@@ -133,15 +133,10 @@ impl<'a> Hearing<'a> {
     /// Appends where the row of a message stands, and what there is to tell of the message.
     pub(crate) fn push_message(&self, words: &mut Words, n: u32) {
         match format!(in words.alloc(); "{n}") {
-            Ok(number) => self.push_line(words, number.as_str()),
+            Ok(number) => push_line(words, self.bytes, number.as_str()),
             Err(_) => words.refuse(),
         }
         self.push_facts(words, n);
-    }
-
-    /// Appends where the first record behind the header stands that begins with this field.
-    pub(crate) fn push_line(&self, words: &mut Words, first: &str) {
-        push_line(words, self.bytes, first);
     }
 
     /// Appends what there is to tell of a message.

@@ -62,20 +62,16 @@ fn push_line(words: &mut Words, bytes: &[u8], start: usize) {
 
 /// Where the last line begins.
 fn last_line(bytes: &[u8]) -> usize {
-    for place in (0..bytes.len()).rev() {
-        if bytes[place] == b'\n' {
-            return place + 1;
-        }
+    match bytes.iter().rposition(|byte| *byte == b'\n') {
+        Some(place) => place.saturating_add(1),
+        None => 0,
     }
-    0
 }
 
 /// The bytes before the first line feed.
 fn first_line(bytes: &[u8]) -> &[u8] {
-    for place in 0..bytes.len() {
-        if bytes[place] == b'\n' {
-            return &bytes[..place];
-        }
+    match bytes.iter().position(|byte| *byte == b'\n') {
+        Some(place) => bytes.get(..place).unwrap_or(bytes),
+        None => bytes,
     }
-    bytes
 }

@@ -36,23 +36,14 @@ fn push_no_space(words: &mut Words, spaces: &[Value], maps: &[Value]) {
         say!(words; Wanted: "1 to {} spaces", MAX_SPACES);
         return;
     }
-    match first_nameless(spaces) {
+    let nameless = spaces.iter().position(|row| !is_name(text_at(row, "name")));
+    match nameless {
         Some(number) => {
             push_row(words, "space", spaces, number);
             push_no_name(words, "name", text_of(spaces, number, "name"));
         }
         None => push_no_space_of(words, spaces, maps),
     }
-}
-
-/// The first space without a name.
-fn first_nameless(spaces: &[Value]) -> Option<usize> {
-    for number in 0..spaces.len() {
-        if !is_name(text_at(&spaces[number], "name")) {
-            return Some(number);
-        }
-    }
-    None
 }
 
 /// Appends which map names no space.

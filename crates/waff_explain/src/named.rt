@@ -46,21 +46,14 @@ impl<'a> Named<'a> {
 
     /// The first of these tables whose text at the key none has.
     pub(crate) fn first_stranger(&self, tables: &[Value], key: &str) -> Option<usize> {
-        for number in 0..tables.len() {
-            if self.place_of(text_at(&tables[number], key)).is_none() {
-                return Some(number);
-            }
-        }
-        None
+        tables
+            .iter()
+            .position(|row| self.place_of(text_at(row, key)).is_none())
     }
 
     /// The first of the tables whose text at the key one before it has.
     pub(crate) fn first_twice(&self, tables: &[Value], key: &str) -> Option<usize> {
-        for number in 0..tables.len() {
-            if self.has_before(number, text_at(&tables[number], key)) {
-                return Some(number);
-            }
-        }
-        None
+        let mut rows = tables.iter().enumerate();
+        rows.position(|(number, row)| self.has_before(number, text_at(row, key)))
     }
 }

@@ -59,7 +59,10 @@ fn push_fault(words: &mut Words, messages: u32, walk: &Walk<'_>, fault: PlanText
             say!(words; Wanted: "the header message,affinity,start,finish,worker");
         }
         PlanTextError::Row { .. } => push_no_row(words, messages, walk),
-        PlanTextError::Missing { message } => push_missing(words, message, messages),
+        PlanTextError::Missing { message } => {
+            say!(words; Found: "no row of message {message}");
+            say!(words; Wanted: "a row of each message from 1 to {messages}");
+        }
         PlanTextError::TooLarge { .. } => push_too_large(words, walk),
         _ => {}
     }
@@ -85,17 +88,13 @@ fn summary_of(words: &mut Words, bytes: &[u8]) -> u64 {
     if is_found { at } else { at.saturating_add(1) }
 }
 
-fn push_missing(words: &mut Words, message: u32, messages: u32) {
-    say!(words; Found: "no row of message {message}");
-    say!(words; Wanted: "a row of each message from 1 to {messages}");
-}
-
 /// Appends what the record has that no row has.
 fn push_no_row(words: &mut Words, messages: u32, walk: &Walk<'_>) {
     let fields = walk.len();
     if fields != 5 {
         say!(words; Found: "fields: {fields}");
-        return say!(words; Wanted: "five fields: a message, an affinity, a start, a finish and a worker");
+        return say!(words; Wanted:
+            "five fields: a message, an affinity, a start, a finish and a worker");
     }
     if number_within(walk.field(0), 1, u64::from(messages)).is_none() {
         return push_no_number(words, "message", walk.field(0), 1, u64::from(messages));
@@ -157,8 +156,9 @@ fn push_no_line(words: &mut Words, version: Version, messages: u32, before: u64)
         0 => say!(words; Wanted: "`workers,-`, or `workers,K` with K from 1 to {}", MAX_WORKERS),
         1 => say!(words; Wanted: "`total,N`"),
         2 => say!(words; Wanted: "`length,N`"),
-        3 =>
-            say!(words; Wanted: "`chain,` and numbers from 1 to {messages} joined by one space, {messages} of them or fewer"),
+        3 => say!(words; Wanted:
+            "`chain,` and numbers from 1 to {messages} joined by one space, \
+             {messages} of them or fewer"),
         4 => say!(words; Wanted: "`release,N`"),
         5 => say!(words; Wanted: "`cost,N`"),
         6 => say!(words; Wanted: "`bound,N,N`"),

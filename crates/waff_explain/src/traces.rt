@@ -71,7 +71,10 @@ fn push_fault(
             say!(words; Found: "no header");
             say!(words; Wanted: "the header message,cost,ops or message,cost,release,ops");
         }
-        TraceError::Fields { .. } => push_fields(words, walk.len(), fields),
+        TraceError::Fields { .. } => {
+            say!(words; Found: "fields: {}", walk.len());
+            say!(words; Wanted: "fields: {fields}, as the header has");
+        }
         TraceError::Name { .. } => push_no_name(words, "name", walk.field(0)),
         TraceError::Cost { .. } => {
             push_no_number(words, "cost", walk.field(1), 1, u64::from(MAX_COST))
@@ -79,20 +82,12 @@ fn push_fault(
         TraceError::Release { .. } => {
             push_no_number(words, "release", walk.field(2), 0, u64::from(MAX_RELEASE))
         }
-        TraceError::TooManyMessages { at } => push_last(words, at.saturating_sub(1)),
+        TraceError::TooManyMessages { at } => {
+            say!(words; Found: "message {}", at.saturating_sub(1));
+            say!(words; Wanted: "{} messages or fewer", MAX_MESSAGES);
+        }
         _ => push_no_ops(words, layout, walk.field(fields.saturating_sub(1)), fault),
     }
-}
-
-fn push_fields(words: &mut Words, found: usize, fields: usize) {
-    say!(words; Found: "fields: {found}");
-    say!(words; Wanted: "fields: {fields}, as the header has");
-}
-
-/// Appends which message is one too many.
-fn push_last(words: &mut Words, message: u64) {
-    say!(words; Found: "message {message}");
-    say!(words; Wanted: "{} messages or fewer", MAX_MESSAGES);
 }
 
 /// Appends what is wrong with the operations of a message.

@@ -5,6 +5,7 @@ ghost use Rattle.waff_explain.specs.Lines.{AreHeadedLines};
 
 use crate::hearing::Hearing;
 use crate::sizes::push_sizes;
+use crate::walk::push_line;
 use crate::words::{Words, say};
 use std::alloc::{AllocError, Global};
 use waff_assign::Case;
@@ -59,7 +60,8 @@ fn push_overlap(words: &mut Words, hearing: &Hearing<'_>, first: u32, second: u3
     let (start, end) = (hearing.start(second), hearing.end(first));
     hearing.push_message(words, first);
     hearing.push_message(words, second);
-    say!(words; Found: "message {second} starts at {start}, before message {first} has finished at {end}");
+    say!(words; Found:
+        "message {second} starts at {start}, before message {first} has finished at {end}");
     hearing.push_exclusion(words, first, second);
     say!(words; Wanted: "message {second} starts at {end} or later");
 }
@@ -126,7 +128,8 @@ fn push_affinity(words: &mut Words, hearing: &Hearing<'_>, message: u32) {
     hearing.push_message(words, message);
     let (told, affinity) = (hearing.told_affinity(message), hearing.affinity(message));
     say!(words; Found: "the affinity {told}");
-    say!(words; Wanted: "the affinity {affinity}, the lowest one that covers the cells of message {message}");
+    say!(words; Wanted:
+        "the affinity {affinity}, the lowest one that covers the cells of message {message}");
 }
 
 fn push_finish(words: &mut Words, hearing: &Hearing<'_>, message: u32) {
@@ -145,7 +148,7 @@ fn push_early(words: &mut Words, hearing: &Hearing<'_>, message: u32) {
 
 /// Appends the lines of the summary that are wrong.
 fn push_totals(words: &mut Words, hearing: &Hearing<'_>) {
-    hearing.push_line(words, "workers");
+    push_line(words, hearing.bytes, "workers");
     match hearing.totals(words.alloc()) {
         Ok(made) => push_differences(words, hearing.given.summary().totals, made),
         Err(_) => words.refuse(),
@@ -172,13 +175,15 @@ fn push_difference(words: &mut Words, what: &str, told: u64, made: u64) {
 fn push_no_link(words: &mut Words, hearing: &Hearing<'_>, place: u64) {
     let before = hearing.link(place.saturating_sub(1));
     let message = hearing.link(place);
-    hearing.push_line(words, "chain");
+    push_line(words, hearing.bytes, "chain");
     hearing.push_facts(words, before);
     hearing.push_facts(words, message);
     if message <= before {
-        say!(words; Found: "message {message} at place {place} of the chain, which does not come after message {before}");
+        say!(words; Found: "message {message} at place {place} of the chain, \
+            which does not come after message {before}");
     } else {
-        say!(words; Found: "message {message} at place {place} of the chain, whose affinity and that of message {before} do not exclude each other");
+        say!(words; Found: "message {message} at place {place} of the chain, \
+            whose affinity and that of message {before} do not exclude each other");
     }
     say!(words; Wanted: "a message behind message {before}, their affinities exclude each other");
 }
@@ -194,10 +199,11 @@ fn push_no_fault(words: &mut Words, hearing: &Hearing<'_>, verdict: Verdict) {
         ..
     } = hearing.given.summary().totals;
     match verdict {
-        Verdict::Shortest =>
-            say!(words; Found: "no fault, and no plan that obeys is shorter: the chain's release {release} and cost {cost} make the length {length}"),
+        Verdict::Shortest => say!(words; Found: "no fault, and no plan that obeys is shorter: \
+            the chain's release {release} and cost {cost} make the length {length}"),
         Verdict::WithinBound =>
-            say!(words; Found: "no fault, and the plan is within the bound for its workers: {left} is at most {right}"),
+            say!(words; Found: "no fault, and the plan is within the bound for its workers: \
+            {left} is at most {right}"),
         _ => say!(words; Found: "no fault, and no more is known of how short the plan is"),
     }
 }

@@ -154,22 +154,18 @@ fn split_ends(bytes: &[u8]) -> (&[u8], &[u8]) {
 
 /// Where the first byte stands that is no line end, or the end of all.
 fn begin_of(bytes: &[u8]) -> usize {
-    for place in 0..bytes.len() {
-        if !is_end(bytes[place]) {
-            return place;
-        }
-    }
-    bytes.len()
+    bytes
+        .iter()
+        .position(|byte| !is_end(*byte))
+        .unwrap_or(bytes.len())
 }
 
 /// Where the last byte ends that is no line end, or 0.
 fn end_of(bytes: &[u8]) -> usize {
-    for place in (0..bytes.len()).rev() {
-        if !is_end(bytes[place]) {
-            return place + 1;
-        }
+    match bytes.iter().rposition(|byte| !is_end(*byte)) {
+        Some(place) => place.saturating_add(1),
+        None => 0,
     }
-    0
 }
 
 fn is_end(byte: u8) -> bool {
