@@ -25,7 +25,6 @@ use Rattle.waff_board.specs.declared.view.View.{View}
 use Rattle.waff_board.proofs.Known.{Known, known}
 use Rattle.waff_board.proofs.Nexts.{IsNext, holds_next}
 use Rattle.waff_board.proofs.Moves.{Moves, phase_here, draws_stay, ran_stays, seats_moved}
-use Rattle.waff_board.proofs.Owners.{AreApart, once_apart}
 use Rattle.waff_board.proofs.Phases.{IsStill, runs_after}
 use Rattle.waff_board.proofs.Handing.{IsHome, Taken, take_all}
 
@@ -48,9 +47,6 @@ listed_owner job is m a within there = (((is.owners m within).each a)).0 there
 pub owner_listed : (job : JobValue) → IsJob job → (m a : ℕ) → IsIn job m → IsOwner job.layout.spaces (ops_of job.ops m) a
     → Contains (owners_of job.owners m) a
 owner_listed job is m a within owner = (((is.owners m within).each a)).1 owner
-
-pub owners_apart : (job : JobValue) → IsJob job → (m : ℕ) → IsIn job m → AreApart (owners_of job.owners m)
-owners_apart job is m within = once_apart (owners_of job.owners m) (is.owners m within).once
 
 module _ (job : JobValue) (is : IsJob job) (seats : ℕ) (core : Core) (known : Known job seats core) (x m : ℕ)
     (holds : phase_of core.phases x ≡ Some (Drawn m)) (clear : IsClear job core m) where
@@ -143,7 +139,7 @@ module _ (job : JobValue) (is : IsJob job) (seats : ℕ) (core : Core) (known : 
         )
 
     pub taken : Taken items job.layout.spaces (serial job.ops (m - 1)) homes (owners_of job.owners m)
-    taken = take_all items job.layout.spaces (serial job.ops (m - 1)) homes (owners_of job.owners m) (owners_apart job is m in_job) parcel_home
+    taken = take_all items job.layout.spaces (serial job.ops (m - 1)) homes (owners_of job.owners m) (is.owners m in_job).once parcel_home
 
     slots_begun : (r : Taken items job.layout.spaces (serial job.ops (m - 1)) homes (owners_of job.owners m))
         → Slots items job (begun_by core x m) (homes_after homes [] r.act)

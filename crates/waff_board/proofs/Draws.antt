@@ -16,7 +16,8 @@ use Rattle.waff_board.specs.Rule.{Holds}
 use Rattle.waff_board.specs.Plays.{drawn_view}
 use Rattle.waff_board.specs.declared.view.Setup.{Setup}
 use Rattle.waff_board.specs.declared.view.View.{View}
-use Rattle.waff_board.proofs.Known.{known, runs_more}
+use Rattle.waff_board.proofs.Known.{known}
+use Rattle.waff_core.proofs.Reaching.{runs_more}
 use Rattle.waff_core.proofs.Phases.{phase_same, phase_other}
 use Rattle.waff_board.proofs.Phases.{IsStill, runs_before, runs_after}
 use Rattle.waff_board.proofs.Listed.{Adds, adds_one}
@@ -117,7 +118,7 @@ module _ {S : Type 0} (items : S → List ℕ) (setup : Setup) where
       let free : phase_of core.phases x ≡ Some Free = phase_here setup core s.views h.seats id v at Free is_free in
       let next : Core = drawn_by job core x in
       let reached : Runs job (opening setup.seats) (h.events ++ Draw x ∷ []) next
-      = runs_more job (opening setup.seats) core next h.events (Draw x) h.reached (free, refl) in
+      = runs_more job (opening setup.seats) h.events core (Draw x) next h.reached (free, refl) in
       let limit : core.drawn + 1 ≤ length job.ops + setup.seats = (known job h.told.job setup.seats (h.events ++ Draw x ∷ []) next reached).drawn in
       let short = h.told.short in
       let few = h.told.few in

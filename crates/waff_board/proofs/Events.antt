@@ -14,6 +14,7 @@ use Rattle.waff_core.specs.Machine.{Core, IsClear, Steps, opening, phase_of}
 use Rattle.waff_core.specs.declared.event.Event.{Event}
 use Rattle.waff_core.specs.declared.phase.Phase.TheVariants.{Free}
 use Rattle.waff_core.proofs.Following.{cells_follow}
+use Rattle.waff_core.proofs.Reaching.{reaches_more}
 use Rattle.waff_core.proofs.Sound.{seats_stay}
 use Rattle.waff_board.specs.Laws.{IsBetween, ShowsOneState, DrawIsOneEvent, BeginIsOneEvent, FinishIsOneEvent, LookIsNoEvent, MakingIsNoEvent}
 use Rattle.waff_board.specs.Plays.{looked_view, begun_view, made_view, next_view}
@@ -25,7 +26,7 @@ use Rattle.waff_board.specs.declared.view.View.{View}
 use Rattle.waff_board.proofs.Begins.{begin_next}
 use Rattle.waff_board.proofs.Draws.{draw_next}
 use Rattle.waff_board.proofs.Finishes.{finish_next}
-use Rattle.waff_board.proofs.Known.{known, runs_more}
+use Rattle.waff_board.proofs.Known.{known}
 use Rattle.waff_board.proofs.Listed.{at_within, at_end}
 use Rattle.waff_board.proofs.Nexts.{IsNext}
 
@@ -120,8 +121,8 @@ module _ (setup : Setup) where
       (views : List View) → IsNext setup before.core event next words views → t.words ≡ words → t.views ≡ views
       → Steps setup.job before.core event after.core
   leads s t before after event next words views is same_words same_views =
-      let reached : Reaches setup.job setup.seats next =
-      (before.events ++ event ∷ [], runs_more setup.job (opening setup.seats) before.core next before.events event before.reached is.steps) in
+      let reached : Reaches setup.job setup.seats next
+      = reaches_more setup.job setup.seats before.core event next (before.events, before.reached) is.steps in
       subst (λ core. Steps setup.job before.core event core)
       (sym (is_state t after next
       (shown setup next t.words t.views reached (subst (λ ws. Words setup.job next ws) (sym same_words) is.words)

@@ -30,7 +30,7 @@ use Rattle.waff_board.proofs.Moves.{Moves, phase_here, draws_stay, seats_moved}
 use Rattle.waff_board.proofs.Owners.{decide_in}
 use Rattle.waff_board.proofs.Phases.{IsStill, runs_before}
 use Rattle.waff_board.proofs.Handing.{IsHome, Given, give_all, given}
-use Rattle.waff_board.proofs.Begins.{parcel_same, listed_owner, owner_listed, owners_apart}
+use Rattle.waff_board.proofs.Begins.{parcel_same, listed_owner, owner_listed}
 
 free_still : IsStill Free
 free_still n same = cc
@@ -115,7 +115,7 @@ module _ (job : JobValue) (is : IsJob job) (seats : ℕ) (core : Core) (known : 
 
     put : (held : List (ℕ × S)) → Parcels items job.layout.spaces (serial job.ops m) (owners_of job.owners m) held
         → Given items job.layout.spaces (serial job.ops m) homes (owners_of job.owners m) held
-    put held parcels = given items job.layout.spaces (serial job.ops m) homes (owners_of job.owners m) held (owners_apart job is m in_job) parcels
+    put held parcels = given items job.layout.spaces (serial job.ops m) homes (owners_of job.owners m) held (is.owners m in_job).once parcels
         (λ a there. at_within homes a none (h.away a (away_here a there)))
 
     -- a cell of an affinity that owns none of the message's cells stays as it was

@@ -9,8 +9,9 @@ use Rattle.atomic_table.proofs.Lists.{set_here, set_else}
 use Rattle.waff_model.specs.Layout.{Space}
 use Rattle.waff_cells.specs.Meaning.{Cells}
 use Rattle.waff_cells.specs.Parcel.{IsParcel}
+use Rattle.waff_core.specs.Job.{StandOnce}
 use Rattle.waff_board.specs.Plays.{Parcels}
-use Rattle.waff_board.proofs.Owners.{AreApart, in_cases, in_rest, in_first, in_none}
+use Rattle.waff_board.proofs.Owners.{once_first, once_rest, in_cases, in_rest, in_first, in_none}
 use Rattle.waff_board.proofs.Listed.{at_within}
 
 -- the slot of a is at home with its parcel of the cells
@@ -53,7 +54,7 @@ module _ {S : Type 0} (items : S → List ℕ) (spaces : List Space) (cells : Ce
         count = length-set left o none ∙ r.count;
       }
 
-  pub take_all : (homes : List (Option S)) (owners : List ℕ) → AreApart owners
+  pub take_all : (homes : List (Option S)) (owners : List ℕ) → StandOnce owners
       → ((a : ℕ) → Contains owners a → IsHome items spaces cells homes a) → Taken items spaces cells homes owners
   take_all homes [] apart each = record {
     act = keeps;
@@ -66,8 +67,8 @@ module _ {S : Type 0} (items : S → List ℕ) (spaces : List Space) (cells : Ce
   }
   take_all homes (o ∷ rest) apart each =
       let mine = each o (in_first o rest) in
-      take_one homes o rest mine.0 apart.0 mine.1 mine.2
-      (take_all homes rest apart.1 (λ a there. each a (in_rest o rest a there)))
+      take_one homes o rest mine.0 (once_first o rest apart) mine.1 mine.2
+      (take_all homes rest (once_rest o rest apart) (λ a there. each a (in_rest o rest a there)))
 
 -- an act that gives back all that a seat holds
 abbrev pub give_all : {S : Type 0} → List (ℕ × S) → Act S
@@ -84,7 +85,7 @@ pub record Given {S : Type 0} (items : S → List ℕ) (spaces : List Space) (ce
   pub count : length (homes_after homes held (give_all held)) ≡ length homes
 
 module _ {S : Type 0} (items : S → List ℕ) (spaces : List Space) (cells : Cells) where
-  pub given : (homes : List (Option S)) (owners : List ℕ) (held : List (ℕ × S)) → AreApart owners
+  pub given : (homes : List (Option S)) (owners : List ℕ) (held : List (ℕ × S)) → StandOnce owners
       → Parcels items spaces cells owners held → ((a : ℕ) → Contains owners a → a < length homes)
       → Given items spaces cells homes owners held
   given homes [] [] apart parcels within = record {
@@ -101,7 +102,7 @@ module _ {S : Type 0} (items : S → List ℕ) (spaces : List Space) (cells : Ce
       let long : length put ≡ length homes = length-set homes slot.0 (some slot.1) in
       let is : slot.0 ≡ o = parcels.0.0 in
       let r : Given items spaces cells put rest held
-      = given put rest held apart.1 parcels.1 (λ a there. let few = within a (in_rest o rest a there) in omega (arith, few, long)) in
+      = given put rest held (once_rest o rest apart) parcels.1 (λ a there. let few = within a (in_rest o rest a there) in omega (arith, few, long)) in
       let few : o < length homes = within o (in_first o rest) in
       let here : get_elem? put slot.0 ≡ some (some slot.1) = set_here homes slot.0 (some slot.1) (omega (arith, few, is)) in
       record {
@@ -109,7 +110,7 @@ module _ {S : Type 0} (items : S → List ℕ) (spaces : List Space) (cells : Ce
         none = r.none;
         home = λ a there. ⊎_elim {C = IsHome items spaces cells (homes_after put held (give_all held)) a}
             (λ (same : o ≡ a). subst (λ b. IsHome items spaces cells (homes_after put held (give_all held)) b) same
-            (slot.1, r.same o apart.0 ∙ subst (λ b. get_elem? put b ≡ some (some slot.1)) is here, parcels.0.1))
+            (slot.1, r.same o (once_first o rest apart) ∙ subst (λ b. get_elem? put b ≡ some (some slot.1)) is here, parcels.0.1))
             (λ (after : Contains rest a). r.home a after)
             (in_cases o rest a there);
         same = λ a not_in. r.same a (λ in_it. not_in (in_rest o rest a in_it))

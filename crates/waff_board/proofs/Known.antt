@@ -1,5 +1,5 @@
 -- What is known of the states that the core machine reaches, as the steps of the board need it.
-use Rattle.std.proofs.Common.{◌||◌, ◌≡◌, ◌≢◌, ⊎_elim, ℕ, zero, suc, ◌+◌, ◌-◌, ◌<◌, ◌≤◌, true, false, true≢false, List, [], ◌∷◌, ◌++◌, Some, All, AllPairs, length, get_or, slice_get, eqb, refl, ap, sym, ◌∙◌, subst, arith}
+use Rattle.std.proofs.Common.{◌||◌, ◌≡◌, ◌≢◌, inl, inr, ⊎_elim, ℕ, zero, suc, ◌+◌, ◌-◌, ◌<◌, ◌≤◌, true, false, true≢false, List, [], ◌∷◌, ◌++◌, Some, All, AllPairs, length, get_or, slice_get, eqb, refl, ap, sym, ◌∙◌, subst, arith}
 use Rattle.std.specs.List.{list_any}
 use Rattle.std.proofs.lemmas.Bool.{cases_eq, cases_order, eqb-true, eq-eqb}
 use Rattle.std.proofs.Math.Bool.{or-true}
@@ -16,12 +16,14 @@ use Rattle.waff_cells.specs.Meaning.{meaning}
 use Rattle.waff_cells.specs.Serial.{SameParcel, ops_of, serial}
 use Rattle.waff_core.specs.Job.{JobValue, IsJob, IsIn, IsOrder, IsOwner, StandsAt}
 use Rattle.waff_core.specs.Machine.{Core, IsClear, Runs, Steps, opening, phase_of}
-use Rattle.waff_core.specs.Settled.{IsLast}
 use Rattle.waff_core.specs.declared.event.Event.{Event}
 use Rattle.waff_core.specs.declared.phase.Phase.TheVariants.{Running}
-use Rattle.waff_core.proofs.Phases.{Has, ended, ended_few}
-use Rattle.waff_core.proofs.Sound.{Sound, sound_reached, seats_stay, drawn_is_in}
-use Rattle.waff_core.proofs.Settling.{ordered_at_one, clear_settled, ended_settled, serial_same}
+use Rattle.waff_core.specs.Laws.{MayRun}
+use Rattle.waff_core.proofs.Arrival.{above_owner, all_done_is_serial, begins_settled, draws_are_few}
+use Rattle.waff_core.proofs.OrderLength.{order_is_short}
+use Rattle.waff_core.proofs.Phases.{Has}
+use Rattle.waff_core.proofs.Sound.{Sound, sound_reached, drawn_is_in}
+use Rattle.waff_core.proofs.Settling.{ordered_at_one}
 use Rattle.waff_core.proofs.Clearings.{needs_are_enough}
 
 -- what is known of a state
@@ -43,36 +45,8 @@ pub record Known (job : JobValue) (seats : ℕ) (core : Core) : Type 0 where
   pub finished : ((n : ℕ) → IsIn job n → core.done n ≡ true)
       → (a : ℕ) → SameParcel job.layout.spaces a core.cells (serial job.ops (length job.ops))
 
--- an order has no more places than there are messages
+-- an order has as many places as there are messages
 module _ (needs : List (List ℕ)) (order : List ℕ) (h : IsOrder needs order) where
-  two_places : (i j : ℕ) (d : ℕ) → i < j → j < length order → get_or order i d ≢ get_or order j d
-  two_places i j d before within same =
-      let first : StandsAt order i (get_or order i d) = slice_get-get_or order i d (omega (arith, before, within)) in
-      let second : StandsAt order j (get_or order j d) = slice_get-get_or order j d within in
-      let one : i ≡ j = h.once i j (get_or order i d) first (subst (λ n. StandsAt order j n) (sym same) second) in
-      omega (arith, one, before)
-
-  pairs : AllPairs (λ m n. m ≢ n) (0 ∷ order)
-  pairs zero zero d before within same = omega (arith, before)
-  pairs zero (suc j) d before within same =
-      let at = All-get_or (λ n. (1 ≤ n) × (n ≤ length needs)) order j d (omega (arith, within)) h.messages in
-      let from = at.0 in omega (arith, from, same)
-  pairs (suc i) zero d before within same = omega (arith, before)
-  pairs (suc i) (suc j) d before within same = two_places i j d (omega (arith, before)) (omega (arith, within)) same
-
-  below : All (λ n. n < length needs + 1) (0 ∷ order)
-  below zero d within = omega arith
-  below (suc k) d within =
-      let at = All-get_or (λ n. (1 ≤ n) × (n ≤ length needs)) order k d (omega (arith, within)) h.messages in
-      let to = at.1 in omega (arith, to)
-
-  pub order_is_short : length order ≤ length needs
-  order_is_short =
-      let few : length (0 ∷ order) ≤ length needs + 1
-      = length-le_from_distinct_below (0 ∷ order) (length needs + 1) (IsDistinct-from_AllPairs Decides-eqb (0 ∷ order) pairs)
-      (λ q found. All-contains (λ n. n < length needs + 1) (0 ∷ order) q below (Contains-from_any eqb-true q (0 ∷ order) found)) in
-      omega (arith, few)
-
   any_at : (xs : List ℕ) (k q : ℕ) → slice_get xs k ≡ Some q → list_any (eqb q) xs ≡ true
   any_at [] k q is = absurd (none-some q is)
   any_at (x ∷ xs) zero q is = subst (λ y. (eqb q y || list_any (eqb q) xs) ≡ true) (sym (same_Some x q is))
@@ -85,11 +59,10 @@ module _ (needs : List (List ℕ)) (order : List ℕ) (h : IsOrder needs order) 
       let at = h.each (suc q) (omega arith) (omega (arith, within)) in
       any_at (0 ∷ order) (suc at.0) (suc q) at.1
 
-  -- it has as many
   pub order_is_whole : length order ≡ length needs
   order_is_whole =
       let many : length needs + 1 ≤ length (0 ∷ order) = le-length_from_below (0 ∷ order) (length needs + 1) each_there in
-      let few = order_is_short in
+      let few = order_is_short needs order h in
       omega (arith, many, few)
 
 -- an affinity that has a parent is one of the tree
@@ -109,9 +82,7 @@ module _ (job : JobValue) (is : IsJob job) (core : Core) (sound : Sound job core
 
   above : (x m a : ℕ) → Has core.phases x m → IsOwner job.layout.spaces (ops_of job.ops m) a
       → AtOrAbove job.layout.tree (affinity_of job.assigned m) a
-  above x m a has owner =
-      subst (λ b. AtOrAbove job.layout.tree (affinity_of job.assigned m) b) owner.owned
-      ((is.lowest m (in_job x m has)).covers owner.cell owner.named)
+  above x m a has owner = above_owner job is m a (in_job x m has) owner
 
   -- an earlier message of one owner is done
   earlier_done : (x y m n a : ℕ) → Has core.phases x m → Has core.phases y n → m < n → IsClear job core n
@@ -130,42 +101,13 @@ module _ (job : JobValue) (is : IsJob job) (core : Core) (sound : Sound job core
       (λ (after : n < m). absurd (earlier_done y x n m a other has after clear_m two one)))
       (cases_order m n)
 
-  all_finished : ((n : ℕ) → IsIn job n → core.done n ≡ true)
-      → (a : ℕ) → SameParcel job.layout.spaces a core.cells (serial job.ops (length job.ops))
-  all_finished done a cell is_cell owned =
-      let last = (sound.cells a).0 in
-      let is_last : IsLast job core a last = (sound.cells a).1 in
-      let count : length job.assigned ≡ length job.ops = is.count in
-      let short : last ≤ length job.ops = ⊎_elim {C = last ≤ length job.ops}
-      (λ (none : last ≡ 0). omega arith)
-      (λ (some : last ≢ 0). let to = (is_last.is (omega arith)).to in omega (arith, to))
-      (cases_eq last 0) in
-      (sound.cells a).2 cell is_cell owned
-      ∙ sym (serial_same job is a last (length job.ops) short (omega arith)
-      (λ i later to is_above.
-      let bound : i ≤ last = is_last.greatest i (record {
-        from = omega (arith, later);
-        to = omega (arith, to, count);
-        done = done i (record { from = omega (arith, later); to = to });
-        above = is_above;
-      }) in
-      omega (arith, bound, later))
-      cell is_cell owned)
-
 -- each state that is reached is known
 pub known : (job : JobValue) → IsJob job → (seats : ℕ) (events : List Event) (core : Core) → Runs job (opening seats) events core
     → Known job seats core
 known job is seats events core runs =
     let sound : Sound job core = sound_reached job is seats events core runs in
     record {
-      drawn =
-          let draws = sound.draws in
-          let few : ended core.phases ≤ length core.phases = ended_few core.phases in
-          let count : length core.phases ≡ seats = seats_stay job seats events core runs in
-          let short : length job.order ≤ length job.needs = order_is_short job.needs job.order is.order in
-          let needs : length job.needs ≡ length job.assigned = is.needs.count in
-          let messages : length job.assigned ≡ length job.ops = is.count in
-          omega (arith, draws, few, count, short, needs, messages);
+      drawn = draws_are_few job is seats core (events, runs);
       alone = sound.alone;
       within = in_job job is core sound;
       undone = sound.undone;
@@ -178,25 +120,15 @@ known job is seats events core runs =
           (above job is core sound x m a has owner);
       enough = needs_are_enough job is core sound;
       apart = one_message job is core sound;
-      before = λ x m a has clear owner.
-          let from = (in_job job is core sound x m has).from in
-          clear_settled job is core m (in_job job is core sound x m has) clear (sound.undone x m has) sound.done_clear (m - 1) a
-          (omega (arith, from)) (above job is core sound x m a has owner) sound.cells;
-      after = λ x m a has clear owner.
-          ended_settled job is core m (in_job job is core sound x m has) clear (sound.undone x m has) sound.done_clear a
-          (above job is core sound x m a has owner) sound.cells;
-      finished = all_finished job is core sound;
+      before = λ x m a has clear owner. (begins_settled job is seats core (events, runs) x m (may_run x m has clear) a owner).0;
+      after = λ x m a has clear owner. (begins_settled job is seats core (events, runs) x m (may_run x m has clear) a owner).1;
+      finished = λ done a cell is_cell owned. all_done_is_serial job is seats core (events, runs) done cell is_cell;
     }
+  where
+    may_run : (x m : ℕ) → Has core.phases x m → IsClear job core m → MayRun job core x m
+    may_run x m (inl holds) clear = inl (holds, clear)
+    may_run x m (inr runs) clear = inr runs
 
 -- a message stands at each place of the order below the number of messages, and none past it
 pub order_count : (job : JobValue) → IsJob job → length job.order ≡ length job.ops
 order_count job is = order_is_whole job.needs job.order is.order ∙ is.needs.count ∙ is.count
-
-pub drawn_message : (job : JobValue) → IsJob job → (place m : ℕ) → slice_get job.order place ≡ Some m → IsIn job m
-drawn_message job is place m at = drawn_is_in job is (place + 1) m (place, omega arith, at)
-
--- one more event
-pub runs_more : (job : JobValue) (s t u : Core) (events : List Event) (event : Event) → Runs job s events t
-    → Steps job t event u → Runs job s (events ++ event ∷ []) u
-runs_more job s t u [] event runs step = (u, subst (λ r. Steps job r event u) (sym runs) step, refl)
-runs_more job s t u (first ∷ events) event (r, one, rest) step = (r, one, runs_more job r t u events event rest step)

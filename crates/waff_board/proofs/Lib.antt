@@ -1,3 +1,4 @@
+mod Belonging
 mod Phases
 mod Known
 mod Listed

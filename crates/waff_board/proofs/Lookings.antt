@@ -1,5 +1,5 @@
 -- Looks at several messages.
-use Rattle.std.proofs.Common.{◌≡◌, ⊎_elim, ℕ, ◌+◌, ◌<◌, ◌≤◌, Bool, true, false, not, cond, List, [], ◌∷◌, ◌++◌, Some, None, MatchBool, All, Contains, find, length, get_or, take, slice_index_or, refl, sym, ap, ◌∙◌, subst, arith}
+use Rattle.std.proofs.Common.{◌≡◌, ⊎_elim, ℕ, ◌+◌, ◌<◌, ◌≤◌, Bool, true, false, not, cond, List, [], ◌∷◌, ◌++◌, Option, Some, None, MatchBool, All, Contains, find, length, get_or, take, slice_index_or, refl, sym, ap, ◌∙◌, subst, arith}
 use Rattle.std.proofs.lemmas.List.{take_more, get_or_read}
 use Rattle.std.proofs.lemmas.List.Elements.{Contains-get_or, All-head, All-tail}
 use Rattle.std.proofs.lemmas.Option.{none-some}
@@ -99,3 +99,14 @@ module _ (job : JobValue) (is : IsJob job) (m : ℕ) (from : 1 ≤ m) (w : View)
   all_seen none i need =
       none_unseen w marks (length w.job.ops + 1) (needs_of job.needs m) marked needs_marked none i
       (subst (λ (j : JobValue). Contains (needs_of j.needs m) i) same need.listed)
+
+  -- what the looks of view v at the needs tell, by the needs and the marks as they were read
+  pub needs_told : (v : View) → v.job ≡ job → (messages : List ℕ) → messages ≡ needs_of job.needs m → (read : List Bool) → read ≡ marks
+      → LooksOver v messages w → (found : Option ℕ) → find (λ n. not (slice_index_or read n false)) messages ≡ found
+      → LooksOver v (needs_of v.job.needs m) w × (find (λ n. not (has_seen w n)) (needs_of v.job.needs m) ≡ found)
+  needs_told v of messages are read same_marks looks found at = (
+    subst (λ (j : JobValue). LooksOver v (needs_of j.needs m) w) (sym of) (subst (λ xs. LooksOver v xs w) are looks),
+    ap (λ (j : JobValue). find (λ n. not (has_seen w n)) (needs_of j.needs m)) of ∙ first_is
+        ∙ ap (λ xs. find (λ n. not (slice_index_or marks n false)) xs) (sym are)
+        ∙ ap (λ (bs : List Bool). find (λ n. not (slice_index_or bs n false)) messages) (sym same_marks) ∙ at,
+  )

@@ -3,12 +3,12 @@ use Rattle.std.proofs.Common.{ℕ, List, [], ◌∷◌, ◌++◌}
 use Rattle.atomic_table.specs.Table.{State}
 use Rattle.waff_core.specs.Machine.{Core, Steps, opening}
 use Rattle.waff_core.specs.declared.event.Event.{Event}
+use Rattle.waff_core.proofs.Reaching.{runs_more}
 use Rattle.waff_board.specs.Rule.{Holds}
 use Rattle.waff_board.specs.Seats.{Seats}
 use Rattle.waff_board.specs.Shows.{Words, Slots}
 use Rattle.waff_board.specs.declared.view.Setup.{Setup}
 use Rattle.waff_board.specs.declared.view.View.{View}
-use Rattle.waff_board.proofs.Known.{runs_more}
 
 -- the event leads from one state to the next one, which words and views show then
 pub record IsNext (setup : Setup) (core : Core) (event : Event) (next : Core) (ws : List ℕ) (vs : List View) : Type 0 where
@@ -23,7 +23,7 @@ holds_next items setup s t h event next is slots = record {
   told = h.told;
   events = h.events ++ event ∷ [];
   core = next;
-  reached = runs_more setup.job (opening setup.seats) h.core next h.events event h.reached is.steps;
+  reached = runs_more setup.job (opening setup.seats) h.events h.core event next h.reached is.steps;
   words = is.words;
   slots = slots;
   seats = is.seats;

@@ -27,14 +27,9 @@ decide_in (first ∷ rest) a = dite (ℕ_discrete first a)
     (λ (gone : ¬ Contains rest a). inr (λ within. ⊎_elim {C = ⊥} other gone (in_cases first rest a within)))
     (decide_in rest a))
 
--- no affinity stands twice
-abbrev pub AreApart : List ℕ → Type 0
-AreApart [] = Unit {0}
-AreApart (first ∷ rest) = ¬ Contains rest first × AreApart rest
+-- where none stands twice, the first does not stand in the rest, and none stands twice there
+pub once_first : (first : ℕ) (rest : List ℕ) → StandOnce (first ∷ rest) → ¬ Contains rest first
+once_first first rest once (k, within, is) = once 0 (suc k) first (omega arith) (omega (arith, within)) (sym is)
 
-pub once_apart : (list : List ℕ) → StandOnce list → AreApart list
-once_apart [] once = tt
-once_apart (first ∷ rest) once = (
-  (λ (k, within, is). once 0 (suc k) first (omega arith) (omega (arith, within)) (sym is)),
-  once_apart rest (λ i j d before within. once (suc i) (suc j) d (omega (arith, before)) (omega (arith, within))),
-)
+pub once_rest : (first : ℕ) (rest : List ℕ) → StandOnce (first ∷ rest) → StandOnce rest
+once_rest first rest once i j d before within = once (suc i) (suc j) d (omega (arith, before)) (omega (arith, within))

@@ -6,10 +6,11 @@ use Rattle.std.proofs.lemmas.List.Elements.{Contains-get_or}
 use Rattle.waff_model.specs.Layout.{Space}
 use Rattle.waff_cells.specs.Meaning.{Cells}
 use Rattle.waff_cells.specs.Parcel.{IsParcel, AreParcels}
+use Rattle.waff_core.specs.Job.{StandOnce}
 use Rattle.waff_board.specs.Hands.{rows_at}
 use Rattle.waff_board.specs.Plays.{Parcels}
 use Rattle.waff_board.proofs.Carrying.{drop_next}
-use Rattle.waff_board.proofs.Owners.{AreApart, in_cases, in_rest, in_first, in_none}
+use Rattle.waff_board.proofs.Owners.{once_first, once_rest, in_cases, in_rest, in_first, in_none}
 
 -- another row leaves these
 rows_other : (rows : List (List ℕ)) (affinities : List ℕ) (a : ℕ) (x : List ℕ) → ¬ Contains affinities a
@@ -21,21 +22,21 @@ rows_other rows (b ∷ rest) a x not_in =
     ∙ ap (λ later. get_or rows b [] ∷ later) (rows_other rows rest a x (λ there. not_in (in_rest b rest a there)))
 
 -- an affinity stands neither before its place nor after it
-not_before : (owners : List ℕ) (k : ℕ) → AreApart owners → k < length owners → ¬ Contains (take k owners) (get_or owners k 0)
+not_before : (owners : List ℕ) (k : ℕ) → StandOnce owners → k < length owners → ¬ Contains (take k owners) (get_or owners k 0)
 not_before [] k apart within there = absurd (omega (arith, within))
 not_before (first ∷ rest) zero apart within there = in_none first there
 not_before (first ∷ rest) (suc k) apart within there = ⊎_elim {C = ⊥}
     (λ (same : first ≡ get_or rest k 0).
-    apart.0 (subst (λ b. Contains rest b) (sym same) (Contains-get_or rest k 0 (omega (arith, within)))))
-    (λ (later : Contains (take k rest) (get_or rest k 0)). not_before rest k apart.1 (omega (arith, within)) later)
+    once_first first rest apart (subst (λ b. Contains rest b) (sym same) (Contains-get_or rest k 0 (omega (arith, within)))))
+    (λ (later : Contains (take k rest) (get_or rest k 0)). not_before rest k (once_rest first rest apart) (omega (arith, within)) later)
     (in_cases first (take k rest) (get_or rest k 0) there)
 
-not_after : (owners : List ℕ) (k : ℕ) → AreApart owners → k < length owners → ¬ Contains (drop (suc k) owners) (get_or owners k 0)
+not_after : (owners : List ℕ) (k : ℕ) → StandOnce owners → k < length owners → ¬ Contains (drop (suc k) owners) (get_or owners k 0)
 not_after [] k apart within there = absurd (omega (arith, within))
-not_after (first ∷ rest) zero apart within there = apart.0 there
-not_after (first ∷ rest) (suc k) apart within there = not_after rest k apart.1 (omega (arith, within)) there
+not_after (first ∷ rest) zero apart within there = once_first first rest apart there
+not_after (first ∷ rest) (suc k) apart within there = not_after rest k (once_rest first rest apart) (omega (arith, within)) there
 
-module _ (rows : List (List ℕ)) (owners : List ℕ) (apart : AreApart owners) (k : ℕ) (within : k < length owners) (x : List ℕ) where
+module _ (rows : List (List ℕ)) (owners : List ℕ) (apart : StandOnce owners) (k : ℕ) (within : k < length owners) (x : List ℕ) where
   -- one more row
   pub rows_taken : get_or owners k 0 < length rows
       → rows_at (set rows (get_or owners k 0) x) (take (k + 1) owners) ≡ rows_at rows (take k owners) ++ x ∷ []

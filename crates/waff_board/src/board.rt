@@ -2,7 +2,7 @@
 
 ghost use Rattle.std.specs.Prelude.{◌≡◌, ◌+◌, length};
 
-use crate::law::Law;
+use crate::rule::Rule;
 use crate::view::{Setup, View};
 use atomic_table::Table;
 use std::alloc::Global;
@@ -12,7 +12,7 @@ use std::marker::Model;
 /// each affinity a slot for its parcel.
 #[derive(Drop)]
 pub struct Board {
-    pub(crate) table: Table<Vec<u64>, View, Setup, Law, Global>,
+    pub(crate) table: Table<Vec<u64>, View, Setup, Rule, Global>,
     pub(crate) setup: Setup,
     pub(crate) heap: Global,
     ghost told: { table.shared.key ≡ setup },

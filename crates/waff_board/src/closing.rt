@@ -17,7 +17,7 @@ ghost use Rattle.waff_board.specs.declared.view.TheConstants.{DONE};
 
 use crate::board::Board;
 use crate::hand::Hand;
-use crate::law::Law;
+use crate::rule::Rule;
 use crate::tokens::EndSeat;
 use crate::view::{DONE, Setup, View};
 use atomic_table::{Closed, Seat, Table};
@@ -54,7 +54,7 @@ impl Board {
 
 /// The state that all messages of the job leave on the table.
 fn state_left(
-    table: Table<Vec<u64>, View, Setup, Law, Global>,
+    table: Table<Vec<u64>, View, Setup, Rule, Global>,
     chair: Seat<Vec<u64>, View>,
     job: &Job,
     heap: Global,
@@ -78,7 +78,7 @@ fn state_left(
 
 /// The parcels that all messages of the job leave on the table. The table's memory is freed.
 fn parcels_left(
-    table: Table<Vec<u64>, View, Setup, Law, Global>,
+    table: Table<Vec<u64>, View, Setup, Rule, Global>,
     chair: Seat<Vec<u64>, View>,
     job: &Job,
     heap: Global,

@@ -7,7 +7,7 @@
 //! `Cleared`, begin, `Grant`, run, `Finished`, finish, `Seat`; at the end `EndSeat`, until it has
 //! seen all messages done, and close. From draw to the end no call waits, by its bounds, and none
 //! takes memory, by tests.
-//! - `law`: the rule between any two steps; `plays`: the kinds of steps; `view`, `hand`: what a
+//! - `rule`: the rule between any two steps; `plays`: the kinds of steps; `view`, `hand`: what a
 //!   seat knows and holds.
 //! - `board`, `opening`: the board, and making it with its seats; `tokens`: what the calls take and
 //!   give.
@@ -25,11 +25,11 @@ mod closing;
 mod drawing;
 mod ending;
 mod hand;
-mod law;
 pub mod laws;
 mod opening;
 mod plays;
 mod reading;
+mod rule;
 mod running;
 mod tokens;
 mod view;

@@ -9,8 +9,8 @@ ghost use Rattle.waff_board.specs.Tokens.{IsOf};
 
 use crate::board::Board;
 use crate::hand::Hand;
-use crate::law::Law;
 use crate::plays::MakeSeat;
+use crate::rule::Rule;
 use crate::tokens::Seat;
 use crate::view::{Setup, View};
 use atomic_table::Table;
@@ -103,7 +103,7 @@ fn table_of(
     setup: &Setup,
 ) -> Result<
     (
-        Table<Vec<u64>, View, Setup, Law, Global>,
+        Table<Vec<u64>, View, Setup, Rule, Global>,
         atomic_table::Seat<Vec<u64>, View>,
     ),
     AllocError,

@@ -64,7 +64,7 @@ module _ (job : JobValue) (is : IsJob job) where
       other_way a b (inr above) = inl above
 
   -- the affinity of a message is at or above the owners of its footprint
-  above_owner : (m a : ℕ) → IsIn job m → IsOwner job.layout.spaces (ops_of job.ops m) a → AtOrAbove job.layout.tree (affinity_of job.assigned m) a
+  pub above_owner : (m a : ℕ) → IsIn job m → IsOwner job.layout.spaces (ops_of job.ops m) a → AtOrAbove job.layout.tree (affinity_of job.assigned m) a
   above_owner m a within owner =
       subst (λ o. AtOrAbove job.layout.tree (affinity_of job.assigned m) o) owner.owned ((is.lowest m within).covers owner.cell owner.named)
 

@@ -7,9 +7,9 @@ mod OneActor
 mod GoingOn
 pub mod Following
 mod Deciding
-mod Reaching
-mod OrderLength
-mod Arrival
+pub mod Reaching
+pub mod OrderLength
+pub mod Arrival
 mod StatusLaws
 pub mod Listing
 mod Ordering

@@ -7,9 +7,10 @@
 //! message that is done and could touch it.
 //! - `job`, `order`, `refusal`: jobs, and why they are refused; `owners`, over `operations`: the owners
 //!   of footprints.
-//! - `event`, `phase`, `status`, `homes`: the parts of a state; `core_state`: the whole.
-//! - `steps`, `run`: one event, and lists of them.
-//! - `laws`: what holds of the machine, whoever runs it.
+//! - `laws`: what holds of the machine, whoever runs it. The board is proved over these and over
+//!   `Steps`, the relation of states (`specs/Machine.antt`).
+//! - `steps`, `run`: one event, and lists of them; `core_state`, over `event`, `phase`, `status` and
+//!   `homes`: the state that they leave. No command runs these: tests do.
 //!
 //! At most 16 actors (`limits`).
 #![tactic(auto)]

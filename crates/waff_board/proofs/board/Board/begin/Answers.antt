@@ -11,6 +11,7 @@ use Rattle.waff_board.specs.declared.view.View.{View}
 use Rattle.waff_board.proofs.Begins.{begins_with}
 use Rattle.waff_board.proofs.Carrying.{names_of}
 use Rattle.waff_board.proofs.Rows.{parcels_at}
+use Rattle.waff_board.proofs.Belonging.{of_board, same_table, same_job}
 use Rattle.waff_board.proofs.board.Board.begin.Goals as goal
 
 pub store-requires : goal.store-requires
@@ -18,11 +19,10 @@ store-requires c =
     let table = c.self.inside.table.shared in
     let words = c.self.inside.words in
     let chair = c.cleared.inside.hand.chair in
-    let same : chair.me.0.job ≡ c.self.inside.setup.job
-    = ap (λ (t : Token). t.view.job) c.cleared.view_is ∙ c.requires.1 ∙ sym (ap (λ (b : BoardValue). b.job) c.self.view_is) in
+    let same : chair.me.0.job ≡ c.self.inside.setup.job = same_job c.cleared.view_is c.requires c.self.view_is in
     let ops : length chair.me.0.job.ops ≡ length c.self.inside.setup.job.ops = ap (λ (j : JobValue). length j.ops) same in
     let to = c.cleared.inside.to in (
-      ap (λ (t : Token). t.table) c.cleared.view_is ∙ c.requires.0 ∙ sym (ap (λ (b : BoardValue). b.table) c.self.view_is),
+      same_table c.cleared.view_is c.requires c.self.view_is,
       omega (arith, words, ops, to),
       begins_with (λ (parcel : Vec ℕ Global). parcel.items) table.key table.table_id.slots chair.id
           c.cleared.inside.message chair.me.0 chair.me.1 c.cleared.inside.empty c.cleared.inside.drawn c.cleared.inside.clear,
@@ -32,8 +32,7 @@ pub take_out-requires-clause-held : goal.take_out-requires-clause-held
 take_out-requires-clause-held c =
     let v = c.cleared.inside.hand.chair.me.0 in
     let m = c.cleared.inside.message in
-    let same : v.job ≡ c.self.inside.setup.job
-    = ap (λ (t : Token). t.view.job) c.cleared.view_is ∙ c.requires.1 ∙ sym (ap (λ (b : BoardValue). b.job) c.self.view_is) in
+    let same : v.job ≡ c.self.inside.setup.job = same_job c.cleared.view_is c.requires c.self.view_is in
     names_of (λ (parcel : Vec ℕ Global). parcel.items) v.job.layout.spaces (serial v.job.ops (m - 1)) (owners_of v.job.owners m)
     c.store.new.seat.me.1 c.store.ensures.2.1
     ∙ ap (λ (j : JobValue). owners_of j.owners m) same ∙ sym c.owners.ensures.owners
@@ -41,8 +40,7 @@ take_out-requires-clause-held c =
 pub take_out-requires-clause-rows : goal.take_out-requires-clause-rows
 take_out-requires-clause-rows c = λ k d within.
     let hand = c.cleared.inside.hand in
-    let same : hand.chair.me.0.job ≡ c.self.inside.setup.job
-    = ap (λ (t : Token). t.view.job) c.cleared.view_is ∙ c.requires.1 ∙ sym (ap (λ (b : BoardValue). b.job) c.self.view_is) in
+    let same : hand.chair.me.0.job ≡ c.self.inside.setup.job = same_job c.cleared.view_is c.requires c.self.view_is in
     let tree : length hand.chair.me.0.job.layout.tree ≡ length c.self.inside.setup.job.layout.tree = ap (λ (j : JobValue). length j.layout.tree) same in
     let known = c.owners.ensures.known k d within in
     let rows = hand.rows in
@@ -53,8 +51,7 @@ pub take_out-requires-clause-once : goal.take_out-requires-clause-once
 take_out-requires-clause-once c =
     let J = c.self.inside.setup.job in
     let m = c.cleared.inside.message in
-    let same : c.cleared.inside.hand.chair.me.0.job ≡ J
-    = ap (λ (t : Token). t.view.job) c.cleared.view_is ∙ c.requires.1 ∙ sym (ap (λ (b : BoardValue). b.job) c.self.view_is) in
+    let same : c.cleared.inside.hand.chair.me.0.job ≡ J = same_job c.cleared.view_is c.requires c.self.view_is in
     subst (λ xs. StandOnce xs) (sym c.owners.ensures.owners)
     (c.self.invariant.job.owners m (record {
       from = c.cleared.inside.from;
@@ -68,8 +65,7 @@ invariant_of-result c =
     let m = c.cleared.inside.message in
     let view : W ≡ begun_view v m = c.take_out.ensures.view ∙ c.store.ensures.2.0 in
     let job : W.job ≡ v.job = ap (λ (u : View). u.job) view in
-    let same : v.job ≡ c.self.inside.setup.job
-    = ap (λ (t : Token). t.view.job) c.cleared.view_is ∙ c.requires.1 ∙ sym (ap (λ (b : BoardValue). b.job) c.self.view_is) in
+    let same : v.job ≡ c.self.inside.setup.job = same_job c.cleared.view_is c.requires c.self.view_is in
     let rows : AreParcels v.job.layout.spaces (owners_of v.job.owners m) (serial v.job.ops (m - 1)) (rows_of c.take_out.new.parcels.items)
     = parcels_at (λ (parcel : Vec ℕ Global). parcel.items) v.job.layout.spaces (serial v.job.ops (m - 1)) (owners_of v.job.owners m)
     c.store.new.seat.me.1 (rows_of c.take_out.new.parcels.items) c.store.ensures.2.1
@@ -107,8 +103,7 @@ returns-clause-parcels c =
     let v = c.cleared.inside.hand.chair.me.0 in
     let m = c.cleared.inside.message in
     let view : c.take_out.new.chair.me.0 ≡ begun_view v m = c.take_out.ensures.view ∙ c.store.ensures.2.0 in
-    let same : v.job ≡ c.self.inside.setup.job
-    = ap (λ (t : Token). t.view.job) c.cleared.view_is ∙ c.requires.1 ∙ sym (ap (λ (b : BoardValue). b.job) c.self.view_is) in
+    let same : v.job ≡ c.self.inside.setup.job = same_job c.cleared.view_is c.requires c.self.view_is in
     let rows : AreParcels v.job.layout.spaces (owners_of v.job.owners m) (serial v.job.ops (m - 1)) (rows_of c.take_out.new.parcels.items)
     = parcels_at (λ (parcel : Vec ℕ Global). parcel.items) v.job.layout.spaces (serial v.job.ops (m - 1)) (owners_of v.job.owners m)
     c.store.new.seat.me.1 (rows_of c.take_out.new.parcels.items) c.store.ensures.2.1
@@ -119,8 +114,8 @@ returns-clause-parcels c =
 
 pub returns-clause-of : goal.returns-clause-of
 returns-clause-of c = (
-  c.take_out.ensures.table ∙ c.store.ensures.0 ∙ ap (λ (t : Token). t.table) c.cleared.view_is ∙ c.requires.0,
-  ap (λ (u : View). u.job) (c.take_out.ensures.view ∙ c.store.ensures.2.0) ∙ ap (λ (t : Token). t.view.job) c.cleared.view_is ∙ c.requires.1,
+  c.take_out.ensures.table ∙ c.store.ensures.0 ∙ (of_board c.args.self.now c.cleared.view_is c.requires).0,
+  ap (λ (u : View). u.job) (c.take_out.ensures.view ∙ c.store.ensures.2.0) ∙ (of_board c.args.self.now c.cleared.view_is c.requires).1,
 )
 
 pub invariant_of-hand : goal.invariant_of-hand

@@ -5,7 +5,8 @@ use Rattle.waff_board.specs.Calls.{LooksOver}
 use Rattle.waff_board.specs.Seats.{has_seen}
 use Rattle.waff_board.specs.Tokens.{BoardValue, Token}
 use Rattle.waff_board.specs.declared.view.View.{View}
-use Rattle.waff_board.proofs.Lookings.{looks_alone, needs_known, needs_marked, first_is, all_seen}
+use Rattle.waff_board.proofs.Lookings.{looks_alone, needs_known, needs_marked, all_seen, needs_told}
+use Rattle.waff_board.proofs.Belonging.{same_job}
 use Rattle.waff_board.proofs.board.Board.clear.Goals as goal
 
 pub look_over-hand-requires-clause-known : goal.look_over-hand-requires-clause-known
@@ -68,43 +69,23 @@ invariant_of-result-in-None c =
 pub returns-in-Some : goal.returns-in-Some
 returns-in-Some c =
     let J = c.self.inside.setup.job in
-    let m = c.drawn.inside.message in
-    let V = c.drawn.inside.hand.chair.me.0 in
     let W = c.look_over-hand.result.chair.me.0 in
-    let seen = c.look_over-hand.result.seen.items in
-    let job : W.job ≡ J = c.look_over-hand.ensures.of.1 ∙ sym (ap (λ (b : BoardValue). b.job) c.self.view_is) in
-    let was : J ≡ V.job = ap (λ (b : BoardValue). b.job) c.self.view_is ∙ sym c.requires.1 ∙ sym (ap (λ (t : Token). t.view.job) c.drawn.view_is) in
-    let found : find (λ n. not (slice_index_or seen n false)) (needs_of J.needs m) ≡ Some c.in-Some.on
-    = subst (λ xs. find (λ n. not (slice_index_or seen n false)) xs ≡ Some c.in-Some.on) c.needs-needs.ensures.needs
-    (subst (λ (marks : List Bool). find (λ n. not (slice_index_or marks n false)) c.needs-needs.result.now ≡ Some c.in-Some.on) c.as_slice.ensures.value (sym c.in-Some.ensures)) in (
-      ap (λ (t : Token). t.message) c.drawn.view_is,
-      subst (λ (t : Token). LooksOver t.view (needs_of t.view.job.needs t.message) W) c.drawn.view_is
-          (subst (λ (j : JobValue). LooksOver V (needs_of j.needs m) W) was
-          (subst (λ xs. LooksOver V xs W) c.needs-needs.ensures.needs c.look_over-hand.ensures.looks)),
-      subst (λ (t : Token). find (λ n. not (has_seen W n)) (needs_of t.view.job.needs t.message) ≡ Some c.in-Some.on) c.drawn.view_is
-          (subst (λ (j : JobValue). find (λ n. not (has_seen W n)) (needs_of j.needs m) ≡ Some c.in-Some.on) was
-          (first_is J c.self.invariant.job m c.drawn.inside.from W job seen c.look_over-hand.result.marks ∙ found)),
-      c.look_over-hand.ensures.of,
-    )
+    let told = needs_told J c.self.invariant.job c.drawn.inside.message c.drawn.inside.from W
+    (c.look_over-hand.ensures.of.1 ∙ sym (ap (λ (b : BoardValue). b.job) c.self.view_is)) c.look_over-hand.result.seen.items
+    c.look_over-hand.result.marks c.drawn.inside.hand.chair.me.0 (same_job c.drawn.view_is c.requires c.self.view_is) c.needs-needs.result.now
+    c.needs-needs.ensures.needs _ c.as_slice.ensures.value c.look_over-hand.ensures.looks (Some c.in-Some.on) (sym c.in-Some.ensures) in
+    let both = subst (λ (t : Token). LooksOver t.view (needs_of t.view.job.needs t.message) W
+    × (find (λ n. not (has_seen W n)) (needs_of t.view.job.needs t.message) ≡ Some c.in-Some.on)) c.drawn.view_is told in
+    (ap (λ (t : Token). t.message) c.drawn.view_is, both.0, both.1, c.look_over-hand.ensures.of)
 
 pub returns-in-None : goal.returns-in-None
 returns-in-None c =
     let J = c.self.inside.setup.job in
-    let m = c.drawn.inside.message in
-    let V = c.drawn.inside.hand.chair.me.0 in
     let W = c.look_over-hand.result.chair.me.0 in
-    let seen = c.look_over-hand.result.seen.items in
-    let job : W.job ≡ J = c.look_over-hand.ensures.of.1 ∙ sym (ap (λ (b : BoardValue). b.job) c.self.view_is) in
-    let was : J ≡ V.job = ap (λ (b : BoardValue). b.job) c.self.view_is ∙ sym c.requires.1 ∙ sym (ap (λ (t : Token). t.view.job) c.drawn.view_is) in
-    let none : find (λ n. not (slice_index_or seen n false)) (needs_of J.needs m) ≡ None
-    = subst (λ xs. find (λ n. not (slice_index_or seen n false)) xs ≡ None) c.needs-needs.ensures.needs
-    (subst (λ (marks : List Bool). find (λ n. not (slice_index_or marks n false)) c.needs-needs.result.now ≡ None) c.as_slice.ensures.value (sym c.in-None.ensures)) in (
-      ap (λ (t : Token). t.message) c.drawn.view_is,
-      subst (λ (t : Token). LooksOver t.view (needs_of t.view.job.needs t.message) W) c.drawn.view_is
-          (subst (λ (j : JobValue). LooksOver V (needs_of j.needs m) W) was
-          (subst (λ xs. LooksOver V xs W) c.needs-needs.ensures.needs c.look_over-hand.ensures.looks)),
-      subst (λ (t : Token). find (λ n. not (has_seen W n)) (needs_of t.view.job.needs t.message) ≡ None) c.drawn.view_is
-          (subst (λ (j : JobValue). find (λ n. not (has_seen W n)) (needs_of j.needs m) ≡ None) was
-          (first_is J c.self.invariant.job m c.drawn.inside.from W job seen c.look_over-hand.result.marks ∙ none)),
-      c.look_over-hand.ensures.of,
-    )
+    let told = needs_told J c.self.invariant.job c.drawn.inside.message c.drawn.inside.from W
+    (c.look_over-hand.ensures.of.1 ∙ sym (ap (λ (b : BoardValue). b.job) c.self.view_is)) c.look_over-hand.result.seen.items
+    c.look_over-hand.result.marks c.drawn.inside.hand.chair.me.0 (same_job c.drawn.view_is c.requires c.self.view_is) c.needs-needs.result.now
+    c.needs-needs.ensures.needs _ c.as_slice.ensures.value c.look_over-hand.ensures.looks (None) (sym c.in-None.ensures) in
+    let both = subst (λ (t : Token). LooksOver t.view (needs_of t.view.job.needs t.message) W
+    × (find (λ n. not (has_seen W n)) (needs_of t.view.job.needs t.message) ≡ None)) c.drawn.view_is told in
+    (ap (λ (t : Token). t.message) c.drawn.view_is, both.0, both.1, c.look_over-hand.ensures.of)

@@ -4,6 +4,7 @@ use Rattle.waff_board.specs.Plays.{drawn_view}
 use Rattle.waff_board.specs.Tokens.{BoardValue, Token}
 use Rattle.waff_board.proofs.Draws.{draws}
 use Rattle.waff_board.proofs.Numbers.{first_same, second_same, drawn_job, drawn_phase, ended_phase}
+use Rattle.waff_board.proofs.Belonging.{of_board, same_table}
 use Rattle.waff_board.proofs.board.Board.draw.Goals as goal
 
 pub fetch_add-number-requires : goal.fetch_add-number-requires
@@ -11,7 +12,7 @@ fetch_add-number-requires c =
     let table = c.self.inside.table.shared in
     let words = c.self.inside.words in
     let chair = c.seat.inside.hand.chair in (
-      ap (λ (t : Token). t.table) c.seat.view_is ∙ c.requires.0 ∙ sym (ap (λ (b : BoardValue). b.table) c.self.view_is),
+      same_table c.seat.view_is c.requires c.self.view_is,
       omega (arith, words),
       draws (λ parcel. parcel.items) table.key table.table_id.slots chair.id chair.me.0 chair.me.1 c.seat.inside.free,
     )
@@ -58,7 +59,7 @@ returns-in-Some c =
     let W = c.fetch_add-number.new.seat.me.0 in
     let p = c.fetch_add-number.result in
     let view : W ≡ drawn_view V p = first_same _ _ c.fetch_add-number.ensures.2 ∙ ap (λ (t : Token). drawn_view t.view p) c.seat.view_is in
-    let table = ap (λ (t : Token). t.table) c.seat.view_is ∙ c.requires.0 in (
+    let table = (of_board c.args.self.now c.seat.view_is c.requires).0 in (
       p,
       subst (λ (j : JobValue). p < length j.ops) (sym c.requires.1) c.in-Some.ensures.some.2,
       subst (λ (j : JobValue). slice_get j.order p ≡ Some c.in-Some.message) (sym c.requires.1) c.in-Some.ensures.drawn,
@@ -72,7 +73,7 @@ returns-in-None c =
     let W = c.fetch_add-number.new.seat.me.0 in
     let p = c.fetch_add-number.result in
     let view : W ≡ drawn_view V p = first_same _ _ c.fetch_add-number.ensures.2 ∙ ap (λ (t : Token). drawn_view t.view p) c.seat.view_is in
-    let table = ap (λ (t : Token). t.table) c.seat.view_is ∙ c.requires.0 in (
+    let table = (of_board c.args.self.now c.seat.view_is c.requires).0 in (
       p,
       subst (λ (j : JobValue). length j.ops ≤ p) (sym c.requires.1) c.in-None.ensures.none,
       view,

@@ -4,13 +4,14 @@ use Rattle.waff_board.specs.Endings.{LookedUpTo}
 use Rattle.waff_board.specs.Tokens.{BoardValue, Token}
 use Rattle.waff_board.specs.declared.view.View.{View}
 use Rattle.waff_board.proofs.Sweeps.{over_start, over_more, over_alone}
+use Rattle.waff_board.proofs.Belonging.{of_board}
 use Rattle.waff_board.proofs.board.Board.end_looks.Goals as goal
 
 pub loop-n-init : goal.loop-n-init
 loop-n-init c = (
   subst (λ (t : Token). LookedUpTo 0 t.view c.seat.inside.hand.chair.me.0) c.seat.view_is (over_start c.seat.inside.hand.chair.me.0),
   c.seat.inside.empty,
-  (ap (λ (t : Token). t.table) c.seat.view_is ∙ c.requires.0, ap (λ (t : Token). t.view.job) c.seat.view_is ∙ c.requires.1),
+  of_board c.args.self.now c.seat.view_is c.requires,
 )
 
 pub loop-n-preserved : goal.loop-n-preserved

@@ -12,6 +12,7 @@ use Rattle.waff_board.specs.declared.view.View.{View}
 use Rattle.waff_board.proofs.Finishes.{finishes_at}
 use Rattle.waff_board.proofs.Rows.{parcels_from}
 use Rattle.waff_board.proofs.Grants.{marks_finished}
+use Rattle.waff_board.proofs.Belonging.{same_table, same_job}
 use Rattle.waff_board.proofs.board.Board.finish.Goals as goal
 
 pub store-requires : goal.store-requires
@@ -23,8 +24,7 @@ store-requires c =
     let W = c.put_in.new.chair.me.0 in
     let m = finished.message in
     let view : W ≡ v = c.put_in.ensures.view in
-    let job : v.job ≡ c.self.inside.setup.job
-    = ap (λ (t : Token). t.view.job) c.finished.view_is ∙ c.requires.1 ∙ sym (ap (λ (b : BoardValue). b.job) c.self.view_is) in
+    let job : v.job ≡ c.self.inside.setup.job = same_job c.finished.view_is c.requires c.self.view_is in
     let ops : length v.job.ops ≡ length c.self.inside.setup.job.ops = ap (λ (j : JobValue). length j.ops) job in
     let to = finished.to in
     let same : c.owners.result.now ≡ owners_of W.job.owners m
@@ -32,7 +32,7 @@ store-requires c =
     let rows = rows_of finished.hand.parcels.items in
     let values : map (λ (slot : ℕ × Vec ℕ Global). slot.1.items) c.put_in.new.chair.me.1 ≡ rows_at rows (owners_of W.job.owners m)
     = c.put_in.ensures.values ∙ ap (λ names. rows_at rows names) same in (
-      c.put_in.ensures.table ∙ ap (λ (t : Token). t.table) c.finished.view_is ∙ c.requires.0 ∙ sym (ap (λ (b : BoardValue). b.table) c.self.view_is),
+      c.put_in.ensures.table ∙ same_table c.finished.view_is c.requires c.self.view_is,
       omega (arith, words, ops, to),
       finishes_at (λ (parcel : Vec ℕ Global). parcel.items) table.key table.table_id.slots
           c.put_in.new.chair.id m W c.put_in.new.chair.me.1 (ap (λ (u : View). u.phase) view ∙ finished.running)
@@ -71,8 +71,7 @@ pub put_in-requires-clause-held : goal.put_in-requires-clause-held
 put_in-requires-clause-held c =
     let v = c.finished.inside.hand.chair.me.0 in
     let m = c.finished.inside.message in
-    let job : v.job ≡ c.self.inside.setup.job
-    = ap (λ (t : Token). t.view.job) c.finished.view_is ∙ c.requires.1 ∙ sym (ap (λ (b : BoardValue). b.job) c.self.view_is) in
+    let job : v.job ≡ c.self.inside.setup.job = same_job c.finished.view_is c.requires c.self.view_is in
     c.finished.inside.taken ∙ ap (λ (j : JobValue). owners_of j.owners m) job ∙ sym c.owners.ensures.owners
 
 pub returns-clause-view : goal.returns-clause-view
@@ -84,8 +83,7 @@ returns-clause-view c =
 pub put_in-requires-clause-rows : goal.put_in-requires-clause-rows
 put_in-requires-clause-rows c = λ k d within.
     let hand = c.finished.inside.hand in
-    let same : hand.chair.me.0.job ≡ c.self.inside.setup.job
-    = ap (λ (t : Token). t.view.job) c.finished.view_is ∙ c.requires.1 ∙ sym (ap (λ (b : BoardValue). b.job) c.self.view_is) in
+    let same : hand.chair.me.0.job ≡ c.self.inside.setup.job = same_job c.finished.view_is c.requires c.self.view_is in
     let tree : length hand.chair.me.0.job.layout.tree ≡ length c.self.inside.setup.job.layout.tree = ap (λ (j : JobValue). length j.layout.tree) same in
     let known = c.owners.ensures.known k d within in
     let rows = hand.rows in
@@ -96,8 +94,7 @@ pub put_in-requires-clause-once : goal.put_in-requires-clause-once
 put_in-requires-clause-once c =
     let J = c.self.inside.setup.job in
     let m = c.finished.inside.message in
-    let same : c.finished.inside.hand.chair.me.0.job ≡ J
-    = ap (λ (t : Token). t.view.job) c.finished.view_is ∙ c.requires.1 ∙ sym (ap (λ (b : BoardValue). b.job) c.self.view_is) in
+    let same : c.finished.inside.hand.chair.me.0.job ≡ J = same_job c.finished.view_is c.requires c.self.view_is in
     subst (λ xs. StandOnce xs) (sym c.owners.ensures.owners)
     (c.self.invariant.job.owners m (record {
       from = c.finished.inside.from;

@@ -6,7 +6,6 @@ use Rattle.waff_board.specs.Hands.{rows_at}
 use Rattle.waff_board.specs.Tokens.{BoardValue}
 use Rattle.waff_board.specs.declared.view.View.{View}
 use Rattle.waff_board.proofs.Carrying.{puts_next, putting_next, row_there, put_all}
-use Rattle.waff_board.proofs.Owners.{once_apart}
 use Rattle.waff_board.proofs.Rows.{row_left, rows_left}
 use Rattle.waff_board.proofs.board.Board.put_in.Goals as goal
 
@@ -34,7 +33,7 @@ loop-a-preserved c =
     let places = c.loop-a.parcels.items in
     let rows = rows_of places in
     let within : k < length owners = c.loop-a-test.true in
-    let apart = once_apart owners c.requires.once in
+    let apart = c.requires.once in
     let after : c.turn.new.self.me ≡ (before.0, turned ((a, c.replace-parcel.result) ∷ rest before.1))
     = c.turn.ensures.2 ∙ ap (λ (m : Me (Vec ℕ Global) View). (m.0, turned m.1)) c.exchange.ensures.3 in
     let small : a < length places = (let few = c.requires.rows k 0 within in let same = inv.2 in omega (arith, few, same)) in

@@ -6,7 +6,6 @@ use Rattle.waff_board.specs.Hands.{rows_at}
 use Rattle.waff_board.specs.Tokens.{BoardValue}
 use Rattle.waff_board.specs.declared.view.View.{View}
 use Rattle.waff_board.proofs.Carrying.{IsTaking, taking_start, takes_next, taking_next, taken_all}
-use Rattle.waff_board.proofs.Owners.{once_apart}
 use Rattle.waff_board.proofs.Rows.{rows_taken}
 use Rattle.waff_board.proofs.board.Board.take_out.Goals as goal
 
@@ -43,7 +42,7 @@ loop-a-preserved c =
     let small : a < length places = (let few = c.requires.rows k 0 c.loop-a-test.true in let same = inv.2 in omega (arith, few, same)) in
     let rows : rows_at (rows_of (set places a parcel)) (take (k + 1) owners) ≡ rows_at (rows_of places) (take k owners) ++ f parcel ∷ []
     = ap (λ xs. rows_at xs (take (k + 1) owners)) (map-set f places a parcel)
-    ∙ rows_taken (rows_of places) owners (once_apart owners c.requires.once) k c.loop-a-test.true (f parcel)
+    ∙ rows_taken (rows_of places) owners c.requires.once k c.loop-a-test.true (f parcel)
     (let long = length-map places f in omega (arith, small, long)) in (
       c.turn.ensures.0 ∙ c.exchange.ensures.0 ∙ inv.0,
       subst (λ moved. IsTaking f was.0 owners values (k + 1) c.turn.new.self.me moved) (sym rows)

@@ -8,9 +8,9 @@ use atomic_table::TableRule;
 
 /// Between any two atomic steps words, slots and views show a state that some list of events
 /// reaches.
-pub struct Law;
+pub struct Rule;
 
-impl TableRule<Vec<u64>, View, Setup> for Law {
+impl TableRule<Vec<u64>, View, Setup> for Rule {
     ghost holds = { Holds (λ parcel. parcel.items) };
 
     ghost first = { first };
