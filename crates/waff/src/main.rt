@@ -1,39 +1,35 @@
-//! The program `waff`: what it is asked, what it prints and its exit status.
+//! The program `waff`: it reads what it is asked, and answers.
 //!
-//! - `answers`: what is printed.
-//! - `failure`: why it ends with another status than 0, and what it says then.
-//!
-//! The words and the files are read by the library `waff_cli`, the texts are those of `waff_tool`.
+//! The words and the files are read by the library `waff_cli`. What is answered, and how the program
+//! ends then, `waff_answer` says.
 #![tactic(auto)]
 
-mod answers;
-mod failure;
-
-use answers::answer;
-use failure::Failure;
 use std::io;
-use std::io::IsTerminal;
+use std::io::{IsTerminal, Write};
 use std::process::ExitCode;
 use std::rt::Runtime;
 use std::sync::Wait;
 use std::thread::Threads;
+use waff_answer::answer;
 use waff_cli::read_question;
 
 fn main(rt: HostRuntime) -> ExitCode {
-    let status = match run(&rt, rt.stdin().is_terminal()) {
-        Ok(status) => status,
-        Err(failure) => failure.report(&rt, rt.alloc()),
-    };
-    ExitCode::from(status)
+    let at_terminal = rt.stdin().is_terminal();
+    ExitCode::from(run(&rt, at_terminal, &mut rt.stderr()))
 }
 
 /// Answers what the program is asked, and gives the exit status.
-fn run<R: Runtime + AllocGlobal + Threads + Wait + Sync>(
+fn run<R: Runtime + AllocGlobal + Threads + Wait + Sync, E: Write>(
     rt: &R,
     at_terminal: bool,
-) -> Result<u8, Failure> {
-    let question = read_question(rt, at_terminal)?;
-    let status = answer(rt, rt.alloc(), &question, &mut io::writer(rt));
-    drop(question);
-    status
+    err: &mut E,
+) -> u8 {
+    match read_question(rt, at_terminal) {
+        Ok(question) => {
+            let status = answer(rt, rt.alloc(), &question, &mut io::writer(rt), err);
+            drop(question);
+            status
+        }
+        Err(refusal) => refusal.report(rt),
+    }
 }

@@ -49,9 +49,6 @@ pub enum Word {
 /// The words for files of all commands, in the order in which each command has its own.
 pub static FILE_WORDS: [&str; 5] = ["HIER", "OTHER", "TRACE", "HIERS", "PLAN"];
 
-/// Hierarchies that are ranked.
-pub const MAX_RANKED: usize = 64;
-
 /// Numbers of workers of a sweep.
 pub const MAX_SWEPT: usize = 64;
 

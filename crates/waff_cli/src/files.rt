@@ -1,4 +1,6 @@
 //! Files and standard input, read whole.
+ghost use Rattle.std.specs.Prelude.{◌≡◌, ◌+◌, IfOk, OnOk, length};
+
 use crate::refusal::{FAILED, Refusal};
 use std::alloc::Global;
 use std::fmt::Display;
@@ -81,7 +83,9 @@ pub fn read_files<'a, R: Runtime>(
     rt: &R,
     alloc: Global,
     names: &[&'a str],
-) -> Result<Vec<Vec<u8>>, Unread<'a>> {
+) -> Result<Vec<Vec<u8>>, Unread<'a>>
+    ensures { IfOk result (λ files. length files.items ≡ length names.now) }
+{
     let mut files = Vec::new(alloc);
     match push_files(rt, alloc, names, &mut files) {
         Ok(()) => Ok(files),
@@ -95,7 +99,10 @@ fn push_files<'a, R: Runtime>(
     alloc: Global,
     names: &[&'a str],
     files: &mut Vec<Vec<u8>>,
-) -> Result<(), Unread<'a>> {
+) -> Result<(), Unread<'a>>
+    ensures { OnOk result
+        (length files.new.items ≡ length files.old.items + length names.now) }
+{
     for at in 0..names.len() {
         let name = names[at];
         if let Err(fault) = push_file(rt, alloc, name, files) {
@@ -112,7 +119,9 @@ fn push_file<R: Runtime>(
     alloc: Global,
     name: &str,
     files: &mut Vec<Vec<u8>>,
-) -> Result<(), Fault> {
+) -> Result<(), Fault>
+    ensures { OnOk result (length files.new.items ≡ length files.old.items + 1) }
+{
     match files.push(read_named(rt, alloc, name)?) {
         Ok(()) => Ok(()),
         Err(_) => Err(Fault::Memory),

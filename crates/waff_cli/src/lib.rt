@@ -24,4 +24,4 @@ mod words;
 pub use question::{Question, read_question};
 pub use refusal::Refusal;
 pub use threads::thread_count;
-pub use words::{Asked, Drawing, Part};
+pub use words::{Asked, Drawing};

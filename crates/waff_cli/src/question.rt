@@ -1,6 +1,7 @@
 //! What the program is asked: its words are read, and then the files that they name.
-ghost use Rattle.std.specs.Prelude.{IfOk};
-ghost use Rattle.waff_cli.specs.Requests.{IsWithinLimits};
+ghost use Rattle.std.specs.Prelude.{length};
+ghost use Rattle.waff_cli.specs.Limits.{within_limits-prop};
+ghost use Rattle.waff_cli.specs.Requests.{IsWithinLimits, TakesFiles};
 
 use crate::files::read_files;
 use crate::refusal::Refusal;
@@ -14,6 +15,8 @@ use std::{env, io};
 pub struct Question {
     pub asked: Asked,
     pub files: Vec<Vec<u8>>,
+    ghost limits: { IsWithinLimits asked } by { within_limits-prop asked },
+    ghost taken: { TakesFiles asked (length files.items) },
 }
 
 /// What is said where the program has no words, and waits for what somebody types.
@@ -25,9 +28,7 @@ waff: reads a hierarchy, a line ---, and a trace from standard input; waff --hel
 pub fn read_question<R: Runtime + AllocGlobal>(
     rt: &R,
     at_terminal: bool,
-) -> Result<Question, Refusal>
-    ensures { IfOk result (λ question. IsWithinLimits question.asked) }
-{
+) -> Result<Question, Refusal> {
     let words = words_of(rt)?;
     if at_terminal && words.len() == 1 {
         let _ = rt.eprintln(WAITING);
@@ -47,9 +48,7 @@ fn words_of<R: Runtime + AllocGlobal>(rt: &R) -> Result<Vec<String>, Refusal> {
 }
 
 /// What these words ask, of the files that they name.
-fn question_of<R: Runtime>(rt: &R, alloc: Global, words: &[String]) -> Result<Question, Refusal>
-    ensures { IfOk result (λ question. IsWithinLimits question.asked) }
-{
+fn question_of<R: Runtime>(rt: &R, alloc: Global, words: &[String]) -> Result<Question, Refusal> {
     let Request {
         asked,
         files: names,

@@ -4,4 +4,4 @@
 pub const LONG_VERSION: &str = "\
 0.1.0
 kit: rattle-kit-13f logic dac8208d650f15bf
-sources: b77d8ad4bf0e06c4";
+sources: 01091829a1494d55";

@@ -1,14 +1,18 @@
 //! The words of the command line, read.
-ghost use Rattle.std.specs.Prelude.{◌≤◌, All, IfOk, IfSome};
+ghost use Rattle.std.specs.Prelude.{◌≡◌, ◌≤◌, All, IfOk, IfSome, length};
 ghost use Rattle.waff_plan.specs.Bound.{IsWorkers};
-ghost use Rattle.waff_cli.specs.Requests.{IsPart, IsWithinLimits};
+ghost use Rattle.waff_core.specs.Seats.{IsSeats};
+ghost use Rattle.waff_cli.specs.Limits.{within_limits-prop};
+ghost use Rattle.waff_cli.specs.Requests.{IsWithinLimits, TakesFiles, least_files, most_files};
 
-use crate::commands::{FILE_WORDS, MAX_RANKED, MAX_SWEPT};
+use crate::commands::{FILE_WORDS, MAX_SWEPT};
 use crate::parser::parser;
 use crate::refusal::Refusal;
 use clap::ArgMatches;
 use std::alloc::{AllocError, Global};
 use waff_core::limits::MAX_SEATS;
+use waff_draw::Part;
+use waff_inputs::MAX_RANKED;
 use waff_list::Rule;
 use waff_model::limits::MAX_WORKERS;
 
@@ -18,6 +22,8 @@ pub struct Request<'a> {
     pub asked: Asked,
     /// The names of the files, in the order of the words. The name `-` is standard input.
     pub files: Vec<&'a str>,
+    ghost limits: { IsWithinLimits asked } by { within_limits-prop asked },
+    ghost taken: { TakesFiles asked (length files.items) },
 }
 
 /// What is asked for of the files.
@@ -63,22 +69,13 @@ pub enum Drawing {
     Events,
 }
 
-/// The ticks of a plan from the one up to the other, or up to its end.
-#[derive(Clone, Copy)]
-pub struct Part {
-    pub from: u64,
-    pub to: Option<u64>,
-}
-
 /// Reads the words, the program's own name first. Where they are refused, or ask for help, that is
 /// printed, and the refusal has the exit status.
 pub fn read_words<'a, R: Print + Eprint>(
     rt: &R,
     alloc: Global,
     words: &'a [String],
-) -> Result<Request<'a>, Refusal>
-    ensures { IfOk result (λ request. IsWithinLimits request.asked) }
-{
+) -> Result<Request<'a>, Refusal> {
     match parser(alloc)?.try_get_matches_from(words) {
         Ok(matches) => request_of(rt, alloc, &matches),
         Err(error) => Err(Refusal::of(rt, &error)),
@@ -90,21 +87,52 @@ fn request_of<'a>(
     rt: &impl Eprint,
     alloc: Global,
     matches: &ArgMatches<'a>,
-) -> Result<Request<'a>, Refusal>
-    ensures { IfOk result (λ request. IsWithinLimits request.asked) }
-{
+) -> Result<Request<'a>, Refusal> {
     match matches.subcommand() {
         Some((command, matches)) => {
             let asked = asked_of(rt, alloc, command, matches)?;
             match file_names(rt, alloc, matches) {
-                Ok(files) => Ok(Request { asked, files }),
-                Err(refusal) => Err(refusal),
+                Ok(files) => asked_of_files(asked, files),
+                Err(refusal) => {
+                    drop(asked);
+                    Err(refusal)
+                }
             }
         }
-        None => Ok(Request {
-            asked: Asked::PlanOfInput,
-            files: input_alone(alloc)?,
-        }),
+        None => asked_of_files(Asked::PlanOfInput, input_alone(alloc)?),
+    }
+}
+
+/// What is asked for of these files, which have to be as many as it takes.
+fn asked_of_files<'a>(asked: Asked, files: Vec<&'a str>) -> Result<Request<'a>, Refusal>
+    requires { IsWithinLimits asked }
+{
+    let (least, most) = files_taken(&asked);
+    let count = files.len();
+    if count < least || count > most {
+        drop(files);
+        drop(asked);
+        return Err(Refusal::NoWords);
+    }
+    Ok(Request { asked, files })
+}
+
+/// How many files are taken for what is asked, at least and at most.
+fn files_taken(asked: &Asked) -> (usize, usize)
+    ensures least { result.0 ≡ least_files asked.now }
+    ensures most { result.1 ≡ most_files asked.now }
+{
+    match asked {
+        Asked::PlanOfInput => (1, 1),
+        Asked::Explain => (1, 3),
+        Asked::Check | Asked::Rate | Asked::Draw(_, _) | Asked::Compare(_) => (3, 3),
+        Asked::Rank(_, _) => (2, 1 + MAX_RANKED),
+        Asked::Assign
+        | Asked::Plan(_, _)
+        | Asked::Replay(_)
+        | Asked::Sweep(_, _)
+        | Asked::Where(_)
+        | Asked::Waits(_, _, _) => (2, 2),
     }
 }
 
@@ -320,17 +348,10 @@ fn rank_of(matches: &ArgMatches<'_>) -> Result<Asked, Refusal>
 }
 
 /// The part of a plan that is drawn.
-fn part_of(rt: &impl Eprint, matches: &ArgMatches<'_>) -> Result<Part, Refusal>
-    ensures { IfOk result IsPart }
-{
-    let part = Part {
-        from: matches.get_one::<u64>("from").unwrap_or(0),
-        to: matches.get_one::<u64>("to"),
-    };
-    match part.to {
-        Some(to) if to <= part.from => {
-            Err(Refusal::because(rt, "'--from' has to be below '--to'"))
-        }
-        _ => Ok(part),
+fn part_of(rt: &impl Eprint, matches: &ArgMatches<'_>) -> Result<Part, Refusal> {
+    let from = matches.get_one::<u64>("from").unwrap_or(0);
+    match matches.get_one::<u64>("to") {
+        Some(to) if to <= from => Err(Refusal::because(rt, "'--from' has to be below '--to'")),
+        to => Ok(Part { from, to }),
     }
 }

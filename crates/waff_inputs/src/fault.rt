@@ -1,5 +1,5 @@
 //! Why a command gave no text, and how that is told.
-ghost use Rattle.std.specs.Prelude.{◌≡◌, ◌++◌, IfOk, OnOk, string_bytes};
+ghost use Rattle.std.specs.Prelude.{◌≡◌, ◌++◌, ◌∷◌, [], IfOk, OnOk, string_bytes};
 ghost use Rattle.waff_inputs.specs.Fault.{fault_line, status_of};
 ghost use Rattle.waff_inputs.specs.Told.{behind_text, told_text};
 ghost use Rattle.waff_inputs.specs.ToolErrors.{hierarchy_error, plan_text_error, trace_error};
@@ -87,6 +87,16 @@ pub fn fault_text(alloc: Global, error: &ToolError) -> Result<Text, AllocError>
     let mut line = String::new(alloc);
     push_error(&mut line, *error)?;
     Text::of(alloc, line.as_str())
+}
+
+/// The line that tells of an error, with its line feed.
+pub fn fault_message(alloc: Global, error: &ToolError) -> Result<String, AllocError>
+    ensures { IfOk result (λ line. string_bytes line ≡ fault_line error.now ++ 10 ∷ []) }
+{
+    let mut line = String::new(alloc);
+    push_error(&mut line, *error)?;
+    line.push('\n')?;
+    Ok(line)
 }
 
 /// Appends the line that tells of an error.

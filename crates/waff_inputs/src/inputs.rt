@@ -2,7 +2,7 @@
 ghost use Rattle.std.specs.Prelude.{◌≡◌, ◌≢◌, ◌<◌, Ok, ℕ, All, IfErr, IfOk, List, length};
 ghost use Rattle.waff_model.specs.Messages.{sizes_of};
 ghost use Rattle.waff_read.specs.Hierarchies.{hierarchy_of};
-ghost use Rattle.waff_read.specs.Traces.{trace_of};
+ghost use Rattle.waff_read.specs.Traces.{GivesTrace, trace_of};
 ghost use Rattle.waff_inputs.specs.Inputs.{Accepts, Refuses, RefusesHierarchy};
 
 use crate::fault::ToolError;
@@ -10,7 +10,7 @@ use std::alloc::Global;
 use std::thread::Threads;
 use waff_assign::{Assigned, Case, assign};
 use waff_model::{Layout, Trace};
-use waff_read::{read_hierarchy, read_trace_by_threads};
+use waff_read::{TraceError, read_hierarchy, read_trace, read_trace_by_threads};
 
 /// A hierarchy, a trace over it, and the affinity of each message.
 #[derive(Drop)]
@@ -50,8 +50,26 @@ pub fn read_numbered(alloc: Global, file: u8, hierarchy: &[u8]) -> Result<Layout
     }
 }
 
+/// Hierarchies that one command takes, at most. Each is told of by its number.
+pub const MAX_RANKED: usize = 64;
+
 /// Reads the files, the hierarchy first.
-pub fn accept<R: Threads + Sync>(
+pub fn accept(alloc: Global, hierarchy: &[u8], trace: &[u8]) -> Result<Accepted, ToolError>
+    ensures accepted { IfOk result (λ a.
+        Accepts hierarchy.now trace.now a.layout a.trace a.assigned) }
+    ensures refused { IfErr result (Refuses hierarchy.now trace.now) }
+    ensures nothing { IfErr result (λ e. e ≢ ToolError.Write) }
+{
+    let layout = match read_hierarchy(alloc, hierarchy) {
+        Ok(layout) => layout,
+        Err(fault) => return Err(ToolError::of_hierarchy(1, fault)),
+    };
+    let read = read_trace(alloc, &layout, trace);
+    with_trace(alloc, layout, read)
+}
+
+/// Reads the files as `accept` does, the trace by several threads where it is long.
+pub fn accept_by_threads<R: Threads + Sync>(
     rt: &R,
     alloc: Global,
     hierarchy: &[u8],
@@ -66,7 +84,28 @@ pub fn accept<R: Threads + Sync>(
         Ok(layout) => layout,
         Err(fault) => return Err(ToolError::of_hierarchy(1, fault)),
     };
-    match read_trace_by_threads(rt, alloc, &layout, trace) {
+    let read = read_trace_by_threads(rt, alloc, &layout, trace);
+    with_trace(alloc, layout, read)
+}
+
+/// The hierarchy and the trace that was read, with the affinity of each message.
+fn with_trace(
+    alloc: Global,
+    layout: Layout,
+    read: Result<Trace, TraceError>,
+) -> Result<Accepted, ToolError>
+    requires fits { IfOk read (λ trace. trace.sizes ≡ sizes_of layout.spaces) }
+    ensures accepted { IfOk result (λ a. (hierarchy_file trace_file : List ℕ)
+        → hierarchy_of hierarchy_file ≡ Ok layout
+        → GivesTrace read (trace_of layout.spaces trace_file)
+        → Accepts hierarchy_file trace_file a.layout a.trace a.assigned) }
+    ensures refused { IfErr result (λ e. (hierarchy_file trace_file : List ℕ)
+        → hierarchy_of hierarchy_file ≡ Ok layout
+        → GivesTrace read (trace_of layout.spaces trace_file)
+        → Refuses hierarchy_file trace_file e) }
+    ensures nothing { IfErr result (λ e. e ≢ ToolError.Write) }
+{
+    match read {
         Ok(trace) => with_affinities(alloc, layout, trace),
         Err(fault) => {
             drop(layout);

@@ -21,6 +21,6 @@ mod inputs;
 mod output;
 pub mod unique;
 
-pub use fault::{ToolError, fault_status, fault_text};
-pub use inputs::{Accepted, accept, read_numbered};
+pub use fault::{ToolError, fault_message, fault_status, fault_text};
+pub use inputs::{Accepted, MAX_RANKED, accept, accept_by_threads, read_numbered};
 pub use output::{deliver, write_text};

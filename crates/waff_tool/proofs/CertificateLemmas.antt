@@ -56,8 +56,8 @@ bounded rule before work k start chain some forward planned printed =
       printed = printed;
       is_chain = is_chain;
       bound = bound;
-      twice = λ other plan. bound_is_within_twice before work k start other chain is_chain bound plan;
-      ratio = λ none other plan. bound_is_within_ratio before work k start other chain some none is_chain bound plan;
+      twice = bound_is_within_twice before work k start chain is_chain bound;
+      ratio = bound_is_within_ratio before work k start chain some is_chain bound;
     }
 
 -- what holds of a case holds of what was accepted, whose case it is

@@ -1,11 +1,11 @@
 -- A plan with its printed chain, and what the chain shows of the plan.
-use Rattle.std.specs.Prelude.{◌≡◌, ℕ, ◌+◌, ◌-◌, ◌*◌, ◌≤◌, List}
+use Rattle.std.specs.Prelude.{◌≡◌, ℕ, ◌+◌, ◌≤◌, List}
 use Rattle.waff_assign.specs.Order.{Relation}
-use Rattle.waff_plan.specs.Work.{Work, IsNumber, length_of}
+use Rattle.waff_plan.specs.Work.{Work, length_of}
 use Rattle.waff_plan.specs.Obeys.{Obeys, IsLeast}
 use Rattle.waff_plan.specs.Chain.{IsChain, IsPrinted, chain_cost, chain_release}
-use Rattle.waff_plan.specs.Workers.{IsWorkerPlan, running}
-use Rattle.waff_plan.specs.Bound.{IsWithinBound}
+use Rattle.waff_plan.specs.Workers.{running}
+use Rattle.waff_plan.specs.Bound.{IsWithinBound, IsWithinTwice, IsWithinRatio}
 use Rattle.waff_plan.specs.Laws.{ChainsAreWithinLength}
 use Rattle.waff_list.specs.Rules.{IsPlanBy}
 use Rattle.waff_list.specs.declared.rule.Rule.{Rule}
@@ -33,8 +33,5 @@ pub record IsBounded (rule : Rule) (before : Relation) (work : Work) (k : ℕ) (
   pub printed : IsPrinted before work start chain
   pub is_chain : IsChain before work chain
   pub bound : IsWithinBound work k start chain
-  pub twice : (other : ℕ → ℕ) → IsWorkerPlan before work k other
-      → k * length_of work start ≤ 2 * k * length_of work other
-  pub ratio : ((m : ℕ) → IsNumber work m → work.release m ≡ 0)
-      → (other : ℕ → ℕ) → IsWorkerPlan before work k other
-      → k * length_of work start ≤ (2 * k - 1) * length_of work other
+  pub twice : IsWithinTwice before work k start
+  pub ratio : IsWithinRatio before work k start

@@ -1,3 +1,4 @@
+pub mod Accepted
 pub mod Ahead
 pub mod AssignText
 pub mod Certificates

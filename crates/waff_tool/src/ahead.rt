@@ -5,13 +5,14 @@ ghost use Rattle.std.specs.Thread.{IsSync};
 ghost use Rattle.waff_model.specs.declared.limits.TheConstants.{MAX_MESSAGES};
 ghost use Rattle.waff_inputs.specs.Inputs.{Accepts, Refuses};
 ghost use Rattle.waff_plan_text.specs.PlanTexts as texts;
-ghost use Rattle.waff_tool.specs.Ahead.{IsAccepted, IsReadOf};
+ghost use Rattle.waff_tool.specs.Accepted.{IsAccepted};
+ghost use Rattle.waff_tool.specs.Ahead.{IsReadOf};
 
 use std::alloc::Global;
 use std::thread;
 use std::thread::Threads;
 use waff_check::{GivenPlan, PlanTextError, read_plan};
-use waff_inputs::{Accepted, ToolError, accept};
+use waff_inputs::{Accepted, ToolError, accept_by_threads};
 use waff_model::Version;
 use waff_model::limits::MAX_MESSAGES;
 
@@ -23,7 +24,7 @@ pub struct ReadAhead {
     given: Result<GivenPlan, PlanTextError>,
 }
 
-/// Reads the files as `accept` does, and beside them the plan text, for a trace that is guessed: its
+/// Reads the files as `accept_by_threads` does, and beside them the plan text, for a trace that is guessed: its
 /// version by its header, and how many messages it has by the lines of the plan.
 pub fn accept_beside<R: Threads + Sync>(
     rt: &R,
@@ -44,7 +45,7 @@ pub fn accept_beside<R: Threads + Sync>(
     let files = move || -> Result<Accepted, ToolError>
         requires { IsSync R.row }
         ensures { IsAccepted hierarchy.entry.now trace.entry.now result }
-    { accept(rt, alloc, hierarchy, trace) };
+    { accept_by_threads(rt, alloc, hierarchy, trace) };
     let (ahead, accepted) = thread::join(rt, text, files);
     match accepted {
         Ok(accepted) => Ok((accepted, ahead)),

@@ -1,22 +1,37 @@
 //! The command `assign`, and the text of an assignment.
-ghost use Rattle.std.specs.Prelude.{◌≡◌, [], ◌∷◌, IfOk};
+ghost use Rattle.std.specs.Prelude.{◌≡◌, ℕ, List, [], ◌∷◌, IfOk};
 ghost use Rattle.std.specs.Prelude.{OnOk, decimal, length, map, string_bytes};
 ghost use Rattle.std.specs.List.{range_with_len};
 ghost use Rattle.waff_plan_text.specs.Lines.{Adds, line_text, text_of};
 ghost use Rattle.waff_inputs.specs.Deliveries.{Delivers, Makes};
 ghost use Rattle.waff_inputs.specs.Inputs.{Refuses};
+ghost use Rattle.waff_tool.specs.Accepted.{IsAccepted};
 ghost use Rattle.waff_tool.specs.AssignText.{IsAssignText, assign_lines, assign_row};
 
 use std::alloc::{AllocError, Global};
 use std::io::Write;
 use std::thread::Threads;
 use waff_assign::Case;
-use waff_inputs::{ToolError, accept, deliver};
+use waff_inputs::{Accepted, ToolError, accept, accept_by_threads, deliver};
 use waff_plan_text::push_field;
 
 /// Writes the affinity of each message of the trace under the hierarchy. Nothing is written before
 /// the whole text is made.
-pub fn assign_text<R: Threads + Sync, W: Write>(
+pub fn assign_text<W: Write>(
+    alloc: Global,
+    hierarchy: &[u8],
+    trace: &[u8],
+    writer: &mut W,
+) -> Result<(), ToolError>
+    ensures { Delivers (λ _ text. IsAssignText hierarchy.now trace.now text)
+        (Refuses hierarchy.now trace.now) (W.contents writer.old) (W.contents writer.new) result }
+{
+    let accepted = accept(alloc, hierarchy, trace);
+    deliver(writer, made_assign_text(alloc, accepted))
+}
+
+/// Writes what `assign_text` writes; the trace is read by several threads where it is long.
+pub fn assign_text_by_threads<R: Threads + Sync, W: Write>(
     rt: &R,
     alloc: Global,
     hierarchy: &[u8],
@@ -26,19 +41,20 @@ pub fn assign_text<R: Threads + Sync, W: Write>(
     ensures { Delivers (λ _ text. IsAssignText hierarchy.now trace.now text)
         (Refuses hierarchy.now trace.now) (W.contents writer.old) (W.contents writer.new) result }
 {
-    deliver(writer, made_assign_text(rt, alloc, hierarchy, trace))
+    let accepted = accept_by_threads(rt, alloc, hierarchy, trace);
+    deliver(writer, made_assign_text(alloc, accepted))
 }
 
-fn made_assign_text<R: Threads + Sync>(
-    rt: &R,
+/// The text of the assignment of what was read.
+fn made_assign_text(
     alloc: Global,
-    hierarchy: &[u8],
-    trace: &[u8],
+    accepted: Result<Accepted, ToolError>,
 ) -> Result<String, ToolError>
-    ensures { Makes (λ text. IsAssignText hierarchy.now trace.now (string_bytes text))
-        (Refuses hierarchy.now trace.now) result }
+    ensures { (hierarchy trace : List ℕ) → IsAccepted hierarchy trace accepted
+        → Makes (λ text. IsAssignText hierarchy trace (string_bytes text))
+        (Refuses hierarchy trace) result }
 {
-    let accepted = accept(rt, alloc, hierarchy, trace)?;
+    let accepted = accepted?;
     let text = assigned_text(alloc, &accepted.case());
     drop(accepted);
     text.map_err(ToolError::from)

@@ -57,15 +57,15 @@ pub fn bounded_plan(
 ) -> Result<Bounded, AllocError>
     requires workers { IsWorkers k }
     ensures timings { IfOk result (λ found.
-        found.made.table.timings ≡ timings_of case.now.trace.now.messages) }
+        found.made.plan.timings ≡ timings_of case.now.trace.now.messages) }
     ensures seated { IfOk result (λ found. AreSeated
         (work_of_messages case.now.trace.now.messages)
-        (start_of found.made.table.starts) (worker_of found.made.seats)) }
+        (start_of found.made.plan.starts) (worker_of found.made.seats)) }
     ensures listed { IfOk result (λ found.
-        IsListed (length found.made.table.timings) found.chain.messages) }
+        IsListed (length found.made.plan.timings) found.chain.messages) }
     ensures bounded { IfOk result (λ found. IsBounded rule (pairs_of case.now)
         (work_of_messages case.now.trace.now.messages) k
-        (start_of found.made.table.starts) found.chain.messages) }
+        (start_of found.made.plan.starts) found.chain.messages) }
 {
     let needs = needs(alloc, case.tree, case.assigned)?;
     let made = list_plan_by(alloc, &needs, case.trace, rule, k)?;

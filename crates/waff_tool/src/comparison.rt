@@ -10,7 +10,7 @@ ghost use Rattle.waff_tool.specs.Comparison.{AreHierarchies, AreAssignedAndMeasu
 ghost use Rattle.waff_tool.specs.Comparison.{IsCompareText, RefusesComparison};
 ghost use Rattle.waff_inputs.specs.Deliveries.{Delivers, Makes};
 
-use crate::measures::{Measured, comparison_text, measure};
+use crate::measures::{Measured, comparison_text, measure, measure_side_by_side};
 use std::alloc::{AllocError, Global};
 use std::io::Write;
 use std::thread;
@@ -20,12 +20,43 @@ use waff_inputs::{ToolError, deliver, read_numbered};
 use waff_model::{Kind, Layout, Trace};
 use waff_order::refines;
 use waff_plan::laws::refined_is_no_longer;
-use waff_read::read_trace_by_threads;
+use waff_read::{read_trace, read_trace_by_threads};
+
+/// A classical and a hierarchical hierarchy.
+#[derive(Drop)]
+struct Models {
+    classical: Layout,
+    hierarchical: Layout,
+}
+
+/// Affinities of messages under a hierarchy, and what is told of it.
+type Under = (Assigned, Measured);
 
 /// Writes what the trace comes to under the classical and the hierarchical one of two hierarchies,
 /// given in either order, for this number of workers, and whether the hierarchical one refines the
 /// classical one on the trace. Nothing is written before the whole text is made.
-pub fn compare_text<R: Threads + Sync, W: Write>(
+pub fn compare_text<W: Write>(
+    alloc: Global,
+    first: &[u8],
+    second: &[u8],
+    trace: &[u8],
+    workers: u32,
+    writer: &mut W,
+) -> Result<(), ToolError>
+    requires workers { IsWorkers workers }
+    ensures { Delivers (λ _ text. IsCompareText first.now second.now trace.now workers text)
+        (RefusesComparison first.now second.now trace.now)
+        (W.contents writer.old) (W.contents writer.new) result }
+{
+    deliver(
+        writer,
+        made_compare_text(alloc, first, second, trace, workers),
+    )
+}
+
+/// Writes what `compare_text` writes. The trace is read by several threads where it is long, and
+/// what is told of each hierarchy is made in threads of its own.
+pub fn compare_text_by_threads<R: Threads + Sync, W: Write>(
     rt: &R,
     alloc: Global,
     first: &[u8],
@@ -36,141 +67,220 @@ pub fn compare_text<R: Threads + Sync, W: Write>(
 ) -> Result<(), ToolError>
     requires workers { IsWorkers workers }
     ensures { Delivers (λ _ text. IsCompareText first.now second.now trace.now workers text)
-        (RefusesComparison first.now second.now trace.now) (W.contents writer.old) (W.contents writer.new) result }
+        (RefusesComparison first.now second.now trace.now)
+        (W.contents writer.old) (W.contents writer.new) result }
 {
     deliver(
         writer,
-        made_compare_text(rt, alloc, first, second, trace, workers),
+        made_by_threads(rt, alloc, first, second, trace, workers),
     )
 }
 
-fn made_compare_text<R: Threads + Sync>(
+fn made_compare_text(
+    alloc: Global,
+    first: &[u8],
+    second: &[u8],
+    trace: &[u8],
+    k: u32,
+) -> Result<String, ToolError>
+    requires workers { IsWorkers k }
+    ensures { Makes (λ text. IsCompareText first.now second.now trace.now k (string_bytes text))
+        (RefusesComparison first.now second.now trace.now) result }
+{
+    let models = read_models(alloc, first, second)?;
+    let text = models_text(alloc, &models, trace, k);
+    drop(models);
+    text
+}
+
+/// The text that compares the models on the trace of these bytes.
+fn models_text(alloc: Global, models: &Models, trace: &[u8], k: u32) -> Result<String, ToolError>
+    requires same_spaces { SameSpaces models.now.classical.spaces models.now.hierarchical.spaces }
+    requires workers { IsWorkers k }
+    ensures made { IfOk result (λ text. (first_file second_file : List ℕ)
+        → AreModels first_file second_file models.now.classical models.now.hierarchical
+        → IsCompareText first_file second_file trace.now k (string_bytes text)) }
+    ensures refused { IfErr result (λ e. (first_file second_file : List ℕ)
+        → AreModels first_file second_file models.now.classical models.now.hierarchical
+        → RefusesComparison first_file second_file trace.now e) }
+    ensures nothing { IfErr result (λ e. e ≢ ToolError.Write) }
+{
+    let trace = read_trace(alloc, &models.classical, trace)?;
+    let text = compared(alloc, models, &trace, k);
+    drop(trace);
+    text.map_err(ToolError::from)
+}
+
+fn made_by_threads<R: Threads + Sync>(
     rt: &R,
     alloc: Global,
     first: &[u8],
     second: &[u8],
     trace: &[u8],
-    workers: u32,
+    k: u32,
 ) -> Result<String, ToolError>
-    requires workers { IsWorkers workers }
-    ensures { Makes (λ text. IsCompareText first.now second.now trace.now workers (string_bytes text))
+    requires workers { IsWorkers k }
+    ensures { Makes (λ text. IsCompareText first.now second.now trace.now k (string_bytes text))
         (RefusesComparison first.now second.now trace.now) result }
 {
-    let first = read_numbered(alloc, 1, first)?;
-    let text = text_with_second(rt, alloc, &first, second, trace, workers);
-    drop(first);
+    let models = read_models(alloc, first, second)?;
+    let text = models_text_by_threads(rt, alloc, &models, trace, k);
+    drop(models);
     text
 }
 
-/// The text that compares a hierarchy that was read with the one of these bytes.
-fn text_with_second<R: Threads + Sync>(
+/// The text that `models_text` makes.
+fn models_text_by_threads<R: Threads + Sync>(
     rt: &R,
     alloc: Global,
-    first: &Layout,
-    second: &[u8],
+    models: &Models,
     trace: &[u8],
     k: u32,
 ) -> Result<String, ToolError>
-    requires workers { IsWorkers k }
-    ensures made { IfOk result (λ text. (first_file : List ℕ)
-        → hierarchy_of first_file ≡ Ok first.now
-        → IsCompareText first_file second.now trace.now k (string_bytes text)) }
-    ensures refused { IfErr result (λ e. (first_file : List ℕ)
-        → hierarchy_of first_file ≡ Ok first.now
-        → RefusesComparison first_file second.now trace.now e) }
-    ensures nothing { IfErr result (λ e. e ≢ ToolError.Write) }
-{
-    let second = read_numbered(alloc, 2, second)?;
-    let text = either_text(rt, alloc, first, &second, trace, k);
-    drop(second);
-    text
-}
-
-/// The text that compares two hierarchies, given in either order, which have to be of the same
-/// spaces and of different models.
-fn either_text<R: Threads + Sync>(
-    rt: &R,
-    alloc: Global,
-    first: &Layout,
-    second: &Layout,
-    trace: &[u8],
-    k: u32,
-) -> Result<String, ToolError>
+    requires same_spaces { SameSpaces models.now.classical.spaces models.now.hierarchical.spaces }
     requires workers { IsWorkers k }
     ensures made { IfOk result (λ text. (first_file second_file : List ℕ)
-        → AreHierarchies first_file second_file first.now second.now
+        → AreModels first_file second_file models.now.classical models.now.hierarchical
         → IsCompareText first_file second_file trace.now k (string_bytes text)) }
     ensures refused { IfErr result (λ e. (first_file second_file : List ℕ)
-        → AreHierarchies first_file second_file first.now second.now
+        → AreModels first_file second_file models.now.classical models.now.hierarchical
         → RefusesComparison first_file second_file trace.now e) }
     ensures nothing { IfErr result (λ e. e ≢ ToolError.Write) }
 {
-    if !first.same_spaces(second) {
-        return Err(ToolError::SpacesDiffer);
-    }
-    match (first.kind(), second.kind()) {
-        (Kind::Classical, Kind::Hierarchical) => models_text(rt, alloc, first, second, trace, k),
-        (Kind::Hierarchical, Kind::Classical) => models_text(rt, alloc, second, first, trace, k),
-        _ => Err(ToolError::ModelsSame),
-    }
-}
-
-/// The text that compares a classical and a hierarchical hierarchy of the same spaces on the trace
-/// of these bytes.
-fn models_text<R: Threads + Sync>(
-    rt: &R,
-    alloc: Global,
-    classical: &Layout,
-    hierarchical: &Layout,
-    trace: &[u8],
-    k: u32,
-) -> Result<String, ToolError>
-    requires same_spaces { SameSpaces classical.now.spaces hierarchical.now.spaces }
-    requires workers { IsWorkers k }
-    ensures made { IfOk result (λ text. (first_file second_file : List ℕ)
-        → AreModels first_file second_file classical.now hierarchical.now
-        → IsCompareText first_file second_file trace.now k (string_bytes text)) }
-    ensures refused { IfErr result (λ e. (first_file second_file : List ℕ)
-        → AreModels first_file second_file classical.now hierarchical.now
-        → RefusesComparison first_file second_file trace.now e) }
-    ensures nothing { IfErr result (λ e. e ≢ ToolError.Write) }
-{
-    let trace = read_trace_by_threads(rt, alloc, classical, trace)?;
-    let text = compared_text(rt, alloc, classical, hierarchical, &trace, k);
+    let trace = read_trace_by_threads(rt, alloc, &models.classical, trace)?;
+    let text = compared_by_threads(rt, alloc, models, &trace, k);
     drop(trace);
     text.map_err(ToolError::from)
 }
 
-/// The text that compares the models on the trace for k workers. Each is measured in a thread of its
-/// own.
-fn compared_text<R: Threads + Sync>(
+/// The classical and the hierarchical one of two hierarchies, which have to be of the same spaces.
+fn read_models(alloc: Global, first: &[u8], second: &[u8]) -> Result<Models, ToolError>
+    ensures models { IfOk result (λ models.
+        AreModels first.now second.now models.classical models.hierarchical) }
+    ensures refused { IfErr result (λ e. (trace_file : List ℕ)
+        → RefusesComparison first.now second.now trace_file e) }
+    ensures nothing { IfErr result (λ e. e ≢ ToolError.Write) }
+{
+    let first = read_numbered(alloc, 1, first)?;
+    match read_numbered(alloc, 2, second) {
+        Ok(second) => models_of(first, second),
+        Err(error) => {
+            drop(first);
+            Err(error)
+        }
+    }
+}
+
+/// Two hierarchies, the classical one first.
+fn models_of(first: Layout, second: Layout) -> Result<Models, ToolError>
+    ensures models { IfOk result (λ models. (first_file second_file : List ℕ)
+        → AreHierarchies first_file second_file first second
+        → AreModels first_file second_file models.classical models.hierarchical) }
+    ensures refused { IfErr result (λ e. (first_file second_file trace_file : List ℕ)
+        → AreHierarchies first_file second_file first second
+        → RefusesComparison first_file second_file trace_file e) }
+    ensures nothing { IfErr result (λ e. e ≢ ToolError.Write) }
+{
+    let error = match (first.same_spaces(&second), first.kind(), second.kind()) {
+        (true, Kind::Classical, Kind::Hierarchical) => {
+            return Ok(Models {
+                classical: first,
+                hierarchical: second,
+            });
+        }
+        (true, Kind::Hierarchical, Kind::Classical) => {
+            return Ok(Models {
+                classical: second,
+                hierarchical: first,
+            });
+        }
+        (true, _, _) => ToolError::ModelsSame,
+        (false, _, _) => ToolError::SpacesDiffer,
+    };
+    drop(first);
+    drop(second);
+    Err(error)
+}
+
+/// The text that compares the models on the trace for k workers.
+fn compared(alloc: Global, models: &Models, trace: &Trace, k: u32) -> Result<String, AllocError>
+    requires fits { trace.now.sizes ≡ sizes_of models.now.classical.spaces }
+    requires same_spaces { SameSpaces models.now.classical.spaces models.now.hierarchical.spaces }
+    requires workers { IsWorkers k }
+    ensures { IfOk result (λ text.
+        IsCompared models.now.classical models.now.hierarchical trace.now k (string_bytes text)) }
+{
+    let coarse = measure_under(alloc, &models.classical, trace, k);
+    let fine = measure_under(alloc, &models.hierarchical, trace, k);
+    text_of_models(alloc, models, trace, k, coarse, fine)
+}
+
+/// The text that `compared` makes. Each of the models is measured in a thread of its own.
+fn compared_by_threads<R: Threads + Sync>(
     rt: &R,
     alloc: Global,
-    classical: &Layout,
-    hierarchical: &Layout,
+    models: &Models,
     trace: &Trace,
     k: u32,
 ) -> Result<String, AllocError>
-    requires fits { trace.now.sizes ≡ sizes_of classical.now.spaces }
-    requires same_spaces { SameSpaces classical.now.spaces hierarchical.now.spaces }
+    requires fits { trace.now.sizes ≡ sizes_of models.now.classical.spaces }
+    requires same_spaces { SameSpaces models.now.classical.spaces models.now.hierarchical.spaces }
     requires workers { IsWorkers k }
     ensures { IfOk result (λ text.
-        IsCompared classical.now hierarchical.now trace.now k (string_bytes text)) }
+        IsCompared models.now.classical models.now.hierarchical trace.now k (string_bytes text)) }
 {
-    let under_classical = move || -> Result<(Assigned, Measured), AllocError>
+    let (coarse, fine) = measure_both(rt, alloc, models, trace, k);
+    text_of_models(alloc, models, trace, k, coarse, fine)
+}
+
+/// What is told of each of the models, in a thread of its own.
+fn measure_both<R: Threads + Sync>(
+    rt: &R,
+    alloc: Global,
+    models: &Models,
+    trace: &Trace,
+    k: u32,
+) -> (Result<Under, AllocError>, Result<Under, AllocError>)
+    requires fits { trace.now.sizes ≡ sizes_of models.now.classical.spaces }
+    requires same_spaces { SameSpaces models.now.classical.spaces models.now.hierarchical.spaces }
+    requires workers { IsWorkers k }
+    ensures classical { IfOk result.0
+        (AreAssignedAndMeasured models.now.classical trace.now k) }
+    ensures hierarchical { IfOk result.1
+        (AreAssignedAndMeasured models.now.hierarchical trace.now k) }
+{
+    let (classical, hierarchical) = (&models.classical, &models.hierarchical);
+    let under_classical = move || -> Result<Under, AllocError>
         requires { IsSync R.row × (trace.now.sizes ≡ sizes_of classical.now.spaces)
             × IsWorkers k }
         ensures { IfOk result (AreAssignedAndMeasured classical.entry.now trace.entry.now k) }
-    { assign_and_measure(rt, alloc, classical, trace, k) };
-    let under_hierarchical = move || -> Result<(Assigned, Measured), AllocError>
+    { measure_by_threads(rt, alloc, classical, trace, k) };
+    let under_hierarchical = move || -> Result<Under, AllocError>
         requires { IsSync R.row × (trace.now.sizes ≡ sizes_of hierarchical.now.spaces)
             × IsWorkers k }
         ensures { IfOk result (AreAssignedAndMeasured hierarchical.entry.now trace.entry.now k) }
-    { assign_and_measure(rt, alloc, hierarchical, trace, k) };
-    let (coarse, fine) = thread::join(rt, under_classical, under_hierarchical);
+    { measure_by_threads(rt, alloc, hierarchical, trace, k) };
+    thread::join(rt, under_classical, under_hierarchical)
+}
+
+/// The text of what is told of each of the models.
+fn text_of_models(
+    alloc: Global,
+    models: &Models,
+    trace: &Trace,
+    k: u32,
+    coarse: Result<Under, AllocError>,
+    fine: Result<Under, AllocError>,
+) -> Result<String, AllocError>
+    requires classical { IfOk coarse (AreAssignedAndMeasured models.now.classical trace.now k) }
+    requires hierarchical { IfOk fine (AreAssignedAndMeasured models.now.hierarchical trace.now k) }
+    ensures { IfOk result (λ text.
+        IsCompared models.now.classical models.now.hierarchical trace.now k (string_bytes text)) }
+{
     let (coarse, of_classical) = coarse?;
     let (fine, of_hierarchical) = fine?;
     refined_is_no_longer();
+    let (classical, hierarchical) = (&models.classical, &models.hierarchical);
     let refined = refines(hierarchical.tree(), &fine, classical.tree(), &coarse);
     drop(fine);
     drop(coarse);
@@ -186,13 +296,7 @@ fn compared_text<R: Threads + Sync>(
 
 /// The affinities of the messages of the trace under a hierarchy, and what is told of it for k
 /// workers.
-fn assign_and_measure<R: Threads + Sync>(
-    rt: &R,
-    alloc: Global,
-    layout: &Layout,
-    trace: &Trace,
-    k: u32,
-) -> Result<(Assigned, Measured), AllocError>
+fn measure_under(alloc: Global, layout: &Layout, trace: &Trace, k: u32) -> Result<Under, AllocError>
     requires fits { trace.now.sizes ≡ sizes_of layout.now.spaces }
     requires workers { IsWorkers k }
     ensures { IfOk result (AreAssignedAndMeasured layout.now trace.now k) }
@@ -203,7 +307,34 @@ fn assign_and_measure<R: Threads + Sync>(
         assigned: &assigned,
         trace,
     };
-    match measure(rt, alloc, layout, &case, k) {
+    match measure(alloc, layout, &case, k) {
+        Ok(measured) => Ok((assigned, measured)),
+        Err(error) => {
+            drop(assigned);
+            Err(error)
+        }
+    }
+}
+
+/// What `measure_under` tells. Each of the two plans is made in a thread of its own.
+fn measure_by_threads<R: Threads + Sync>(
+    rt: &R,
+    alloc: Global,
+    layout: &Layout,
+    trace: &Trace,
+    k: u32,
+) -> Result<Under, AllocError>
+    requires fits { trace.now.sizes ≡ sizes_of layout.now.spaces }
+    requires workers { IsWorkers k }
+    ensures { IfOk result (AreAssignedAndMeasured layout.now trace.now k) }
+{
+    let assigned = assign(alloc, layout, trace)?;
+    let case = Case {
+        tree: layout.tree(),
+        assigned: &assigned,
+        trace,
+    };
+    match measure_side_by_side(rt, alloc, layout, &case, k) {
         Ok(measured) => Ok((assigned, measured)),
         Err(error) => {
             drop(assigned);

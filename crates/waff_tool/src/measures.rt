@@ -26,9 +26,27 @@ pub struct Measured {
     pub listed: Totals,
 }
 
-/// What is told of the trace with its affinities under the tree of a hierarchy, for k workers. Each of
-/// the two plans is made in a thread of its own.
-pub fn measure<R: Threads + Sync>(
+/// What is told of the trace with its affinities under the tree of a hierarchy, for k workers.
+pub fn measure(
+    alloc: Global,
+    layout: &Layout,
+    case: &Case<'_>,
+    k: u32,
+) -> Result<Measured, AllocError>
+    requires tree { case.now.tree.now ≡ layout.now.tree }
+    requires workers { IsWorkers k }
+    ensures { IfOk result (IsMeasured layout.now case.now.assigned.now
+        (work_of_messages case.now.trace.now.messages) k) }
+{
+    Ok(Measured {
+        kind: layout.kind(),
+        unlimited: unlimited_totals(alloc, case)?,
+        listed: list_totals(alloc, case, k)?,
+    })
+}
+
+/// What `measure` tells. Each of the two plans is made in a thread of its own.
+pub fn measure_side_by_side<R: Threads + Sync>(
     rt: &R,
     alloc: Global,
     layout: &Layout,

@@ -4,13 +4,14 @@ ghost use Rattle.std.specs.Prelude.{length, string_bytes};
 ghost use Rattle.waff_plan.specs.Bound.{IsWorkers};
 ghost use Rattle.waff_inputs.specs.Deliveries.{Delivers, Makes};
 ghost use Rattle.waff_inputs.specs.Inputs.{Accepts, Refuses};
+ghost use Rattle.waff_tool.specs.Accepted.{IsAccepted};
 ghost use Rattle.waff_tool.specs.PlanText.{IsPlanText, IsPlanTextFor, IsWorkerPlanText};
 
 use crate::certificates::{bounded_plan, certified_plan};
 use std::alloc::{AllocError, Global};
 use std::io::Write;
 use std::thread::Threads;
-use waff_inputs::{Accepted, ToolError, accept, deliver};
+use waff_inputs::{Accepted, ToolError, accept, accept_by_threads, deliver};
 use waff_list::Rule;
 use waff_plan::Planned;
 use waff_plan_text::{unlimited_text, worker_text};
@@ -18,8 +19,7 @@ use waff_plan_text::{unlimited_text, worker_text};
 /// Writes the plan of the trace under the hierarchy for this number of workers, or with no limit on
 /// them where there is no number. A worker that is free takes the message that arrived first.
 /// Nothing is written before the whole text is made.
-pub fn plan_text<R: Threads + Sync, W: Write>(
-    rt: &R,
+pub fn plan_text<W: Write>(
     alloc: Global,
     hierarchy: &[u8],
     trace: &[u8],
@@ -31,11 +31,15 @@ pub fn plan_text<R: Threads + Sync, W: Write>(
         IsPlanTextFor Rule.Arrival hierarchy.now trace.now workers text)
         (Refuses hierarchy.now trace.now) (W.contents writer.old) (W.contents writer.new) result }
 {
-    plan_text_by(rt, alloc, hierarchy, trace, workers, Rule::Arrival, writer)
+    let accepted = accept(alloc, hierarchy, trace);
+    deliver(
+        writer,
+        made_plan_text(alloc, accepted, workers, Rule::Arrival),
+    )
 }
 
-/// Writes the plan by this rule. Without a number of workers each message starts as early as it
-/// can, whatever the rule.
+/// Writes the plan by this rule; the trace is read by several threads where it is long. Without a
+/// number of workers each message starts as early as it can, whatever the rule.
 pub fn plan_text_by<R: Threads + Sync, W: Write>(
     rt: &R,
     alloc: Global,
@@ -49,31 +53,29 @@ pub fn plan_text_by<R: Threads + Sync, W: Write>(
     ensures { Delivers (λ _ text. IsPlanTextFor rule hierarchy.now trace.now workers text)
         (Refuses hierarchy.now trace.now) (W.contents writer.old) (W.contents writer.new) result }
 {
-    deliver(
-        writer,
-        made_plan_text(rt, alloc, hierarchy, trace, workers, rule),
-    )
+    let accepted = accept_by_threads(rt, alloc, hierarchy, trace);
+    deliver(writer, made_plan_text(alloc, accepted, workers, rule))
 }
 
-fn made_plan_text<R: Threads + Sync>(
-    rt: &R,
+/// The text of the plan of what was read.
+fn made_plan_text(
     alloc: Global,
-    hierarchy: &[u8],
-    trace: &[u8],
+    accepted: Result<Accepted, ToolError>,
     workers: Option<u32>,
     rule: Rule,
 ) -> Result<String, ToolError>
     requires workers { IfSome workers IsWorkers }
-    ensures { Makes (λ text. IsPlanTextFor rule hierarchy.now trace.now workers (string_bytes text))
-        (Refuses hierarchy.now trace.now) result }
+    ensures { (hierarchy trace : List ℕ) → IsAccepted hierarchy trace accepted
+        → Makes (λ text. IsPlanTextFor rule hierarchy trace workers (string_bytes text))
+        (Refuses hierarchy trace) result }
 {
-    let accepted = accept(rt, alloc, hierarchy, trace)?;
+    let accepted = accepted?;
     let text = planned_text(alloc, &accepted, workers, rule).map_err(ToolError::from);
     drop(accepted);
     text
 }
 
-/// The text of the plan of what was read.
+/// The text of the plan of what was accepted.
 fn planned_text(
     alloc: Global,
     accepted: &Accepted,

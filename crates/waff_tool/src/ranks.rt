@@ -20,15 +20,12 @@ use std::io::Write;
 use std::thread::Threads;
 use waff_assign::{Case, assign};
 use waff_figures::{Figures, QualityFields, list_figures_for};
-use waff_inputs::{ToolError, deliver, read_numbered};
+use waff_inputs::{MAX_RANKED, ToolError, deliver, read_numbered};
 use waff_list::Rule;
 use waff_model::{Kind, Layout, Trace};
 use waff_plan::Planned;
 use waff_plan::unlimited::plan;
 use waff_read::read_trace_by_threads;
-
-/// Hierarchies that are ranked.
-pub const MAX_RANKED: usize = 64;
 
 /// What is told of a trace under one of several hierarchies.
 #[derive(Clone, Copy)]

@@ -24,7 +24,7 @@ use std::sync::Wait;
 use std::thread::Threads;
 use waff_cells::State;
 use waff_core::{Job, JobError};
-use waff_inputs::{Accepted, ToolError, accept, deliver};
+use waff_inputs::{Accepted, ToolError, accept_by_threads, deliver};
 use waff_list::laws::needs_make_the_same_plans;
 use waff_list::{WorkerPlan, list_plan};
 use waff_model::Version;
@@ -66,7 +66,7 @@ fn made_replay_text<R: Threads + Wait + Sync>(
     ensures { Makes (λ text. IsReplayText hierarchy.now trace.now (string_bytes text))
         (Refuses hierarchy.now trace.now) result }
 {
-    let accepted = accept(rt, alloc, hierarchy, trace)?;
+    let accepted = accept_by_threads(rt, alloc, hierarchy, trace)?;
     match printed_spaces(alloc, &accepted.layout) {
         Ok(printed) => {
             let text = replayed_text(rt, alloc, accepted, &printed, workers);

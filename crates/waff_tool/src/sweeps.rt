@@ -11,7 +11,7 @@ use std::io::Write;
 use std::thread::Threads;
 use waff_figures::figures::least_is_lower_bound;
 use waff_figures::{figures_of, figures_text, list_figures};
-use waff_inputs::{Accepted, ToolError, accept, deliver};
+use waff_inputs::{Accepted, ToolError, accept_by_threads, deliver};
 use waff_list::Rule;
 use waff_plan::Planned;
 use waff_plan::unlimited::plan;
@@ -51,7 +51,7 @@ fn made_sweep_text<R: Threads + Sync>(
         IsSweepText rule hierarchy.now trace.now workers.now (string_bytes text))
         (Refuses hierarchy.now trace.now) result }
 {
-    let accepted = accept(rt, alloc, hierarchy, trace)?;
+    let accepted = accept_by_threads(rt, alloc, hierarchy, trace)?;
     let text = swept_text(alloc, &accepted, workers, rule).map_err(ToolError::from);
     drop(accepted);
     text

@@ -11,7 +11,7 @@ use std::io::Write;
 use std::thread::Threads;
 use waff_figures::wait_laws::ticks_add_up;
 use waff_figures::waiting_text;
-use waff_inputs::{Accepted, ToolError, accept, deliver};
+use waff_inputs::{Accepted, ToolError, accept_by_threads, deliver};
 use waff_list::laws::needs_make_the_same_plans;
 use waff_list::{Rule, list_plan_by};
 use waff_order::predecessors::needs;
@@ -57,7 +57,7 @@ fn made_waits_text<R: Threads + Sync>(
         (λ text. IsWaitsText rule hierarchy.now trace.now workers by_name (string_bytes text))
         (Refuses hierarchy.now trace.now) result }
 {
-    let accepted = accept(rt, alloc, hierarchy, trace)?;
+    let accepted = accept_by_threads(rt, alloc, hierarchy, trace)?;
     let text = waited_text(alloc, &accepted, workers, rule, by_name).map_err(ToolError::from);
     drop(accepted);
     text

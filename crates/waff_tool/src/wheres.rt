@@ -12,7 +12,7 @@ use std::io::Write;
 use std::thread::Threads;
 use waff_figures::laws::{chain_adds_up, costs_add_up, names_add_up};
 use waff_figures::{affinities_text, names_text};
-use waff_inputs::{Accepted, ToolError, accept, deliver};
+use waff_inputs::{Accepted, ToolError, accept_by_threads, deliver};
 use waff_plan::Planned;
 
 /// Writes where the time of the trace goes under the hierarchy: for each affinity, or for each name
@@ -45,7 +45,7 @@ fn made_where_text<R: Threads + Sync>(
     ensures { Makes (λ text. IsWhereText hierarchy.now trace.now by_name (string_bytes text))
         (Refuses hierarchy.now trace.now) result }
 {
-    let accepted = accept(rt, alloc, hierarchy, trace)?;
+    let accepted = accept_by_threads(rt, alloc, hierarchy, trace)?;
     let text = spent_text(alloc, &accepted, by_name).map_err(ToolError::from);
     drop(accepted);
     text

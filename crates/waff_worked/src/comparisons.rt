@@ -9,7 +9,7 @@ use waff_assign::assign;
 use waff_order::refines;
 use waff_read::{HierError, read_hierarchy, read_trace};
 use waff_samples::{C1, COMPARE_C1_H1_X1, COMPARE_C2_H1, H1, X1, X2};
-use waff_tool::{ToolError, compare_text};
+use waff_tool::{ToolError, compare_text, compare_text_by_threads};
 
 /// The text of the comparison for two workers has to be this.
 fn is_told<R: Threads + Sync + Abort>(
@@ -20,10 +20,14 @@ fn is_told<R: Threads + Sync + Abort>(
     text: &str,
 ) {
     let (first, second) = (hierarchies.0.as_bytes(), hierarchies.1.as_bytes());
-    let mut written = Vec::new(alloc);
     let trace = trace.as_bytes();
-    compare_text(rt, alloc, first, second, trace, 2, &mut written).expect(rt, "a text");
-    are_same(rt, written.as_slice(), text.as_bytes());
+    let (mut alone, mut by_threads) = (Vec::new(alloc), Vec::new(alloc));
+    compare_text(alloc, first, second, trace, 2, &mut alone).expect(rt, "a text");
+    are_same(rt, alone.as_slice(), text.as_bytes());
+    compare_text_by_threads(rt, alloc, first, second, trace, 2, &mut by_threads).expect(
+        rt, "a text",
+    );
+    are_same(rt, by_threads.as_slice(), text.as_bytes());
 }
 
 /// Two messages, of which the classical sample with cells one by one orders none.
@@ -49,16 +53,10 @@ fn stand_classical_first_in_either_order(rt: HostRuntime) {
 }
 
 /// The hierarchies have to be refused so, before the trace is, and nothing is written.
-fn are_refused<R: Threads + Sync + Abort>(
-    rt: &R,
-    alloc: Global,
-    first: &str,
-    second: &str,
-    error: ToolError,
-) {
+fn are_refused(rt: &impl Abort, alloc: Global, first: &str, second: &str, error: ToolError) {
     let mut written = Vec::new(alloc);
     let (first, second) = (first.as_bytes(), second.as_bytes());
-    let refused = compare_text(rt, alloc, first, second, b"", 2, &mut written).err();
+    let refused = compare_text(alloc, first, second, b"", 2, &mut written).err();
     assert!(rt; refused == Some(error), "{error:?}: {refused:?}");
     assert!(rt; written.is_empty(), "{error:?}: {} bytes", written.len());
 }

@@ -13,20 +13,23 @@ use waff_samples::{
     STATE_H1_X1, X1,
 };
 use waff_tool::{
-    Part, Picture, ReadFault, ToolError, assign_text, check_text, compare_text, draw_text,
-    explain_text, plan_text, plan_text_by, rank_text, rate_text, read_whole, replay_text,
-    sweep_text, sweep_workers, waits_text, where_text,
+    Part, Picture, ReadFault, ToolError, assign_text, assign_text_by_threads, check_text,
+    compare_text, compare_text_by_threads, draw_text, explain_text, plan_text, plan_text_by,
+    rank_text, rate_text, read_whole, replay_text, sweep_text, sweep_workers, waits_text,
+    where_text,
 };
 
 /// The calls that write a text.
 #[derive(Clone, Copy)]
 enum Call {
     Assign,
+    AssignByThreads,
     Plan,
     PlanForTwo,
     PlanByLongest,
     Check,
     Compare,
+    CompareByThreads,
     Replay,
     Sweep,
     Affinities,
@@ -73,9 +76,10 @@ fn write_text<R: Threads + Wait + Sync>(
 ) -> Result<(), ToolError> {
     let (hierarchy, trace) = (H1.as_bytes(), X1.as_bytes());
     match call {
-        Call::Assign => assign_text(rt, alloc, hierarchy, trace, writer),
-        Call::Plan => plan_text(rt, alloc, hierarchy, trace, None, writer),
-        Call::PlanForTwo => plan_text(rt, alloc, hierarchy, trace, Some(2), writer),
+        Call::Assign => assign_text(alloc, hierarchy, trace, writer),
+        Call::AssignByThreads => assign_text_by_threads(rt, alloc, hierarchy, trace, writer),
+        Call::Plan => plan_text(alloc, hierarchy, trace, None, writer),
+        Call::PlanForTwo => plan_text(alloc, hierarchy, trace, Some(2), writer),
         Call::PlanByLongest => plan_text_by(
             rt,
             alloc,
@@ -85,7 +89,10 @@ fn write_text<R: Threads + Wait + Sync>(
             Rule::Longest,
             writer,
         ),
-        Call::Compare => compare_text(rt, alloc, C1.as_bytes(), hierarchy, trace, 2, writer),
+        Call::Compare => compare_text(alloc, C1.as_bytes(), hierarchy, trace, 2, writer),
+        Call::CompareByThreads => {
+            compare_text_by_threads(rt, alloc, C1.as_bytes(), hierarchy, trace, 2, writer)
+        }
         Call::Replay => replay_text(rt, alloc, hierarchy, trace, 2, writer),
         Call::Sweep => {
             sweep_text(
@@ -207,10 +214,12 @@ fn is_given<R: Threads + Wait + Sync + Abort>(rt: &R, alloc: Global, call: Call,
 /// The calls with the texts that they write for the samples.
 const TEXTS: &[(Call, &str)] = &[
     (Call::Assign, ASSIGN_H1_X1),
+    (Call::AssignByThreads, ASSIGN_H1_X1),
     (Call::Plan, PLAN_H1_X1),
     (Call::PlanForTwo, PLAN_H1_X1_WORKERS2),
     (Call::Check, "shortest\n"),
     (Call::Compare, COMPARE_C1_H1_X1),
+    (Call::CompareByThreads, COMPARE_C1_H1_X1),
     (Call::Replay, STATE_H1_X1),
     (Call::Sweep, SWEEP_H1_X1),
     (Call::Affinities, WHERE_H1_X1),

@@ -3,15 +3,14 @@
 use crate::same::are_same;
 use std::alloc::Global;
 use std::process::Abort;
-use std::thread::Threads;
 use waff_samples::{ASSIGN_H1_X1, H1, PLAN_H1_HEADER_ALONE, PLAN_H1_X1, PLAN_H1_X2, X1, X2};
 use waff_tool::{ReadFault, assign_text, plan_text, read_whole};
 
 /// The text of the unlimited plan has to be this.
-fn is_planned<R: Threads + Sync + Abort>(rt: &R, alloc: Global, trace: &str, text: &str) {
+fn is_planned(rt: &impl Abort, alloc: Global, trace: &str, text: &str) {
     let mut written = Vec::new(alloc);
     let (hierarchy, trace) = (H1.as_bytes(), trace.as_bytes());
-    plan_text(rt, alloc, hierarchy, trace, None, &mut written).expect(rt, "a text");
+    plan_text(alloc, hierarchy, trace, None, &mut written).expect(rt, "a text");
     are_same(rt, written.as_slice(), text.as_bytes());
 }
 
@@ -26,7 +25,7 @@ fn of_plans(rt: HostRuntime) {
 fn of_affinities(rt: HostRuntime) {
     let mut written = Vec::new(rt.alloc());
     let (hierarchy, trace) = (H1.as_bytes(), X1.as_bytes());
-    assign_text(&rt, rt.alloc(), hierarchy, trace, &mut written).expect(&rt, "a text");
+    assign_text(rt.alloc(), hierarchy, trace, &mut written).expect(&rt, "a text");
     are_same(&rt, written.as_slice(), ASSIGN_H1_X1.as_bytes());
 }
 

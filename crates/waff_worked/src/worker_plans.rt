@@ -36,18 +36,12 @@ fn has_text<R: Threads + Sync + Abort>(
 }
 
 /// The text of the plan for k workers by arrival has to be this, where no rule is named.
-fn has_text_without_rule<R: Threads + Sync + Abort>(
-    rt: &R,
-    alloc: Global,
-    trace: &str,
-    k: u32,
-    text: &str,
-)
+fn has_text_without_rule(rt: &impl Abort, alloc: Global, trace: &str, k: u32, text: &str)
     requires { IsWorkers k }
 {
     let (hierarchy, trace) = (H1.as_bytes(), trace.as_bytes());
     let mut written = Vec::new(alloc);
-    plan_text(rt, alloc, hierarchy, trace, Some(k), &mut written).expect(rt, "a text");
+    plan_text(alloc, hierarchy, trace, Some(k), &mut written).expect(rt, "a text");
     are_same(rt, written.as_slice(), text.as_bytes());
 }
 

@@ -6,6 +6,10 @@ use Rattle.waff_tool.proofs.assigns.assign_text.Goals as goal
 
 pub returns : goal.returns
 returns g c =
-    delivers (λ text. string_bytes text) (λ text. IsAssignText c.args.hierarchy.now c.args.trace.now text)
-    (Refuses c.args.hierarchy.now c.args.trace.now) _ _ tt c.made_assign_text.result c.deliver.result c.made_assign_text.ensures tt
+    let h = c.args.hierarchy.now in
+    let t = c.args.trace.now in
+    let is = c.accept-accepted.ensures in
+    delivers (λ text. string_bytes text) (λ text. IsAssignText h t text) (Refuses h t) _ _ tt
+    c.made_assign_text.result c.deliver.result
+    (c.made_assign_text.ensures h t (record { accepted = is.accepted; refused = is.refused; nothing = is.nothing })) tt
     c.deliver.ensures

@@ -19,10 +19,10 @@ pub returns-clause-bounded : goal.returns-clause-bounded
 returns-clause-bounded c =
     let case = c.args.case.now in
     let made = c.in_ok-made.made in
-    let starts = start_of made.table.starts in
+    let starts = start_of made.plan.starts in
     let timings = c.in_ok-made.ensures.timings in
     let forward = pairs_forward case.tree.now case.assigned.now case.trace.now.messages case.lengths in
-    let plan = c.needs_make_the_same_plans.ensures case.tree.now case.assigned.now c.in_ok-needs.needs (work_of made.table.timings) c.args.rule
+    let plan = c.needs_make_the_same_plans.ensures case.tree.now case.assigned.now c.in_ok-needs.needs (work_of made.plan.timings) c.args.rule
     c.args.k starts c.in_ok-needs.ensures.needs c.in_ok-made.ensures.follows in
     let list = rw timings at plan in
     let printed = rw timings at c.in_ok-chain.ensures.printed in

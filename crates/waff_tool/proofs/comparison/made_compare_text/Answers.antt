@@ -1,27 +1,38 @@
-use Rattle.std.proofs.Common.{◌≡◌, ℕ, List, Ok, string_bytes}
-use Rattle.std.proofs.lemmas.Result.{IfErr-weaker, IfOk-weaker}
+use Rattle.std.proofs.Common.{List, ℕ, string_bytes}
+use Rattle.std.proofs.lemmas.Result.{IfErr-weaker, IfOk-weaker, err_from_is_err_and}
 use Rattle.waff_inputs.specs.declared.fault.ToolError.{ToolError}
-use Rattle.waff_read.specs.Hierarchies.{hierarchy_of}
-use Rattle.waff_tool.specs.Comparison.{IsCompareText, RefusesComparison}
+use Rattle.waff_tool.specs.Comparison.{AreModels, IsCompareText, RefusesComparison}
 use Rattle.waff_tool.proofs.comparison.made_compare_text.Goals as goal
 
+pub returns-in_err-models : goal.returns-in_err-models
+returns-in_err-models c =
+    let p = err_from_is_err_and c.from_residual.result c.from_residual.ensures.1 in
+    rw (p.1, p.2) (record {
+      made = tt;
+      refused = c.in_err-models.ensures.refused c.args.trace.now;
+      unwritten = c.in_err-models.ensures.nothing;
+    })
+
 pub returns : goal.returns
-returns g c =
+returns c =
     let first = c.args.first.now in
     let second = c.args.second.now in
     let trace = c.args.trace.now in
-    let k = c.args.workers in
-    let read = c.in_ok-first.ensures.layout in
+    let k = c.args.k in
+    let models = c.in_ok-models.models in
+    let are = c.in_ok-models.ensures.models in
     record {
-      made = IfOk-weaker c.text_with_second-text.result
-          (λ text. (first_file : List ℕ) → hierarchy_of first_file ≡ Ok c.in_ok-first.first → IsCompareText first_file second trace k (string_bytes text))
+      made = IfOk-weaker c.models_text-text.result
+          (λ text. (first_file second_file : List ℕ) → AreModels first_file second_file models.classical models.hierarchical
+          → IsCompareText first_file second_file trace k (string_bytes text))
           (λ text. IsCompareText first second trace k (string_bytes text))
-          (λ text made. made first read)
-          c.text_with_second-text.ensures.made;
-      refused = IfErr-weaker c.text_with_second-text.result
-          (λ (error : ToolError). (first_file : List ℕ) → hierarchy_of first_file ≡ Ok c.in_ok-first.first → RefusesComparison first_file second trace error)
+          (λ text made. made first second are)
+          c.models_text-text.ensures.made;
+      refused = IfErr-weaker c.models_text-text.result
+          (λ (error : ToolError). (first_file second_file : List ℕ) → AreModels first_file second_file models.classical models.hierarchical
+          → RefusesComparison first_file second_file trace error)
           (λ error. RefusesComparison first second trace error)
-          (λ error refused. refused first read)
-          c.text_with_second-text.ensures.refused;
-      unwritten = c.text_with_second-text.ensures.nothing;
+          (λ error refused. refused first second are)
+          c.models_text-text.ensures.refused;
+      unwritten = c.models_text-text.ensures.nothing;
     }

@@ -1,14 +1,10 @@
-use Rattle.std.proofs.lemmas.Result.{IfOk-at_ok}
-use Rattle.waff_assign.specs.Case.{pairs_of}
 use Rattle.waff_plan.specs.Timetable.{work_of_messages}
-use Rattle.waff_tool.specs.Comparison.{AreCertifiedTotals, AreListTotals}
 use Rattle.waff_tool.proofs.ComparisonLemmas.{measured_of}
 use Rattle.waff_tool.proofs.measures.measure.Goals as goal
 
 pub returns : goal.returns
-returns g c =
+returns c =
     let case = c.args.case.now in
     let work = work_of_messages case.trace.now.messages in
-    let least = IfOk-at_ok (AreCertifiedTotals (pairs_of case) work) c.in_ok-unlimited.was c.join-unlimited.ensures.first in
-    let by_arrival = IfOk-at_ok (AreListTotals (pairs_of case) work c.args.k) c.in_ok-listed.was c.join-unlimited.ensures.second in
-    measured_of c.args.layout.now case.tree.now case.assigned.now work c.args.k _ _ _ c.requires.tree c.kind.ensures least by_arrival
+    measured_of c.args.layout.now case.tree.now case.assigned.now work c.args.k _ _ _ c.requires.tree c.kind.ensures
+    c.in_ok-unlimited_totals.ensures c.in_ok-list_totals.ensures

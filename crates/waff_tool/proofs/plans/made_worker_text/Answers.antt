@@ -26,7 +26,7 @@ pub worker_text-text-requires-clause-chain : goal.worker_text-text-requires-clau
 worker_text-text-requires-clause-chain c =
     let found = c.in_ok-bounded.bounded in
     subst (λ (t : Timetable). IsListed (length t.timings) c.messages-chain.result.now) (sym c.plan-plan.ensures.plan)
-    (subst (λ ch. IsListed (length found.made.table.timings) ch) (sym c.messages-chain.ensures) c.in_ok-bounded.ensures.listed)
+    (subst (λ ch. IsListed (length found.made.plan.timings) ch) (sym c.messages-chain.ensures) c.in_ok-bounded.ensures.listed)
 
 pub returns : goal.returns
 returns c =
@@ -49,7 +49,7 @@ returns c =
       layout = layout;
       trace = trace;
       assigned = assigned;
-      starts = made.table.starts;
+      starts = made.plan.starts;
       workers = made.seats;
       chain = chain.messages;
       accepts = accepts;
@@ -58,8 +58,8 @@ returns c =
       lines = as_accepted (λ t a r. string_bytes text ≡ text_for r.version t a c.plan-plan.result.now.timings c.plan-plan.result.now.starts
           c.seats.result.now c.messages-chain.result.now) _ _ _ _ _ _ is.tree is.assigned is.trace lines
           ∙ ap (λ (table : Timetable). text_for trace.version layout.tree assigned table.timings table.starts c.seats.result.now c.messages-chain.result.now) c.plan-plan.ensures.plan
-          ∙ ap (λ seats. text_for trace.version layout.tree assigned made.table.timings made.table.starts seats c.messages-chain.result.now) c.seats.ensures.seats
-          ∙ ap (λ ch. text_for trace.version layout.tree assigned made.table.timings made.table.starts made.seats ch) c.messages-chain.ensures
-          ∙ ap (λ ts. text_for trace.version layout.tree assigned ts made.table.starts made.seats chain.messages) timings;
+          ∙ ap (λ seats. text_for trace.version layout.tree assigned made.plan.timings made.plan.starts seats c.messages-chain.result.now) c.seats.ensures.seats
+          ∙ ap (λ ch. text_for trace.version layout.tree assigned made.plan.timings made.plan.starts made.seats ch) c.messages-chain.ensures
+          ∙ ap (λ ts. text_for trace.version layout.tree assigned ts made.plan.starts made.seats chain.messages) timings;
     })
     c.worker_text-text.ensures

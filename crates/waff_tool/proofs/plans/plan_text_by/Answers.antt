@@ -6,6 +6,10 @@ use Rattle.waff_tool.proofs.plans.plan_text_by.Goals as goal
 
 pub returns : goal.returns
 returns g c =
-    delivers (λ text. string_bytes text) (λ text. IsPlanTextFor c.args.rule c.args.hierarchy.now c.args.trace.now c.args.workers text)
-    (Refuses c.args.hierarchy.now c.args.trace.now) _ _ tt c.made_plan_text.result c.deliver.result c.made_plan_text.ensures tt
+    let h = c.args.hierarchy.now in
+    let t = c.args.trace.now in
+    let is = c.accept_by_threads-accepted.ensures in
+    delivers (λ text. string_bytes text) (λ text. IsPlanTextFor c.args.rule h t c.args.workers text) (Refuses h t) _ _ tt
+    c.made_plan_text.result c.deliver.result
+    (c.made_plan_text.ensures h t (record { accepted = is.accepted; refused = is.refused; nothing = is.nothing })) tt
     c.deliver.ensures

@@ -12,9 +12,9 @@ returns-clause-order c =
     let trace = c.args.accepted.now.trace in
     let assigned = c.args.accepted.now.assigned in
     let needs = c.in_ok-needs.needs in
-    let timings = c.in_ok-plan.plan.table.timings in
+    let timings = c.in_ok-plan.plan.plan.timings in
     let work = work_of timings in
-    let start = start_of c.in_ok-plan.plan.table.starts in
+    let start = start_of c.in_ok-plan.plan.plan.starts in
     let is = c.in_ok-plan.ensures.timings in
     let small = trace_is_small trace c.requires.trace in
     let runs : EachRuns work = subst (λ ts. EachRuns (work_of ts)) (sym is) small.some_cost in
@@ -30,8 +30,8 @@ pub returns-clause-list : goal.returns-clause-list
 returns-clause-list c =
     let tree = c.tree.result.now in
     let assigned = c.args.accepted.now.assigned in
-    let timings = c.in_ok-plan.plan.table.timings in
-    let start = start_of c.in_ok-plan.plan.table.starts in
+    let timings = c.in_ok-plan.plan.plan.timings in
+    let start = start_of c.in_ok-plan.plan.plan.starts in
     let is = c.in_ok-plan.ensures.timings in
     let plan = c.needs_make_the_same_plans.ensures tree assigned c.in_ok-needs.needs (work_of timings) Arrival c.args.k start
     c.in_ok-needs.ensures.needs c.in_ok-plan.ensures.follows in

@@ -29,7 +29,7 @@ returns c =
     let is = c.case-case.ensures in
     let timings = rw is.trace at c.in_ok-made.ensures.timings in
     let plan = c.needs_make_the_same_plans.ensures c.case-case.result.tree.now c.case-case.result.assigned.now c.in_ok-needs.needs
-    (work_of made.table.timings) rule k (start_of made.table.starts) c.in_ok-needs.ensures.needs
+    (work_of made.plan.timings) rule k (start_of made.plan.starts) c.in_ok-needs.ensures.needs
     c.in_ok-made.ensures.follows in
     let list = rw (is.tree, is.assigned, timings) at plan in
     let adds = c.ticks_add_up.ensures layout.tree assigned (work_of_trace trace) in
@@ -39,8 +39,8 @@ returns c =
     (λ text. (hierarchy trace_file : List ℕ) → Accepts hierarchy trace_file layout trace assigned
     → IsWaitsText rule hierarchy trace_file (Some k) by_name (string_bytes text))
     (λ text told hierarchy trace_file accepts.
-    told_text rule hierarchy trace_file (Some k) by_name layout trace assigned made.table.starts (string_bytes text) accepts adds list
-    (subst (λ ts. IsTold by_name layout.tree assigned trace.messages ts made.table.starts (string_bytes text)) timings
+    told_text rule hierarchy trace_file (Some k) by_name layout trace assigned made.plan.starts (string_bytes text) accepts adds list
+    (subst (λ ts. IsTold by_name layout.tree assigned trace.messages ts made.plan.starts (string_bytes text)) timings
     (subst (λ (table : Timetable). IsTold by_name layout.tree assigned trace.messages table.timings table.starts (string_bytes text)) c.plan-plan.ensures.plan
     (as_accepted (λ t a r. IsTold by_name t a r.messages c.plan-plan.result.now.timings c.plan-plan.result.now.starts (string_bytes text))
     _ _ _ _ _ _ is.tree is.assigned is.trace told))))

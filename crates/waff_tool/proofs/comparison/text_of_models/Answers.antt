@@ -7,20 +7,20 @@ use Rattle.waff_tool.specs.PlanText.{work_of_trace}
 use Rattle.waff_tool.specs.Comparison.{AreAssignedAndMeasured, IsCompared, compare_lines}
 use Rattle.waff_plan_text.specs.Lines.{text_of}
 use Rattle.waff_tool.proofs.ComparisonLemmas.{refined_is_no_longer}
-use Rattle.waff_tool.proofs.comparison.compared_text.Goals as goal
+use Rattle.waff_tool.proofs.comparison.text_of_models.Goals as goal
 
 pub returns : goal.returns
-returns g c =
-    let classical = c.args.classical.now in
-    let hierarchical = c.args.hierarchical.now in
+returns c =
+    let classical = c.args.models.now.classical in
+    let hierarchical = c.args.models.now.hierarchical in
     let trace = c.args.trace.now in
     let coarse = c.in_ok-coarse.coarse in
     let fine = c.in_ok-fine.fine in
     let of_classical = c.in_ok-coarse.of_classical in
     let of_hierarchical = c.in_ok-fine.of_hierarchical in
     let refined = c.refines-refined.result in
-    let under_classical = IfOk-at_ok (AreAssignedAndMeasured classical trace c.args.k) c.in_ok-coarse.was c.join-coarse.ensures.first in
-    let under_hierarchical = IfOk-at_ok (AreAssignedAndMeasured hierarchical trace c.args.k) c.in_ok-fine.was c.join-coarse.ensures.second in
+    let under_classical = IfOk-at_ok (AreAssignedAndMeasured classical trace c.args.k) c.in_ok-coarse.was c.requires.classical in
+    let under_hierarchical = IfOk-at_ok (AreAssignedAndMeasured hierarchical trace c.args.k) c.in_ok-fine.was c.requires.hierarchical in
     let told : IsTrue refined ↔ Refines hierarchical.tree fine classical.tree coarse =
     rw (c.tree.ensures, c.tree-2.ensures) at c.refines-refined.ensures in
     let total : of_classical.unlimited.total ≡ total_of (work_of_trace trace) =

@@ -1,0 +1,13 @@
+use Rattle.std.proofs.Common.{refl}
+use Rattle.waff_tool.specs.PlanText.{IsPlanTextFor}
+use Rattle.waff_cli.specs.declared.words.Asked.TheVariants as asked
+use Rattle.waff_answer.specs.Answers.{Answers, RefusesAsked, bytes_of, first, second}
+use Rattle.waff_answer.proofs.Answering.{delivers_as}
+use Rattle.waff_answer.proofs.answers.print_plan.Goals as goal
+
+pub returns : goal.returns
+returns g c =
+    let files = bytes_of c.args.files.now in
+    delivers_as (λ _. 0) (λ _ text. IsPlanTextFor c.args.rule (first files) (second files) c.args.workers text) (Answers (asked.Plan c.args.workers c.args.rule) files) (RefusesAsked (asked.Plan c.args.workers c.args.rule) files) _ _
+    c.plan_text_by.result c.printed.result (λ _ text is. (refl, is)) c.printed.ensures.written c.printed.ensures.refused
+    (rw (c.file-hierarchy.ensures, c.file-trace.ensures) at c.plan_text_by.ensures)

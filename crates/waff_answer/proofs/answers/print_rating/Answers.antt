@@ -1,0 +1,14 @@
+use Rattle.std.proofs.Common.{refl}
+use Rattle.waff_tool.specs.Rate.{IsRateText}
+use Rattle.waff_tool.specs.CheckText.{status_after}
+use Rattle.waff_cli.specs.declared.words.Asked.TheVariants as asked
+use Rattle.waff_answer.specs.Answers.{Answers, RefusesAsked, bytes_of, first, second, third}
+use Rattle.waff_answer.proofs.Answering.{delivers_as}
+use Rattle.waff_answer.proofs.answers.print_rating.Goals as goal
+
+pub returns : goal.returns
+returns g c =
+    let files = bytes_of c.args.files.now in
+    delivers_as status_after (λ v text. IsRateText (first files) (second files) (third files) v text) (Answers asked.Rate files) (RefusesAsked asked.Rate files) _ _
+    c.rate_text.result c.judged.result (λ v text is. (v, is, refl)) c.judged.ensures.written c.judged.ensures.refused
+    (rw (c.file-hierarchy.ensures, c.file-trace.ensures, c.file-plan.ensures) at c.rate_text.ensures)

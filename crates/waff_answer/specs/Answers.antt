@@ -1,0 +1,100 @@
+-- What the program answers: which text, and with which exit status, answers what is asked of files.
+use Rattle.std.specs.Global.{Global}
+use Rattle.std.specs.Prelude.{◌≡◌, ℕ, List, Vec, drop, map, option_map, slice_get, unwrap_or}
+use Rattle.waff_io.specs.Split.{after_mark, before_mark}
+use Rattle.waff_check.specs.declared.verdict.Verdict.{Verdict}
+use Rattle.waff_figures.specs.Sweep.{sweep_workers}
+use Rattle.waff_inputs.specs.Inputs.{Refuses}
+use Rattle.waff_inputs.specs.declared.fault.ToolError.{ToolError}
+use Rattle.waff_tool.specs.AssignText.{IsAssignText}
+use Rattle.waff_tool.specs.CheckText.{IsCheckText, RefusesCheck, status_after, verdict_text}
+use Rattle.waff_tool.specs.Comparison.{IsCompareText, RefusesComparison}
+use Rattle.waff_tool.specs.DrawText.{IsDrawText}
+use Rattle.waff_tool.specs.Explanations.{IsExplanation, RefusesWork, status_explained}
+use Rattle.waff_tool.specs.Figures.{IsSweepText, IsWhereText}
+use Rattle.waff_tool.specs.PlanText.{IsPlanText, IsPlanTextFor}
+use Rattle.waff_tool.specs.Ranks.{IsRankText, RefusesRank, file_at}
+use Rattle.waff_tool.specs.Rate.{IsRateText}
+use Rattle.waff_tool.specs.ReplayText.{IsReplayText}
+use Rattle.waff_tool.specs.WaitsText.{IsWaitsText}
+use Rattle.waff_tool.specs.declared.draws.Picture.{Picture}
+use Rattle.waff_tool.specs.declared.draws.Picture.TheVariants as picture
+use Rattle.waff_tool.specs.declared.explains.Explained.{Explained}
+use Rattle.waff_cli.specs.declared.words.Asked.{Asked}
+use Rattle.waff_cli.specs.declared.words.Asked.TheVariants as asked
+use Rattle.waff_cli.specs.declared.words.Drawing.{Drawing}
+use Rattle.waff_cli.specs.declared.words.Drawing.TheVariants as drawing
+
+-- the bytes of files
+abbrev pub bytes_of : List (Vec ℕ Global) → List (List ℕ)
+bytes_of files = map (λ file. file.items) files
+
+-- the files in the order of the words
+abbrev pub first : List (List ℕ) → List ℕ
+first files = file_at files 0
+
+abbrev pub second : List (List ℕ) → List ℕ
+second files = file_at files 1
+
+abbrev pub third : List (List ℕ) → List ℕ
+third files = file_at files 2
+
+-- the picture that is asked for
+abbrev pub picture_for : Drawing → Picture
+picture_for drawing.Svg = picture.Svg
+picture_for drawing.Events = picture.TraceEvents
+
+-- the text is an answer to what is asked of the bytes of these files, and this is the exit status
+abbrev pub Answers : Asked → List (List ℕ) → ℕ → List ℕ → Type 0
+Answers asked.PlanOfInput files status text =
+    (status ≡ 0) × IsPlanText (before_mark (first files)) (after_mark (first files)) text
+Answers asked.Assign files status text =
+    (status ≡ 0) × IsAssignText (first files) (second files) text
+Answers (asked.Plan workers rule) files status text =
+    (status ≡ 0) × IsPlanTextFor rule (first files) (second files) workers text
+Answers asked.Check files status text =
+    (v : Verdict) × IsCheckText (first files) (second files) (third files) v
+    × (text ≡ verdict_text v) × (status ≡ status_after v)
+Answers (asked.Replay workers) files status text =
+    (status ≡ 0) × IsReplayText (first files) (second files) text
+Answers (asked.Compare k) files status text =
+    (status ≡ 0) × IsCompareText (first files) (second files) (third files) k text
+Answers asked.Rate files status text =
+    (v : Verdict) × IsRateText (first files) (second files) (third files) v text
+    × (status ≡ status_after v)
+Answers (asked.Sweep given rule) files status text =
+    (status ≡ 0) × IsSweepText rule (first files) (second files)
+    (unwrap_or (option_map (λ numbers. numbers.items) given) sweep_workers) text
+Answers (asked.Where by_name) files status text =
+    (status ≡ 0) × IsWhereText (first files) (second files) by_name text
+Answers (asked.Waits workers rule by_name) files status text =
+    (status ≡ 0) × IsWaitsText rule (first files) (second files) workers by_name text
+Answers (asked.Draw drawing part) files status text =
+    (status ≡ 0)
+    × IsDrawText (first files) (second files) (third files) (picture_for drawing) part text
+Answers (asked.Rank k rule) files status text =
+    (status ≡ 0) × IsRankText rule (drop 1 files) (first files) k text
+Answers asked.Explain files status text =
+    (e : Explained) × IsExplanation (first files) (slice_get files 1) (slice_get files 2) e text
+    × (status ≡ status_explained e)
+
+-- the error tells why what is asked of these files is refused; an allocation failure and a writer's
+-- fault tell nothing of them
+abbrev pub RefusesAsked : Asked → List (List ℕ) → ToolError → Type 0
+RefusesAsked asked.PlanOfInput files error =
+    Refuses (before_mark (first files)) (after_mark (first files)) error
+RefusesAsked asked.Assign files error = Refuses (first files) (second files) error
+RefusesAsked (asked.Plan workers rule) files error = Refuses (first files) (second files) error
+RefusesAsked asked.Check files error = RefusesCheck (first files) (second files) (third files) error
+RefusesAsked (asked.Replay workers) files error = Refuses (first files) (second files) error
+RefusesAsked (asked.Compare k) files error =
+    RefusesComparison (first files) (second files) (third files) error
+RefusesAsked asked.Rate files error = RefusesCheck (first files) (second files) (third files) error
+RefusesAsked (asked.Sweep given rule) files error = Refuses (first files) (second files) error
+RefusesAsked (asked.Where by_name) files error = Refuses (first files) (second files) error
+RefusesAsked (asked.Waits workers rule by_name) files error =
+    Refuses (first files) (second files) error
+RefusesAsked (asked.Draw drawing part) files error =
+    RefusesCheck (first files) (second files) (third files) error
+RefusesAsked (asked.Rank k rule) files error = RefusesRank (drop 1 files) (first files) error
+RefusesAsked asked.Explain files error = RefusesWork error

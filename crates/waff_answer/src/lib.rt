@@ -1,0 +1,14 @@
+//! What the program answers to a question, and how it ends.
+//!
+//! - `answers`: which command answers what is asked, of which files; what is written of it.
+//! - `ending`: the answer on the output, or the line of an error on the error stream, and the exit
+//!   status.
+//!
+//! The words of a question and its files are read by `waff_cli`, the texts are those of `waff_tool`.
+//! What is answered, and how the program ends, one clause says: that of `answer`.
+#![tactic(auto)]
+
+mod answers;
+mod ending;
+
+pub use ending::answer;

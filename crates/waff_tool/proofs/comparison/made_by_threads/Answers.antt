@@ -1,0 +1,38 @@
+use Rattle.std.proofs.Common.{List, ℕ, string_bytes}
+use Rattle.std.proofs.lemmas.Result.{IfErr-weaker, IfOk-weaker, err_from_is_err_and}
+use Rattle.waff_inputs.specs.declared.fault.ToolError.{ToolError}
+use Rattle.waff_tool.specs.Comparison.{AreModels, IsCompareText, RefusesComparison}
+use Rattle.waff_tool.proofs.comparison.made_by_threads.Goals as goal
+
+pub returns-in_err-models : goal.returns-in_err-models
+returns-in_err-models g c =
+    let p = err_from_is_err_and c.from_residual.result c.from_residual.ensures.1 in
+    rw (p.1, p.2) (record {
+      made = tt;
+      refused = c.in_err-models.ensures.refused c.args.trace.now;
+      unwritten = c.in_err-models.ensures.nothing;
+    })
+
+pub returns : goal.returns
+returns g c =
+    let first = c.args.first.now in
+    let second = c.args.second.now in
+    let trace = c.args.trace.now in
+    let k = c.args.k in
+    let models = c.in_ok-models.models in
+    let are = c.in_ok-models.ensures.models in
+    record {
+      made = IfOk-weaker c.models_text_by_threads-text.result
+          (λ text. (first_file second_file : List ℕ) → AreModels first_file second_file models.classical models.hierarchical
+          → IsCompareText first_file second_file trace k (string_bytes text))
+          (λ text. IsCompareText first second trace k (string_bytes text))
+          (λ text made. made first second are)
+          c.models_text_by_threads-text.ensures.made;
+      refused = IfErr-weaker c.models_text_by_threads-text.result
+          (λ (error : ToolError). (first_file second_file : List ℕ) → AreModels first_file second_file models.classical models.hierarchical
+          → RefusesComparison first_file second_file trace error)
+          (λ error. RefusesComparison first second trace error)
+          (λ error refused. refused first second are)
+          c.models_text_by_threads-text.ensures.refused;
+      unwritten = c.models_text_by_threads-text.ensures.nothing;
+    }
