@@ -1,10 +1,13 @@
-//! Two forms of the needs and of the unlimited plan, beside each other on the same random messages: `bench/forms` builds and runs
-//! this. Plain Rust without proofs; it shares no code with waff.
+//! Two forms of needs, starts, lowest affinities and of a check, beside each other on the same random messages: `bench/forms` builds and
+//! runs this. Plain Rust without proofs; it shares no code with waff.
 //!
 //! - needs, each message by the last ones at, below and above its affinity; or by those that are open at or below it, and the latest
 //!   above where there is none.
 //! - starts, by the greatest finish at each affinity and the one at or below it, with a climb to the root; or by the greatest
 //!   finish at each place in preorder and the one at or above it, in blocks of 64 places.
+//! - the lowest affinity above the owners of four cells, by a climb from the lowest so far; or by a look first at whether the next owner
+//!   is above it.
+//! - whether a plan keeps the order of all pairs, by each pair; or by the tables of starts.
 use std::hint::black_box;
 use std::time::{Duration, Instant};
 
@@ -209,22 +212,93 @@ fn starts_by_blocks(tree: &Tree, messages: &[(usize, u64)]) -> usize {
     length as usize
 }
 
+impl Tree {
+    fn at_or_above(&self, one: usize, other: usize) -> bool {
+        one <= other && other < self.end[one]
+    }
+
+    fn excludes(&self, one: usize, other: usize) -> bool {
+        self.at_or_above(one, other) || self.at_or_above(other, one)
+    }
+
+    /// The lowest place at or above both, by a climb from the first.
+    fn climb(&self, first: usize, second: usize) -> usize {
+        let mut at = first;
+        while !self.at_or_above(at, second) {
+            at = self.parent[at];
+        }
+        at
+    }
+}
+
+/// The owners of four cells for each message: those of it and of the next three.
+fn lowest_of(messages: &[(usize, u64)], lowest: impl Fn(usize, usize) -> usize) -> usize {
+    messages.windows(4).map(|four| four[1..].iter().fold(four[0].0, |low, owner| lowest(low, owner.0))).sum()
+}
+
+fn lowest_by_climb(tree: &Tree, messages: &[(usize, u64)]) -> usize {
+    lowest_of(messages, |low, owner| tree.climb(low, owner))
+}
+
+fn lowest_by_test(tree: &Tree, messages: &[(usize, u64)]) -> usize {
+    lowest_of(messages, |low, owner| if tree.at_or_above(owner, low) { owner } else { tree.climb(low, owner) })
+}
+
+/// The starts of the unlimited plan.
+fn starts(tree: &Tree, messages: &[(usize, u64)]) -> Vec<u64> {
+    let (mut at_it, mut above) = (Greatest::new(), Noted::new());
+    let start_of = |&(place, cost): &(usize, u64)| {
+        let start = at_it.of(place, tree.end[place]).max(above.at(place));
+        at_it.set(place, start + cost);
+        above.note(place, tree.end[place], start + cost);
+        start
+    };
+    messages.iter().map(start_of).collect()
+}
+
+/// How many messages have a later one that excludes them and starts before they finish, by all pairs.
+fn broken_by_pairs(tree: &Tree, messages: &[(usize, u64)]) -> usize {
+    let starts = starts(tree, messages);
+    let is_broken = |first: usize| {
+        let (place, cost) = messages[first];
+        let finish = starts[first] + cost;
+        (first + 1..messages.len()).any(|second| starts[second] < finish && tree.excludes(place, messages[second].0))
+    };
+    (0..messages.len()).filter(|first| is_broken(*first)).count()
+}
+
+/// How many messages start before the finish of an earlier one that excludes them, by tables.
+fn broken_by_tables(tree: &Tree, messages: &[(usize, u64)]) -> usize {
+    let starts = starts(tree, messages);
+    let (mut at_it, mut above) = (Greatest::new(), Noted::new());
+    let mut broken = 0;
+    for (&(place, cost), &start) in messages.iter().zip(&starts) {
+        let to = tree.end[place];
+        broken += usize::from(start < at_it.of(place, to).max(above.at(place)));
+        at_it.set(place, start + cost);
+        above.note(place, to, start + cost);
+    }
+    broken
+}
+
 /// What a form makes of messages under a tree.
 type Form = fn(&Tree, &[(usize, u64)]) -> usize;
 
 fn main() {
     let messages = messages();
-    let pairs: [(&str, [Form; 2]); 2] = [
-        ("needs", [needs_at_below_above, needs_open_or_above]),
-        ("starts", [starts_by_climb, starts_by_blocks]),
+    let pairs: [(&str, usize, [Form; 2]); 4] = [
+        ("needs", RUNS, [needs_at_below_above, needs_open_or_above]),
+        ("starts", RUNS, [starts_by_climb, starts_by_blocks]),
+        ("lowest", RUNS, [lowest_by_climb, lowest_by_test]),
+        ("check", 1, [broken_by_pairs, broken_by_tables]),
     ];
     println!("| what, tree | named form: answer | ms | this form: answer | ms |");
     println!("|---|---|---|---|---|");
-    for (name, forms) in pairs {
+    for (name, runs, forms) in pairs {
         for (shape, tree) in [("wide", Tree::quad()), ("path", Tree::path())] {
             let mut least = [Duration::MAX; 2];
             let mut found = [0; 2];
-            for _ in 0..RUNS {
+            for _ in 0..runs {
                 for at in 0..2 {
                     let begin = Instant::now();
                     found[at] = forms[at](&tree, &messages);
