@@ -49,7 +49,7 @@ def unescaped(text):
 
     def character(match):
         word = match[1]
-        if word[0] == "x":
+        if len(word) == 3 and word[0] == "x":
             return chr(int(word[1:], 16))
         return chr(int(word, 8) & 255) if word[0] in "01234567" else LETTERS.get(word, word)
 
