@@ -4,4 +4,4 @@
 pub const LONG_VERSION: &str = "\
 0.1.0
 kit: rattle-kit-13f logic dac8208d650f15bf
-sources: 01091829a1494d55";
+sources: 73feb7474d157cba";

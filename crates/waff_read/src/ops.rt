@@ -48,6 +48,18 @@ fn with_op(
     }
 }
 
+// About how many bytes an operation takes, with the `;` behind it.
+const OP_BYTES: usize = 16;
+
+// For how many operations of a text to make room.
+fn room_for(text: &[u8]) -> usize {
+    if text.contains(&b';') {
+        MAX_OPS.min(1 + text.len() / OP_BYTES)
+    } else {
+        1
+    }
+}
+
 // The operations of the pieces of a text, as far as one above the limit, or the fault that counts.
 fn read_pieces(
     alloc: Global,
@@ -56,7 +68,7 @@ fn read_pieces(
 ) -> Result<Result<Ops, TraceFault>, AllocError>
     ensures { IfOk result (λ r. r ≡ ops.first_ops (ops.pieces_of spaces.now text.now)) }
 {
-    let mut list = Ok(Ops::new(alloc));
+    let mut list = Ok(Ops::with_capacity(alloc, room_for(text.as_bytes()))?);
     let mut left = Some(text);
     while let Some(pieces) = left {
         let (piece, others) = cut(pieces, ';');

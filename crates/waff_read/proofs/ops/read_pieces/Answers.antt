@@ -4,7 +4,7 @@ use Rattle.waff_read.proofs.OpsLaws.{first_ops-few, left_of, pieces-end, pieces-
 use Rattle.waff_read.proofs.ops.read_pieces.Goals as goal
 
 pub loop-left-init : goal.loop-left-init
-loop-left-init c = rw c.new.ensures (record {
+loop-left-init c = rw c.in_ok-with_capacity.ensures (record {
   read = pieces-start c.args.spaces.now c.args.text.now;
   few = omega arith;
 })
