@@ -184,7 +184,8 @@ class Reader:
             elif name.endswith((".rt", ".antt")):
                 self.tell(self.has_path(f"{folder}/{name}" if folder else name), f"no file `{folder}/{name}`")
             elif name.endswith("-*"):
-                self.tell(any((ROOT / "tests/commands").glob(name)), f"no case `{name}`")
+                transcripts = (ROOT / "tests/commands").glob("*.txt")
+                self.tell(any(f"\n== {name[:-1]}" in path.read_text() for path in transcripts), f"no case `{name}`")
             elif any(name in crate.edits for crate in among):
                 self.tell_edit(name, among)
             elif NAME.match(name):

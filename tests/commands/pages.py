@@ -1,0 +1,66 @@
+"""Where README.md, docs/guide.md or docs/formats.md shows what no command case shows.
+
+In a block, a line that begins with `$ ` is a command, and the lines under it, up to a blank one or one that begins with `# `, are
+what it prints; a line `...` stands for lines that are left out. A call of waff has to be a case: the same words (but for
+`examples/`), what lays its files among the commands above it (but for what takes a file that cases share), and the output shown;
+what it prints by `>` to a file is not shown. A code span that begins with `waff: ` has to be the standard error of a case, a picture
+in SVG its standard output, and a block marked `toml` or `csv` a file that cases share.
+"""
+
+import re
+from collections.abc import Iterator
+
+from transcripts import HERE, Case, cases, paths, read
+
+ROOT = HERE.parent.parent
+
+# No case can refuse memory; tests/hostile/memory does.
+NO_CASE = {"waff: Memory"}
+
+
+def shows(case: Case, call: str, commands: set[str], output: list[str]) -> bool:
+    words, _, kept = call.replace("examples/", "").replace("< ", "<").removeprefix("./").partition(" >")
+    setup = {line for line in case.setup.splitlines() if not line.startswith("#") and "inputs/" not in line}
+    printed = ("" if kept else case.stream("|")) + case.stream("!")
+    return case.command == words and setup <= commands and re.fullmatch(shown(output), printed) is not None
+
+
+def shown(output: list[str]) -> str:
+    """The pattern of an output with lines left out."""
+    return "".join("(?:.*\n)*" if line == "..." else re.escape(line + "\n") for line in output)
+
+
+def calls(page: str) -> Iterator[tuple[int, str, set[str], list[str]]]:
+    """Each call of waff in the blocks of a page: its line's number, itself, the commands above it, its output."""
+    commands: set[str] = set()
+    for block in re.finditer(r"^```.*\n((?:.*\n)*?)```$", page, re.M):
+        for part in re.finditer(r"^\$ (.*)\n((?:(?!\$ |# ).+\n)*)", block[1], re.M):
+            if re.match(r"(\./)?waff ", part[1]):
+                number = page.count("\n", 0, block.start(1) + part.start()) + 1
+                yield number, part[1], set(commands), part[2].splitlines()
+            else:
+                commands.add(part[1])
+
+
+def faults() -> list[str]:
+    every = [case for path in paths() for case in cases(path)]
+    told = {case.stream("!").strip() for case in every} | NO_CASE
+    printed = {case.stream("|") for case in every}
+    files = {read(path) for path in (HERE / "inputs").iterdir()}
+    found, shown_calls = [], 0
+    for name in ("README.md", "docs/guide.md", "docs/formats.md"):
+        page = read(ROOT / name)
+        for number, call, commands, output in calls(page):
+            shown_calls += 1
+            if not any(shows(case, call, commands, output) for case in every):
+                found.append(f"{name}:{number}: no case shows this: {call}")
+        for span in re.findall(r"`(waff: [^`]+)`", page):
+            if span not in told:
+                found.append(f"{name}: no case prints this: {span}")
+        for picture in re.findall(r"!\[[^]]*\]\(([^)]+\.svg)\)", page):
+            if read((ROOT / name).parent / picture) not in printed:
+                found.append(f"{name}: no case prints this: {picture}")
+        for block in re.findall(r"^```(?:toml|csv)\n(.*?)^```$", page, re.M | re.S):
+            if block not in files:
+                found.append(f"{name}: no case has this file: {block.splitlines()[:1]}")
+    return found if shown_calls else [*found, "the pages show no call"]
