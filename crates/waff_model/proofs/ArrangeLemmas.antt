@@ -1,11 +1,11 @@
 -- Places given from the first affinity to the last, by their shares.
-use Rattle.std.proofs.Common.{◌≡◌, ℕ, ◌+◌, ◌<◌, ◌≤◌, inl, inr, List, [], ◌∷◌, ◌++◌, length, get_or, Some, None, refl, ap, ◌∙◌, sym, arith, length-append}
+use Rattle.std.proofs.Common.{◌≡◌, ℕ, ◌+◌, ◌-◌, ◌<◌, ◌≤◌, inl, inr, List, [], ◌∷◌, ◌++◌, length, Some, None, ◌∙◌, sym, arith, length-append}
 use Rattle.std.proofs.lemmas.Bool.{cases_lt}
 use Rattle.std.proofs.lemmas.List.{get_or_push, get_or_append_left}
 use Rattle.waff_model.specs.Tree.{Node, parent_of, IsRooted}
 use Rattle.waff_model.specs.declared.preorder.Span.{Span}
 use Rattle.waff_model.specs.declared.preorder.Share.{Share}
-use Rattle.waff_model.proofs.PreorderLemmas.{place_at_any, AreSpans}
+use Rattle.waff_model.proofs.PreorderLemmas.{AreSpans}
 use Rattle.waff_model.specs.Preorder.{span_at, share_at, AreShares}
 
 -- the place of the affinity b follows from that of its parent
@@ -13,7 +13,7 @@ pub record IsPlaced (tree : List Node) (shares : List Share) (spans : List Span)
   pub parent : span.parent ≡ parent_of tree b
   pub end : span.end ≡ span.first + (share_at shares b).size
   pub few : span.end ≤ length tree
-  pub first : (p : ℕ) → parent_of tree b ≡ Some p → span.first ≡ (span_at spans p).first + (share_at shares b).offset
+  pub inside : (p : ℕ) → parent_of tree b ≡ Some p → span.end + (share_at shares b).behind ≡ (span_at spans p).end
 
 -- the affinities before k have their places
 pub record ArePlacedBefore (tree : List Node) (shares : List Share) (spans : List Span) (k : ℕ) : Type 0 where
@@ -29,9 +29,9 @@ module _ (tree : List Node) (rooted : IsRooted tree) (shares : List Share) (span
     parent = placed.parent;
     end = placed.end;
     few = placed.few;
-    first = λ p parent.
+    inside = λ p parent.
         let up : p < b = rooted.earlier b p parent in
-        rw (place_stays p (omega arith)) (placed.first p parent);
+        rw (place_stays p (omega arith)) (placed.inside p parent);
   }
 
   -- and so, with its place, the affinity k
@@ -48,36 +48,31 @@ module _ (tree : List Node) (rooted : IsRooted tree) (shares : List Share) (span
   }
 
 module _ (tree : List Node) (rooted : IsRooted tree) (shares : List Share) (shared : AreShares tree shares 0) (spans : List Span) where
-  -- the places of a child and its share end among those of its parent
-  pub child_few : (b p : ℕ) → ArePlacedBefore tree shares spans b → b < length tree → parent_of tree b ≡ Some p → (p < length spans) × ((span_at spans p).first + (share_at shares b).offset + (share_at shares b).size ≤ length tree)
-  child_few b p are within parent =
+  -- a child's share lies in its parent's span, after the parent's own place
+  pub child_fits : (b p : ℕ) → ArePlacedBefore tree shares spans b → b < length tree → parent_of tree b ≡ Some p → (p < length spans) × ((share_at shares b).size + (share_at shares b).behind < (span_at spans p).end) × ((span_at spans p).end ≤ length tree)
+  child_fits b p are within parent =
       let up : p < b = rooted.earlier b p parent in
       let placed = are.each p up in
-      (omega (arith, are.count), omega (arith, placed.end, placed.few, shared.within b p (omega arith) within parent))
-
-  -- and so where the place of the parent is read
-  pub child_fits : (b p : ℕ) (up : Span) → up ≡ get_or spans p up → ArePlacedBefore tree shares spans b → b < length tree → parent_of tree b ≡ Some p → up.first + (share_at shares b).offset + (share_at shares b).size ≤ length tree
-  child_fits b p up read are within parent =
-      let few = child_few b p are within parent in
-      let same = read ∙ place_at_any spans p up few.0 in
-      omega (arith, few.1, ap (λ (span : Span). span.first) same)
+      (omega (arith, are.count), omega (arith, placed.end, shared.within b p (omega arith) within parent), placed.few)
 
   -- the place that follows from the parent's
-  pub parent_placed : (b p first : ℕ) → ArePlacedBefore tree shares spans b → b < length tree → parent_of tree b ≡ Some p → first ≡ (span_at spans p).first + (share_at shares b).offset → IsPlaced tree shares spans b (record { parent = Some p; first = first; end = first + (share_at shares b).size })
-  parent_placed b p first are within parent below = record {
-    parent = sym parent;
-    end = refl;
-    few = omega (arith, (child_few b p are within parent).1);
-    first = λ q other. let same : p ≡ q = cc in rw (← same) below;
-  }
+  pub parent_placed : (b p end : ℕ) → ArePlacedBefore tree shares spans b → b < length tree → parent_of tree b ≡ Some p → end ≡ (span_at spans p).end - (share_at shares b).behind → IsPlaced tree shares spans b (record { parent = Some p; first = end - (share_at shares b).size; end = end })
+  parent_placed b p end are within parent below =
+      let fits = child_fits b p are within parent in
+      record {
+        parent = sym parent;
+        end = omega (arith, below, fits.1);
+        few = omega (arith, below, fits.2);
+        inside = λ q other. let same : p ≡ q = cc in rw (← same) (omega (arith, below, fits.1));
+      }
 
   -- the place of the root
-  pub root_placed : (b : ℕ) → b < length tree → parent_of tree b ≡ None → IsPlaced tree shares spans b (record { parent = None; first = 0; end = 0 + (share_at shares b).size })
+  pub root_placed : (b : ℕ) → b < length tree → parent_of tree b ≡ None → IsPlaced tree shares spans b (record { parent = None; first = (share_at shares b).size - (share_at shares b).size; end = (share_at shares b).size })
   root_placed b within none = record {
     parent = sym none;
-    end = refl;
-    few = omega (arith, shared.few b within);
-    first = λ q other. absurd (cc);
+    end = omega arith;
+    few = shared.few b within;
+    inside = λ q other. absurd (cc);
   }
 
   -- the places of all affinities nest as their shares do
@@ -87,10 +82,10 @@ module _ (tree : List Node) (rooted : IsRooted tree) (shares : List Share) (shar
     parents = λ b within. (are.each b within).parent;
     filled = λ b within. omega (arith, (are.each b within).end, shared.filled b within);
     few = λ b within. (are.each b within).few;
-    after = λ b p within parent. omega (arith, (are.each b within).first p parent, shared.after b p (omega arith) within parent);
-    within = λ b p within parent.
+    after = λ b p within parent.
         let up : p < b = rooted.earlier b p parent in
-        omega (arith, (are.each b within).end, (are.each b within).first p parent, (are.each p (omega arith)).end, shared.within b p (omega arith) within parent);
+        omega (arith, (are.each b within).end, (are.each b within).inside p parent, (are.each p (omega arith)).end, shared.within b p (omega arith) within parent);
+    within = λ b p within parent. omega (arith, (are.each b within).inside p parent);
     apart = λ b c p order within parent_b parent_c.
-        omega (arith, (are.each c within).end, (are.each c within).first p parent_c, (are.each b (omega arith)).first p parent_b, shared.apart b c p (omega arith) order within parent_b parent_c);
+        omega (arith, (are.each c within).end, (are.each c within).inside p parent_c, (are.each b (omega arith)).inside p parent_b, shared.apart b c p (omega arith) order within parent_b parent_c);
   }

@@ -11,7 +11,7 @@ use Rattle.waff_model.proofs.TreeLemmas.{some_of, reflexive, above_child, above_
 pub place_at_any : (spans : List Span) (b : ℕ) (p : Span) → b < length spans → get_or spans b p ≡ span_at spans b
 place_at_any spans b p within = get_or_default spans b p (record { parent = None; first = 0; end = 0 }) within
 
--- spans in preorder: a child's lies in its parent's, after the parent's own place, and those of two children are apart
+-- spans in preorder: a child's lies in its parent's, after the parent's own place, and that of an earlier child before that of a later one
 pub record AreSpans (tree : List Node) (spans : List Span) : Type 0 where
   pub count : length spans ≡ length tree
   pub parents : (b : ℕ) → b < length tree → (span_at spans b).parent ≡ parent_of tree b
@@ -19,7 +19,7 @@ pub record AreSpans (tree : List Node) (spans : List Span) : Type 0 where
   pub few : (b : ℕ) → b < length tree → (span_at spans b).end ≤ length tree
   pub after : (b p : ℕ) → b < length tree → parent_of tree b ≡ Some p → (span_at spans p).first < (span_at spans b).first
   pub within : (b p : ℕ) → b < length tree → parent_of tree b ≡ Some p → (span_at spans b).end ≤ (span_at spans p).end
-  pub apart : (b c p : ℕ) → b < c → c < length tree → parent_of tree b ≡ Some p → parent_of tree c ≡ Some p → (span_at spans c).end ≤ (span_at spans b).first
+  pub apart : (b c p : ℕ) → b < c → c < length tree → parent_of tree b ≡ Some p → parent_of tree c ≡ Some p → (span_at spans b).end ≤ (span_at spans c).first
 
 -- the places of q lie among those below p
 abbrev Nests : Span → Span → Type 0
@@ -67,7 +67,7 @@ module _ (tree : List Node) (spans : List Span) (rooted : IsRooted tree) (are : 
   related_below_parent a b q order within parent (suc n, (r, parent_r, leads)) below =
       let before : r < a = rooted.earlier a r parent_r in
       elim (cases_order r q) [
-        | inl same ↦ inr (inr (inr (are.apart a b r order within parent_r (subst (λ q. parent_of tree b ≡ Some q) (sym same) parent))))
+        | inl same ↦ inr (inr (inl (are.apart a b r order within parent_r (subst (λ q. parent_of tree b ≡ Some q) (sym same) parent))))
         | inr other ↦ elim (below r before) [
           | inl above ↦
               let one : r ≤ q = earlier tree rooted r q (above_parent tree r b q (λ same. omega arith) parent above) in
@@ -122,4 +122,4 @@ module _ (tree : List Node) (spans : List Span) (rooted : IsRooted tree) (are : 
   spans_where_above a b within_a within_b = (spans_above a b within_a within_b, above_spans a b within_b)
 
   pub nested : AreNested tree spans
-  nested = record { count = are.count; parents = are.parents; filled = are.filled; few = are.few; tells = spans_where_above }
+  nested = record { count = are.count; parents = are.parents; filled = are.filled; few = are.few; tells = spans_where_above; ordered = are.apart }

@@ -1,4 +1,5 @@
-//! The spans of affinities in preorder: those below an affinity follow right after it.
+//! The spans of affinities in preorder: those below an affinity follow right after it, and children
+//! stand in their order.
 
 ghost use Rattle.std.specs.Prelude.{◌≡◌, ◌↔◌, length, replicate, IsTrue, IfOk};
 ghost use Rattle.waff_model.specs.Tree.{IsRooted};
@@ -24,12 +25,12 @@ impl Span {
     }
 }
 
-/// The part of its parent's places that an affinity and those below it take: so many, so far after
-/// the parent's own.
+/// The part of its parent's places that an affinity and those below it take: so many, and so many
+/// of the parent's stand behind them.
 #[derive(Clone, Copy)]
 struct Share {
-    offset: u16,
     size: u16,
+    behind: u16,
 }
 
 /// The spans of the affinities of a tree.
@@ -37,13 +38,14 @@ pub(crate) fn spans_of(nodes: &Nodes) -> Result<Vec<Span>, AllocError>
     requires { IsRooted nodes.now }
     ensures { IfOk result (λ spans. AreNested nodes.now spans.items) }
 {
-    let leaf = Share { offset: 0, size: 1 };
+    let leaf = Share { size: 1, behind: 0 };
     let mut shares = vec![in nodes.allocator(); leaf; nodes.len()]?;
     share_out(nodes, &mut shares);
     arrange(nodes, &shares)
 }
 
-/// Gives each parent, from the last affinity to the first, the places of its children.
+/// Gives each parent, from the last affinity to the first, the places of its children, the last of
+/// which stands last.
 fn share_out(nodes: &Nodes, shares: &mut [Share])
     requires tree { IsRooted nodes.now }
     requires leaves { shares.old ≡ replicate (length nodes.now) leaf }
@@ -53,7 +55,7 @@ fn share_out(nodes: &Nodes, shares: &mut [Share])
         if let Some(parent) = nodes.parent(at) {
             let size = shares[at].size;
             let before = shares[parent as usize].size;
-            shares[at].offset = before;
+            shares[at].behind = before - 1;
             shares[parent as usize].size = before + size;
         }
     }
@@ -68,11 +70,11 @@ fn arrange(nodes: &Nodes, shares: &[Share]) -> Result<Vec<Span>, AllocError>
     let mut spans: Vec<Span> = Vec::with_capacity(nodes.allocator(), shares.len())?;
     for (at, share) in shares.iter().enumerate() {
         let parent = nodes.parent(at);
-        let first = match parent {
-            Some(parent) => spans[parent as usize].first + share.offset,
-            None => 0,
+        let end = match parent {
+            Some(parent) => spans[parent as usize].end - share.behind,
+            None => share.size,
         };
-        let end = first + share.size;
+        let first = end - share.size;
         spans.push(Span { parent, first, end })?;
     }
     Ok(spans)

@@ -1,6 +1,6 @@
 use Rattle.std.proofs.Common.{◌≡◌, ℕ, ◌+◌, ◌<◌, ◌≤◌, ◌∷◌, ◌++◌, [], length, get_or, set, arith, refl, sym, ap, ◌∙◌, subst}
 use Rattle.std.proofs.lemmas.List.{append-nil, append_assoc, length-set, length_push}
-use Rattle.waff_model.specs.Spans.{map_in, messages_in}
+use Rattle.waff_model.specs.Spans.{messages_in}
 use Rattle.waff_model.proofs.SpanLemmas.{map_in-none, map_in-more, messages_in-here, messages_in-more, map_in-empty, messages_in-empty}
 use Rattle.waff_model.proofs.spans.take_each.Goals as goal
 use Rattle.waff_model.proofs.spans.take_each.Goals.{then-m-gt0, else-m-gt0}
