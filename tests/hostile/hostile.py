@@ -299,7 +299,12 @@ def arguments(about, *options):
 
 def program_of_sources():
     """The program of these sources, which is built where that is needed."""
-    found = subprocess.run([os.path.join(ROOT, "dist", "program")], stdin=subprocess.DEVNULL, stdout=subprocess.PIPE, text=True)
-    if found.returncode != 0:
-        sys.exit("hostile: no program")
-    return found.stdout.strip()
+    return printed("dist/program").strip()
+
+
+def printed(script, *words):
+    """What a script of this repository prints."""
+    done = subprocess.run([os.path.join(ROOT, script), *words], stdin=subprocess.DEVNULL, stdout=subprocess.PIPE, text=True)
+    if done.returncode != 0:
+        sys.exit("hostile: %s fails" % script)
+    return done.stdout

@@ -1,5 +1,6 @@
 """What the sources of the crates have that a page can name."""
 import re
+import subprocess
 from pathlib import Path
 
 ROOT = Path(__file__).resolve().parent.parent.parent
@@ -87,6 +88,6 @@ def fields_of(text):
 
 def crates():
     """All crates by name, in the order of crates.txt."""
-    lines = (ROOT / "crates.txt").read_text().splitlines()
-    names = [re.match(r"\w+", line).group() for line in lines if re.match(r"\w", line)]
+    lines = subprocess.run([ROOT / "dist/crates", "all"], stdout=subprocess.PIPE, text=True, check=True).stdout.splitlines()
+    names = [re.match(r"\w+", line).group() for line in lines]
     return {name: Crate(ROOT / "crates" / name) for name in names}
