@@ -1,6 +1,6 @@
 -- The least plan, one message after another: what is known of the first n messages, and the step to
 -- one more.
-use Rattle.std.proofs.Common.{◌≡◌, ℕ, ◌+◌, ◌<◌, ◌≤◌, ◌≢◌, arith, refl, sym, subst, ⊎_elim}
+use Rattle.std.proofs.Common.{◌≡◌, ℕ, ◌-◌, ◌<◌, ◌≤◌, arith, sym, subst, inl, inr}
 use Rattle.std.proofs.lemmas.Bool.{cases_eq}
 use Rattle.waff_plan.specs.Work.{Work, IsNumber, finish_of}
 use Rattle.waff_plan.specs.Obeys.{IsForward, Obeys, IsLeast}
@@ -26,54 +26,29 @@ up_to_none before work start forward = record {
 }
 
 -- one more message, at the earliest tick at which it may start
-pub up_to_more : (before : ℕ → ℕ → Type 0) (work : Work) (start later : ℕ → ℕ) (n : ℕ) → IsForward before work → n + 1 ≤ work.count
-    → IsLeastUpTo before work start n → ((m : ℕ) → 1 ≤ m → m ≤ n → later m ≡ start m)
-    → IsEarliest before work start (n + 1) (later (n + 1)) → IsLeastUpTo before work later (n + 1)
-up_to_more before work start later n forward room up_to same earliest = record {
-  released = λ m from to.
-      ⊎_elim {C = work.release m ≤ later m}
-      (λ (last : m ≡ n + 1). subst (λ x. work.release x ≤ later x) (sym last) earliest.released)
-      (λ (not_last : m ≢ n + 1).
-      let within : m ≤ n = omega arith in
-      let kept : later m ≡ start m = same m from within in
-      let there : work.release m ≤ start m = up_to.released m from within in
-      omega arith)
-      (cases_eq m (n + 1));
+pub up_to_more : (before : ℕ → ℕ → Type 0) (work : Work) (start later : ℕ → ℕ) (m : ℕ) → IsForward before work → IsNumber work m
+    → IsLeastUpTo before work start (m - 1) → ((i : ℕ) → 1 ≤ i → i ≤ m - 1 → later i ≡ start i)
+    → IsEarliest before work start m (later m) → IsLeastUpTo before work later m
+up_to_more before work start later m forward number up_to same earliest = record {
+  released = λ i from to. elim (cases_eq i m) [
+    | inl last ↦ rw last earliest.released
+    | inr sooner ↦ let within : i ≤ m - 1 = omega arith in rw (same i from within) (up_to.released i from within)
+  ];
   ordered = λ i j h to.
-      let from : 1 ≤ i = forward.from i j h in
-      let sooner : i < j = forward.earlier i j h in
-      let i_within : i ≤ n = omega arith in
-      let i_kept : later i ≡ start i = same i from i_within in
-      ⊎_elim {C = later i + work.cost i ≤ later j}
-      (λ (last : j ≡ n + 1).
-      let finished : start i + work.cost i ≤ later (n + 1) = earliest.after i (subst (λ x. before i x) last h) in
-      let there : later j ≡ later (n + 1) = subst (λ x. later x ≡ later (n + 1)) (sym last) refl in
-      omega arith)
-      (λ (not_last : j ≢ n + 1).
-      let within : j ≤ n = omega arith in
-      let kept : later j ≡ start j = same j (omega arith) within in
-      let apart : start i + work.cost i ≤ start j = up_to.ordered i j h within in
-      omega arith)
-      (cases_eq j (n + 1));
-  least = λ other obeys m from to.
-      ⊎_elim {C = later m ≤ other m}
-      (λ (last : m ≡ n + 1).
-      let number : IsNumber work (n + 1) = record { from = omega arith; to = room } in
-      let bound : later (n + 1) ≤ other (n + 1)
-      = earliest.least (other (n + 1)) (obeys.released (n + 1) number)
-      (λ i h.
-      let i_from : 1 ≤ i = forward.from i (n + 1) h in
-      let i_sooner : i < n + 1 = forward.earlier i (n + 1) h in
-      let less : start i ≤ other i = up_to.least other obeys i i_from (omega arith) in
-      let apart : other i + work.cost i ≤ other (n + 1) = obeys.ordered i (n + 1) h in
-      omega arith) in
-      subst (λ x. later x ≤ other x) (sym last) bound)
-      (λ (not_last : m ≢ n + 1).
-      let within : m ≤ n = omega arith in
-      let kept : later m ≡ start m = same m from within in
-      let less : start m ≤ other m = up_to.least other obeys m from within in
-      omega arith)
-      (cases_eq m (n + 1));
+      let from = forward.from i j h in
+      let sooner = forward.earlier i j h in
+      let kept = same i from (omega (arith, sooner)) in
+      elim (cases_eq j m) [
+        | inl last ↦ rw kept (subst (λ x. before i x → finish_of work start i ≤ later x) (sym last) (earliest.after i) h)
+        | inr other ↦ let within : j ≤ m - 1 = omega arith in rw (kept, same j (omega (arith, from, sooner)) within) (up_to.ordered i j h within)
+      ];
+  least = λ other obeys i from to. elim (cases_eq i m) [
+    | inl last ↦ rw last (earliest.least (other m) (obeys.released m number) (λ j h.
+        let bound = up_to.least other obeys j (forward.from j m h) (omega (arith, forward.earlier j m h)) in
+        let apart = obeys.ordered j m h in
+        omega (arith, bound, apart)))
+    | inr sooner ↦ let within : i ≤ m - 1 = omega arith in rw (same i from within) (up_to.least other obeys i from within)
+  ];
 }
 
 -- all messages
