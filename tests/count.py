@@ -22,6 +22,10 @@ class Count:
         if self.failed <= self.shown:
             print("\n    ".join([f"FAILED {name}", *faults, *([repr(run)] if run is not None else [])]))
 
+    def check(self, name: str, good: bool, found: object = "") -> None:
+        """What is found is shown where it is not good."""
+        self.take(name, [] if good else [str(found)])
+
     def end(self) -> NoReturn:
         """Prints the last line, and ends with 0 only where there was a check and none failed."""
         print(f"{self.passed} passed, {self.failed} failed")

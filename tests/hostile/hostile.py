@@ -10,6 +10,9 @@ import tempfile
 import time
 
 ROOT = os.path.normpath(os.path.join(os.path.dirname(os.path.realpath(__file__)), "..", ".."))
+sys.path.append(os.path.join(ROOT, "tests"))
+
+from count import Count  # noqa: E402, F401
 
 # The program that is run. A script names it or has it found.
 PROGRAM = ""
@@ -76,31 +79,6 @@ WRITE = Run(4, b"", b"waff: Write\n", 0)
 # The least room of a pipe, and the flag that sets it.
 ROOM = 4096
 SET_ROOM = 1031
-
-
-class Count:
-    """Counts runs, and prints the first of those that are wrong."""
-
-    shown = 10
-
-    def __init__(self):
-        self.passed = 0
-        self.failed = 0
-
-    def take(self, name, faults, run=None):
-        if not faults:
-            self.passed += 1
-            return
-        self.failed += 1
-        if self.failed <= self.shown:
-            print("FAILED %s: %s" % (name, "; ".join(faults)))
-            if run is not None:
-                print("    %r" % run)
-
-    def end(self):
-        """Prints the last line, and ends with 0 only where there was a run and none failed."""
-        print("%d passed, %d failed" % (self.passed, self.failed))
-        sys.exit(0 if self.passed > 0 and self.failed == 0 else 1)
 
 
 class Files:
@@ -275,7 +253,10 @@ def scratch():
 def words_parser(about, options):
     parser = argparse.ArgumentParser(description=about)
     for name, kind, value, text in options:
-        parser.add_argument(name, type=kind, nargs="?", default=value, help=text)
+        if kind is bool:
+            parser.add_argument(name, action="store_true", help=text)
+        else:
+            parser.add_argument(name, type=kind, nargs="?", default=value, help=text)
     return parser
 
 

@@ -1,8 +1,9 @@
 """Logs of block devices: the default text of blkparse, and block traces in the form of SNIA's MSR Cambridge set."""
 
 import re
+from argparse import Namespace
 
-from .logs import Data, Lines, Meta, Refusal, is_number, read_lines
+from .logs import Data, Lines, Meta, Refusal, Request, is_number, read_lines
 from .model import Devices
 
 SECTOR = 512
@@ -19,7 +20,7 @@ SUMMARY_LINE = re.compile(
 )
 
 
-def kind_of(flags):
+def kind_of(flags: str) -> tuple[str, str] | None:
     """The name and the kind of a request, by the letters that blkparse prints; None where it is none of data."""
     for letter, name, kind in (("D", "discard", "free"), ("W", "write", "write"), ("R", "read", "read")):
         if letter in flags:
@@ -28,16 +29,16 @@ def kind_of(flags):
 
 
 class Reader:
-    def __init__(self):
+    def __init__(self) -> None:
         self.store = Devices()
-        self.requests = []
+        self.requests: list[Request] = []
 
-    def data(self, time, took, name, kind, device, offset, length):
+    def data(self, time: int, took: int, name: str, kind: str, device: str, offset: int, length: int) -> None:
         file = self.store.device(device)
         file.end = max(file.end, offset + length)
         self.requests.append(Data(time, took, name, kind, file, offset, length))
 
-    def flush(self, time, took, device):
+    def flush(self, time: int, took: int, device: str) -> None:
         self.store.device(device)
         self.requests.append(Meta(time, took, "flush", [("read", device, "dev", 0)]))
 
@@ -45,12 +46,12 @@ class Reader:
 class BlkReader(Reader):
     """Each request is one from its issue (D) to its completion (C)."""
 
-    def __init__(self, log):
+    def __init__(self, log: Lines) -> None:
         super().__init__()
         self.log = log
-        self.issued = {}
+        self.issued: dict[tuple[str, str], tuple[int, str, str | None]] = {}
 
-    def read(self, lines):
+    def read(self, lines: list[str]) -> None:
         summary = False
         for number, line in enumerate(lines, 1):
             event = EVENT.match(line)
@@ -67,7 +68,7 @@ class BlkReader(Reader):
         if self.issued:
             self.log.without["requests that were not completed"] += len(self.issued)
 
-    def event(self, event):
+    def event(self, event: re.Match[str]) -> None:
         major, minor, seconds, nanoseconds, action, flags, sector, sectors = event.groups()
         time = int(seconds) * 10**9 + int(nanoseconds)
         self.log.at(time)
@@ -89,10 +90,10 @@ class BlkReader(Reader):
             start, flags, sectors = self.issued.pop(key)
             self.complete(device, start, time - start, flags, sector, sectors)
 
-    def complete(self, device, start, took, flags, sector, sectors):
+    def complete(self, device: str, start: int, took: int, flags: str, sector: str, sectors: str | None) -> None:
         found = kind_of(flags)
         self.log.without["issues, which are told with their completions"] += 1
-        if not int(sectors or 0):
+        if not sectors or not int(sectors):
             if "F" in flags:
                 self.flush(start, took, device)
             else:
@@ -103,7 +104,7 @@ class BlkReader(Reader):
             self.data(start, took, *found, device, int(sector) * SECTOR, int(sectors) * SECTOR)
 
 
-def read_blkparse(asked):
+def read_blkparse(asked: Namespace) -> tuple[Devices, list[Request]]:
     lines = read_lines(asked.log)
     log = Lines(asked.log, len(lines))
     reader = BlkReader(log)
@@ -112,7 +113,7 @@ def read_blkparse(asked):
     return reader.store, reader.requests
 
 
-def read_msr(asked):
+def read_msr(asked: Namespace) -> tuple[Devices, list[Request]]:
     """Lines of Timestamp, Hostname, DiskNumber, Type, Offset, Size, ResponseTime; both times are in 100 nanoseconds."""
     lines = read_lines(asked.log)
     log = Lines(asked.log, len(lines))

@@ -5,9 +5,10 @@ The times of version 3 are in microseconds, as fio 3.33 writes them; latencies a
 
 import collections
 import re
+from argparse import Namespace
 from fractions import Fraction
 
-from .logs import Data, Lines, Meta, Refusal, is_number, read_lines, shown, tell
+from .logs import Data, File, Lines, Meta, Refusal, Request, is_number, read_lines, shown, tell
 from .model import VOLUME, Volume
 
 HEADER = re.compile(r"fio version ([23]) iolog")
@@ -19,8 +20,8 @@ FLUSHES = {"sync": "sync", "datasync": "sync", "sync_file_range": "sync"}
 class Latencies:
     """The latencies of a log, by direction and size, and by offset where the log has it, in the order of the log."""
 
-    def __init__(self, name):
-        self.waiting = collections.defaultdict(collections.deque)
+    def __init__(self, name: str) -> None:
+        self.waiting: dict[tuple[str, str, str | None], collections.deque[int]] = collections.defaultdict(collections.deque)
         lines = read_lines(name)
         self.lines = Lines(name, len(lines))
         for number, line in enumerate(lines, 1):
@@ -33,9 +34,9 @@ class Latencies:
             self.waiting[fields[2], fields[3], offset].append(int(fields[1]))
         self.lines.report()
 
-    def take(self, action, offset, length):
+    def take(self, action: str, offset: str, length: str) -> int | None:
         """The latency of the next such request, in nanoseconds; None where there is none."""
-        direction = DIRECTIONS.get(action)
+        direction = DIRECTIONS[action]
         queue = self.waiting.get((direction, length, offset)) or self.waiting.get((direction, length, None))
         return queue.popleft() if queue else None
 
@@ -43,18 +44,18 @@ class Latencies:
 class Reader:
     """What is read of iologs. Several logs of jobs that ran together have one clock, which begins at 0 in each."""
 
-    def __init__(self):
+    def __init__(self) -> None:
         self.store = Volume()
-        self.requests = []
-        self.known = {}
+        self.requests: list[Request] = []
+        self.known: dict[str, File] = {}
 
-    def file(self, name):
+    def file(self, name: str) -> File:
         file = self.known.get(name)
         if file is None:
             file = self.known[name] = self.store.new_file(name)
         return file
 
-    def read(self, name, latencies, start):
+    def read(self, name: str, latencies: Latencies | None, start: int) -> None:
         """Adds the requests of a log whose job started so many nanoseconds after the others."""
         lines = read_lines(name)
         log = Lines(name, len(lines))
@@ -65,11 +66,10 @@ class Reader:
             self.actions(log, lines, header[1] == "3", latencies, start)
             log.without["the header"] = 1
         log.report()
-        left = sum(len(it) for it in latencies.waiting.values()) if latencies else 0
-        if left:
+        if latencies and (left := sum(len(it) for it in latencies.waiting.values())):
             tell(f"{latencies.lines.name}: latencies of no request: {left}")
 
-    def actions(self, log, lines, has_times, latencies, start):
+    def actions(self, log: Lines, lines: list[str], has_times: bool, latencies: Latencies | None, start: int) -> None:
         now = start
         for number, line in enumerate(lines[1:], 2):
             words = line.split()
@@ -93,7 +93,7 @@ class Reader:
             else:
                 log.not_understood(number, line)
 
-    def request(self, log, now, words, latencies):
+    def request(self, log: Lines, now: int, words: list[str], latencies: Latencies | None) -> bool:
         """Adds what an action with an offset and a length asks for. False where it is no such action."""
         name, action, offset, length = words
         file = self.file(name)
@@ -112,7 +112,7 @@ class Reader:
         return True
 
 
-def starts_of(asked):
+def starts_of(asked: Namespace) -> dict[str, int]:
     """When the job of each log started, in nanoseconds."""
     starts = dict.fromkeys(asked.logs, 0)
     for word in asked.starts or ():
@@ -123,7 +123,7 @@ def starts_of(asked):
     return starts
 
 
-def read(asked):
+def read(asked: Namespace) -> tuple[Volume, list[Request]]:
     """The volume and the requests of the logs. `asked.latencies` has as many files as there are logs, or none."""
     if not asked.logs:
         raise Refusal(2, "fio: no LOG is given (--latencies takes all names behind it, so the logs stand before it)")

@@ -3,15 +3,18 @@
 import collections
 import csv
 import io
+from argparse import Namespace
 
+from .hierarchy import read_tree
 from .logs import Refusal, is_number, read_text, shown
-from .plans import Tree, affinities_of
+from .plans import affinities_of
 from .traces import read_trace
 
 
-def read_map(name):
+def read_map(name: str) -> dict[str, list[str]]:
     """The names of each cell, of a file that an import wrote with `--map`."""
-    called, found = shown(name), collections.defaultdict(list)
+    called = shown(name)
+    found: dict[str, list[str]] = collections.defaultdict(list)
     records = csv.reader(io.StringIO(read_text(name), newline=""))
     if next(records, None) != ["space", "first", "last", "name"]:
         raise Refusal(3, f"{called}: its first record is not space,first,last,name")
@@ -24,27 +27,27 @@ def read_map(name):
     return found
 
 
-def hot(asked):
+def hot(asked: Namespace) -> str:
     """For each affinity the names of its messages and the files whose cells they name, the dearest first: how many messages, and
     their cost. A message of several files counts for each."""
-    tree, trace, whose = Tree(asked.hier), read_trace(asked.trace), read_map(asked.map)
+    tree, trace, whose = read_tree(asked.hier), read_trace(asked.trace), read_map(asked.map)
     for affinity in asked.affinity or ():
-        if affinity not in tree.names:
+        if affinity not in tree.parents:
             raise Refusal(2, f"--affinity {shown(affinity)}: {shown(asked.hier)} has no such affinity")
-    tallies = collections.defaultdict(lambda: [0, 0])
+    tallies: dict[tuple[str, str, str], list[int]] = collections.defaultdict(lambda: [0, 0])
     for it, (affinity, cells) in zip(trace.messages, affinities_of(tree, trace, asked.trace), strict=True):
-        files = dict.fromkeys(name for cell in cells for name in whose.get(cell, ("-",)))
-        for what, which in (("name", it.name), *(("file", name) for name in files)):
+        files = dict.fromkeys(name for cell in cells for name in whose.get(cell, ["-"]))
+        for what, which in [("name", it.name), *(("file", name) for name in files)]:
             tally = tallies[affinity, what, which]
             tally[0] += 1
             tally[1] += it.cost
     text = io.StringIO()
     rows = csv.writer(text, lineterminator="\n")
     rows.writerow(("affinity", "what", "which", "messages", "cost"))
-    order = {"name": 0, "file": 1}
+    order = {affinity: number for number, affinity in enumerate(tree.parents)}
     for (affinity, what, which), tally in sorted(
-        tallies.items(), key=lambda it: (it[0][0], order[it[0][1]], -it[1][1], it[0][2])
+        tallies.items(), key=lambda it: (order[it[0][0]], it[0][1] == "file", -it[1][1], it[0][2])
     ):
-        if not asked.affinity or tree.names[affinity] in asked.affinity:
-            rows.writerow((tree.names[affinity], what, which, *tally))
+        if not asked.affinity or affinity in asked.affinity:
+            rows.writerow((affinity, what, which, *tally))
     return text.getvalue()

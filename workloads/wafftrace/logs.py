@@ -2,6 +2,7 @@
 
 import collections
 import sys
+from dataclasses import dataclass
 
 SHOWN = 3
 SHOWN_CHARACTERS = 100
@@ -10,12 +11,12 @@ SHOWN_CHARACTERS = 100
 class Refusal(Exception):
     """What ends the program with one line on standard error: a status of 2 (words), 3 (a bad file) or 4 (a file not read)."""
 
-    def __init__(self, status, text):
+    def __init__(self, status: int, text: str) -> None:
         super().__init__(text)
         self.status = status
 
 
-def read_text(name):
+def read_text(name: str) -> str:
     """The text of a file, or of standard input for `-`. Bytes that are no UTF-8 are kept as they are."""
     try:
         if name == "-" and sys.stdin is None:
@@ -28,12 +29,12 @@ def read_text(name):
         raise Refusal(4, f"{shown(name)}: {fault.strerror}") from None
 
 
-def is_number(word):
+def is_number(word: str) -> bool:
     """Whether a word is a number that a log may have: up to 18 digits."""
     return word.isascii() and word.isdecimal() and len(word) <= 18
 
 
-def read_lines(name):
+def read_lines(name: str) -> list[str]:
     """The lines of a file, which end with LF or CR LF."""
     lines = [line.removesuffix("\r") for line in read_text(name).split("\n")]
     if lines[-1] == "":
@@ -41,7 +42,7 @@ def read_lines(name):
     return lines
 
 
-def shown(text, most=SHOWN_CHARACTERS):
+def shown(text: str, most: int = SHOWN_CHARACTERS) -> str:
     """A text on one line, cut where it is long; bytes that are no printable ASCII as `\\xHH`."""
     bytes_shown = text[:most].encode("utf-8", "surrogateescape")
     plain = "".join(chr(byte) if 32 <= byte < 127 else f"\\x{byte:02x}" for byte in bytes_shown)
@@ -52,30 +53,30 @@ class Lines:
     """The lines of one log: how many there are, what became of those that no message comes of, and what else is to be told.
     `wanted` says how such a log is recorded."""
 
-    def __init__(self, name, count, wanted=""):
+    def __init__(self, name: str, count: int, wanted: str = "") -> None:
         self.name = "standard input" if name == "-" else name
         self.count = count
         self.wanted = wanted
-        self.notes = collections.Counter()
-        self.strange = []
+        self.notes: collections.Counter[str] = collections.Counter()
+        self.strange: list[tuple[int, str]] = []
         self.strange_count = 0
-        self.without = collections.Counter()
+        self.without: collections.Counter[str] = collections.Counter()
         self.backwards = 0
-        self.latest = None
+        self.latest: int | None = None
 
-    def not_understood(self, number, line):
+    def not_understood(self, number: int, line: str) -> None:
         self.strange_count += 1
         if len(self.strange) < SHOWN:
             self.strange.append((number, line))
 
-    def at(self, time):
+    def at(self, time: int) -> None:
         """Notes the time of the next line, so that a clock that goes backwards is told."""
         if self.latest is not None and time < self.latest:
             self.backwards += 1
         else:
             self.latest = time
 
-    def report(self):
+    def report(self) -> None:
         """Tells on standard error what became of the lines. A log of which no line was understood is refused."""
         tell(f"{self.name}: {self.count} lines")
         for why, count in sorted((+self.without).items(), key=lambda item: (-item[1], item[0])):
@@ -96,10 +97,24 @@ class Lines:
 told_by = "waff-trace"
 
 
-def tell(text):
+def tell(text: str) -> None:
     print(f"{told_by}: {text}", file=sys.stderr)
 
 
+@dataclass(slots=True, eq=False)
+class File:
+    """A file or directory of a volume, or a device: where its bytes lie is decided when the whole log is read."""
+
+    name: str
+    inode: int
+    directory: int | None = None
+    links: int = 1
+    size: int | None = None
+    end: int = 0
+    base: int = 0
+
+
+@dataclass(slots=True)
 class Data:
     """A request for bytes of a file or a device, in the order of the log. Times are in nanoseconds.
 
@@ -107,46 +122,30 @@ class Data:
     request is known to be the first to write, None where there is none.
     """
 
-    __slots__ = ("fresh", "kind", "length", "name", "offset", "place", "time", "took")
-
-    def __init__(self, time, took, name, kind, place, offset, length, fresh=None):
-        self.time = time
-        self.took = took
-        self.name = name
-        self.kind = kind
-        self.place = place
-        self.offset = offset
-        self.length = length
-        self.fresh = fresh
+    time: int
+    took: int | None
+    name: str
+    kind: str
+    place: File
+    offset: int
+    length: int
+    fresh: int | None = None
 
 
+# Data that is given back or taken: the file, its first byte, the one behind its last, and free or alloc.
+Blocks = tuple[File, int, int, str]
+
+
+@dataclass(slots=True)
 class Meta:
     """A request for what is no data: operations, each a word (read, set or add), a volume or device, one of its spaces, and the
-    number of the directory or inode.
+    number of the directory or inode."""
 
-    `blocks` tells of data that is given back or taken: the file, its first byte, the one behind its last, and free or alloc.
-    """
-
-    __slots__ = ("blocks", "name", "ops", "time", "took")
-
-    def __init__(self, time, took, name, ops, blocks=None):
-        self.time = time
-        self.took = took
-        self.name = name
-        self.ops = ops
-        self.blocks = blocks
+    time: int
+    took: int | None
+    name: str
+    ops: list[tuple[str, str, str, int]]
+    blocks: Blocks | None = None
 
 
-class File:
-    """A file or directory of a volume, or a device: where its bytes lie is decided when the whole log is read."""
-
-    __slots__ = ("base", "directory", "end", "inode", "links", "name", "size")
-
-    def __init__(self, name, inode):
-        self.name = name
-        self.inode = inode
-        self.directory = None
-        self.links = 1
-        self.size = None
-        self.end = 0
-        self.base = 0
+Request = Data | Meta

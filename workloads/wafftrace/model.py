@@ -3,17 +3,13 @@
 import csv
 import io
 import operator
+from argparse import Namespace
+from collections.abc import Callable, Iterator
+from typing import Protocol
 
-from .logs import Data, File, Refusal, shown, tell
-
-# Limits of a hierarchy and of a trace (docs/formats.md).
-CELLS = 262144
-AFFINITIES = 4096
-SPACES = 256
-OPERATIONS = 32
-MESSAGES = 65536
-COST = 1000000
-RELEASE = 1000000000
+from . import limits
+from .hierarchy import Tree
+from .logs import Data, File, Meta, Refusal, Request, shown, tell
 
 LEAST_CELL = 4096
 LEAST_UNIT = 8
@@ -26,38 +22,68 @@ BLOCKS_SHARE = 4
 VOLUME = "Vol"
 
 
-def power_from(number):
+def power_from(number: int) -> int:
     """The least power of two that is no less."""
     return 1 << max(0, number - 1).bit_length()
 
 
-def upwards(number, step):
+def upwards(number: int, step: int) -> int:
     return -(-number // step)
+
+
+class Store(Protocol):
+    """What a log is of: its files, and how they are laid out as cells."""
+
+    # Whether it has a map of blocks that requests take and give back.
+    has_map: bool
+
+    def data_space(self, file: File) -> str:
+        """The space of a file's data."""
+
+    def place(self, cell: int, unit: int) -> dict[str, int]:
+        """Places the files, in cells and units of so many bytes and cells. Tells how many cells there are, by their spaces."""
+
+    def index(self, space: str, number: int) -> int:
+        """The cell of a directory or an inode."""
+
+    def cells(self, cell: int) -> Iterator[tuple[str, int, int, str]]:
+        """Which cells are whose: space, first and last cell, and name."""
+
+    def tree(self, spaces: dict[str, int], stripes: int, unit: int) -> tuple[Tree, dict[str, str]]:
+        """The hierarchy for these spaces, and what each is of."""
+
+
+class Log(Protocol):
+    """The reader of a form of logs, by the words of its command."""
+
+    def __call__(self, asked: Namespace) -> tuple[Store, list[Request]]: ...
 
 
 class Volume:
     """A tree of files: what its directories and inodes are numbered, and where its files lie in the space of its data."""
 
-    def __init__(self):
-        self.files = []
+    has_map = True
+
+    def __init__(self) -> None:
+        self.files: list[File] = []
         self.directories = 0
 
-    def new_file(self, name):
+    def new_file(self, name: str) -> File:
         file = File(name, len(self.files))
         self.files.append(file)
         return file
 
-    def directory(self, file):
+    def directory(self, file: File) -> int:
         """The number of a directory."""
         if file.directory is None:
             file.directory = self.directories
             self.directories += 1
         return file.directory
 
-    def data_space(self, _file):
+    def data_space(self, file: File) -> str:
         return VOLUME + ".data"
 
-    def place(self, cell, unit):
+    def place(self, cell: int, unit: int) -> dict[str, int]:
         """Places the files one behind another, each in cells of its own where these are small, and none across the edge of a
         unit without need. Tells how many cells there are, by their spaces."""
         at = 0
@@ -77,14 +103,13 @@ class Volume:
             VOLUME + ".map": upwards(data, unit),
         }
 
-    def index(self, space, number):
+    def index(self, space: str, number: int) -> int:
         """The cell of a directory or an inode."""
         if space == "dir":
             return number // self.directories_a_cell
         return number // self.inodes_a_cell if space == "inode" else 0
 
-    def cells(self, cell):
-        """Which cells are whose: space, first and last cell, and name, of the data of files, of inodes and of directories."""
+    def cells(self, cell: int) -> Iterator[tuple[str, int, int, str]]:
         for file in self.files:
             if file.end:
                 yield VOLUME + ".data", file.base // cell, (file.base + file.end - 1) // cell, file.name
@@ -96,102 +121,102 @@ class Volume:
                 index = self.index(space, number)
                 yield f"{VOLUME}.{space}", index, index, name
 
-    def tree(self, spaces, stripes, unit):
-        logical = [VOLUME + ".S%d" % n for n in range(stripes)]
-        ranges = [VOLUME + ".R%d" % n for n in range(stripes)]
-        affinities = [("Serial", None), (VOLUME, "Serial"), (VOLUME + ".Logical", VOLUME)]
-        affinities += [(name, VOLUME + ".Logical") for name in logical]
-        affinities += [(VOLUME + ".VBN", VOLUME)]
-        affinities += [(name, VOLUME + ".VBN") for name in ranges]
-        owners = {
-            "vol": (1, [VOLUME], "the volume's own blocks"),
-            "dir": (1, [VOLUME + ".Logical"], "directories"),
-            "inode": (1, logical, "inodes"),
-            "data": (unit, logical, "user data"),
-            "map": (1, ranges, "the map of free blocks: a cell for each unit of the data"),
+    def tree(self, spaces: dict[str, int], stripes: int, unit: int) -> tuple[Tree, dict[str, str]]:
+        root, above, below = VOLUME, VOLUME + ".Logical", VOLUME + ".VBN"
+        logical = [f"{VOLUME}.S{n}" for n in range(stripes)]
+        ranges = [f"{VOLUME}.R{n}" for n in range(stripes)]
+        parents: dict[str, str | None] = {"Serial": None, root: "Serial", above: root, **dict.fromkeys(logical, above)}
+        parents |= {below: root, **dict.fromkeys(ranges, below)}
+        tables = {
+            VOLUME + ".vol": (1, [root], "the volume's own blocks"),
+            VOLUME + ".dir": (1, [above], "directories"),
+            VOLUME + ".inode": (1, logical, "inodes"),
+            VOLUME + ".data": (unit, logical, "user data"),
+            VOLUME + ".map": (1, ranges, "the map of free blocks: a cell for each unit of the data"),
         }
-        maps = [(space, size, *owners[space.rsplit(".", 1)[1]]) for space, size in spaces.items()]
-        return affinities, maps
+        maps = {space: (unit, owners) for space, (unit, owners, _) in tables.items()}
+        return Tree("hierarchical", parents, spaces, maps), {space: what for space, (_, _, what) in tables.items()}
 
 
 class Devices:
     """Block devices: each is a file of its own, from byte 0 on."""
 
-    def __init__(self):
-        self.files = []
-        self.known = {}
+    has_map = False
 
-    def device(self, name):
-        file = self.known.get(name)
-        if file is None:
-            file = self.known[name] = File(name, len(self.files))
-            self.files.append(file)
-        return file
+    def __init__(self) -> None:
+        self.files: dict[str, File] = {}
 
-    def data_space(self, file):
+    def device(self, name: str) -> File:
+        return self.files.setdefault(name, File(name, len(self.files)))
+
+    def data_space(self, file: File) -> str:
         return file.name + ".data"
 
-    def place(self, cell, _unit):
+    def place(self, cell: int, unit: int) -> dict[str, int]:
         spaces = {}
-        for file in self.files:
+        for file in self.files.values():
             spaces[file.name + ".dev"] = 1
             spaces[file.name + ".data"] = max(1, upwards(file.end, cell))
         return spaces or {"dev": 1}
 
-    def index(self, _space, _number):
+    def index(self, space: str, number: int) -> int:
         return 0
 
-    def cells(self, cell):
-        """Which cells are whose: space, first and last cell, and name."""
-        for file in self.files:
+    def cells(self, cell: int) -> Iterator[tuple[str, int, int, str]]:
+        for file in self.files.values():
             yield file.name + ".dev", 0, 0, file.name
             yield self.data_space(file), 0, max(1, upwards(file.end, cell)) - 1, file.name
 
-    def tree(self, spaces, stripes, unit):
-        affinities = [("Serial", None)]
-        maps = []
-        for file in self.files:
-            owners = [file.name + ".S%d" % n for n in range(stripes)]
-            affinities += [(file.name, "Serial"), *((name, file.name) for name in owners)]
+    def tree(self, spaces: dict[str, int], stripes: int, unit: int) -> tuple[Tree, dict[str, str]]:
+        parents: dict[str, str | None] = {"Serial": None}
+        maps: dict[str, tuple[int, list[str]]] = {}
+        remarks = {}
+        for file in self.files.values():
+            owners = [f"{file.name}.S{n}" for n in range(stripes)]
+            parents |= {file.name: "Serial", **dict.fromkeys(owners, file.name)}
             dev, data = file.name + ".dev", file.name + ".data"
-            maps += [(dev, spaces[dev], 1, [file.name], "the device as a whole")]
-            maps += [(data, spaces[data], unit, owners, "its sectors")]
-        return affinities, maps or [("dev", 1, 1, ["Serial"], "no device")]
+            maps |= {dev: (1, [file.name]), data: (unit, owners)}
+            remarks |= {dev: "the device as a whole", data: "its sectors"}
+        if not maps:
+            maps, remarks = {"dev": (1, ["Serial"])}, {"dev": "no device"}
+        return Tree("hierarchical", parents, spaces, maps), remarks
 
 
 class Shape:
     """How large a cell and a unit are, and the cells that come of that."""
 
-    def __init__(self, store, requests, options):
+    def __init__(self, store: Store, requests: list[Request], options: Namespace) -> None:
         longest = max((it.length for it in requests if isinstance(it, Data) and it.kind != "free"), default=1)
-        self.cell = options.cell or LEAST_CELL
+        self.cell: int = options.cell or LEAST_CELL
         while True:
-            self.unit = options.unit or min(max(power_from(upwards(longest, self.cell)), LEAST_UNIT), OPERATIONS)
+            self.unit: int = options.unit or min(max(power_from(upwards(longest, self.cell)), LEAST_UNIT), limits.OPS)
             self.spaces = store.place(self.cell, self.unit)
             self.count = sum(self.spaces.values())
-            if self.count <= CELLS:
+            if self.count <= limits.CELLS:
                 return
             if options.cell:
-                raise Refusal(2, f"--cell {self.cell} makes {self.count} cells, and a hierarchy has at most {CELLS}")
+                raise Refusal(2, f"--cell {self.cell} makes {self.count} cells, and a hierarchy has at most {limits.CELLS}")
             self.cell *= 2
 
 
-def cost_of(options):
-    """A function that tells the cost of a request in ticks, of its latency or of its bytes."""
-    tick, base, kib = options.tick, options.base, options.per_kib
-    measured = options.cost == "latency"
+def cost_of(options: Namespace, measured: bool) -> Callable[[int | None, int], int]:
+    """A function that tells the cost of a request in ticks, of its latency if that is `measured`, or of its bytes."""
+    tick: int = options.tick
+    base: int = options.base
+    kib: int = options.per_kib
 
-    def cost(took, length):
+    def cost(took: int | None, length: int) -> int:
         if took is None or not measured:
             took = base + kib * upwards(length, 1024)
-        return max(1, -(-took // tick))
+        return max(1, upwards(took, tick))
 
     return cost
 
 
-def shares(total, weights):
+def shares(total: int, weights: list[int]) -> list[int]:
     """A cost divided by weights, so that the parts add up to it and each is at least 1."""
-    whole, before, sum_so_far, parts = sum(weights), 0, 0, []
+    whole, before, sum_so_far = sum(weights), 0, 0
+    parts = []
     for weight in weights:
         sum_so_far += weight
         upto = total * sum_so_far // whole
@@ -200,56 +225,61 @@ def shares(total, weights):
     return parts
 
 
-def pieces(first, last):
+def pieces(first: int, last: int) -> list[tuple[int, int]]:
     """The cells from one to another in runs that a message has room for, which end before a multiple of that room."""
-    if last - first < OPERATIONS:
+    if last - first < limits.OPS:
         return [(first, last)]
     runs = []
     while first <= last:
-        end = min(last, first - first % OPERATIONS + OPERATIONS - 1)
+        end = min(last, first - first % limits.OPS + limits.OPS - 1)
         runs.append((first, end))
         first = end + 1
     return runs
 
 
-class Messages:
-    """The lines of a trace, made of the requests in the order of their times."""
+# A name, a cost and operations.
+Line = tuple[str, int, str]
 
-    def __init__(self, store, shape, options):
+
+class Messages:
+    """The lines of a trace, made of the requests in the order of their times. Their costs are those that were measured, or those of
+    their sizes."""
+
+    def __init__(self, store: Store, shape: Shape, options: Namespace, measured: bool) -> None:
         self.store = store
         self.cell = shape.cell
         self.unit = shape.unit
         self.options = options
-        self.cost = cost_of(options)
+        self.measured = measured
+        self.cost = cost_of(options, measured)
         self.lines = ["message,cost,release,ops"]
         self.release = 0
         self.cut_costs = 0
         self.guessed = 0
         self.number = 0
-        self.spaces = {}
+        self.spaces: dict[File, str] = {}
 
-    def add(self, requests):
+    def add(self, requests: list[Request]) -> None:
         requests.sort(key=operator.attrgetter("time"))
         start = requests[0].time if requests else 0
         tick = self.options.tick
-        measured = self.options.cost == "latency"
         for request in requests:
             self.release = (request.time - start) // tick
             self.number += 1
-            if measured and request.took is None:
+            if self.measured and request.took is None:
                 self.guessed += 1
             if isinstance(request, Data):
                 self.data(request)
             else:
                 self.meta(request)
 
-    def line(self, name, cost, ops):
-        if cost > COST:
+    def line(self, name: str, cost: int, ops: str) -> None:
+        if cost > limits.COST:
             self.cut_costs += 1
-            cost = COST
+            cost = limits.COST
         self.lines.append(f"{name},{cost},{self.release},{ops}")
 
-    def data(self, it):
+    def data(self, it: Data) -> None:
         file = it.place
         space = self.spaces.get(file)
         if space is None:
@@ -262,17 +292,17 @@ class Messages:
         if first == last and not blocks:
             self.line(it.name, cost, f"{head}{space}:{first}{tail}")
             return
-        if blocks:
-            cost = self.blocks(cost, *blocks)
+        cost, after = self.blocks(cost, *blocks) if blocks else (cost, [])
         runs = pieces(first, last)
         parts = shares(cost, [end - begin + 1 for begin, end in runs])
         for (begin, end), part in zip(runs, parts, strict=True):
             self.line(it.name, part, ";".join([f"{head}{space}:{n}{tail}" for n in range(begin, end + 1)]))
-        self.tell_blocks()
+        for line in after:
+            self.line(*line)
 
-    def taken(self, it, first, last):
+    def taken(self, it: Data, first: int, last: int) -> tuple[str, int, int] | None:
         """The blocks that a request takes or gives back, as `blocks` wants them; None where it does not."""
-        if isinstance(self.store, Devices) or self.options.blocks == "none":
+        if not self.store.has_map or self.options.blocks == "none":
             return None
         if it.kind == "free":
             return "free", first, last
@@ -285,44 +315,38 @@ class Messages:
                     return "alloc", first, last
         return None
 
-    def blocks(self, cost, name, first, last):
-        """Keeps messages for the blocks of these cells for `tell_blocks`, and answers what is left of the cost."""
+    def blocks(self, cost: int, name: str, first: int, last: int) -> tuple[int, list[Line]]:
+        """What is left of a cost behind the messages for the blocks of these cells, and these messages."""
         share = max(1, cost // BLOCKS_SHARE)
         runs = pieces(first // self.unit, last // self.unit)
         parts = shares(share, [end - begin + 1 for begin, end in runs])
-        self.kept = [
+        lines = [
             (name, part, ";".join([f"add {VOLUME}.map:{n} 1" for n in range(begin, end + 1)]))
             for (begin, end), part in zip(runs, parts, strict=True)
         ]
-        return max(1, cost - share)
+        return max(1, cost - share), lines
 
-    kept = ()
-
-    def tell_blocks(self):
-        for name, cost, ops in self.kept:
-            self.line(name, cost, ops)
-        self.kept = ()
-
-    def meta(self, it):
+    def meta(self, it: Meta) -> None:
         cost = self.cost(it.took, 0)
+        after: list[Line] = []
         if it.blocks and self.options.blocks != "none":
             file, first, end, name = it.blocks
             first, last = upwards(file.base + first, self.cell), (file.base + end - 1) // self.cell
             if first <= last:
-                cost = self.blocks(cost, name, first, last)
+                cost, after = self.blocks(cost, name, first, last)
         words = []
         for word, store, space, number in it.ops:
             cell = f"{store}.{space}:{self.store.index(space, number)}"
             words.append({"read": f"read {cell}", "set": f"set {cell} {self.number}", "add": f"add {cell} 1"}[word])
-        self.line(it.name, cost, ";".join(dict.fromkeys(words)))
-        self.tell_blocks()
+        for line in [(it.name, cost, ";".join(dict.fromkeys(words))), *after]:
+            self.line(*line)
 
 
-def trace_text(messages):
+def trace_text(messages: Messages) -> str:
     return "\n".join(messages.lines) + "\n"
 
 
-def map_text(store, shape):
+def map_text(store: Store, shape: Shape) -> str:
     """Which cells are whose, as CSV. Bytes of names that are no UTF-8, and controls, are shown as `\\xHH`."""
     text = io.StringIO()
     rows = csv.writer(text, lineterminator="\n")
@@ -331,32 +355,22 @@ def map_text(store, shape):
     return text.getvalue()
 
 
-def tree_text(store, shape, stripes):
+def tree_text(store: Store, shape: Shape, stripes: int) -> str:
     """The hierarchy that accepts the trace."""
-    affinities, maps = store.tree(shape.spaces, stripes, shape.unit)
-    if len(affinities) > AFFINITIES or len(maps) > SPACES:
-        raise Refusal(3, f"{len(affinities)} affinities, {len(maps)} spaces: more than a hierarchy has (fewer --stripes may do)")
-    lines = [f"# Made by waff-trace. A cell of data is {shape.cell} bytes.", 'model = "hierarchical"', "", "affinity = ["]
-    for name, parent in affinities:
-        lines.append(f'    {{ name = "{name}"' + (f', parent = "{parent}"' if parent else "") + " },")
-    lines += ["]", "", "space = ["]
-    for space, size, _, _, what in maps:
-        lines.append(f'    {{ name = "{space}", size = {size} }},  # {what}')
-    lines += ["]", "", "map = ["]
-    for space, _, unit, owners, _ in maps:
-        names = ", ".join(f'"{name}"' for name in owners)
-        lines.append(f'    {{ space = "{space}", unit = {unit}, to = [{names}] }},')
-    return "\n".join([*lines, "]"]) + "\n"
+    tree, remarks = store.tree(shape.spaces, stripes, shape.unit)
+    if len(tree.parents) > limits.AFFINITIES or len(tree.maps) > limits.SPACES:
+        raise Refusal(3, f"{len(tree.parents)} affinities, {len(tree.maps)} spaces: more than a hierarchy has (fewer --stripes may do)")
+    return f"# Made by waff-trace. A cell of data is {shape.cell} bytes.\n" + tree.text(remarks)
 
 
-def warn(messages):
+def warn(messages: Messages) -> None:
     """Tells what of the trace waff would refuse, and what was cut so that it does not."""
     count = len(messages.lines) - 1
     if messages.guessed:
         tell(f"requests without a latency, which cost what their size says: {messages.guessed}")
     if messages.cut_costs:
-        tell(f"costs above {COST} ticks, which were cut to that: {messages.cut_costs} (a larger --tick keeps them)")
-    if count > MESSAGES:
-        tell(f"{count} messages are more than the {MESSAGES} that waff takes: `waff-trace window` parts the trace")
-    if messages.release > RELEASE:
-        tell(f"the last release, {messages.release}, is above {RELEASE}: a larger --tick, or `waff-trace window`")
+        tell(f"costs above {limits.COST} ticks, which were cut to that: {messages.cut_costs} (a larger --tick keeps them)")
+    if count > limits.MESSAGES:
+        tell(f"{count} messages are more than the {limits.MESSAGES} that waff takes: `waff-trace window` parts the trace")
+    if messages.release > limits.RELEASE:
+        tell(f"the last release, {messages.release}, is above {limits.RELEASE}: a larger --tick, or `waff-trace window`")

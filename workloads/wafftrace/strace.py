@@ -4,8 +4,13 @@ import collections
 import os
 import posixpath
 import re
+from argparse import Namespace
+from collections.abc import Callable, Iterator, Sequence
+from dataclasses import dataclass
+from functools import partial
+from typing import TypeGuard
 
-from .logs import Data, Lines, Meta, Refusal, is_number, read_lines, shown
+from .logs import Blocks, Data, File, Lines, Meta, Refusal, Request, is_number, read_lines, shown
 from .model import VOLUME, Volume
 
 # A line: who, when, perhaps an instruction pointer (-i) or the number of a call (-n), and what.
@@ -25,6 +30,7 @@ PATH = re.compile(rf"(?:(AT_FDCWD|\d{{1,9}})(?:{PATH_SHOWN})?, )?" + TEXT, re.AS
 SIZE = re.compile(r"st_size=(\d{1,18})", re.ASCII)
 ESCAPED = re.compile(r"\\(x[0-9a-f]{2}|[0-7]{1,3}|.)", re.ASCII)
 LETTERS = {"n": "\n", "t": "\t", "r": "\r", "v": "\v", "f": "\f"}
+FORKS = ("clone", "clone3", "fork", "vfork")
 FORKED = re.compile(r"(?:clone3?|v?fork)\(", re.ASCII)
 FLAGS_WANTED = "strace -f -ttt -T -o LOG"
 
@@ -37,17 +43,17 @@ NO_FILES = ("/dev/", "/proc/", "/sys/")
 NOT_OPENED = "calls on descriptors that are no file which the log opens (pipes, sockets, what was open before)"
 
 
-def nanoseconds(seconds, digits):
+def nanoseconds(seconds: str, digits: str) -> int:
     """Seconds with six or nine digits after the point, in nanoseconds."""
     return int(seconds + digits) * (1000 if len(digits) == 6 else 1)
 
 
-def unescaped(text):
+def unescaped(text: str) -> str:
     """A path as it is, where strace shows bytes of it as `\\303`, `\\xc3` (-x, -xx) or `\\n`."""
     if "\\" not in text:
         return text
 
-    def character(match):
+    def character(match: re.Match[str]) -> str:
         word = match[1]
         if len(word) == 3 and word[0] == "x":
             return chr(int(word[1:], 16))
@@ -58,38 +64,38 @@ def unescaped(text):
     return found.encode("latin-1").decode("utf-8", "surrogateescape")
 
 
-def absolute(path):
+def absolute(path: str | None) -> str | None:
     """A path that strace shows of a descriptor; None where it is none (a pipe, a socket)."""
     if path is None or not path.startswith("/"):
         return None
     return unescaped(path).removesuffix(" (deleted)")
 
 
+# What stands for each file that is not of the volume.
+ELSEWHERE = File("", 0)
+
+
+@dataclass(slots=True)
 class Open:
-    """An open file with its offset, which descriptors share; `file` is None where it is not of the volume."""
+    """An open file with its offset, which descriptors share."""
 
-    __slots__ = ("append", "file", "offset", "path")
-
-    def __init__(self, path, file, append):
-        self.path = path
-        self.file = file
-        self.append = append
-        self.offset = 0
+    path: str
+    file: File
+    append: bool
+    offset: int = 0
 
 
+@dataclass(slots=True)
 class Process:
     """What a process has: descriptors (a table that threads share), those that a new program does not get, a directory (a list of
-    one, which threads share), and a call that is not finished."""
+    one, which threads share), and a call that is not finished: its time and its text."""
 
-    __slots__ = ("closing", "directory", "files", "pending")
+    files: dict[int, Open]
+    closing: set[int]
+    directory: list[str | None]
+    pending: tuple[int, str] | None = None
 
-    def __init__(self, files, closing, directory):
-        self.files = files
-        self.closing = closing
-        self.directory = directory
-        self.pending = None
-
-    def child(self, flags):
+    def child(self, flags: str) -> "Process":
         shares_files = "CLONE_FILES" in flags
         return Process(
             self.files if shares_files else dict(self.files),
@@ -98,54 +104,49 @@ class Process:
         )
 
 
+@dataclass(slots=True)
 class Call:
     """A call that has returned: its result, the path of it where that is a descriptor and strace shows it, its times in nanoseconds."""
 
-    __slots__ = ("args", "path", "process", "result", "time", "took")
+    process: Process
+    args: str
+    result: int
+    path: str | None
+    time: int
+    took: int | None
 
-    def __init__(self, process, args, result, path, time, took):
-        self.process = process
-        self.args = args
-        self.result = result
-        self.path = path
-        self.time = time
-        self.took = took
-
-    def last(self, place=1):
+    def last(self, place: int = 1) -> int | None:
         """The last argument as a number, or the one before it (2); None where it is none."""
         words = self.args.rstrip(") ").rsplit(", ", place)
         return int(words[1]) if len(words) > place and is_number(words[1]) else None
 
 
+@dataclass(slots=True)
 class Event:
     """A line of the log: whose it is, its time in nanoseconds, and what it tells. `pid` is None where it tells that strace has
     attached itself to a process."""
 
-    __slots__ = ("line", "number", "pid", "rest", "time")
-
-    def __init__(self, number, line, pid, time, rest):
-        self.number = number
-        self.line = line
-        self.pid = pid
-        self.time = time
-        self.rest = rest
+    number: int
+    line: str
+    pid: str | None
+    time: int
+    rest: str
 
 
+@dataclass(slots=True)
 class Birth:
     """A call that made a process: whose call, its arguments, and the places of the events with which it began and returned."""
 
-    __slots__ = ("args", "begun", "parent", "returned")
-
-    def __init__(self, parent, args, begun, returned):
-        self.parent = parent
-        self.args = args
-        self.begun = begun
-        self.returned = returned
+    parent: str
+    args: str
+    begun: int
+    returned: int
 
 
-def births_of(events):
+def births_of(events: Sequence[Event]) -> dict[str, collections.deque[Birth]]:
     """For each process the calls that made one of this number, in their order."""
-    found, begun = collections.defaultdict(collections.deque), {}
+    found: dict[str, collections.deque[Birth]] = collections.defaultdict(collections.deque)
+    begun: dict[str, tuple[int, str]] = {}
     for at, event in enumerate(events):
         pid, rest = event.pid, event.rest
         if pid is None or "clone" not in rest and "fork" not in rest:
@@ -153,9 +154,10 @@ def births_of(events):
         first = at
         if rest.startswith("<... "):
             # The first process of a log on standard error has no number at first.
-            first, text = begun.pop(pid, None) or begun.pop("", None) or (None, None)
-            if first is None:
+            half = begun.pop(pid, None) or begun.pop("", None)
+            if half is None:
                 continue
+            first, text = half
             rest = text + rest[rest.find(RESUMED) + len(RESUMED) :]
         elif not FORKED.match(rest):
             continue
@@ -168,7 +170,7 @@ def births_of(events):
     return found
 
 
-def parted(args):
+def parted(args: str) -> tuple[str, re.Match[str] | None]:
     """The arguments of a call, and what stands behind them, as TAIL finds it."""
     at = args.rfind(" = ")
     tail = TAIL.match(args, at + 3) if at >= 0 and args[:at].rstrip().endswith(")") else None
@@ -181,22 +183,22 @@ def parted(args):
 
 
 class Reader:
-    def __init__(self, log, under, directory):
+    def __init__(self, log: Lines, under: str | None, directory: str | None) -> None:
         self.log = log
         self.under = under
         self.directory = directory
         self.store = Volume()
-        self.requests = []
-        self.paths = {}
-        self.folders = set()
-        self.processes = {}
-        self.births = {}
-        self.attached = set()
-        self.idle = collections.Counter()
+        self.requests: list[Request] = []
+        self.paths: dict[str, File] = {}
+        self.folders: set[str] = set()
+        self.processes: dict[str, Process] = {}
+        self.births: dict[str, collections.deque[Birth]] = {}
+        self.attached: set[str] = set()
+        self.idle: collections.Counter[str] = collections.Counter()
 
     # Lines
 
-    def read(self, lines):
+    def read(self, lines: list[str]) -> None:
         events = list(self.events(lines))
         first = next((event for event in events if event.pid is not None), None)
         if first and first.time == 0:
@@ -207,7 +209,7 @@ class Reader:
                 self.attached.add(event.rest)
                 continue
             self.log.at(event.time)
-            if not self.event(at, event):
+            if not self.event(at, event.pid, event):
                 self.log.not_understood(event.number, event.line)
         pending = {id(it): it for it in self.processes.values() if it.pending is not None}
         if pending:
@@ -219,7 +221,7 @@ class Reader:
                 self.idle.values()
             )
 
-    def events(self, lines):
+    def events(self, lines: list[str]) -> Iterator[Event]:
         """What the lines tell, in their order."""
         begun = ""
         for number, line in enumerate(lines, 1):
@@ -238,9 +240,9 @@ class Reader:
             alone, first, seconds, digits, rest = head.groups()
             yield Event(number, line, alone or first or "", nanoseconds(seconds, digits), rest)
 
-    def event(self, at, event):
+    def event(self, at: int, pid: str, event: Event) -> bool:
         """Takes what a line tells of a process. False where it is not understood."""
-        pid, time, rest = event.pid, event.time, event.rest
+        time, rest = event.time, event.rest
         process = self.processes.get(pid)
         if process is None:
             process = self.processes[pid] = self.newcomer(pid, at)
@@ -265,7 +267,7 @@ class Reader:
             return True
         return self.call(at, process, time, rest)
 
-    def newcomer(self, pid, at):
+    def newcomer(self, pid: str, at: int) -> Process:
         """A process that was not seen: the child of a call that has begun and returns later in the log; the first one, which a
         log on standard error gives no number as long as it is alone; the child of the only call that makes one and never
         returns; or else one from before the log."""
@@ -276,28 +278,29 @@ class Reader:
             return parent.child(birth.args)
         if "" in self.processes and pid not in self.attached:
             return self.processes[""]
-        forking = [it for it in self.processes.values() if it.pending is not None and FORKED.match(it.pending[1])]
+        forking = [(it, it.pending[1]) for it in self.processes.values() if it.pending is not None and FORKED.match(it.pending[1])]
         if len(forking) == 1 and not births:
-            return forking[0].child(forking[0].pending[1])
+            parent, text = forking[0]
+            return parent.child(text)
         if forking:
             self.log.notes["processes whose parent is not known: names that begin in their folders are of other files"] += 1
         return Process({}, set(), [self.directory])
 
-    def call(self, at, process, time, rest):
+    def call(self, at: int, process: Process, time: int, rest: str) -> bool:
         name, bracket, args = rest.partition("(")
         args, tail = parted(args) if bracket else ("", None)
         if tail is None:
             return False
         result, path, _, seconds, digits = tail.groups()
         handler = CALLS.get(name)
-        if handler is None:
+        if handler is None and name not in FORKS:
             self.idle[name] += 1
         elif result == "?" or result[0] == "-":
             self.log.without["calls that failed"] += 1
         else:
             took = nanoseconds(seconds, digits) if digits else None
             answer = int(result, 16 if result.startswith("0x") else 10)
-            if name in FORKS:
+            if handler is None:
                 self.fork(at, process, args, answer)
                 return True
             return handler(self, Call(process, args, answer, absolute(path), time, took)) is not False
@@ -305,24 +308,24 @@ class Reader:
 
     # Paths and descriptors
 
-    def is_outside(self, path):
+    def is_outside(self, path: str) -> bool:
         if path.startswith(NO_FILES):
             return True
-        return bool(self.under) and path != self.under and not path.startswith(self.under + "/")
+        return self.under is not None and path != self.under and not path.startswith(self.under + "/")
 
-    def base(self, process, start, shown):
+    def base(self, process: Process, start: str | None, shown: str | None) -> str | None:
         """The directory that a name begins in, None where it is not known. What strace shows of it is so."""
         shown = absolute(shown)
-        if start in (None, "AT_FDCWD"):
+        if start is None or start == "AT_FDCWD":
             if shown:
                 process.directory[0] = shown
             return process.directory[0]
         found = process.files.get(int(start))
         return shown or (found.path if found else None)
 
-    def path(self, call, text=None):
+    def path(self, call: Call, match: re.Match[str] | None = None) -> str | None:
         """The path that a call names first, from the root or from a directory that is not known; None where it names none."""
-        match = text or PATH.match(call.args)
+        match = match or PATH.match(call.args)
         if match is None:
             return None
         start, shown, text = match.groups()
@@ -333,18 +336,18 @@ class Reader:
         path = posixpath.normpath(f"{base}/{text}" if base and not text.startswith("/") else text)
         return path[1:] if path.startswith("//") else path
 
-    def file(self, path):
+    def file(self, path: str) -> File:
         file = self.paths.get(path)
         if file is None:
             file = self.paths[path] = self.store.new_file(path)
             self.folders.add(posixpath.dirname(path))
         return file
 
-    def parent(self, path):
+    def parent(self, path: str) -> int:
         """The number of the directory that a path lies in."""
         return self.store.directory(self.file(posixpath.dirname(path) or "."))
 
-    def opened(self, call, args=None):
+    def opened(self, call: Call, args: str | None = None) -> Open | None:
         """What is open under the descriptor that stands first, None where it is no file of the volume."""
         match = DESCRIPTOR.match(call.args if args is None else args)
         if match is None:
@@ -356,63 +359,64 @@ class Reader:
             call.process.files[int(match[1])] = found
         if found is None:
             self.log.without[NOT_OPENED] += 1
-        elif found.file is None:
+        elif found.file is ELSEWHERE:
             self.log.without["calls on files elsewhere"] += 1
             return None
         return found
 
-    def new_open(self, path, flags):
-        return Open(path, None if self.is_outside(path) else self.file(path), "O_APPEND" in flags)
+    def new_open(self, path: str, flags: str) -> Open:
+        return Open(path, ELSEWHERE if self.is_outside(path) else self.file(path), "O_APPEND" in flags)
 
-    def put(self, call, descriptor, found, closes):
+    def put(self, call: Call, descriptor: int, found: Open, closes: bool) -> None:
         call.process.files[descriptor] = found
         if closes:
             call.process.closing.add(descriptor)
         else:
             call.process.closing.discard(descriptor)
 
-    def meta(self, call, name, *ops, blocks=None):
+    def meta(self, call: Call, name: str, *ops: tuple[str, str, int], blocks: Blocks | None = None) -> None:
         found = [(word, VOLUME, space, number) for word, space, number in ops]
         self.requests.append(Meta(call.time, call.took, name, found, blocks))
 
-    def elsewhere(self, path):
-        """Whether a path is not of the volume; it is counted then."""
+    def is_inside(self, path: str | None) -> TypeGuard[str]:
+        """Whether a path is of the volume; one that is not is counted."""
         if path is None or self.is_outside(path):
             self.log.without["calls on files elsewhere"] += 1
-            return True
-        return False
+            return False
+        return True
 
     # Data
 
-    def moved(self, call, found, kind, at, length, took):
+    def moved(self, call: Call, found: Open, kind: str, at: int, length: int, took: int | None) -> None:
         """A request for bytes that a call has read or written."""
         file = found.file
         if length == 0:
             self.requests.append(Meta(call.time, took, kind, [("read", VOLUME, "inode", file.inode)]))
             return
-        end, fresh = at + length, None
+        end = at + length
+        fresh: int | None = None
         if kind == "write" and file.size is not None and end > file.size:
             fresh, file.size = max(at, file.size), end
         file.end = max(file.end, end)
         self.requests.append(Data(call.time, took, kind, kind, file, at, length, fresh))
 
-    def sequential(self, call, kind, length, took, found):
+    def sequential(self, call: Call, kind: str, length: int, took: int | None, found: Open) -> None:
         if kind == "write" and found.append:
             found.offset = found.file.end if found.file.size is None else found.file.size
         self.moved(call, found, kind, found.offset, length, took)
         found.offset += length
 
-    def read_next(self, call):
+    def read_next(self, call: Call) -> None:
         found = self.opened(call)
         if found:
             self.sequential(call, "read", call.result, call.took, found)
 
-    def write_next(self, call):
+    def write_next(self, call: Call) -> None:
         found = self.opened(call)
         if found:
             self.sequential(call, "write", call.result, call.took, found)
 
-    def at_offset(self, call, kind, place):
+    def at_offset(self, call: Call, kind: str, place: int) -> bool:
         at = call.last(place)
         if at is None:
             return False
@@ -421,19 +425,20 @@ class Reader:
             self.moved(call, found, kind, at, call.result, call.took)
         return True
 
-    def copied(self, call, source, at_source, target, at_target):
+    def copied(self, call: Call, source: Open | None, at_source: int | None, target: Open | None, at_target: int | None) -> None:
         """A call that reads from one file and writes to another, at offsets or where these are. At the end of the one nothing is
         written to the other."""
-        halves = (None, None) if call.took is None else (call.took - call.took // 2, call.took // 2)
+        second = None if call.took is None or call.result == 0 else call.took // 2
+        first = None if call.took is None else call.took - (second or 0)
         if call.result == 0:
-            target, halves = None, (call.took, None)
-        for found, at, kind, took in ((source, at_source, "read", halves[0]), (target, at_target, "write", halves[1])):
+            target = None
+        for found, at, kind, took in ((source, at_source, "read", first), (target, at_target, "write", second)):
             if found and at is None:
                 self.sequential(call, kind, call.result, took, found)
             elif found:
                 self.moved(call, found, kind, at, call.result, took)
 
-    def copy_range(self, call):
+    def copy_range(self, call: Call) -> bool:
         words = call.args.split(", ")
         if len(words) < 6:
             return False
@@ -441,7 +446,7 @@ class Reader:
         self.copied(call, self.opened(call), offsets[0], self.opened(call, words[2]), offsets[1])
         return True
 
-    def send_file(self, call):
+    def send_file(self, call: Call) -> bool:
         words = call.args.split(", ")
         if len(words) < 4:
             return False
@@ -450,21 +455,21 @@ class Reader:
         self.copied(call, self.opened(call, words[1]), offset, self.opened(call), None)
         return True
 
-    def seek(self, call):
+    def seek(self, call: Call) -> None:
         self.idle["lseek"] += 1
         match = DESCRIPTOR.match(call.args)
         found = call.process.files.get(int(match[1])) if match else None
         if found:
             found.offset = call.result
-            if found.file and ", 0, SEEK_END" in call.args:
+            if found.file is not ELSEWHERE and ", 0, SEEK_END" in call.args:
                 found.file.size = call.result
 
     # Descriptors
 
-    def open(self, call, flags=None):
+    def open(self, call: Call, flags: str | None = None) -> bool:
         match = PATH.match(call.args)
         path = self.path(call, match)
-        if path is None:
+        if match is None or path is None:
             return False
         flags = call.args[match.end() :] if flags is None else flags
         if "O_TMPFILE" in flags:
@@ -477,7 +482,7 @@ class Reader:
         found = found or self.new_open(path, flags)
         self.put(call, call.result, found, "O_CLOEXEC" in flags)
         file = found.file
-        if file is None:
+        if file is ELSEWHERE:
             self.log.without["calls on files elsewhere"] += 1
         elif is_made:
             file.size = 0
@@ -488,16 +493,16 @@ class Reader:
             self.meta(call, "open", ("read", "inode", file.inode))
         return True
 
-    def create(self, call):
+    def create(self, call: Call) -> bool:
         return self.open(call, "O_CREAT|O_WRONLY|O_TRUNC")
 
-    def close(self, call):
+    def close(self, call: Call) -> None:
         self.idle["close"] += 1
         match = DESCRIPTOR.match(call.args)
         if match:
             call.process.files.pop(int(match[1]), None)
 
-    def close_range(self, call):
+    def close_range(self, call: Call) -> None:
         self.idle["close_range"] += 1
         words = call.args.rstrip(")").split(", ")
         first, last = (int(it) if is_number(it) else 1 << 32 for it in (words * 2)[:2])
@@ -507,11 +512,11 @@ class Reader:
         for descriptor in [it for it in call.process.files if first <= it <= last]:
             del call.process.files[descriptor]
 
-    def duplicate(self, call):
+    def duplicate(self, call: Call) -> None:
         self.idle["dup"] += 1
         self.duplicated(call, "O_CLOEXEC" in call.args)
 
-    def control(self, call):
+    def control(self, call: Call) -> None:
         self.idle["fcntl"] += 1
         if "F_DUPFD" in call.args:
             self.duplicated(call, "F_DUPFD_CLOEXEC" in call.args)
@@ -520,7 +525,7 @@ class Reader:
             if match and int(match[1]) in call.process.files:
                 self.put(call, int(match[1]), call.process.files[int(match[1])], "FD_CLOEXEC" in call.args)
 
-    def duplicated(self, call, closes):
+    def duplicated(self, call: Call, closes: bool) -> None:
         match = DESCRIPTOR.match(call.args)
         found = call.process.files.get(int(match[1])) if match else None
         if found:
@@ -530,16 +535,16 @@ class Reader:
 
     # Names and inodes
 
-    def named(self, call):
+    def named(self, call: Call) -> File | None:
         """The file that a call names by a path or by a descriptor; None where it is none of the volume."""
         match = PATH.match(call.args)
         if match is None or (match[3] == "" and match[1] not in (None, "AT_FDCWD")):
             found = self.opened(call)
             return found.file if found else None
         path = self.path(call, match)
-        return None if self.elsewhere(path) else self.file(path)
+        return self.file(path) if self.is_inside(path) else None
 
-    def status(self, call):
+    def status(self, call: Call) -> None:
         file = self.named(call)
         if file:
             size = SIZE.search(call.args)
@@ -547,38 +552,38 @@ class Reader:
                 file.size = int(size[1])
             self.meta(call, "stat", ("read", "inode", file.inode))
 
-    def set_status(self, call):
+    def set_status(self, call: Call) -> None:
         file = self.named(call)
         if file:
             self.meta(call, "setattr", ("set", "inode", file.inode))
 
-    def list_names(self, call):
+    def list_names(self, call: Call) -> None:
         found = self.opened(call)
         if found:
             self.meta(call, "readdir", ("read", "dir", self.store.directory(found.file)))
 
-    def flush(self, call):
+    def flush(self, call: Call) -> None:
         found = self.opened(call)
         if found:
             self.meta(call, "sync", ("read", "inode", found.file.inode))
 
-    def flush_all(self, call):
+    def flush_all(self, call: Call) -> None:
         self.meta(call, "sync", ("read", "vol", 0))
 
-    def truncated(self, call, name, file, size):
+    def truncated(self, call: Call, name: str, file: File, size: int) -> None:
         end = file.end if file.size is None else file.size
         file.size = size
         blocks = (file, size, min(end, file.end), "free") if size < min(end, file.end) else None
         self.meta(call, name, ("set", "inode", file.inode), blocks=blocks)
 
-    def truncate(self, call):
+    def truncate(self, call: Call) -> bool:
         size = call.last()
         file = self.named(call)
         if file and size is not None:
             self.truncated(call, "truncate", file, size)
         return size is not None
 
-    def allocate(self, call):
+    def allocate(self, call: Call) -> bool:
         words = call.args.rstrip(")").rsplit(", ", 3)
         if len(words) < 4 or not (is_number(words[2]) and is_number(words[3])):
             return False
@@ -593,36 +598,38 @@ class Reader:
             self.meta(call, "fallocate", ("set", "inode", file.inode), blocks=blocks)
         return True
 
-    def make_directory(self, call):
+    def make_directory(self, call: Call) -> None:
         path = self.path(call)
-        if not self.elsewhere(path):
+        if self.is_inside(path):
             parent, file = self.parent(path), self.file(path)
             self.store.directory(file)
             self.meta(call, "mkdir", ("add", "dir", parent), ("set", "inode", file.inode))
 
-    def make_link(self, call):
+    def make_link(self, call: Call) -> bool:
         texts = list(PATH.finditer(call.args))
         if len(texts) < 2:
             return False
         path, source = self.path(call, texts[1]), self.path(call, texts[0])
-        if not self.elsewhere(path):
+        if source is None:
+            return False
+        if self.is_inside(path):
             file = self.file(source)
             file.links += 1
             self.paths[path] = file
             self.meta(call, "link", ("add", "dir", self.parent(path)), ("set", "inode", file.inode))
         return True
 
-    def make_symbolic_link(self, call):
+    def make_symbolic_link(self, call: Call) -> bool:
         texts = list(PATH.finditer(call.args))
         if len(texts) < 2:
             return False
         path = self.path(call, texts[1])
-        if not self.elsewhere(path):
+        if self.is_inside(path):
             parent = self.parent(path)
             self.meta(call, "create", ("add", "dir", parent), ("set", "inode", self.file(path).inode))
         return True
 
-    def gone(self, path):
+    def gone(self, path: str) -> tuple[File, Blocks | None]:
         """Takes a name away. Answers the file and the blocks that it gives back, if that was its last name."""
         file = self.file(path)
         del self.paths[path]
@@ -630,26 +637,26 @@ class Reader:
         end = file.end if file.size is None else min(file.end, file.size)
         return file, (file, 0, end, "free") if file.links == 0 and end else None
 
-    def remove(self, call):
+    def remove(self, call: Call) -> None:
         path = self.path(call)
-        if not self.elsewhere(path):
+        if self.is_inside(path):
             parent = self.parent(path)
             file, blocks = self.gone(path)
             name = "rmdir" if "AT_REMOVEDIR" in call.args else "unlink"
             self.meta(call, name, ("add", "dir", parent), ("set", "inode", file.inode), blocks=blocks)
 
-    def remove_directory(self, call):
+    def remove_directory(self, call: Call) -> None:
         path = self.path(call)
-        if not self.elsewhere(path):
+        if self.is_inside(path):
             parent = self.parent(path)
             self.meta(call, "rmdir", ("add", "dir", parent), ("set", "inode", self.gone(path)[0].inode))
 
-    def rename(self, call):
+    def rename(self, call: Call) -> bool:
         texts = list(PATH.finditer(call.args))
         if len(texts) < 2:
             return False
         old, new = self.path(call, texts[0]), self.path(call, texts[1])
-        if self.elsewhere(old) or self.elsewhere(new):
+        if not self.is_inside(old) or not self.is_inside(new):
             return True
         if old == new:
             self.log.without["renames to the same name"] += 1
@@ -670,7 +677,7 @@ class Reader:
 
     # Processes
 
-    def fork(self, at, process, args, answer):
+    def fork(self, at: int, process: Process, args: str, answer: int) -> None:
         """A call that makes a process has returned. Where lines of the child came before, it is there, and perhaps gone."""
         self.idle["fork"] += 1
         births = self.births.get(str(answer))
@@ -678,34 +685,35 @@ class Reader:
             births.popleft()
             self.processes[str(answer)] = process.child(args)
 
-    def new_program(self, call):
+    def new_program(self, call: Call) -> None:
         self.idle["execve"] += 1
         process = call.process
         process.files = {it: found for it, found in process.files.items() if it not in process.closing}
         process.closing = set()
 
-    def change_directory(self, call):
+    def change_directory(self, call: Call) -> None:
         self.idle["chdir"] += 1
         call.process.directory[0] = self.path(call)
 
-    def change_to_open(self, call):
+    def change_to_open(self, call: Call) -> None:
         self.idle["fchdir"] += 1
         match = DESCRIPTOR.match(call.args)
         call.process.directory[0] = self.base(call.process, match[1], match[2]) if match else None
 
-    def tell_directory(self, call):
+    def tell_directory(self, call: Call) -> None:
         self.idle["getcwd"] += 1
         path = self.path(call)
         if call.process.directory[0] is None and path:
             call.process.directory[0] = path
 
 
-FORKS = ("clone", "clone3", "fork", "vfork")
+# What a reader does at a call, False where the arguments are not understood.
+Handler = Callable[[Reader, Call], bool | None]
 
 
-def calls():
+def calls() -> dict[str, Handler]:
     """What is done at each call that is modelled, or that tells of descriptors, directories or processes."""
-    table = {
+    table: dict[Handler, str] = {
         Reader.open: "open openat openat2",
         Reader.create: "creat",
         Reader.close: "close",
@@ -732,7 +740,6 @@ def calls():
         Reader.remove: "unlink unlinkat",
         Reader.remove_directory: "rmdir",
         Reader.rename: "rename renameat renameat2",
-        Reader.fork: " ".join(FORKS),  # by `call`
         Reader.new_program: "execve execveat",
         Reader.change_directory: "chdir",
         Reader.change_to_open: "fchdir",
@@ -747,14 +754,14 @@ def calls():
         ("pwritev", "write", 1),
         ("pwritev2", "write", 2),
     ):
-        found[name] = lambda reader, call, kind=kind, place=place: reader.at_offset(call, kind, place)
+        found[name] = partial(Reader.at_offset, kind=kind, place=place)
     return found
 
 
 CALLS = calls()
 
 
-def read(asked):
+def read(asked: Namespace) -> tuple[Volume, list[Request]]:
     """The volume and the requests of the log."""
     lines = read_lines(asked.log)
     log = Lines(asked.log, len(lines), f"record it with `{FLAGS_WANTED}`")

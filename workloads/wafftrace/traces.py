@@ -4,35 +4,36 @@ import collections
 import csv
 import io
 import os
+from argparse import Namespace
+from collections.abc import Iterator
+from dataclasses import dataclass
 
+from . import limits
 from .logs import Refusal, is_number, read_text, shown, tell
-from .model import COST, MESSAGES, OPERATIONS, RELEASE
 
 # How many messages the windows of a trace may have in all.
 MOST_IN_WINDOWS = 20000000
 
 HEADERS = {"message,cost,ops": False, "message,cost,release,ops": True}
-WORDS = {"set": (2, True), "add": (2, True), "read": (1, False), "copy": (2, False), "swap": (2, False)}
+WORDS: dict[str, tuple[int | None, bool]] = {"set": (2, True), "add": (2, True), "read": (1, False), "copy": (2, False), "swap": (2, False)}
 
 
+@dataclass(slots=True)
 class Message:
     """A message: its name, its cost, its release (0 where the trace has none), its operations as they are written."""
 
-    __slots__ = ("cost", "name", "ops", "release")
-
-    def __init__(self, name, cost, release, ops):
-        self.name = name
-        self.cost = cost
-        self.release = release
-        self.ops = ops
+    name: str
+    cost: int
+    release: int
+    ops: str
 
 
+@dataclass(slots=True)
 class Trace:
-    def __init__(self, has_releases, messages):
-        self.has_releases = has_releases
-        self.messages = messages
+    has_releases: bool
+    messages: list[Message]
 
-    def text(self):
+    def text(self) -> str:
         if self.has_releases:
             lines = ["message,cost,release,ops"]
             lines += [f"{it.name},{it.cost},{it.release},{it.ops}" for it in self.messages]
@@ -42,13 +43,13 @@ class Trace:
         return "\n".join(lines) + "\n"
 
 
-def read_trace(name):
+def read_trace(name: str) -> Trace:
     """The trace of a file; a record that is none of a trace is refused."""
     text = read_text(name).removeprefix("\ufeff")
     called = "standard input" if name == "-" else shown(name)
     records = (it for it in csv.reader(io.StringIO(text, newline=""), strict=True) if it)
     try:
-        header = next(records, [])
+        header: list[str] = next(records, [])
         has_releases = HEADERS.get(",".join(header))
         if has_releases is None:
             raise Refusal(3, f"{called}: its first record is no header of a trace: message,cost,ops or message,cost,release,ops")
@@ -64,7 +65,7 @@ def read_trace(name):
     return Trace(has_releases, messages)
 
 
-def cells(called, number, ops):
+def cells(called: str, number: int, ops: str) -> list[str]:
     """The cells that the operations of a message name."""
     found = []
     for op in ops.split(";"):
@@ -79,7 +80,7 @@ def cells(called, number, ops):
     return found
 
 
-def pace(asked):
+def pace(asked: Namespace) -> str:
     """The trace with its releases divided by the speed, rounded down; or without releases."""
     trace = read_trace(asked.trace)
     if asked.at_once:
@@ -92,22 +93,26 @@ def pace(asked):
     return trace.text()
 
 
-def sort(asked):
+def sort(asked: Namespace) -> str:
     """The trace in the order of its releases; messages of one release keep theirs."""
     trace = read_trace(asked.trace)
     trace.messages.sort(key=lambda it: it.release)
     return trace.text()
 
 
-def windows_of_messages(messages, width, every):
+Windows = Iterator[tuple[int, list[Message]]]
+
+
+def windows_of_messages(messages: list[Message], width: int, every: int) -> Windows:
+    """The windows of so many messages, each with its least release."""
     for first in range(0, len(messages), every):
         found = messages[first : first + width]
         yield min((it.release for it in found), default=0), found
 
 
-def windows_of_ticks(messages, width, every):
+def windows_of_ticks(messages: list[Message], width: int, every: int) -> Windows:
     """The windows of so many ticks: a message is in each one that holds its release."""
-    found = collections.defaultdict(list)
+    found: dict[int, list[Message]] = collections.defaultdict(list)
     for it in messages:
         last = it.release // every
         first = max(0, -(-(it.release - width + 1) // every))
@@ -117,7 +122,7 @@ def windows_of_ticks(messages, width, every):
         yield number * every, found[number]
 
 
-def window(asked):
+def window(asked: Namespace) -> str:
     """Writes a trace for each window, with its releases from 0, and answers the names of the files."""
     trace = read_trace(asked.trace)
     width = asked.messages or asked.ticks
@@ -131,24 +136,25 @@ def window(asked):
     for number, (start, messages) in enumerate(parts(trace.messages, width, every), 1):
         name = f"{asked.out}{number:05}.csv"
         moved = [Message(it.name, it.cost, it.release - start, it.ops) for it in messages]
-        if len(moved) > MESSAGES:
-            tell(f"{shown(name)}: {len(moved)} messages are more than the {MESSAGES} that waff takes")
+        if len(moved) > limits.MESSAGES:
+            tell(f"{shown(name)}: {len(moved)} messages are more than the {limits.MESSAGES} that waff takes")
         write_file(name, Trace(trace.has_releases, moved).text())
         lines.append(f"{name},{len(moved)},{start}")
     return "\n".join(lines) + "\n"
 
 
-def stats(asked):
+def stats(asked: Namespace) -> str:
     """What a trace has, and how much of it is over the limits of waff."""
     trace = read_trace(asked.trace)
     called = shown(asked.trace)
-    touched, operations, long = set(), 0, 0
-    names = collections.defaultdict(lambda: [0, 0])
+    touched: set[str] = set()
+    operations = long = 0
+    names: dict[str, list[int]] = collections.defaultdict(lambda: [0, 0])
     for number, it in enumerate(trace.messages, 2):
         touched.update(cells(called, number, it.ops))
         count = it.ops.count(";") + 1
         operations += count
-        long += count > OPERATIONS
+        long += count > limits.OPS
         entry = names[it.name]
         entry[0] += 1
         entry[1] += it.cost
@@ -160,10 +166,10 @@ def stats(asked):
         f"cells,{len(touched)}",
         f"cost,{sum(it.cost for it in messages)}",
         f"release,{max((it.release for it in messages), default=0)}",
-        f"over-messages,{max(0, len(messages) - MESSAGES)}",
+        f"over-messages,{max(0, len(messages) - limits.MESSAGES)}",
         f"over-operations,{long}",
-        f"over-cost,{sum(not 1 <= it.cost <= COST for it in messages)}",
-        f"over-release,{sum(it.release > RELEASE for it in messages)}",
+        f"over-cost,{sum(not 1 <= it.cost <= limits.COST for it in messages)}",
+        f"over-release,{sum(it.release > limits.RELEASE for it in messages)}",
         "space,cells",
         *(f"{space},{count}" for space, count in sorted(spaces.items())),
         "name,messages,cost",
@@ -172,7 +178,7 @@ def stats(asked):
     return "\n".join(lines) + "\n"
 
 
-def write_file(name, text):
+def write_file(name: str | os.PathLike[str], text: str) -> None:
     try:
         with open(name, "w", encoding="utf-8", errors="surrogateescape", newline="") as file:
             file.write(text)

@@ -2,14 +2,21 @@
 
 import argparse
 import errno
+import io
 import os
 import re
 import signal
 import sys
+from argparse import ArgumentParser, Namespace
+from collections.abc import Callable
 from fractions import Fraction
+from typing import NoReturn
 
-from . import blocks, fio, hot, logs, model, plans, strace, traces
+from . import blocks, fio, hot, limits, logs, model, plans, strace, traces
 from .logs import Refusal, is_number, tell
+
+# What is done for the words of a command: the text that it prints.
+Run = Callable[[Namespace], str]
 
 COST_HELP = """\
 What a cost is: the time for which a message holds its affinity and a worker. `--cost latency` takes the latency of the log,
@@ -21,13 +28,13 @@ What is left out: a trace has no order but that of what excludes each other. Two
 where they did not in the log, unless their releases keep them apart."""
 
 
-class Words(argparse.ArgumentParser):
-    def error(self, message):
+class Words(ArgumentParser):
+    def error(self, message: str) -> NoReturn:
         raise Refusal(2, f"{message} (`{self.prog} --help` tells the words)")
 
 
-def number(least, most, what):
-    def read(word):
+def number(least: int, most: int, what: str) -> Callable[[str], int]:
+    def read(word: str) -> int:
         if not is_number(word) or not least <= int(word) <= most:
             raise argparse.ArgumentTypeError(f"{word!r} is no {what} from {least} to {most}")
         return int(word)
@@ -35,27 +42,27 @@ def number(least, most, what):
     return read
 
 
-def nanoseconds(word):
+def nanoseconds(word: str) -> int:
     """Microseconds, with a point where they are no whole number, in nanoseconds."""
     if re.fullmatch(r"[0-9]{1,9}(\.[0-9]{1,3})?", word) is None:
         raise argparse.ArgumentTypeError(f"{word!r} is no number of microseconds with at most three digits after the point")
     return int(Fraction(word) * 1000)
 
 
-def tick(word):
+def tick(word: str) -> int:
     found = nanoseconds(word)
     if found == 0:
         raise argparse.ArgumentTypeError("a tick is longer than 0")
     return found
 
 
-def speed(word):
+def speed(word: str) -> Fraction:
     if re.fullmatch(r"[0-9]{1,9}(\.[0-9]{1,9})?", word) is None or Fraction(word) == 0:
         raise argparse.ArgumentTypeError(f"{word!r} is no speed above 0")
     return Fraction(word)
 
 
-def imported(part):
+def imported(part: ArgumentParser) -> None:
     """The words that all kinds of logs take."""
     part.add_argument("--tree", metavar="FILE", help="write a hierarchy that accepts the trace to this file")
     part.add_argument(
@@ -68,11 +75,11 @@ def imported(part):
         help="bytes of a cell; without it the least power of two from 4096 on with which all cells fit a hierarchy",
     )
     part.add_argument(
-        "--stripes", type=number(1, 256, "number"), metavar="N", default=4, help="stripes of the volume or of each device (4)"
+        "--stripes", type=number(1, limits.OWNERS, "number"), metavar="N", default=4, help="stripes of the volume or of each device (4)"
     )
     part.add_argument(
         "--unit",
-        type=number(1, model.CELLS, "number"),
+        type=number(1, limits.CELLS, "number"),
         metavar="N",
         help="cells in a row in one stripe; without it the least power of two from 8 to 32 that holds the largest request",
     )
@@ -88,7 +95,7 @@ def imported(part):
     )
 
 
-def of_volume(part):
+def of_volume(part: ArgumentParser) -> None:
     part.add_argument(
         "--blocks",
         choices=["new", "all", "none"],
@@ -98,11 +105,11 @@ def of_volume(part):
     )
 
 
-def words():
+def words() -> ArgumentParser:
     top = Words(prog="waff-trace", description="Makes traces of waff out of logs of real systems. Tested, not proved.")
     parts = top.add_subparsers(dest="command", metavar="COMMAND", required=True, parser_class=Words)
 
-    def part(name, what, run, epilog=None):
+    def part(name: str, what: str, run: Run, epilog: str | None = None) -> ArgumentParser:
         found = parts.add_parser(
             name, help=what, description=what[0].upper() + what[1:] + ".", epilog=epilog,
             formatter_class=argparse.RawDescriptionHelpFormatter,
@@ -171,23 +178,23 @@ def words():
     found.add_argument("trace", metavar="TRACE")
     found.add_argument("starts", metavar="STARTS", help="lines of a message's number, its start, and its worker if it has one")
     found.add_argument(
-        "--workers", type=number(1, 64, "number"), metavar="K", help="how many workers it is for; without it the greatest worker"
+        "--workers", type=number(1, limits.WORKERS, "number"), metavar="K", help="how many workers it is for; without it the greatest worker"
     )
     return top
 
 
-def of_log(read):
+def of_log(read: model.Log) -> Run:
     """What is done for a log: the tree is written where one is wanted, and the answer is the trace."""
 
-    def run(asked):
+    def run(asked: Namespace) -> str:
         store, requests = read(asked)
         if not requests:
             raise Refusal(3, "the log has no request that is kept, so there is no trace")
-        if asked.cost == "latency" and all(it.took is None for it in requests):
+        measured = asked.cost == "latency" and any(it.took is not None for it in requests)
+        if asked.cost == "latency" and not measured:
             tell("the log has no latencies: costs are those of sizes")
-            asked.cost = "size"
         shape = model.Shape(store, requests, asked)
-        messages = model.Messages(store, shape, asked)
+        messages = model.Messages(store, shape, asked, measured)
         messages.add(requests)
         text = model.tree_text(store, shape, asked.stripes)
         model.warn(messages)
@@ -200,14 +207,15 @@ def of_log(read):
     return run
 
 
-def run_words(given, parser, run):
+def run_words(given: list[str], parser: Callable[[], ArgumentParser], run: Run) -> int:
     """Runs what words ask for, and answers the exit status: 0, or 2 for words, 3 for a bad file, 4 for one that cannot be read
     or written. What is refused is told in one line."""
     signal.signal(signal.SIGPIPE, signal.SIG_DFL)
     # A standard stream that was closed before the program began is none in Python.
     if sys.stderr is None:
         sys.stderr = open(os.devnull, "w")
-    sys.stderr.reconfigure(errors="backslashreplace")
+    if isinstance(sys.stderr, io.TextIOWrapper):
+        sys.stderr.reconfigure(errors="backslashreplace")
     logs.told_by = parser().prog
     try:
         if sys.stdout is None:
@@ -229,5 +237,10 @@ def run_words(given, parser, run):
     return 0
 
 
-def main(given):
-    return run_words(given, words, lambda asked: asked.run(asked))
+def run_asked(asked: Namespace) -> str:
+    run: Run = asked.run
+    return run(asked)
+
+
+def main(given: list[str]) -> int:
+    return run_words(given, words, run_asked)
