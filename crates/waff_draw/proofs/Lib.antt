@@ -1,8 +1,9 @@
 pub mod TextLemmas
 pub mod LaneLemmas
-pub mod WalkLemmas
 pub mod KindLemmas
-pub mod OnceLemmas
-pub mod RowLemmas
+pub mod PathLemmas
+pub mod OrderLemmas
+pub mod PlaceLemmas
 mod PreorderLemmas
+mod RowLemmas
 mod PartLemmas

@@ -1,20 +1,27 @@
 -- The row of an affinity is that of its lane.
-use Rattle.std.proofs.Common.{◌≡◌, ◌≢◌, ℕ, suc, ◌+◌, ◌-◌, ◌<◌, ◌≤◌, cond, inl, inr, List, [], ◌∷◌, Some, slice_get, arith, ◌∙◌, ap, subst}
+use Rattle.std.proofs.Common.{◌≡◌, ◌≢◌, ℕ, suc, ◌+◌, ◌-◌, ◌<◌, ◌≤◌, ◌==◌, cond, inl, inr, List, [], ◌∷◌, Some, slice_get, arith, ◌∙◌, ap, subst}
+use Rattle.std.specs.List.{count_by}
 use Rattle.std.proofs.lemmas.Bool.{cases_eq}
+use Rattle.std.proofs.lemmas.List.Sums.{sum_by-cons}
 use Rattle.waff_model.specs.Tree.{IsTree, Node}
-use Rattle.waff_draw.specs.Lanes.{lanes_of, preorder, row_from}
+use Rattle.waff_draw.specs.Lanes.{lanes_of, row_from}
 use Rattle.waff_draw.specs.Laws.{RowIsOfLane}
 use Rattle.waff_draw.specs.declared.lanes.Lane.{Lane}
 use Rattle.waff_draw.proofs.LaneLemmas.{other_tests, same_tests}
-use Rattle.waff_draw.proofs.OnceLemmas.{mark, mark_other, preorder_once, times, times_filter}
+use Rattle.waff_draw.proofs.PreorderLemmas.{lane_is_one}
+
+-- how many lanes are of the affinity a
+abbrev count_of : ℕ → List Lane → ℕ
+count_of a lanes = count_by (λ lane. lane.affinity == a) lanes
 
 -- it is among those behind, where the first is of another
-further : (a : ℕ) (x : Lane) (xs : List Lane) → x.affinity ≢ a → 0 < times a (x ∷ xs) → 0 < times a xs
+further : (a : ℕ) (x : Lane) (xs : List Lane) → x.affinity ≢ a → 0 < count_of a (x ∷ xs) → 0 < count_of a xs
 further a x xs other some =
-    let here : 0 < mark a x.affinity + times a xs = some in
-    omega (arith, here, mark_other a x.affinity other)
+    let parts : count_of a (x ∷ xs) ≡ cond (x.affinity == a) 1 0 + count_of a xs = sum_by-cons (λ (lane : Lane). cond {A = ℕ} (lane.affinity == a) 1 0) x xs in
+    let none : cond {A = ℕ} (x.affinity == a) 1 0 ≡ 0 = ap (λ b. cond b 1 0) (other_tests x.affinity a other) in
+    omega (arith, some, parts, none)
 
-row_found : (row : ℕ) (lanes : List Lane) (a : ℕ) → 0 < times a lanes
+row_found : (row : ℕ) (lanes : List Lane) (a : ℕ) → 0 < count_of a lanes
     → (lane : Lane) × (slice_get lanes (row_from row lanes a - row) ≡ Some lane) × (lane.affinity ≡ a) × (row ≤ row_from row lanes a)
 row_found row [] a some = absurd (omega (arith, some))
 row_found row (x ∷ xs) a some =
@@ -34,8 +41,7 @@ row_found row (x ∷ xs) a some =
 pub row_is_of_lane : (tree : List Node) (assigned : List ℕ) → IsTree tree → RowIsOfLane tree assigned
 row_is_of_lane tree assigned is a low has =
     let lanes = lanes_of tree assigned in
-    let once : times a lanes ≡ 1
-    = times_filter assigned a (preorder tree) ∙ ap (λ b. cond b (times a (preorder tree)) 0) has ∙ preorder_once tree is a low in
+    let once : count_of a lanes ≡ 1 = lane_is_one tree assigned is a low ∙ ap (λ b. cond b 1 0) has in
     let found = row_found 0 lanes a (omega (arith, once)) in
     let off : row_from 0 lanes a - 0 ≡ row_from 0 lanes a = omega arith in
     (found.0, subst (λ n. slice_get lanes n ≡ Some found.0) off found.1, found.2)

@@ -1,45 +1,55 @@
 -- The lanes of a picture: the affinities that have a message, in preorder.
-use Rattle.std.specs.Prelude.{ℕ, zero, suc, ◌+◌, ◌==◌, Bool, false, List, [], ◌∷◌, Option, Some}
-use Rattle.std.specs.Prelude.{None, if◌then◌else◌, length, map, slice_index_or}
-use Rattle.std.specs.List.{filter, flat_map, list_any, range_with_len}
+use Rattle.std.specs.Prelude.{ℕ, zero, suc, ◌+◌, ◌==◌, Bool, List, [], ◌∷◌, ◌++◌, if◌then◌else◌, length}
+use Rattle.std.specs.Prelude.{map, option_map, unwrap_or}
+use Rattle.std.specs.Cmp.Lexicographic.{slice_cmp}
+use Rattle.std.specs.List.{filter, list_any, range_with_len}
+use Rattle.std.specs.Ordering.{is_lt, nat_cmp}
 use Rattle.waff_model.specs.Tree.{Node, parent_of}
 use Rattle.waff_draw.specs.declared.lanes.Lane.{Lane}
 
--- whether the parent is a
-abbrev pub is_parent : ℕ → Option ℕ → Bool
-is_parent a None = false
-is_parent a (Some parent) = parent == a
+-- the affinities from the root, which is left out, to b, the last so many of them
+abbrev pub path_from : List Node → ℕ → ℕ → List ℕ
+path_from tree zero b = []
+path_from tree (suc steps) b =
+    unwrap_or (option_map (λ parent. path_from tree steps parent ++ b ∷ []) (parent_of tree b)) []
 
--- the children of the affinity a, in order
-abbrev pub children_of : List Node → ℕ → List ℕ
-children_of tree a = filter (λ b. is_parent a (parent_of tree b)) (range_with_len 0 (length tree))
+-- all of them: b is no more than b steps below the root
+abbrev pub path_of : List Node → ℕ → List ℕ
+path_of tree b = path_from tree b b
 
--- those of each affinity
-abbrev pub families_of : List Node → List (List ℕ)
-families_of tree = map (children_of tree) (range_with_len 0 (length tree))
+-- preorder: a stands before b where its path does in a dictionary
+abbrev pub is_before : List Node → ℕ → ℕ → Bool
+is_before tree a b = is_lt (slice_cmp nat_cmp (path_of tree a) (path_of tree b))
+
+-- affinities in preorder, with one more
+abbrev pub put : List Node → ℕ → List ℕ → List ℕ
+put tree a [] = a ∷ []
+put tree a (b ∷ bs) = if is_before tree a b then a ∷ b ∷ bs else b ∷ put tree a bs
+
+-- affinities in preorder
+abbrev pub in_preorder : List Node → List ℕ → List ℕ
+in_preorder tree [] = []
+in_preorder tree (a ∷ more) = put tree a (in_preorder tree more)
 
 abbrev pub lane_of : ℕ → ℕ → Lane
 lane_of affinity depth = record { affinity = affinity; depth = depth }
 
--- a walk in preorder that goes down so many levels: an affinity, then the walks from its children,
--- in order
-abbrev pub walk_from : List (List ℕ) → ℕ → ℕ → ℕ → List Lane
-walk_from families zero depth a = []
-walk_from families (suc levels) depth a =
-    lane_of a depth
-    ∷ flat_map (walk_from families levels (depth + 1)) (slice_index_or families a [])
-
--- all affinities, in preorder
-abbrev pub preorder : List Node → List Lane
-preorder tree = walk_from (families_of tree) (length tree) 0 0
+-- the lane of the affinity a
+abbrev pub lane_in : List Node → ℕ → Lane
+lane_in tree a = lane_of a (length (path_of tree a))
 
 -- whether a number is one of a list
 abbrev pub is_among : List ℕ → ℕ → Bool
 is_among numbers n = list_any (λ m. m == n) numbers
 
+-- the affinities that have a message among so many from this one on, in preorder
+abbrev pub used_from : List Node → List ℕ → ℕ → ℕ → List ℕ
+used_from tree assigned from count =
+    in_preorder tree (filter (is_among assigned) (range_with_len from count))
+
 -- the lanes: the affinities that have a message
 abbrev pub lanes_of : List Node → List ℕ → List Lane
-lanes_of tree assigned = filter (λ lane. is_among assigned lane.affinity) (preorder tree)
+lanes_of tree assigned = map (lane_in tree) (used_from tree assigned 0 (length tree))
 
 -- the row of the affinity a, where the first of the lanes is at this row
 abbrev pub row_from : ℕ → List Lane → ℕ → ℕ

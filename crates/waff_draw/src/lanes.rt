@@ -1,15 +1,14 @@
 //! The lanes of a picture: the affinities that have a message, in preorder.
 
-ghost use Rattle.std.specs.Prelude.{◌≡◌, ◌+◌, ◌^◌, ◌<◌, ◌≤◌, ◌∷◌, ◌++◌, ℕ, All, IfOk, OnOk, []};
-ghost use Rattle.std.specs.Prelude.{false, length, map, replicate, set, slice_index};
-ghost use Rattle.std.specs.Prelude.{slice_index_or};
-ghost use Rattle.std.specs.List.{filter};
-ghost use Rattle.waff_model.specs.Tree.{IsTree};
-ghost use Rattle.waff_draw.specs.Lanes.{families_of, is_among, lanes_of, preorder, row_of};
-ghost use Rattle.waff_draw.specs.Lanes.{walk_from};
+ghost use Rattle.std.specs.Prelude.{◌≡◌, ◌^◌, ◌<◌, ◌≤◌, ℕ, All, IfOk, List, length, map};
+ghost use Rattle.std.specs.Prelude.{slice_index, false, slice_index_or};
+ghost use Rattle.std.specs.BTreeMap.{values};
+ghost use Rattle.std.specs.List.{range_with_len};
+ghost use Rattle.waff_draw.specs.Lanes.{is_among, lanes_of, path_of, row_of};
 
 use crate::marks::marks;
 use std::alloc::{AllocError, Global};
+use std::collections::BTreeMap;
 use waff_assign::Case;
 use waff_model::{AffinityId, Tree};
 
@@ -35,9 +34,10 @@ pub(crate) fn lanes(alloc: Global, case: &Case<'_>) -> Result<Vec<Lane>, AllocEr
         All (λ lane. lane.affinity < length case.now.tree.now) lanes.items) }
     ensures few { IfOk result (λ lanes. length lanes.items ≤ 65536) }
 {
+    let _tree = case.tree.len();
     let used = used(alloc, case)?;
-    let walked = walked(alloc, case.tree)?;
-    used_lanes(alloc, &walked, &used)
+    let lanes = by_place(alloc, case.tree, &used)?;
+    lanes.into_values().collect(alloc)
 }
 
 /// For each affinity whether a message has it.
@@ -50,102 +50,40 @@ fn used(alloc: Global, case: &Case<'_>) -> Result<Vec<bool>, AllocError>
     marks(alloc, case.tree.len() as usize, affinities.as_slice())
 }
 
-/// All affinities in preorder.
-fn walked(alloc: Global, tree: &Tree) -> Result<Vec<Lane>, AllocError>
-    ensures lanes { IfOk result (λ lanes. lanes.items ≡ preorder tree.now) }
-    ensures known { IfOk result (λ lanes.
-        All (λ lane. lane.affinity < length tree.now) lanes.items) }
-    ensures tree { IsTree tree.now }
+/// The lanes of the affinities that are used, each at its place in preorder.
+fn by_place(alloc: Global, tree: &Tree, used: &[bool]) -> Result<BTreeMap<u16, Lane>, AllocError>
+    requires { length used.now ≡ length tree.now }
+    ensures { IfOk result (λ lanes. (assigned : List ℕ)
+        → ((a : ℕ) → a < length tree.now → slice_index_or used.now a false ≡ is_among assigned a)
+        → values lanes ≡ lanes_of tree.now assigned) }
 {
-    let count = tree.len();
-    let families = families(alloc, tree)?;
-    let mut lanes = Vec::with_capacity(alloc, count as usize)?;
-    walk(families.as_slice(), 0, 0, count, &mut lanes)?;
+    let depths = depths(alloc, tree)?;
+    let spans = tree.spans();
+    let mut lanes = BTreeMap::new(alloc);
+    for affinity in (0..tree.len()).rev() {
+        if used[affinity as usize] {
+            let depth = depths[affinity as usize];
+            let place = spans[affinity as usize].first;
+            lanes.insert(place, Lane { affinity, depth })?;
+        }
+    }
     Ok(lanes)
 }
 
-/// The children of each affinity, in order.
-fn families(alloc: Global, tree: &Tree) -> Result<Vec<Vec<u32>>, AllocError>
-    ensures families { IfOk result (λ families.
-        map (λ children. children.items) families.items ≡ families_of tree.now) }
-    ensures count { IfOk result (λ families. length families.items ≡ length tree.now) }
-    ensures known { IfOk result (λ families.
-        All (λ children. All (λ a. a < length tree.now) children.items) families.items) }
+/// How many steps below the root each affinity is.
+fn depths(alloc: Global, tree: &Tree) -> Result<Vec<u64>, AllocError>
+    ensures { IfOk result (λ depths. depths.items
+        ≡ map (λ a. length (path_of tree.now a)) (range_with_len 0 (length tree.now))) }
 {
-    let mut families = empty_families(alloc, tree.len() as usize)?;
-    for child in 0..tree.len() {
-        if let Some(parent) = tree.parent(AffinityId(child as u16)) {
-            push_child(&mut families, parent.0 as usize, child)?;
-        }
+    let mut depths = Vec::with_capacity(alloc, tree.len() as usize)?;
+    for affinity in 0..tree.len() {
+        let depth = match tree.parent(AffinityId(affinity as u16)) {
+            Some(parent) => depths[parent.0 as usize] + 1,
+            None => 0,
+        };
+        depths.push(depth)?;
     }
-    Ok(families)
-}
-
-/// Appends a child to those of its parent.
-fn push_child(families: &mut Vec<Vec<u32>>, parent: usize, child: u32) -> Result<(), AllocError>
-    requires { parent < length families.old.items }
-    ensures { OnOk result (map (λ children. children.items) families.new.items
-        ≡ set (map (λ children. children.items) families.old.items) parent
-        (slice_index_or (map (λ children. children.items) families.old.items) parent []
-        ++ child ∷ [])) }
-{
-    families[parent].push(child)?;
-    Ok(())
-}
-
-/// So many lists of no child.
-fn empty_families(alloc: Global, count: usize) -> Result<Vec<Vec<u32>>, AllocError>
-    ensures { IfOk result (λ families.
-        map (λ children. children.items) families.items ≡ replicate count []) }
-{
-    let mut families = Vec::with_capacity(alloc, count)?;
-    for _ in 0..count {
-        families.push_reserved(Vec::new(alloc));
-    }
-    Ok(families)
-}
-
-/// Appends the affinity and those below it, at most so many levels of them.
-fn walk(
-    families: &[Vec<u32>],
-    affinity: u32,
-    depth: u64,
-    levels: u32,
-    lanes: &mut Vec<Lane>,
-) -> Result<(), AllocError>
-    requires affinity { affinity < length families.now }
-    requires known { All (λ children.
-        All (λ a. a < length families.now) children.items) families.now }
-    requires small { depth + levels ≤ 65536 }
-    requires before { All (λ lane. lane.affinity < length families.now) lanes.old.items }
-    ensures known { OnOk result (All (λ lane.
-        lane.affinity < length families.now) lanes.new.items) }
-    ensures walked { OnOk result (lanes.new.items ≡ lanes.old.items
-        ++ walk_from (map (λ children. children.items) families.now) levels depth affinity) }
-{
-    if levels == 0 {
-        return Ok(());
-    }
-    lanes.push(Lane { affinity, depth })?;
-    for child in &families[affinity as usize] {
-        walk(families, *child, depth + 1, levels - 1, lanes)?;
-    }
-    Ok(())
-}
-
-/// Those of the lanes whose affinities are used.
-fn used_lanes(alloc: Global, lanes: &[Lane], used: &[bool]) -> Result<Vec<Lane>, AllocError>
-    requires known { All (λ lane. lane.affinity < length used.now) lanes.now }
-    ensures lanes { IfOk result (λ found.
-        found.items ≡ filter (λ lane. slice_index_or used.now lane.affinity false) lanes.now) }
-{
-    let mut found = Vec::with_capacity(alloc, lanes.len())?;
-    for lane in lanes {
-        if used[lane.affinity as usize] {
-            found.push(*lane)?;
-        }
-    }
-    Ok(found)
+    Ok(depths)
 }
 
 /// For each affinity below `count` the row of its lane.
