@@ -1,4 +1,4 @@
-"""Where README.md, docs/guide.md or docs/formats.md shows what no command case shows.
+"""Where README.md, docs/guide.md or docs/formats.md shows what no command case shows; a case of each command is there too.
 
 In a block, a line that begins with `$ ` is a command, and the lines under it, up to a blank one or one that begins with `# `, are
 what it prints; a line `...` stands for lines that are left out. A call of waff has to be a case: the same words (but for
@@ -42,17 +42,18 @@ def calls(page: str) -> Iterator[tuple[int, str, set[str], list[str]]]:
                 commands.add(part[1])
 
 
-def faults() -> list[str]:
+def faults(commands: list[str]) -> list[str]:
     every = [case for path in paths() for case in cases(path)]
     told = {case.stream("!").strip() for case in every} | NO_CASE
     printed = {case.stream("|") for case in every}
     files = {read(path) for path in (HERE / "inputs").iterdir()}
-    found, shown_calls = [], 0
+    called = {case.command.split()[1] for case in every if " " in case.command}
+    found, shown_calls = [f"no case of {name}" for name in commands if name not in called], 0
     for name in ("README.md", "docs/guide.md", "docs/formats.md"):
         page = read(ROOT / name)
-        for number, call, commands, output in calls(page):
+        for number, call, above, output in calls(page):
             shown_calls += 1
-            if not any(shows(case, call, commands, output) for case in every):
+            if not any(shows(case, call, above, output) for case in every):
                 found.append(f"{name}:{number}: no case shows this: {call}")
         for span in re.findall(r"`(waff: [^`]+)`", page):
             if span not in told:

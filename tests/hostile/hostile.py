@@ -9,10 +9,10 @@ import sys
 import tempfile
 import time
 
-ROOT = os.path.normpath(os.path.join(os.path.dirname(os.path.realpath(__file__)), "..", ".."))
-sys.path.append(os.path.join(ROOT, "tests"))
+sys.path.append(os.path.dirname(os.path.dirname(os.path.realpath(__file__))))
 
-from count import Count  # noqa: E402, F401
+import common  # noqa: E402
+from common import ROOT, Count  # noqa: E402, F401
 
 # The program that is run. A script names it or has it found.
 PROGRAM = ""
@@ -228,64 +228,32 @@ def samples(trace="X1.csv"):
     return {"H": read("examples", "H1.toml"), "C": read("examples", "C1.toml"), "T": read("examples", trace)}
 
 
-def commands():
-    """The names of the commands that the program knows, from its help."""
-    listed = run(["--help"]).stdout.decode().partition("Commands:")[2].partition("\n\n")[0]
-    names = set(re.findall(r"^  ([a-z]+)  ", listed, re.M)) - {"help"}
-    if not names:
-        sys.exit("hostile: the help of the program lists no command")
-    return names
-
-
 def known_words():
     """The words of each command that the program knows: there are some of each."""
-    names = commands()
-    without = names - {line.split()[0] for line in WORDS}
+    without = set(common.commands(PROGRAM)) - {line.split()[0] for line in WORDS}
     if without:
         sys.exit("hostile: no words of %s" % ", ".join(sorted(without)))
-    return [line for line in WORDS if line.split()[0] in names]
+    return WORDS
 
 
 def scratch():
     return tempfile.TemporaryDirectory(prefix="waff-hostile-")
 
 
-def words_parser(about, options):
+def words_given(about, *options):
+    """The arguments of a script. Of each the name, the type, the value where it is left out, and what it is for."""
     parser = argparse.ArgumentParser(description=about)
     for name, kind, value, text in options:
         if kind is bool:
             parser.add_argument(name, action="store_true", help=text)
         else:
             parser.add_argument(name, type=kind, nargs="?", default=value, help=text)
-    return parser
-
-
-def words_given(about, *options):
-    """The arguments of a script that builds what it runs."""
-    return words_parser(about, options).parse_args()
+    return parser.parse_args()
 
 
 def arguments(about, *options):
-    """The arguments of a script. The program is the one of these sources, if no other one is named."""
+    """The arguments of a script that runs the program."""
     global PROGRAM
-    parser = words_parser(about, options)
-    parser.add_argument("--program", help="another build of the program")
-    given = parser.parse_args()
-    if given.program:
-        PROGRAM = os.path.realpath(given.program)
-    else:
-        PROGRAM = program_of_sources()
+    given = words_given(about, *options)
+    PROGRAM = common.program()
     return given
-
-
-def program_of_sources():
-    """The program of these sources, which is built where that is needed."""
-    return printed("dist/program").strip()
-
-
-def printed(script, *words):
-    """What a script of this repository prints."""
-    done = subprocess.run([os.path.join(ROOT, script), *words], stdin=subprocess.DEVNULL, stdout=subprocess.PIPE, text=True)
-    if done.returncode != 0:
-        sys.exit("hostile: %s fails" % script)
-    return done.stdout

@@ -57,16 +57,12 @@ def anchor(heading):
 class Reader:
     """Reads pages, and counts what it finds and what it misses."""
 
-    def __init__(self, crates):
+    def __init__(self, crates, count):
         self.crates = crates
-        self.passed = 0
-        self.missing = []
+        self.count = count
 
     def tell(self, is_there, where, what):
-        if is_there:
-            self.passed += 1
-        else:
-            self.missing.append(f"{where}: {what}")
+        self.count.check(f"{where}: {what}", is_there)
 
     def read_page(self, page):
         for number, line in page.lines:
@@ -240,9 +236,9 @@ def write_crates():
     ARCHITECTURE.write_text("\n".join(lines[:start] + HEADER + crate_rows() + lines[end:]) + "\n")
 
 
-def read(crates):
-    """Reads all pages, and answers how many names and links it found and what it missed."""
-    reader = Reader(crates)
+def read(crates, count):
+    """Reads all pages, and counts the names and links that it finds and those that it misses."""
+    reader = Reader(crates, count)
     paths = [*ROOT.glob("*.md"), *(path for folder in FOLDERS for path in (ROOT / folder).glob("*.md"))]
     pages = {page.name: page for page in map(Page, sorted(paths))}
     for page in pages.values():
@@ -252,4 +248,3 @@ def read(crates):
     reader.read_crates(pages["docs/architecture.md"])
     reader.read_decisions(pages["docs/DECISIONS.md"])
     reader.read_kit()
-    return reader.passed, reader.missing

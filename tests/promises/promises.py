@@ -18,10 +18,9 @@ OF_THE_KIT = {"Table::new"}
 class Reader:
     """Reads the page, and counts what it finds and what it misses."""
 
-    def __init__(self, crates):
+    def __init__(self, crates, count):
         self.crates = crates
-        self.passed = 0
-        self.missing = []
+        self.count = count
         self.named_edits = set()
         self.named_laws = set()
         self.section = []
@@ -29,10 +28,7 @@ class Reader:
         self.line = 0
 
     def tell(self, is_there, what):
-        if is_there:
-            self.passed += 1
-        else:
-            self.missing.append(f"promises.md:{self.line}: {what}")
+        self.count.check(f"promises.md:{self.line}: {what}", is_there)
 
     def read(self, text):
         prose, start = [], 1
@@ -224,9 +220,8 @@ class Reader:
                 self.tell((crate.name, name) in self.named_laws, f"no row has the law `{name}` of {crate.name}")
 
 
-def read(crates):
-    """Reads the page, and answers how many names it found and what it missed."""
-    reader = Reader(crates)
+def read(crates, count):
+    """Reads the page, and counts what it finds and what it misses."""
+    reader = Reader(crates, count)
     reader.read(PAGE.read_text())
     reader.read_rest()
-    return reader.passed, reader.missing

@@ -1,9 +1,7 @@
 """What the sources of the crates have that a page can name."""
 import re
-import subprocess
-from pathlib import Path
 
-ROOT = Path(__file__).resolve().parent.parent.parent
+from common import ROOT, printed
 
 TOKEN = re.compile(r"`([^`]+)`")
 NAME = re.compile(r"^[A-Za-z_]\w*$")
@@ -88,6 +86,5 @@ def fields_of(text):
 
 def crates():
     """All crates by name, in the order of crates.txt."""
-    lines = subprocess.run([ROOT / "dist/crates", "all"], stdout=subprocess.PIPE, text=True, check=True).stdout.splitlines()
-    names = [re.match(r"\w+", line).group() for line in lines]
+    names = [re.match(r"\w+", line).group() for line in printed("dist/crates", "all").splitlines()]
     return {name: Crate(ROOT / "crates" / name) for name in names}

@@ -1,6 +1,7 @@
 """What all readers of logs share: refusals, files, the lines that were read, and the requests that they tell of."""
 
 import collections
+import os
 import sys
 from dataclasses import dataclass
 
@@ -93,12 +94,9 @@ class Lines:
             raise Refusal(3, f"{shown(self.name)}: no line of it is understood{f': {self.wanted}' if self.wanted else ''}")
 
 
-# The program that tells something on standard error.
-told_by = "waff-trace"
-
-
 def tell(text: str) -> None:
-    print(f"{told_by}: {text}", file=sys.stderr)
+    """Tells something on standard error."""
+    print(f"{os.path.basename(sys.argv[0])}: {text}", file=sys.stderr)
 
 
 @dataclass(slots=True, eq=False)

@@ -711,54 +711,43 @@ class Reader:
 Handler = Callable[[Reader, Call], bool | None]
 
 
-def calls() -> dict[str, Handler]:
-    """What is done at each call that is modelled, or that tells of descriptors, directories or processes."""
-    table: dict[Handler, str] = {
-        Reader.open: "open openat openat2",
-        Reader.create: "creat",
-        Reader.close: "close",
-        Reader.close_range: "close_range",
-        Reader.duplicate: "dup dup2 dup3",
-        Reader.control: "fcntl",
-        Reader.read_next: "read readv",
-        Reader.write_next: "write writev",
-        Reader.copy_range: "copy_file_range",
-        Reader.send_file: "sendfile",
-        Reader.seek: "lseek",
-        Reader.status: "stat lstat fstat newfstatat statx access faccessat faccessat2 readlink readlinkat"
-        " getxattr lgetxattr fgetxattr listxattr llistxattr flistxattr",
-        Reader.set_status: "chmod fchmod fchmodat chown lchown fchown fchownat utime utimes utimensat futimesat"
-        " setxattr lsetxattr fsetxattr removexattr lremovexattr fremovexattr",
-        Reader.list_names: "getdents getdents64",
-        Reader.flush: "fsync fdatasync sync_file_range",
-        Reader.flush_all: "sync syncfs",
-        Reader.truncate: "truncate ftruncate",
-        Reader.allocate: "fallocate",
-        Reader.make_directory: "mkdir mkdirat",
-        Reader.make_link: "link linkat",
-        Reader.make_symbolic_link: "symlink symlinkat",
-        Reader.remove: "unlink unlinkat",
-        Reader.remove_directory: "rmdir",
-        Reader.rename: "rename renameat renameat2",
-        Reader.new_program: "execve execveat",
-        Reader.change_directory: "chdir",
-        Reader.change_to_open: "fchdir",
-        Reader.tell_directory: "getcwd",
-    }
-    found = {name: handler for handler, names in table.items() for name in names.split()}
-    for name, kind, place in (
-        ("pread64", "read", 1),
-        ("preadv", "read", 1),
-        ("preadv2", "read", 2),
-        ("pwrite64", "write", 1),
-        ("pwritev", "write", 1),
-        ("pwritev2", "write", 2),
-    ):
-        found[name] = partial(Reader.at_offset, kind=kind, place=place)
-    return found
-
-
-CALLS = calls()
+# What is done at each call that is modelled, or that tells of descriptors or directories; those that make processes are no part of it.
+TABLE: dict[Handler, str] = {
+    Reader.open: "open openat openat2",
+    Reader.create: "creat",
+    Reader.close: "close",
+    Reader.close_range: "close_range",
+    Reader.duplicate: "dup dup2 dup3",
+    Reader.control: "fcntl",
+    Reader.read_next: "read readv",
+    Reader.write_next: "write writev",
+    Reader.copy_range: "copy_file_range",
+    Reader.send_file: "sendfile",
+    Reader.seek: "lseek",
+    Reader.status: "stat lstat fstat newfstatat statx access faccessat faccessat2 readlink readlinkat"
+    " getxattr lgetxattr fgetxattr listxattr llistxattr flistxattr",
+    Reader.set_status: "chmod fchmod fchmodat chown lchown fchown fchownat utime utimes utimensat futimesat"
+    " setxattr lsetxattr fsetxattr removexattr lremovexattr fremovexattr",
+    Reader.list_names: "getdents getdents64",
+    Reader.flush: "fsync fdatasync sync_file_range",
+    Reader.flush_all: "sync syncfs",
+    Reader.truncate: "truncate ftruncate",
+    Reader.allocate: "fallocate",
+    Reader.make_directory: "mkdir mkdirat",
+    Reader.make_link: "link linkat",
+    Reader.make_symbolic_link: "symlink symlinkat",
+    Reader.remove: "unlink unlinkat",
+    Reader.remove_directory: "rmdir",
+    Reader.rename: "rename renameat renameat2",
+    Reader.new_program: "execve execveat",
+    Reader.change_directory: "chdir",
+    Reader.change_to_open: "fchdir",
+    Reader.tell_directory: "getcwd",
+}
+AT_OFFSET = {"pread64": ("read", 1), "preadv": ("read", 1), "preadv2": ("read", 2)}
+AT_OFFSET |= {"pwrite64": ("write", 1), "pwritev": ("write", 1), "pwritev2": ("write", 2)}
+CALLS = {name: handler for handler, names in TABLE.items() for name in names.split()}
+CALLS |= {name: partial(Reader.at_offset, kind=kind, place=place) for name, (kind, place) in AT_OFFSET.items()}
 
 
 def read(asked: Namespace) -> tuple[Volume, list[Request]]:

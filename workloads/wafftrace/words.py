@@ -12,7 +12,7 @@ from collections.abc import Callable
 from fractions import Fraction
 from typing import NoReturn
 
-from . import blocks, fio, hot, limits, logs, model, plans, strace, traces
+from . import blocks, fio, hot, limits, model, plans, strace, traces
 from .logs import Refusal, is_number, tell
 
 # What is done for the words of a command: the text that it prints.
@@ -117,6 +117,12 @@ def words() -> ArgumentParser:
         found.set_defaults(run=run)
         return found
 
+    words_of_logs(part)
+    words_of_traces(part)
+    return top
+
+
+def words_of_logs(part: Callable[..., ArgumentParser]) -> None:
     found = part("fio", "the trace of iologs of fio (version 2 or 3), one for each job", of_log(fio.read), COST_HELP)
     found.add_argument("logs", nargs="*", metavar="LOG", help="an iolog (write_iolog) of one job; `-` is standard input")
     found.add_argument(
@@ -145,6 +151,8 @@ def words() -> ArgumentParser:
     found.add_argument("log", metavar="CSV", help="the log; `-` is standard input")
     imported(found)
 
+
+def words_of_traces(part: Callable[..., ArgumentParser]) -> None:
     found = part("pace", "the trace with its releases divided, or without them", traces.pace)
     found.add_argument("trace", metavar="TRACE")
     either = found.add_mutually_exclusive_group(required=True)
@@ -180,7 +188,6 @@ def words() -> ArgumentParser:
     found.add_argument(
         "--workers", type=number(1, limits.WORKERS, "number"), metavar="K", help="how many workers it is for; without it the greatest worker"
     )
-    return top
 
 
 def of_log(read: model.Log) -> Run:
@@ -216,7 +223,6 @@ def run_words(given: list[str], parser: Callable[[], ArgumentParser], run: Run) 
         sys.stderr = open(os.devnull, "w")
     if isinstance(sys.stderr, io.TextIOWrapper):
         sys.stderr.reconfigure(errors="backslashreplace")
-    logs.told_by = parser().prog
     try:
         if sys.stdout is None:
             raise Refusal(4, "standard output: it is closed")

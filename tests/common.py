@@ -1,0 +1,58 @@
+"""What the tests that are written in Python share: the program, its commands, and a count of checks."""
+
+import pathlib
+import re
+import subprocess
+import sys
+from typing import NoReturn
+
+ROOT = pathlib.Path(__file__).resolve().parent.parent
+
+
+def printed(script: str, *words: str) -> str:
+    """What a script of this repository prints."""
+    done = subprocess.run([ROOT / script, *words], stdin=subprocess.DEVNULL, stdout=subprocess.PIPE, text=True)
+    if done.returncode != 0:
+        sys.exit(f"{script} ends with status {done.returncode}")
+    return done.stdout
+
+
+def program() -> str:
+    """The program that WAFF names, or the one of these sources, which is built where that is needed."""
+    return printed("dist/program").strip()
+
+
+def commands(program: str) -> list[str]:
+    """The names of the commands that a program knows, from its help."""
+    text = subprocess.run([program, "--help"], stdout=subprocess.PIPE, text=True, check=True).stdout
+    names = re.findall(r"^  ([a-z]+)  ", text.partition("Commands:")[2].partition("\n\n")[0], re.M)
+    if len(names) < 2:
+        sys.exit("the help of the program lists no commands")
+    return [name for name in names if name != "help"]
+
+
+class Count:
+    """Counts checks, and prints so many of those that fail."""
+
+    def __init__(self, shown: int = 10) -> None:
+        self.shown = shown
+        self.passed = 0
+        self.failed = 0
+
+    def take(self, name: str, faults: list[str], run: object = None) -> None:
+        """A check passes if nothing is wrong; `run` is shown where something is."""
+        if not faults:
+            self.passed += 1
+            return
+        self.failed += 1
+        if self.failed <= self.shown:
+            print("\n    ".join([f"FAILED {name}", *faults, *([repr(run)] if run is not None else [])]).rstrip())
+
+    def check(self, name: str, good: object, found: object = "") -> None:
+        """What is found is shown where it is not good."""
+        self.take(name, [] if good else [str(found)])
+
+    def end(self) -> NoReturn:
+        """Prints the last line, and ends with 0 only where there was a check and none failed."""
+        print(f"{self.passed} passed, {self.failed} failed")
+        sys.exit(0 if self.passed and not self.failed else 1)

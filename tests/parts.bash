@@ -1,0 +1,30 @@
+# Runs scripts as parts of the one that reads this file, and adds up their last lines, each `N passed, M failed`.
+
+passed=0
+failed=0
+
+# Adds up the last line of what a part printed.
+add() {
+    local log=$1 status=$2 last
+    last=$(tail -n 1 -- "$log")
+    if [[ $last =~ ^([0-9]+)\ passed,\ ([0-9]+)\ failed$ ]]; then
+        passed=$((passed + BASH_REMATCH[1]))
+        failed=$((failed + BASH_REMATCH[2]))
+        if [ "$status" -eq 0 ] || [ "${BASH_REMATCH[2]}" -gt 0 ]; then
+            return
+        fi
+    fi
+    echo "'${*:3}' did not end well (exit status $status)" >&2
+    failed=$((failed + 1))
+}
+
+# Runs a part.
+part() {
+    local log status
+    echo "$*:"
+    log=$(mktemp) || exit 1
+    "$@" 2>&1 | tee -- "$log"
+    status=${PIPESTATUS[0]}
+    add "$log" "$status" "$@"
+    rm -f -- "$log"
+}
