@@ -31,53 +31,51 @@ cmp_behind [] ys zs = refl
 cmp_behind (x ∷ xs) ys zs =
     ap (λ o. ordering_then o (slice_cmp nat_cmp (xs ++ ys) (xs ++ zs))) (tied_itself nat_cmp_total x) ∙ cmp_behind xs ys zs
 
--- a stands in the branch of a child, and b in that of a later child of the same affinity
-pub record AreBranches (tree : List Node) (a b : ℕ) : Type 0 where
-  pub x : ℕ
-  pub y : ℕ
-  pub p : ℕ
-  pub before : x < y
-  pub first : parent_of tree x ≡ Some p
-  pub second : parent_of tree y ≡ Some p
-  pub above_a : AtOrAbove tree x a
-  pub above_b : AtOrAbove tree y b
+-- a stands in the branch of a child x of p, and b in that of a later child y
+abbrev pub AreBranches : List Node → ℕ → ℕ → Type 0
+AreBranches tree a b =
+    (x : ℕ) × (y : ℕ) × (p : ℕ) × (x < y) × (parent_of tree x ≡ Some p) × (parent_of tree y ≡ Some p) × AtOrAbove tree x a × AtOrAbove tree y b
 
 -- b stands behind a: below it, or in a later branch
 abbrev pub Precedes : List Node → ℕ → ℕ → Type 0
 Precedes tree a b = ((a ≢ b) × AtOrAbove tree a b) ⊎ AreBranches tree a b
 
-abbrev pub Either : List Node → ℕ → ℕ → Type 0
+abbrev Either : List Node → ℕ → ℕ → Type 0
 Either tree a b = Precedes tree a b ⊎ Precedes tree b a
 
 module _ (tree : List Node) (rooted : IsRooted tree) where
+  -- the path to b from what its parent is
+  abbrev path_by : ℕ → ℕ → Option ℕ → List ℕ
+  path_by n b parent = unwrap_or (option_map (λ p. path_from tree n p ++ b ∷ []) parent) []
+
   pub path_top : (n b : ℕ) → parent_of tree b ≡ None → path_from tree n b ≡ []
   path_top zero b none = refl
-  path_top (suc n) b none = ap (λ o. unwrap_or (option_map (λ p. path_from tree n p ++ b ∷ []) o) []) none
+  path_top (suc n) b none = ap (path_by n b) none
 
   none_at : (b : ℕ) → b ≤ 0 → parent_of tree b ≡ None
-  none_at b top =
-      let is : 0 ≡ b = omega (arith, top) in
-      subst (λ x. parent_of tree x ≡ None) is rooted.root
+  none_at zero top = rooted.root
+  none_at (suc b) top = absurd (omega (arith, top))
 
-  path_by : (n m b : ℕ) (o : Option ℕ) → parent_of tree b ≡ o → ((p : ℕ) → p < b → path_from tree n p ≡ path_from tree m p)
-      → unwrap_or (option_map (λ p. path_from tree n p ++ b ∷ []) o) [] ≡ unwrap_or (option_map (λ p. path_from tree m p ++ b ∷ []) o) []
-  path_by n m b None is rest = refl
-  path_by n m b (Some p) is rest = ap (λ xs. xs ++ b ∷ []) (rest p (rooted.earlier b p is))
+  same_by : (n m b : ℕ) (o : Option ℕ) → parent_of tree b ≡ o → ((p : ℕ) → p < b → path_from tree n p ≡ path_from tree m p) → path_by n b o ≡ path_by m b o
+  same_by n m b None is rest = refl
+  same_by n m b (Some p) is rest = ap (λ xs. xs ++ b ∷ []) (rest p (rooted.earlier b p is))
 
   -- more steps than there are change nothing
   path_enough : (n m b : ℕ) → b ≤ n → b ≤ m → path_from tree n b ≡ path_from tree m b
   path_enough zero m b one other = sym (path_top m b (none_at b one))
   path_enough (suc n) zero b one other = path_top (suc n) b (none_at b other)
   path_enough (suc n) (suc m) b one other =
-      path_by n m b (parent_of tree b) refl (λ p up. path_enough n m p (omega (arith, up, one)) (omega (arith, up, other)))
+      same_by n m b (parent_of tree b) refl (λ p up. path_enough n m p (omega (arith, up, one)) (omega (arith, up, other)))
 
-  pub path_step : (b p : ℕ) → parent_of tree b ≡ Some p → path_of tree b ≡ path_of tree p ++ b ∷ []
+  path_step : (b p : ℕ) → parent_of tree b ≡ Some p → path_of tree b ≡ path_of tree p ++ b ∷ []
   path_step b p is =
       let up : p < b = rooted.earlier b p is in
       let next : b ≡ suc (b - 1) = omega (arith, up) in
-      ap (λ n. path_from tree n b) next
-      ∙ ap (λ o. unwrap_or (option_map (λ q. path_from tree (b - 1) q ++ b ∷ []) o) []) is
+      ap (λ n. path_from tree n b) next ∙ ap (path_by (b - 1) b) is
       ∙ ap (λ xs. xs ++ b ∷ []) (path_enough (b - 1) p p (omega (arith, up)) (omega arith))
+
+  pub length_step : (b p : ℕ) → parent_of tree b ≡ Some p → length (path_of tree b) ≡ suc (length (path_of tree p))
+  length_step b p is = let long = length-append (path_of tree p) (b ∷ []) in omega (arith, ap length (path_step b p is), long)
 
   -- the path of what is below goes on behind that of what is above
   below : (n a b : ℕ) → Leads tree n a b → (a ≡ b) ⊎ ((c : ℕ) × (r : List ℕ) × (path_of tree b ≡ path_of tree a ++ c ∷ r))
@@ -98,11 +96,10 @@ module _ (tree : List Node) (rooted : IsRooted tree) where
     | inl same ↦ absurd (other same)
     | inr (c, r, is) ↦ ap (slice_cmp nat_cmp (path_of tree a)) is ∙ cmp_longer (path_of tree a) c r
   ]
-  before_of a b (inr are) =
-      let one = in_branch are.x are.p a are.first are.above_a in
-      let other = in_branch are.y are.p b are.second are.above_b in
-      ap₂ (slice_cmp nat_cmp) one.1 other.1 ∙ cmp_behind (path_of tree are.p) (are.x ∷ one.0) (are.y ∷ other.0)
-      ∙ ap (λ o. ordering_then o (slice_cmp nat_cmp one.0 other.0)) (less are.x are.y are.before)
+  before_of a b (inr (x, y, p, before, first, second, above_a, above_b)) =
+      let (r, one) = in_branch x p a first above_a in
+      let (s, other) = in_branch y p b second above_b in
+      ap₂ (slice_cmp nat_cmp) one other ∙ cmp_behind (path_of tree p) (x ∷ r) (y ∷ s) ∙ ap (λ o. ordering_then o (slice_cmp nat_cmp r s)) (less x y before)
 
   -- what is below q is below a child of it
   child_of : (n q a : ℕ) → Leads tree n q a → (q ≡ a) ⊎ ((x : ℕ) × (parent_of tree x ≡ Some q) × AtOrAbove tree x a)
@@ -116,41 +113,14 @@ module _ (tree : List Node) (rooted : IsRooted tree) where
   later : (a b q : ℕ) → a < b → parent_of tree b ≡ Some q → (a ≡ q) ⊎ Either tree a q → Either tree a b
   later a b q order parent (inl same) = inl (inl (λ e. omega (arith, e, order), (1, (q, parent, same))))
   later a b q order parent (inr (inl (inl (other, above)))) = inl (inl (λ e. omega (arith, e, order), above_child tree a b q parent above))
-  later a b q order parent (inr (inl (inr are))) = inl (inr (record {
-    x = are.x;
-    y = are.y;
-    p = are.p;
-    before = are.before;
-    first = are.first;
-    second = are.second;
-    above_a = are.above_a;
-    above_b = above_child tree are.y b q parent are.above_b;
-  }))
+  later a b q order parent (inr (inl (inr (x, y, p, before, first, second, above_a, above_q)))) =
+      inl (inr (x, y, p, before, first, second, above_a, above_child tree y b q parent above_q))
   later a b q order parent (inr (inr (inl (other, (n, leads))))) = elim (child_of n q a leads) [
     | inl same ↦ absurd (other same)
-    | inr (x, is, above) ↦
-        let low : x ≤ a = earlier tree rooted x a above in
-        inl (inr (record {
-          x = x;
-          y = b;
-          p = q;
-          before = omega (arith, low, order);
-          first = is;
-          second = parent;
-          above_a = above;
-          above_b = reflexive tree b;
-        }))
+    | inr (x, is, above) ↦ inl (inr (x, b, q, omega (arith, earlier tree rooted x a above, order), is, parent, above, reflexive tree b))
   ]
-  later a b q order parent (inr (inr (inr are))) = inr (inr (record {
-    x = are.x;
-    y = are.y;
-    p = are.p;
-    before = are.before;
-    first = are.first;
-    second = are.second;
-    above_a = above_child tree are.x b q parent are.above_a;
-    above_b = are.above_b;
-  }))
+  later a b q order parent (inr (inr (inr (x, y, p, before, first, second, above_q, above_a)))) =
+      inr (inr (x, y, p, before, first, second, above_child tree x b q parent above_q, above_a))
 
   swapped : (a b : ℕ) → Either tree a b → Either tree b a
   swapped a b (inl h) = inr h
@@ -176,11 +146,6 @@ module _ (tree : List Node) (rooted : IsRooted tree) where
     | inl same ↦ absurd (other same)
     | inr is ↦ is
   ]
-
-  pub length_step : (b p : ℕ) → parent_of tree b ≡ Some p → length (path_of tree b) ≡ suc (length (path_of tree p))
-  length_step b p is =
-      let long = length-append (path_of tree p) (b ∷ []) in
-      omega (arith, ap length (path_step b p is), long)
 
   -- a path is as long as its affinity is steps below the root
   deep : (n b : ℕ) → b < n → b < length tree → Leads tree (length (path_of tree b)) 0 b

@@ -1,18 +1,19 @@
 -- The places of a tree's affinities are in the order of their paths.
-use Rattle.std.proofs.Common.{◌≡◌, ℕ, suc, ◌+◌, ◌-◌, ◌<◌, ◌≤◌, Bool, cond, true, false, inl, inr, None, Ordering, List, [], ◌∷◌, get_or, length, map, arith, refl, sym, ◌∙◌, ap, ap₂}
+use Rattle.std.proofs.Common.{◌≡◌, All, ℕ, suc, ◌+◌, ◌-◌, ◌<◌, ◌≤◌, Bool, cond, true, false, inl, inr, None, Ordering, List, [], ◌∷◌, get_or, length, map, arith, refl, sym, ◌∙◌, ap, ap₂}
 use Rattle.std.specs.BTreeMap.{insert_entry}
 use Rattle.std.specs.List.{filter, range_with_len}
 use Rattle.std.specs.Ordering.{match_ordering, nat_cmp, ordering_reverse}
 use Rattle.std.proofs.lemmas.Bool.{cases_lt}
 use Rattle.std.proofs.lemmas.Cmp.{nat_cmp_total}
 use Rattle.std.proofs.lemmas.List.{get_or_default}
+use Rattle.std.proofs.lemmas.List.Elements.{All-tail}
 use Rattle.waff_model.specs.Preorder.{AreNested, span_at}
 use Rattle.waff_model.specs.Tree.{IsRooted, Node}
 use Rattle.waff_model.specs.declared.preorder.Span.{Span}
 use Rattle.waff_model.proofs.TreeLemmas.{earlier}
 use Rattle.waff_draw.specs.Lanes.{in_preorder, is_among, lane_in, lane_of, path_of, put, used_from}
 use Rattle.waff_draw.specs.declared.lanes.Lane.{Lane}
-use Rattle.waff_draw.proofs.OrderLemmas.{Each, IsOther, put_before, put_behind}
+use Rattle.waff_draw.proofs.OrderLemmas.{IsOther, put_before, put_behind}
 use Rattle.waff_draw.proofs.PathLemmas.{Precedes, before_of, either, less}
 
 -- the entry of an affinity at its place
@@ -33,18 +34,17 @@ module _ (tree : List Node) (spans : List Span) (rooted : IsRooted tree) (nested
             let back = (nested.tells b a low_b low_a).0 (omega (arith, not), omega (arith, not, nested.filled b low_b)) in
             absurd (other (omega (arith, earlier tree rooted a b above, earlier tree rooted b a back)))
       ]
-  lower a b low_a low_b (inr are) =
-      let low_x : are.x < length tree = omega (arith, earlier tree rooted are.x a are.above_a, low_a) in
-      let low_y : are.y < length tree = omega (arith, earlier tree rooted are.y b are.above_b, low_b) in
-      let one = (nested.tells are.x a low_x low_a).1 are.above_a in
-      let other = (nested.tells are.y b low_y low_b).1 are.above_b in
-      omega (arith, one.1, other.0, nested.ordered are.x are.y are.p are.before low_y are.first are.second)
+  lower a b low_a low_b (inr (x, y, p, before, first, second, above_a, above_b)) =
+      let low_x : x < length tree = omega (arith, earlier tree rooted x a above_a, low_a) in
+      let low_y : y < length tree = omega (arith, earlier tree rooted y b above_b, low_b) in
+      omega (arith, ((nested.tells x a low_x low_a).1 above_a).1, nested.ordered x y p before low_y first second, ((nested.tells y b low_y low_b).1 above_b).0)
 
   -- one more at its place
-  pub put_entry : (a : ℕ) (xs : List ℕ) → a < length tree → Each (IsOther tree a) xs
+  pub put_entry : (a : ℕ) (xs : List ℕ) → a < length tree → All (IsOther tree a) xs
       → insert_entry nat_cmp (map (entry tree spans) xs) (first_of a) (lane_in tree a) ≡ map (entry tree spans) (put tree a xs)
   put_entry a [] low others = refl
-  put_entry a (x ∷ xs) low (other, others) =
+  put_entry a (x ∷ xs) low others =
+      let other = others 0 x (omega arith) in
       let es = map (entry tree spans) xs in
       let cases : Ordering → List (ℕ × Lane) = λ o. match_ordering o (entry tree spans a ∷ entry tree spans x ∷ es) ((first_of x, lane_in tree a) ∷ es)
       (entry tree spans x ∷ insert_entry nat_cmp es (first_of a) (lane_in tree a)) in
@@ -54,12 +54,12 @@ module _ (tree : List Node) (spans : List Span) (rooted : IsRooted tree) (nested
             ∙ sym (ap (map (entry tree spans)) (put_before tree a x xs (before_of tree rooted a x is)))
         | inr is ↦
             ap cases (nat_cmp_total.antisymm (first_of a) (first_of x) ∙ ap ordering_reverse (less (first_of x) (first_of a) (lower x a other.0 low is)))
-            ∙ ap (λ rest. entry tree spans x ∷ rest) (put_entry a xs low others)
+            ∙ ap (λ rest. entry tree spans x ∷ rest) (put_entry a xs low (All-tail (IsOther tree a) x xs others))
             ∙ sym (ap (map (entry tree spans)) (put_behind tree a x xs (before_of tree rooted x a is)))
       ]
 
   -- where its place and its depth were read
-  pub put_read : (a depth : ℕ) (read : Span) (xs : List ℕ) (before now : List (ℕ × Lane)) → a < length tree → Each (IsOther tree a) xs
+  pub put_read : (a depth : ℕ) (read : Span) (xs : List ℕ) (before now : List (ℕ × Lane)) → a < length tree → All (IsOther tree a) xs
       → depth ≡ length (path_of tree a) → before ≡ map (entry tree spans) xs
       → now ≡ insert_entry nat_cmp before (get_or spans a read).first (lane_of a depth) → now ≡ map (entry tree spans) (put tree a xs)
   put_read a depth read xs before now low others deep are is =

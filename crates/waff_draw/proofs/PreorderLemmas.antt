@@ -1,152 +1,156 @@
 -- The lanes are in preorder: which they are, how deep each is, and what stands behind what.
-use Rattle.std.proofs.Common.{◌≡◌, ℕ, ◌+◌, ◌<◌, ◌≤◌, ◌==◌, All, cond, inl, inr, List, [], ◌∷◌, get_or, length, map, arith, refl, sym, ◌∙◌, ap, subst}
+use Rattle.std.proofs.Common.{◌≡◌, ℕ, zero, suc, ◌+◌, ◌<◌, ◌≤◌, ◌==◌, All, Bool, cond, true, false, inl, inr, List, ◌∷◌, get_or, length, map, arith, refl, sym, ◌∙◌, ap, subst}
 use Rattle.std.specs.List.{count_by, filter, range_with_len}
 use Rattle.std.proofs.lemmas.Bool.{cases_eq, cases_lt}
 use Rattle.std.proofs.lemmas.List.{get_or-map, length-map}
+use Rattle.std.proofs.lemmas.List.Elements.{All-map}
 use Rattle.std.proofs.lemmas.List.FromFn.{length-range_with_len}
+use Rattle.std.proofs.lemmas.List.Sorted.{IsPermutation-map, length_permutation, sum_by-IsPermutation}
 use Rattle.std.proofs.lemmas.List.Sums.{count_by-le-length, length-filter, sum_by-cons}
 use Rattle.waff_model.specs.Tree.{AtOrAbove, IsTree, Leads, Node}
 use Rattle.waff_model.proofs.TreeLemmas.{reflexive, transitive}
 use Rattle.waff_draw.specs.Lanes.{is_among, lane_in, lane_of, lanes_of, used_from}
 use Rattle.waff_draw.specs.Laws.{DepthIsSteps, IsPreorder, LaneIsOne, affinity_at}
 use Rattle.waff_draw.specs.declared.lanes.Lane.{Lane}
-use Rattle.waff_draw.proofs.OrderLemmas.{Each, apart_range, each_at, each_filter, each_in_preorder, each_weaker, length_in_preorder, ranged, rises, rises_at, times, times_in_preorder, times_range}
+use Rattle.waff_draw.proofs.LaneLemmas.{other_tests, same_tests}
+use Rattle.waff_draw.proofs.OrderLemmas.{preorder_moves, used_all, used_rises}
 use Rattle.waff_draw.proofs.PathLemmas.{Before, before_of, depth_leads, either, not_both}
 
 -- how many lanes are of the affinity a
-count_times : (tree : List Node) (a : ℕ) (xs : List ℕ) → count_by (λ (lane : Lane). lane.affinity == a) (map (lane_in tree) xs) ≡ times a xs
-count_times tree a [] = refl
-count_times tree a (x ∷ xs) =
-    sum_by-cons (λ (lane : Lane). cond {A = ℕ} (lane.affinity == a) 1 0) (lane_in tree x) (map (lane_in tree) xs)
-    ∙ ap (λ n. cond (x == a) 1 0 + n) (count_times tree a xs)
+abbrev pub count_of : ℕ → List Lane → ℕ
+count_of a lanes = count_by (λ lane. lane.affinity == a) lanes
 
-pub lane_is_one : (tree : List Node) (assigned : List ℕ) → IsTree tree → LaneIsOne tree assigned
-lane_is_one tree assigned is a low =
-    count_times tree a (used_from tree assigned 0 (length tree))
-    ∙ times_in_preorder tree a (filter (is_among assigned) (range_with_len 0 (length tree)))
-    ∙ times_range (is_among assigned) a 0 (length tree) (omega arith) (omega (arith, low))
+pub count_cons : (a : ℕ) (x : Lane) (xs : List Lane) → count_of a (x ∷ xs) ≡ cond (x.affinity == a) 1 0 + count_of a xs
+count_cons a x xs = sum_by-cons (λ (lane : Lane). cond {A = ℕ} (lane.affinity == a) 1 0) x xs
 
--- each lane is of an affinity
-used_known : (tree : List Node) (assigned : List ℕ) → Each (λ x. x < length tree) (used_from tree assigned 0 (length tree))
-used_known tree assigned =
-    let all = range_with_len 0 (length tree) in
-    let known = each_weaker (λ x. (0 ≤ x) × (x < 0 + length tree)) (λ x. x < length tree) (λ x is. omega (arith, is.1)) all (ranged 0 (length tree)) in
-    each_in_preorder tree (λ x. x < length tree) (filter (is_among assigned) all) (each_filter (λ x. x < length tree) (is_among assigned) all known)
+module _ (tree : List Node) (q : ℕ → Bool) (a : ℕ) where
+  -- those of a range that pass a test
+  abbrev kept : ℕ → ℕ → List Lane
+  kept from count = map (lane_in tree) (filter q (range_with_len from count))
 
-pub lanes_known : (tree : List Node) (assigned : List ℕ) → All (λ (lane : Lane). lane.affinity < length tree) (lanes_of tree assigned)
-lanes_known tree assigned =
-    let used = used_from tree assigned 0 (length tree) in
-    λ i d low.
-    let inside : i < length used = omega (arith, low, length-map used (lane_in tree)) in
-    subst (λ (lane : Lane). lane.affinity < length tree) (sym (get_or-map (lane_in tree) used i 0 d inside))
-    (each_at (λ x. x < length tree) used (used_known tree assigned) i 0 inside)
+  kept_by : (b : Bool) (x : ℕ) (xs : List ℕ) → count_of a (map (lane_in tree) (cond b (x ∷ xs) xs)) ≡ cond b (cond (x == a) 1 0) 0 + count_of a (map (lane_in tree) xs)
+  kept_by true x xs = count_cons a (lane_in tree x) (map (lane_in tree) xs)
+  kept_by false x xs = omega arith
 
-pub few_lanes : (tree : List Node) (assigned : List ℕ) → length (lanes_of tree assigned) ≤ length tree
-few_lanes tree assigned =
-    let all = range_with_len 0 (length tree) in
-    omega (
-      arith,
-      length-map (used_from tree assigned 0 (length tree)) (lane_in tree),
-      length_in_preorder tree (filter (is_among assigned) all),
-      length-filter (is_among assigned) all,
-      count_by-le-length (is_among assigned) all,
-      length-range_with_len 0 (length tree),
-    )
+  none_kept : (b : Bool) → cond {A = ℕ} b 0 0 ≡ 0
+  none_kept true = refl
+  none_kept false = refl
 
-module _ (tree : List Node) (assigned : List ℕ) (is : IsTree tree) where
+  -- the first of them
+  count_other : (x count : ℕ) → (x == a) ≡ false → count_of a (kept x (suc count)) ≡ count_of a (kept (x + 1) count)
+  count_other x count other =
+      let here = ap (λ t. cond (q x) (cond {A = ℕ} t 1 0) 0) other ∙ none_kept (q x) in
+      omega (arith, here, kept_by (q x) x (filter q (range_with_len (x + 1) count)))
+
+  count_above : (from count : ℕ) → a < from → count_of a (kept from count) ≡ 0
+  count_above from zero low = refl
+  count_above from (suc count) low =
+      count_other from count (other_tests from a (λ e. omega (arith, e, low))) ∙ count_above (from + 1) count (omega (arith, low))
+
+  pub count_kept : (from count : ℕ) → from ≤ a → a < from + count → count_of a (kept from count) ≡ cond (q a) 1 0
+  count_kept from zero low few = absurd (omega (arith, low, few))
+  count_kept from (suc count) low few = elim (cases_eq from a) [
+    | inl same ↦
+        let here = ap (λ t. cond (q from) (cond {A = ℕ} t 1 0) 0) (same_tests from a same) ∙ ap (λ x. cond {A = ℕ} (q x) 1 0) same in
+        omega (arith, here, kept_by (q from) from (filter q (range_with_len (from + 1) count)), count_above (from + 1) count (omega (arith, same)))
+    | inr other ↦ count_other from count (other_tests from a other) ∙ count_kept (from + 1) count (omega (arith, low, other)) (omega (arith, few))
+  ]
+
+module _ (tree : List Node) (assigned : List ℕ) where
   abbrev used : List ℕ
   used = used_from tree assigned 0 (length tree)
 
   abbrev lanes : List Lane
   lanes = lanes_of tree assigned
 
-  pub depth_is_steps : DepthIsSteps tree assigned
-  depth_is_steps i d low =
-      let inside : i < length used = omega (arith, low, length-map used (lane_in tree)) in
-      subst (λ (lane : Lane). Leads tree lane.depth 0 lane.affinity) (sym (get_or-map (lane_in tree) used i 0 d inside))
-      (depth_leads tree is.rooted (get_or used i 0) (each_at (λ x. x < length tree) used (used_known tree assigned) i 0 inside))
+  pub lane_is_one : IsTree tree → LaneIsOne tree assigned
+  lane_is_one is a low =
+      let all = filter (is_among assigned) (range_with_len 0 (length tree)) in
+      sum_by-IsPermutation (λ (lane : Lane). cond {A = ℕ} (lane.affinity == a) 1 0) (map (lane_in tree) all) lanes (IsPermutation-map (lane_in tree) all used (preorder_moves tree all))
+      ∙ count_kept tree (is_among assigned) a 0 (length tree) (omega arith) (omega (arith, low))
 
-  known_at : (i : ℕ) → i < length lanes → affinity_at lanes i < length tree
-  known_at i low = lanes_known tree assigned i (lane_of 0 0) low
+  used_known : All (λ x. x < length tree) used
+  used_known = used_all tree (λ x. x < length tree) assigned 0 (length tree) (λ x from to. omega (arith, to))
 
-  -- each stands before those behind it
-  lanes_rise : (i j : ℕ) → i < j → j < length lanes → Before tree (affinity_at lanes i) (affinity_at lanes j)
-  lanes_rise i j before low =
-      let inside : j < length used = omega (arith, low, length-map used (lane_in tree)) in
-      let at : (k : ℕ) → k < length used → get_or used k 0 ≡ affinity_at lanes k
-      = λ k within. ap (λ (lane : Lane). lane.affinity) (sym (get_or-map (lane_in tree) used k 0 (lane_of 0 0) within)) in
-      let up = rises_at tree used (rises tree is.rooted (filter (is_among assigned) (range_with_len 0 (length tree)))
-      (apart_range tree (is_among assigned) 0 (length tree) (omega arith))) i j 0 before inside in
-      subst (λ x. Before tree x (affinity_at lanes j)) (at i (omega (arith, before, inside)))
-      (subst (λ y. Before tree (get_or used i 0) y) (at j inside) up)
+  -- each lane is of an affinity
+  pub lanes_known : All (λ (lane : Lane). lane.affinity < length tree) lanes
+  lanes_known = All-map (λ (lane : Lane). lane.affinity < length tree) (lane_in tree) used used_known
 
-  -- what stands before stands in no later row
-  not_later : (i j : ℕ) → i < length lanes → Before tree (affinity_at lanes i) (affinity_at lanes j) → i < j
-  not_later i j low before = elim (cases_lt i j) [
-    | inl less ↦ less
-    | inr not ↦ elim (cases_eq j i) [
-      | inl same ↦
-          let twice = subst (λ k. Before tree (affinity_at lanes i) (affinity_at lanes k)) same before in
-          absurd (not_both tree (affinity_at lanes i) (affinity_at lanes i) twice twice)
-      | inr other ↦ absurd (not_both tree (affinity_at lanes i) (affinity_at lanes j) before (lanes_rise j i (omega (arith, not, other)) low))
+  pub few_lanes : length lanes ≤ length tree
+  few_lanes =
+      let all = range_with_len 0 (length tree) in
+      omega (
+        arith,
+        length-map used (lane_in tree),
+        length_permutation (filter (is_among assigned) all) used (preorder_moves tree (filter (is_among assigned) all)),
+        length-filter (is_among assigned) all,
+        count_by-le-length (is_among assigned) all,
+        length-range_with_len 0 (length tree),
+      )
+
+  module _ (is : IsTree tree) where
+    pub depth_is_steps : DepthIsSteps tree assigned
+    depth_is_steps =
+        All-map (λ (lane : Lane). Leads tree lane.depth 0 lane.affinity) (lane_in tree) used
+        (λ i d low. depth_leads tree is.rooted (get_or used i d) (used_known i d low))
+
+    -- the affinity whose lane is in row i
+    abbrev at : ℕ → ℕ
+    at i = affinity_at lanes i
+
+    -- each stands before those behind it
+    lanes_rise : (i j : ℕ) → i < j → j < length lanes → Before tree (at i) (at j)
+    lanes_rise i j before low =
+        let inside : j < length used = omega (arith, low, length-map used (lane_in tree)) in
+        let read : (k : ℕ) → k < length used → get_or used k 0 ≡ at k
+        = λ k within. ap (λ (lane : Lane). lane.affinity) (sym (get_or-map (lane_in tree) used k 0 (lane_of 0 0) within)) in
+        subst (λ x. Before tree x (at j)) (read i (omega (arith, before, inside)))
+        (subst (λ y. Before tree (get_or used i 0) y) (read j inside) (used_rises tree is.rooted assigned i j 0 before inside))
+
+    no_later : (i j : ℕ) → i < length lanes → (Before tree (at j) (at i) → ⊥) → i ≤ j
+    no_later i j low not = elim (cases_lt j i) [
+      | inl less ↦ absurd (not (lanes_rise j i less low))
+      | inr upto ↦ omega (arith, upto)
     ]
-  ]
 
-  behind : (i j : ℕ) → i < length lanes → j < length lanes → AtOrAbove tree (affinity_at lanes i) (affinity_at lanes j) → i ≤ j
-  behind i j low_i low_j above = elim (cases_lt j i) [
-    | inl less ↦
-        let a = affinity_at lanes i in
-        let b = affinity_at lanes j in
-        let up = lanes_rise j i less low_i in
-        absurd (elim (cases_eq a b) [
+    earlier : (i j : ℕ) → i < length lanes → Before tree (at i) (at j) → i < j
+    earlier i j low before =
+        let upto = no_later i j low (not_both tree (at i) (at j) before) in
+        elim (cases_eq i j) [
           | inl same ↦
-              let twice = subst (λ x. Before tree b x) same up in
-              not_both tree b b twice twice
-          | inr other ↦ not_both tree a b (before_of tree is.rooted a b (inl (other, above))) up
-        ])
-    | inr not ↦ omega (arith, not)
-  ]
-
-  between : (i k j : ℕ) → i ≤ k → k ≤ j → j < length lanes → AtOrAbove tree (affinity_at lanes i) (affinity_at lanes j)
-      → AtOrAbove tree (affinity_at lanes i) (affinity_at lanes k)
-  between i k j from to low above =
-      let a = affinity_at lanes i in
-      let b = affinity_at lanes k in
-      let c = affinity_at lanes j in
-      elim (cases_eq a b) [
-        | inl same ↦ subst (λ x. AtOrAbove tree a x) same (reflexive tree a)
-        | inr other ↦ elim (either tree is.rooted a b (known_at i (omega (arith, from, to, low))) (known_at k (omega (arith, to, low))) other) [
-          | inl (inl (differ, higher)) ↦ higher
-          | inl (inr are) ↦
-              let earlier : Before tree c b = before_of tree is.rooted c b (inr (record {
-                x = are.x;
-                y = are.y;
-                p = are.p;
-                before = are.before;
-                first = are.first;
-                second = are.second;
-                above_a = transitive tree are.x a c are.above_a above;
-                above_b = are.above_b;
-              })) in
-              absurd (omega (arith, to, not_later j k low earlier))
-          | inr lower ↦
-              absurd (omega (arith, from, not_later k i (omega (arith, to, low)) (before_of tree is.rooted b a lower)))
+              let itself = subst (λ k. Before tree (at i) (at k)) (sym same) before in
+              absurd (not_both tree (at i) (at i) itself itself)
+          | inr other ↦ omega (arith, upto, other)
         ]
-      ]
 
-  pub lanes_in_preorder : IsPreorder tree lanes
-  lanes_in_preorder = record {
-    behind = behind;
-    between = between;
-    ordered = λ i j b c p low_i low_j first second before above_b above_c.
-        not_later i j low_i (before_of tree is.rooted (affinity_at lanes i) (affinity_at lanes j) (inr (record {
-          x = b;
-          y = c;
-          p = p;
-          before = before;
-          first = first;
-          second = second;
-          above_a = above_b;
-          above_b = above_c;
-        })));
-  }
+    behind : (i j : ℕ) → i < length lanes → j < length lanes → AtOrAbove tree (at i) (at j) → i ≤ j
+    behind i j low_i low_j above =
+        no_later i j low_i
+        (λ up. elim (cases_eq (at i) (at j)) [
+          | inl same ↦
+              let itself = subst (λ x. Before tree (at j) x) same up in
+              not_both tree (at j) (at j) itself itself
+          | inr other ↦ not_both tree (at i) (at j) (before_of tree is.rooted (at i) (at j) (inl (other, above))) up
+        ])
+
+    between : (i k j : ℕ) → i ≤ k → k ≤ j → j < length lanes → AtOrAbove tree (at i) (at j) → AtOrAbove tree (at i) (at k)
+    between i k j from to low above =
+        let known : (r : ℕ) → r ≤ j → at r < length tree = λ r upto. lanes_known r (lane_of 0 0) (omega (arith, upto, low)) in
+        elim (cases_eq (at i) (at k)) [
+          | inl same ↦ subst (λ x. AtOrAbove tree (at i) x) same (reflexive tree (at i))
+          | inr other ↦ elim (either tree is.rooted (at i) (at k) (known i (omega (arith, from, to))) (known k to) other) [
+            | inl (inl (differ, higher)) ↦ higher
+            | inl (inr (x, y, p, before, first, second, above_i, above_k)) ↦
+                let lower = before_of tree is.rooted (at j) (at k) (inr (x, y, p, before, first, second, transitive tree x (at i) (at j) above_i above, above_k)) in
+                absurd (omega (arith, to, earlier j k low lower))
+            | inr up ↦ absurd (omega (arith, from, earlier k i (omega (arith, to, low)) (before_of tree is.rooted (at k) (at i) up)))
+          ]
+        ]
+
+    pub lanes_in_preorder : IsPreorder tree lanes
+    lanes_in_preorder = record {
+      behind = behind;
+      between = between;
+      ordered = λ i j b c p low_i low_j first second before above_b above_c.
+          earlier i j low_i (before_of tree is.rooted (at i) (at j) (inr (b, c, p, before, first, second, above_b, above_c)));
+    }

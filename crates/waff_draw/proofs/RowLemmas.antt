@@ -1,25 +1,18 @@
 -- The row of an affinity is that of its lane.
 use Rattle.std.proofs.Common.{◌≡◌, ◌≢◌, ℕ, suc, ◌+◌, ◌-◌, ◌<◌, ◌≤◌, ◌==◌, cond, inl, inr, List, [], ◌∷◌, Some, slice_get, arith, ◌∙◌, ap, subst}
-use Rattle.std.specs.List.{count_by}
 use Rattle.std.proofs.lemmas.Bool.{cases_eq}
-use Rattle.std.proofs.lemmas.List.Sums.{sum_by-cons}
 use Rattle.waff_model.specs.Tree.{IsTree, Node}
 use Rattle.waff_draw.specs.Lanes.{lanes_of, row_from}
 use Rattle.waff_draw.specs.Laws.{RowIsOfLane}
 use Rattle.waff_draw.specs.declared.lanes.Lane.{Lane}
 use Rattle.waff_draw.proofs.LaneLemmas.{other_tests, same_tests}
-use Rattle.waff_draw.proofs.PreorderLemmas.{lane_is_one}
-
--- how many lanes are of the affinity a
-abbrev count_of : ℕ → List Lane → ℕ
-count_of a lanes = count_by (λ lane. lane.affinity == a) lanes
+use Rattle.waff_draw.proofs.PreorderLemmas.{count_cons, count_of, lane_is_one}
 
 -- it is among those behind, where the first is of another
 further : (a : ℕ) (x : Lane) (xs : List Lane) → x.affinity ≢ a → 0 < count_of a (x ∷ xs) → 0 < count_of a xs
 further a x xs other some =
-    let parts : count_of a (x ∷ xs) ≡ cond (x.affinity == a) 1 0 + count_of a xs = sum_by-cons (λ (lane : Lane). cond {A = ℕ} (lane.affinity == a) 1 0) x xs in
     let none : cond {A = ℕ} (x.affinity == a) 1 0 ≡ 0 = ap (λ b. cond b 1 0) (other_tests x.affinity a other) in
-    omega (arith, some, parts, none)
+    omega (arith, some, count_cons a x xs, none)
 
 row_found : (row : ℕ) (lanes : List Lane) (a : ℕ) → 0 < count_of a lanes
     → (lane : Lane) × (slice_get lanes (row_from row lanes a - row) ≡ Some lane) × (lane.affinity ≡ a) × (row ≤ row_from row lanes a)

@@ -2,8 +2,8 @@ use Rattle.std.proofs.Common.{◌≡◌, ◌<◌, ◌≤◌, ◌-◌, get_or, le
 use Rattle.std.specs.Map.{values_of}
 use Rattle.std.proofs.lemmas.List.FromFn.{get_or-map-range_with_len, length-map-range_with_len}
 use Rattle.std.proofs.lemmas.Simd.{map-map}
-use Rattle.waff_draw.specs.Lanes.{is_among, lane_in, path_of, used_from}
-use Rattle.waff_draw.proofs.OrderLemmas.{each_in_preorder, IsOther, others_range}
+use Rattle.waff_draw.specs.Lanes.{lane_in, path_of, used_from}
+use Rattle.waff_draw.proofs.OrderLemmas.{IsOther, used_all}
 use Rattle.waff_draw.proofs.PlaceLemmas.{entry, put_read, used_put, used_same}
 use Rattle.waff_draw.proofs.lanes.by_place.Goals as goal
 
@@ -31,7 +31,8 @@ loop-affinity-preserved-in_ok-insert c assigned each =
     let depth : c.index-depth.result.now ≡ length (path_of tree b)
     = c.index-depth.ensures ∙ ap (λ ds. get_or ds b c.index-depth.result.now) c.in_ok-depths.ensures
     ∙ get_or-map-range_with_len (λ a. length (path_of tree a)) 0 (length tree) b b c.index-depth.result.now within (omega arith) in
-    let others = each_in_preorder tree (IsOther tree b) _ (others_range tree (is_among assigned) b k (length tree - k) (omega (arith, c.loop-affinity-test.true)) (omega (arith, low))) in
+    let others = used_all tree (IsOther tree b) assigned k (length tree - k)
+    (λ x from to. (omega (arith, to, low), λ e. omega (arith, e, from, c.loop-affinity-test.true))) in
     put_read tree spans c.len-affinity.ensures.tree.rooted c.spans-spans.ensures b c.index-depth.result.now _ used
     c.loop-affinity.lanes.entries c.insert.new.self.entries within others depth (c.loop-affinity.invariant assigned each) c.in_ok-insert.ensures.entries
     ∙ ap (map (entry tree spans)) (sym (used_put tree assigned k (length tree) c.loop-affinity-test.true low (sym (each b within) ∙ c.if-used-affinity.true)))
