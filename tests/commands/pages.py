@@ -10,9 +10,10 @@ in SVG its standard output, and a block marked `toml` or `csv` a file that cases
 import re
 from collections.abc import Iterator
 
-from transcripts import HERE, Case, cases, paths, read
+from common import ROOT
+from transcripts import Case, cases, read
 
-ROOT = HERE.parent.parent
+HERE = ROOT / "tests/commands"
 
 # No case can refuse memory; tests/hostile/memory does.
 NO_CASE = {"waff: Memory"}
@@ -43,7 +44,7 @@ def calls(page: str) -> Iterator[tuple[int, str, set[str], list[str]]]:
 
 
 def faults(commands: list[str]) -> list[str]:
-    every = [case for path in paths() for case in cases(path)]
+    every = [case for path in HERE.glob("*.txt") for case in cases(path)]
     told = {case.stream("!").strip() for case in every} | NO_CASE
     printed = {case.stream("|") for case in every}
     files = {read(path) for path in (HERE / "inputs").iterdir()}

@@ -1,4 +1,4 @@
-"""The transcripts of this folder: cases of what the program is asked, and of what it prints. Each NAME.txt holds some:
+"""Transcripts: cases of what programs are asked, and of what they print. Each NAME.txt of a folder of tests holds some:
 
     == refused-cost-zero
     sed 's/,4,/,0,/' X1.csv >trace.csv
@@ -6,11 +6,13 @@
     ! waff: Trace.Cost 2
     status 3
 
-The case runs in a folder with the files of examples/ and, as `inputs`, those that cases share. Lines of bash lay the others there;
-then comes the command, and what it prints: `| ` stands before a line of standard output, `! ` before one of standard error, and the
-status is told if it is not 0. `| ...` or `! ...` is any text but none: clap's words are free.
+The case runs in a folder with the files of examples/, and with the folders that lie beside the transcript, as `inputs`. Lines of bash
+lay its other files there; then comes the command, of `waff` or of workloads/, and what it prints: `| ` stands before a line of
+standard output, `! ` before one of standard error, and the status is told if it is not 0. `| ...` or `! ...` is any text but none:
+clap's words are free.
 """
 
+import difflib
 import os
 import pathlib
 import re
@@ -18,10 +20,10 @@ import shutil
 import subprocess
 import tempfile
 from collections.abc import Iterator
+from concurrent.futures import ThreadPoolExecutor
 from dataclasses import dataclass
 
-HERE = pathlib.Path(__file__).resolve().parent
-EXAMPLES = HERE.parent.parent / "examples"
+from common import ROOT, Count
 
 # The seconds after which a command counts as one that hangs.
 SECONDS = "60"
@@ -31,6 +33,7 @@ CASE = re.compile(r"^== (.+)\n((?:(?!== |\$ ).*\n)*)\$ (.*)\n((?:[|!](?: .*|\\)?
 
 @dataclass(slots=True)
 class Case:
+    folder: pathlib.Path
     name: str
     setup: str
     command: str
@@ -44,12 +47,13 @@ class Case:
         """What it prints now, as the transcript shows it."""
         with tempfile.TemporaryDirectory(prefix="waff-commands-") as name:
             folder = pathlib.Path(name)
-            files = shutil.copytree(EXAMPLES, folder / "files")
-            (files / "inputs").symlink_to(HERE / "inputs")
+            files = shutil.copytree(ROOT / "examples", folder / "files")
+            for beside in filter(pathlib.Path.is_dir, self.folder.iterdir()):
+                (files / beside.name).symlink_to(beside)
             (folder / "waff").symlink_to(program)
-            environment = {**os.environ, "PATH": f"{folder}:{os.environ['PATH']}"}
-            subprocess.run(["bash", "-ec", self.setup], cwd=files, check=True)
-            command = ["timeout", SECONDS, "bash", "-c", self.command]
+            environment = {**os.environ, "PATH": f"{folder}:{ROOT / 'workloads'}:{os.environ['PATH']}", "WAFF": program}
+            subprocess.run(["bash", "-ec", self.setup], cwd=files, env=environment, check=True)
+            command = ["timeout", SECONDS, "bash", "-o", "pipefail", "-c", self.command]
             done = subprocess.run(command, cwd=files, env=environment, stdin=subprocess.DEVNULL, capture_output=True)
         shown = self.text("|", done.stdout) + self.text("!", done.stderr)
         return shown + (f"status {done.returncode}\n" if done.returncode else "")
@@ -67,20 +71,36 @@ def read(path: pathlib.Path) -> str:
     return path.read_bytes().decode(errors="surrogateescape")
 
 
-def paths() -> list[pathlib.Path]:
-    return sorted(HERE.glob("*.txt"))
-
-
 def cases(path: pathlib.Path) -> Iterator[Case]:
     """The cases of a transcript. Between them stand blank lines and comments alone."""
     text = read(path)
     for line in CASE.sub("", text).split("\n"):
-        if line and not line.startswith("# "):
+        if line and not line.startswith("#"):
             raise SystemExit(f"{path.name}: in no case: {line}")
-    return (Case(*found) for found in CASE.findall(text))
+    return (Case(path.parent, *found) for found in CASE.findall(text))
 
 
 def keep(path: pathlib.Path, printed: dict[str, str]) -> None:
     """Writes a transcript anew with what its cases print."""
     text = CASE.sub(lambda it: f"== {it[1]}\n{it[2]}$ {it[3]}\n{printed.get(it[1], it[4])}", read(path))
     path.write_bytes(text.encode(errors="surrogateescape"))
+
+
+def faults_of(shown: str, printed: str) -> list[str]:
+    """Where a case prints what it does not show."""
+    lines = difflib.unified_diff(shown.split("\n"), printed.split("\n"), "shown", "printed", n=0, lineterm="")
+    return [] if shown == printed else list(lines)[2:12]
+
+
+def run(folder: pathlib.Path, program: str, wanted: set[str], count: Count | None) -> None:
+    """Runs the cases of a folder, those that are wanted or whose transcript is, or all, and counts those that print what they show.
+    Where nothing is counted, what they print is kept."""
+    with ThreadPoolExecutor(os.cpu_count()) as pool:
+        for path in sorted(folder.glob("*.txt")):
+            every = [it for it in cases(path) if not wanted or wanted & {path.stem, it.name}]
+            printed = list(pool.map(lambda it: it.run(program), every))
+            if count is None:
+                keep(path, {case.name: text for case, text in zip(every, printed, strict=True)})
+            else:
+                for case, text in zip(every, printed, strict=True):
+                    count.take(case.name, faults_of(case.shown, text))
