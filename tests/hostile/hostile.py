@@ -208,6 +208,8 @@ def faults_of_explanation(run, told):
         faults.append("standard output is not printable")
     if run.status in (3, 4) and not FAULT.fullmatch(first + b"\n"):
         faults.append("its first line is no fault line")
+    if run.status in (1, 3) and not all(re.search(b"^%s: ." % head, rest, re.M) for head in (b"found", b"wanted")):
+        faults.append("it does not tell what was found and what is wanted")
     if told is not None and run.status != told.status:
         faults.append("the status of the command is %s" % told.status)
     if told is not None and run.status in (3, 4) and first + b"\n" != told.stderr:

@@ -44,8 +44,8 @@ def read_lines(name: str) -> list[str]:
 
 
 def shown(text: str, most: int = SHOWN_CHARACTERS) -> str:
-    """A text on one line, cut where it is long; bytes that are no printable ASCII as `\\xHH`."""
-    bytes_shown = text[:most].encode("utf-8", "surrogateescape")
+    """A text on one line, cut where it is long; a backslash as two, bytes that are no printable ASCII as `\\xHH`."""
+    bytes_shown = text[:most].replace("\\", "\\\\").encode("utf-8", "surrogateescape")
     plain = "".join(chr(byte) if 32 <= byte < 127 else f"\\x{byte:02x}" for byte in bytes_shown)
     return plain + ("..." if len(text) > most else "")
 

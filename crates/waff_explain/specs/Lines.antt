@@ -1,5 +1,5 @@
 -- The lines of an explanation below its first line.
-use Rattle.std.specs.Prelude.{◌≡◌, ◌≢◌, ℕ, List, [], ◌∷◌, ◌++◌, All, codes}
+use Rattle.std.specs.Prelude.{◌≡◌, ◌≢◌, ℕ, List, [], ◌∷◌, ◌++◌, ◌==◌, All, count_by, codes}
 use Rattle.std.specs.List.{concat}
 use Rattle.std.specs.Fmt.{decimal}
 use Rattle.waff_explain.specs.declared.words.Head.{Head}
@@ -27,3 +27,7 @@ pub record AreHeadedLines (text : List ℕ) : Type 0 where
   pub lines : List (List ℕ)
   pub headed : All IsHeadedLine lines
   pub whole : concat lines ≡ text
+
+-- at how many places of a format a value stands: one for each `{`
+abbrev pub places : List ℕ → ℕ
+places format = count_by (λ byte. byte == 123) format

@@ -3,7 +3,6 @@
 use crate::document::{push_row, rows, text_at, text_of};
 use crate::fields::{push_no_name, push_too_many};
 use crate::named::Named;
-use crate::shown::Shown;
 use crate::words::{Words, say};
 use toml::Value;
 use waff_model::limits::MAX_AFFINITIES;
@@ -75,20 +74,20 @@ fn push_error(
 /// Appends that an affinity before has the name.
 fn push_twice(words: &mut Words, named: &Named<'_>, name: &str) {
     let other = named.place_of(name).unwrap_or(0);
-    say!(words; Found: "the name `{}`, which affinity {other} has", Shown(name.as_bytes()));
+    say!(words; Found: "the name `{}`, which affinity {} has", name.as_bytes(), other);
     say!(words; Wanted: "a name that no affinity before it has");
 }
 
 /// Appends that a parent is none of the affinities before.
 fn push_unknown(words: &mut Words, named: &Named<'_>, number: usize, parent: &str) {
     let place = named.place_of(parent);
-    let parent = Shown(parent.as_bytes());
+    let parent = parent.as_bytes();
     match place {
         Some(place) if place == number =>
-            say!(words; Found: "the parent `{parent}`, which is the affinity itself"),
+            say!(words; Found: "the parent `{}`, which is the affinity itself", parent),
         Some(place) =>
-            say!(words; Found: "the parent `{parent}`, which is affinity {place}, behind it"),
-        None => say!(words; Found: "the parent `{parent}`, which no affinity has as its name"),
+            say!(words; Found: "the parent `{}`, which is affinity {}, behind it", parent, place),
+        None => say!(words; Found: "the parent `{}`, which no affinity has as its name", parent),
     }
     if number == 0 {
         say!(words; Wanted: "no parent, as the first affinity is the root");
@@ -102,8 +101,8 @@ pub(crate) fn push_third_level(words: &mut Words, document: &Value, affinity: Af
     let affinities = rows(document, "affinity");
     let number = usize::from(affinity.0);
     push_row(words, "affinity", affinities, number);
-    let parent = Shown(text_of(affinities, number, "parent").as_bytes());
-    let root = Shown(text_of(affinities, 0, "name").as_bytes());
-    say!(words; Found: "the parent `{parent}` in a classical hierarchy");
-    say!(words; Wanted: "the root `{root}` as parent, or the model \"hierarchical\"");
+    let parent = text_of(affinities, number, "parent").as_bytes();
+    let root = text_of(affinities, 0, "name").as_bytes();
+    say!(words; Found: "the parent `{}` in a classical hierarchy", parent);
+    say!(words; Wanted: "the root `{}` as parent, or the model \"hierarchical\"", root);
 }

@@ -1,6 +1,5 @@
 //! A document of TOML that is of another shape than a hierarchy.
 
-use crate::shown::Shown;
 use crate::words::{Words, say};
 use toml::Value;
 use waff_read::Key;
@@ -38,9 +37,9 @@ pub(crate) fn push_row(words: &mut Words, kind: &str, tables: &[Value], number: 
     let key = if kind == "map" { "space" } else { "name" };
     let name = text_of(tables, number, key);
     if name.is_empty() {
-        say!(words; Where: "hierarchy, {kind} {number}");
+        say!(words; Where: "hierarchy, {} {}", kind, number);
     } else {
-        say!(words; Where: "hierarchy, {kind} {number}, {key} `{}`", Shown(name.as_bytes()));
+        say!(words; Where: "hierarchy, {} {}, {} `{}`", kind, number, key, name.as_bytes());
     }
 }
 
@@ -54,10 +53,10 @@ pub(crate) fn push_no_model(words: &mut Words, document: &Value) {
 /// Appends what stands at a key.
 fn push_found(words: &mut Words, key: &str, found: Option<&Value>) {
     match found {
-        None => say!(words; Found: "no {key}"),
+        None => say!(words; Found: "no {}", key),
         Some(value) => match value.as_str() {
-            Some(told) => say!(words; Found: "{key}: the text `{}`", Shown(told.as_bytes())),
-            None => say!(words; Found: "{key}: a value of the type {}", value.type_str()),
+            Some(told) => say!(words; Found: "{}: the text `{}`", key, told.as_bytes()),
+            None => say!(words; Found: "{}: a value of the type {}", key, value.type_str()),
         },
     }
 }
@@ -156,13 +155,13 @@ fn push_no_tables(words: &mut Words, document: &Value, kind: &str) {
     let tables = rows(document, kind);
     match first_no_table(tables) {
         Some(number) => {
-            say!(words; Where: "hierarchy, {kind} {number}");
+            say!(words; Where: "hierarchy, {} {}", kind, number);
             push_found(words, kind, tables.get(number));
         }
         None => {
-            say!(words; Where: "hierarchy, the key {kind}");
+            say!(words; Where: "hierarchy, the key {}", kind);
             push_found(words, kind, document.get(kind));
         }
     }
-    say!(words; Wanted: "an array of tables, [[{kind}]]");
+    say!(words; Wanted: "an array of tables, [[{}]]", kind);
 }

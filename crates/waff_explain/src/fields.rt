@@ -1,6 +1,5 @@
 //! Fields and values that are no name, no number or no text.
 
-use crate::shown::Shown;
 use crate::walk::Walk;
 use crate::words::{Words, say};
 use std::str;
@@ -8,22 +7,22 @@ use waff_model::limits::MAX_NAME;
 
 /// Appends that a field is no name.
 pub(crate) fn push_no_name(words: &mut Words, what: &str, field: &str) {
-    say!(words; Found: "the {what} `{}`", Shown(field.as_bytes()));
+    say!(words; Found: "the {} `{}`", what, field.as_bytes());
     say!(words; Wanted: "a name, 1 to {} of A-Z a-z 0-9 . _ -", MAX_NAME);
 }
 
 /// Appends that a field is no number within limits.
 pub(crate) fn push_no_number(words: &mut Words, what: &str, field: &str, low: u64, high: u64) {
-    say!(words; Found: "the {what} `{}`", Shown(field.as_bytes()));
-    say!(words; Wanted: "a number from {low} to {high} without a leading zero");
+    say!(words; Found: "the {} `{}`", what, field.as_bytes());
+    say!(words; Wanted: "a number from {} to {} without a leading zero", low, high);
 }
 
 /// Appends which field is no text.
 pub(crate) fn push_no_text(words: &mut Words, walk: &Walk<'_>) {
     if let Some(place) = no_text(walk) {
         let number = place.saturating_add(1);
-        let field = Shown(walk.bytes(place));
-        say!(words; Found: "field {number}, which is no text: {field}");
+        let field = walk.bytes(place);
+        say!(words; Found: "field {}, which is no text: {}", number, field);
         say!(words; Wanted: "fields of text in UTF-8");
     }
 }
@@ -35,6 +34,6 @@ fn no_text(walk: &Walk<'_>) -> Option<usize> {
 
 /// Appends that there are more than are allowed.
 pub(crate) fn push_too_many(words: &mut Words, what: &str, found: usize, most: usize) {
-    say!(words; Found: "{found} {what}");
-    say!(words; Wanted: "{most} {what} or fewer");
+    say!(words; Found: "{} {}", found, what);
+    say!(words; Wanted: "{} {} or fewer", most, what);
 }

@@ -3,9 +3,8 @@
 ghost use Rattle.std.specs.Prelude.{◌≡◌, ◌↔◌, ◌<◌, ◌≤◌, IsTrue, length};
 
 use crate::walk::push_line;
-use crate::words::{Head, Words, say};
+use crate::words::{Words, say};
 use std::alloc::{AllocError, Global};
-use std::fmt;
 use waff_assign::Case;
 use waff_model::{AffinityId, Message, Tree};
 use waff_plan::Totals;
@@ -144,18 +143,15 @@ impl<'a> Hearing<'a> {
         let Some(message) = self.message(n) else {
             return;
         };
-        let facts = format_args!(
-            "{}, affinity {}, release {}, cost {}, start {}, finish {}",
-            message.name.as_str(),
-            self.affinity(n),
-            message.release,
-            message.cost,
-            self.start(n),
-            self.told_finish(n)
-        );
+        let (name, affinity) = (message.name.as_str(), self.affinity(n));
+        let (start, finish) = (self.start(n), self.told_finish(n));
         match self.worker(n) {
-            Some(worker) => words.say(Head::Message(n), format_args!("{facts}, worker {worker}")),
-            None => words.say(Head::Message(n), facts),
+            Some(worker) => say!(words; Message(n):
+                "{}, affinity {}, release {}, cost {}, start {}, finish {}, worker {}",
+                name, affinity, message.release, message.cost, start, finish, worker),
+            None => say!(words; Message(n):
+                "{}, affinity {}, release {}, cost {}, start {}, finish {}",
+                name, affinity, message.release, message.cost, start, finish),
         }
     }
 
@@ -175,7 +171,7 @@ fn push_why(words: &mut Words, tree: &Tree, first: AffinityId, second: AffinityI
 {
     if first == second {
         let name = tree.name(first);
-        say!(words; Why: "both run in {name}, and an affinity excludes itself");
+        say!(words; Why: "both run in {}, and an affinity excludes itself", name);
     } else if tree.at_or_above(first, second) {
         push_way(words, tree, second, first);
     } else {
@@ -189,31 +185,26 @@ fn push_way(words: &mut Words, tree: &Tree, low: AffinityId, high: AffinityId)
     requires high { high.0 < length tree.now }
 {
     let (below, above) = (tree.name(low), tree.name(high));
-    let way = Way { tree, low, high };
-    say!(words; Why: "{below} and {above} exclude each other, as {below} is below {above}: {way}");
-}
-
-/// The way in a tree from an affinity up to one above it.
-#[derive(Clone, Copy)]
-struct Way<'a> {
-    tree: &'a Tree,
-    low: AffinityId,
-    high: AffinityId,
-    ghost known_low: { low.0 < length tree.now },
-    ghost known_high: { high.0 < length tree.now },
-}
-
-impl<'a> fmt::Display for Way<'a> {
-    fn fmt<W: fmt::Write>(&self, f: &mut fmt::Formatter<W>) -> fmt::Result {
-        write!(f, "{}", self.tree.name(self.low))?;
-        for number in (0..self.low.0).rev() {
-            let between = AffinityId(number);
-            if self.tree.at_or_above(between, self.low)
-                && self.tree.at_or_above(self.high, between)
-            {
-                write!(f, " -> {}", self.tree.name(between))?;
-            }
-        }
-        Ok(())
+    match way(words.alloc(), tree, low, high) {
+        Ok(way) => say!(words; Why: "{} and {} exclude each other, as {} is below {}: {}",
+            below, above, below, above, way.as_str()),
+        Err(_) => words.refuse(),
     }
+}
+
+/// The way in the tree from an affinity up to one above it.
+fn way(alloc: Global, tree: &Tree, low: AffinityId, high: AffinityId) -> Result<String, AllocError>
+    requires low { low.0 < length tree.now }
+    requires high { high.0 < length tree.now }
+{
+    let mut way = String::new(alloc);
+    way.push_str(tree.name(low))?;
+    for number in (0..low.0).rev() {
+        let between = AffinityId(number);
+        if tree.at_or_above(between, low) && tree.at_or_above(high, between) {
+            way.push_str(" -> ")?;
+            way.push_str(tree.name(between))?;
+        }
+    }
+    Ok(way)
 }

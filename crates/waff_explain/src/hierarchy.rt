@@ -6,7 +6,6 @@ ghost use Rattle.waff_explain.specs.Lines.{AreHeadedLines};
 use crate::affinities::{push_no_tree, push_third_level};
 use crate::document::{push_no_key, push_no_model};
 use crate::layouts::push_no_layout;
-use crate::shown::Shown;
 use crate::walk::feeds;
 use crate::words::{Words, say};
 use std::alloc::{AllocError, Global};
@@ -56,8 +55,7 @@ fn push_line(words: &mut Words, bytes: &[u8], start: usize) {
     let before = bytes.get(..start).unwrap_or(b"");
     let rest = bytes.get(last_line(before)..).unwrap_or(b"");
     let number = feeds(before).saturating_add(1);
-    let line = Shown(first_line(rest));
-    say!(words; Where: "hierarchy, line {number}: {line}");
+    say!(words; Where: "hierarchy, line {}: {}", number, first_line(rest));
 }
 
 /// Where the last line begins.

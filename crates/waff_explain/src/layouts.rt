@@ -3,7 +3,6 @@
 use crate::document::{push_row, rows, text_at, text_of};
 use crate::fields::push_no_name;
 use crate::named::Named;
-use crate::shown::Shown;
 use crate::words::{Words, say};
 use toml::Value;
 use waff_model::limits::{MAX_CELLS, MAX_OWNERS, MAX_SIZE, MAX_SPACES, MAX_UNIT};
@@ -32,7 +31,7 @@ fn push_no_space(words: &mut Words, spaces: &[Value], maps: &[Value]) {
     let found = spaces.len();
     if found == 0 || found > MAX_SPACES {
         say!(words; Where: "hierarchy, space");
-        say!(words; Found: "{found} spaces");
+        say!(words; Found: "{} spaces", found);
         say!(words; Wanted: "1 to {} spaces", MAX_SPACES);
         return;
     }
@@ -51,8 +50,8 @@ fn push_no_space_of(words: &mut Words, spaces: &[Value], maps: &[Value]) {
     let named = Named::of(words, spaces, "name");
     if let Some(number) = named.first_stranger(maps, "space") {
         push_row(words, "map", maps, number);
-        let space = Shown(text_of(maps, number, "space").as_bytes());
-        say!(words; Found: "the space `{space}`, which is no space's name");
+        let space = text_of(maps, number, "space").as_bytes();
+        say!(words; Found: "the space `{}`, which is no space's name", space);
         say!(words; Wanted: "the name of a space");
     }
 }
@@ -73,19 +72,19 @@ fn push_twice(words: &mut Words, tables: &[Value], kind: &str, key: &str) {
     if let Some(number) = named.first_twice(tables, key) {
         push_row(words, kind, tables, number);
         let other = named.place_of(text_of(tables, number, key)).unwrap_or(0);
-        say!(words; Found: "the {key} of {kind} {other}");
-        say!(words; Wanted: "one {kind} for each {key}");
+        say!(words; Found: "the {} of {} {}", key, kind, other);
+        say!(words; Wanted: "one {} for each {}", kind, key);
     }
 }
 
 /// Appends which table has a number outside of 1 to the most.
 fn push_no_integer(words: &mut Words, tables: &[Value], kind: &str, key: &str, most: i64) {
-    for number in 0..tables.len() {
-        let found = integer_at(&tables[number], key);
+    for (number, row) in tables.iter().enumerate() {
+        let found = integer_at(row, key);
         if found < 1 || found > most {
             push_row(words, kind, tables, number);
-            say!(words; Found: "the {key} {found}");
-            return say!(words; Wanted: "a {key} from 1 to {most}");
+            say!(words; Found: "the {} {}", key, found);
+            return say!(words; Wanted: "a {} from 1 to {}", key, most);
         }
     }
 }
@@ -104,12 +103,12 @@ fn push_no_owners(words: &mut Words, affinities: &[Value], maps: &[Value]) {
 }
 
 fn push_owners_among(words: &mut Words, named: &Named<'_>, maps: &[Value]) {
-    for number in 0..maps.len() {
-        let owners = rows(&maps[number], "to");
+    for (number, row) in maps.iter().enumerate() {
+        let owners = rows(row, "to");
         let found = owners.len();
         if found == 0 || found > MAX_OWNERS {
             push_row(words, "map", maps, number);
-            say!(words; Found: "{found} names in to");
+            say!(words; Found: "{} names in to", found);
             return say!(words; Wanted: "1 to {} names", MAX_OWNERS);
         }
         if let Some(owner) = stranger(named, owners) {
@@ -120,19 +119,14 @@ fn push_owners_among(words: &mut Words, named: &Named<'_>, maps: &[Value]) {
 }
 
 fn push_stranger(words: &mut Words, owner: &str) {
-    say!(words; Found: "`{}` in to, which no affinity has as its name", Shown(owner.as_bytes()));
+    say!(words; Found: "`{}` in to, which no affinity has as its name", owner.as_bytes());
     say!(words; Wanted: "names of affinities");
 }
 
 /// The first owner that is no affinity.
 fn stranger<'a>(named: &Named<'_>, owners: &'a [Value]) -> Option<&'a str> {
-    for owner in owners {
-        let name = owner.as_str().unwrap_or("");
-        if named.place_of(name).is_none() {
-            return Some(name);
-        }
-    }
-    None
+    let mut names = owners.iter().map(|owner| owner.as_str().unwrap_or(""));
+    names.find(|name| named.place_of(name).is_none())
 }
 
 /// Appends that there are too many cells.
@@ -142,6 +136,6 @@ fn push_cells(words: &mut Words, spaces: &[Value]) {
         cells = cells.saturating_add(integer_at(row, "size"));
     }
     say!(words; Where: "hierarchy, space");
-    say!(words; Found: "{cells} cells over all spaces");
+    say!(words; Found: "{} cells over all spaces", cells);
     say!(words; Wanted: "{} cells or fewer", MAX_CELLS);
 }

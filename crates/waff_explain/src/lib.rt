@@ -11,7 +11,7 @@
 //! - `sizes`: how much there is where nothing is wrong.
 //! - `verdicts`: a verdict, over `hearing` (a case, and the plan that was given for it).
 //!
-//! `words` has the lines, each with its head, and `shown` how a line shows bytes of a file. `walk`
+//! `words` has the lines, each with its head, and `said` the values that stand in them. `walk`
 //! goes over the records of CSV and tells where each stands. What is refused is the matter of the
 //! readers, which decide: these words look at the refused bytes again and tell what the readers saw.
 //! What was accepted is lent to them. Each line begins with one of the heads (`AreHeadedLines`).
@@ -26,7 +26,7 @@ mod layouts;
 mod named;
 mod operations;
 mod plan_texts;
-mod shown;
+mod said;
 mod sizes;
 mod traces;
 mod verdicts;

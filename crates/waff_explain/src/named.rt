@@ -18,8 +18,8 @@ impl<'a> Named<'a> {
         let mut named = Named {
             places: HashMap::new(words.alloc()),
         };
-        for number in 0..tables.len() {
-            named.add(words, text_at(&tables[number], key), number);
+        for (number, row) in tables.iter().enumerate() {
+            named.add(words, text_at(row, key), number);
         }
         named
     }

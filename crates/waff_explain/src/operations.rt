@@ -1,8 +1,6 @@
 //! What is wrong with an operation of a message.
 
-use crate::shown::Shown;
 use crate::words::{Words, say};
-use std::fmt;
 use waff_model::{Layout, is_name};
 use waff_parse::{cut, number};
 use waff_read::TraceError;
@@ -43,34 +41,31 @@ impl<'a> Flaw<'a> {
 
     /// Appends what was found, and what is wanted.
     pub(crate) fn push_words(self, words: &mut Words, piece: u64, op: &str) {
-        say!(words; Found: "operation {piece}, `{}`: {self}", Shown(op.as_bytes()));
+        let op = op.as_bytes();
         match self {
-            Flaw::Words =>
-                say!(words; Wanted: "`set C N`, `add C N`, `copy C D`, `swap C D` or `read C`"),
-            Flaw::Cell(_) =>
-                say!(words; Wanted: "a cell: a name, `:` and a number without a leading zero"),
-            Flaw::Number(_) =>
-                say!(words; Wanted: "a number from 0 to {} without a leading zero", u64::MAX),
-            Flaw::Space(_) => say!(words; Wanted: "the name of a space of the hierarchy"),
-            Flaw::Index(_, size) =>
-                say!(words; Wanted: "a number below the size of the space, which is {size}"),
-        }
-    }
-}
-
-impl<'a> fmt::Display for Flaw<'a> {
-    fn fmt<W: fmt::Write>(&self, f: &mut fmt::Formatter<W>) -> fmt::Result {
-        match *self {
-            Flaw::Words => write!(f, "these words are no operation"),
-            Flaw::Cell(word) => write!(f, "`{}` is no cell", Shown(word.as_bytes())),
-            Flaw::Number(word) => write!(f, "`{}` is no number in range", Shown(word.as_bytes())),
-            Flaw::Space(name) => write!(f, "no space has the name `{name}`"),
-            Flaw::Index(word, _) => {
-                write!(
-                    f,
-                    "`{}` is behind the end of its space",
-                    Shown(word.as_bytes())
-                )
+            Flaw::Words => {
+                say!(words; Found: "operation {}, `{}`: these words are no operation", piece, op);
+                say!(words; Wanted: "`set C N`, `add C N`, `copy C D`, `swap C D` or `read C`");
+            }
+            Flaw::Cell(word) => {
+                let word = word.as_bytes();
+                say!(words; Found: "operation {}, `{}`: `{}` is no cell", piece, op, word);
+                say!(words; Wanted: "a cell: a name, `:` and a number without a leading zero");
+            }
+            Flaw::Number(word) => {
+                let word = word.as_bytes();
+                say!(words; Found: "operation {}, `{}`: `{}` is no number in range", piece, op, word);
+                say!(words; Wanted: "a number from 0 to {} without a leading zero", u64::MAX);
+            }
+            Flaw::Space(name) => {
+                say!(words; Found: "operation {}, `{}`: no space has the name `{}`", piece, op, name);
+                say!(words; Wanted: "the name of a space of the hierarchy");
+            }
+            Flaw::Index(word, size) => {
+                let word = word.as_bytes();
+                say!(words; Found: "operation {}, `{}`: `{}` is behind the end of its space",
+                    piece, op, word);
+                say!(words; Wanted: "a number below the size of the space, which is {}", size);
             }
         }
     }

@@ -4,7 +4,6 @@ ghost use Rattle.std.specs.Prelude.{IfOk, string_bytes};
 ghost use Rattle.waff_explain.specs.Lines.{AreHeadedLines};
 
 use crate::fields::{push_no_name, push_no_number, push_no_text};
-use crate::shown::Shown;
 use crate::walk::{Walk, find_behind_header};
 use crate::words::{Words, say};
 use std::alloc::{AllocError, Global};
@@ -60,8 +59,8 @@ fn push_fault(words: &mut Words, messages: u32, walk: &Walk<'_>, fault: PlanText
         }
         PlanTextError::Row { .. } => push_no_row(words, messages, walk),
         PlanTextError::Missing { message } => {
-            say!(words; Found: "no row of message {message}");
-            say!(words; Wanted: "a row of each message from 1 to {messages}");
+            say!(words; Found: "no row of message {}", message);
+            say!(words; Wanted: "a row of each message from 1 to {}", messages);
         }
         PlanTextError::TooLarge { .. } => push_too_large(words, walk),
         _ => {}
@@ -92,7 +91,7 @@ fn summary_of(words: &mut Words, bytes: &[u8]) -> u64 {
 fn push_no_row(words: &mut Words, messages: u32, walk: &Walk<'_>) {
     let fields = walk.len();
     if fields != 5 {
-        say!(words; Found: "fields: {fields}");
+        say!(words; Found: "fields: {}", fields);
         return say!(words; Wanted:
             "five fields: a message, an affinity, a start, a finish and a worker");
     }
@@ -113,36 +112,33 @@ fn push_no_times(words: &mut Words, walk: &Walk<'_>) {
     if number(walk.field(3)).is_none() {
         return push_no_number(words, "finish", walk.field(3), 0, MAX_TICK);
     }
-    say!(words; Found: "the worker `{}`", Shown(walk.bytes(4)));
+    say!(words; Found: "the worker `{}`", walk.bytes(4));
     say!(words; Wanted: "a number without a leading zero, or `-` in a plan without workers");
 }
 
 /// Appends which record is the first row of the message.
 fn push_twice(words: &mut Words, bytes: &[u8], message: &str) {
     let (first, _) = find_behind_header(words, bytes, message);
-    say!(words; Found: "a row of message {message}, which has one in record {first}");
+    say!(words; Found: "a row of message {}, which has one in record {}", message, first);
     say!(words; Wanted: "one row of each message");
 }
 
 /// Appends which field is above the limit.
 fn push_too_large(words: &mut Words, walk: &Walk<'_>) {
     if let Some(place) = too_large(walk) {
-        let found = Shown(walk.field(place).as_bytes());
+        let found = walk.bytes(place);
         let number = place.saturating_add(1);
-        say!(words; Found: "the number {found} in field {number}");
+        say!(words; Found: "the number {} in field {}", found, number);
         say!(words; Wanted: "a number from 0 to {}", MAX_TICK);
     }
 }
 
 /// The first field behind the first that is a number above the limit.
 fn too_large(walk: &Walk<'_>) -> Option<usize> {
-    for place in 1..walk.len() {
-        let field = walk.field(place);
-        if number(field).is_some() && number_within(field, 0, MAX_TICK).is_none() {
-            return Some(place);
-        }
-    }
-    None
+    (1..walk.len()).find(|place| {
+        let field = walk.field(*place);
+        number(field).is_some() && number_within(field, 0, MAX_TICK).is_none()
+    })
 }
 
 /// Appends which line of the summary was wanted, by how many come before it.
@@ -157,8 +153,8 @@ fn push_no_line(words: &mut Words, version: Version, messages: u32, before: u64)
         1 => say!(words; Wanted: "`total,N`"),
         2 => say!(words; Wanted: "`length,N`"),
         3 => say!(words; Wanted:
-            "`chain,` and numbers from 1 to {messages} joined by one space, \
-             {messages} of them or fewer"),
+            "`chain,` and numbers from 1 to {} joined by one space, {} of them or fewer",
+            messages, messages),
         4 => say!(words; Wanted: "`release,N`"),
         5 => say!(words; Wanted: "`cost,N`"),
         6 => say!(words; Wanted: "`bound,N,N`"),

@@ -3,7 +3,7 @@
 ghost use Rattle.std.specs.Prelude.{IfOk, string_bytes};
 ghost use Rattle.waff_explain.specs.Lines.{AreHeadedLines};
 
-use crate::words::{Head, Words, say};
+use crate::words::{Words, say};
 use std::alloc::{AllocError, Global};
 use waff_model::{Layout, Trace};
 
@@ -27,8 +27,8 @@ pub(crate) fn push_sizes(words: &mut Words, layout: &Layout, trace: Option<&Trac
     let cells = cell_count(layout);
     match trace {
         Some(trace) =>
-            say!(words; Affinities: "{affinities}, cells: {cells}, messages: {}", trace.len()),
-        None => say!(words; Affinities: "{affinities}, cells: {cells}"),
+            say!(words; Affinities: "{}, cells: {}, messages: {}", affinities, cells, trace.len()),
+        None => say!(words; Affinities: "{}, cells: {}", affinities, cells),
     }
 }
 

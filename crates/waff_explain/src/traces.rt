@@ -73,7 +73,7 @@ fn push_fault(
         }
         TraceError::Fields { .. } => {
             say!(words; Found: "fields: {}", walk.len());
-            say!(words; Wanted: "fields: {fields}, as the header has");
+            say!(words; Wanted: "fields: {}, as the header has", fields);
         }
         TraceError::Name { .. } => push_no_name(words, "name", walk.field(0)),
         TraceError::Cost { .. } => {

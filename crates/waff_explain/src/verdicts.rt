@@ -60,19 +60,19 @@ fn push_overlap(words: &mut Words, hearing: &Hearing<'_>, first: u32, second: u3
     let (start, end) = (hearing.start(second), hearing.end(first));
     hearing.push_message(words, first);
     hearing.push_message(words, second);
-    say!(words; Found:
-        "message {second} starts at {start}, before message {first} has finished at {end}");
+    say!(words; Found: "message {} starts at {}, before message {} has finished at {}",
+        second, start, first, end);
     hearing.push_exclusion(words, first, second);
-    say!(words; Wanted: "message {second} starts at {end} or later");
+    say!(words; Wanted: "message {} starts at {} or later", second, end);
 }
 
 /// Appends the messages that run at a tick, one more than there are workers.
 fn push_crowd(words: &mut Words, hearing: &Hearing<'_>, tick: u64) {
     let workers = hearing.workers();
-    say!(words; Where: "plan, tick {tick}");
+    say!(words; Where: "plan, tick {}", tick);
     let running = push_running(words, hearing, tick, workers);
-    say!(words; Found: "running at tick {tick}: {running}");
-    say!(words; Wanted: "{workers} or fewer, the number of workers");
+    say!(words; Found: "running at tick {}: {}", tick, running);
+    say!(words; Wanted: "{} or fewer, the number of workers", workers);
 }
 
 /// Appends the first messages that run at a tick, one more than this many; how many run.
@@ -95,55 +95,56 @@ fn push_worker(words: &mut Words, hearing: &Hearing<'_>, message: u32) {
     hearing.push_message(words, message);
     let Some(worker) = hearing.worker(message) else {
         say!(words; Found: "no worker");
-        return say!(words; Wanted: "a worker from 1 to {workers}, as the plan has workers");
+        return say!(words; Wanted: "a worker from 1 to {}, as the plan has workers", workers);
     };
     if 1 <= worker && worker <= workers {
         return push_taken(words, hearing, message, worker);
     }
-    say!(words; Found: "worker {worker}");
+    say!(words; Found: "worker {}", worker);
     if workers == 0 {
         say!(words; Wanted: "`-`, as the plan has no workers");
     } else {
-        say!(words; Wanted: "a worker from 1 to {workers}");
+        say!(words; Wanted: "a worker from 1 to {}", workers);
     }
 }
 
 /// Appends which message of lower number the worker runs at a tick of the message.
 fn push_taken(words: &mut Words, hearing: &Hearing<'_>, message: u32, worker: u64) {
-    for other in 1..message {
-        if hearing.worker(other) == Some(worker) && hearing.run_together(other, message) {
-            return push_both(words, hearing, message, worker, other);
-        }
+    let is_taken = |other: &u32| {
+        hearing.worker(*other) == Some(worker) && hearing.run_together(*other, message)
+    };
+    if let Some(other) = (1..message).find(is_taken) {
+        push_both(words, hearing, message, worker, other);
     }
 }
 
 /// Appends the message that the worker runs at a tick of another.
 fn push_both(words: &mut Words, hearing: &Hearing<'_>, message: u32, worker: u64, other: u32) {
     hearing.push_message(words, other);
-    say!(words; Found: "worker {worker} runs message {other} at a tick of message {message}");
+    say!(words; Found: "worker {} runs message {} at a tick of message {}", worker, other, message);
     say!(words; Wanted: "a worker that runs no message of lower number at that time");
 }
 
 fn push_affinity(words: &mut Words, hearing: &Hearing<'_>, message: u32) {
     hearing.push_message(words, message);
     let (told, affinity) = (hearing.told_affinity(message), hearing.affinity(message));
-    say!(words; Found: "the affinity {told}");
-    say!(words; Wanted:
-        "the affinity {affinity}, the lowest one that covers the cells of message {message}");
+    say!(words; Found: "the affinity {}", told);
+    say!(words; Wanted: "the affinity {}, the lowest one that covers the cells of message {}",
+        affinity, message);
 }
 
 fn push_finish(words: &mut Words, hearing: &Hearing<'_>, message: u32) {
     hearing.push_message(words, message);
     let (told, end) = (hearing.told_finish(message), hearing.end(message));
-    say!(words; Found: "the finish {told}");
-    say!(words; Wanted: "the finish {end}, which is start and cost");
+    say!(words; Found: "the finish {}", told);
+    say!(words; Wanted: "the finish {}, which is start and cost", end);
 }
 
 fn push_early(words: &mut Words, hearing: &Hearing<'_>, message: u32) {
     hearing.push_message(words, message);
     let (start, release) = (hearing.start(message), hearing.release(message));
-    say!(words; Found: "message {message} starts at {start}, before its release");
-    say!(words; Wanted: "message {message} starts at {release} or later");
+    say!(words; Found: "message {} starts at {}, before its release", message, start);
+    say!(words; Wanted: "message {} starts at {} or later", message, release);
 }
 
 /// Appends the lines of the summary that are wrong.
@@ -166,8 +167,8 @@ fn push_differences(words: &mut Words, told: Totals, made: Totals) {
 
 fn push_difference(words: &mut Words, what: &str, told: u64, made: u64) {
     if told != made {
-        say!(words; Found: "the {what} {told}");
-        say!(words; Wanted: "the {what} {made}");
+        say!(words; Found: "the {} {}", what, told);
+        say!(words; Wanted: "the {} {}", what, made);
     }
 }
 
@@ -179,13 +180,16 @@ fn push_no_link(words: &mut Words, hearing: &Hearing<'_>, place: u64) {
     hearing.push_facts(words, before);
     hearing.push_facts(words, message);
     if message <= before {
-        say!(words; Found: "message {message} at place {place} of the chain, \
-            which does not come after message {before}");
+        say!(words; Found:
+            "message {} at place {} of the chain, which does not come after message {}",
+            message, place, before);
     } else {
-        say!(words; Found: "message {message} at place {place} of the chain, \
-            whose affinity and that of message {before} do not exclude each other");
+        say!(words; Found:
+            "message {} at place {} of the chain, whose affinity and that of message {} do not \
+             exclude each other",
+            message, place, before);
     }
-    say!(words; Wanted: "a message behind message {before}, their affinities exclude each other");
+    say!(words; Wanted: "a message behind message {}, their affinities exclude each other", before);
 }
 
 /// Appends how good a plan is that has no fault.
@@ -199,11 +203,13 @@ fn push_no_fault(words: &mut Words, hearing: &Hearing<'_>, verdict: Verdict) {
         ..
     } = hearing.given.summary().totals;
     match verdict {
-        Verdict::Shortest => say!(words; Found: "no fault, and no plan that obeys is shorter: \
-            the chain's release {release} and cost {cost} make the length {length}"),
-        Verdict::WithinBound =>
-            say!(words; Found: "no fault, and the plan is within the bound for its workers: \
-            {left} is at most {right}"),
+        Verdict::Shortest => say!(words; Found:
+            "no fault, and no plan that obeys is shorter: the chain's release {} and cost {} make \
+             the length {}",
+            release, cost, length),
+        Verdict::WithinBound => say!(words; Found:
+            "no fault, and the plan is within the bound for its workers: {} is at most {}",
+            left, right),
         _ => say!(words; Found: "no fault, and no more is known of how short the plan is"),
     }
 }

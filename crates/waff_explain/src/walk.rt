@@ -1,6 +1,5 @@
 //! The records of CSV in turn, and where each stands.
 
-use crate::shown::Shown;
 use crate::words::{Words, say};
 use csv::{ByteRecord, Reader};
 use std::alloc::Global;
@@ -101,7 +100,7 @@ impl<'a> Walk<'a> {
         if self.go_to(at) {
             self.push_place(words, file);
         } else {
-            say!(words; Where: "{file}, its end, where record {at} would stand");
+            say!(words; Where: "{}, its end, where record {} would stand", file, at);
         }
     }
 
@@ -114,7 +113,7 @@ impl<'a> Walk<'a> {
         let whole = part(self.bytes, from, self.rdr.position().byte());
         let (blank, record) = split_ends(whole);
         let (at, line) = (self.at, line.saturating_add(feeds(blank)));
-        say!(words; Where: "{file}, record {at}, line {line}: {}", Shown(record));
+        say!(words; Where: "{}, record {}, line {}: {}", file, at, line, record);
     }
 }
 
@@ -174,11 +173,5 @@ fn is_end(byte: u8) -> bool {
 
 /// How many line feeds there are.
 pub(crate) fn feeds(bytes: &[u8]) -> u64 {
-    let mut feeds: u64 = 0;
-    for byte in bytes {
-        if *byte == b'\n' {
-            feeds = feeds.saturating_add(1);
-        }
-    }
-    feeds
+    bytes.iter().filter(|byte| **byte == b'\n').count() as u64
 }

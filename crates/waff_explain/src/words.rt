@@ -1,8 +1,9 @@
 //! The lines of an explanation, which grow in number.
 
-ghost use Rattle.std.specs.Prelude.{◌≡◌, Some, IfOk, List, ℕ, string_bytes};
-ghost use Rattle.waff_explain.specs.Lines.{IsHeadedLine, AreHeadedLines, head_text};
+ghost use Rattle.std.specs.Prelude.{◌≡◌, Some, IfOk, List, ℕ, length, string_bytes};
+ghost use Rattle.waff_explain.specs.Lines.{IsHeadedLine, AreHeadedLines, head_text, places};
 
+use crate::said::Said;
 use std::alloc::{AllocError, Global};
 use std::fmt;
 use std::marker::Model;
@@ -40,14 +41,38 @@ impl fmt::Display for Head {
     }
 }
 
-/// Appends to words a line with a head, which has what a format makes.
+/// Appends to words a line with a head: a sentence, with the values that stand in it at each `{}`.
 macro_rules! say {
-    ($words:expr; $head:ident: $($said:tt)+) => {
-        $words.say($crate::words::Head::$head, format_args!($($said)+))
+    ($words:expr; $head:ident $(($number:expr))?: $format:literal) => {
+        $words.say($crate::words::Head::$head $(($number))?, $format, &[])
     };
+    ($words:expr; $head:ident $(($number:expr))?: $format:literal, $($value:expr),+) => {{
+        let values = [$($crate::said::Said::from($value)),+];
+        $words.say($crate::words::Head::$head $(($number))?, $format, &values);
+    }};
 }
 
 pub(crate) use say;
+
+/// What a line says behind its head.
+#[derive(Clone, Copy)]
+struct Sentence<'a> {
+    format: &'a str,
+    values: &'a [Said<'a>],
+}
+
+impl<'a> fmt::Display for Sentence<'a> {
+    fn fmt<W: fmt::Write>(&self, f: &mut fmt::Formatter<W>) -> fmt::Result {
+        let mut pieces = self.format.split("{}");
+        if let Some(piece) = pieces.next() {
+            f.write_str(piece)?;
+        }
+        for (value, piece) in self.values.iter().zip(pieces) {
+            write!(f, "{value}{piece}")?;
+        }
+        Ok(())
+    }
+}
 
 /// Lines of an explanation. Where memory is refused they keep that, and what comes then is left
 /// out, so that only their end has to be asked.
@@ -94,9 +119,11 @@ impl Words {
         self.is_refused = true;
     }
 
-    /// Appends a line with this head.
-    pub fn say<D: fmt::Display + Drop>(&mut self, head: Head, said: D) {
-        match line_of(self.alloc(), head, said) {
+    /// Appends a line with this head: the sentence of a format, with a value for each `{}`.
+    pub fn say(&mut self, head: Head, format: &str, values: &[Said<'_>])
+        requires filled { places format.now ≡ length values.now }
+    {
+        match line_of(self.alloc(), head, Sentence { format, values }) {
             Ok(line) => self.push(line.as_str()),
             Err(_) => self.refuse(),
         }
@@ -111,8 +138,8 @@ impl Words {
     }
 }
 
-/// A line with this head: what is said, up to a line feed.
-fn line_of<D: fmt::Display + Drop>(alloc: Global, head: Head, said: D) -> Result<String, AllocError>
+/// A line with this head: the sentence, up to a line feed.
+fn line_of(alloc: Global, head: Head, said: Sentence<'_>) -> Result<String, AllocError>
     ensures { IfOk result (λ line. IsHeadedLine (string_bytes line)) }
 {
     let said = format!(in alloc; "{said}")?;

@@ -3,7 +3,7 @@ use Rattle.waff_explain.proofs.LineLaws.{parts-free}
 use Rattle.waff_explain.proofs.words.line_of.Goals as goal
 
 pub returns : goal.returns
-returns g c =
+returns c =
     IfOk-weaker c.format-2.result _ _
     (λ line is. record {
       head = c.args.head;
