@@ -1,5 +1,7 @@
 -- The work of the messages of a trace, and the order of their needs.
-use Rattle.std.proofs.Common.{◌≡◌, ℕ, ◌-◌, ◌^◌, ◌<◌, ◌≤◌, List, [], length, get_or, arith, subst, sym, ◌∙◌}
+use Rattle.std.proofs.Common.{◌≡◌, ℕ, ◌-◌, ◌^◌, ◌<◌, ◌≤◌, List, [], length, get_or, map, arith, subst, sym, ap, ◌∙◌}
+use Rattle.std.proofs.Math.ListN.{get_or-map as read}
+use Rattle.std.proofs.Math.Path.{fun_ext}
 use Rattle.std.proofs.lemmas.List.{get_or-map, length-map}
 use Rattle.waff_model.specs.declared.message.Message.{Message}
 use Rattle.waff_model.specs.Messages.{Arrivals, IsMessage, IsTrace}
@@ -10,6 +12,8 @@ use Rattle.waff_plan.specs.Timetable.{timings_of}
 use Rattle.waff_plan.specs.declared.timing.Timing.{Timing}
 use Rattle.waff_order.specs.Needs.{IsNeed, AreLists}
 use Rattle.waff_order.proofs.NeedLemmas.{need_within}
+use Rattle.waff_list.specs.Load.{released_at}
+use Rattle.waff_list.specs.Planning.{task_work}
 use Rattle.waff_list.specs.Progress.{work_of_messages, IsSmall}
 use Rattle.waff_list.specs.declared.task.Task.{Task}
 
@@ -58,8 +62,16 @@ needs_forward needs work lists same = record {
   to = λ i j h. let within = need_within needs i j h in omega (arith, within);
 }
 
-pub lengths_of : (task : Task) → length task.needs.now ≡ (work_of_messages task.trace.now.messages).count
+pub lengths_of : (task : Task) → length task.needs.now ≡ (task_work task).count
 lengths_of task = task.lengths ∙ sym (count_is task.trace.now.messages)
 
-pub forward_of : (task : Task) → IsForward (IsNeed task.needs.now) (work_of_messages task.trace.now.messages)
-forward_of task = needs_forward task.needs.now (work_of_messages task.trace.now.messages) task.lists (lengths_of task)
+pub forward_of : (task : Task) → IsForward (IsNeed task.needs.now) (task_work task)
+forward_of task = needs_forward task.needs.now (task_work task) task.lists (lengths_of task)
+
+-- with their own releases messages are the same work
+pub own_releases : (messages : List Message) → released_at (map (λ message. message.release) messages) (work_of_messages messages) ≡ work_of_messages messages
+own_releases messages =
+    let work = work_of_messages messages in
+    let timing : Message → Timing = λ x. record { cost = x.cost; release = x.release } in
+    ap (λ (release : ℕ → ℕ). let own : Work = record { count = work.count; cost = work.cost; release = release } in own)
+    (fun_ext (λ m. read (λ (x : Message). x.release) messages (m - 1) nobody ∙ sym (ap (λ (t : Timing). t.release) (read timing messages (m - 1) nobody))))

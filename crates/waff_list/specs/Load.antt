@@ -15,6 +15,15 @@ pub record Load : Type 0 where
 abbrev pub priority_of : List ℕ → ℕ → ℕ
 priority_of priorities m = slice_index priorities (m - 1)
 
+-- the release of message m, from 1; 0 where none is listed
+abbrev pub release_of : List ℕ → ℕ → ℕ
+release_of releases m = slice_index releases (m - 1)
+
+-- work with these releases in place of its own
+abbrev pub released_at : List ℕ → Work → Work
+released_at releases work =
+    record { count = work.count; cost = work.cost; release = λ m. release_of releases m }
+
 -- a message is before those that need it
 abbrev pub before_in : Load → Relation
 before_in load = IsNeed load.needs

@@ -3,19 +3,23 @@ use Rattle.std.specs.Prelude.{◌≡◌, ℕ, ◌+◌, ◌-◌, ◌≤◌, List,
 use Rattle.std.specs.List.Sorted.{IsPermutation}
 use Rattle.waff_model.specs.Numbers.{IsAmongFirst}
 use Rattle.waff_plan.specs.Work.{Work}
-use Rattle.waff_list.specs.Load.{Load, Placed, Pending}
+use Rattle.waff_list.specs.Load.{Load, Placed, Pending, released_at}
 use Rattle.waff_list.specs.Progress.{work_of_messages}
 use Rattle.waff_list.specs.Waiting.{left_of, running_needs, IsReleased, StayReady}
 use Rattle.waff_list.specs.declared.progress.Progress.{Progress}
 use Rattle.waff_list.specs.declared.task.Task.{Task}
 use Rattle.waff_list.specs.declared.waiting.Waiting.{Waiting}
 
+-- the work of a task
+abbrev pub task_work : Task → Work
+task_work task = released_at task.releases.items (work_of_messages task.trace.now.messages)
+
 -- what is planned of a task with these priorities
 abbrev pub load_of : Task → List ℕ → Load
 load_of task priorities = record {
   needs = task.needs.now;
   priorities = priorities;
-  work = work_of_messages task.trace.now.messages;
+  work = task_work task;
   workers = task.workers;
 }
 

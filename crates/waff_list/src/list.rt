@@ -8,7 +8,6 @@ ghost use Rattle.waff_plan.specs.Timetable.{starts_in, timings_of, work_in};
 ghost use Rattle.waff_order.specs.Needs.{IsNeed};
 ghost use Rattle.waff_list.specs.Bound.{IsSomeListPlan};
 ghost use Rattle.waff_list.specs.ListRule.{IsListPlan, arrival};
-ghost use Rattle.waff_list.specs.Load.{priority_of};
 ghost use Rattle.waff_list.specs.Rules.{IsPlanBy};
 ghost use Rattle.waff_list.specs.Seats.{IsInOrder};
 ghost use Rattle.waff_list.specs.Seating.{worker_of};
@@ -18,6 +17,7 @@ use crate::WorkerPlan;
 use crate::planner::make;
 use crate::rule::Rule;
 use crate::tails::tails;
+use crate::work::releases;
 use std::alloc::{AllocError, Global};
 use waff_assign::Assigned;
 use waff_model::{Trace, Tree};
@@ -67,33 +67,12 @@ pub fn list_plan_by(
     ensures order { IfOk result (λ made.
         IsInOrder (work_in made.plan) (starts_in made.plan) made.order) }
 {
+    let releases = releases(alloc, trace)?;
     let priorities = match rule {
         Rule::Arrival => Vec::new(alloc),
         Rule::Longest => tails(alloc, needs, trace)?,
     };
-    planned(alloc, needs, trace, k, priorities)
-}
-
-/// The plan for k workers by these priorities. A message that is not listed has the priority 0.
-fn planned(
-    alloc: Global,
-    needs: &Needs,
-    trace: &Trace,
-    k: u32,
-    priorities: Vec<u64>,
-) -> Result<WorkerPlan, AllocError>
-    requires lengths { length needs.now ≡ length trace.now.messages }
-    requires workers { IsWorkers k }
-    ensures timings { IfOk result (λ made. made.plan.timings ≡ timings_of trace.now.messages) }
-    ensures workers { IfOk result (λ made. made.workers ≡ k) }
-    ensures follows { IfOk result (λ made. IsListPlan (Path (IsNeed needs.now))
-        (priority_of priorities.items) (work_in made.plan) k (starts_in made.plan)) }
-    ensures seated { IfOk result (λ made. AreSeated
-        (work_in made.plan) (starts_in made.plan) (worker_of made.seats)) }
-    ensures order { IfOk result (λ made.
-        IsInOrder (work_in made.plan) (starts_in made.plan) made.order) }
-{
-    let made = make(alloc, needs, trace, k, priorities)?;
+    let made = make(alloc, needs, trace, k, releases, priorities)?;
     let plan = Plan::of_starts(alloc, trace, made.starts.as_slice())?;
     Ok(WorkerPlan::new(plan, k, made.seats, made.order))
 }

@@ -5,12 +5,13 @@ ghost use Rattle.std.specs.Prelude.{◌≡◌, ℕ, ◌+◌, ◌^◌, ◌<◌, �
 ghost use Rattle.waff_model.specs.Numbers.{IsAmongFirst};
 ghost use Rattle.waff_plan.specs.Bound.{IsWorkers};
 ghost use Rattle.waff_order.specs.Needs.{needs_of};
-ghost use Rattle.waff_list.specs.Load.{Load};
+ghost use Rattle.waff_list.specs.Load.{Load, released_at};
 ghost use Rattle.waff_list.specs.Progress.{work_of_messages, GoesOn, IsKept, IsMade, IsProgress};
 ghost use Rattle.waff_list.specs.Progress.{IsSmall};
 ghost use Rattle.waff_list.specs.Waiting.{AreManned, ArePassed, AreReleases, FallAlike};
 ghost use Rattle.waff_list.specs.Waiting.{HaveFinished, left_of, times};
 ghost use Rattle.waff_list.specs.Planning.{AreCounted, Wakes, load_of, pending_in, placed_in};
+ghost use Rattle.waff_list.specs.Planning.{task_work};
 
 use crate::chosen::Chosen;
 use crate::finishes::Finishes;
@@ -25,12 +26,14 @@ use std::alloc::{AllocError, Global};
 use waff_model::Trace;
 use waff_order::Needs;
 
-/// Makes the plan for k workers by these priorities. A message that is not listed has the priority 0.
+/// Makes the plan for k workers by these releases and priorities. A message that is not listed has
+/// the release 0 and the priority 0.
 pub(crate) fn make(
     alloc: Global,
     needs: &Needs,
     trace: &Trace,
     k: u32,
+    releases: Vec<u32>,
     priorities: Vec<u64>,
 ) -> Result<Progress, AllocError>
     requires lengths { length needs.now ≡ length trace.now.messages }
@@ -38,11 +41,11 @@ pub(crate) fn make(
     ensures { IfOk result (λ made. IsMade (record {
       needs = needs.now;
       priorities = priorities.items;
-      work = work_of_messages trace.now.messages;
+      work = released_at releases.items (work_of_messages trace.now.messages);
       workers = k;
     }) (placed_in made)) }
 {
-    let task = Task::new(alloc, needs, trace, k)?;
+    let task = Task::new(alloc, needs, trace, releases, k)?;
     let mut waiting = Waiting::new(alloc, needs, priorities)?;
     let made = begin(alloc, &task, &mut waiting);
     drop(waiting);
@@ -57,7 +60,7 @@ fn begin(alloc: Global, task: &Task, waiting: &mut Waiting) -> Result<Progress, 
     ensures { IfOk result (λ made.
         IsMade (load_of task.now waiting.old.ready.priorities) (placed_in made)) }
 {
-    let mut releases = Releases::new(alloc, task.trace)?;
+    let mut releases = Releases::new(alloc, task)?;
     releases.pass(0, waiting.left.as_slice(), &mut waiting.ready)?;
     let mut progress = Progress::new(alloc, task.needs.len(), task.workers)?;
     let mut chosen = Chosen::none(alloc);
@@ -83,9 +86,9 @@ fn go_on(
     requires kept { IsKept (load_of task.now waiting.old.ready.priorities)
         (placed_in progress.old) (pending_in progress.old waiting.old) 0 }
     requires releases { AreReleases
-        (work_of_messages task.now.trace.now.messages) releases.old.sorted.items }
+        (task_work task.now) releases.old.sorted.items }
     requires passed { ArePassed releases.old.sorted.items releases.old.passed 0 }
-    requires small { IsSmall (work_of_messages task.now.trace.now.messages) }
+    requires small { IsSmall (task_work task.now) }
     ensures { IfOk result (λ _.
         IsMade (load_of task.now waiting.old.ready.priorities) (placed_in progress.new)) }
 {
@@ -127,7 +130,7 @@ fn fill(
         (placed_in progress.old) (pending_in progress.old waiting.old) now }
     ensures filled { IfOk result (λ _. GoesOn (load_of task.now waiting.old.ready.priorities)
         progress.old.starts.items (placed_in progress.new)
-        now ((work_of_messages task.now.trace.now.messages).count + 1) (now + 1)) }
+        now ((task_work task.now).count + 1) (now + 1)) }
     ensures kept { IfOk result (λ _. IsKept (load_of task.now waiting.old.ready.priorities)
         (placed_in progress.new) (pending_in progress.new waiting.new) now) }
     ensures priorities { IfOk result (λ _.
@@ -157,7 +160,7 @@ fn wake(
     requires seats { length seats.now ≡ length task.now.trace.now.messages }
     ensures counts { OnOk result (FallAlike task.now.needs.now finishes.old waiting.old.left.items
         finishes.new waiting.new.left.items) }
-    ensures wakes { OnOk result (Wakes (work_of_messages task.now.trace.now.messages) now
+    ensures wakes { OnOk result (Wakes (task_work task.now) now
         waiting.old waiting.new) }
     ensures finished { OnOk result (HaveFinished next finishes.old finishes.new) }
     ensures manned { OnOk result ((workers : ℕ) → AreManned workers seats.now finishes.old idle.old
@@ -179,13 +182,13 @@ fn tell_all(task: &Task, m: u32, now: u64, waiting: &mut Waiting) -> Result<(), 
     ensures counts { OnOk result ((d : ℕ) → 1 ≤ d → d ≤ length task.now.needs.now
         → left_of waiting.new.left.items d + times m (needs_of task.now.needs.now d)
         ≡ left_of waiting.old.left.items d) }
-    ensures wakes { OnOk result (Wakes (work_of_messages task.now.trace.now.messages) now
+    ensures wakes { OnOk result (Wakes (task_work task.now) now
         waiting.old waiting.new) }
 {
     let mut at = task.dependents.first(m);
     while at > 0 {
         let link = task.dependents.link(at);
-        waiting.tell(task.trace, link.message, now)?;
+        waiting.tell(task, link.message, now)?;
         at = link.next;
     }
     Ok(())

@@ -4,13 +4,14 @@ ghost use Rattle.std.specs.Prelude.{◌≡◌, ℕ, ◌<◌, ◌≤◌, length, 
 ghost use Rattle.waff_model.specs.Numbers.{IsAmongFirst};
 ghost use Rattle.std.specs.Prelude.{slice_index_or};
 ghost use Rattle.waff_plan.specs.Work.{Work};
-ghost use Rattle.waff_list.specs.Progress.{work_of_messages, IsSmall};
+ghost use Rattle.waff_list.specs.Planning.{task_work};
+ghost use Rattle.waff_list.specs.Progress.{IsSmall};
 ghost use Rattle.waff_list.specs.Waiting.{AreReleases, ArePassed, IsPassed, IsNextRelease, StayReady};
 
 use crate::candidates::Candidates;
-use crate::work::{NEVER, release_of};
+use crate::task::Task;
+use crate::work::NEVER;
 use std::alloc::{AllocError, Global};
-use waff_model::Trace;
 
 /// The release of each message with its number, the first to be released first, and how many have
 /// been released.
@@ -21,16 +22,16 @@ pub(crate) struct Releases {
 }
 
 impl Releases {
-    /// The releases of the messages of the trace, of which none has been passed.
-    pub fn new(alloc: Global, trace: &Trace) -> Result<Self, AllocError>
+    /// The releases of the messages of the task, of which none has been passed.
+    pub fn new(alloc: Global, task: &Task) -> Result<Self, AllocError>
         ensures releases { IfOk result (λ releases.
-            AreReleases (work_of_messages trace.now.messages) releases.sorted.items) }
+            AreReleases (task_work task.now) releases.sorted.items) }
         ensures none { IfOk result (λ releases. releases.passed ≡ 0) }
-        ensures small { IfOk result (λ _. IsSmall (work_of_messages trace.now.messages)) }
+        ensures small { IfOk result (λ _. IsSmall (task_work task.now)) }
     {
-        let mut sorted = Vec::with_capacity(alloc, trace.len() as usize)?;
-        for m in 1..trace.len() + 1 {
-            sorted.push((release_of(trace, m), m))?;
+        let mut sorted = Vec::with_capacity(alloc, task.trace.len() as usize)?;
+        for m in 1..task.trace.len() + 1 {
+            sorted.push((task.release(m), m))?;
         }
         sorted.sort_unstable();
         Ok(Releases { sorted, passed: 0 })

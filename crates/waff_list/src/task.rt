@@ -1,8 +1,9 @@
 //! What is to be planned: the messages of a trace with their needs.
 
-ghost use Rattle.std.specs.Prelude.{◌≡◌, length, IfOk};
+ghost use Rattle.std.specs.Prelude.{◌≡◌, ◌^◌, ◌<◌, ◌≤◌, length, IfOk};
 ghost use Rattle.waff_plan.specs.Bound.{IsWorkers};
 ghost use Rattle.waff_order.specs.Needs.{AreLists};
+ghost use Rattle.waff_list.specs.Load.{release_of};
 ghost use Rattle.waff_list.specs.Trails.{AreLinked, trails};
 ghost use Rattle.waff_list.specs.Waiting.{AreDependents};
 
@@ -16,6 +17,8 @@ use waff_order::Needs;
 pub(crate) struct Task<'a> {
     pub needs: &'a Needs,
     pub trace: &'a Trace,
+    /// The tick before which each message may not start. One that is not listed has the release 0.
+    pub releases: Vec<u32>,
     pub dependents: Dependents,
     pub workers: u32,
     ghost lists: { AreLists needs.now },
@@ -26,25 +29,40 @@ pub(crate) struct Task<'a> {
 }
 
 impl<'a> Task<'a> {
-    /// The messages of this trace with these needs, for `k` workers.
+    /// The messages of this trace with these needs and releases, for `k` workers.
     pub fn new(
         alloc: Global,
         needs: &'a Needs,
         trace: &'a Trace,
+        releases: Vec<u32>,
         k: u32,
     ) -> Result<Self, AllocError>
         requires lengths { length needs.now ≡ length trace.now.messages }
         requires workers { IsWorkers k }
         ensures needs { IfOk result (λ task. task.needs.now ≡ needs.entry.now) }
         ensures trace { IfOk result (λ task. task.trace.now ≡ trace.entry.now) }
+        ensures releases { IfOk result (λ task. task.releases.items ≡ releases.items) }
         ensures workers { IfOk result (λ task. task.workers ≡ k) }
     {
         let dependents = Dependents::of_needs(alloc, needs)?;
         Ok(Task {
             needs,
             trace,
+            releases,
             dependents,
             workers: k,
         })
+    }
+
+    /// The release of message `m`, in ticks.
+    pub fn release(&self, m: u32) -> u64
+        requires { 1 ≤ m }
+        ensures release { result ≡ release_of self.now.releases.items m }
+        ensures small { result < 2 ^ 32 }
+    {
+        match self.releases.get(m as usize - 1) {
+            Some(release) => u64::from(*release),
+            None => 0,
+        }
     }
 }

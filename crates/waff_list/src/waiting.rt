@@ -2,13 +2,11 @@
 
 ghost use Rattle.std.specs.Prelude.{◌≡◌, ◌-◌, ◌≤◌, [], length, map, IfOk, OnOk, slice_set};
 ghost use Rattle.waff_plan.specs.Work.{IsNumber};
-ghost use Rattle.waff_list.specs.Progress.{work_of_messages};
 ghost use Rattle.waff_list.specs.Waiting.{left_of};
 
 use crate::candidates::Candidates;
-use crate::work::release_of;
+use crate::task::Task;
 use std::alloc::{AllocError, Global};
-use waff_model::Trace;
 use waff_order::Needs;
 
 /// What is kept of the messages that wait.
@@ -21,7 +19,7 @@ pub(crate) struct Waiting {
 }
 
 impl Waiting {
-    ghost use Rattle.waff_list.specs.Planning.{Wakes};
+    ghost use Rattle.waff_list.specs.Planning.{Wakes, task_work};
 
     /// No need has finished yet, and no message is ready.
     pub fn new(alloc: Global, needs: &Needs, priorities: Vec<u64>) -> Result<Self, AllocError>
@@ -42,18 +40,17 @@ impl Waiting {
 
     /// One need more of message `m` has finished. Where it was the last, and the message has been
     /// released by now, the message is ready.
-    pub fn tell(&mut self, trace: &Trace, m: u32, now: u64) -> Result<(), AllocError>
-        requires number { IsNumber (work_of_messages trace.now.messages) m }
-        requires count { length self.old.left.items ≡ length trace.now.messages }
+    pub fn tell(&mut self, task: &Task, m: u32, now: u64) -> Result<(), AllocError>
+        requires number { IsNumber (task_work task.now) m }
+        requires count { length self.old.left.items ≡ length task.now.trace.now.messages }
         requires some { 1 ≤ left_of self.old.left.items m }
         ensures left { OnOk result (self.new.left.items
             ≡ slice_set self.old.left.items (m - 1) (left_of self.old.left.items m - 1)) }
-        ensures wakes { OnOk result
-            (Wakes (work_of_messages trace.now.messages) now self.old self.new) }
+        ensures wakes { OnOk result (Wakes (task_work task.now) now self.old self.new) }
     {
         let at = m as usize - 1;
         self.left[at] -= 1;
-        if self.left[at] == 0 && release_of(trace, m) <= now {
+        if self.left[at] == 0 && task.release(m) <= now {
             self.ready.push(m)?;
         }
         Ok(())

@@ -1,9 +1,10 @@
-//! The cost and the release of each message of a trace, in ticks.
+//! The costs and the releases of the messages of a trace, in ticks.
 
-ghost use Rattle.std.specs.Prelude.{◌≡◌, ◌^◌, ◌<◌, ◌≤◌, length};
+ghost use Rattle.std.specs.Prelude.{◌≡◌, ◌^◌, ◌<◌, ◌≤◌, length, map, IfOk};
 ghost use Rattle.waff_model.specs.Numbers.{IsAmongFirst};
 ghost use Rattle.waff_list.specs.Progress.{work_of_messages};
 
+use std::alloc::{AllocError, Global};
 use waff_model::Trace;
 
 /// The start of a message that is not placed yet: it is later than every tick.
@@ -19,11 +20,14 @@ pub(crate) fn cost_of(trace: &Trace, m: u32) -> u64
     u64::from(trace.message(m).cost)
 }
 
-/// The tick before which message `m` may not start.
-pub(crate) fn release_of(trace: &Trace, m: u32) -> u64
-    requires number { IsAmongFirst (length trace.now.messages) m }
-    ensures release { result ≡ (work_of_messages trace.now.messages).release m }
-    ensures small { result < 2 ^ 32 }
+/// The tick before which each message may not start.
+pub(crate) fn releases(alloc: Global, trace: &Trace) -> Result<Vec<u32>, AllocError>
+    ensures { IfOk result (λ releases. releases.items
+        ≡ map (λ message. message.release) trace.now.messages) }
 {
-    u64::from(trace.message(m).release)
+    let mut releases = Vec::with_capacity(alloc, trace.len() as usize)?;
+    for m in 1..trace.len() + 1 {
+        releases.push_reserved(trace.message(m).release);
+    }
+    Ok(releases)
 }

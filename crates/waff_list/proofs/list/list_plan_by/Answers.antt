@@ -1,22 +1,45 @@
 -- No priorities are those of arrival, and the tails are those of the rule of the longest tail.
-use Rattle.std.proofs.Common.{◌≡◌, [], ap, ◌∙◌, Result, Ok, Err, IfOk}
-use Rattle.waff_assign.specs.Order.{Path}
+use Rattle.std.proofs.Common.{◌≡◌, ℕ, List, [], map, ap, subst, ◌∙◌}
+use Rattle.waff_model.specs.declared.message.Message.{Message}
+use Rattle.waff_plan.specs.Timing.{start_of}
 use Rattle.waff_order.specs.Needs.{IsNeed}
-use Rattle.waff_list.specs.Load.{priority_of}
+use Rattle.waff_list.specs.Load.{Placed, priority_of, released_at}
+use Rattle.waff_list.specs.Planning.{placed_in}
+use Rattle.waff_list.specs.Progress.{work_of_messages, IsMade}
+use Rattle.waff_list.proofs.PathPlans.{plan_over_paths}
+use Rattle.waff_list.proofs.TraceWork.{own_releases}
 use Rattle.waff_list.proofs.list.list_plan_by.Goals as goal
 use Rattle.waff_list.proofs.list.list_plan_by.Goals.{in-Arrival, in-Longest+in_ok-priorities-in-Longest}
 
-both : {A E : Type 0} (P Q R : A → Type 0) → ((a : A) → P a → Q a → R a) → (r : Result A E) → IfOk r P → IfOk r Q → IfOk r R
-both P Q R f (Ok a) p q = f a p q
-both P Q R f (Err e) p q = tt
+-- what is made of messages with their own releases
+own : (needs : List (List ℕ)) (messages : List Message) (releases priorities : List ℕ) (k : ℕ) (placed : Placed)
+    → releases ≡ map (λ message. message.release) messages
+    → IsMade (record { needs = needs; priorities = priorities; work = released_at releases (work_of_messages messages); workers = k }) placed
+    → IsMade (record { needs = needs; priorities = priorities; work = work_of_messages messages; workers = k }) placed
+own needs messages releases priorities k placed same made =
+    subst (λ work. IsMade (record { needs = needs; priorities = priorities; work = work; workers = k }) placed)
+    (ap (λ releases. released_at releases (work_of_messages messages)) same ∙ own_releases messages) made
 
 pub returns-clause-follows : goal.returns-clause-follows
 returns-clause-follows c =
-    let before = Path (IsNeed c.args.needs.now) in
-    elim c.match-rule.branch [
+    let made = own c.args.needs.now c.args.trace.now.messages c.in_ok-releases.releases.items c.match-rule.priorities.items c.args.k (placed_in c.in_ok-made.made)
+    c.in_ok-releases.ensures c.in_ok-made.ensures in
+    let priority = priority_of c.match-rule.priorities.items in
+    let plan = plan_over_paths (IsNeed c.args.needs.now) (work_of_messages c.args.trace.now.messages) priority c.args.k (start_of c.in_ok-made.made.starts.items) made.plan in
+    rw (c.new.ensures, c.in_ok-plan.ensures.timings, c.in_ok-plan.ensures.starts, c.as_slice.ensures.value)
+    (elim c.match-rule.branch [
+      | in-Longest+in_ok-priorities-in-Longest w ↦ rw w.in-Longest.is (priority, rw w.priorities-is w.in_ok-priorities-in-Longest.ensures.paths, plan)
       | in-Arrival w ↦
           let none : c.match-rule.priorities.items ≡ [] = ap (λ (v : _). v.items) w.priorities-is ∙ w.new-priorities.ensures.items in
-          rw w.in-Arrival.is (rw none at c.planned.ensures.follows)
-      | in-Longest+in_ok-priorities-in-Longest w ↦ rw w.in-Longest.is
-          (both _ _ _ (λ made timings follows. (priority_of c.match-rule.priorities.items, rw (timings, w.priorities-is) w.in_ok-priorities-in-Longest.ensures.paths, follows)) c.planned.result c.planned.ensures.timings c.planned.ensures.follows)
-    ]
+          rw w.in-Arrival.is (rw none at plan)
+    ])
+
+pub returns-clause-seated : goal.returns-clause-seated
+returns-clause-seated c =
+    rw (c.new.ensures, c.in_ok-plan.ensures.timings, c.in_ok-plan.ensures.starts, c.as_slice.ensures.value)
+    (own c.args.needs.now c.args.trace.now.messages _ _ c.args.k (placed_in c.in_ok-made.made) c.in_ok-releases.ensures c.in_ok-made.ensures).seated
+
+pub returns-clause-order : goal.returns-clause-order
+returns-clause-order c =
+    rw (c.new.ensures, c.in_ok-plan.ensures.timings, c.in_ok-plan.ensures.starts, c.as_slice.ensures.value)
+    (own c.args.needs.now c.args.trace.now.messages _ _ c.args.k (placed_in c.in_ok-made.made) c.in_ok-releases.ensures c.in_ok-made.ensures).listed

@@ -2,8 +2,7 @@ use Rattle.std.proofs.Common.{◌≡◌, ℕ, suc, List, ◌+◌, ◌<◌, ◌�
 use Rattle.std.specs.List.Sorted.{IsPermutation}
 use Rattle.std.proofs.lemmas.List.{get_or_read}
 use Rattle.waff_plan.specs.Work.{IsNumber}
-use Rattle.waff_list.specs.Planning.{load_of, placed_in}
-use Rattle.waff_list.specs.Progress.{work_of_messages}
+use Rattle.waff_list.specs.Planning.{task_work, load_of, placed_in}
 use Rattle.waff_list.proofs.TraceWork.{count_is, lengths_of, forward_of}
 use Rattle.waff_list.proofs.Filling.{starting_none, starting_more, message_known, filled, kept_filled}
 use Rattle.waff_list.proofs.planner.fill.Goals as goal
@@ -29,7 +28,7 @@ is c = get_or_read c.choose.new.self.messages.items c.loop-at.at c.index-m.resul
 least : (c : After-index-m) → (v w : ℕ) → Contains c.choose.new.self.workers.items v → Contains c.loop-at.progress.idle w → v ≤ w
 least c = subst (λ xs. (v w : ℕ) → Contains c.choose.new.self.workers.items v → Contains xs w → v ≤ w) (sym c.loop-at.invariant.idle) c.in_ok-choose.ensures.chosen.least
 
-known : (c : After-index-m) → IsNumber (work_of_messages c.args.task.now.trace.now.messages) c.index-m.result.now
+known : (c : After-index-m) → IsNumber (task_work c.args.task.now) c.index-m.result.now
 known c =
     let task = c.args.task.now in
     let load = load_of task c.args.waiting.now.ready.priorities in

@@ -5,8 +5,8 @@ use Rattle.waff_model.specs.Numbers.{IsAmongFirst}
 use Rattle.waff_plan.specs.Work.{Work}
 use Rattle.waff_plan.specs.Timing.{start_of}
 use Rattle.waff_list.specs.Load.{Load}
-use Rattle.waff_list.specs.Planning.{load_of, pending_in, placed_in}
-use Rattle.waff_list.specs.Progress.{work_of_messages, IsKept, IsNextTick, IsLastTick, GoesOn}
+use Rattle.waff_list.specs.Planning.{task_work, load_of, pending_in, placed_in}
+use Rattle.waff_list.specs.Progress.{IsKept, IsNextTick, IsLastTick, GoesOn}
 use Rattle.waff_list.specs.Waiting.{AreFinishes, AreManned, AreReady, AreReleases, ArePassed, IsPassed, Runs, StayReady}
 use Rattle.waff_list.proofs.CountLemmas.{left_fall}
 use Rattle.waff_list.proofs.Each.{contains_map}
@@ -38,8 +38,8 @@ late c = runs_late (load c).work (start_of c.fill.new.progress.starts.items) c.l
 
 -- and there is a next one
 tick : (c : In-Some) → All (λ r. c.loop-releases.now < r.0) c.fill.new.progress.finishes
-    → IsNextTick (work_of_messages c.args.task.now.trace.now.messages) c.fill.new.progress.finishes c.loop-releases.now c.in-Some.next
-tick c finish_late = c.in-Some.ensures (work_of_messages c.args.task.now.trace.now.messages) c.requires.small c.loop-releases.invariant.releases c.loop-releases.invariant.passed finish_late
+    → IsNextTick (task_work c.args.task.now) c.fill.new.progress.finishes c.loop-releases.now c.in-Some.next
+tick c finish_late = c.in-Some.ensures (task_work c.args.task.now) c.requires.small c.loop-releases.invariant.releases c.loop-releases.invariant.passed finish_late
 
 pub loop-releases-init : goal.loop-releases-init
 loop-releases-init c = record {

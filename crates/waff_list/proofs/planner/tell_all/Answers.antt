@@ -3,7 +3,7 @@ use Rattle.std.proofs.lemmas.Bool.{cases_eq}
 use Rattle.std.proofs.lemmas.List.{get_or-map, length-map}
 use Rattle.std.proofs.lemmas.List.Elements.{All-get_or}
 use Rattle.waff_plan.specs.Work.{IsNumber}
-use Rattle.waff_list.specs.Progress.{work_of_messages}
+use Rattle.waff_list.specs.Planning.{task_work}
 use Rattle.waff_list.specs.Trails.{link_at, trail, trails}
 use Rattle.waff_list.specs.Waiting.{dependents_of, left_of, times}
 use Rattle.waff_list.specs.declared.dependents.Link.{Link}
@@ -57,7 +57,7 @@ more_here c =
     let link = c.link-link.result in
     ap (λ xs. times link.message xs) (here c) ∙ times_cons_same (trail c.args.task.now.dependents.links.items link.next link.next) link.message
 
-number : (c : After-link-link) → IsNumber (work_of_messages c.args.task.now.trace.now.messages) c.link-link.result.message
+number : (c : After-link-link) → IsNumber (task_work c.args.task.now) c.link-link.result.message
 number c = let known = within c in record { from = known.0; to = omega (arith, known.1, c.args.task.now.lengths, count_is c.args.task.now.trace.now.messages) }
 
 some : (c : After-link-link) → 1 ≤ left_of c.loop-at.waiting.left.items c.link-link.result.message
@@ -79,7 +79,7 @@ pub loop-at-preserved : goal.loop-at-preserved
 loop-at-preserved c =
     let l = (goal.at.loop-at-preserved c).After-link-link in
     let task = c.args.task.now in
-    let work = work_of_messages task.trace.now.messages in
+    let work = task_work task in
     let links = task.dependents.links.items in
     let at = c.loop-at.at in
     let link = c.link-link.result in

@@ -1,8 +1,7 @@
 use Rattle.std.proofs.Common.{◌≡◌, ℕ, ◌+◌, ◌≤◌, length, Contains}
-use Rattle.waff_list.specs.Progress.{work_of_messages}
 use Rattle.waff_list.specs.Trails.{trail, trails}
 use Rattle.waff_list.specs.Waiting.{dependents_of, left_of, times}
-use Rattle.waff_list.specs.Planning.{Wakes}
+use Rattle.waff_list.specs.Planning.{task_work, Wakes}
 use Rattle.waff_list.proofs.planner.tell_all.Given as goal
 
 abbrev pub invariant-loop-at : goal.invariant-loop-at
@@ -12,7 +11,7 @@ invariant-loop-at l = record {
   counts : (d : ℕ) → 1 ≤ d → d ≤ length l.task.needs.now
       → left_of l.waiting.left.items d + times d (dependents_of (trails l.task.dependents) l.m)
       ≡ left_of l.initial.waiting.left.items d + times d (trail l.task.dependents.links.items l.at l.at);
-  wakes : Wakes (work_of_messages l.task.trace.now.messages) l.now l.initial.waiting l.waiting;
+  wakes : Wakes (task_work l.task) l.now l.initial.waiting l.waiting;
 }
 
 abbrev pub decreases-loop-at : goal.decreases-loop-at
