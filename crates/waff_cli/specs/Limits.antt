@@ -6,15 +6,9 @@ use Rattle.waff_cli.specs.declared.words.Asked.TheVariants as asked
 
 pub within_limits-prop : (asked : Asked) → IsProp (IsWithinLimits asked)
 within_limits-prop (asked.Plan workers rule) = Prim.hlevel props
-within_limits-prop asked.PlanOfInput = Prim.hlevel props
-within_limits-prop asked.Assign = Prim.hlevel props
-within_limits-prop asked.Check = Prim.hlevel props
-within_limits-prop (asked.Replay workers) = Prim.hlevel props
-within_limits-prop (asked.Compare k) = Prim.hlevel props
-within_limits-prop asked.Rate = Prim.hlevel props
-within_limits-prop (asked.Sweep given rule) = Prim.hlevel props
-within_limits-prop (asked.Where by_name) = Prim.hlevel props
 within_limits-prop (asked.Waits workers rule by_name) = Prim.hlevel props
-within_limits-prop (asked.Draw picture part) = Prim.hlevel props
+within_limits-prop (asked.Sweep given rule) = Prim.hlevel props
+within_limits-prop (asked.Compare k) = Prim.hlevel props
 within_limits-prop (asked.Rank k rule) = Prim.hlevel props
-within_limits-prop asked.Explain = Prim.hlevel props
+within_limits-prop (asked.Replay workers) = Prim.hlevel props
+within_limits-prop asked = Prim.hlevel props

@@ -10,41 +10,26 @@ use Rattle.waff_cli.specs.declared.words.Asked.TheVariants as asked
 -- that number is within the limits, and so is each number of a sweep
 abbrev pub IsWithinLimits : Asked → Type 0
 IsWithinLimits (asked.Plan workers rule) = IfSome workers IsWorkers
-IsWithinLimits asked.PlanOfInput = Unit {0}
-IsWithinLimits asked.Assign = Unit {0}
-IsWithinLimits asked.Check = Unit {0}
-IsWithinLimits (asked.Replay workers) = IfSome workers IsSeats
-IsWithinLimits (asked.Compare k) = IsWorkers k
-IsWithinLimits asked.Rate = Unit {0}
-IsWithinLimits (asked.Sweep given rule) = IfSome given (λ numbers. All IsWorkers numbers.items)
-IsWithinLimits (asked.Where by_name) = Unit {0}
 IsWithinLimits (asked.Waits workers rule by_name) = IfSome workers IsWorkers
-IsWithinLimits (asked.Draw picture part) = Unit {0}
+IsWithinLimits (asked.Sweep given rule) = IfSome given (λ numbers. All IsWorkers numbers.items)
+IsWithinLimits (asked.Compare k) = IsWorkers k
 IsWithinLimits (asked.Rank k rule) = IsWorkers k
-IsWithinLimits asked.Explain = Unit {0}
+IsWithinLimits (asked.Replay workers) = IfSome workers IsSeats
+IsWithinLimits asked = Unit {0}
 
--- the fewest files that a command takes
-abbrev pub least_files : Asked → ℕ
-least_files asked.PlanOfInput = 1
-least_files asked.Explain = 1
-least_files asked.Check = 3
-least_files asked.Rate = 3
-least_files (asked.Draw picture part) = 3
-least_files (asked.Compare k) = 3
-least_files asked = 2
-
--- the most files that it takes: a trace and all the hierarchies that can be ranked, where they are
-abbrev pub most_files : Asked → ℕ
-most_files asked.PlanOfInput = 1
-most_files asked.Explain = 3
-most_files asked.Check = 3
-most_files asked.Rate = 3
-most_files (asked.Draw picture part) = 3
-most_files (asked.Compare k) = 3
-most_files (asked.Rank k rule) = 1 + MAX_RANKED
-most_files asked = 2
+-- the fewest and the most files that a command takes: where hierarchies are ranked, a trace and all
+-- that can be ranked at most
+abbrev pub files_taken : Asked → ℕ × ℕ
+files_taken asked.PlanOfInput = (1, 1)
+files_taken asked.Explain = (1, 3)
+files_taken asked.Check = (3, 3)
+files_taken asked.Rate = (3, 3)
+files_taken (asked.Draw picture part) = (3, 3)
+files_taken (asked.Compare k) = (3, 3)
+files_taken (asked.Rank k rule) = (2, 1 + MAX_RANKED)
+files_taken asked = (2, 2)
 
 -- what is asked for takes so many files
 pub record TakesFiles (asked : Asked) (files : ℕ) : Type 0 where
-  pub least : least_files asked ≤ files
-  pub most : files ≤ most_files asked
+  pub least : (files_taken asked).0 ≤ files
+  pub most : files ≤ (files_taken asked).1

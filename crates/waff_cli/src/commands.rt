@@ -1,6 +1,4 @@
 //! The commands: their names, files and options.
-use crate::help::Help;
-
 /// A command of the program.
 #[derive(Clone, Copy)]
 pub struct CommandWords {
@@ -8,8 +6,6 @@ pub struct CommandWords {
     pub about: &'static str,
     /// Its words: those for files, and then its options.
     pub words: &'static [Word],
-    /// What its long help ends with.
-    pub help: Help,
 }
 
 /// A word of a command for a file.
@@ -99,12 +95,11 @@ const RANKED: FileWord = FileWord {
 };
 
 /// The commands, in the order of the help.
-pub static COMMANDS: [CommandWords; 12] = [
+pub static COMMANDS: &[CommandWords] = &[
     CommandWords {
         name: "assign",
         about: "Prints the affinity in which each message runs",
         words: &[Word::File(HIERARCHY), Word::File(TRACE)],
-        help: Help::Assign,
     },
     CommandWords {
         name: "plan",
@@ -115,13 +110,11 @@ pub static COMMANDS: [CommandWords; 12] = [
             Word::PlanWorkers(false),
             Word::Rule,
         ],
-        help: Help::Plan,
     },
     CommandWords {
         name: "check",
         about: "Prints the first fault of a plan, or how good the plan is",
         words: &[Word::File(HIERARCHY), Word::File(TRACE), Word::File(PLAN)],
-        help: Help::Check,
     },
     CommandWords {
         name: "explain",
@@ -137,13 +130,11 @@ pub static COMMANDS: [CommandWords; 12] = [
                 ..PLAN
             }),
         ],
-        help: Help::Explain,
     },
     CommandWords {
         name: "rate",
         about: "Prints how good a plan is, whoever made it",
         words: &[Word::File(HIERARCHY), Word::File(TRACE), Word::File(PLAN)],
-        help: Help::Rate,
     },
     CommandWords {
         name: "sweep",
@@ -154,7 +145,6 @@ pub static COMMANDS: [CommandWords; 12] = [
             Word::SweepWorkers,
             Word::Rule,
         ],
-        help: Help::Sweep,
     },
     CommandWords {
         name: "where",
@@ -164,7 +154,6 @@ pub static COMMANDS: [CommandWords; 12] = [
             Word::File(TRACE),
             Word::Names("A line for each name of messages"),
         ],
-        help: Help::Where,
     },
     CommandWords {
         name: "waits",
@@ -176,7 +165,6 @@ pub static COMMANDS: [CommandWords; 12] = [
             Word::Rule,
             Word::Names("By the names of messages too"),
         ],
-        help: Help::Waits,
     },
     CommandWords {
         name: "draw",
@@ -189,13 +177,11 @@ pub static COMMANDS: [CommandWords; 12] = [
             Word::From,
             Word::To,
         ],
-        help: Help::Draw,
     },
     CommandWords {
         name: "replay",
         about: "Runs the messages on threads, and prints the cells at the end",
         words: &[Word::File(HIERARCHY), Word::File(TRACE), Word::Threads],
-        help: Help::Replay,
     },
     CommandWords {
         name: "compare",
@@ -209,7 +195,6 @@ pub static COMMANDS: [CommandWords; 12] = [
             Word::File(TRACE),
             Word::PlanWorkers(true),
         ],
-        help: Help::Compare,
     },
     CommandWords {
         name: "rank",
@@ -220,6 +205,5 @@ pub static COMMANDS: [CommandWords; 12] = [
             Word::PlanWorkers(true),
             Word::Rule,
         ],
-        help: Help::Rank,
     },
 ];

@@ -56,7 +56,7 @@ impl Unread<'_> {
                 Some(error) => self.tell(rt, &error),
                 None => self.tell(rt, &"it could not be read"),
             },
-            Fault::TooLong => self.tell(rt, &"it has more than 268435456 bytes"),
+            Fault::TooLong => self.tell(rt, &format_args!("it has more than {MAX_INPUT} bytes")),
         }
         Refusal::Told(FAILED)
     }

@@ -1,42 +1,41 @@
 //! What the long help of each command ends with: an example, what is printed, and the exit statuses;
 //! and the long help of an option that takes more than a line.
 
-/// The command of a long help. The table of the commands holds it in place of the text, since a proof
-/// reads a static byte by byte.
-#[derive(Clone, Copy)]
-pub enum Help {
-    Assign,
-    Plan,
-    Check,
-    Explain,
-    Rate,
-    Sweep,
-    Where,
-    Waits,
-    Draw,
-    Replay,
-    Compare,
-    Rank,
+/// What the long help of a command ends with. It is found by the name of the command, and is no part of
+/// the table of the commands, since a proof reads a static byte by byte.
+pub fn of(command: &str) -> &'static str {
+    match command {
+        "assign" => ASSIGN,
+        "plan" => PLAN,
+        "check" => CHECK,
+        "explain" => EXPLAIN,
+        "rate" => RATE,
+        "sweep" => SWEEP,
+        "where" => WHERE,
+        "waits" => WAITS,
+        "draw" => DRAW,
+        "replay" => REPLAY,
+        "compare" => COMPARE,
+        "rank" => RANK,
+        _ => "",
+    }
 }
 
-impl Help {
-    /// What the long help ends with.
-    pub fn text(self) -> &'static str {
-        match self {
-            Help::Assign => ASSIGN,
-            Help::Plan => PLAN,
-            Help::Check => CHECK,
-            Help::Explain => EXPLAIN,
-            Help::Rate => RATE,
-            Help::Sweep => SWEEP,
-            Help::Where => WHERE,
-            Help::Waits => WAITS,
-            Help::Draw => DRAW,
-            Help::Replay => REPLAY,
-            Help::Compare => COMPARE,
-            Help::Rank => RANK,
-        }
-    }
+/// A help with the exit statuses behind it: what 0 means, or these, and then those of refusals.
+macro_rules! with_statuses {
+    ($help:literal) => {
+        with_statuses!($help, "Exit status:\n  0  done")
+    };
+    ($help:literal, $statuses:literal) => {
+        concat!(
+            $help,
+            "\n\n",
+            $statuses,
+            "\n  2  the words are refused",
+            "\n  3  a file is refused",
+            "\n  4  something could not be read or written, or memory was refused",
+        )
+    };
 }
 
 /// What the long help of the program ends with.
@@ -57,22 +56,19 @@ by longest those on which the longest chain of work hangs. Without
 greatest latencies are less by arrival";
 
 /// What the long help of `waff assign` ends with.
-const ASSIGN: &str = "\
+const ASSIGN: &str = with_statuses!(
+    "\
 Example: waff assign hier.toml trace.csv
 
 A line for each message:
   message   its number, from 1
   name      its name
-  affinity  the lowest that is at or above the owners of all its cells
-
-Exit status:
-  0  done
-  2  the words are refused
-  3  a file is refused
-  4  something could not be read or written, or memory was refused";
+  affinity  the lowest that is at or above the owners of all its cells"
+);
 
 /// What the long help of `waff plan` ends with.
-const PLAN: &str = "\
+const PLAN: &str = with_statuses!(
+    "\
 Example: waff plan hier.toml trace.csv --workers 8
 
 A line for each message:
@@ -91,16 +87,12 @@ Then a line each:
   cost      the cost of the chain
   bound     two numbers, the left never above the right: without --workers the
             length, and release + cost; with --workers K * length, and
-            total + K * release + (K - 1) * cost
-
-Exit status:
-  0  done
-  2  the words are refused
-  3  a file is refused
-  4  something could not be read or written, or memory was refused";
+            total + K * release + (K - 1) * cost"
+);
 
 /// What the long help of `waff check` ends with.
-const CHECK: &str = "\
+const CHECK: &str = with_statuses!(
+    "\
 Example: waff plan hier.toml trace.csv | waff check hier.toml trace.csv -
 
 One line. A fault of the plan:
@@ -116,17 +108,16 @@ No fault:
   shortest     no plan is shorter
   withinbound  at most twice as long as any plan for so many workers
   obeys        nothing more is known
-waff explain says the same in words.
-
+waff explain says the same in words.",
+    "\
 Exit status:
   0  no fault in the plan
-  1  a fault in the plan
-  2  the words are refused
-  3  a file is refused
-  4  something could not be read or written, or memory was refused";
+  1  a fault in the plan"
+);
 
 /// What the long help of `waff explain` ends with.
-const EXPLAIN: &str = "\
+const EXPLAIN: &str = with_statuses!(
+    "\
 Example: waff explain hier.toml trace.csv plan.csv
 
 The line that the other commands print, then:
@@ -135,32 +126,27 @@ The line that the other commands print, then:
   found    what stands there
   why      of an overlap: the way in the tree from the lower affinity to the
            other
-  wanted   what should stand there
-
+  wanted   what should stand there",
+    "\
 Exit status, that of the fault or the verdict:
   0  nothing is wrong
-  1  a fault in the plan
-  2  the words are refused
-  3  a file is refused
-  4  something could not be read or written, or memory was refused";
+  1  a fault in the plan"
+);
 
 /// What the long help of `waff replay` ends with.
-const REPLAY: &str = "\
+const REPLAY: &str = with_statuses!(
+    "\
 Example: waff replay hier.toml trace.csv --workers 4
 
 A line for each cell that is not 0 after all messages:
   cell   its space and its index
   value  the number that it holds
-The text is the same for every number of workers.
-
-Exit status:
-  0  done
-  2  the words are refused
-  3  a file is refused
-  4  something could not be read or written, or memory was refused";
+The text is the same for every number of workers."
+);
 
 /// What the long help of `waff compare` ends with.
-const COMPARE: &str = "\
+const COMPARE: &str = with_statuses!(
+    "\
 Example: waff compare classical.toml hier.toml trace.csv --workers 8
 
 A line for each hierarchy:
@@ -174,16 +160,12 @@ A line for each hierarchy:
   left, right  the two sides of that plan's bound
 Then:
   refines      yes where no two messages exclude each other under the
-               hierarchical one alone, else no
-
-Exit status:
-  0  done
-  2  the words are refused
-  3  a file is refused
-  4  something could not be read or written, or memory was refused";
+               hierarchical one alone, else no"
+);
 
 /// What the long help of `waff rate` ends with.
-const RATE: &str = "\
+const RATE: &str = with_statuses!(
+    "\
 Example: waff rate hier.toml trace.csv plan.csv
 
 A line each:
@@ -198,17 +180,16 @@ A line each:
   waits     the ticks that messages wait in all
   mean      the mean latency, from a release to the finish
   p50, p99  a latency that 50 and 99 of 100 messages do not pass
-  latency   the greatest latency
-
+  latency   the greatest latency",
+    "\
 Exit status:
   0  no fault in the plan
-  1  a fault in the plan
-  2  the words are refused
-  3  a file is refused
-  4  something could not be read or written, or memory was refused";
+  1  a fault in the plan"
+);
 
 /// What the long help of `waff sweep` ends with.
-const SWEEP: &str = "\
+const SWEEP: &str = with_statuses!(
+    "\
 Example: waff sweep hier.toml trace.csv --workers 2,4,8
 
 A line for each number of workers (without --workers 1, 2, 3, 4, 6, 8, 12, 16,
@@ -222,16 +203,12 @@ A line for each number of workers (without --workers 1, 2, 3, 4, 6, 8, 12, 16,
   waits     the ticks that messages wait in all
   mean      the mean latency, from a release to the finish
   p50, p99  a latency that 50 and 99 of 100 messages do not pass
-  latency   the greatest latency
-
-Exit status:
-  0  done
-  2  the words are refused
-  3  a file is refused
-  4  something could not be read or written, or memory was refused";
+  latency   the greatest latency"
+);
 
 /// What the long help of `waff where` ends with.
-const WHERE: &str = "\
+const WHERE: &str = with_statuses!(
+    "\
 Example: waff where hier.toml trace.csv --names
 
 A line for each affinity:
@@ -245,16 +222,12 @@ With --names a line for each name of messages:
   name      the name
   messages  how many have it
   cost      their cost
-  chain     the cost of those on the chain of the shortest plan
-
-Exit status:
-  0  done
-  2  the words are refused
-  3  a file is refused
-  4  something could not be read or written, or memory was refused";
+  chain     the cost of those on the chain of the shortest plan"
+);
 
 /// What the long help of `waff waits` ends with.
-const WAITS: &str = "\
+const WAITS: &str = with_statuses!(
+    "\
 Example: waff waits hier.toml trace.csv --workers 8
 
 A line for each pair of affinities of which one waits for the other, in the
@@ -269,30 +242,22 @@ With --names a line for each two names and their affinities:
   affinity     theirs
   forname      that of the messages they wait for; - for a worker
   foraffinity  that of those; - for a worker
-  messages, ticks, longest
-
-Exit status:
-  0  done
-  2  the words are refused
-  3  a file is refused
-  4  something could not be read or written, or memory was refused";
+  messages, ticks, longest"
+);
 
 /// What the long help of `waff draw` ends with.
-const DRAW: &str = "\
+const DRAW: &str = with_statuses!(
+    "\
 Example: waff draw hier.toml trace.csv plan.csv --from 100 --to 200 >part.svg
 
 The pictures:
   svg     for a browser
-  events  for a viewer of traces
-
-Exit status:
-  0  done
-  2  the words are refused
-  3  a file is refused
-  4  something could not be read or written, or memory was refused";
+  events  for a viewer of traces"
+);
 
 /// What the long help of `waff rank` ends with.
-const RANK: &str = "\
+const RANK: &str = with_statuses!(
+    "\
 Example: waff rank trace.csv one.toml two.toml --workers 8
 
 A line for each hierarchy:
@@ -306,10 +271,5 @@ A line for each hierarchy:
   waits       the ticks that messages wait in all
   mean        the mean latency, from a release to the finish
   p50, p99    a latency that 50 and 99 of 100 messages do not pass
-  latency     the greatest latency
-
-Exit status:
-  0  done
-  2  the words are refused
-  3  a file is refused
-  4  something could not be read or written, or memory was refused";
+  latency     the greatest latency"
+);

@@ -1,11 +1,15 @@
 //! The parser of the table of commands.
-use crate::commands::{COMMANDS, CommandWords, FileWord, PICTURES, RULES, Word};
+use crate::commands::{COMMANDS, CommandWords, FileWord, MAX_SWEPT, PICTURES, RULES, Word};
 use crate::help;
-use crate::version::LONG_VERSION;
+use crate::version::{LONG_VERSION, VERSION};
 use clap::{Arg, ArgAction, Command, value_parser};
 use std::alloc::{AllocError, Global};
 use waff_core::limits::MAX_SEATS;
+use waff_inputs::MAX_RANKED;
 use waff_model::limits::{MAX_TICK, MAX_WORKERS};
+
+/// The limits that help and refusals name.
+const _: () = prove!(MAX_WORKERS == 64 && MAX_SEATS == 16 && MAX_SWEPT == 64 && MAX_RANKED == 64);
 
 /// The parser of all commands.
 pub fn parser<'a>(alloc: Global) -> Result<Command<'a>, AllocError> {
@@ -25,7 +29,7 @@ fn push_commands<'a>(alloc: Global, commands: &mut Vec<Command<'a>>) -> Result<(
 /// The parser of the program without its commands.
 fn waff<'a>(alloc: Global) -> Command<'a> {
     Command::new(alloc, "waff")
-        .version("0.1.0")
+        .version(VERSION)
         .long_version(LONG_VERSION)
         .about("How much parallelism a tree of affinities allows a trace of messages")
         .after_help("Without words: the plan of what standard input holds.")
@@ -38,7 +42,7 @@ fn command<'a>(alloc: Global, words: &'static CommandWords) -> Result<Command<'a
     push_args(alloc, words.words, &mut args)?;
     Command::new(alloc, words.name)
         .about(words.about)
-        .after_long_help(words.help.text())
+        .after_long_help(help::of(words.name))
         .args(args)
 }
 

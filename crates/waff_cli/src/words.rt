@@ -3,7 +3,8 @@ ghost use Rattle.std.specs.Prelude.{◌≡◌, ◌≤◌, All, IfOk, IfSome, len
 ghost use Rattle.waff_plan.specs.Bound.{IsWorkers};
 ghost use Rattle.waff_core.specs.Seats.{IsSeats};
 ghost use Rattle.waff_cli.specs.Limits.{within_limits-prop};
-ghost use Rattle.waff_cli.specs.Requests.{IsWithinLimits, TakesFiles, least_files, most_files};
+ghost use Rattle.waff_cli.specs.Requests as requests;
+ghost use Rattle.waff_cli.specs.Requests.{IsWithinLimits, TakesFiles};
 
 use crate::commands::{FILE_WORDS, MAX_SWEPT};
 use crate::parser::parser;
@@ -119,20 +120,14 @@ fn asked_of_files<'a>(asked: Asked, files: Vec<&'a str>) -> Result<Request<'a>, 
 
 /// How many files are taken for what is asked, at least and at most.
 fn files_taken(asked: &Asked) -> (usize, usize)
-    ensures least { result.0 ≡ least_files asked.now }
-    ensures most { result.1 ≡ most_files asked.now }
+    ensures { result ≡ requests.files_taken asked.now }
 {
     match asked {
         Asked::PlanOfInput => (1, 1),
         Asked::Explain => (1, 3),
         Asked::Check | Asked::Rate | Asked::Draw(_, _) | Asked::Compare(_) => (3, 3),
         Asked::Rank(_, _) => (2, 1 + MAX_RANKED),
-        Asked::Assign
-        | Asked::Plan(_, _)
-        | Asked::Replay(_)
-        | Asked::Sweep(_, _)
-        | Asked::Where(_)
-        | Asked::Waits(_, _, _) => (2, 2),
+        _ => (2, 2),
     }
 }
 
@@ -162,27 +157,36 @@ fn asked_of(
     ensures { IfOk result IsWithinLimits }
 {
     match command {
-        "plan" => plan_of(matches),
-        "sweep" => sweep_of(rt, alloc, matches),
-        "waits" => waits_of(matches),
-        "draw" => draw_of(rt, matches),
-        "replay" => replay_of(matches),
-        "compare" => compare_of(matches),
-        "rank" => rank_of(matches),
-        _ => plain_of(command, matches),
-    }
-}
-
-/// What the words of a command that takes no number and no rule ask for.
-fn plain_of(command: &str, matches: &ArgMatches<'_>) -> Result<Asked, Refusal>
-    ensures { IfOk result IsWithinLimits }
-{
-    match command {
         "assign" => Ok(Asked::Assign),
         "check" => Ok(Asked::Check),
         "explain" => Ok(Asked::Explain),
         "rate" => Ok(Asked::Rate),
         "where" => Ok(Asked::Where(matches.get_flag("names"))),
+        "replay" => Ok(Asked::Replay(workers(matches, MAX_SEATS)?)),
+        "compare" => Ok(Asked::Compare(wanted_workers(matches)?)),
+        "draw" => Ok(Asked::Draw(drawn_as(matches)?, part_of(rt, matches)?)),
+        _ => asked_by_rule(rt, alloc, command, matches),
+    }
+}
+
+/// What the words of a command ask for by whose rule messages start.
+fn asked_by_rule(
+    rt: &impl Eprint,
+    alloc: Global,
+    command: &str,
+    matches: &ArgMatches<'_>,
+) -> Result<Asked, Refusal>
+    ensures { IfOk result IsWithinLimits }
+{
+    let rule = rule_of(matches)?;
+    match command {
+        "plan" => Ok(Asked::Plan(workers(matches, MAX_WORKERS)?, rule)),
+        "sweep" => Ok(Asked::Sweep(swept_workers(rt, alloc, matches)?, rule)),
+        "waits" => {
+            let workers = workers(matches, MAX_WORKERS)?;
+            Ok(Asked::Waits(workers, rule, matches.get_flag("names")))
+        }
+        "rank" => Ok(Asked::Rank(wanted_workers(matches)?, rule)),
         _ => Err(Refusal::NoWords),
     }
 }
@@ -228,11 +232,11 @@ fn workers(matches: &ArgMatches<'_>, most: u32) -> Result<Option<u32>, Refusal>
     }
 }
 
-/// The number of workers, which has to be given; there are this many at most.
-fn wanted_workers(matches: &ArgMatches<'_>, most: u32) -> Result<u32, Refusal>
-    ensures { IfOk result (λ k. (1 ≤ k) × (k ≤ most)) }
+/// The number of planners' workers, which has to be given.
+fn wanted_workers(matches: &ArgMatches<'_>) -> Result<u32, Refusal>
+    ensures { IfOk result IsWorkers }
 {
-    workers(matches, most)?.ok_or(Refusal::NoWords)
+    workers(matches, MAX_WORKERS)?.ok_or(Refusal::NoWords)
 }
 
 /// As what the plan is drawn.
@@ -290,61 +294,6 @@ fn rule_of(matches: &ArgMatches<'_>) -> Result<Rule, Refusal> {
         Some("longest") => Ok(Rule::Longest),
         _ => Err(Refusal::NoWords),
     }
-}
-
-/// Which plan is printed.
-fn plan_of(matches: &ArgMatches<'_>) -> Result<Asked, Refusal>
-    ensures { IfOk result IsWithinLimits }
-{
-    let rule = rule_of(matches)?;
-    Ok(Asked::Plan(workers(matches, MAX_WORKERS)?, rule))
-}
-
-/// Of which plans a sweep tells.
-fn sweep_of(rt: &impl Eprint, alloc: Global, matches: &ArgMatches<'_>) -> Result<Asked, Refusal>
-    ensures { IfOk result IsWithinLimits }
-{
-    let rule = rule_of(matches)?;
-    Ok(Asked::Sweep(swept_workers(rt, alloc, matches)?, rule))
-}
-
-/// Of which plan, and how, waits are told.
-fn waits_of(matches: &ArgMatches<'_>) -> Result<Asked, Refusal>
-    ensures { IfOk result IsWithinLimits }
-{
-    let rule = rule_of(matches)?;
-    let workers = workers(matches, MAX_WORKERS)?;
-    Ok(Asked::Waits(workers, rule, matches.get_flag("names")))
-}
-
-/// How the trace is replayed.
-fn replay_of(matches: &ArgMatches<'_>) -> Result<Asked, Refusal>
-    ensures { IfOk result IsWithinLimits }
-{
-    Ok(Asked::Replay(workers(matches, MAX_SEATS)?))
-}
-
-/// For how many workers two hierarchies are compared.
-fn compare_of(matches: &ArgMatches<'_>) -> Result<Asked, Refusal>
-    ensures { IfOk result IsWithinLimits }
-{
-    Ok(Asked::Compare(wanted_workers(matches, MAX_WORKERS)?))
-}
-
-/// What is drawn of a plan.
-fn draw_of(rt: &impl Eprint, matches: &ArgMatches<'_>) -> Result<Asked, Refusal>
-    ensures { IfOk result IsWithinLimits }
-{
-    let drawing = drawn_as(matches)?;
-    Ok(Asked::Draw(drawing, part_of(rt, matches)?))
-}
-
-/// By which plans hierarchies are ranked.
-fn rank_of(matches: &ArgMatches<'_>) -> Result<Asked, Refusal>
-    ensures { IfOk result IsWithinLimits }
-{
-    let rule = rule_of(matches)?;
-    Ok(Asked::Rank(wanted_workers(matches, MAX_WORKERS)?, rule))
 }
 
 /// The part of a plan that is drawn.
