@@ -104,3 +104,15 @@ def run(folder: pathlib.Path, program: str, wanted: set[str], count: Count | Non
             else:
                 for case, text in zip(every, printed, strict=True):
                     count.take(case.name, faults_of(case.shown, text))
+
+
+def commands_of(page: str) -> Iterator[tuple[int, str, list[str]]]:
+    """Each command in the blocks of a page: its line's number, itself, and the lines of its output."""
+    for block in re.finditer(r"^```.*\n((?:.*\n)*?)```$", page, re.M):
+        for part in re.finditer(r"^\$ (.*)\n((?:(?!\$ |# ).+\n)*)", block[1], re.M):
+            yield page.count("\n", 0, block.start(1) + part.start()) + 1, part[1], part[2].splitlines()
+
+
+def pattern(output: list[str]) -> str:
+    """The pattern of an output that a page shows, where a line `...` stands for lines that are left out."""
+    return "".join("(?:.*\n)*" if line == "..." else re.escape(line + "\n") for line in output)

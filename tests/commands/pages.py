@@ -11,7 +11,7 @@ import re
 from collections.abc import Iterator
 
 from common import ROOT
-from transcripts import Case, cases, read
+from transcripts import Case, cases, commands_of, pattern, read
 
 HERE = ROOT / "tests/commands"
 
@@ -23,24 +23,17 @@ def shows(case: Case, call: str, commands: set[str], output: list[str]) -> bool:
     words, _, kept = call.replace("examples/", "").replace("< ", "<").removeprefix("./").partition(" >")
     setup = {line for line in case.setup.splitlines() if not line.startswith("#") and "inputs/" not in line}
     printed = ("" if kept else case.stream("|")) + case.stream("!")
-    return case.command == words and setup <= commands and re.fullmatch(shown(output), printed) is not None
-
-
-def shown(output: list[str]) -> str:
-    """The pattern of an output with lines left out."""
-    return "".join("(?:.*\n)*" if line == "..." else re.escape(line + "\n") for line in output)
+    return case.command == words and setup <= commands and re.fullmatch(pattern(output), printed) is not None
 
 
 def calls(page: str) -> Iterator[tuple[int, str, set[str], list[str]]]:
     """Each call of waff in the blocks of a page: its line's number, itself, the commands above it, its output."""
-    commands: set[str] = set()
-    for block in re.finditer(r"^```.*\n((?:.*\n)*?)```$", page, re.M):
-        for part in re.finditer(r"^\$ (.*)\n((?:(?!\$ |# ).+\n)*)", block[1], re.M):
-            if re.match(r"(\./)?waff ", part[1]):
-                number = page.count("\n", 0, block.start(1) + part.start()) + 1
-                yield number, part[1], set(commands), part[2].splitlines()
-            else:
-                commands.add(part[1])
+    above: set[str] = set()
+    for number, command, output in commands_of(page):
+        if re.match(r"(\./)?waff ", command):
+            yield number, command, set(above), output
+        else:
+            above.add(command)
 
 
 def faults(commands: list[str]) -> list[str]:

@@ -1,5 +1,6 @@
 """What the scripts of this folder share: the samples, the commands that the built program knows, and runs of it."""
 import argparse
+import dataclasses
 import fcntl
 import os
 import re
@@ -57,20 +58,17 @@ WORDS = (
 CROWD = "replay {H} {T} --workers 16"
 
 
+@dataclasses.dataclass
 class Run:
     """What a run printed, its status (a negative number for a signal, None where it hung) and its seconds of processor time."""
 
-    def __init__(self, status, stdout, stderr, seconds):
-        self.status = status
-        self.stdout = stdout
-        self.stderr = stderr
-        self.seconds = seconds
+    status: int | None
+    stdout: bytes
+    stderr: bytes
+    seconds: float = dataclasses.field(compare=False)
 
     def __repr__(self):
         return "status %s, stdout %r, stderr %r" % (self.status, self.stdout[:200], self.stderr[:200])
-
-    def is_as(self, other):
-        return (self.status, self.stdout, self.stderr) == (other.status, other.stdout, other.stderr)
 
 
 MEMORY = Run(4, b"", b"waff: Memory\n", 0)
@@ -145,7 +143,7 @@ def is_told(line):
 
 def least_limit(words, right, stdin=b""):
     """About the least limit of the address space under which the run is right."""
-    return next(it for it in range(4 << 20, 1 << 34, 1 << 18) if under(words, it, stdin).is_as(right))
+    return next(it for it in range(4 << 20, 1 << 34, 1 << 18) if under(words, it, stdin) == right)
 
 
 def piped(words, stdin, wanted, pause):

@@ -170,7 +170,7 @@ class Devices:
     def tree(self, spaces: dict[str, int], stripes: int, unit: int) -> tuple[Tree, dict[str, str]]:
         parents: dict[str, str | None] = {"Serial": None}
         maps: dict[str, tuple[int, list[str]]] = {}
-        remarks = {}
+        remarks: dict[str, str] = {}
         for file in self.files.values():
             owners = [f"{file.name}.S{n}" for n in range(stripes)]
             parents |= {file.name: "Serial", **dict.fromkeys(owners, file.name)}
