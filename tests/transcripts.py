@@ -51,7 +51,7 @@ class Case:
             for beside in filter(pathlib.Path.is_dir, self.folder.iterdir()):
                 (files / beside.name).symlink_to(beside)
             (folder / "waff").symlink_to(program)
-            environment = {**os.environ, "PATH": f"{folder}:{ROOT / 'workloads'}:{os.environ['PATH']}", "WAFF": program}
+            environment = {**os.environ, "PATH": f"{folder}:{ROOT / 'workloads'}:{os.environ['PATH']}", "WAFF": program, "LC_ALL": "C"}
             subprocess.run(["bash", "-ec", self.setup], cwd=files, env=environment, check=True)
             command = ["timeout", SECONDS, "bash", "-o", "pipefail", "-c", self.command]
             done = subprocess.run(command, cwd=files, env=environment, stdin=subprocess.DEVNULL, capture_output=True)

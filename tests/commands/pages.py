@@ -1,4 +1,5 @@
-"""Where README.md, docs/guide.md or docs/formats.md shows what no command case shows; a case of each command is there too.
+"""Where README.md, docs/guide.md or docs/formats.md shows what no command case shows. A case of each command is there, and an
+explanation of a fault has what was found and what is wanted.
 
 In a block, a line that begins with `$ ` is a command, and the lines under it, up to a blank one or one that begins with `# `, are
 what it prints; a line `...` stands for lines that are left out. A call of waff has to be a case: the same words (but for
@@ -42,7 +43,14 @@ def faults(commands: list[str]) -> list[str]:
     printed = {case.stream("|") for case in every}
     files = {read(path) for path in (HERE / "inputs").iterdir()}
     called = {case.command.split()[1] for case in every if " " in case.command}
-    found, shown_calls = [f"no case of {name}" for name in commands if name not in called], 0
+    found = [
+        f"{case.name}: nothing was found, or nothing is wanted"
+        for case in every
+        if case.command.startswith("waff explain ") and case.stream("|") and "\nstatus " in case.shown
+        if not re.search(r"^found: .(.|\n)*^wanted: .", case.stream("|"), re.M)
+    ]
+    found += [f"no case of {name}" for name in commands if name not in called]
+    shown_calls = 0
     for name in ("README.md", "docs/guide.md", "docs/formats.md"):
         page = read(ROOT / name)
         for number, call, above, output in calls(page):
