@@ -6,7 +6,6 @@ mod ShiftLaws
 mod ShiftSteps
 mod PlaceLaws
 mod OverlapLaws
-mod VerdictLaws
 mod LinkLaws
 pub mod PromiseLaws
 pub mod Uniqueness

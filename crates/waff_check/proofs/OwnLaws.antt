@@ -23,9 +23,11 @@ use Rattle.waff_plan_text.specs.Laws.{row_told}
 use Rattle.waff_plan_text.specs.Spelling.{no_worker}
 use Rattle.waff_plan_text.specs.declared.row.Row.{Row}
 use Rattle.waff_check.specs.Faults.{HasWrongWorker, IsCrowded, IsMisplaced, IsTaken, NoneOf, RunTogether}
-use Rattle.waff_check.specs.OwnPlans.{AreManned, OwnPlanIsShortest, OwnPlanIsWithinBound, claim_told}
+use Rattle.waff_check.specs.Promises.{AreOneAtATime}
+use Rattle.waff_check.specs.OwnPlans.{OwnPlanIsShortest, OwnPlanIsWithinBound, claim_told}
 use Rattle.waff_check.specs.Shifts.{IsOneOf}
-use Rattle.waff_check.specs.Verdicts.{Claim, IsFaultless, start_in, worker_in}
+use Rattle.waff_check.specs.Verdicts.{Claim, IsFaultless, IsFreeBelow, ReachesLength, start_in, worker_in}
+use Rattle.waff_check.specs.declared.verdict.Verdict.TheVariants as verdict
 use Rattle.waff_check.proofs.LinkLaws.{chain-linked}
 
 -- no more run at a tick under the same starts
@@ -60,7 +62,7 @@ manned_for work start worker told k n (Some w) is one free wrong = elim wrong [
 ]
 
 right_workers : (work : Work) (start other : ℕ → ℕ) (worker told : ℕ → Option ℕ) (k : ℕ) → AreSame work other start
-    → ((n : ℕ) → IsNumber work n → told n ≡ worker n) → AreManned work start worker k → NoneOf (HasWrongWorker work other told (Some k))
+    → ((n : ℕ) → IsNumber work n → told n ≡ worker n) → AreOneAtATime work start worker k → NoneOf (HasWrongWorker work other told (Some k))
 right_workers work start other worker told k same tells manned n wrong =
     let number = wrong.number in
     let to : n ≤ work.count = number.to in
@@ -110,54 +112,46 @@ module _ (tree : List Node) (assigned : List ℕ) (messages : List Message) (ver
   no_fault : length assigned ≡ length messages → Obeys (IsOrdered tree assigned) work start → IsChain (IsOrdered tree assigned) work chain
       → ((k : ℕ) → workers ≡ Some k → (t : ℕ) → running work start t ≤ k)
       → NoneOf (HasWrongWorker work (start_in claim) (worker_in claim.plan) workers) → IsFaultless claim
-  no_fault count obeys is_chain within manned = record {
-    linked = record {
-      summed = record {
-        finished = record {
-          named = record {
-            manned = record {
-              roomy = record {
-                orderly = record {
-                  pairs = λ i j overlap.
-                      let from : 1 ≤ i = overlap.ordered.from in
-                      let earlier : i < j = overlap.ordered.earlier in
-                      let to : j ≤ length assigned = overlap.ordered.to in
-                      let all : work.count ≡ length messages = length-map messages (λ (message : Message). let t : Timing = record { cost = message.cost; release = message.release } in t) in
-                      let one : start_in claim i ≡ start i = tells_start i (record { from = from; to = omega arith }) in
-                      let other : start_in claim j ≡ start j = tells_start j (record { from = omega arith; to = omega arith }) in
-                      let after : finish_of work start i ≤ start j = obeys.ordered i j overlap.ordered in
-                      let early : start_in claim j < finish_of work (start_in claim) i = overlap.early in
-                      omega (arith, one, other, after, early);
-                };
-                ticks = uncrowded work (start_in claim) workers
-                    (λ k is t. let few = within k is t in let same = no_more_run work (start_in claim) start tells_start t in omega (arith, few, same));
-              };
-              workers = manned;
-            };
-            names = λ n wrong. wrong.wrong (ap (λ (row : Row). row.affinity) (tells_row n wrong.number));
-          };
-          finishes = λ n wrong. wrong.wrong
-              (ap (λ (row : Row). row.finish) (tells_row n wrong.number) ∙ ap (λ s. s + work.cost n) (tells_back n wrong.number));
-        };
-        sums = totals_same workers work start (start_in claim) chain tells_back;
-      };
-      links = chain-linked (IsOrdered tree assigned) work chain is_chain;
-    };
-    starts = λ n early.
-        let same : start_in claim n ≡ start n = tells_start n early.number in
-        let released : work.release n ≤ start n = obeys.released n early.number in
-        let sooner : start_in claim n < work.release n = early.early in
-        omega (arith, same, released, sooner);
-  }
+  no_fault count obeys is_chain within manned (verdict.Overlap i j) less = λ overlap.
+      let from : 1 ≤ i = overlap.ordered.from in
+      let earlier : i < j = overlap.ordered.earlier in
+      let to : j ≤ length assigned = overlap.ordered.to in
+      let all : work.count ≡ length messages = length-map messages (λ (message : Message). let t : Timing = record { cost = message.cost; release = message.release } in t) in
+      let one : start_in claim i ≡ start i = tells_start i (record { from = from; to = omega arith }) in
+      let other : start_in claim j ≡ start j = tells_start j (record { from = omega arith; to = omega arith }) in
+      let after : finish_of work start i ≤ start j = obeys.ordered i j overlap.ordered in
+      let early : start_in claim j < finish_of work (start_in claim) i = overlap.early in
+      omega (arith, one, other, after, early)
+  no_fault count obeys is_chain within manned (verdict.TooManyAt tick) less =
+      uncrowded work (start_in claim) workers
+      (λ k is t. let few = within k is t in let same = no_more_run work (start_in claim) start tells_start t in omega (arith, few, same)) tick
+  no_fault count obeys is_chain within manned (verdict.Worker n) less = manned n
+  no_fault count obeys is_chain within manned (verdict.Affinity n) less = λ wrong.
+      wrong.wrong (ap (λ (row : Row). row.affinity) (tells_row n wrong.number))
+  no_fault count obeys is_chain within manned (verdict.Finish n) less = λ wrong.
+      wrong.wrong (ap (λ (row : Row). row.finish) (tells_row n wrong.number) ∙ ap (λ s. s + work.cost n) (tells_back n wrong.number))
+  no_fault count obeys is_chain within manned verdict.Totals less = totals_same workers work start (start_in claim) chain tells_back
+  no_fault count obeys is_chain within manned (verdict.NotAChain place) less = chain-linked (IsOrdered tree assigned) work chain is_chain place
+  no_fault count obeys is_chain within manned (verdict.Early n) less = λ early.
+      let same : start_in claim n ≡ start n = tells_start n early.number in
+      let released : work.release n ≤ start n = obeys.released n early.number in
+      let sooner : start_in claim n < work.release n = early.early in
+      omega (arith, same, released, sooner)
+  no_fault count obeys is_chain within manned _ less = absurd (omega arith)
+
+-- a plan without a fault that is no shortest one
+not_shortest : (claim : Claim) → IsFaultless claim → (ReachesLength claim → ⊥) → IsFreeBelow claim 9
+not_shortest claim good longer verdict.Shortest less = longer
+not_shortest claim good longer v less = good v (omega arith)
 
 pub own_plan_is_shortest : (tree : List Node) (assigned : List ℕ) (messages : List Message) (version : Version) (start : ℕ → ℕ) (chain : List ℕ)
     → OwnPlanIsShortest tree assigned messages version start chain
 own_plan_is_shortest tree assigned messages version start chain count obeys is_chain as_long =
-    let told = claim_told tree assigned messages version None start no_worker chain in (
-      no_fault tree assigned messages version None start no_worker chain count obeys is_chain (λ k none. absurd (cc))
-          (no_workers (work_of_messages messages) (start_in told) (worker_in told.plan) (tells_worker tree assigned messages version None start no_worker chain)),
-      as_long ∙ same_length (work_of_messages messages) start (start_in told) (tells_back tree assigned messages version None start no_worker chain),
-    )
+    let told = claim_told tree assigned messages version None start no_worker chain in record {
+      free = no_fault tree assigned messages version None start no_worker chain count obeys is_chain (λ k none. absurd (cc))
+          (no_workers (work_of_messages messages) (start_in told) (worker_in told.plan) (tells_worker tree assigned messages version None start no_worker chain));
+      found = as_long ∙ same_length (work_of_messages messages) start (start_in told) (tells_back tree assigned messages version None start no_worker chain);
+    }
 
 pub own_plan_is_within_bound : (tree : List Node) (assigned : List ℕ) (messages : List Message) (version : Version) (k : ℕ) (start : ℕ → ℕ)
     (worker : ℕ → Option ℕ) (chain : List ℕ) → OwnPlanIsWithinBound tree assigned messages version k start worker chain
@@ -171,8 +165,8 @@ own_plan_is_within_bound tree assigned messages version k start worker chain cou
     (right_workers all start (start_in told) worker (worker_in told.plan) k same (tells_worker tree assigned messages version (Some k) start worker chain) manned) in
     let kept = subst (λ n. k * n ≤ right_side all k chain) (same_length all start (start_in told) (tells_back tree assigned messages version (Some k) start worker chain)) bound in
     elim (cases_eq (chain_release all chain + chain_cost all chain) (length_of all (start_in told))) [
-      | inl as_long ↦ inl (good, as_long)
-      | inr shorter ↦ inr (good, (shorter, kept))
+      | inl as_long ↦ inl (record { free = good; found = as_long })
+      | inr shorter ↦ inr (record { free = not_shortest told good shorter; found = (k, refl, kept) })
     ]
   where
     some_is : (k j : ℕ) → Some k ≡ Some j → k ≡ j

@@ -94,7 +94,11 @@ pub record IsBroken (before : Relation) (chain : List ℕ) (place : ℕ) : Type 
   pub to : place ≤ length chain
   pub broken : before (link_at chain (place - 1)) (link_at chain place) → ⊥
 
+-- the message at this place of a chain and the one before it are an ordered pair
+abbrev pub IsLinkedAt : Relation → List ℕ → ℕ → Type 0
+IsLinkedAt before chain place =
+    2 ≤ place → place ≤ length chain → before (link_at chain (place - 1)) (link_at chain place)
+
 -- each message of a chain and the next one are an ordered pair
 abbrev pub AreLinked : Relation → List ℕ → Type 0
-AreLinked before chain = (place : ℕ) → 2 ≤ place
-    → place ≤ length chain → before (link_at chain (place - 1)) (link_at chain place)
+AreLinked before chain = (place : ℕ) → IsLinkedAt before chain place

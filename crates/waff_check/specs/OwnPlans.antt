@@ -1,5 +1,5 @@
 -- The verdicts on plans that tell what they are.
-use Rattle.std.specs.Prelude.{◌≡◌, ℕ, ◌+◌, ◌<◌, ◌⊎◌, List, length, Option, Some, None}
+use Rattle.std.specs.Prelude.{◌≡◌, ℕ, ◌+◌, ◌⊎◌, List, length, Option, Some, None}
 use Rattle.waff_model.specs.Tree.{Node}
 use Rattle.waff_model.specs.declared.message.Message.{Message}
 use Rattle.waff_model.specs.declared.message.Version.{Version}
@@ -8,12 +8,11 @@ use Rattle.waff_plan.specs.Bound.{IsWithinBound}
 use Rattle.waff_plan.specs.Chain.{IsChain, chain_cost, chain_release}
 use Rattle.waff_plan.specs.Obeys.{Obeys}
 use Rattle.waff_plan.specs.Timetable.{work_of_messages}
-use Rattle.waff_plan.specs.Work.{Work, IsNumber, length_of}
+use Rattle.waff_plan.specs.Work.{length_of}
 use Rattle.waff_plan.specs.Workers.{IsWorkerPlan}
 use Rattle.waff_plan_text.specs.Laws.{plan_told}
 use Rattle.waff_plan_text.specs.Spelling.{no_worker}
-use Rattle.waff_check.specs.Faults.{RunTogether}
-use Rattle.waff_check.specs.Shifts.{IsOneOf}
+use Rattle.waff_check.specs.Promises.{AreOneAtATime}
 use Rattle.waff_check.specs.Verdicts.{Claim, IsVerdict, claim_of}
 use Rattle.waff_check.specs.declared.verdict.Verdict.TheVariants as verdict
 
@@ -23,12 +22,6 @@ abbrev pub claim_told : List Node → List ℕ
 claim_told tree assigned messages version workers start worker chain =
     claim_of tree assigned messages
     (plan_told version tree assigned (work_of_messages messages) workers start worker chain)
-
--- each message has one of k workers, and no two messages of one worker run at a common tick
-pub record AreManned (work : Work) (start : ℕ → ℕ) (worker : ℕ → Option ℕ) (k : ℕ) : Type 0 where
-  pub each : (m : ℕ) → IsNumber work m → IsOneOf k (worker m)
-  pub apart : (i j w : ℕ) → IsNumber work i → IsNumber work j
-      → i < j → worker i ≡ Some w → worker j ≡ Some w → RunTogether work start i j → ⊥
 
 -- an obeying plan without workers, with a chain whose release and cost are its length, is found
 -- shortest
@@ -50,7 +43,7 @@ abbrev pub OwnPlanIsWithinBound : List Node
 OwnPlanIsWithinBound tree assigned messages version k start worker chain =
     length assigned ≡ length messages
     → IsWorkerPlan (IsOrdered tree assigned) (work_of_messages messages) k start
-    → AreManned (work_of_messages messages) start worker k
+    → AreOneAtATime (work_of_messages messages) start worker k
     → IsChain (IsOrdered tree assigned) (work_of_messages messages) chain
     → IsWithinBound (work_of_messages messages) k start chain
     → IsVerdict (claim_told tree assigned messages version

@@ -1,11 +1,12 @@
 -- What a verdict without a fault implies.
-use Rattle.std.specs.Prelude.{◌≡◌, ◌≢◌, ℕ, ◌≤◌, Option, Some}
+use Rattle.std.specs.Prelude.{◌≡◌, ℕ, ◌<◌, ◌≤◌, Option, Some}
 use Rattle.waff_plan.specs.Bound.{IsWithinBound, IsWithinTwice, IsWithinRatio}
 use Rattle.waff_plan.specs.Chain.{IsChain}
 use Rattle.waff_plan.specs.Obeys.{Obeys}
 use Rattle.waff_plan.specs.Work.{IsNumber, Work, length_of}
 use Rattle.waff_plan.specs.Workers.{IsWorkerPlan}
 use Rattle.waff_check.specs.Faults.{RunTogether}
+use Rattle.waff_check.specs.Shifts.{IsOneOf}
 use Rattle.waff_check.specs.Verdicts.{Claim, before_of, chain_in, start_in, work_of_claim}
 use Rattle.waff_check.specs.Verdicts.{worker_in, workers_in}
 use Rattle.waff_check.specs.declared.verdict.Verdict.{Verdict}
@@ -16,48 +17,14 @@ abbrev pub Accepts : Verdict → Type 0
 Accepts verdict.Obeys = Unit {0}
 Accepts verdict.Shortest = Unit {0}
 Accepts verdict.WithinBound = Unit {0}
-Accepts (verdict.Overlap first second) = ⊥
-Accepts (verdict.TooManyAt tick) = ⊥
-Accepts (verdict.Worker message) = ⊥
-Accepts (verdict.Affinity message) = ⊥
-Accepts (verdict.Finish message) = ⊥
-Accepts verdict.Totals = ⊥
-Accepts (verdict.NotAChain place) = ⊥
-Accepts (verdict.Early message) = ⊥
-
--- the starts obey
-abbrev pub PromisesObeys : Claim → Verdict → Type 0
-PromisesObeys claim v = Accepts v → Obeys (before_of claim) (work_of_claim claim) (start_in claim)
-
--- with k workers the starts are a worker plan for k
-abbrev pub PromisesWorkerPlan : Claim → Verdict → Type 0
-PromisesWorkerPlan claim v =
-    Accepts v → (k : ℕ) → workers_in claim ≡ Some k
-    → IsWorkerPlan (before_of claim) (work_of_claim claim) k (start_in claim)
+Accepts _ = ⊥
 
 -- each message has one of k workers, and no two messages of one worker run at a common tick
 pub record AreOneAtATime (work : Work) (start : ℕ → ℕ)
     (worker : ℕ → Option ℕ) (k : ℕ) : Type 0 where
-  pub seated : (n : ℕ) → IsNumber work n
-      → (w : ℕ) × (worker n ≡ Some w) × (1 ≤ w) × (w ≤ k)
-  pub apart : (i j w : ℕ) → IsNumber work i → IsNumber work j → i ≢ j
-      → worker i ≡ Some w → worker j ≡ Some w → RunTogether work start i j → ⊥
-
--- with k workers the messages run on them one at a time
-abbrev pub PromisesOneAtATime : Claim → Verdict → Type 0
-PromisesOneAtATime claim v =
-    Accepts v → (k : ℕ) → workers_in claim ≡ Some k
-    → AreOneAtATime (work_of_claim claim) (start_in claim) (worker_in claim.plan) k
-
--- the chain of the text is a chain
-abbrev pub PromisesChain : Claim → Verdict → Type 0
-PromisesChain claim v = Accepts v → IsChain (before_of claim) (work_of_claim claim) (chain_in claim)
-
--- no obeying plan is shorter
-abbrev pub PromisesShortest : Claim → Verdict → Type 0
-PromisesShortest claim v =
-    v ≡ verdict.Shortest → (other : ℕ → ℕ) → Obeys (before_of claim) (work_of_claim claim) other
-    → length_of (work_of_claim claim) (start_in claim) ≤ length_of (work_of_claim claim) other
+  pub each : (n : ℕ) → IsNumber work n → IsOneOf k (worker n)
+  pub apart : (i j w : ℕ) → IsNumber work i → IsNumber work j
+      → i < j → worker i ≡ Some w → worker j ≡ Some w → RunTogether work start i j → ⊥
 
 -- within a bound for k workers, by this chain: so within twice the length of every worker plan for
 -- k, and within 2k - 1 parts of k where all releases are 0
@@ -67,5 +34,17 @@ pub record IsWithin (claim : Claim) (k : ℕ) : Type 0 where
   pub twice : IsWithinTwice (before_of claim) (work_of_claim claim) k (start_in claim)
   pub ratio : IsWithinRatio (before_of claim) (work_of_claim claim) k (start_in claim)
 
-abbrev pub PromisesBound : Claim → Verdict → Type 0
-PromisesBound claim v = v ≡ verdict.WithinBound → (k : ℕ) × IsWithin claim k
+-- where no fault is told: the starts obey; with k workers they are a worker plan for k, and the
+-- messages run on the workers one at a time; and the chain of the text is a chain. Of a shortest
+-- plan, no obeying plan is shorter; of one within the bound, the bound
+pub record Promises (claim : Claim) (v : Verdict) : Type 0 where
+  pub obeys : Accepts v → Obeys (before_of claim) (work_of_claim claim) (start_in claim)
+  pub worker_plan : Accepts v → (k : ℕ) → workers_in claim ≡ Some k
+      → IsWorkerPlan (before_of claim) (work_of_claim claim) k (start_in claim)
+  pub one_at_a_time : Accepts v → (k : ℕ) → workers_in claim ≡ Some k
+      → AreOneAtATime (work_of_claim claim) (start_in claim) (worker_in claim.plan) k
+  pub chain : Accepts v → IsChain (before_of claim) (work_of_claim claim) (chain_in claim)
+  pub shortest : v ≡ verdict.Shortest → (other : ℕ → ℕ)
+      → Obeys (before_of claim) (work_of_claim claim) other
+      → length_of (work_of_claim claim) (start_in claim) ≤ length_of (work_of_claim claim) other
+  pub bound : v ≡ verdict.WithinBound → (k : ℕ) × IsWithin claim k

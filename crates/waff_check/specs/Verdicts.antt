@@ -1,5 +1,5 @@
 -- The verdict on a plan that is given: the first fault, or else how good the plan is.
-use Rattle.std.specs.Prelude.{◌≡◌, ℕ, ◌+◌, ◌<◌, List, length, map, All, Option, Some, None}
+use Rattle.std.specs.Prelude.{◌≡◌, ℕ, ◌+◌, ◌<◌, List, length, map, All, Option, Some}
 use Rattle.waff_model.specs.Tree.{Node}
 use Rattle.waff_model.specs.declared.message.Message.{Message}
 use Rattle.waff_assign.specs.Order.{IsOrdered, Relation, affinity_name}
@@ -8,10 +8,10 @@ use Rattle.waff_plan.specs.Chain.{chain_cost, chain_release}
 use Rattle.waff_plan.specs.Timetable.{work_of_messages}
 use Rattle.waff_plan.specs.Timing.{start_of}
 use Rattle.waff_plan.specs.Work.{Work, length_of}
-use Rattle.waff_plan_text.specs.Given.{Given, SummaryLines, row_at}
-use Rattle.waff_check.specs.Faults.{AreLinked, HasTotals, HasWrongFinish, HasWrongName}
-use Rattle.waff_check.specs.Faults.{HasWrongWorker, IsBroken, IsCrowded, IsFirstOverlap, IsLeastOf}
-use Rattle.waff_check.specs.Faults.{NoneOf, Overlaps, StartsEarly}
+use Rattle.waff_plan_text.specs.Given.{Given, row_at}
+use Rattle.waff_check.specs.Faults.{HasTotals, HasWrongFinish, HasWrongName, HasWrongWorker}
+use Rattle.waff_check.specs.Faults.{IsBroken, IsCrowded, IsFirstOverlap, IsLeastOf, IsLinkedAt}
+use Rattle.waff_check.specs.Faults.{Overlaps, StartsEarly}
 use Rattle.waff_check.specs.declared.verdict.Verdict.{Verdict}
 use Rattle.waff_check.specs.declared.verdict.Verdict.TheVariants as verdict
 
@@ -90,81 +90,71 @@ LinkIsBroken claim = IsBroken (before_of claim) (chain_in claim)
 abbrev pub StartIsEarly : Claim → ℕ → Type 0
 StartIsEarly claim = StartsEarly (work_of_claim claim) (start_in claim)
 
--- how far a plan is free of faults, one kind after the other
-pub record IsOrderly (claim : Claim) : Type 0 where
-  pub pairs : (i j : ℕ) → PairOverlaps claim i j → ⊥
-
-pub record IsRoomy (claim : Claim) : Type 0 where
-  pub orderly : IsOrderly claim
-  pub ticks : NoneOf (TickIsCrowded claim)
-
-pub record IsManned (claim : Claim) : Type 0 where
-  pub roomy : IsRoomy claim
-  pub workers : NoneOf (WorkerIsWrong claim)
-
-pub record IsNamed (claim : Claim) : Type 0 where
-  pub manned : IsManned claim
-  pub names : NoneOf (NameIsWrong claim)
-
-pub record IsFinished (claim : Claim) : Type 0 where
-  pub named : IsNamed claim
-  pub finishes : NoneOf (FinishIsWrong claim)
-
-pub record IsSummed (claim : Claim) : Type 0 where
-  pub finished : IsFinished claim
-  pub sums : SumsAreRight claim
-
-pub record IsLinked (claim : Claim) : Type 0 where
-  pub summed : IsSummed claim
-  pub links : AreLinked (before_of claim) (chain_in claim)
-
-pub record IsFaultless (claim : Claim) : Type 0 where
-  pub linked : IsLinked claim
-  pub starts : NoneOf (StartIsEarly claim)
-
 -- the release and the cost of the chain are the length
-abbrev pub ReachesLength : Work → (ℕ → ℕ) → SummaryLines → Type 0
-ReachesLength work start summary =
-    chain_release work summary.chain + chain_cost work summary.chain ≡ length_of work start
+abbrev pub ReachesLength : Claim → Type 0
+ReachesLength claim =
+    chain_release (work_of_claim claim) (chain_in claim)
+    + chain_cost (work_of_claim claim) (chain_in claim)
+    ≡ length_of (work_of_claim claim) (start_in claim)
 
--- with workers, the length is within the bound for as many, by this chain
-abbrev pub IsBoundedFor : Work → (ℕ → ℕ) → List ℕ → Option ℕ → Type 0
-IsBoundedFor work start chain None = ⊥
-IsBoundedFor work start chain (Some k) = IsWithinBound work k start chain
+-- with workers, the length is within the bound for as many, by the chain
+abbrev pub KeepsBound : Claim → Type 0
+KeepsBound claim =
+    (k : ℕ) × (workers_in claim ≡ Some k)
+    × IsWithinBound (work_of_claim claim) k (start_in claim) (chain_in claim)
 
-abbrev pub KeepsBound : Work → (ℕ → ℕ) → SummaryLines → Type 0
-KeepsBound work start summary = IsBoundedFor work start summary.chain summary.workers
+-- the order in which verdicts are looked for: one kind of faults after the other, and then how good
+-- a plan without a fault is
+abbrev pub stage : Verdict → ℕ
+stage (verdict.Overlap first second) = 0
+stage (verdict.TooManyAt tick) = 1
+stage (verdict.Worker message) = 2
+stage (verdict.Affinity message) = 3
+stage (verdict.Finish message) = 4
+stage verdict.Totals = 5
+stage (verdict.NotAChain place) = 6
+stage (verdict.Early message) = 7
+stage verdict.Shortest = 8
+stage verdict.WithinBound = 9
+stage verdict.Obeys = 10
 
--- how good a plan without a fault is
-abbrev pub IsPraise : Work → (ℕ → ℕ) → SummaryLines → Verdict → Type 0
-IsPraise work start summary verdict.Shortest = ReachesLength work start summary
-IsPraise work start summary verdict.WithinBound =
-    (ReachesLength work start summary → ⊥) × KeepsBound work start summary
-IsPraise work start summary verdict.Obeys =
-    (ReachesLength work start summary → ⊥) × (KeepsBound work start summary → ⊥)
-IsPraise work start summary (verdict.Overlap first second) = ⊥
-IsPraise work start summary (verdict.TooManyAt tick) = ⊥
-IsPraise work start summary (verdict.Worker message) = ⊥
-IsPraise work start summary (verdict.Affinity message) = ⊥
-IsPraise work start summary (verdict.Finish message) = ⊥
-IsPraise work start summary verdict.Totals = ⊥
-IsPraise work start summary (verdict.NotAChain place) = ⊥
-IsPraise work start summary (verdict.Early message) = ⊥
+-- what a verdict tells does not hold of the plan
+abbrev pub IsFreeOf : Claim → Verdict → Type 0
+IsFreeOf claim (verdict.Overlap first second) = PairOverlaps claim first second → ⊥
+IsFreeOf claim (verdict.TooManyAt tick) = TickIsCrowded claim tick → ⊥
+IsFreeOf claim (verdict.Worker message) = WorkerIsWrong claim message → ⊥
+IsFreeOf claim (verdict.Affinity message) = NameIsWrong claim message → ⊥
+IsFreeOf claim (verdict.Finish message) = FinishIsWrong claim message → ⊥
+IsFreeOf claim verdict.Totals = SumsAreRight claim
+IsFreeOf claim (verdict.NotAChain place) = IsLinkedAt (before_of claim) (chain_in claim) place
+IsFreeOf claim (verdict.Early message) = StartIsEarly claim message → ⊥
+IsFreeOf claim verdict.Shortest = ReachesLength claim → ⊥
+IsFreeOf claim verdict.WithinBound = KeepsBound claim → ⊥
+IsFreeOf claim verdict.Obeys = ⊥
 
-abbrev pub IsPraised : Claim → Verdict → Type 0
-IsPraised claim = IsPraise (work_of_claim claim) (start_in claim) claim.plan.summary
-
--- the verdict: each fault comes only where no earlier one is there
-abbrev pub IsVerdict : Claim → Verdict → Type 0
-IsVerdict claim (verdict.Overlap first second) =
+-- what a verdict tells holds, and of its kind it is the first
+abbrev pub IsFound : Claim → Verdict → Type 0
+IsFound claim (verdict.Overlap first second) =
     IsFirstOverlap (before_of claim) (work_of_claim claim) (start_in claim) first second
-IsVerdict claim (verdict.TooManyAt tick) = IsOrderly claim × IsLeastOf (TickIsCrowded claim) tick
-IsVerdict claim (verdict.Worker message) = IsRoomy claim × IsLeastOf (WorkerIsWrong claim) message
-IsVerdict claim (verdict.Affinity message) = IsManned claim × IsLeastOf (NameIsWrong claim) message
-IsVerdict claim (verdict.Finish message) = IsNamed claim × IsLeastOf (FinishIsWrong claim) message
-IsVerdict claim verdict.Totals = IsFinished claim × (SumsAreRight claim → ⊥)
-IsVerdict claim (verdict.NotAChain place) = IsSummed claim × IsLeastOf (LinkIsBroken claim) place
-IsVerdict claim (verdict.Early message) = IsLinked claim × IsLeastOf (StartIsEarly claim) message
-IsVerdict claim verdict.Shortest = IsFaultless claim × IsPraised claim verdict.Shortest
-IsVerdict claim verdict.WithinBound = IsFaultless claim × IsPraised claim verdict.WithinBound
-IsVerdict claim verdict.Obeys = IsFaultless claim × IsPraised claim verdict.Obeys
+IsFound claim (verdict.TooManyAt tick) = IsLeastOf (TickIsCrowded claim) tick
+IsFound claim (verdict.Worker message) = IsLeastOf (WorkerIsWrong claim) message
+IsFound claim (verdict.Affinity message) = IsLeastOf (NameIsWrong claim) message
+IsFound claim (verdict.Finish message) = IsLeastOf (FinishIsWrong claim) message
+IsFound claim verdict.Totals = SumsAreRight claim → ⊥
+IsFound claim (verdict.NotAChain place) = IsLeastOf (LinkIsBroken claim) place
+IsFound claim (verdict.Early message) = IsLeastOf (StartIsEarly claim) message
+IsFound claim verdict.Shortest = ReachesLength claim
+IsFound claim verdict.WithinBound = KeepsBound claim
+IsFound claim verdict.Obeys = Unit {0}
+
+-- no verdict of an earlier stage holds
+abbrev pub IsFreeBelow : Claim → ℕ → Type 0
+IsFreeBelow claim n = (v : Verdict) → stage v < n → IsFreeOf claim v
+
+abbrev pub IsFaultless : Claim → Type 0
+IsFaultless claim = IsFreeBelow claim (stage verdict.Shortest)
+
+-- the verdict: it holds, and none of an earlier stage does
+pub record IsVerdict (claim : Claim) (v : Verdict) : Type 0 where
+  pub free : IsFreeBelow claim (stage v)
+  pub found : IsFound claim v

@@ -1,13 +1,10 @@
 //! The check of a plan that is given.
 
 ghost use Rattle.std.specs.Prelude.{◌≡◌, length, IfOk};
-ghost use Rattle.waff_plan.specs.Planned.{planned_starts, planned_work};
 ghost use Rattle.waff_check.specs.Claimed.{claimed};
-ghost use Rattle.waff_check.specs.Verdicts.{IsClaim, IsManned, IsPraise, IsVerdict, claim_of};
-ghost use Rattle.waff_plan_text.specs.Given.{IsGiven};
-ghost use Rattle.waff_check.specs.Promises.{PromisesBound, PromisesChain, PromisesObeys};
-ghost use Rattle.waff_check.specs.Promises.{PromisesOneAtATime, PromisesShortest};
-ghost use Rattle.waff_check.specs.Promises.{PromisesWorkerPlan};
+ghost use Rattle.waff_check.specs.Verdicts.{IsClaim, IsFaultless, IsFreeBelow, IsVerdict};
+ghost use Rattle.waff_check.specs.Verdicts.{claim_of};
+ghost use Rattle.waff_check.specs.Promises.{Promises};
 
 use crate::claim::Claim;
 use crate::crowd::crowded;
@@ -40,29 +37,19 @@ pub fn check<R: Threads + Sync>(
     requires version { given.now.version ≡ trace.now.version }
     ensures verdict { IfOk result
         (IsVerdict (claim_of tree.now assigned.now trace.now.messages given.now)) }
-    ensures obeys { IfOk result
-        (PromisesObeys (claim_of tree.now assigned.now trace.now.messages given.now)) }
-    ensures worker_plan { IfOk result
-        (PromisesWorkerPlan (claim_of tree.now assigned.now trace.now.messages given.now)) }
-    ensures one_at_a_time { IfOk result
-        (PromisesOneAtATime (claim_of tree.now assigned.now trace.now.messages given.now)) }
-    ensures chain { IfOk result
-        (PromisesChain (claim_of tree.now assigned.now trace.now.messages given.now)) }
-    ensures shortest { IfOk result
-        (PromisesShortest (claim_of tree.now assigned.now trace.now.messages given.now)) }
-    ensures bound { IfOk result
-        (PromisesBound (claim_of tree.now assigned.now trace.now.messages given.now)) }
+    ensures promises { IfOk result
+        (Promises (claim_of tree.now assigned.now trace.now.messages given.now)) }
 {
     chains_are_within_length();
     bound_is_within_twice();
     bound_is_within_ratio();
+    let _rows = given.len();
     let case = Case {
         tree,
         assigned,
         trace,
     };
-    let verdict = find(rt, alloc, &case, given)?;
-    Ok(verdict)
+    find(rt, alloc, &case, given)
 }
 
 // The verdict on the plan of the starts that are given.
@@ -73,9 +60,8 @@ fn find<'a, R: Threads + Sync>(
     given: &'a GivenPlan,
 ) -> Result<Verdict, AllocError>
     requires rows { length given.now.rows ≡ length case.now.trace.now.messages }
-    ensures verdict { IfOk result (IsVerdict (claim_of case.now.tree.now case.now.assigned.now
+    ensures { IfOk result (IsVerdict (claim_of case.now.tree.now case.now.assigned.now
         case.now.trace.now.messages given.now)) }
-    ensures given { IfOk result (λ _. IsGiven given.now) }
 {
     let plan = given.plan(alloc, case.trace)?;
     let planned = Planned {
@@ -106,7 +92,7 @@ fn judge<R: Threads + Sync>(rt: &R, alloc: Global, claim: &Claim<'_>) -> Result<
 
 // The verdict on a plan whose messages keep their order and have right workers.
 fn judge_manned(claim: &Claim<'_>) -> Verdict
-    requires { IsManned (claimed claim.now) }
+    requires { IsFreeBelow (claimed claim.now) 3 }
     ensures { IsVerdict (claimed claim.now) result }
 {
     if let Some(message) = wrong_name(claim) {
@@ -118,6 +104,14 @@ fn judge_manned(claim: &Claim<'_>) -> Verdict
     if !has_totals(claim) {
         return Verdict::Totals;
     }
+    judge_summed(claim)
+}
+
+// The verdict on a plan whose rows and totals are right.
+fn judge_summed(claim: &Claim<'_>) -> Verdict
+    requires { IsFreeBelow (claimed claim.now) 6 }
+    ensures { IsVerdict (claimed claim.now) result }
+{
     if let Some(place) = broken_link(&claim.planned.case, claim.given.chain()) {
         return Verdict::NotAChain { place };
     }
@@ -129,8 +123,8 @@ fn judge_manned(claim: &Claim<'_>) -> Verdict
 
 // How good a plan without a fault is.
 fn praise(claim: &Claim<'_>) -> Verdict
-    ensures { IsPraise (planned_work claim.now.planned)
-        (planned_starts claim.now.planned) claim.now.given.now.summary result }
+    requires { IsFaultless (claimed claim.now) }
+    ensures { IsVerdict (claimed claim.now) result }
 {
     let summary = claim.given.summary();
     let totals = claim.planned.plan.totals(summary.workers, &summary.chain);

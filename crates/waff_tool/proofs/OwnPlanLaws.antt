@@ -47,13 +47,12 @@ use Rattle.waff_plan_text.specs.PlanTexts.{plan_of}
 use Rattle.waff_plan_text.specs.Rows.{IsWithinLimit}
 use Rattle.waff_plan_text.specs.Spelling.{no_worker, seat_of}
 use Rattle.waff_plan_text.proofs.WrittenPlans.{written_is_read}
-use Rattle.waff_check.specs.OwnPlans.{AreManned}
-use Rattle.waff_check.specs.Promises.{Accepts}
+use Rattle.waff_check.specs.Promises.{AreOneAtATime}
 use Rattle.waff_check.specs.Verdicts.{Claim, IsVerdict, claim_of}
 use Rattle.waff_check.specs.declared.verdict.Verdict.{Verdict}
 use Rattle.waff_check.specs.declared.verdict.Verdict.TheVariants as verdict
 use Rattle.waff_check.proofs.OwnLaws.{own_plan_is_shortest, own_plan_is_within_bound}
-use Rattle.waff_check.proofs.PromiseLaws as promise
+use Rattle.waff_check.proofs.PromiseLaws.{promises}
 use Rattle.waff_tool.specs.CheckText.{IsCheckText}
 use Rattle.waff_inputs.specs.Inputs as inputs
 use Rattle.waff_tool.specs.PlanText.{IsPlanText, IsWorkerPlanText, work_of_trace}
@@ -280,7 +279,7 @@ some_is a b same = cc
 
 manned : (work : Work) (start : ℕ → ℕ) (workers : List ℕ) (k : ℕ) → ((m : ℕ) → IsNumber work m → 1 ≤ work.cost m)
     → ((m : ℕ) → IsNumber work m → IsSeated work start (worker_of workers) m) → ((t : ℕ) → running work start t ≤ k)
-    → AreManned work start (seat_of workers) k
+    → AreOneAtATime work start (seat_of workers) k
 manned work start workers k some_cost seated at_once = record {
   each = λ m number.
       let few = at_once (start m) in
@@ -333,7 +332,6 @@ module _ (hierarchy_file trace_file : List ℕ) (layout : Hierarchy) (trace : Ar
         let before = IsOrdered layout.tree assigned in
         let given = given_of trace.version before (work_of_trace trace) within_limits forward_pairs chain is_chain layout.tree assigned workers start worker can in
         let rows = length-map-range_with_len (row_told layout.tree assigned (work_of_trace trace) start worker) 1 (work_of_trace trace).count ∙ count_is trace is_trace in
-        let good = λ (a : Accepts v). promise.faultless-of claim v is a in
         record {
           layout = layout;
           trace = trace;
@@ -342,13 +340,8 @@ module _ (hierarchy_file trace_file : List ℕ) (layout : Hierarchy) (trace : Ar
           accepts = accepts;
           is_plan = ap (λ n. plan_of trace.version n text) (sym (count_is trace is_trace)) ∙ read;
           verdict = is;
-          obeys = λ a. promise.obeys claim (good a);
-          worker_plan = λ a k e. promise.worker-plan claim (good a) k e;
-          one_at_a_time = λ a. promise.one-at-a-time claim (good a);
-          chain = λ a. promise.chain-of claim given rows (good a);
-          shortest = λ same. promise.shortest claim (chains_are_within_length before (work_of_trace trace)) given rows (subst (IsVerdict claim) same is);
-          bound = λ same. promise.bound claim (bound_is_within_twice before (work_of_trace trace)) (bound_is_within_ratio before (work_of_trace trace)) given rows
-              (subst (IsVerdict claim) same is);
+          promises = promises claim (chains_are_within_length before (work_of_trace trace)) (bound_is_within_twice before (work_of_trace trace))
+              (bound_is_within_ratio before (work_of_trace trace)) given rows v is;
         }
 
 -- a text that tells a plan, and the plan that is read of it
@@ -389,7 +382,7 @@ own_plan_passes hierarchy_file trace_file text told =
 
 -- the workers of a plan for k workers
 crew_of : (rule : Rule) (hierarchy_file trace_file : List ℕ) (k : ℕ) (text : List ℕ) (told : IsWorkerPlanText rule hierarchy_file trace_file k text)
-    → AreManned (work_of_trace told.trace) (start_of told.starts) (seat_of told.workers) k
+    → AreOneAtATime (work_of_trace told.trace) (start_of told.starts) (seat_of told.workers) k
 crew_of rule hierarchy_file trace_file k text told =
     let small = within_limits hierarchy_file trace_file told.layout told.trace told.assigned told.accepts in
     manned (work_of_trace told.trace) (start_of told.starts) told.workers k small.some_cost told.seated told.bounded.at_once

@@ -6,8 +6,7 @@ use Rattle.waff_read.specs.Hierarchies.{hierarchy_of}
 use Rattle.waff_read.specs.Traces.{trace_of}
 use Rattle.waff_plan_text.specs.Given.{Given}
 use Rattle.waff_plan_text.specs.PlanTexts.{plan_of}
-use Rattle.waff_check.specs.Promises.{PromisesBound, PromisesChain, PromisesObeys}
-use Rattle.waff_check.specs.Promises.{PromisesOneAtATime, PromisesShortest, PromisesWorkerPlan}
+use Rattle.waff_check.specs.Promises.{Promises}
 use Rattle.waff_check.specs.Verdicts.{IsVerdict, claim_of}
 use Rattle.waff_plan_text.specs.declared.refusal.PlanTextError.{PlanTextError}
 use Rattle.waff_check.specs.declared.verdict.Verdict.{Verdict}
@@ -41,17 +40,10 @@ abbrev pub status_after : Verdict → ℕ
 status_after verdict.Obeys = 0
 status_after verdict.Shortest = 0
 status_after verdict.WithinBound = 0
-status_after (verdict.Overlap first second) = 1
-status_after (verdict.TooManyAt tick) = 1
-status_after (verdict.Worker message) = 1
-status_after (verdict.Affinity message) = 1
-status_after (verdict.Finish message) = 1
-status_after verdict.Totals = 1
-status_after (verdict.NotAChain place) = 1
-status_after (verdict.Early message) = 1
+status_after _ = 1
 
 -- bytes that are a hierarchy, a trace over it and the text of a plan for its messages; the verdict
--- on that plan, and what the verdict promises
+-- on that plan, and what the verdict implies
 pub record IsCheckText (hierarchy_file trace_file plan_file : List ℕ) (v : Verdict) : Type 0 where
   pub layout : Hierarchy
   pub trace : Arrivals
@@ -60,12 +52,7 @@ pub record IsCheckText (hierarchy_file trace_file plan_file : List ℕ) (v : Ver
   pub accepts : Accepts hierarchy_file trace_file layout trace assigned
   pub is_plan : plan_of trace.version (length trace.messages) plan_file ≡ Ok given
   pub verdict : IsVerdict (claim_of layout.tree assigned trace.messages given) v
-  pub obeys : PromisesObeys (claim_of layout.tree assigned trace.messages given) v
-  pub worker_plan : PromisesWorkerPlan (claim_of layout.tree assigned trace.messages given) v
-  pub one_at_a_time : PromisesOneAtATime (claim_of layout.tree assigned trace.messages given) v
-  pub chain : PromisesChain (claim_of layout.tree assigned trace.messages given) v
-  pub shortest : PromisesShortest (claim_of layout.tree assigned trace.messages given) v
-  pub bound : PromisesBound (claim_of layout.tree assigned trace.messages given) v
+  pub promises : Promises (claim_of layout.tree assigned trace.messages given) v
 
 -- the hierarchy and the trace are accepted, and the text of the plan is refused
 pub record RefusesPlan (hierarchy_file trace_file plan_file : List ℕ)

@@ -12,10 +12,5 @@ returns g c hierarchy trace plan layout accepts tree is_plan =
       accepts = accepts;
       is_plan = is_plan;
       verdict = rw tree promised.verdict;
-      obeys = rw tree promised.obeys;
-      worker_plan = rw tree promised.worker_plan;
-      one_at_a_time = promised.one_at_a_time;
-      chain = rw tree promised.chain;
-      shortest = rw tree promised.shortest;
-      bound = rw tree promised.bound;
+      promises = rw tree promised.promises;
     }

@@ -29,12 +29,7 @@ returns-clause-made g c hierarchy trace accepts =
         accepts = accepts;
         is_plan = given;
         verdict = rw (is.tree, is.assigned, is.trace) at promised.verdict;
-        obeys = rw (is.tree, is.assigned, is.trace) at promised.obeys;
-        worker_plan = rw (is.tree, is.assigned, is.trace) at promised.worker_plan;
-        one_at_a_time = rw is.trace at promised.one_at_a_time;
-        chain = rw (is.tree, is.assigned, is.trace) at promised.chain;
-        shortest = rw (is.tree, is.assigned, is.trace) at promised.shortest;
-        bound = rw (is.tree, is.assigned, is.trace) at promised.bound;
+        promises = rw (is.tree, is.assigned, is.trace) at promised.promises;
       };
       figures = c.in_ok-figures.figures;
       rated = rw (is.tree, is.assigned, is.trace) at c.in_ok-figures.ensures;
