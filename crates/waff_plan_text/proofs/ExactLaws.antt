@@ -79,9 +79,6 @@ module _ (version : Version) (messages : ℕ) (rows : List Record) where
 
         by : (r : Result NumberedRow Refusal) → ReadAs free (five_of row) r → (n : ℕ) × (says : Row) × IsRowOf messages row n says × HasSmallNumbers says
         by (Ok given) (spells, small, fresh) = (given.message, given.row, subst (λ m. IsRowOf m row given.message given.row) count spells, small)
-        by (Err refusal.Csv) h = absurd h
-        by (Err refusal.Header) h = absurd h
-        by (Err refusal.Summary) h = absurd h
         by (Err refusal.Row) h =
             absurd (never k row (error.Row (k + 2)) there
             (number_at k row there, none, λ n says is. h n says (subst (λ m. IsRowOf m row n says) (sym count) is)))
@@ -93,6 +90,7 @@ module _ (version : Version) (messages : ℕ) (rows : List Record) where
         by (Err refusal.TooLarge) (n, says, spells, large, fresh) =
             absurd (never k row (error.TooLarge (k + 2)) there
             (number_at k row there, inl (none, (n, says, subst (λ m. IsRowOf m row n says) count spells, large))))
+        by (Err _) h = absurd h
 
     no_second : (i j n : ℕ) (a b : Record) (r s : Row) → slice_get rows i ≡ Some a → slice_get rows j ≡ Some b → i < j → summary_in (take j rows ++ b ∷ []) ≡ []
         → IsRowOf messages a n r → IsRowOf messages b n s → ⊥
@@ -335,9 +333,6 @@ module _ (version : Version) (messages : ℕ) (rows : List Record) (plan : Given
       by : (r : Result NumberedRow Refusal) → ReadAs slots (five_of row) r
           → (given : NumberedRow) × (r ≡ Ok given) × IsRowOf messages row given.message given.row × (slot_of slots given.message ≡ None)
       by (Ok given) (spells, small, free) = (given, refl, subst (λ m. IsRowOf m row given.message given.row) so_far.count spells, free)
-      by (Err refusal.Csv) h = absurd h
-      by (Err refusal.Header) h = absurd h
-      by (Err refusal.Summary) h = absurd h
       by (Err refusal.Row) h =
           absurd (h found.0 (row_at plan.rows found.0) (subst (λ m. IsRowOf m row found.0 (row_at plan.rows found.0)) (sym so_far.count) found.1))
       by (Err refusal.Twice) (n, says, other, spells, filled) =
@@ -351,6 +346,7 @@ module _ (version : Version) (messages : ℕ) (rows : List Record) (plan : Given
       by (Err refusal.TooLarge) (n, says, spells, large, free) =
           let is = subst (λ m. IsRowOf m row n says) so_far.count spells in
           absurd (large (says_of (suc k) at.within none_more k n row says at.there (omega arith) is).1)
+      by (Err _) h = absurd h
 
   plan_read : (left : List Record) (k : ℕ) (slots : Slots) → drop k rows ≡ left → k ≤ length rows → summary_in (take k rows) ≡ []
       → Kept messages slots (take k rows) → plan_after version messages (k + 2) slots left ≡ Ok plan

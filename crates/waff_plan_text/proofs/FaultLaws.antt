@@ -28,111 +28,65 @@ use Rattle.waff_plan_text.proofs.SummaryLaws.{LineOnly, LinesOnly, lines_only, l
 
 -- what a check of a record of the summary says
 abbrev LineFault : Option Line → Record → PlanTextError → Type 0
-LineFault next row (error.Csv at) = ⊥
-LineFault next row (error.Header at) = ⊥
-LineFault next row (error.Row at) = ⊥
-LineFault next row (error.Missing message) = ⊥
-LineFault next row (error.Twice at) = ⊥
 LineFault next row (error.Summary at) = IsNotLine next row
 LineFault next row (error.TooLarge at) = IsTooLargeLine next row
-LineFault next row error.Memory = ⊥
+LineFault next row _ = ⊥
 
 -- and of a record before it
 abbrev RowFault : ℕ → List Record → Record → PlanTextError → Type 0
-RowFault messages before row (error.Csv at) = ⊥
-RowFault messages before row (error.Header at) = ⊥
 RowFault messages before row (error.Row at) = (n : ℕ) (says : Row) → IsRowOf messages row n says → ⊥
-RowFault messages before row (error.Missing message) = ⊥
 RowFault messages before row (error.Twice at) = (n : ℕ) × (says : Row) × IsRowOf messages row n says × HasRow messages before n
-RowFault messages before row (error.Summary at) = ⊥
 RowFault messages before row (error.TooLarge at) = IsTooLargeRow messages row
-RowFault messages before row error.Memory = ⊥
+RowFault messages before row _ = ⊥
 
 line_least : (next : Option Line) (row : Record) (e : PlanTextError) → LineFault next row e → 6 ≤ number e
-line_least next row (error.Csv at) h = absurd h
-line_least next row (error.Header at) h = absurd h
-line_least next row (error.Row at) h = absurd h
-line_least next row (error.Missing message) h = absurd h
-line_least next row (error.Twice at) h = absurd h
 line_least next row (error.Summary at) h = omega arith
 line_least next row (error.TooLarge at) h = omega arith
-line_least next row error.Memory h = absurd h
+line_least next row _ h = absurd h
 
 large_least : (line : Line) (row : Record) → line row ≡ Some refusal.TooLarge → (e : PlanTextError) → LineFault (Some line) row e → 7 ≤ number e
-large_least line row is (error.Csv at) h = absurd h
-large_least line row is (error.Header at) h = absurd h
-large_least line row is (error.Row at) h = absurd h
-large_least line row is (error.Missing message) h = absurd h
-large_least line row is (error.Twice at) h = absurd h
 large_least line row is (error.Summary at) h = absurd (cc)
 large_least line row is (error.TooLarge at) h = omega arith
-large_least line row is error.Memory h = absurd h
+large_least line row is _ h = absurd h
 
 line_clean : (line : Line) (row : Record) → line row ≡ None → (e : PlanTextError) → LineFault (Some line) row e → ⊥
-line_clean line row is (error.Csv at) h = h
-line_clean line row is (error.Header at) h = h
-line_clean line row is (error.Row at) h = h
-line_clean line row is (error.Missing message) h = h
-line_clean line row is (error.Twice at) h = h
 line_clean line row is (error.Summary at) h = absurd (cc)
 line_clean line row is (error.TooLarge at) h = absurd (cc)
-line_clean line row is error.Memory h = h
+line_clean line row is _ h = h
 
 any_least : (e : PlanTextError) → 1 ≤ number e
-any_least (error.Csv at) = omega arith
-any_least (error.Header at) = omega arith
-any_least (error.Row at) = omega arith
-any_least (error.Missing message) = omega arith
-any_least (error.Twice at) = omega arith
-any_least (error.Summary at) = omega arith
-any_least (error.TooLarge at) = omega arith
 any_least error.Memory = omega arith
+any_least _ = omega arith
 
 row_least : (messages : ℕ) (before : List Record) (row : Record) (e : PlanTextError) → RowFault messages before row e → 3 ≤ number e
-row_least messages before row (error.Csv at) h = absurd h
-row_least messages before row (error.Header at) h = absurd h
 row_least messages before row (error.Row at) h = omega arith
-row_least messages before row (error.Missing message) h = absurd h
 row_least messages before row (error.Twice at) h = omega arith
-row_least messages before row (error.Summary at) h = absurd h
 row_least messages before row (error.TooLarge at) h = omega arith
-row_least messages before row error.Memory h = absurd h
+row_least messages before row _ h = absurd h
 
 twice_least : (messages : ℕ) (before : List Record) (row : Record) → (((n : ℕ) (says : Row) → IsRowOf messages row n says → ⊥) → ⊥)
     → (e : PlanTextError) → RowFault messages before row e → 5 ≤ number e
-twice_least messages before row is (error.Csv at) h = absurd h
-twice_least messages before row is (error.Header at) h = absurd h
 twice_least messages before row is (error.Row at) h = absurd (is h)
-twice_least messages before row is (error.Missing message) h = absurd h
 twice_least messages before row is (error.Twice at) h = omega arith
-twice_least messages before row is (error.Summary at) h = absurd h
 twice_least messages before row is (error.TooLarge at) h = omega arith
-twice_least messages before row is error.Memory h = absurd h
+twice_least messages before row is _ h = absurd h
 
 abbrev IsSecond : ℕ → List Record → Record → Type 0
 IsSecond messages before row = (n : ℕ) × (says : Row) × IsRowOf messages row n says × HasRow messages before n
 
 too_large_least : (messages : ℕ) (before : List Record) (row : Record) → (((n : ℕ) (says : Row) → IsRowOf messages row n says → ⊥) → ⊥)
     → (IsSecond messages before row → ⊥) → (e : PlanTextError) → RowFault messages before row e → 7 ≤ number e
-too_large_least messages before row is one (error.Csv at) h = absurd h
-too_large_least messages before row is one (error.Header at) h = absurd h
 too_large_least messages before row is one (error.Row at) h = absurd (is h)
-too_large_least messages before row is one (error.Missing message) h = absurd h
 too_large_least messages before row is one (error.Twice at) h = absurd (one h)
-too_large_least messages before row is one (error.Summary at) h = absurd h
 too_large_least messages before row is one (error.TooLarge at) h = omega arith
-too_large_least messages before row is one error.Memory h = absurd h
+too_large_least messages before row is one _ h = absurd h
 
 row_clean : (messages : ℕ) (before : List Record) (row : Record) → (((n : ℕ) (says : Row) → IsRowOf messages row n says → ⊥) → ⊥)
     → (IsSecond messages before row → ⊥) → (IsTooLargeRow messages row → ⊥) → (e : PlanTextError) → RowFault messages before row e → ⊥
-row_clean messages before row is one small (error.Csv at) h = h
-row_clean messages before row is one small (error.Header at) h = h
 row_clean messages before row is one small (error.Row at) h = is h
-row_clean messages before row is one small (error.Missing message) h = h
 row_clean messages before row is one small (error.Twice at) h = one h
-row_clean messages before row is one small (error.Summary at) h = h
 row_clean messages before row is one small (error.TooLarge at) h = small h
-row_clean messages before row is one small error.Memory h = h
+row_clean messages before row is one small _ h = h
 
 abbrev IsComplete : ℕ → List Record → Type 0
 IsComplete messages before = summary_in before ≡ [] → (message : ℕ) → IsMissing messages before message → ⊥
@@ -140,41 +94,25 @@ IsComplete messages before = summary_in before ≡ [] → (message : ℕ) → Is
 -- what holds at the end
 module _ (version : Version) (messages : ℕ) (before : List Record) where
   end_least : (e : PlanTextError) → HoldsAtEnd version messages before e → 4 ≤ number e
-  end_least (error.Csv at) h = absurd h
-  end_least (error.Header at) h = absurd h
-  end_least (error.Row at) h = absurd h
   end_least (error.Missing message) h = omega arith
-  end_least (error.Twice at) h = absurd h
   end_least (error.Summary at) h = omega arith
-  end_least (error.TooLarge at) h = absurd h
-  end_least error.Memory h = absurd h
+  end_least _ h = absurd h
 
   complete_least : IsComplete messages before → (e : PlanTextError) → HoldsAtEnd version messages before e → 6 ≤ number e
-  complete_least complete (error.Csv at) h = absurd h
-  complete_least complete (error.Header at) h = absurd h
-  complete_least complete (error.Row at) h = absurd h
   complete_least complete (error.Missing message) h = absurd (complete h.0 message h.1)
-  complete_least complete (error.Twice at) h = absurd h
   complete_least complete (error.Summary at) h = omega arith
-  complete_least complete (error.TooLarge at) h = absurd h
-  complete_least complete error.Memory h = absurd h
+  complete_least complete _ h = absurd h
 
   end_clean : IsComplete messages before → next_of version messages before ≡ None → (e : PlanTextError) → HoldsAtEnd version messages before e → ⊥
-  end_clean complete last (error.Csv at) h = h
-  end_clean complete last (error.Header at) h = h
-  end_clean complete last (error.Row at) h = h
   end_clean complete last (error.Missing message) h = complete h.0 message h.1
-  end_clean complete last (error.Twice at) h = h
   end_clean complete last (error.Summary at) h = let more : is_some (next_of version messages before) ≡ false = rw last refl in let h1 = h.1 in absurd (cc)
-  end_clean complete last (error.TooLarge at) h = h
-  end_clean complete last error.Memory h = h
+  end_clean complete last _ h = h
 
 module _ (version : Version) (messages : ℕ) (before : List Record) (row : Record) (text : is_text row ≡ true) where
   in_summary : (next : Option Line) → 1 ≤ length (summary_in (before ++ row ∷ [])) → next_of version messages before ≡ next
       → (summary_in before ≡ [] → (message : ℕ) → IsMissing messages before message → ⊥)
       → (e : PlanTextError) → HoldsOf version messages before row e → LineFault next row e
   in_summary next some is complete (error.Csv at) h = let not : is_text row ≡ false = h.1 in absurd (cc)
-  in_summary next some is complete (error.Header at) h = h
   in_summary next some is complete (error.Row at) h = let none = ap length h.1 in absurd (omega (arith, some, none))
   in_summary next some is complete (error.Missing message) h = complete h.0 message h.2
   in_summary next some is complete (error.Twice at) h = let none = ap length h.1 in absurd (omega (arith, some, none))
@@ -186,22 +124,18 @@ module _ (version : Version) (messages : ℕ) (before : List Record) (row : Reco
           → IsTooLargeLine next row
       by (inl k) = let none = ap length k.0 in absurd (omega (arith, some, none))
       by (inr k) = subst (λ n. IsTooLargeLine n row) is k.1
-  in_summary next some is complete error.Memory h = h
+  in_summary next some is complete _ h = h
 
   begin_least : 1 ≤ length (summary_in (before ++ row ∷ [])) → (e : PlanTextError) → HoldsOf version messages before row e → 4 ≤ number e
   begin_least some (error.Csv at) h = let not : is_text row ≡ false = h.1 in absurd (cc)
   begin_least some (error.Header at) h = absurd h
   begin_least some (error.Row at) h = let none = ap length h.1 in absurd (omega (arith, some, none))
-  begin_least some (error.Missing message) h = omega arith
-  begin_least some (error.Twice at) h = omega arith
-  begin_least some (error.Summary at) h = omega arith
-  begin_least some (error.TooLarge at) h = omega arith
   begin_least some error.Memory h = absurd h
+  begin_least some _ h = omega arith
 
   among_rows : summary_in (before ++ row ∷ []) ≡ [] → begins_summary row ≡ false
       → (e : PlanTextError) → HoldsOf version messages before row e → RowFault messages before row e
   among_rows none begins (error.Csv at) h = let not : is_text row ≡ false = h.1 in absurd (cc)
-  among_rows none begins (error.Header at) h = h
   among_rows none begins (error.Row at) h = h.2
   among_rows none begins (error.Missing message) h = let yes : begins_summary row ≡ true = h.1 in absurd (cc)
   among_rows none begins (error.Twice at) h = h.2
@@ -213,7 +147,7 @@ module _ (version : Version) (messages : ℕ) (before : List Record) (row : Reco
           → IsTooLargeRow messages row
       by (inl k) = k.1
       by (inr k) = let no = ap length none in let some = k.0 in absurd (omega (arith, some, no))
-  among_rows none begins error.Memory h = h
+  among_rows none begins _ h = h
 
 module _ (version : Version) (messages : ℕ) (rows : List Record) where
   abbrev pub HoldsAt : ℕ → PlanTextError → Type 0
@@ -326,10 +260,6 @@ module _ (version : Version) (messages : ℕ) (rows : List Record) where
           others (clean_of k within clean row (is_at rows k row more d).there
           (λ e holds. line_clean line row is e
           (in_summary version messages (take k rows) row text (Some line) (omega (arith, starts)) (next_some k i line lines count l) complete e holds)))
-      read text others (Some refusal.Csv) is h = absurd h
-      read text others (Some refusal.Header) is h = absurd h
-      read text others (Some refusal.Row) is h = absurd h
-      read text others (Some refusal.Twice) is h = absurd h
       read text others (Some refusal.Summary) is h =
           let starts = opened row more refl in
           let next = next_some k i line lines count l in
@@ -344,6 +274,7 @@ module _ (version : Version) (messages : ℕ) (rows : List Record) where
           fault_of k within clean row (error.TooLarge (k + 2)) (is_at rows k row more d).there
           (number_is k within clean, inr (some, subst (λ n. IsTooLargeLine n row) (sym next) is))
           (λ other holds. large_least line row is other (in_summary version messages (take k rows) row text (Some line) some next complete other holds))
+      read text others (Some _) is h = absurd h
 
       by : (t : Bool) → is_text row ≡ t → (Clean (suc k) → Decides (lines_refusal lines (k + 2 + 1) more))
           → Decides (if t then or_else (line row) (k + 2) (lines_refusal lines (k + 2 + 1) more) else Some (error.Csv (k + 2)))
@@ -439,9 +370,6 @@ module _ (version : Version) (messages : ℕ) (rows : List Record) where
   row_refused : (k : ℕ) (slots : Slots) (row : Record) (more : List Record) → drop k rows ≡ row ∷ more → k ≤ length rows
       → summary_in (take k rows ++ row ∷ []) ≡ [] → is_text row ≡ true → begins_summary row ≡ false → Kept messages slots (take k rows) → Clean k
       → (e : Refusal) → RefusedAs slots (five_of row) e → Decides (Some (at_record (k + 2) e))
-  row_refused k slots row more d within among text begins so_far clean refusal.Csv h = absurd h
-  row_refused k slots row more d within among text begins so_far clean refusal.Header h = absurd h
-  row_refused k slots row more d within among text begins so_far clean refusal.Summary h = absurd h
   row_refused k slots row more d within among text begins so_far clean refusal.Row h =
       fault_of k within clean row (error.Row (k + 2)) (is_at rows k row more d).there
       (number_is k within clean, among, λ n says spells. h n says (subst (λ m. IsRowOf m row n says) (sym so_far.count) spells))
@@ -461,6 +389,7 @@ module _ (version : Version) (messages : ℕ) (rows : List Record) where
       (λ other holds. too_large_least messages (take k rows) row (λ not. not n says is)
       (not_second slots (take k rows) row n says so_far is free) other
       (among_rows version messages (take k rows) row text among begins other holds))
+  row_refused k slots row more d within among text begins so_far clean _ h = absurd h
 
   abbrev Others : ℕ → List Record → Type 0
   Others k more =
@@ -512,23 +441,17 @@ named n at =
 module _ (version : Version) (messages : ℕ) (before : List Record) where
   named_of : (row : Record) (e : PlanTextError) → HoldsOf version messages before row e → (number e ≡ 4 → ⊥) → e ≡ named (number e) (number_behind before)
   named_of row (error.Csv at) h differs = ap error.Csv h.0
-  named_of row (error.Header at) h differs = absurd h
   named_of row (error.Row at) h differs = ap error.Row h.0
   named_of row (error.Missing message) h differs = absurd (differs refl)
   named_of row (error.Twice at) h differs = ap error.Twice h.0
   named_of row (error.Summary at) h differs = ap error.Summary h.0
   named_of row (error.TooLarge at) h differs = ap error.TooLarge h.0
-  named_of row error.Memory h differs = absurd h
+  named_of row _ h differs = absurd h
 
   named_at_end : (e : PlanTextError) → HoldsAtEnd version messages before e → (number e ≡ 4 → ⊥) → e ≡ named (number e) (number_behind before)
-  named_at_end (error.Csv at) h differs = absurd h
-  named_at_end (error.Header at) h differs = absurd h
-  named_at_end (error.Row at) h differs = absurd h
   named_at_end (error.Missing message) h differs = absurd (differs refl)
-  named_at_end (error.Twice at) h differs = absurd h
   named_at_end (error.Summary at) h differs = ap error.Summary h.0
-  named_at_end (error.TooLarge at) h differs = absurd h
-  named_at_end error.Memory h differs = absurd h
+  named_at_end _ h differs = absurd h
 
   named_here : (entry : Option Record) (e : PlanTextError) → HasFault version messages before entry e → (number e ≡ 4 → ⊥) → e ≡ named (number e) (number_behind before)
   named_here None e h differs = named_at_end e h differs
@@ -547,14 +470,8 @@ module _ (version : Version) (messages : ℕ) (before : List Record) where
       by (inr (inr above)) = absurd (q.none (p.least b q.from above))
 
   is_missing : (e : PlanTextError) → number e ≡ 4 → (message : ℕ) × (e ≡ error.Missing message)
-  is_missing (error.Csv at) h = absurd (omega (arith, h))
-  is_missing (error.Header at) h = absurd (omega (arith, h))
-  is_missing (error.Row at) h = absurd (omega (arith, h))
   is_missing (error.Missing message) h = (message, refl)
-  is_missing (error.Twice at) h = absurd (omega (arith, h))
-  is_missing (error.Summary at) h = absurd (omega (arith, h))
-  is_missing (error.TooLarge at) h = absurd (omega (arith, h))
-  is_missing error.Memory h = absurd (omega (arith, h))
+  is_missing _ h = absurd (omega (arith, h))
 
   same_error : (entry : Option Record) (e other : PlanTextError) → HasFault version messages before entry e → HasFault version messages before entry other
       → number e ≡ number other → e ≡ other

@@ -18,12 +18,6 @@ same_field : (text name : Field) → bytes_eq text name ≡ true → text ≡ na
 same_field text name h = (bytes_eq-Decides text name).0 h
 
 is_the_header : (first : Record) → is_header (five_of first) ≡ true → first ≡ plan_header
-is_the_header [] h = absurd (cc)
-is_the_header (a ∷ []) h = absurd (cc)
-is_the_header (a ∷ b ∷ []) h = absurd (cc)
-is_the_header (a ∷ b ∷ c ∷ []) h = absurd (cc)
-is_the_header (a ∷ b ∷ c ∷ d ∷ []) h = absurd (cc)
-is_the_header (a ∷ b ∷ c ∷ d ∷ e ∷ f ∷ more) h = absurd (cc)
 is_the_header (a ∷ b ∷ c ∷ d ∷ e ∷ []) h =
     let one = and_parts (bytes_eq a (codes "message")) _ h in
     let two = and_parts (bytes_eq b (codes "affinity")) _ one.1 in
@@ -34,6 +28,7 @@ is_the_header (a ∷ b ∷ c ∷ d ∷ e ∷ []) h =
     ∙ ap (λ x. codes "message" ∷ codes "affinity" ∷ x ∷ d ∷ e ∷ []) (same_field c (codes "start") three.0)
     ∙ ap (λ x. codes "message" ∷ codes "affinity" ∷ codes "start" ∷ x ∷ e ∷ []) (same_field d (codes "finish") four.0)
     ∙ ap (λ x. codes "message" ∷ codes "affinity" ∷ codes "start" ∷ codes "finish" ∷ x ∷ []) (same_field e (codes "worker") four.1)
+is_the_header _ h = absurd (cc)
 
 -- what the first record leads to
 abbrev Judged : Bool → Bool → Result (Unit {0}) PlanTextError

@@ -37,20 +37,12 @@ number_in low high text = by (number_of text) refl
 
 -- a refusal for a number above the limit, because of P, and no other
 abbrev LargeOnly : Type 0 → Refusal → Type 0
-LargeOnly P refusal.Csv = ⊥
-LargeOnly P refusal.Header = ⊥
-LargeOnly P refusal.Row = ⊥
-LargeOnly P refusal.Twice = ⊥
-LargeOnly P refusal.Summary = ⊥
 LargeOnly P refusal.TooLarge = P
+LargeOnly P _ = ⊥
 
 large_because : (P Q : Type 0) → (P → Q) → (e : Refusal) → LargeOnly P e → LargeOnly Q e
-large_because P Q f refusal.Csv h = h
-large_because P Q f refusal.Header h = h
-large_because P Q f refusal.Row h = h
-large_because P Q f refusal.Twice h = h
-large_because P Q f refusal.Summary h = h
 large_because P Q f refusal.TooLarge h = f h
+large_because P Q f _ h = h
 
 -- the number n, within the limit or not
 abbrev TickIs : ℕ → Result ℕ Refusal → Type 0
@@ -155,13 +147,11 @@ row_true messages message affinity start finish worker n row spells =
 
 -- why five fields are refused as a row after the rows so far
 abbrev pub RefusedAs : Slots → Option (Field × Field × Field × Field × Field) → Refusal → Type 0
-RefusedAs slots fields refusal.Csv = ⊥
-RefusedAs slots fields refusal.Header = ⊥
 RefusedAs slots fields refusal.Row = (n : ℕ) (row : Row) → IsRowOfFive (length slots) fields n row → ⊥
 RefusedAs slots fields refusal.Twice = (n : ℕ) × (row : Row) × (other : Row) × IsRowOfFive (length slots) fields n row × (slot_of slots n ≡ Some other)
-RefusedAs slots fields refusal.Summary = ⊥
 RefusedAs slots fields refusal.TooLarge =
     (n : ℕ) × (row : Row) × IsRowOfFive (length slots) fields n row × (HasSmallNumbers row → ⊥) × (slot_of slots n ≡ None)
+RefusedAs slots fields _ = ⊥
 
 -- and what they are read as
 abbrev pub ReadAs : Slots → Option (Field × Field × Field × Field × Field) → Result NumberedRow Refusal → Type 0
@@ -175,12 +165,8 @@ module _ (slots : Slots) (message affinity start finish worker : Field) where
 
   too_large : (n : ℕ) (row : Row) → SpellsRow (length slots) message affinity start finish worker n row → slot_of slots n ≡ None
       → (e : Refusal) → LargeOnly (HasSmallNumbers row → ⊥) e → Verdict (Err e)
-  too_large n row spells free refusal.Csv h = h
-  too_large n row spells free refusal.Header h = h
-  too_large n row spells free refusal.Row h = absurd h
-  too_large n row spells free refusal.Twice h = absurd h
-  too_large n row spells free refusal.Summary h = h
   too_large n row spells free refusal.TooLarge h = (n, row, spells, h, free)
+  too_large n row spells free _ h = absurd h
 
   five_read : Verdict (numbered_row_of slots message affinity start finish worker)
   unfolding numbered_row_of

@@ -30,9 +30,6 @@ use Rattle.waff_plan_text.proofs.SummaryLaws.{drop-one}
 same_read : {F A : Type 0} (a b : A) → ◌≡◌ {A = Result A F} (Ok a) (Ok b) → a ≡ b
 same_read a b h = cc
 
-no_read : {F A : Type 0} (e : F) (a : A) → ◌≡◌ {A = Result A F} (Err e) (Ok a) → ⊥
-no_read e a h = absurd (cc)
-
 -- one reading after the other, both of which gave a value
 bind_ok : {F A B : Type 0} (r : Result A F) (f : A → Result B F) (b : B) → (r >>= f) ≡ Ok b → (a : A) × (r ≡ Ok a) × (f a ≡ Ok b)
 bind_ok (Ok a) f b h = (a, refl, h)
@@ -55,8 +52,6 @@ ok_line read at row more a text is = rw (text, is) refl
 
 -- the value of a line with a name
 pub value_ok : (name : Field) (row : Record) (text : Field) → value_of name (two_of row) ≡ Ok text → row ≡ name ∷ text ∷ []
-value_ok name [] text h = absurd (cc)
-value_ok name (a ∷ []) text h = absurd (cc)
 value_ok name (a ∷ b ∷ []) text h = by (bytes_eq a name) refl h
   where
     by : (t : Bool) → bytes_eq a name ≡ t → (if t then Ok b else Err refusal.Summary) ≡ Ok text → a ∷ b ∷ [] ≡ name ∷ text ∷ []
@@ -65,7 +60,7 @@ value_ok name (a ∷ b ∷ []) text h = by (bytes_eq a name) refl h
         let two : b ≡ text = cc in
         rw (one, two) refl
     by false is same = absurd (cc)
-value_ok name (a ∷ b ∷ c ∷ more) text h = absurd (cc)
+value_ok name _ text h = absurd (cc)
 
 pub ok_value : (name text : Field) → value_of name (two_of (name ∷ text ∷ [])) ≡ Ok text
 ok_value name text = rw ((bytes_eq-Decides name name).1 refl) refl
@@ -211,22 +206,17 @@ ok_chain messages text chain are listed = ap (λ r. r >>= chain_of messages) (ok
 -- the bound
 bound_ok : (row : Record) (sides : ℕ × ℕ) → bound_line row ≡ Ok sides
     → (left : Field) × (right : Field) × (row ≡ codes "bound" ∷ left ∷ right ∷ []) × IsTick left sides.0 × IsTick right sides.1
-bound_ok [] sides h = absurd (cc)
-bound_ok (a ∷ []) sides h = absurd (cc)
-bound_ok (a ∷ b ∷ []) sides h = absurd (cc)
-bound_ok (a ∷ b ∷ c ∷ d ∷ more) sides h = absurd (cc)
 bound_ok (a ∷ b ∷ c ∷ []) sides h = by (is_bound a b c) refl (number_within_limit b) (number_within_limit c) refl refl h
   where
     by : (t : Bool) → is_bound a b c ≡ t → (l r : Result ℕ Refusal) → number_within_limit b ≡ l → number_within_limit c ≡ r
         → (if t then (l >>= (λ left. r >>= (λ right. let sides : ℕ × ℕ = (left, right) in Ok sides))) else Err refusal.Summary) ≡ Ok sides
         → (left : Field) × (right : Field) × (a ∷ b ∷ c ∷ [] ≡ codes "bound" ∷ left ∷ right ∷ []) × IsTick left sides.0 × IsTick right sides.1
-    by false _ l r _ _ same = absurd (no_read refusal.Summary sides same)
-    by true _ (Err e) r _ _ same = absurd (no_read e sides same)
-    by true _ (Ok l) (Err e) _ _ same = absurd (no_read e sides same)
     by true is (Ok l) (Ok r) p q same =
         let name : a ≡ codes "bound" = (bytes_eq-Decides a (codes "bound")).0 (and_parts (bytes_eq a (codes "bound")) _ is).0 in
         let whole = same_read (l, r) sides same in
         (b, c, ap (λ n. n ∷ b ∷ c ∷ []) name, subst (λ (s : ℕ × ℕ). IsTick b s.0) whole (limit_ok b l p), subst (λ (s : ℕ × ℕ). IsTick c s.1) whole (limit_ok c r q))
+    by _ _ _ _ _ _ same = absurd (cc)
+bound_ok _ sides h = absurd (cc)
 
 pub ok_bound : (left_text right_text : Field) (left right : ℕ) → IsTick left_text left → IsTick right_text right
     → bound_line (codes "bound" ∷ left_text ∷ right_text ∷ []) ≡ Ok (left, right)
@@ -275,9 +265,6 @@ ending_ok release at rows closing h =
         → next_line bound_line (at + 1) (drop 1 rows) ≡ b → (e : Result (Unit {0}) PlanTextError) → ends (at + 2) (drop 2 rows) ≡ e
         → (c >>= (λ cost. b >>= (λ bound. e >>= (λ _. let closing : Closing = record { release = release; cost = cost; left = bound.0; right = bound.1 } in
         let read : Result Closing PlanTextError = Ok closing in read)))) ≡ Ok closing → SpellsEnding release rows closing
-    by (Err d) _ b _ e _ same = absurd (no_read d closing same)
-    by (Ok c) _ (Err d) _ e _ same = absurd (no_read d closing same)
-    by (Ok c) _ (Ok b) _ (Err d) _ same = absurd (no_read d closing same)
     by (Ok c) p (Ok b) q (Ok u) r same =
         let whole = same_read (record { release = release; cost = c; left = b.0; right = b.1 }) closing same in
         let first = line_ok (tick_line (codes "cost")) at rows c p in
@@ -299,6 +286,7 @@ ending_ok release at rows closing h =
           left = bound.3;
           right = bound.4;
         })
+    by _ _ _ _ _ _ same = absurd (cc)
 
 closing_ok : (version : Version) (at : ℕ) (rows : List Record) (closing : Closing) → closing_of version at rows ≡ Ok closing → SpellsClosing version rows closing
 unfolding closing_of
@@ -356,11 +344,6 @@ spelled version messages at rows summary h =
           closing ← k
           Ok (with_closing workers total length chain closing)) ≡ Ok summary
         → SpellsSummary version messages rows summary
-    by (Err d) _ t _ l _ c _ k _ same = absurd (no_read d summary same)
-    by (Ok w) _ (Err d) _ l _ c _ k _ same = absurd (no_read d summary same)
-    by (Ok w) _ (Ok t) _ (Err d) _ c _ k _ same = absurd (no_read d summary same)
-    by (Ok w) _ (Ok t) _ (Ok l) _ (Err d) _ k _ same = absurd (no_read d summary same)
-    by (Ok w) _ (Ok t) _ (Ok l) _ (Ok c) _ (Err d) _ same = absurd (no_read d summary same)
     by (Ok w) wi (Ok t) ti (Ok l) li (Ok c) ci (Ok k) ki same =
         let whole = same_read (with_closing w t l c k) summary same in
         let a = line_ok workers_line at rows w wi in
@@ -403,6 +386,7 @@ spelled version messages at rows summary h =
           left = closing.left;
           right = closing.right;
         })
+    by _ _ _ _ _ _ _ _ _ _ same = absurd (cc)
 
 -- the texts of a list
 first_text : (row : Record) (more : List Record) → AreTexts (row ∷ more) → is_text row ≡ true

@@ -96,12 +96,9 @@ summary_refused V2 messages at rows = front V2 messages at rows
 -- a line is refused as no line, or for a number above the limit
 abbrev pub LineOnly : Option Refusal → Type 0
 LineOnly None = Unit {0}
-LineOnly (Some refusal.Csv) = ⊥
-LineOnly (Some refusal.Header) = ⊥
-LineOnly (Some refusal.Row) = ⊥
-LineOnly (Some refusal.Twice) = ⊥
 LineOnly (Some refusal.Summary) = Unit {0}
 LineOnly (Some refusal.TooLarge) = Unit {0}
+LineOnly (Some _) = ⊥
 
 abbrev pub LinesOnly : List Line → Type 0
 LinesOnly [] = Unit {0}

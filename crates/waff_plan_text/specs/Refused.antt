@@ -130,7 +130,6 @@ number_behind before = length before + 2
 abbrev pub HoldsOf : Version → ℕ → List Record → Record → PlanTextError → Type 0
 HoldsOf version messages before fields (error.Csv at) =
     (at ≡ number_behind before) × (is_text fields ≡ false)
-HoldsOf version messages before fields (error.Header at) = ⊥
 HoldsOf version messages before fields (error.Row at) =
     (at ≡ number_behind before) × IsAmongRows before fields
     × ((n : ℕ) (row : Row) → IsRowOf messages fields n row → ⊥)
@@ -146,21 +145,16 @@ HoldsOf version messages before fields (error.TooLarge at) =
     (at ≡ number_behind before)
     × ((IsAmongRows before fields × IsTooLargeRow messages fields)
     ⊎ (IsInSummary before fields × IsTooLargeLine (next_of version messages before) fields))
-HoldsOf version messages before fields error.Memory = ⊥
+HoldsOf version messages before fields _ = ⊥
 
 -- and of the end behind these records, which counts as one more record: a row is missing, or a line
 -- of the summary
 abbrev pub HoldsAtEnd : Version → ℕ → List Record → PlanTextError → Type 0
-HoldsAtEnd version messages before (error.Csv at) = ⊥
-HoldsAtEnd version messages before (error.Header at) = ⊥
-HoldsAtEnd version messages before (error.Row at) = ⊥
 HoldsAtEnd version messages before (error.Missing message) =
     (summary_in before ≡ []) × IsMissing messages before message
-HoldsAtEnd version messages before (error.Twice at) = ⊥
 HoldsAtEnd version messages before (error.Summary at) =
     (at ≡ number_behind before) × IsSome (next_of version messages before)
-HoldsAtEnd version messages before (error.TooLarge at) = ⊥
-HoldsAtEnd version messages before error.Memory = ⊥
+HoldsAtEnd version messages before _ = ⊥
 
 -- the check of this error holds of what is behind these records: one more, or the end
 abbrev pub HasFault : Version → ℕ → List Record → Option Record → PlanTextError → Type 0
