@@ -131,13 +131,13 @@ class Reader:
 
     def read_proof(self, page):
         """Each name in words stands somewhere in the sources."""
-        known = set().union(*(crate.names for crate in self.crates.values()), self.crates, kit_crates())
+        known = set().union(*(crate.names for crate in self.crates.values()), self.crates, kit_crates(self.crates))
         for number, line in page.lines:
             for span in TOKEN.findall(LINK.sub("", line)):
                 if NAME.match(span):
                     self.tell(span in known, f"{page.name}:{number}", f"no {span} in the sources")
         named = {span for _, line in page.lines for span in TOKEN.findall(line)}
-        for name in kit_crates():
+        for name in kit_crates(self.crates):
             self.tell(name in named, page.name, f"the crate {name} of the kit is not named")
 
     def read_scripts(self, page):
@@ -219,10 +219,9 @@ def crate_lines():
     return lines
 
 
-def kit_crates():
+def kit_crates(crates):
     """The crates of the kit that the crates stand on."""
-    below = re.findall(r"^\w.*?:(.*)", CRATES.read_text(), re.M)
-    return sorted({name for line in below for name in line.split() if not name.startswith("waff")})
+    return sorted({need for crate in crates.values() for need in crate.needs} - crates.keys())
 
 
 def write_crates():

@@ -35,8 +35,9 @@ class Function:
 class Crate:
     """A crate with its files, functions, definitions and wrong bodies."""
 
-    def __init__(self, folder):
+    def __init__(self, folder, needs):
         self.name = folder.name
+        self.needs = needs
         sources = sorted((folder / "src").glob("*.rt"))
         specs = sorted((folder / "specs").glob("*.antt"))
         texts = {path: path.read_text() for path in sources + specs}
@@ -86,5 +87,9 @@ def fields_of(text):
 
 def crates():
     """All crates by name, in the order of crates.txt."""
-    names = [re.match(r"\w+", line).group() for line in printed("dist/crates", "all").splitlines()]
-    return {name: Crate(ROOT / "crates" / name) for name in names}
+    found = {}
+    for line in printed("dist/crates", "all").splitlines():
+        head, _, needs = line.partition(":")
+        name = head.split()[0]
+        found[name] = Crate(ROOT / "crates" / name, needs.split())
+    return found

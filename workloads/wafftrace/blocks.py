@@ -90,10 +90,10 @@ class BlkReader(Reader):
             start, flags, sectors = self.issued.pop(key)
             self.complete(device, start, time - start, flags, sector, sectors)
 
-    def complete(self, device: str, start: int, took: int, flags: str, sector: str, sectors: str | None) -> None:
+    def complete(self, device: str, start: int, took: int, flags: str, sector: str | None, sectors: str | None) -> None:
         found = kind_of(flags)
         self.log.without["issues, which are told with their completions"] += 1
-        if not sectors or not int(sectors):
+        if not sector or not sectors or not int(sectors):
             if "F" in flags:
                 self.flush(start, took, device)
             else:
