@@ -1,6 +1,5 @@
 pub mod TextLemmas
 pub mod LaneLemmas
-pub mod KindLemmas
 pub mod PathLemmas
 pub mod OrderLemmas
 pub mod PlaceLemmas

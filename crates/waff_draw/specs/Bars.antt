@@ -1,15 +1,18 @@
 -- The bars of a picture.
 use Rattle.std.specs.Prelude.{ℕ, ◌+◌, ◌-◌, ◌*◌, ◌&&◌, Bool, List, [], ◌++◌, Option, Some, None}
-use Rattle.std.specs.Prelude.{if◌then◌else◌, length, nat_le, nat_lt, codes}
+use Rattle.std.specs.Prelude.{if◌then◌else◌, nat_lt, codes}
 use Rattle.std.specs.List.{flat_map}
-use Rattle.waff_assign.specs.Order.{affinity_name, affinity_of}
-use Rattle.waff_plan_text.specs.Given.{row_at}
-use Rattle.waff_draw.specs.Lanes.{is_among, row_of}
-use Rattle.waff_draw.specs.Pieces.{bar_end, bar_middle, bar_place, bar_size}
-use Rattle.waff_draw.specs.Scene.{Scene, finish_in, from_in, lanes_in, name_in}
-use Rattle.waff_draw.specs.Scene.{shown_in, shown_start, shown_ticks, span_in, start_in, workers_in}
+use Rattle.waff_assign.specs.Order.{affinity_name}
+use Rattle.waff_plan.specs.Work.{numbers}
+use Rattle.waff_draw.specs.Kinds.{shown_row}
+use Rattle.waff_draw.specs.Lanes.{is_among}
+use Rattle.waff_draw.specs.Pieces.{bar_end, bar_start}
+use Rattle.waff_draw.specs.Scene.{Scene, finish_in, from_in, name_in, shown_start, shown_ticks}
+use Rattle.waff_draw.specs.Scene.{span_in, start_in, work_of_scene}
 use Rattle.waff_draw.specs.Xml.{xml_text}
 use Rattle.waff_draw.specs.declared.bars.Bar.{Bar}
+use Rattle.waff_draw.specs.declared.lanes.LaneKind.{LaneKind}
+use Rattle.waff_draw.specs.declared.pieces.TheConstants.{BAR_MIDDLE}
 
 -- whether so many ticks are narrower than a pixel where these are a thousand wide
 abbrev pub is_narrow : ℕ → ℕ → Bool
@@ -28,10 +31,10 @@ margin_of is_link is_thin = if is_link && is_thin then 0 else 1
 -- a bar in its row, with what it tells of its message
 abbrev pub bar_text : Bar → List ℕ → List ℕ → List ℕ
 bar_text bar name affinity =
-    bar_place (mark_of bar.is_link bar.is_thin) bar.left
-    (bar.row * 10 + margin_of bar.is_link bar.is_thin)
-    ++ bar_size bar.width (10 - 2 * margin_of bar.is_link bar.is_thin) bar.message
-    ++ xml_text name ++ bar_middle ++ xml_text affinity ++ bar_end bar.start bar.finish
+    bar_start (mark_of bar.is_link bar.is_thin) bar.left
+    (bar.row * 10 + margin_of bar.is_link bar.is_thin) bar.width
+    (10 - 2 * margin_of bar.is_link bar.is_thin) bar.message
+    ++ xml_text name ++ BAR_MIDDLE.now ++ xml_text affinity ++ bar_end bar.start bar.finish
 
 -- the bar of message n in a row: it is as wide as its ticks that are shown, and tells of all
 abbrev pub bar_at : Scene → ℕ → ℕ → Bar
@@ -51,30 +54,12 @@ abbrev pub bar_in : Scene → ℕ → ℕ → List ℕ
 bar_in scene row n =
     bar_text (bar_at scene row n) (name_in scene n) (affinity_name scene.tree scene.assigned n)
 
--- the bar of message n in the lane of its affinity
-abbrev pub affinity_bar : Scene → ℕ → List ℕ
-affinity_bar scene n = bar_in scene (row_of (lanes_in scene) (affinity_of scene.assigned n)) n
-
--- the row of a worker of k, whose lanes stand below this many others
-abbrev pub worker_row : ℕ → ℕ → Option ℕ → Option ℕ
-worker_row first k None = None
-worker_row first k (Some worker) =
-    if nat_le 1 worker && nat_le worker k then Some (first + worker - 1) else None
-
--- the bar of message n in the lane of its worker, if it has one of the k
+-- the bar of message n in its row, if it has one
 abbrev pub bar_where : Scene → ℕ → Option ℕ → List ℕ
 bar_where scene n None = []
 bar_where scene n (Some row) = bar_in scene row n
 
-abbrev pub worker_bar : Scene → ℕ → List ℕ
-worker_bar scene n =
-    bar_where scene n
-    (worker_row (length (lanes_in scene)) (workers_in scene) (row_at scene.plan.rows n).worker)
-
--- the bars of the messages that are shown in the lanes of their affinities, then in those of their
--- workers
-abbrev pub affinity_bars : Scene → List ℕ
-affinity_bars scene = flat_map (affinity_bar scene) (shown_in scene)
-
-abbrev pub worker_bars : Scene → List ℕ
-worker_bars scene = flat_map (worker_bar scene) (shown_in scene)
+-- the bars of the messages that are shown and have a row among the lanes of a kind
+abbrev pub bars_of : Scene → LaneKind → List ℕ
+bars_of scene kind =
+    flat_map (λ n. bar_where scene n (shown_row scene kind n)) (numbers (work_of_scene scene))

@@ -4,9 +4,9 @@ pub mod Axis
 pub mod Xml
 pub mod Pieces
 pub mod Scene
+pub mod Kinds
 pub mod Bars
 pub mod Charts
 pub mod Svg
 pub mod Events
-pub mod Kinds
 pub mod Laws

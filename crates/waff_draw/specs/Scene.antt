@@ -2,13 +2,12 @@
 -- a part of it.
 use Rattle.std.specs.Prelude.{ℕ, ◌+◌, ◌-◌, max, min, Bool, List, [], Option, Some, None, length}
 use Rattle.std.specs.Prelude.{map, nat_lt, slice_index_or}
-use Rattle.std.specs.List.{filter}
 use Rattle.waff_model.specs.Tree.{Node}
 use Rattle.waff_model.specs.declared.message.Message.{Message}
 use Rattle.waff_assign.specs.declared.case.Case.{Case}
 use Rattle.waff_plan.specs.Timetable.{work_of_messages}
 use Rattle.waff_plan.specs.Timing.{start_of}
-use Rattle.waff_plan.specs.Work.{Work, finish_of, length_of, numbers}
+use Rattle.waff_plan.specs.Work.{Work, finish_of, length_of}
 use Rattle.waff_plan_text.specs.Given.{Given}
 use Rattle.waff_draw.specs.Lanes.{lanes_of}
 use Rattle.waff_draw.specs.Parts.{end_of}
@@ -61,12 +60,9 @@ shown_start scene n = max (start_in scene n) (from_in scene)
 abbrev pub shown_ticks : Scene → ℕ → ℕ
 shown_ticks scene n = min (finish_in scene n) (end_in scene) - shown_start scene n
 
--- the messages that have a tick in the part
+-- whether message n has a tick in the part
 abbrev pub is_shown : Scene → ℕ → Bool
 is_shown scene n = nat_lt 0 (shown_ticks scene n)
-
-abbrev pub shown_in : Scene → List ℕ
-shown_in scene = filter (is_shown scene) (numbers (work_of_scene scene))
 
 -- the lanes of affinities; below them a plan for k workers has k more
 abbrev pub lanes_in : Scene → List Lane

@@ -6,29 +6,32 @@ use Rattle.waff_model.specs.Tree.{Node, name_of}
 use Rattle.waff_plan.specs.Work.{total_of}
 use Rattle.waff_plan_text.specs.Spelling.{worker_field}
 use Rattle.waff_draw.specs.Axis.{line_at}
-use Rattle.waff_draw.specs.Bars.{affinity_bars, worker_bars}
+use Rattle.waff_draw.specs.Bars.{bars_of}
 use Rattle.waff_draw.specs.Lanes.{lane_of}
-use Rattle.waff_draw.specs.Pieces.{document_end, grid_line, heading_end, heading_start, lane_end}
-use Rattle.waff_draw.specs.Pieces.{lane_start, legend_text, plan_start, style_text, tick_label}
+use Rattle.waff_draw.specs.Pieces.{grid_line, heading_start, lane_start, plan_start, tick_label}
 use Rattle.waff_draw.specs.Pieces.{top_start, worker_name}
 use Rattle.waff_draw.specs.Scene.{Scene, end_in, from_in, lanes_in, length_in, rows_in, span_in}
 use Rattle.waff_draw.specs.Scene.{work_of_scene, workers_in}
 use Rattle.waff_draw.specs.Xml.{xml_text}
 use Rattle.waff_draw.specs.declared.lanes.Lane.{Lane}
+use Rattle.waff_draw.specs.declared.lanes.LaneKind.TheVariants.{Affinity, Worker}
+use Rattle.waff_draw.specs.declared.pieces.TheConstants.{DOCUMENT_END, HEADING_END, LANE_END}
+use Rattle.waff_draw.specs.declared.pieces.TheConstants.{LEGEND, STYLE}
 
 -- the top of the document, for this many rows
 abbrev pub top_text : ℕ → List ℕ
-top_text rows = top_start (rows * 20 + 112) ++ style_text ++ legend_text
+top_text rows = top_start (rows * 20 + 112) ++ STYLE.now ++ LEGEND.now
 
 -- what is told of the plan
 abbrev pub heading_text : ℕ → ℕ → Option ℕ → List ℕ
 heading_text length total workers =
-    heading_start length total ++ worker_field workers ++ heading_end
+    heading_start length total ++ worker_field workers ++ HEADING_END.now
 
 -- a lane with its name, set in by depth, twelve steps at most
 abbrev pub lane_text : ℕ → ℕ → List ℕ → List ℕ
 lane_text row depth name =
-    lane_start (row * 20 + 80) (min depth 12 * 8 + 8) (row * 20 + 94) ++ name ++ lane_end
+    lane_start (row * 20 + 80) (min depth 12 * 8 + 8) (row * 20 + 94) ++ name
+    ++ LANE_END.now
 
 -- the lane of an affinity
 abbrev pub affinity_lane_text : List Node → ℕ → Lane → List ℕ
@@ -79,4 +82,5 @@ ground_text scene =
 
 -- the document
 abbrev pub svg_text : Scene → List ℕ
-svg_text scene = ground_text scene ++ affinity_bars scene ++ worker_bars scene ++ document_end
+svg_text scene =
+    ground_text scene ++ bars_of scene Affinity ++ bars_of scene Worker ++ DOCUMENT_END.now

@@ -1,4 +1,4 @@
--- Text in a document of markup.
+-- Text in a document of markup, between tags, where quotes stay as they are.
 use Rattle.std.specs.Prelude.{ℕ, ◌==◌, List, if◌then◌else◌, codes, encode_utf8}
 use Rattle.std.specs.List.{flat_map}
 use Rattle.std.specs.Str.{chars}

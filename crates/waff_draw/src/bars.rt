@@ -3,13 +3,12 @@
 ghost use Rattle.std.specs.Prelude.{◌≡◌, ◌≤◌, OnOk};
 ghost use Rattle.waff_plan.specs.Work.{IsNumber};
 ghost use Rattle.waff_plan_text.specs.Lines.{Adds};
-ghost use Rattle.waff_draw.specs.Bars.{bar_at, bar_in, is_narrow, margin_of, mark_of};
-ghost use Rattle.waff_draw.specs.Kinds.{bars_of};
+ghost use Rattle.waff_draw.specs.Bars.{bar_at, bar_in, bars_of, is_narrow, margin_of, mark_of};
 ghost use Rattle.waff_draw.specs.Scene.{work_of_scene};
 
 use crate::chart::Chart;
 use crate::lanes::LaneKind;
-use crate::pieces::{push_bar_end, push_bar_middle, push_bar_place, push_bar_size};
+use crate::pieces::{BAR_MIDDLE, push_bar_end, push_bar_start};
 use crate::xml::push_xml;
 use std::alloc::AllocError;
 
@@ -53,10 +52,9 @@ fn push_bar(text: &mut String, chart: &Chart<'_>, row: u64, n: u32) -> Result<()
     let mark = mark_of(bar.is_link, bar.is_thin);
     let margin = margin_of(bar.is_link, bar.is_thin);
     let top = u128::from(bar.row) * 10 + u128::from(margin);
-    push_bar_place(text, mark, bar.left, top)?;
-    push_bar_size(text, bar.width, 10 - 2 * margin, bar.message)?;
+    push_bar_start(text, &bar, top, 10 - 2 * margin, mark)?;
     push_xml(text, chart.name(n))?;
-    push_bar_middle(text)?;
+    text.push_str(BAR_MIDDLE)?;
     push_xml(text, chart.affinity_name(n))?;
     push_bar_end(text, bar.start, bar.finish)
 }

@@ -4,12 +4,11 @@ ghost use Rattle.std.specs.Prelude.{◌≡◌, ◌≤◌, IfOk, OnOk, length, st
 ghost use Rattle.std.specs.List.{flat_map, range_with_len};
 ghost use Rattle.waff_plan.specs.Work.{IsNumber};
 ghost use Rattle.waff_plan_text.specs.Lines.{Adds};
-ghost use Rattle.waff_draw.specs.Events.{affinity_thread, category, document_end, document_start};
-ghost use Rattle.waff_draw.specs.Events.{event_args, event_at, event_start};
-ghost use Rattle.waff_draw.specs.Events.{event_text, event_thread, events_text, quoted};
+ghost use Rattle.waff_draw.specs.Events.{affinity_thread, category, event_at, event_entry};
+ghost use Rattle.waff_draw.specs.Events.{event_text, events_of, events_text, quoted};
 ghost use Rattle.waff_draw.specs.Events.{thread_name, thread_place, thread_text, threads_text};
-ghost use Rattle.waff_draw.specs.Events.{worker_thread, worker_threads, workers_start};
-ghost use Rattle.waff_draw.specs.Kinds.{events_of, process_of};
+ghost use Rattle.waff_draw.specs.Events.{worker_thread, worker_threads};
+ghost use Rattle.waff_draw.specs.Kinds.{process_of};
 ghost use Rattle.waff_draw.specs.Scene.{lanes_in, scene_of_case, work_of_scene};
 
 use crate::chart::Chart;
@@ -20,6 +19,19 @@ use serde_json::Value;
 use std::alloc::{AllocError, Global};
 use waff_assign::Case;
 use waff_plan_text::GivenPlan;
+
+/// The start of the document, with the process whose threads are the lanes of affinities.
+const DOCUMENT_START: &str = r#"{"traceEvents":[
+{"name":"process_name","ph":"M","pid":1,"args":{"name":"affinities"}},
+{"name":"process_sort_index","ph":"M","pid":1,"args":{"sort_index":1}}"#;
+
+/// The process whose threads are the lanes of workers.
+const WORKERS_START: &str = r#",
+{"name":"process_name","ph":"M","pid":2,"args":{"name":"workers"}},
+{"name":"process_sort_index","ph":"M","pid":2,"args":{"sort_index":2}}"#;
+
+/// The end of the document.
+const DOCUMENT_END: &str = "\n]}\n";
 
 /// A message as it runs in a thread of a process, as far as it is shown.
 #[derive(Clone, Copy)]
@@ -57,7 +69,7 @@ fn document(alloc: Global, chart: &Chart<'_>) -> Result<String, AllocError>
     push_threads(alloc, &mut text, chart)?;
     push_events(alloc, &mut text, chart, LaneKind::Affinity)?;
     push_events(alloc, &mut text, chart, LaneKind::Worker)?;
-    push_document_end(&mut text)?;
+    text.push_str(DOCUMENT_END)?;
     Ok(text)
 }
 
@@ -65,19 +77,9 @@ fn document(alloc: Global, chart: &Chart<'_>) -> Result<String, AllocError>
 fn push_threads(alloc: Global, text: &mut String, chart: &Chart<'_>) -> Result<(), AllocError>
     ensures { OnOk result (Adds text.old text.new (threads_text chart.now)) }
 {
-    push_document_start(text)?;
+    text.push_str(DOCUMENT_START)?;
     push_affinity_threads(alloc, text, chart)?;
     push_worker_threads(alloc, text, chart)
-}
-
-/// Appends the start of the document, with the process of the affinities.
-fn push_document_start(text: &mut String) -> Result<(), AllocError>
-    ensures { OnOk result (Adds text.old text.new document_start) }
-{
-    write!(
-        text,
-        "{{\"traceEvents\":[\n{{\"name\":\"process_name\",\"ph\":\"M\",\"pid\":1,\"args\":{{\"name\":\"affinities\"}}}},\n{{\"name\":\"process_sort_index\",\"ph\":\"M\",\"pid\":1,\"args\":{{\"sort_index\":1}}}}"
-    )
 }
 
 /// Appends the threads of the lanes of affinities.
@@ -105,13 +107,11 @@ fn push_worker_threads(
     ensures { OnOk result (Adds text.old text.new
         (worker_threads (length (lanes_in chart.now)) chart.now.plan.summary.workers)) }
 {
-    match chart.workers() {
-        Some(k) => {
-            push_workers_start(text)?;
-            push_threads_of(alloc, text, chart.lane_count(), k)
-        }
-        None => Ok(()),
+    if let Some(k) = chart.workers() {
+        text.push_str(WORKERS_START)?;
+        push_threads_of(alloc, text, chart.lane_count(), k)?;
     }
+    Ok(())
 }
 
 /// Appends the threads of the lanes of so many workers, below this many others.
@@ -129,16 +129,6 @@ fn push_threads_of(
         push_worker_thread(alloc, text, first, worker)?;
     }
     Ok(())
-}
-
-/// Appends the process of the workers.
-fn push_workers_start(text: &mut String) -> Result<(), AllocError>
-    ensures { OnOk result (Adds text.old text.new workers_start) }
-{
-    write!(
-        text,
-        ",\n{{\"name\":\"process_name\",\"ph\":\"M\",\"pid\":2,\"args\":{{\"name\":\"workers\"}}}},\n{{\"name\":\"process_sort_index\",\"ph\":\"M\",\"pid\":2,\"args\":{{\"sort_index\":2}}}}"
-    )
 }
 
 /// Appends the thread of a worker's lane, below this many others.
@@ -177,6 +167,7 @@ fn push_thread(
 }
 
 /// Appends the name of a thread, which is given as JSON.
+#[tactic(auto, unfolding(crate::specs::Events::thread_name))]
 fn push_thread_name(
     text: &mut String,
     process: u32,
@@ -192,6 +183,7 @@ fn push_thread_name(
 }
 
 /// Appends the place of a thread.
+#[tactic(auto, unfolding(crate::specs::Events::thread_place))]
 fn push_thread_place(text: &mut String, process: u32, thread: u128) -> Result<(), AllocError>
     ensures { OnOk result (Adds text.old text.new (thread_place process thread)) }
 {
@@ -257,55 +249,32 @@ fn push_event(
 {
     let name = json(alloc, name)?;
     let affinity = json(alloc, affinity)?;
-    let category = category(event.is_link);
-    push_event_start(text, name.as_str(), category, event.start, event.ticks)?;
-    push_event_thread(text, event.process, event.thread)?;
-    push_event_args(
-        text,
-        event.message,
-        name.as_str(),
-        affinity.as_str(),
-        event.release,
-    )
+    push_event_entry(text, event, name.as_str(), affinity.as_str())
 }
 
-/// Appends what runs, from when and for how long, with its name as JSON.
-fn push_event_start(
+/// Appends an event, with its name and that of its affinity as JSON.
+#[tactic(auto, unfolding(crate::specs::Events::event_entry))]
+fn push_event_entry(
     text: &mut String,
-    name: &str,
-    category: &str,
-    start: u64,
-    ticks: u64,
-) -> Result<(), AllocError>
-    ensures { OnOk result (Adds text.old text.new (event_start name.now category.now start ticks)) }
-{
-    write!(
-        text,
-        ",\n{{\"name\":{name},\"cat\":\"{category}\",\"ph\":\"X\",\"ts\":{start},\"dur\":{ticks},"
-    )
-}
-
-/// Appends where it runs.
-fn push_event_thread(text: &mut String, process: u32, thread: u128) -> Result<(), AllocError>
-    ensures { OnOk result (Adds text.old text.new (event_thread process thread)) }
-{
-    write!(text, "\"pid\":{process},\"tid\":{thread},")
-}
-
-/// Appends what is told of a message, with its name and that of its affinity as JSON.
-fn push_event_args(
-    text: &mut String,
-    message: u32,
+    event: &Event,
     name: &str,
     affinity: &str,
-    release: u64,
 ) -> Result<(), AllocError>
-    ensures { OnOk result (Adds text.old text.new
-        (event_args message name.now affinity.now release)) }
+    ensures { OnOk result (Adds text.old text.new (event_entry event.now name.now affinity.now)) }
 {
+    let Event {
+        message,
+        process,
+        thread,
+        start,
+        ticks,
+        release,
+        is_link,
+    } = *event;
+    let category = category(is_link);
     write!(
         text,
-        "\"args\":{{\"number\":{message},\"name\":{name},\"affinity\":{affinity},\"release\":{release}}}}}"
+        ",\n{{\"name\":{name},\"cat\":\"{category}\",\"ph\":\"X\",\"ts\":{start},\"dur\":{ticks},\"pid\":{process},\"tid\":{thread},\"args\":{{\"number\":{message},\"name\":{name},\"affinity\":{affinity},\"release\":{release}}}}}"
     )
 }
 
@@ -321,11 +290,4 @@ fn json(alloc: Global, text: &str) -> Result<String, AllocError>
     ensures { IfOk result (λ json. string_bytes json ≡ quoted text.now) }
 {
     Value::try_from_str(alloc, text)?.to_string(alloc)
-}
-
-/// Appends the end of the document.
-fn push_document_end(text: &mut String) -> Result<(), AllocError>
-    ensures { OnOk result (Adds text.old text.new document_end) }
-{
-    write!(text, "\n]}}\n")
 }

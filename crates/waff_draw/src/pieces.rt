@@ -1,33 +1,44 @@
-//! The pieces of the document, one function each.
+//! The pieces of the document.
 
-ghost use Rattle.std.specs.Prelude.{◌≡◌, OnOk};
+ghost use Rattle.std.specs.Prelude.{OnOk};
 ghost use Rattle.waff_plan_text.specs.Lines.{Adds};
 ghost use Rattle.waff_draw.specs.Pieces as pieces;
 
+use crate::bars::Bar;
 use std::alloc::AllocError;
 use waff_plan_text::Ratio;
 
-/// Appends the colours, for light and for dark.
-pub(crate) fn push_style(text: &mut String) -> Result<(), AllocError>
-    ensures { OnOk result (Adds text.old text.new pieces.style_text) }
-{
-    write!(
-        text,
-        "<style>svg{{background:#fff;font:12px sans-serif}}text{{fill:#222}}.heading{{font-size:16px;font-weight:bold}}.tick{{text-anchor:middle}}.lane rect{{fill:#fff}}.lane:nth-of-type(even) rect{{fill:#f0f2f5}}.plan rect{{fill:#56b4e9;stroke:#0072b2;stroke-width:.75;vector-effect:non-scaling-stroke}}.plan .thin{{fill:#0072b2}}.plan .chain{{fill:#e69f00;stroke:#000;stroke-width:2}}.plan path{{stroke:#c8ccd2;vector-effect:non-scaling-stroke}}@media(prefers-color-scheme:dark){{svg{{background:#16181c}}text{{fill:#e8e8e8}}.lane rect{{fill:#16181c}}.lane:nth-of-type(even) rect{{fill:#22262c}}.plan rect{{fill:#0072b2;stroke:#56b4e9}}.plan .thin{{fill:#56b4e9}}.plan .chain{{fill:#e69f00;stroke:#fff}}.plan path{{stroke:#454b54}}}}.plan .thin{{stroke:none}}</style>\n"
-    )
-}
+/// The colours, for light and for dark.
+pub(crate) const STYLE: &str = "\
+<style>svg{background:#fff;font:12px sans-serif}text{fill:#222}\
+.heading{font-size:16px;font-weight:bold}.tick{text-anchor:middle}\
+.lane rect{fill:#fff}.lane:nth-of-type(even) rect{fill:#f0f2f5}\
+.plan rect{fill:#56b4e9;stroke:#0072b2;stroke-width:.75;vector-effect:non-scaling-stroke}\
+.plan .thin{fill:#0072b2}.plan .chain{fill:#e69f00;stroke:#000;stroke-width:2}\
+.plan path{stroke:#c8ccd2;vector-effect:non-scaling-stroke}\
+@media(prefers-color-scheme:dark){svg{background:#16181c}text{fill:#e8e8e8}\
+.lane rect{fill:#16181c}.lane:nth-of-type(even) rect{fill:#22262c}\
+.plan rect{fill:#0072b2;stroke:#56b4e9}.plan .thin{fill:#56b4e9}\
+.plan .chain{fill:#e69f00;stroke:#fff}.plan path{stroke:#454b54}}\
+.plan .thin{stroke:none}</style>\n";
 
-/// Appends what the bars are.
-pub(crate) fn push_legend(text: &mut String) -> Result<(), AllocError>
-    ensures { OnOk result (Adds text.old text.new pieces.legend_text) }
-{
-    write!(
-        text,
-        "<text x='8' y='48'>A bar is a message from its start to its finish. The plan's chain has thick outlines; its bars narrower than a pixel fill the height of the lane.</text>\n"
-    )
-}
+/// What the bars are.
+pub(crate) const LEGEND: &str = "\
+<text x='8' y='48'>A bar is a message from its start to its finish. The plan's chain has thick \
+outlines; its bars narrower than a pixel fill the height of the lane.</text>\n";
+
+/// What stands between the name of a message and that of its affinity.
+pub(crate) const BAR_MIDDLE: &str = " in ";
+
+/// The end of what is told of the plan, of a lane, and of the document.
+pub(crate) const HEADING_END: &str = "</text>\n";
+
+pub(crate) const LANE_END: &str = "</text></g>\n";
+
+pub(crate) const DOCUMENT_END: &str = "</svg>\n</svg>\n";
 
 /// Appends the top of the document, of this height.
+#[tactic(auto, unfolding(crate::specs::Pieces::top_start))]
 pub(crate) fn push_top_start(text: &mut String, height: u64) -> Result<(), AllocError>
     ensures { OnOk result (Adds text.old text.new (pieces.top_start height)) }
 {
@@ -37,31 +48,20 @@ pub(crate) fn push_top_start(text: &mut String, height: u64) -> Result<(), Alloc
     )
 }
 
-/// Appends what is told of the plan, as far as its workers.
-pub(crate) fn push_heading_start(
-    text: &mut String,
-    length: u64,
-    total: u64,
-    speedup: Ratio,
-) -> Result<(), AllocError>
-    requires first { speedup.0 ≡ total }
-    requires second { speedup.1 ≡ length }
-    ensures { OnOk result (Adds text.old text.new (pieces.heading_start length total)) }
+/// Appends what is told of the plan, as far as its workers: its speed-up is its total by its length.
+#[tactic(auto, unfolding(crate::specs::Pieces::heading_start))]
+pub(crate) fn push_heading_start(text: &mut String, speedup: Ratio) -> Result<(), AllocError>
+    ensures { OnOk result (Adds text.old text.new (pieces.heading_start speedup.1 speedup.0)) }
 {
+    let Ratio(total, length) = speedup;
     write!(
         text,
         "<text class='heading' x='8' y='28'>length {length}, total {total}, speed-up {speedup}, workers "
     )
 }
 
-/// Appends the end of what is told of the plan.
-pub(crate) fn push_heading_end(text: &mut String) -> Result<(), AllocError>
-    ensures { OnOk result (Adds text.old text.new pieces.heading_end) }
-{
-    write!(text, "</text>\n")
-}
-
 /// Appends a lane as far as its name.
+#[tactic(auto, unfolding(crate::specs::Pieces::lane_start))]
 pub(crate) fn push_lane_start(
     text: &mut String,
     top: u64,
@@ -76,14 +76,8 @@ pub(crate) fn push_lane_start(
     )
 }
 
-/// Appends the end of a lane, behind its name.
-pub(crate) fn push_lane_end(text: &mut String) -> Result<(), AllocError>
-    ensures { OnOk result (Adds text.old text.new pieces.lane_end) }
-{
-    write!(text, "</text></g>\n")
-}
-
 /// Appends the name of a worker's lane.
+#[tactic(auto, unfolding(crate::specs::Pieces::worker_name))]
 pub(crate) fn push_worker_name(text: &mut String, worker: u32) -> Result<(), AllocError>
     ensures { OnOk result (Adds text.old text.new (pieces.worker_name worker)) }
 {
@@ -91,6 +85,7 @@ pub(crate) fn push_worker_name(text: &mut String, worker: u32) -> Result<(), All
 }
 
 /// Appends a number of ticks, above the lanes and below.
+#[tactic(auto, unfolding(crate::specs::Pieces::tick_label))]
 pub(crate) fn push_tick_label(
     text: &mut String,
     place: u128,
@@ -106,6 +101,7 @@ pub(crate) fn push_tick_label(
 }
 
 /// Appends the ground of the bars.
+#[tactic(auto, unfolding(crate::specs::Pieces::plan_start))]
 pub(crate) fn push_plan_start(
     text: &mut String,
     height: u64,
@@ -121,53 +117,41 @@ pub(crate) fn push_plan_start(
 }
 
 /// Appends a line through all lanes.
+#[tactic(auto, unfolding(crate::specs::Pieces::grid_line))]
 pub(crate) fn push_grid_line(text: &mut String, tick: u128, units: u64) -> Result<(), AllocError>
     ensures { OnOk result (Adds text.old text.new (pieces.grid_line tick units)) }
 {
     writeln!(text, "<path d='M{tick} 0v{units}'/>")
 }
 
-/// Appends a bar with its mark, as far as its place.
-pub(crate) fn push_bar_place(
+/// Appends a bar with its mark, place and size, as far as the name of its message.
+#[tactic(auto, unfolding(crate::specs::Pieces::bar_start))]
+pub(crate) fn push_bar_start(
     text: &mut String,
-    mark: &str,
-    left: u64,
+    bar: &Bar,
     top: u128,
-) -> Result<(), AllocError>
-    ensures { OnOk result (Adds text.old text.new (pieces.bar_place mark.now left top)) }
-{
-    write!(text, "<rect{mark} x='{left}' y='{top}'")
-}
-
-/// Appends its size, and what it tells as far as the name of its message.
-pub(crate) fn push_bar_size(
-    text: &mut String,
-    width: u64,
     height: u32,
-    message: u32,
+    mark: &str,
 ) -> Result<(), AllocError>
-    ensures { OnOk result (Adds text.old text.new (pieces.bar_size width height message)) }
+    ensures { OnOk result (Adds text.old text.new (pieces.bar_start
+        mark.now bar.now.left top bar.now.width height bar.now.message)) }
 {
-    write!(text, " width='{width}' height='{height}'><title>{message} ")
-}
-
-/// Appends what stands between the names of a message and of its affinity.
-pub(crate) fn push_bar_middle(text: &mut String) -> Result<(), AllocError>
-    ensures { OnOk result (Adds text.old text.new pieces.bar_middle) }
-{
-    write!(text, " in ")
+    let Bar {
+        message,
+        left,
+        width,
+        ..
+    } = *bar;
+    write!(
+        text,
+        "<rect{mark} x='{left}' y='{top}' width='{width}' height='{height}'><title>{message} "
+    )
 }
 
 /// Appends the end of a bar, behind the name of the affinity.
+#[tactic(auto, unfolding(crate::specs::Pieces::bar_end))]
 pub(crate) fn push_bar_end(text: &mut String, start: u64, finish: u64) -> Result<(), AllocError>
     ensures { OnOk result (Adds text.old text.new (pieces.bar_end start finish)) }
 {
     writeln!(text, ": {start} to {finish}</title></rect>")
-}
-
-/// Appends the end of the document.
-pub(crate) fn push_document_end(text: &mut String) -> Result<(), AllocError>
-    ensures { OnOk result (Adds text.old text.new pieces.document_end) }
-{
-    write!(text, "</svg>\n</svg>\n")
 }

@@ -16,9 +16,8 @@ use crate::chart::Chart;
 use crate::lanes::LaneKind;
 use crate::parts::Part;
 use crate::pieces::{
-    push_document_end, push_grid_line, push_heading_end, push_heading_start, push_lane_end,
-    push_lane_start, push_legend, push_plan_start, push_style, push_tick_label, push_top_start,
-    push_worker_name,
+    DOCUMENT_END, HEADING_END, LANE_END, LEGEND, STYLE, push_grid_line, push_heading_start,
+    push_lane_start, push_plan_start, push_tick_label, push_top_start, push_worker_name,
 };
 use crate::xml::push_xml;
 use std::alloc::{AllocError, Global};
@@ -46,20 +45,11 @@ fn picture(alloc: Global, chart: &Chart<'_>) -> Result<String, AllocError>
     ensures { IfOk result (λ text. string_bytes text ≡ svg_text chart.now) }
 {
     let mut text = String::new(alloc);
-    match push_picture(&mut text, chart) {
-        Ok(()) => Ok(text),
-        Err(error) => Err(error),
-    }
-}
-
-/// Appends the picture of a chart.
-fn push_picture(text: &mut String, chart: &Chart<'_>) -> Result<(), AllocError>
-    ensures { OnOk result (Adds text.old text.new (svg_text chart.now)) }
-{
-    push_ground(text, chart)?;
-    push_bars(text, chart, LaneKind::Affinity)?;
-    push_bars(text, chart, LaneKind::Worker)?;
-    push_document_end(text)
+    push_ground(&mut text, chart)?;
+    push_bars(&mut text, chart, LaneKind::Affinity)?;
+    push_bars(&mut text, chart, LaneKind::Worker)?;
+    text.push_str(DOCUMENT_END)?;
+    Ok(text)
 }
 
 /// Appends all that stands before the bars.
@@ -80,8 +70,8 @@ fn push_top(text: &mut String, chart: &Chart<'_>) -> Result<(), AllocError>
     ensures { OnOk result (Adds text.old text.new (top_text (rows_in chart.now))) }
 {
     push_top_start(text, chart.row_count() * 20 + 112)?;
-    push_style(text)?;
-    push_legend(text)
+    text.push_str(STYLE)?;
+    text.push_str(LEGEND)
 }
 
 /// Appends what is told of the plan.
@@ -90,12 +80,10 @@ fn push_heading(text: &mut String, chart: &Chart<'_>) -> Result<(), AllocError>
         (heading_text (length_in chart.now) (total_of (work_of_scene chart.now))
         chart.now.plan.summary.workers)) }
 {
-    let length = chart.length();
-    let total = chart.total();
-    let speedup = Ratio(total, u128::from(length));
-    push_heading_start(text, length, total, speedup)?;
+    let speedup = Ratio(chart.total(), u128::from(chart.length()));
+    push_heading_start(text, speedup)?;
     push_workers(text, chart.workers())?;
-    push_heading_end(text)
+    text.push_str(HEADING_END)
 }
 
 /// Appends a number of workers.
@@ -130,7 +118,7 @@ fn push_affinity_lane(text: &mut String, chart: &Chart<'_>, row: u64) -> Result<
     let left = chart.lane_depth(row).min(12) * 8 + 8;
     push_lane_start(text, row * 20 + 80, left, row * 20 + 94)?;
     push_xml(text, chart.lane_name(row))?;
-    push_lane_end(text)
+    text.push_str(LANE_END)
 }
 
 /// Appends the lanes of workers.
@@ -154,7 +142,7 @@ fn push_worker_lane(text: &mut String, chart: &Chart<'_>, worker: u32) -> Result
     let row = chart.lane_count() + u64::from(worker) - 1;
     push_lane_start(text, row * 20 + 80, 8, row * 20 + 94)?;
     push_worker_name(text, worker)?;
-    push_lane_end(text)
+    text.push_str(LANE_END)
 }
 
 /// Appends the numbers of ticks along the axis, above the lanes and below.

@@ -1,4 +1,5 @@
-//! Text in a document of markup.
+//! Text in a document of markup. A name stands between tags alone, and no attribute has one, so that
+//! quotes stay as they are.
 
 ghost use Rattle.std.specs.Prelude.{OnOk};
 ghost use Rattle.waff_plan_text.specs.Lines.{Adds};

@@ -1,9 +1,8 @@
-use Rattle.std.proofs.Common.{◌≡◌, ◌-◌, ◌++◌, flat_map, string_bytes, sym, ◌∙◌, ap, arith}
+use Rattle.std.proofs.Common.{◌≡◌, ℕ, ◌-◌, ◌++◌, flat_map, string_bytes, sym, ◌∙◌, ap, arith}
 use Rattle.std.specs.List.{range_with_len}
 use Rattle.waff_draw.specs.Bars.{bar_where}
 use Rattle.waff_draw.specs.Kinds.{shown_row}
 use Rattle.waff_draw.specs.Scene.{work_of_scene}
-use Rattle.waff_draw.proofs.KindLemmas.{kind_bar, kind_bars}
 use Rattle.waff_draw.proofs.TextLemmas.{append_none, more_numbers}
 use Rattle.waff_draw.proofs.bars.push_bars.Goals as goal
 use Rattle.waff_draw.proofs.bars.push_bars.Goals.{in-Some+in_ok-push_bar, in_default}
@@ -23,7 +22,7 @@ loop-n-preserved c =
           ap (λ t. string_bytes t) w.text-is ∙ sym (append_none before)
           ∙ ap (λ r. before ++ bar_where scene n r) (sym w.in_default.is ∙ c.shown_row.ensures)
     ] in
-    more_numbers (kind_bar scene c.args.kind) n (string_bytes c.args.text.now) before (string_bytes c.match-shown_row.text)
+    more_numbers (λ (m : ℕ). bar_where scene m (shown_row scene c.args.kind m)) n (string_bytes c.args.text.now) before (string_bytes c.match-shown_row.text)
     c.loop-n.auto.n c.loop-n.invariant now
 
 pub returns : goal.returns
@@ -32,5 +31,4 @@ returns c =
     let before = string_bytes c.args.text.now in
     let all : c.loop-n.n - 1 ≡ (work_of_scene scene).count
     = omega (arith, c.loop-n-test.false, c.loop-n.auto.n-end, c.len-n-end.ensures.count) in
-    c.loop-n.invariant ∙ ap (λ k. before ++ flat_map (kind_bar scene c.args.kind) (range_with_len 1 k)) all
-    ∙ ap (λ text. before ++ text) (kind_bars scene c.args.kind)
+    c.loop-n.invariant ∙ ap (λ k. before ++ flat_map (λ (m : ℕ). bar_where scene m (shown_row scene c.args.kind m)) (range_with_len 1 k)) all
