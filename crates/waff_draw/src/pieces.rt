@@ -30,11 +30,13 @@ outlines; its bars narrower than a pixel fill the height of the lane.</text>\n";
 /// What stands between the name of a message and that of its affinity.
 pub(crate) const BAR_MIDDLE: &str = " in ";
 
-/// The end of what is told of the plan, of a lane, and of the document.
+/// The end of what is told of the plan.
 pub(crate) const HEADING_END: &str = "</text>\n";
 
+/// The end of a lane, behind its name.
 pub(crate) const LANE_END: &str = "</text></g>\n";
 
+/// The end of the document.
 pub(crate) const DOCUMENT_END: &str = "</svg>\n</svg>\n";
 
 /// Appends the top of the document, of this height.
