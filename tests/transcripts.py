@@ -1,4 +1,4 @@
-"""Transcripts: cases of what programs are asked, and of what they print. Each NAME.txt of a folder of tests holds some:
+r"""Transcripts: cases of what programs are asked, and of what they print. Each NAME.txt of a folder of tests holds some:
 
     == refused-cost-zero
     sed 's/,4,/,0,/' X1.csv >trace.csv
@@ -8,8 +8,8 @@
 
 The case runs in a folder with the files of examples/, and with the folders that lie beside the transcript, as `inputs`. Lines of bash
 lay its other files there; then comes the command, of `waff` or of workloads/, and what it prints: `| ` stands before a line of
-standard output, `! ` before one of standard error, and the status is told if it is not 0. `| ...` or `! ...` is any text but none:
-clap's words are free.
+standard output, `! ` before one of standard error, and the status is told if it is not 0. A line `|\` says that the one before it
+does not end. `| ...` or `! ...` is any text but none: clap's words are free.
 """
 
 import difflib
@@ -52,14 +52,16 @@ class Case:
                 (files / beside.name).symlink_to(beside)
             (folder / "waff").symlink_to(program)
             environment = {**os.environ, "PATH": f"{folder}:{ROOT / 'workloads'}:{os.environ['PATH']}", "WAFF": program, "LC_ALL": "C"}
-            subprocess.run(["bash", "-ec", self.setup], cwd=files, env=environment, check=True)
-            command = ["timeout", SECONDS, "bash", "-o", "pipefail", "-c", self.command]
-            done = subprocess.run(command, cwd=files, env=environment, stdin=subprocess.DEVNULL, capture_output=True)
+            # What fails to lay the files is shown in place of the command.
+            for words in (["bash", "-ec", self.setup], ["timeout", SECONDS, "bash", "-o", "pipefail", "-c", self.command]):
+                done = subprocess.run(words, cwd=files, env=environment, stdin=subprocess.DEVNULL, capture_output=True)
+                if done.returncode:
+                    break
         shown = self.text("|", done.stdout) + self.text("!", done.stderr)
         return shown + (f"status {done.returncode}\n" if done.returncode else "")
 
     def text(self, mark: str, printed: bytes) -> str:
-        """What a stream printed; a backslash follows a last line that does not end."""
+        """What a stream printed."""
         if printed and f"{mark} ...\n" in self.shown:
             return f"{mark} ...\n"
         *lines, rest = printed.decode(errors="surrogateescape").split("\n")
@@ -71,13 +73,16 @@ def read(path: pathlib.Path) -> str:
     return path.read_bytes().decode(errors="surrogateescape")
 
 
-def cases(path: pathlib.Path) -> Iterator[Case]:
-    """The cases of a transcript. Between them stand blank lines and comments alone."""
+def cases(path: pathlib.Path) -> list[Case]:
+    """The cases of a transcript, each of a name of its own. Between them stand blank lines and comments alone."""
     text = read(path)
     for line in CASE.sub("", text).split("\n"):
         if line and not line.startswith("#"):
             raise SystemExit(f"{path.name}: in no case: {line}")
-    return (Case(path.parent, *found) for found in CASE.findall(text))
+    found = [Case(path.parent, *parts) for parts in CASE.findall(text)]
+    if len({case.name for case in found}) < len(found):
+        raise SystemExit(f"{path.name}: two cases of one name")
+    return found
 
 
 def keep(path: pathlib.Path, printed: dict[str, str]) -> None:
