@@ -31,6 +31,12 @@ def commands(program: str) -> list[str]:
     return [name for name in names if name != "help"]
 
 
+def options(program: str) -> list[str]:
+    """The options of all commands, long and short, from their helps."""
+    helps = [subprocess.run([program, name, "--help"], stdout=subprocess.PIPE, text=True).stdout for name in commands(program)]
+    return sorted(set(re.findall(r"(?<!\S)--?[a-z][a-z-]*\b", " ".join(helps))))
+
+
 class Count:
     """Counts checks, and prints so many of those that fail."""
 
