@@ -6,12 +6,13 @@ use Rattle.std.proofs.lemmas.List.{get_or_default}
 use Rattle.std.proofs.lemmas.Bool.{cases_lt, cond-true, cond-false, lt-ltb, le-ltb, eq-eqb, false≢true}
 use Rattle.waff_plan.specs.Work.{Work, IsNumber, finish_of}
 use Rattle.waff_check.specs.Faults.{HasWrongWorker, IsMisplaced, IsTaken, NoneOf, RunTogether}
-use Rattle.waff_check.specs.Shifts.{AreApart, AreShifts, IsOneOf, IsShift, Shift, first_of, shift_at}
+use Rattle.waff_check.specs.Shifts.{AreApart, AreShifts, IsOneOf, IsShift, first_of, shift_at, shift_of}
+use Rattle.waff_check.specs.declared.shifts.Shift.{Shift}
 use Rattle.waff_check.proofs.CrowdLaws.{runs-from, runs-parts}
 
 -- what a sort says of neighbours: the workers do not fall, nor the starts of one worker
 abbrev pub shift_less : Shift → Shift → Bool
-shift_less a b = is_lt (ordering_then (ordering_then (nat_cmp a.0 b.0) (nat_cmp a.1 b.1)) (nat_cmp a.2 b.2))
+shift_less a b = is_lt (ordering_then (nat_cmp a.worker b.worker) (nat_cmp a.start b.start))
 
 less-is : (x y : ℕ) → x < y → nat_cmp x y ≡ Less
 less-is x y less = cond-true (nat_lt x y) Less (cond (nat_eq x y) Equal Greater) (lt-ltb x y less)
@@ -19,22 +20,22 @@ less-is x y less = cond-true (nat_lt x y) Less (cond (nat_eq x y) Equal Greater)
 equal-is : (x y : ℕ) → x ≡ y → nat_cmp x y ≡ Equal
 equal-is x y same = cond-false (nat_lt x y) Less (cond (nat_eq x y) Equal Greater) (le-ltb x y (omega arith)) ∙ cond-true (nat_eq x y) Equal Greater (eq-eqb x y same)
 
-pub not-less-worker : (a b : Shift) → shift_less a b ≡ false → b.0 ≤ a.0
-not-less-worker a b h = elim (cases_lt a.0 b.0) [
-  | inl lt ↦ absurd (false≢true (sym h ∙ ap (λ o. is_lt (ordering_then (ordering_then o (nat_cmp a.1 b.1)) (nat_cmp a.2 b.2))) (less-is a.0 b.0 lt)))
+pub not-less-worker : (a b : Shift) → shift_less a b ≡ false → b.worker ≤ a.worker
+not-less-worker a b h = elim (cases_lt a.worker b.worker) [
+  | inl lt ↦ absurd (false≢true (sym h ∙ ap (λ o. is_lt (ordering_then o (nat_cmp a.start b.start))) (less-is a.worker b.worker lt)))
   | inr ge ↦ ge
 ]
 
-pub not-less-start : (a b : Shift) → shift_less a b ≡ false → a.0 ≡ b.0 → b.1 ≤ a.1
-not-less-start a b h same = elim (cases_lt a.1 b.1) [
-  | inl lt ↦ absurd (false≢true (sym h ∙ ap (λ o. is_lt (ordering_then (ordering_then o (nat_cmp a.1 b.1)) (nat_cmp a.2 b.2))) (equal-is a.0 b.0 same)
-      ∙ ap (λ o. is_lt (ordering_then o (nat_cmp a.2 b.2))) (less-is a.1 b.1 lt)))
+pub not-less-start : (a b : Shift) → shift_less a b ≡ false → a.worker ≡ b.worker → b.start ≤ a.start
+not-less-start a b h same = elim (cases_lt a.start b.start) [
+  | inl lt ↦ absurd (false≢true (sym h ∙ ap (λ o. is_lt (ordering_then o (nat_cmp a.start b.start))) (equal-is a.worker b.worker same)
+      ∙ ap is_lt (less-is a.start b.start lt)))
   | inr ge ↦ ge
 ]
 
 module _ (shifts : List Shift) (sorted : (i : ℕ) → i + 1 < length shifts → shift_less (shift_at shifts (i + 1)) (shift_at shifts i) ≡ false) where
   -- workers do not fall along the shifts
-  workers-from : (i k : ℕ) → i + k < length shifts → (shift_at shifts i).0 ≤ (shift_at shifts (i + k)).0
+  workers-from : (i k : ℕ) → i + k < length shifts → (shift_at shifts i).worker ≤ (shift_at shifts (i + k)).worker
   workers-from i zero lt = let same : i + 0 ≡ i = omega arith in rw same (omega arith)
   workers-from i (suc k) lt =
       let old = workers-from i k (omega arith) in
@@ -42,27 +43,27 @@ module _ (shifts : List Shift) (sorted : (i : ℕ) → i + 1 < length shifts →
       let next : i + suc k ≡ i + k + 1 = omega arith in
       rw next (omega arith)
 
-  pub by-worker : (i j : ℕ) → i ≤ j → j < length shifts → (shift_at shifts i).0 ≤ (shift_at shifts j).0
+  pub by-worker : (i j : ℕ) → i ≤ j → j < length shifts → (shift_at shifts i).worker ≤ (shift_at shifts j).worker
   by-worker i j le lt =
       let at : i + (j - i) ≡ j = omega arith in
-      subst (λ n. (shift_at shifts i).0 ≤ (shift_at shifts n).0) at (workers-from i (j - i) (omega arith))
+      subst (λ n. (shift_at shifts i).worker ≤ (shift_at shifts n).worker) at (workers-from i (j - i) (omega arith))
 
   -- nor do starts, among the shifts of one worker
-  starts-from : (i k : ℕ) → i + k < length shifts → (shift_at shifts i).0 ≡ (shift_at shifts (i + k)).0 → (shift_at shifts i).1 ≤ (shift_at shifts (i + k)).1
+  starts-from : (i k : ℕ) → i + k < length shifts → (shift_at shifts i).worker ≡ (shift_at shifts (i + k)).worker → (shift_at shifts i).start ≤ (shift_at shifts (i + k)).start
   starts-from i zero lt same = let here : i + 0 ≡ i = omega arith in rw here (omega arith)
   starts-from i (suc k) lt same =
       let next : i + suc k ≡ i + k + 1 = omega arith in
-      let one : (shift_at shifts i).0 ≡ (shift_at shifts (i + k + 1)).0 = rw next at same in
+      let one : (shift_at shifts i).worker ≡ (shift_at shifts (i + k + 1)).worker = rw next at same in
       let before = workers-from i k (omega arith) in
       let step = not-less-worker (shift_at shifts (i + k + 1)) (shift_at shifts (i + k)) (sorted (i + k) (omega arith)) in
       let old = starts-from i k (omega arith) (omega arith) in
       let here = not-less-start (shift_at shifts (i + k + 1)) (shift_at shifts (i + k)) (sorted (i + k) (omega arith)) (omega arith) in
       rw next (omega arith)
 
-  pub by-start : (i j : ℕ) → i ≤ j → j < length shifts → (shift_at shifts i).0 ≡ (shift_at shifts j).0 → (shift_at shifts i).1 ≤ (shift_at shifts j).1
+  pub by-start : (i j : ℕ) → i ≤ j → j < length shifts → (shift_at shifts i).worker ≡ (shift_at shifts j).worker → (shift_at shifts i).start ≤ (shift_at shifts j).start
   by-start i j le lt =
       let at : i + (j - i) ≡ j = omega arith in
-      subst (λ n. (shift_at shifts i).0 ≡ (shift_at shifts n).0 → (shift_at shifts i).1 ≤ (shift_at shifts n).1) at (starts-from i (j - i) (omega arith))
+      subst (λ n. (shift_at shifts i).worker ≡ (shift_at shifts n).worker → (shift_at shifts i).start ≤ (shift_at shifts n).start) at (starts-from i (j - i) (omega arith))
 
 module _ (work : Work) (start : ℕ → ℕ) (worker : ℕ → Option ℕ) (k : ℕ) (none : NoneOf (HasWrongWorker work start worker (Some k))) where
   -- no message has a worker that is taken
@@ -84,28 +85,28 @@ module _ (work : Work) (start : ℕ → ℕ) (worker : ℕ → Option ℕ) (k : 
 
 module _ (work : Work) (start : ℕ → ℕ) (worker : ℕ → Option ℕ) (shifts : List Shift) (are : AreShifts work start worker shifts) where
   -- a shift has ended when any later one of its worker begins
-  ended : AreApart work start shifts → (p q : ℕ) → p < q → q < length shifts → (shift_at shifts p).0 ≡ (shift_at shifts q).0
-      → finish_of work start (shift_at shifts p).2 ≤ (shift_at shifts q).1
+  ended : AreApart work start shifts → (p q : ℕ) → p < q → q < length shifts → (shift_at shifts p).worker ≡ (shift_at shifts q).worker
+      → finish_of work start (shift_at shifts p).number ≤ (shift_at shifts q).start
   ended apart p q before lt same =
       let low = are.by_worker p (p + 1) (omega arith) (omega arith) in
       let high = are.by_worker (p + 1) q (omega arith) lt in
-      let next : finish_of work start (shift_at shifts p).2 ≤ (shift_at shifts (p + 1)).1 = apart p (omega arith) (omega arith) in
+      let next : finish_of work start (shift_at shifts p).number ≤ (shift_at shifts (p + 1)).start = apart p (omega arith) (omega arith) in
       let later = are.by_start (p + 1) q (omega arith) lt (omega arith) in
       omega (arith, next, later)
 
   -- so a message has finished when any later one of its worker starts
-  finished : AreApart work start shifts → (w n m p q : ℕ) → p < q → q < length shifts → shift_at shifts p ≡ (w, start n, n) → shift_at shifts q ≡ (w, start m, m)
+  finished : AreApart work start shifts → (w n m p q : ℕ) → p < q → q < length shifts → shift_at shifts p ≡ shift_of w (start n) n → shift_at shifts q ≡ shift_of w (start m) m
       → finish_of work start n ≤ start m
   finished apart w n m p q before lt one next =
-      let same : (shift_at shifts p).0 ≡ (shift_at shifts q).0 = rw (one, next) refl in
+      let same : (shift_at shifts p).worker ≡ (shift_at shifts q).worker = rw (one, next) refl in
       let order = ended apart p q before lt same in
       rw (one, next) at order
 
   -- the place of a message
-  place : (n w : ℕ) → IsNumber work n → worker n ≡ Some w → start n < finish_of work start n → (p : ℕ) × (p < length shifts) × (shift_at shifts p ≡ (w, start n, n))
+  place : (n w : ℕ) → IsNumber work n → worker n ≡ Some w → start n < finish_of work start n → (p : ℕ) × (p < length shifts) × (shift_at shifts p ≡ shift_of w (start n) n)
   place n w number is runs =
       let at = are.each n w number is runs in
-      (at.0, at.1, get_or_default shifts at.0 (0, 0, 0) (w, start n, n) at.1 ∙ at.2)
+      (at.0, at.1, get_or_default shifts at.0 (shift_of 0 0 0) (shift_of w (start n) n) at.1 ∙ at.2)
 
   -- two messages of one worker do not run at a common tick
   not-together : AreApart work start shifts → (w i j : ℕ) → IsNumber work i → IsNumber work j → i ≢ j → worker i ≡ Some w → worker j ≡ Some w
@@ -119,7 +120,7 @@ module _ (work : Work) (start : ℕ → ℕ) (worker : ℕ → Option ℕ) (shif
         | inl lt ↦ (let order = finished apart w i j p.0 q.0 lt q.1 p.2 q.2 in omega (arith, order))
         | inr ge ↦ elim (cases_lt q.0 p.0) [
           | inl lt ↦ (let order = finished apart w j i q.0 p.0 lt p.1 q.2 p.2 in omega (arith, order))
-          | inr le ↦ (let same : p.0 ≡ q.0 = omega arith in other (ap (λ (s : Shift). s.2) (sym p.2 ∙ ap (λ n. shift_at shifts n) same ∙ q.2)))
+          | inr le ↦ (let same : p.0 ≡ q.0 = omega arith in other (ap (λ (s : Shift). s.number) (sym p.2 ∙ ap (λ n. shift_at shifts n) same ∙ q.2)))
         ]
       ]
 
@@ -138,29 +139,29 @@ module _ (work : Work) (start : ℕ → ℕ) (worker : ℕ → Option ℕ) (shif
 
   -- where a shift has not ended when the next of its worker begins, a message has a wrong worker
   pub apart-where-right : (k : ℕ) → NoneOf (HasWrongWorker work start worker (Some k)) → AreApart work start shifts
-  apart-where-right k none i lt same = elim (cases_lt (shift_at shifts (i + 1)).1 (finish_of work start (shift_at shifts i).2)) [
+  apart-where-right k none i lt same = elim (cases_lt (shift_at shifts (i + 1)).start (finish_of work start (shift_at shifts i).number)) [
     | inl early ↦ absurd (clash early)
     | inr le ↦ le
   ]
     where
-      clash : (shift_at shifts (i + 1)).1 < finish_of work start (shift_at shifts i).2 → ⊥
+      clash : (shift_at shifts (i + 1)).start < finish_of work start (shift_at shifts i).number → ⊥
       clash early =
           let s = shift_at shifts i in
           let t = shift_at shifts (i + 1) in
-          let one : IsShift work start worker s = are.only i (0, 0, 0) (omega arith) in
-          let two : IsShift work start worker t = are.only (i + 1) (0, 0, 0) lt in
-          let starts : s.1 ≤ t.1 = are.by_start i (i + 1) (omega arith) lt same in
-          let at : start s.2 ≡ s.1 = one.same_start in
-          let here : start t.2 ≡ t.1 = two.same_start in
+          let one : IsShift work start worker s = are.only i (shift_of 0 0 0) (omega arith) in
+          let two : IsShift work start worker t = are.only (i + 1) (shift_of 0 0 0) lt in
+          let starts : s.start ≤ t.start = are.by_start i (i + 1) (omega arith) lt same in
+          let at : start s.number ≡ s.start = one.same_start in
+          let here : start t.number ≡ t.start = two.same_start in
           let goes = two.runs in
-          let first = runs-from work start t.1 s.2 (omega arith) early in
-          let second = runs-from work start t.1 t.2 (omega arith) (omega (arith, goes, here)) in
-          let apart : s.2 ≢ t.2 = are.once i (i + 1) (omega arith) lt in
-          elim (cases_lt s.2 t.2) [
-            | inl less ↦ not-taken work start worker k none t.2 s.2 t.0 two.number two.same_worker
-                (record { from = one.number.from; earlier = less; same = one.same_worker ∙ ap Some same; together = (t.1, first, second) })
-            | inr more ↦ not-taken work start worker k none s.2 t.2 s.0 one.number one.same_worker
-                (record { from = two.number.from; earlier = omega (arith, apart); same = two.same_worker ∙ ap Some (sym same); together = (t.1, second, first) })
+          let first = runs-from work start t.start s.number (omega arith) early in
+          let second = runs-from work start t.start t.number (omega arith) (omega (arith, goes, here)) in
+          let apart : s.number ≢ t.number = are.once i (i + 1) (omega arith) lt in
+          elim (cases_lt s.number t.number) [
+            | inl less ↦ not-taken work start worker k none t.number s.number t.worker two.number two.same_worker
+                (record { from = one.number.from; earlier = less; same = one.same_worker ∙ ap Some same; together = (t.start, first, second) })
+            | inr more ↦ not-taken work start worker k none s.number t.number s.worker one.number one.same_worker
+                (record { from = two.number.from; earlier = omega (arith, apart); same = two.same_worker ∙ ap Some (sym same); together = (t.start, second, first) })
           ]
 
 module _ (work : Work) (start : ℕ → ℕ) (worker : ℕ → Option ℕ) (workers : Option ℕ) where

@@ -1,7 +1,7 @@
 //! The verdicts on plans that are given.
 //!
-//! A check sorts, and uses the tables of the planner. It walks over pairs of messages only to name
-//! the second message of an overlap.
+//! A check sorts, and uses the tables of the planner. It walks over pairs of messages only to name an
+//! overlap that is there, in threads.
 //! - `verdict`: what a check finds; `claim`: what it looks at.
 //! - `overlap`, `crowd`, `worker`, `told`, `totals`, `links`: one kind of fault each; `shifts`:
 //!   whether any worker is wrong; `ticks`: whether a tick is crowded.

@@ -38,8 +38,16 @@ fn is_one_of(k: u32, worker: Option<u64>) -> bool
     }
 }
 
+/// A message that runs: the worker that its row tells, its start and its number.
+#[derive(Clone, Copy)]
+struct Shift {
+    worker: u64,
+    start: u64,
+    number: u32,
+}
+
 // The shift of message `n`: none where its row tells no worker, or it runs at no tick.
-fn shift(claim: &Claim<'_>, n: u32) -> Option<(u64, u64, u32)>
+fn find_shift(claim: &Claim<'_>, n: u32) -> Option<Shift>
     requires number { IsNumber (planned_work claim.now.planned) n }
     ensures { (many : ℕ) → n ≤ many
         → IsShiftOf (first_of (planned_work claim.now.planned) many)
@@ -47,39 +55,43 @@ fn shift(claim: &Claim<'_>, n: u32) -> Option<(u64, u64, u32)>
 {
     let start = claim.planned.plan.start(n);
     match claim.given.row(n).worker {
-        Some(worker) if start < claim.planned.plan.finish(n) => Some((worker, start, n)),
+        Some(worker) if start < claim.planned.plan.finish(n) => Some(Shift {
+            worker,
+            start,
+            number: n,
+        }),
         _ => None,
     }
 }
 
-// The shifts of the first messages: each is a worker, a start and the number of a message.
-fn shifts(alloc: Global, claim: &Claim<'_>, many: u32) -> Result<Vec<(u64, u64, u32)>, AllocError>
+// The shifts of the first messages, by worker and then by start.
+fn shifts(alloc: Global, claim: &Claim<'_>, many: u32) -> Result<Vec<Shift>, AllocError>
     requires many { many ≤ (planned_work claim.now.planned).count }
     ensures { IfOk result (λ shifts. AreShifts (first_of (planned_work claim.now.planned) many)
         (planned_starts claim.now.planned) (worker_in claim.now.given.now) shifts.items) }
 {
     let mut shifts = Vec::with_capacity(alloc, many as usize)?;
     for n in 1..many + 1 {
-        if let Some(shift) = shift(claim, n) {
+        if let Some(shift) = find_shift(claim, n) {
             shifts.push(shift)?;
         }
     }
-    shifts.sort_unstable();
+    shifts.sort_unstable_by_key(|shift| (shift.worker, shift.start));
     Ok(shifts)
 }
 
 // Whether one shift has ended when the next begins, where both are of one worker.
-fn follows(plan: &Plan, one: (u64, u64, u32), next: (u64, u64, u32)) -> bool
-    requires number { IsNumber (work_in plan.now) one.2 }
+fn follows(plan: &Plan, one: Shift, next: Shift) -> bool
+    requires number { IsNumber (work_in plan.now) one.number }
     ensures { IsTrue result
         ↔ Follows (work_in plan.now) (starts_in plan.now) one next }
 {
-    one.0 != next.0 || plan.finish(one.2) <= next.1
+    one.worker != next.worker || plan.finish(one.number) <= next.start
 }
 
 // Whether each shift follows the one before it.
-fn are_apart(plan: &Plan, shifts: &[(u64, u64, u32)]) -> bool
-    requires { All (λ shift. IsNumber (work_in plan.now) shift.2) shifts.now }
+fn are_apart(plan: &Plan, shifts: &[Shift]) -> bool
+    requires { All (λ shift. IsNumber (work_in plan.now) shift.number) shifts.now }
     ensures { IsTrue result
         ↔ AreApart (work_in plan.now) (starts_in plan.now) shifts.now }
 {
