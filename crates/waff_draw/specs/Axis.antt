@@ -1,18 +1,12 @@
 -- The axis: round numbers of ticks.
-use Rattle.std.specs.Prelude.{ℕ, ◌+◌, ◌-◌, ◌*◌, ◌/◌, max, nat_le, List, [], ◌∷◌, if◌then◌else◌}
+use Rattle.std.specs.Prelude.{ℕ, ◌+◌, ◌-◌, ◌*◌, ◌/◌, ◌^◌, max, nat_le, List, [], ◌∷◌, ◌++◌}
+use Rattle.std.specs.Prelude.{if◌then◌else◌}
+use Rattle.std.specs.List.{flat_map, range_with_len}
 
--- round numbers, as far as plans may be long
+-- round numbers, as far as plans may be long: 1, 2 and 5 times each power of ten
 abbrev pub round_numbers : List ℕ
 round_numbers =
-    1 ∷ 2 ∷ 5 ∷ 10 ∷ 20 ∷ 50
-    ∷ 100 ∷ 200 ∷ 500 ∷ 1000 ∷ 2000 ∷ 5000
-    ∷ 10000 ∷ 20000 ∷ 50000 ∷ 100000 ∷ 200000 ∷ 500000
-    ∷ 1000000 ∷ 2000000 ∷ 5000000 ∷ 10000000 ∷ 20000000 ∷ 50000000
-    ∷ 100000000 ∷ 200000000 ∷ 500000000 ∷ 1000000000 ∷ 2000000000 ∷ 5000000000
-    ∷ 10000000000 ∷ 20000000000 ∷ 50000000000 ∷ 100000000000 ∷ 200000000000 ∷ 500000000000
-    ∷ 1000000000000 ∷ 2000000000000 ∷ 5000000000000
-    ∷ 10000000000000 ∷ 20000000000000 ∷ 50000000000000
-    ∷ 100000000000000 ∷ 200000000000000 ∷ 500000000000000 ∷ 1000000000000000 ∷ []
+    flat_map (λ n. 10 ^ n ∷ 2 * 10 ^ n ∷ 5 * 10 ^ n ∷ []) (range_with_len 0 15) ++ 10 ^ 15 ∷ []
 
 -- the first of the steps of which ten reach the length, and the length itself where none does
 abbrev pub first_step : ℕ → List ℕ → ℕ
