@@ -10,7 +10,7 @@ use Rattle.atomic_table.specs.Table.{State}
 use Rattle.atomic_table.proofs.Lists.{at_set, set_here}
 use Rattle.waff_core.specs.Job.{IsIn}
 use Rattle.waff_core.specs.Laws.{Reaches}
-use Rattle.waff_core.specs.Machine.{Core, IsClear, Steps, opening, phase_of}
+use Rattle.waff_core.specs.Machine.{Core, IsClear, Steps, phase_of}
 use Rattle.waff_core.specs.declared.event.Event.{Event}
 use Rattle.waff_core.specs.declared.phase.Phase.TheVariants.{Free}
 use Rattle.waff_core.proofs.Following.{cells_follow}

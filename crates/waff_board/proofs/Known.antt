@@ -1,21 +1,17 @@
 -- What is known of the states that the core machine reaches, as the steps of the board need it.
-use Rattle.std.proofs.Common.{◌||◌, ◌≡◌, ◌≢◌, inl, inr, ⊎_elim, ℕ, zero, suc, ◌+◌, ◌-◌, ◌<◌, ◌≤◌, true, false, true≢false, List, [], ◌∷◌, ◌++◌, Some, All, AllPairs, length, get_or, slice_get, eqb, refl, ap, sym, ◌∙◌, subst, arith}
+use Rattle.std.proofs.Common.{◌||◌, ◌≡◌, inl, inr, ⊎_elim, ℕ, zero, suc, ◌+◌, ◌-◌, ◌<◌, ◌≤◌, true, false, true≢false, List, [], ◌∷◌, Some, length, slice_get, eqb, refl, ap, sym, ◌∙◌, subst, arith}
 use Rattle.std.specs.List.{list_any}
-use Rattle.std.proofs.lemmas.Bool.{cases_eq, cases_order, eqb-true, eq-eqb}
+use Rattle.std.proofs.lemmas.Bool.{cases_order, eq-eqb}
 use Rattle.std.proofs.Math.Bool.{or-true}
-use Rattle.std.proofs.lemmas.Bool.Decides.{Decides-eqb}
-use Rattle.std.proofs.lemmas.Option.{none-some, same_Some, slice_get-get_or}
-use Rattle.std.proofs.lemmas.List.Elements.{All-get_or, All-contains}
-use Rattle.std.proofs.lemmas.Map.Made.{IsDistinct-from_AllPairs}
-use Rattle.std.proofs.lemmas.Map.Views.{Contains-from_any}
-use Rattle.std.proofs.lemmas.Map.Steps.{length-le_from_distinct_below, le-length_from_below}
+use Rattle.std.proofs.lemmas.Option.{none-some, same_Some}
+use Rattle.std.proofs.lemmas.Map.Steps.{le-length_from_below}
 use Rattle.waff_model.specs.Tree.{Node, AtOrAbove, parent_of}
 use Rattle.waff_assign.specs.Order.{affinity_of}
 use Rattle.waff_order.specs.Needs.{IsNeed}
 use Rattle.waff_cells.specs.Meaning.{meaning}
 use Rattle.waff_cells.specs.Serial.{SameParcel, ops_of, serial}
-use Rattle.waff_core.specs.Job.{JobValue, IsJob, IsIn, IsOrder, IsOwner, StandsAt}
-use Rattle.waff_core.specs.Machine.{Core, IsClear, Runs, Steps, opening, phase_of}
+use Rattle.waff_core.specs.Job.{JobValue, IsJob, IsIn, IsOrder, IsOwner}
+use Rattle.waff_core.specs.Machine.{Core, IsClear, Runs, opening, phase_of}
 use Rattle.waff_core.specs.declared.event.Event.{Event}
 use Rattle.waff_core.specs.declared.phase.Phase.TheVariants.{Running}
 use Rattle.waff_core.specs.Laws.{MayRun}

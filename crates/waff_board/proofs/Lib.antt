@@ -9,7 +9,7 @@ mod Seen
 mod Draws
 mod Numbers
 mod Lookings
-mod Carrying
+mod Swapping
 mod Rows
 mod Between
 mod Grants

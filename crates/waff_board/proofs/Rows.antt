@@ -9,7 +9,7 @@ use Rattle.waff_cells.specs.Parcel.{IsParcel, AreParcels}
 use Rattle.waff_core.specs.Job.{StandOnce}
 use Rattle.waff_board.specs.Hands.{rows_at}
 use Rattle.waff_board.specs.Plays.{Parcels}
-use Rattle.waff_board.proofs.Carrying.{drop_next}
+use Rattle.waff_board.proofs.Swapping.{drop_next}
 use Rattle.waff_board.proofs.Owners.{once_first, once_rest, in_cases, in_rest, in_first, in_none}
 
 -- another row leaves these

@@ -2,9 +2,12 @@
 use Rattle.std.specs.Prelude.{◌≡◌, ◌-◌, ℕ, List}
 use Rattle.atomic_table.specs.Seated.{TableId}
 use Rattle.waff_model.specs.declared.cell.Cell.{Cell}
+use Rattle.waff_order.specs.Needs.{IsNeed}
+use Rattle.waff_cells.specs.Meaning.{Cells}
 use Rattle.waff_cells.specs.Parcel.{AreParcels, IsOwned}
 use Rattle.waff_cells.specs.Serial.{serial}
 use Rattle.waff_core.specs.Job.{JobValue, owners_of}
+use Rattle.waff_board.specs.Seats.{HasSeen}
 use Rattle.waff_board.specs.declared.view.View.{View}
 
 -- a board: its table, the job, and how many seats it has
@@ -26,17 +29,23 @@ pub record Token : Type 0 where
 abbrev pub IsOf : BoardValue → Token → Type 0
 IsOf board token = (token.table ≡ board.table) × (token.view.job ≡ board.job)
 
--- the token has the parcels of its message's owners, as the messages before it left them
-abbrev pub HoldsBefore : Token → Type 0
-HoldsBefore token =
-    AreParcels token.view.job.layout.spaces (owners_of token.view.job.owners token.message)
-    (serial token.view.job.ops (token.message - 1)) token.parcels
+-- the seat has seen all needs of its message done
+abbrev pub SeesNeeds : Token → Type 0
+SeesNeeds token = (i : ℕ) → IsNeed token.view.job.needs i token.message → HasSeen token.view i
 
--- the token has the parcels of its message's owners, as the message left them
+-- the token has the parcels of its message's owners, with these cells
+abbrev pub HoldsCells : Token → Cells → Type 0
+HoldsCells token cells =
+    AreParcels token.view.job.layout.spaces (owners_of token.view.job.owners token.message) cells
+    token.parcels
+
+-- the parcels are as the messages before the token's message left them
+abbrev pub HoldsBefore : Token → Type 0
+HoldsBefore token = HoldsCells token (serial token.view.job.ops (token.message - 1))
+
+-- the parcels are as the message left them
 abbrev pub HoldsAfter : Token → Type 0
-HoldsAfter token =
-    AreParcels token.view.job.layout.spaces (owners_of token.view.job.owners token.message)
-    (serial token.view.job.ops token.message) token.parcels
+HoldsAfter token = HoldsCells token (serial token.view.job.ops token.message)
 
 -- the cells of the owners of the token's message
 abbrev pub IsCellOf : Token → Cell → Type 0

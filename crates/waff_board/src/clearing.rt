@@ -1,10 +1,10 @@
 //! Looking at the needs of a message.
 
-ghost use Rattle.std.specs.Prelude.{◌≡◌, ◌<◌, All, Option, find, false, length};
-ghost use Rattle.std.specs.Prelude.{not, slice_index_or};
+ghost use Rattle.std.specs.Prelude.{◌≡◌, All, find, not};
 ghost use Rattle.waff_core.specs.Job.{IsIn};
 ghost use Rattle.waff_board.specs.Calls.{Looked, LooksOver, ClearTells};
 ghost use Rattle.waff_board.specs.Hands.{IsHandOf};
+ghost use Rattle.waff_board.specs.Seats.{has_seen};
 ghost use Rattle.waff_board.specs.Tokens.{IsOf};
 
 use crate::board::Board;
@@ -31,12 +31,14 @@ impl Board {
         let Drawn { hand, message } = drawn;
         let needs = self.setup.job.needs(message);
         let hand = self.look_over(hand, needs);
-        match first_unseen(hand.seen.as_slice(), needs) {
+        match first_unseen(&hand, needs) {
             Some(on) => Clear::Wait {
                 drawn: Drawn { hand, message },
                 on,
             },
-            None => Clear::Go(Cleared { hand, message }),
+            None => Clear::Go(Cleared {
+                drawn: Drawn { hand, message },
+            }),
         }
     }
 
@@ -49,7 +51,7 @@ impl Board {
         ensures of { IsHandOf self.now result }
     {
         for n in messages {
-            if !hand.seen[*n as usize] {
+            if !hand.sees(*n) {
                 hand = self.look(hand, *n);
             }
         }
@@ -57,37 +59,31 @@ impl Board {
     }
 
     /// Looks at message `n`, and marks it where it is done.
-    pub(crate) fn look(&self, hand: Hand, n: u32) -> Hand
+    pub(crate) fn look(&self, mut hand: Hand, n: u32) -> Hand
         requires of { IsHandOf self.now hand }
         requires number { IsIn self.now.job n }
         ensures view { Looked hand.chair.me.0 n result.chair.me.0 }
         ensures held { result.chair.me.1 ≡ hand.chair.me.1 }
         ensures of { IsHandOf self.now result }
     {
-        let Hand {
-            mut chair,
-            mut seen,
-            parcels,
-        } = hand;
-        let word = self.table.shared.load::<LookStep>(&mut chair, n as usize);
+        let word = self
+            .table
+            .shared
+            .load::<LookStep>(&mut hand.chair, n as usize);
         if word == DONE {
-            seen[n as usize] = true;
+            hand.seen[n as usize] = true;
         }
-        Hand {
-            chair,
-            seen,
-            parcels,
-        }
+        hand
     }
 }
 
-/// The first of the messages that is not marked.
-fn first_unseen(seen: &[bool], messages: &[u32]) -> Option<u32>
-    requires { All (λ n. n < length seen.now) messages.now }
-    ensures { result ≡ find (λ n. not (slice_index_or seen.now n false)) messages.now }
+/// The first of the messages that the seat has not seen done.
+fn first_unseen(hand: &Hand, messages: &[u32]) -> Option<u32>
+    requires { All (IsIn hand.now.chair.me.0.job) messages.now }
+    ensures { result ≡ find (λ n. not (has_seen hand.now.chair.me.0 n)) messages.now }
 {
     for n in messages {
-        if !seen[*n as usize] {
+        if !hand.sees(*n) {
             return Some(*n);
         }
     }

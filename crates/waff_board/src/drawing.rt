@@ -1,11 +1,11 @@
 //! Drawing the next message.
 
 ghost use Rattle.std.specs.Prelude.{◌≡◌, ◌<◌, ◌≤◌, IfNone, IfSome, length, slice_get};
+ghost use Rattle.waff_core.specs.Job.{IsIn};
 ghost use Rattle.waff_board.specs.Calls.{DrawTells};
 ghost use Rattle.waff_board.specs.Tokens.{IsOf};
 
 use crate::board::Board;
-use crate::hand::Hand;
 use crate::plays::DrawStep;
 use crate::tokens::{Drawn, EndSeat, Seat};
 
@@ -24,18 +24,11 @@ impl Board {
         requires { IsOf self.now seat }
         ensures { DrawTells self.now seat.view result }
     {
-        let Seat { hand } = seat;
-        let Hand {
-            mut chair,
-            seen,
-            parcels,
-        } = hand;
-        let number = self.table.shared.fetch_add::<DrawStep>(&mut chair, 0, 1);
-        let hand = Hand {
-            chair,
-            seen,
-            parcels,
-        };
+        let Seat { mut hand } = seat;
+        let number = self
+            .table
+            .shared
+            .fetch_add::<DrawStep>(&mut hand.chair, 0, 1);
         match self.message_at(number) {
             Some(message) => Draw::Got(Drawn { hand, message }),
             None => Draw::Over(EndSeat { hand }),
@@ -45,8 +38,8 @@ impl Board {
     /// The message that this number draws.
     fn message_at(&self, number: u64) -> Option<u32>
         ensures drawn { slice_get self.now.job.order number ≡ result }
-        ensures some { IfSome result (λ m. (1 ≤ m)
-            × (m ≤ length self.now.job.ops) × (number < length self.now.job.ops)) }
+        ensures some { IfSome result
+            (λ m. IsIn self.now.job m × (number < length self.now.job.ops)) }
         ensures none { IfNone result (length self.now.job.ops ≤ number) }
     {
         let job = &self.setup.job;

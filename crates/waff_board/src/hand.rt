@@ -1,6 +1,7 @@
 //! What every seat holds.
 
 ghost use Rattle.std.specs.Prelude.{◌≡◌, ◌+◌, ◌<◌, ℕ, false, length, slice_index_or, vec_len};
+ghost use Rattle.waff_core.specs.Job.{IsIn};
 ghost use Rattle.waff_board.specs.Seats.{has_seen};
 
 use crate::view::View;
@@ -17,4 +18,14 @@ pub struct Hand {
     ghost marks: { (n : ℕ) → n < length chair.me.0.job.ops + 1
         → slice_index_or seen.items n false ≡ has_seen chair.me.0 n },
     ghost rows: { vec_len parcels ≡ length chair.me.0.job.layout.tree },
+}
+
+impl Hand {
+    /// Whether the seat has seen that message `n` is done.
+    pub(crate) fn sees(&self, n: u32) -> bool
+        requires { IsIn self.now.chair.me.0.job n }
+        ensures { result ≡ has_seen self.now.chair.me.0 n }
+    {
+        self.seen[n as usize]
+    }
 }

@@ -1,10 +1,11 @@
-//! Reading the message of a token, and the cells that it holds; a grant's message stands with its run.
+//! Reading the message of a token, and the cells that it holds.
 
 ghost use Rattle.std.specs.Prelude.{◌≡◌, ◌-◌, ◌↔◌, IfSome, IsSome};
+ghost use Rattle.waff_cells.specs.Meaning.{Cells};
 ghost use Rattle.waff_cells.specs.Serial.{serial};
-ghost use Rattle.waff_board.specs.Tokens.{IsCellOf};
+ghost use Rattle.waff_board.specs.Tokens.{HoldsCells, IsCellOf};
 
-use crate::tokens::{Cleared, Drawn, Finished, Grant};
+use crate::tokens::{Cleared, Drawn, Finished, Grant, Running};
 use waff_cells::parcels;
 use waff_model::Cell;
 
@@ -22,16 +23,17 @@ impl Cleared {
     pub fn message(&self) -> u32
         ensures { result ≡ self.now.message }
     {
-        self.message
+        self.drawn.message
     }
 }
 
-impl<'a> Grant<'a> {
-    /// The number of a cell of the parcels before the message, None for another cell.
-    pub fn get(&self, cell: Cell) -> Option<u64>
+impl<'a> Running<'a> {
+    /// The number of a cell of the parcels, None for another cell.
+    fn get(&self, cell: Cell) -> Option<u64>
+        requires { (cells : Cells) × HoldsCells self.now cells }
         ensures held { IsSome result ↔ IsCellOf self.now cell }
-        ensures number { IfSome result (λ number.
-            number ≡ serial self.now.view.job.ops (self.now.message - 1) cell) }
+        ensures number { (cells : Cells) → HoldsCells self.now cells
+            → IfSome result (λ number. number ≡ cells cell) }
     {
         parcels::get(
             self.hand.parcels.as_slice(),
@@ -42,12 +44,30 @@ impl<'a> Grant<'a> {
     }
 }
 
+impl<'a> Grant<'a> {
+    /// The message that the seat runs.
+    pub fn message(&self) -> u32
+        ensures { result ≡ self.now.message }
+    {
+        self.running.message
+    }
+
+    /// The number of a cell of the parcels before the message, None for another cell.
+    pub fn get(&self, cell: Cell) -> Option<u64>
+        ensures held { IsSome result ↔ IsCellOf self.now cell }
+        ensures number { IfSome result (λ number.
+            number ≡ serial self.now.view.job.ops (self.now.message - 1) cell) }
+    {
+        self.running.get(cell)
+    }
+}
+
 impl<'a> Finished<'a> {
     /// The message that the seat has run.
     pub fn message(&self) -> u32
         ensures { result ≡ self.now.message }
     {
-        self.message
+        self.running.message
     }
 
     /// The number of a cell of the parcels after the message, None for another cell.
@@ -56,12 +76,6 @@ impl<'a> Finished<'a> {
         ensures number { IfSome result (λ number.
             number ≡ serial self.now.view.job.ops self.now.message cell) }
     {
-        let owners = self.job.owners(self.message);
-        parcels::get(
-            self.hand.parcels.as_slice(),
-            self.job.parcel_table(),
-            owners,
-            cell,
-        )
+        self.running.get(cell)
     }
 }

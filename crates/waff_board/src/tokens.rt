@@ -1,12 +1,9 @@
 //! The tokens of a board, each of which one call takes and gives the next.
 
-ghost use Rattle.std.specs.Prelude.{◌^◌, ◌<◌, ◌≡◌, ◌-◌, ◌≤◌, ℕ, [], length, map};
-ghost use Rattle.waff_order.specs.Needs.{IsNeed};
-ghost use Rattle.waff_cells.specs.Serial.{serial};
-ghost use Rattle.waff_core.specs.Job.{owners_of};
+ghost use Rattle.std.specs.Prelude.{◌^◌, ◌<◌, ◌≡◌, [], length, map};
+ghost use Rattle.waff_core.specs.Job.{IsIn, owners_of};
 ghost use Rattle.waff_core.specs.declared.phase.Phase.TheVariants.{Free, Drawn, Running, Ended};
-ghost use Rattle.waff_cells.specs.Parcel.{AreParcels};
-ghost use Rattle.waff_board.specs.Seats.{HasSeen};
+ghost use Rattle.waff_board.specs.Tokens.{HoldsBefore, HoldsAfter, SeesNeeds};
 
 use crate::hand::Hand;
 use std::marker::Model;
@@ -21,17 +18,12 @@ pub struct Seat {
 }
 
 impl Model for Seat {
-    ghost use Rattle.std.specs.Prelude.{[]};
+    ghost use Rattle.waff_board.specs.Hands.{idle_token};
     ghost use Rattle.waff_board.specs.Tokens.{Token};
 
     ghost Value = { Token };
 
-    ghost view = { λ a. record {
-      table = a.hand.chair.table_id;
-      view = a.hand.chair.me.0;
-      message = 0;
-      parcels = [];
-    } };
+    ghost view = { λ a. idle_token a.hand 0 };
 }
 
 /// A seat that has drawn a message.
@@ -39,113 +31,84 @@ impl Model for Seat {
 pub struct Drawn {
     pub(crate) hand: Hand,
     pub(crate) message: u32,
-    ghost from: { 1 ≤ message },
-    ghost to: { message ≤ length hand.chair.me.0.job.ops },
+    ghost within: { IsIn hand.chair.me.0.job message },
     ghost drawn: { hand.chair.me.0.phase ≡ Drawn message },
     ghost empty: { hand.chair.me.1 ≡ [] },
 }
 
 impl Model for Drawn {
-    ghost use Rattle.std.specs.Prelude.{[]};
+    ghost use Rattle.waff_board.specs.Hands.{idle_token};
     ghost use Rattle.waff_board.specs.Tokens.{Token};
 
     ghost Value = { Token };
 
-    ghost view = { λ a. record {
-      table = a.hand.chair.table_id;
-      view = a.hand.chair.me.0;
-      message = a.message;
-      parcels = [];
-    } };
+    ghost view = { λ a. idle_token a.hand a.message };
 }
 
 /// A seat that has drawn a message and has seen all its needs done.
 #[derive(Drop)]
 pub struct Cleared {
-    pub(crate) hand: Hand,
-    pub(crate) message: u32,
-    ghost from: { 1 ≤ message },
-    ghost to: { message ≤ length hand.chair.me.0.job.ops },
-    ghost drawn: { hand.chair.me.0.phase ≡ Drawn message },
-    ghost empty: { hand.chair.me.1 ≡ [] },
-    ghost clear: { (i : ℕ) → IsNeed hand.chair.me.0.job.needs i message
-        → HasSeen hand.chair.me.0 i },
+    pub(crate) drawn: Drawn,
+    ghost clear: { SeesNeeds drawn },
 }
 
 impl Model for Cleared {
-    ghost use Rattle.std.specs.Prelude.{[]};
     ghost use Rattle.waff_board.specs.Tokens.{Token};
 
     ghost Value = { Token };
 
-    ghost view = { λ a. record {
-      table = a.hand.chair.table_id;
-      view = a.hand.chair.me.0;
-      message = a.message;
-      parcels = [];
-    } };
+    ghost view = { λ a. a.drawn };
 }
 
-/// A seat that runs a message, with the parcels of its footprint's owners.
+/// A seat that has begun a message, with the parcels of its footprint's owners.
 #[derive(Drop)]
-pub struct Grant<'a> {
+pub struct Running<'a> {
     pub(crate) hand: Hand,
     pub(crate) message: u32,
     pub(crate) job: &'a Job,
-    ghost from: { 1 ≤ message },
-    ghost to: { message ≤ length hand.chair.me.0.job.ops },
+    ghost within: { IsIn job.now message },
     ghost of: { job.now ≡ hand.chair.me.0.job },
     ghost running: { hand.chair.me.0.phase ≡ Running message },
-    ghost taken: { map (λ slot. slot.0) hand.chair.me.1
-        ≡ owners_of hand.chair.me.0.job.owners message },
-    ghost before: { AreParcels hand.chair.me.0.job.layout.spaces
-        (owners_of hand.chair.me.0.job.owners message)
-        (serial hand.chair.me.0.job.ops (message - 1)) (map (λ row. row.items) hand.parcels.items) },
+    ghost taken: { map (λ slot. slot.0) hand.chair.me.1 ≡ owners_of job.now.owners message },
 }
 
-impl<'a> Model for Grant<'a> {
-    ghost use Rattle.std.specs.Prelude.{map};
+impl<'a> Model for Running<'a> {
+    ghost use Rattle.waff_board.specs.Hands.{running_token};
     ghost use Rattle.waff_board.specs.Tokens.{Token};
 
     ghost Value = { Token };
 
-    ghost view = { λ a. record {
-      table = a.hand.chair.table_id;
-      view = a.hand.chair.me.0;
-      message = a.message;
-      parcels = map (λ row. row.items) a.hand.parcels.items;
-    } };
+    ghost view = { λ a. running_token a.hand a.message };
+}
+
+/// A seat that runs a message, with the parcels as the messages before it left them.
+#[derive(Drop)]
+pub struct Grant<'a> {
+    pub(crate) running: Running<'a>,
+    ghost before: { HoldsBefore running },
+}
+
+impl<'a> Model for Grant<'a> {
+    ghost use Rattle.waff_board.specs.Tokens.{Token};
+
+    ghost Value = { Token };
+
+    ghost view = { λ a. a.running };
 }
 
 /// A seat that has run a message, with the parcels as the message left them.
 #[derive(Drop)]
 pub struct Finished<'a> {
-    pub(crate) hand: Hand,
-    pub(crate) message: u32,
-    pub(crate) job: &'a Job,
-    ghost from: { 1 ≤ message },
-    ghost to: { message ≤ length hand.chair.me.0.job.ops },
-    ghost of: { job.now ≡ hand.chair.me.0.job },
-    ghost running: { hand.chair.me.0.phase ≡ Running message },
-    ghost taken: { map (λ slot. slot.0) hand.chair.me.1
-        ≡ owners_of hand.chair.me.0.job.owners message },
-    ghost after: { AreParcels hand.chair.me.0.job.layout.spaces
-        (owners_of hand.chair.me.0.job.owners message)
-        (serial hand.chair.me.0.job.ops message) (map (λ row. row.items) hand.parcels.items) },
+    pub(crate) running: Running<'a>,
+    ghost after: { HoldsAfter running },
 }
 
 impl<'a> Model for Finished<'a> {
-    ghost use Rattle.std.specs.Prelude.{map};
     ghost use Rattle.waff_board.specs.Tokens.{Token};
 
     ghost Value = { Token };
 
-    ghost view = { λ a. record {
-      table = a.hand.chair.table_id;
-      view = a.hand.chair.me.0;
-      message = a.message;
-      parcels = map (λ row. row.items) a.hand.parcels.items;
-    } };
+    ghost view = { λ a. a.running };
 }
 
 /// A seat that has drawn past the end of the order.
@@ -158,15 +121,10 @@ pub struct EndSeat {
 }
 
 impl Model for EndSeat {
-    ghost use Rattle.std.specs.Prelude.{[]};
+    ghost use Rattle.waff_board.specs.Hands.{idle_token};
     ghost use Rattle.waff_board.specs.Tokens.{Token};
 
     ghost Value = { Token };
 
-    ghost view = { λ a. record {
-      table = a.hand.chair.table_id;
-      view = a.hand.chair.me.0;
-      message = 0;
-      parcels = [];
-    } };
+    ghost view = { λ a. idle_token a.hand 0 };
 }

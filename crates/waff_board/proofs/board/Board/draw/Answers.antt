@@ -1,5 +1,5 @@
 use Rattle.std.proofs.Common.{◌≡◌, ◌^◌, ◌<◌, ◌≤◌, Some, length, slice_get, arith, sym, ap, ◌∙◌, subst}
-use Rattle.waff_core.specs.Job.{JobValue}
+use Rattle.waff_core.specs.Job.{JobValue, IsIn}
 use Rattle.waff_board.specs.Plays.{drawn_view}
 use Rattle.waff_board.specs.Tokens.{BoardValue, Token}
 use Rattle.waff_board.proofs.Draws.{draws}
@@ -25,13 +25,10 @@ invariant_of-result c =
     let p = c.fetch_add-number.result in
     let view : W ≡ drawn_view V p = first_same _ _ c.fetch_add-number.ensures.2 ∙ ap (λ (t : Token). drawn_view t.view p) c.seat.view_is in
     let job = drawn_job V W J p view c.requires.1 in (
-      c.in-Some.ensures.some.0,
+      subst (λ (j : JobValue). IsIn j c.in-Some.message) (sym job) c.in-Some.ensures.some.0,
       (
-        subst (λ (j : JobValue). c.in-Some.message ≤ length j.ops) (sym job) c.in-Some.ensures.some.1,
-        (
-          drawn_phase V W J p view c.requires.1 c.in-Some.message c.in-Some.ensures.drawn,
-          (second_same _ _ c.fetch_add-number.ensures.2 ∙ c.seat.inside.empty, tt),
-        ),
+        drawn_phase V W J p view c.requires.1 c.in-Some.message c.in-Some.ensures.drawn,
+        (second_same _ _ c.fetch_add-number.ensures.2 ∙ c.seat.inside.empty, tt),
       ),
     )
 
@@ -61,7 +58,7 @@ returns-in-Some c =
     let view : W ≡ drawn_view V p = first_same _ _ c.fetch_add-number.ensures.2 ∙ ap (λ (t : Token). drawn_view t.view p) c.seat.view_is in
     let table = (of_board c.args.self.now c.seat.view_is c.requires).0 in (
       p,
-      subst (λ (j : JobValue). p < length j.ops) (sym c.requires.1) c.in-Some.ensures.some.2,
+      subst (λ (j : JobValue). p < length j.ops) (sym c.requires.1) c.in-Some.ensures.some.1,
       subst (λ (j : JobValue). slice_get j.order p ≡ Some c.in-Some.message) (sym c.requires.1) c.in-Some.ensures.drawn,
       view,
       (c.fetch_add-number.ensures.0 ∙ table, drawn_job V W c.args.self.now.job p view c.requires.1),
