@@ -1,10 +1,9 @@
 -- Looks at several messages.
-use Rattle.std.proofs.Common.{◌≡◌, ⊎_elim, ℕ, ◌+◌, ◌<◌, ◌≤◌, Bool, true, false, not, cond, List, [], ◌∷◌, ◌++◌, Some, None, MatchBool, All, Contains, find, length, get_or, take, refl, sym, ap, ◌∙◌, subst, arith}
+use Rattle.std.proofs.Common.{◌≡◌, ⊎_elim, ℕ, ◌+◌, ◌<◌, Bool, true, false, not, cond, List, [], ◌∷◌, ◌++◌, Some, None, MatchBool, Contains, find, length, get_or, take, refl, sym, ap, ◌∙◌, subst, arith}
 use Rattle.std.proofs.lemmas.List.{take_more}
-use Rattle.std.proofs.lemmas.List.Elements.{Contains-get_or}
 use Rattle.std.proofs.lemmas.Option.{none-some}
 use Rattle.waff_order.specs.Needs.{IsNeed, needs_of}
-use Rattle.waff_core.specs.Job.{JobValue, IsJob, IsIn}
+use Rattle.waff_core.specs.Job.{JobValue, IsIn}
 use Rattle.waff_core.specs.declared.phase.Phase.TheVariants.{Drawn}
 use Rattle.waff_board.specs.Calls.{Looked, LooksOver}
 use Rattle.waff_board.specs.Seats.{has_seen, HasSeen}
@@ -38,17 +37,6 @@ pub drawn_still : (v w : View) (messages : List ℕ) (m : ℕ) → LooksOver v m
 drawn_still v w messages m looks within drawn =
     let alone : w ≡ record v { looks = w.looks } = looks_alone v w messages looks in
     (subst (λ (j : JobValue). IsIn j m) (sym (ap (λ (u : View). u.job) alone)) within, ap (λ (u : View). u.phase) alone ∙ drawn)
-
--- the needs of a message are messages
-pub needs_known : (job : JobValue) → IsJob job → (m : ℕ) → 1 ≤ m → (needs : List ℕ) → needs ≡ needs_of job.needs m → All (IsIn job) needs
-needs_known job is m from needs are =
-    let needed : All (IsIn job) (needs_of job.needs m) = λ k d within.
-    let pair = is.needs.ordered (get_or (needs_of job.needs m) k d) m (record { from = from; listed = Contains-get_or (needs_of job.needs m) k d within }) in
-    let earlier = pair.earlier in
-    let to = pair.to in
-    let count = is.count in
-    record { from = pair.from; to = omega (arith, earlier, to, count) } in
-    subst (λ xs. All (IsIn job) xs) (sym are) needed
 
 -- where nothing is found that fails a test, all pass it
 none_fails_by : (p : ℕ → Bool) (x : ℕ) (xs : List ℕ) (n : ℕ) (b : Bool) → p x ≡ b → find (λ n. not (p n)) (x ∷ xs) ≡ None

@@ -1,11 +1,11 @@
 -- A new board, its parcels and its seats.
-use Rattle.std.proofs.Common.{◌≡◌, ℕ, zero, suc, ◌+◌, ◌<◌, Bool, false, List, [], ◌∷◌, ◌++◌, Some, length, replicate, get_or, slice_get, slice_index_or, refl, sym, ap, ◌∙◌, subst, arith}
+use Rattle.std.proofs.Common.{◌≡◌, ℕ, ◌+◌, ◌<◌, List, [], ◌∷◌, ◌++◌, Some, length, replicate, get_or, slice_get, ap, ◌∙◌, subst, arith}
 use Rattle.std.proofs.lemmas.List.FromFn.{length-map-range_with_len, get_or-map-range_with_len}
 use Rattle.std.proofs.lemmas.Option.{slice_get-get_or}
 use Rattle.waff_model.specs.Parcel.{parcel_size}
 use Rattle.waff_core.specs.Job.{JobValue}
 use Rattle.waff_board.specs.Openings.{IsFresh, AreFresh, zero_parcels_of}
-use Rattle.waff_board.specs.Seats.{has_seen, fresh}
+use Rattle.waff_board.specs.Seats.{fresh}
 use Rattle.waff_board.specs.declared.tokens.Seat.{Seat}
 use Rattle.waff_board.specs.declared.view.View.{View}
 use Rattle.waff_board.proofs.Opens.{AreZeros}
@@ -26,27 +26,6 @@ fresh_is job x made v is = record {
   looks = ap (λ (w : View). w.looks) is;
   ran = ap (λ (w : View). w.ran) is;
 }
-
--- it has seen nothing
-fresh_unseen : (job : JobValue) (x made n : ℕ) → has_seen (fresh job x made) n ≡ false
-fresh_unseen job x made n = refl
-
-none_marked : (n i : ℕ) → slice_index_or (replicate n false) i false ≡ false
-none_marked zero i = refl
-none_marked (suc n) zero = refl
-none_marked (suc n) (suc i) = none_marked n i
-
-pub fresh_marks : (v : View) (marks : List Bool) (count n : ℕ) → IsFresh v.actor v → marks ≡ replicate count false
-    → slice_index_or marks n false ≡ has_seen v n
-fresh_marks v marks count n is same =
-    ap (λ bs. slice_index_or bs n false) same ∙ none_marked count n
-    ∙ sym (ap (λ (w : View). has_seen w n) whole ∙ fresh_unseen v.job v.actor v.made n)
-  where
-    draws_none : v ≡ record v { draws = []; looks = []; ran = [] }
-    draws_none = ap (λ xs. record v { ran = xs }) is.ran ∙ ap (λ xs. record v { looks = xs; ran = [] }) is.looks ∙ ap (λ xs. record v { draws = xs; looks = []; ran = [] }) is.draws
-
-    whole : v ≡ fresh v.job v.actor v.made
-    whole = draws_none ∙ ap (λ phase. record (fresh v.job v.actor v.made) { phase = phase }) is.phase
 
 -- the parcels of all affinities
 pub zeros_are : (job : JobValue) (n : ℕ) (parcels : List (List ℕ)) → parcels ≡ zero_parcels_of job.layout.spaces n → n ≡ length job.layout.tree

@@ -1,7 +1,6 @@
 -- What a view has seen after a look and after a finish.
-use Rattle.std.proofs.Common.{◌≡◌, ◌⊎◌, inl, inr, ⊎_elim, ℕ, ◌==◌, ◌&&◌, ◌||◌, Bool, true, false, List, [], ◌∷◌, ◌++◌, refl, ap, sym, ◌∙◌, subst, eqb-true}
+use Rattle.std.proofs.Common.{◌≡◌, ◌⊎◌, inl, inr, ⊎_elim, ℕ, ◌==◌, ◌&&◌, ◌||◌, Bool, true, false, List, [], ◌∷◌, ◌++◌, refl, ap, sym, ◌∙◌, eqb-true}
 use Rattle.std.specs.List.{list_any}
-use Rattle.waff_board.specs.Calls.{Looked}
 use Rattle.waff_board.specs.Seats.{has_seen, HasSeen}
 use Rattle.waff_board.specs.Plays.{looked_view, finished_view}
 use Rattle.waff_board.specs.declared.view.View.{View}
@@ -43,12 +42,6 @@ pub seen_finished : (v : View) (m n : ℕ) → has_seen (finished_view v m) n �
 seen_finished v m n =
     ap (λ rest. rest || list_any (λ (look : ℕ × Bool). look.0 == n && look.1) v.looks) (any_push (λ k. k == n) v.ran m)
     ∙ or_swap (list_any (λ k. k == n) v.ran) (m == n) (list_any (λ (look : ℕ × Bool). look.0 == n && look.1) v.looks)
-
--- what is seen stays so after a look
-pub seen_still : (v w : View) (m n : ℕ) → Looked v m w → HasSeen v n → HasSeen w n
-seen_still v w m n (word, after) seen =
-    subst (λ (x : View). HasSeen x n) (sym after)
-    (seen_looked v m word n ∙ ap (λ b. b || (m == n && word == 2)) seen)
 
 -- what is seen after a look was seen before, or is what the look found
 pub look_cases : (v : View) (m word n : ℕ) → HasSeen (looked_view v m word) n → HasSeen v n ⊎ ((m ≡ n) × (word ≡ 2))

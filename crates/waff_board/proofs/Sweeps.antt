@@ -1,11 +1,10 @@
 -- Looks at all messages, one after another.
-use Rattle.std.proofs.Common.{◌≡◌, ⊎_elim, ℕ, ◌+◌, ◌<◌, ◌≤◌, ◌==◌, Bool, false, true≢false, List, [], ◌∷◌, ◌++◌, length, refl, sym, ap, ◌∙◌, subst, arith}
-use Rattle.std.proofs.lemmas.Bool.{cases_eq, cases_lt}
+use Rattle.std.proofs.Common.{◌≡◌, ⊎_elim, ℕ, ◌+◌, ◌<◌, ◌≤◌, ◌==◌, Bool, List, [], ◌∷◌, ◌++◌, length, refl, sym, ap, ◌∙◌, subst, arith}
+use Rattle.std.proofs.lemmas.Bool.{cases_eq}
 use Rattle.std.proofs.lemmas.List.{length_push}
 use mathlib.Core.List.{append-nil}
 use Rattle.waff_board.specs.Calls.{Looked}
-use Rattle.waff_board.specs.Endings.{looks_from, LookedUpTo, SeesAll, IsUnseen, IsLeastUnseen}
-use Rattle.waff_board.specs.Seats.{has_seen, HasSeen}
+use Rattle.waff_board.specs.Endings.{looks_from, LookedUpTo}
 use Rattle.waff_board.specs.declared.view.View.{View}
 
 push_over : (xs ys : List (ℕ × Bool)) (look : ℕ × Bool) → (xs ++ ys) ++ look ∷ [] ≡ xs ++ (ys ++ look ∷ [])
@@ -44,20 +43,3 @@ below_more P n below here m from to = ⊎_elim {C = P m}
     (λ (same : n ≡ m). subst P same here)
     (λ (other : n ≡ m → ⊥). below m from (omega (arith, to, other)))
     (cases_eq n m)
-
--- what is not seen is not among what is
-unseen_past : (v : View) (n m : ℕ) → ((i : ℕ) → 1 ≤ i → i < n → HasSeen v i) → IsUnseen v m → n ≤ m
-unseen_past v n m seen is = ⊎_elim {C = n ≤ m}
-    (λ (before : m < n). absurd (true≢false (sym (seen m is.is_in.from before) ∙ is.unseen)))
-    (λ (after : n ≤ m). after)
-    (cases_lt m n)
-
-pub least_unseen : (v : View) (n : ℕ) → ((i : ℕ) → 1 ≤ i → i < n → HasSeen v i) → 1 ≤ n → n ≤ length v.job.ops → has_seen v n ≡ false
-    → IsLeastUnseen v n
-least_unseen v n seen from to unseen = record {
-  unseen = record { is_in = record { from = from; to = to }; unseen = unseen };
-  least = λ m is. unseen_past v n m seen is;
-}
-
-pub sees_all : (v : View) (n : ℕ) → length v.job.ops < n → ((i : ℕ) → 1 ≤ i → i < n → HasSeen v i) → SeesAll v
-sees_all v n past seen i is = let to = is.to in seen i is.from (omega (arith, to, past))

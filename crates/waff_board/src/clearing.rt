@@ -77,12 +77,12 @@ impl Board {
     }
 }
 
-/// The first of the messages that the seat has not seen done.
-fn first_unseen(hand: &Hand, messages: &[u32]) -> Option<u32>
-    requires { All (IsIn hand.now.chair.me.0.job) messages.now }
-    ensures { result ≡ find (λ n. not (has_seen hand.now.chair.me.0 n)) messages.now }
+/// The first of the needs that the seat has not seen done.
+fn first_unseen(hand: &Hand, needs: &[u32]) -> Option<u32>
+    requires { All (IsIn hand.now.chair.me.0.job) needs.now }
+    ensures { result ≡ find (λ n. not (has_seen hand.now.chair.me.0 n)) needs.now }
 {
-    for n in messages {
+    for n in needs {
         if !hand.sees(*n) {
             return Some(*n);
         }

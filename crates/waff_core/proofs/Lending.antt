@@ -1,9 +1,9 @@
 -- The marks of parcels that are home, one actor after another.
-use Rattle.std.proofs.Common.{◌≡◌, ◌≢◌, ◌⊎◌, ℕ, zero, suc, ◌+◌, ◌<◌, ◌≤◌, Bool, true, false, List, length, get_or, set, replicate, Contains, Some, slice_get, inl, inr, arith, refl, sym, ◌∙◌, subst, ⊎_elim}
+use Rattle.std.proofs.Common.{◌≡◌, ◌≢◌, ◌⊎◌, ℕ, zero, suc, ◌+◌, ◌<◌, ◌≤◌, Bool, true, false, List, length, get_or, set, Contains, Some, slice_get, inl, inr, arith, sym, ◌∙◌, subst, ⊎_elim}
 use Rattle.std.proofs.lemmas.Bool.{cases_eq, cases_Bool, true≢false}
-use Rattle.std.proofs.lemmas.List.{get_or-set_same, get_or-set_other, length-replicate, get_or_default}
+use Rattle.std.proofs.lemmas.List.{get_or-set_same, get_or-set_other, get_or_default}
 use Rattle.std.proofs.lemmas.List.Elements.{Contains-get_or}
-use Rattle.std.proofs.lemmas.Option.{none-some, same_Some, slice_get_within}
+use Rattle.std.proofs.lemmas.Option.{same_Some, slice_get_within}
 use Rattle.waff_cells.specs.Serial.{ops_of}
 use Rattle.waff_core.specs.Job.{JobValue, IsJob, IsIn, IsOwner, owners_of}
 use Rattle.waff_core.specs.Machine.{Core, IsAway, phase_of}
@@ -55,20 +55,6 @@ pub record AreHomeUpTo (job : JobValue) (s : Core) (home : List Bool) (k : ℕ) 
   pub count : length home ≡ length job.layout.tree
   pub away : (a : ℕ) → is_home home a ≡ false → IsAway job s a
   pub marked : (a x m : ℕ) → x ≤ k → phase_of s.phases x ≡ Some (Running m) → IsOwner job.layout.spaces (ops_of job.ops m) a → is_home home a ≡ false
-
-always_home : (n a : ℕ) → is_home (replicate n true) a ≡ true
-always_home zero a = refl
-always_home (suc n) zero = refl
-always_home (suc n) (suc a) = always_home n a
-
-pub home_none : (job : JobValue) (s : Core) → AreHomeUpTo job s (replicate (length job.layout.tree) true) 0
-home_none job s = record {
-  count = length-replicate (length job.layout.tree) true;
-  away = λ a no'. absurd (true≢false (sym (always_home (length job.layout.tree) a) ∙ no'));
-  marked = λ a x m first running owner.
-      let zeroth : x ≡ 0 = omega (arith, first) in
-      absurd (none-some (Running m) (subst (λ y. phase_of s.phases y ≡ Some (Running m)) zeroth running));
-}
 
 -- an actor that runs no message
 pub home_idle : (job : JobValue) (s : Core) (home : List Bool) (k : ℕ) (phase : Phase) → slice_get s.phases k ≡ Some phase

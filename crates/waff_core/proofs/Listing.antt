@@ -1,10 +1,9 @@
 -- The operations and the owners of messages, one message after another.
-use Rattle.std.proofs.Common.{◌≡◌, ◌≢◌, ℕ, zero, suc, ◌+◌, ◌-◌, ◌*◌, ◌<◌, ◌≤◌, List, [], ◌∷◌, ◌++◌, length, slice_get, Some, get_or, set, take, map, All, Contains, arith, refl, ap, sym, ◌∙◌, subst, ⊎_elim}
+use Rattle.std.proofs.Common.{◌≡◌, ◌≢◌, ◌⊎◌, inl, inr, ℕ, zero, suc, ◌+◌, ◌-◌, ◌*◌, ◌<◌, ◌≤◌, List, [], ◌∷◌, ◌++◌, length, slice_get, Some, get_or, take, map, All, Contains, arith, ap, sym, ◌∙◌, subst, ⊎_elim}
 use Rattle.std.specs.List.{flat_map}
 use Rattle.std.proofs.lemmas.Bool.{cases_eq}
-use Rattle.std.proofs.lemmas.List.{append_assoc, get_or_append_left, get_or-append-add, get_or_push, get_or_default, get_or-set_same, get_or-set_other, length-set, length-append, length_push, length-map, map-append, map_push, flat_map_more, get_or-map, take_more}
-use Rattle.std.proofs.lemmas.List.Elements.{All-nil, All-push, All-set, All-contains, Contains-get_or, Contains-append_left, Contains-push, Contains-push_cases}
-use Rattle.std.proofs.lemmas.List.Quantifiers.{all_pairs_push}
+use Rattle.std.proofs.lemmas.List.{get_or_append_left, get_or-append-add, get_or_push, length-append, length_push, length-map, map-append, flat_map_more, get_or-map, take_more}
+use Rattle.std.proofs.lemmas.List.Elements.{All-push, All-contains, Contains-get_or, Contains-append_left, Contains-append_right, Contains-append_cases}
 use Rattle.std.proofs.lemmas.Option.{get_or_from_slice_get, slice_get_within}
 use Rattle.waff_model.specs.Cells.{cells_of, cells_of_op}
 use Rattle.waff_model.specs.Layout.{Space, IsCell, owner_of}
@@ -14,7 +13,7 @@ use Rattle.waff_model.specs.declared.op.Op.{Op}
 use Rattle.waff_model.specs.declared.op.Op.TheVariants.{Set, Add, Copy, Swap, Read}
 use Rattle.waff_cells.specs.Serial.{operations, ops_of}
 use Rattle.waff_core.specs.Job.{JobValue, IsJob, IsIn, IsOwner, ListsOwners, owners_of}
-use Rattle.waff_core.specs.Owners.{owners_in, AreMarked, AreOwners}
+use Rattle.waff_core.specs.Owners.{owners_in, AreAdded, AreOwners}
 
 pub All-left : {X : Type 0} (P : X → Type 0) (xs ys : List X) → All P (xs ++ ys) → All P xs
 All-left P xs ys h k d within =
@@ -31,37 +30,20 @@ All-flat P f [] i d within h = absurd (omega arith)
 All-flat P f (x ∷ xs) zero d within h = All-left P (f x) (flat_map f xs) h
 All-flat P f (x ∷ xs) (suc i) d within h = All-flat P f xs i d (omega arith) (All-right P (f x) (flat_map f xs) h)
 
--- the owners of the cells of one operation more
-owners_more : (before : List ℕ) (spaces : List Space) (ops : List Op) (i : ℕ) (d : Op) → i < length ops
-    → (before ++ owners_in spaces (cells_of (take i ops))) ++ owners_in spaces (cells_of_op (get_or ops i d))
-    ≡ before ++ owners_in spaces (cells_of (take (i + 1) ops))
-owners_more before spaces ops i d within =
+-- the owners of the cells of one operation more, that was found at its place
+pub owners_more : (spaces : List Space) (ops : List Op) (i : ℕ) (op : Op) → slice_get ops i ≡ Some op
+    → owners_in spaces (cells_of (take i ops)) ++ owners_in spaces (cells_of_op op) ≡ owners_in spaces (cells_of (take (i + 1) ops))
+owners_more spaces ops i op is =
     let f : Cell → ℕ = λ cell. owner_of spaces cell in
-    let op = get_or ops i d in
-    append_assoc before (map f (cells_of (take i ops))) (map f (cells_of_op op))
-    ∙ ap (λ xs. before ++ xs)
-    (sym (map-append f (cells_of (take i ops)) (cells_of_op op))
-    ∙ ap (λ xs. map f xs) (flat_map_more cells_of_op [] (take i ops) op ∙ ap (λ xs. cells_of xs) (sym (take_more ops i d within))))
-
--- the same of the operation that was found at its place
-pub owners_more_found : (before : List ℕ) (spaces : List Space) (ops : List Op) (i : ℕ) (op : Op) → slice_get ops i ≡ Some op
-    → (before ++ owners_in spaces (cells_of (take i ops))) ++ owners_in spaces (cells_of_op op) ≡ before ++ owners_in spaces (cells_of (take (i + 1) ops))
-owners_more_found before spaces ops i op is =
-    ap (λ x. (before ++ owners_in spaces (cells_of (take i ops))) ++ owners_in spaces (cells_of_op x)) (sym (get_or_from_slice_get ops i op op is))
-    ∙ owners_more before spaces ops i op (slice_get_within ops i op is)
+    let taken : take (i + 1) ops ≡ take i ops ++ op ∷ []
+    = take_more ops i op (slice_get_within ops i op is) ∙ ap (λ x. take i ops ++ x ∷ []) (get_or_from_slice_get ops i op op is) in
+    sym (map-append f (cells_of (take i ops)) (cells_of_op op))
+    ∙ ap (map f) (flat_map_more cells_of_op [] (take i ops) op ∙ ap (λ xs. cells_of xs) (sym taken))
 
 -- what all cells of operations are, those of the operation that was found are
 pub cells_found : (P : Cell → Type 0) (ops : List Op) (i : ℕ) (op : Op) → slice_get ops i ≡ Some op → All P (cells_of ops) → All P (cells_of_op op)
 cells_found P ops i op is all =
     subst (λ x. All P (cells_of_op x)) (get_or_from_slice_get ops i op op is) (All-flat P cells_of_op ops i op (slice_get_within ops i op is) all)
-
--- the images of one element more
-pub images_more : {X Y : Type 0} (before : List Y) (f : X → Y) (xs : List X) (i : ℕ) (x : X) → slice_get xs i ≡ Some x
-    → (before ++ map f (take i xs)) ++ f x ∷ [] ≡ before ++ map f (take (i + 1) xs)
-images_more before f xs i x is =
-    append_assoc before (map f (take i xs)) (f x ∷ [])
-    ∙ ap (λ ys. before ++ ys)
-    (sym (ap (map f) (take_more xs i x (slice_get_within xs i x is) ∙ ap (λ y. take i xs ++ y ∷ []) (get_or_from_slice_get xs i x x is)) ∙ map_push f (take i xs) x))
 
 -- the operations of the message at a place
 pub operations_at : (messages : List Message) (n : ℕ) (message : Message) → slice_get messages n ≡ Some message
@@ -98,95 +80,48 @@ owner_in spaces ops a owner =
       get_or-map f (cells_of ops) k owner.cell a within ∙ ap f owner.named.2 ∙ owner.owned,
     )
 
--- where all marks are below n, none is n
-pub marked_none : (n : ℕ) (marks : List ℕ) → All (λ mark. mark < n) marks → AreMarked n marks [] []
-marked_none n marks below = record {
-  each = λ a. (λ has. has, λ has. has);
-  once = λ i j d less within. absurd (omega (arith, within));
+-- none more
+pub added_none : (xs : List ℕ) → AreAdded [] xs xs
+added_none xs = record {
+  each = λ a. (inl, λ h. ⊎_elim {C = Contains xs a} (λ (there : Contains xs a). there) (λ (none : Contains [] a). absurd (omega (arith, none.1))) h);
+  once = λ once. once;
   few = omega arith;
-  marked = λ a. (λ has. absurd (omega (arith, has.1)), λ is. let less : get_or marks a 0 < n = below a 0 is.0 in absurd (omega (arith, less, is.1)));
-  up_to = λ k d within. let less : get_or marks k d < n = below k d within in omega (arith, less);
 }
 
--- the owners stay where one of them is found again
-pub marked_again : (n : ℕ) (marks found owners : List ℕ) (a : ℕ) → a < length marks → get_or marks a 0 ≡ n
-    → AreMarked n marks found owners → AreMarked n marks (found ++ a ∷ []) owners
-marked_again n marks found owners a known is h =
-    let has : Contains found a = (h.each a).0 ((h.marked a).1 (known, is)) in
-    record {
-      each = λ b. (
-        λ there. Contains-append_left found (a ∷ []) b ((h.each b).0 there),
-        λ there.
-            ⊎_elim {C = Contains owners b}
-            (λ (before : Contains found b). (h.each b).1 before)
-            (λ (same : a ≡ b). (h.each b).1 (subst (λ x. Contains found x) same has))
-            (Contains-push_cases found a b there),
-      );
-      once = h.once;
-      few = let few = h.few in omega (arith, few, length_push found a);
-      marked = h.marked;
-      up_to = h.up_to;
-    }
-
--- an affinity that is new among them
-pub marked_new : (n : ℕ) (marks found owners : List ℕ) (a : ℕ) → a < length marks → get_or marks a 0 ≢ n
-    → AreMarked n marks found owners → AreMarked n (set marks a n) (found ++ a ∷ []) (owners ++ a ∷ [])
-marked_new n marks found owners a known new h =
-    let fresh : Contains owners a → ⊥ = λ has. new ((h.marked a).0 has).1 in
-    record {
-      each = λ b. (
-        λ there.
-            ⊎_elim {C = Contains (found ++ a ∷ []) b}
-            (λ (before : Contains owners b). Contains-append_left found (a ∷ []) b ((h.each b).0 before))
-            (λ (same : a ≡ b). subst (λ x. Contains (found ++ a ∷ []) x) same (Contains-push found a))
-            (Contains-push_cases owners a b there),
-        λ there.
-            ⊎_elim {C = Contains (owners ++ a ∷ []) b}
-            (λ (before : Contains found b). Contains-append_left owners (a ∷ []) b ((h.each b).1 before))
-            (λ (same : a ≡ b). subst (λ x. Contains (owners ++ a ∷ []) x) same (Contains-push owners a))
-            (Contains-push_cases found a b there),
-      );
-      once = all_pairs_push (λ b c. b ≢ c) owners a h.once
-          (λ k d within same. fresh (k, within, get_or_default owners k a d within ∙ same));
-      few = let few = h.few in omega (arith, few, length_push found a, length_push owners a);
-      marked = λ b. (
-        λ there.
-            ⊎_elim {C = (b < length (set marks a n)) × get_or (set marks a n) b 0 ≡ n}
-            (λ (same : b ≡ a). (omega (arith, known, same, length-set marks a n), subst (λ x. get_or (set marks a n) x 0 ≡ n) (sym same) (get_or-set_same marks a n 0 known)))
-            (λ (other : b ≢ a).
-            let before : Contains owners b = ⊎_elim {C = Contains owners b} (λ (h : Contains owners b). h) (λ (same : a ≡ b). absurd (other (sym same))) (Contains-push_cases owners a b there) in
-            let is = (h.marked b).0 before in
-            (omega (arith, is.0, length-set marks a n), get_or-set_other marks a b n 0 other ∙ is.1))
-            (cases_eq b a),
-        λ is.
-            ⊎_elim {C = Contains (owners ++ a ∷ []) b}
-            (λ (same : b ≡ a). subst (λ x. Contains (owners ++ a ∷ []) x) (sym same) (Contains-push owners a))
-            (λ (other : b ≢ a). Contains-append_left owners (a ∷ []) b ((h.marked b).1 (omega (arith, is.0, length-set marks a n), sym (get_or-set_other marks a b n 0 other) ∙ is.1)))
-            (cases_eq b a),
-      );
-      up_to = All-set (λ (mark : ℕ). mark ≤ n) marks a n (omega arith) h.up_to;
-    }
-
--- what two more affinities do, one after the other
-pub two_marked : (P : List ℕ → Type 0) (Q R : List ℕ → Type 0) (found : List ℕ) (a b : ℕ)
-    → ((found : List ℕ) → P found → Q (found ++ a ∷ [])) → ((found : List ℕ) → Q found → R (found ++ b ∷ []))
-    → P found → R (found ++ a ∷ b ∷ [])
-two_marked P Q R found a b first second h = subst R (append_assoc found (a ∷ []) (b ∷ [])) (second (found ++ a ∷ []) (first found h))
-
--- the marks before the next message
-pub marked_before : (n : ℕ) (marks found owners : List ℕ) → AreMarked n marks found owners → All (λ mark. mark < n + 1) marks
-marked_before n marks found owners h k d within =
-    let less : get_or marks k d ≤ n = h.up_to k d within in omega (arith, less)
+-- some more, and then others
+pub added_both : (some others before between after : List ℕ) → AreAdded some before between → AreAdded others between after
+    → AreAdded (some ++ others) before after
+added_both some others before between after one two = record {
+  each = λ a. (
+    λ there. ⊎_elim {C = Contains before a ⊎ Contains (some ++ others) a}
+        (λ (earlier : Contains between a).
+        ⊎_elim {C = Contains before a ⊎ Contains (some ++ others) a} inl
+        (λ (first : Contains some a). inr (Contains-append_left some others a first)) ((one.each a).0 earlier))
+        (λ (second : Contains others a). inr (Contains-append_right some others a second))
+        ((two.each a).0 there),
+    λ h. (two.each a).1 (⊎_elim {C = Contains between a ⊎ Contains others a}
+        (λ (earlier : Contains before a). inl ((one.each a).1 (inl earlier)))
+        (λ (named : Contains (some ++ others) a).
+        ⊎_elim {C = Contains between a ⊎ Contains others a}
+        (λ (first : Contains some a). inl ((one.each a).1 (inr first))) inr (Contains-append_cases some others a named))
+        h),
+  );
+  once = λ once. two.once (one.once once);
+  few = let first = one.few in let second = two.few in omega (arith, first, second, length-append some others);
+}
 
 -- the owners of all cells
-pub lists_owners : (n : ℕ) (marks : List ℕ) (spaces : List Space) (ops : List Op) (owners : List ℕ)
-    → AreMarked n marks (owners_in spaces (cells_of ops)) owners → ListsOwners spaces ops owners
-lists_owners n marks spaces ops owners h = record {
+pub lists_owners : (spaces : List Space) (ops : List Op) (owners : List ℕ) → AreAdded (owners_in spaces (cells_of ops)) [] owners
+    → ListsOwners spaces ops owners
+lists_owners spaces ops owners h = record {
   each = λ a. (
-    λ has. owner_from spaces ops a ((h.each a).0 has),
-    λ owner. (h.each a).1 (owner_in spaces ops a owner),
+    λ has. ⊎_elim {C = IsOwner spaces ops a}
+        (λ (none : Contains [] a). absurd (omega (arith, none.1)))
+        (λ (named : Contains (owners_in spaces (cells_of ops)) a). owner_from spaces ops a named)
+        ((h.each a).0 has),
+    λ owner. (h.each a).1 (inr (owner_in spaces ops a owner)),
   );
-  once = h.once;
+  once = h.once (λ i j d less within. absurd (omega (arith, within)));
 }
 
 -- the owners of the first n messages
@@ -194,13 +129,6 @@ pub record AreOwnersUpTo (spaces : List Space) (ops : List (List Op)) (owners : 
   pub count : length owners ≡ n
   pub each : (m : ℕ) → 1 ≤ m → m ≤ n → ListsOwners spaces (ops_of ops m) (owners_of owners m)
   pub few : All (λ owners. length owners ≤ 64) owners
-
-pub owners_none : (spaces : List Space) (ops : List (List Op)) → AreOwnersUpTo spaces ops [] 0
-owners_none spaces ops = record {
-  count = refl;
-  each = λ m from to. absurd (omega (arith, from, to));
-  few = All-nil (λ (owners : List ℕ). length owners ≤ 64);
-}
 
 pub owners_one_more : (spaces : List Space) (ops : List (List Op)) (owners : List (List ℕ)) (n : ℕ) (kept : List ℕ)
     → AreOwnersUpTo spaces ops owners n → ListsOwners spaces (get_or ops n []) kept → length kept ≤ 64

@@ -1,7 +1,7 @@
 -- Orders of messages, one message after another.
-use Rattle.std.proofs.Common.{◌≡◌, ◌≢◌, ◌↔◌, ℕ, ◌+◌, ◌-◌, ◌<◌, ◌≤◌, Bool, true, false, List, length, get_or, set, replicate, All, arith, ap, sym, ◌∙◌, subst, ⊎_elim}
-use Rattle.std.proofs.lemmas.Bool.{cases_eq, false≢true}
-use Rattle.std.proofs.lemmas.List.{get_or_default, get_or-set_same, get_or-set_other, length-set, length-replicate, get_or-replicate}
+use Rattle.std.proofs.Common.{◌≡◌, ◌≢◌, ◌↔◌, ℕ, ◌+◌, ◌-◌, ◌<◌, ◌≤◌, Bool, true, false, List, length, get_or, set, All, arith, ap, sym, ◌∙◌, subst, ⊎_elim}
+use Rattle.std.proofs.lemmas.Bool.{cases_eq}
+use Rattle.std.proofs.lemmas.List.{get_or_default, get_or-set_same, get_or-set_other, length-set}
 use Rattle.std.proofs.lemmas.List.Elements.{Contains-get_or, All-contains}
 use Rattle.std.proofs.lemmas.Option.{same_Some, slice_get_within, slice_get-get_or, get_or_from_slice_get}
 use Rattle.waff_order.specs.Needs.{needs_of, IsNeed, AreLists}
@@ -27,18 +27,6 @@ pub record IsOrderUpTo (needs : List (List ℕ)) (order : List ℕ) (marks : Lis
   pub messages : (place n : ℕ) → place < k → StandsAt order place n → (1 ≤ n) × (n ≤ length needs)
   pub once : (place other n : ℕ) → place < k → other < k → StandsAt order place n → StandsAt order other n → place ≡ other
   pub closed : (i j other : ℕ) → other < k → IsNeed needs i j → StandsAt order other j → StandsBefore order other i
-
-pub order_none : (needs : List (List ℕ)) (order : List ℕ) → IsOrderUpTo needs order (replicate (length needs) false) 0
-order_none needs order = record {
-  count = length-replicate (length needs) false;
-  marked = λ n from to. (
-    λ is. absurd (false≢true (sym (get_or-replicate (length needs) (n - 1) false false (omega (arith, from, to))) ∙ is)),
-    λ before. absurd (omega (arith, before.1)),
-  );
-  messages = λ place n before at. absurd (omega (arith, before));
-  once = λ place other n before after at at'. absurd (omega (arith, before));
-  closed = λ i j other before need at. absurd (omega (arith, before));
-}
 
 later : (order : List ℕ) (k n : ℕ) → StandsBefore order k n → StandsBefore order (k + 1) n
 later order k n before = (before.0, omega (arith, before.1), before.2)

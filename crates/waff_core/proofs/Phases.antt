@@ -108,19 +108,6 @@ ended_few (Free ∷ phases) = omega (arith, ended_few phases)
 ended_few (Drawn m ∷ phases) = omega (arith, ended_few phases)
 ended_few (Running m ∷ phases) = omega (arith, ended_few phases)
 
--- one that has not ended is not among them
-ended_fewer_at : (phases : List Phase) (k : ℕ) (phase : Phase) → slice_get phases k ≡ Some phase → phase ≢ Ended → ended phases < length phases
-ended_fewer_at [] k phase is other = absurd (none-some phase is)
-ended_fewer_at (Ended ∷ phases) zero phase is other = absurd (other (same_Some phase Ended (sym is)))
-ended_fewer_at (Ended ∷ phases) (suc k) phase is other = omega (arith, ended_fewer_at phases k phase is other)
-ended_fewer_at (Free ∷ phases) k phase is other = omega (arith, ended_few phases)
-ended_fewer_at (Drawn m ∷ phases) k phase is other = omega (arith, ended_few phases)
-ended_fewer_at (Running m ∷ phases) k phase is other = omega (arith, ended_few phases)
-
-pub ended_fewer : (phases : List Phase) (x : ℕ) (phase : Phase) → phase_of phases x ≡ Some phase → phase ≢ Ended → ended phases < length phases
-ended_fewer phases zero phase is other = absurd (none-some phase is)
-ended_fewer phases (suc x) phase is other = ended_fewer_at phases x phase is other
-
 ended_set : (phases : List Phase) (k : ℕ) (old new : Phase) → slice_get phases k ≡ Some old → old ≢ Ended
     → ended (set phases k new) ≡ ended phases + ended (new ∷ [])
 ended_set [] k old new is other = absurd (none-some old is)

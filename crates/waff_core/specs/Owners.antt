@@ -1,6 +1,5 @@
 -- The owners of footprints.
-use Rattle.std.specs.Prelude.{◌≡◌, ◌↔◌, ℕ, ◌<◌, ◌≤◌, List, length, map, All, Contains}
-use Rattle.std.specs.Prelude.{slice_index_or}
+use Rattle.std.specs.Prelude.{◌≡◌, ◌↔◌, ◌⊎◌, ℕ, ◌+◌, ◌≤◌, List, length, map, All, Contains}
 use Rattle.waff_model.specs.Layout.{Hierarchy, Space, IsLayout, owner_of}
 use Rattle.waff_model.specs.Messages.{Arrivals, IsTrace}
 use Rattle.waff_model.specs.declared.cell.Cell.{Cell}
@@ -20,14 +19,11 @@ pub record AreOwners (spaces : List Space) (ops : List (List Op)) (owners : List
       → ListsOwners spaces (ops_of ops n) (owners_of owners n)
   pub few : All (λ owners. length owners ≤ 64) owners
 
--- those that were found, each once; of all affinities they alone have the mark n, and none has a later
--- one
-pub record AreMarked (n : ℕ) (marks : List ℕ) (found owners : List ℕ) : Type 0 where
-  pub each : (a : ℕ) → Contains owners a ↔ Contains found a
-  pub once : StandOnce owners
-  pub few : length owners ≤ length found
-  pub marked : (a : ℕ) → Contains owners a ↔ ((a < length marks) × slice_index_or marks a 0 ≡ n)
-  pub up_to : All (λ mark. mark ≤ n) marks
+-- those of these affinities that are new come to a list, each once
+pub record AreAdded (more before after : List ℕ) : Type 0 where
+  pub each : (a : ℕ) → Contains after a ↔ (Contains before a ⊎ Contains more a)
+  pub once : StandOnce before → StandOnce after
+  pub few : length after ≤ length before + length more
 
 -- what a job keeps beside what it is given, if the order is one: the table of the layout, the
 -- owners of the footprints, and a copy of the order

@@ -1,4 +1,4 @@
-//! States of the core machine.
+//! The state that a list of events leaves, at which tests look: no command runs the machine.
 
 ghost use Rattle.std.specs.Prelude.{◌≡◌, length, map};
 ghost use Rattle.waff_model.specs.Cells.{LiesIn};

@@ -1,4 +1,4 @@
-//! Which parcels are home.
+//! Which parcels are home in a state at which tests look.
 
 ghost use Rattle.std.specs.Prelude.{◌≡◌, ◌⊎◌, ◌<◌, ℕ, true, false, length, All, Contains};
 ghost use Rattle.std.specs.Prelude.{IfOk};

@@ -146,6 +146,7 @@ impl Job {
         requires number { IsIn self.now n }
         ensures needs { result.now ≡ needs_of self.now.needs n }
         ensures earlier { All (λ i. (1 ≤ i) × (i < n)) result.now }
+        ensures known { All (IsIn self.now) result.now }
     {
         self.needs.of(n)
     }

@@ -1,4 +1,4 @@
-//! Lists of events, which tests run.
+//! Lists of events, which tests run: no command does.
 
 ghost use Rattle.std.specs.Prelude.{◌≡◌, ◌≢◌, ◌≤◌, length, IfOk, IfErr};
 ghost use Rattle.waff_model.specs.Messages.{sizes_of};

@@ -1,4 +1,4 @@
-//! Statuses of messages.
+//! The statuses that messages have in a state at which tests look.
 
 /// What has become of a message. Actors are numbered from 1.
 #[derive(Clone, Copy, Debug, PartialEq)]

@@ -1,4 +1,5 @@
-//! The steps of the core machine.
+//! The machine that tests run, step by step: no command runs it, and the board is proved over the
+//! relation `Steps` alone.
 
 ghost use Rattle.std.specs.Prelude.{◌≡◌, ◌↔◌, ◌+◌, ◌-◌, ◌^◌, ◌<◌, ◌≤◌, length, map, true, All};
 ghost use Rattle.std.specs.Prelude.{IsTrue, IfOk, IfErr, MatchOption};

@@ -4,4 +4,4 @@ use Rattle.waff_board.proofs.clearing.first_unseen.Given as goal
 
 abbrev pub invariant-loop-n : goal.invariant-loop-n
 invariant-loop-n l =
-    find (λ n. not (has_seen l.hand.chair.me.0 n)) l.messages ≡ find (λ n. not (has_seen l.hand.chair.me.0 n)) (drop l.n-index l.messages)
+    find (λ n. not (has_seen l.hand.chair.me.0 n)) l.needs ≡ find (λ n. not (has_seen l.hand.chair.me.0 n)) (drop l.n-index l.needs)

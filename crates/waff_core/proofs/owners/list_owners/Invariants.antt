@@ -1,8 +1,7 @@
-use Rattle.std.proofs.Common.{◌≡◌, ◌-◌, ◌<◌, All, length}
+use Rattle.std.proofs.Common.{◌-◌}
 use Rattle.waff_cells.specs.Serial.{operations}
 use Rattle.waff_core.proofs.Listing.{AreOwnersUpTo}
 use Rattle.waff_core.proofs.owners.list_owners.Given as goal
 
 abbrev pub invariant-loop-n : goal.invariant-loop-n
 invariant-loop-n l = AreOwnersUpTo l.layout.spaces (operations l.trace.messages) l.lists (l.n - 1)
-    × (length l.marks.items ≡ length l.layout.tree) × All (λ mark. mark < l.n) l.marks.items

@@ -1,19 +1,8 @@
-use Rattle.std.proofs.Common.{◌≡◌, All, None, find, not, sym, ap, ◌∙◌, subst}
-use Rattle.waff_core.specs.Job.{JobValue, IsIn}
+use Rattle.std.proofs.Common.{◌≡◌, None, find, not, sym, ap, ◌∙◌, subst}
 use Rattle.waff_board.specs.Seats.{has_seen}
 use Rattle.waff_board.specs.Tokens.{BoardValue}
-use Rattle.waff_board.proofs.Lookings.{drawn_still, needs_known, all_seen}
+use Rattle.waff_board.proofs.Lookings.{drawn_still, all_seen}
 use Rattle.waff_board.proofs.board.Board.clear.Goals as goal
-
-pub look_over-hand-requires-clause-known : goal.look_over-hand-requires-clause-known
-look_over-hand-requires-clause-known c =
-    subst (λ (b : BoardValue). All (IsIn b.job) c.needs-needs.result.now) c.self.view_is
-    (needs_known c.self.inside.setup.job c.self.invariant.job c.drawn.inside.message c.drawn.inside.within.from _ c.needs-needs.ensures.needs)
-
-pub first_unseen-requires : goal.first_unseen-requires
-first_unseen-requires c =
-    subst (λ (j : JobValue). All (IsIn j) c.needs-needs.result.now) (ap (λ (b : BoardValue). b.job) c.self.view_is ∙ sym c.look_over-hand.ensures.of.1)
-    (needs_known c.self.inside.setup.job c.self.invariant.job c.drawn.inside.message c.drawn.inside.within.from _ c.needs-needs.ensures.needs)
 
 pub invariant_of-result : goal.invariant_of-result
 invariant_of-result c =
