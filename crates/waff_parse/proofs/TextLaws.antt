@@ -1,16 +1,18 @@
 -- Laws of the parts of a text, and of numbers.
-use Rattle.std.proofs.Common.{◌≡◌, ℕ, ◌+◌, ◌-◌, ◌<◌, ◌≤◌, List, [], ◌∷◌, length, take, drop, get_or, Bool, true, false, cond, Some, None, position, refl, sym, ap, arith}
-use Rattle.std.specs.Prelude.{◌==◌}
+use Rattle.std.proofs.Common.{◌≡◌, ℕ, ◌+◌, ◌-◌, ◌*◌, ◌^◌, ◌<◌, ◌≤◌, ◌⊎◌, inl, inr, List, [], ◌∷◌, length, take, drop, get_or, Bool, true, false, cond, Some, None, position, refl, sym, ap, ◌∙◌, arith}
+use Rattle.std.specs.Prelude.{◌==◌, nat_lt, if◌then◌else◌}
 use Rattle.std.specs.Char.{digit_value, is_ascii_digit}
 use Rattle.std.specs.Int.{IsInRange}
+use Rattle.std.specs.Str.Parse.{digits_value}
+use Rattle.std.proofs.lemmas.Int.Digits.{digits_value_more}
 use Rattle.std.specs.List.{onto_first, position_or_len}
-use Rattle.std.proofs.lemmas.Bool.{eqb-true}
+use Rattle.std.proofs.lemmas.Bool.{cases_lt, eqb-true, le-ltb, lt-ltb}
 use Rattle.std.proofs.lemmas.Bool.Decides.{nat_tests}
 use Rattle.std.proofs.lemmas.List.Splits.{slice_split_none, slice_split_first}
 use Rattle.std.proofs.lemmas.List.Quantifiers.{position-Some}
 use Rattle.std.proofs.lemmas.List.Sums.{fails_before_first, position_or_len_is}
 use Rattle.std.proofs.lemmas.Str.{digit_value_digit}
-use Rattle.waff_parse.specs.Texts.{parts}
+use Rattle.waff_parse.specs.Texts.{parts, small}
 
 -- the first place of a byte
 pub record IsPlaceOf (c : ℕ) (text : List ℕ) (i : ℕ) : Type 0 where
@@ -44,6 +46,30 @@ value_of_digit c h =
   where
     digit_range : (d : ℕ) → is_ascii_digit d ≡ true → IsInRange 48 57 d
     digit_range d e = grind (arith, nat_tests)
+
+-- what small tells
+pub small_is_value : (n value : ℕ) → small n ≡ Some value → value ≡ n
+small_is_value n value e = by (nat_lt n (2 ^ 64)) e
+  where
+    by : (fits : Bool) → (if fits then Some n else None) ≡ Some value → value ≡ n
+    by true is = sym (cc is)
+    by false is = absurd (cc is)
+
+-- what is more than a number that is not small is not small
+pub large_is_none : (m n : ℕ) → small m ≡ None → m ≤ n → small n ≡ None
+large_is_none m n e more = by (cases_lt m (2 ^ 64))
+  where
+    by : (m < 2 ^ 64) ⊎ (2 ^ 64 ≤ m) → small n ≡ None
+    by (inl fits) =
+        let some : small m ≡ Some m = rw (lt-ltb m (2 ^ 64) fits) refl in
+        absurd (cc (sym e ∙ some))
+    by (inr past) = rw (le-ltb n (2 ^ 64) (omega arith)) refl
+
+-- a digit more
+pub digit_more : (bytes : List ℕ) (i value : ℕ) → i < length bytes → is_ascii_digit (get_or bytes i 0) ≡ true → value ≡ digits_value 10 (take i bytes)
+    → value * 10 + (get_or bytes i 0 - 48) ≡ digits_value 10 (take (i + 1) bytes)
+digit_more bytes i value inside digit is =
+    rw is (ap (λ (d : ℕ). digits_value 10 (take i bytes) * 10 + d) (sym (value_of_digit (get_or bytes i 0) digit)) ∙ sym (digits_value_more 10 bytes i inside))
 
 -- a text has a first part
 pub parts-cons : (c : ℕ) (text : List ℕ) → (first : List ℕ) × (others : List (List ℕ)) × (parts c text ≡ first ∷ others)

@@ -6,6 +6,16 @@ use Rattle.std.specs.Char.{is_ascii_digit}
 use Rattle.std.specs.List.{slice_split, list_all}
 use Rattle.std.specs.Str.Parse.{digits_value}
 
+-- the bytes that part texts
+abbrev pub blank : ℕ
+blank = 32
+
+abbrev pub colon : ℕ
+colon = 58
+
+abbrev pub semicolon : ℕ
+semicolon = 59
+
 -- the parts of a text between the bytes c
 abbrev pub parts : ℕ → List ℕ → List (List ℕ)
 parts c text = slice_split (λ b. b == c) text

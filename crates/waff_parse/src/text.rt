@@ -35,11 +35,25 @@ fn has_leading_zero(digits: &[u8]) -> bool
 }
 
 // A number with one more digit, none where it is 2^64 or more.
-fn with_digit(value: Option<u64>, digit: u8) -> Option<u64>
+fn with_digit(value: u64, digit: u8) -> Option<u64>
     requires { digit < 10 }
-    ensures { (n : ℕ) → value ≡ texts.small n → result ≡ texts.small (n * 10 + digit) }
+    ensures { result ≡ texts.small (value * 10 + digit) }
 {
-    value?.checked_mul(10)?.checked_add(u64::from(digit))
+    value.checked_mul(10)?.checked_add(u64::from(digit))
+}
+
+// Whether each byte is a digit.
+fn all_digits(bytes: &[u8]) -> bool
+    ensures { result ≡ list_all is_ascii_digit bytes.now }
+{
+    bytes.iter().all(|byte| byte.is_ascii_digit())
+}
+
+// What bytes write whose first ones are digits of 2^64 or more.
+fn too_large(bytes: &[u8]) -> Option<Option<u64>>
+    ensures { result ≡ (if list_all is_ascii_digit bytes.now then Some None else None) }
+{
+    if all_digits(bytes) { Some(None) } else { None }
 }
 
 // The number that bytes write if each is a digit.
@@ -47,14 +61,17 @@ fn digits_number(bytes: &[u8]) -> Option<Option<u64>>
     ensures { result ≡ (if list_all is_ascii_digit bytes.now then Some
         (texts.small (digits_value 10 bytes.now)) else None) }
 {
-    let mut value = Some(0);
+    let mut value = 0;
     for byte in bytes {
         if !byte.is_ascii_digit() {
             return None;
         }
-        value = with_digit(value, *byte - b'0');
+        let Some(more) = with_digit(value, *byte - b'0') else {
+            return too_large(bytes);
+        };
+        value = more;
     }
-    Some(value)
+    Some(Some(value))
 }
 
 /// The number that a text writes: none where it is no number, and `Some(None)` where it is one of

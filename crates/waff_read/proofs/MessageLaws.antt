@@ -1,7 +1,6 @@
 -- A message that was read is within the limits, and its cells lie in the spaces.
-use Rattle.std.proofs.Common.{◌≡◌, ℕ, ◌+◌, ◌≤◌, List, [], ◌∷◌, length, slice_index, Bool, true, false, Option, Some, None, Result, Ok, Err, refl, ap, arith}
-use Rattle.std.specs.Prelude.{All, IfOk, IfSome, codes, ok_or, option_and_then, nat_lt, ◌==◌, if◌then◌else◌}
-use Rattle.std.specs.Str.{bytes_eq}
+use Rattle.std.proofs.Common.{◌≡◌, ℕ, ◌+◌, ◌≤◌, List, [], ◌∷◌, length, Bool, true, false, Option, Some, None, Result, Ok, Err, refl, ap, arith}
+use Rattle.std.specs.Prelude.{All, IfOk, IfSome, ok_or, option_and_then, nat_lt, ◌==◌, if◌then◌else◌}
 use Rattle.std.proofs.lemmas.Bool.{ltb-true, ltb-false}
 use Rattle.std.proofs.lemmas.List.Elements.{All-append, All-cons, All-nil}
 use Rattle.waff_model.specs.Cells.{LiesIn, cells_of, cells_of_op}
@@ -15,24 +14,21 @@ use Rattle.waff_model.specs.declared.message.Version.{Version}
 use Rattle.waff_model.specs.declared.message.Version.TheVariants.{V1, V2}
 use Rattle.waff_model.specs.declared.op.Op.{Op}
 use Rattle.waff_model.specs.declared.op.Op.TheVariants as op
+use Rattle.waff_model.specs.declared.op.Verb.{Verb}
+use Rattle.waff_model.specs.declared.op.Verb.TheVariants as verb
 use Rattle.waff_model.proofs.TraceLemmas.{slice_index-sizes_of}
 use Rattle.waff_parse.specs.Fields.{Field, three_of, four_of}
-use Rattle.waff_parse.specs.Refusals.{◌>>=◌, pair}
+use Rattle.waff_parse.specs.Refusals.{◌>>=◌}
 use Rattle.waff_parse.specs.Rows.{Record}
 use Rattle.waff_parse.specs.Texts.{number_of, number_within, parts, within}
 use Rattle.waff_parse.specs.Walks.{gather}
-use Rattle.waff_parse.proofs.Laws.{gather-if, gather-length}
+use Rattle.waff_parse.proofs.Laws.{bind-if, gather-if, gather-length, pair-if}
 use Rattle.waff_parse.proofs.TextLaws.{parts-cons}
-use Rattle.waff_read.specs.Ops.{cell_in, cell_of, cell_of_name, cell_of_parts, op_of, op_of_one, op_of_parts, op_of_two, op_of_words, ops_of, pieces_of, value_of, with_cell, with_value}
+use Rattle.waff_read.specs.Ops.{cell_and, cell_in, cell_of, cell_of_name, cell_of_parts, one_cell, op_of, op_of_verb, op_of_words, ops_of, pieces_of, value_of, verb_named}
 use Rattle.waff_read.specs.Messages.{cost_of, counted, message_of, message_of_fields, message_of_four, message_of_three, name_of, release_of}
 use Rattle.waff_read.specs.TraceFaults.{number}
 use Rattle.waff_read.specs.declared.trace_fault.TraceFault.{TraceFault}
 use Rattle.waff_read.specs.declared.trace_fault.TraceFault.TheVariants as fault
-
--- what both ways of a test give
-if-if : {A : Type 0} (P : A → Type 0) (b : Bool) (x y : Result A TraceFault) → IfOk x P → IfOk y P → IfOk (if b then x else y) P
-if-if P true x y p q = p
-if-if P false x y p q = q
 
 -- a cell that is read lies in the spaces
 abbrev Lies : List Space → Cell → Type 0
@@ -82,56 +78,47 @@ two-lie spaces cell other h k = All-cons (Lies spaces) cell (other ∷ []) h (on
 abbrev OpLies : List Space → Op → Type 0
 OpLies spaces o = AllLie spaces (cells_of_op o)
 
-with_value-lies : (make : Cell → ℕ → Op) (spaces : List Space) (cell value : List ℕ) → ((c : Cell) (n : ℕ) → Lies spaces c → OpLies spaces (make c n))
-    → IfOk (with_value make spaces cell value) (OpLies spaces)
-with_value-lies make spaces cell value made = by (cell_of spaces cell) (value_of value) (cell_of-lies spaces cell)
-  where
-    by : (c : Result Cell TraceFault) (v : Result ℕ TraceFault) → IfOk c (Lies spaces) → IfOk (pair number c v >>= (λ p. Ok (make p.0 p.1))) (OpLies spaces)
-    by (Ok c) (Ok n) h = made c n h
-    by (Ok c) (Err e) h = tt
-    by (Err e) (Ok n) h = tt
-    by (Err d) (Err e) h = tt
+-- anything that is read
+any_ok : {A : Type 0} (r : Result A TraceFault) → IfOk r (λ x. Unit {0})
+any_ok (Ok x) = tt
+any_ok (Err e) = tt
 
-with_cell-lies : (make : Cell → Cell → Op) (spaces : List Space) (cell other : List ℕ) → ((c d : Cell) → Lies spaces c → Lies spaces d → OpLies spaces (make c d))
-    → IfOk (with_cell make spaces cell other) (OpLies spaces)
-with_cell-lies make spaces cell other made = by (cell_of spaces cell) (cell_of spaces other) (cell_of-lies spaces cell) (cell_of-lies spaces other)
-  where
-    by : (c d : Result Cell TraceFault) → IfOk c (Lies spaces) → IfOk d (Lies spaces) → IfOk (pair number c d >>= (λ p. Ok (make p.0 p.1))) (OpLies spaces)
-    by (Ok c) (Ok d) h k = made c d h k
-    by (Ok c) (Err e) h k = tt
-    by (Err e) (Ok d) h k = tt
-    by (Err d) (Err e) h k = tt
+cell_and-lies : {A : Type 0} (Q : A → Type 0) (spaces : List Space) (read : List ℕ → Result A TraceFault) → ((text : List ℕ) → IfOk (read text) Q)
+    → (words : List (List ℕ)) → IfOk (cell_and spaces read words) (λ p. Lies spaces p.0 × Q p.1)
+cell_and-lies Q spaces read each [] = tt
+cell_and-lies Q spaces read each (cell ∷ []) = tt
+cell_and-lies Q spaces read each (cell ∷ second ∷ []) = pair-if number (Lies spaces) Q (cell_of spaces cell) (read second) (cell_of-lies spaces cell) (each second)
+cell_and-lies Q spaces read each (cell ∷ second ∷ third ∷ others) = tt
 
-op_of_one-lies : (spaces : List Space) (verb cell : List ℕ) → IfOk (op_of_one spaces verb cell) (OpLies spaces)
-unfolding op_of_one
-op_of_one-lies spaces verb cell = by (bytes_eq verb (codes "read")) (cell_of spaces cell) (cell_of-lies spaces cell)
-  where
-    by : (b : Bool) (c : Result Cell TraceFault) → IfOk c (Lies spaces) → IfOk (if b then (c >>= (λ c. Ok (op.Read c))) else Err fault.Op) (OpLies spaces)
-    by true (Ok c) h = one-lies spaces c h
-    by true (Err e) h = tt
-    by false c h = tt
+one_cell-lies : (spaces : List Space) (words : List (List ℕ)) → IfOk (one_cell spaces words) (Lies spaces)
+one_cell-lies spaces [] = tt
+one_cell-lies spaces (cell ∷ []) = cell_of-lies spaces cell
+one_cell-lies spaces (cell ∷ more ∷ others) = tt
 
-op_of_two-lies : (spaces : List Space) (verb first second : List ℕ) → IfOk (op_of_two spaces verb first second) (OpLies spaces)
-unfolding op_of_two
-op_of_two-lies spaces verb first second =
-    if-if (OpLies spaces) (bytes_eq verb (codes "set")) _ _ (with_value-lies op.Set spaces first second (λ c n h. one-lies spaces c h))
-    (if-if (OpLies spaces) (bytes_eq verb (codes "add")) _ _ (with_value-lies op.Add spaces first second (λ c n h. one-lies spaces c h))
-    (if-if (OpLies spaces) (bytes_eq verb (codes "copy")) _ _ (with_cell-lies op.Copy spaces first second (λ c d h k. two-lie spaces c d h k))
-    (if-if (OpLies spaces) (bytes_eq verb (codes "swap")) (with_cell op.Swap spaces first second) (Err fault.Op) (with_cell-lies op.Swap spaces first second (λ c d h k. two-lie spaces c d h k)) tt)))
+op_of_verb-lies : (spaces : List Space) (v : Verb) (words : List (List ℕ)) → IfOk (op_of_verb spaces v words) (OpLies spaces)
+unfolding op_of_verb
+op_of_verb-lies spaces verb.Set words =
+    bind-if _ (OpLies spaces) _ (λ p. Ok (op.Set p.0 p.1)) (cell_and-lies _ spaces value_of (λ text. any_ok (value_of text)) words) (λ p h. one-lies spaces p.0 h.0)
+op_of_verb-lies spaces verb.Add words =
+    bind-if _ (OpLies spaces) _ (λ p. Ok (op.Add p.0 p.1)) (cell_and-lies _ spaces value_of (λ text. any_ok (value_of text)) words) (λ p h. one-lies spaces p.0 h.0)
+op_of_verb-lies spaces verb.Copy words =
+    bind-if _ (OpLies spaces) _ (λ p. Ok (op.Copy p.0 p.1)) (cell_and-lies (Lies spaces) spaces (cell_of spaces) (cell_of-lies spaces) words) (λ p h. two-lie spaces p.0 p.1 h.0 h.1)
+op_of_verb-lies spaces verb.Swap words =
+    bind-if _ (OpLies spaces) _ (λ p. Ok (op.Swap p.0 p.1)) (cell_and-lies (Lies spaces) spaces (cell_of spaces) (cell_of-lies spaces) words) (λ p h. two-lie spaces p.0 p.1 h.0 h.1)
+op_of_verb-lies spaces verb.Read words =
+    bind-if (Lies spaces) (OpLies spaces) (one_cell spaces words) (λ cell. Ok (op.Read cell)) (one_cell-lies spaces words) (λ cell h. one-lies spaces cell h)
 
 op_of-lies : (spaces : List Space) (piece : List ℕ) → IfOk (op_of spaces piece) (OpLies spaces)
 unfolding op_of
 op_of-lies spaces piece = by (parts 32 piece)
   where
-    words : (verb : List ℕ) (ws : List (List ℕ)) → IfOk (op_of_words spaces verb ws) (OpLies spaces)
-    words verb [] = tt
-    words verb (first ∷ []) = op_of_one-lies spaces verb first
-    words verb (first ∷ second ∷ []) = op_of_two-lies spaces verb first second
-    words verb (first ∷ second ∷ third ∷ others) = tt
+    of_found : (found : Option Verb) (words : List (List ℕ)) → IfOk (ok_or found fault.Op >>= (λ v. op_of_verb spaces v words)) (OpLies spaces)
+    of_found None words = tt
+    of_found (Some v) words = op_of_verb-lies spaces v words
 
-    by : (ps : List (List ℕ)) → IfOk (op_of_parts spaces ps) (OpLies spaces)
+    by : (words : List (List ℕ)) → IfOk (op_of_words spaces words) (OpLies spaces)
     by [] = tt
-    by (verb ∷ ws) = words verb ws
+    by (name ∷ words) = of_found (verb_named name) words
 
 pieces_of-lie : (spaces : List Space) (text : List ℕ) → IfOk (pieces_of spaces text) (λ list. AllLie spaces (cells_of list))
 unfolding pieces_of

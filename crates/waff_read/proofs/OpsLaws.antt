@@ -1,16 +1,15 @@
 -- Operations, of which one more than the limit is kept.
-use Rattle.std.proofs.Common.{◌≡◌, ℕ, zero, suc, ◌+◌, ◌≤◌, ◌<◌, List, [], ◌∷◌, ◌++◌, length, take, false, Option, Result, Ok, Err, Bor, refl, sym, ap, ◌∙◌, arith}
-use Rattle.std.specs.Prelude.{IfOk, ◌==◌, nat_lt, if◌then◌else◌, option_map}
+use Rattle.std.proofs.Common.{◌≡◌, ℕ, zero, suc, ◌+◌, ◌≤◌, ◌<◌, List, [], ◌∷◌, ◌++◌, length, take, false, Option, Some, None, Result, Ok, Err, refl, sym, ap, ◌∙◌, arith}
+use Rattle.std.specs.Prelude.{◌==◌, nat_lt, if◌then◌else◌}
 use Rattle.std.proofs.lemmas.List.{length-append, length-take, take_all, take_at}
 use Rattle.std.proofs.lemmas.Bool.{le-ltb, lt-ltb}
 use Rattle.waff_model.specs.Layout.{Space}
 use Rattle.waff_model.specs.declared.limits.TheConstants.{MAX_OPS}
 use Rattle.waff_model.specs.declared.op.Op.{Op}
-use Rattle.waff_parse.specs.Refusals.{◌>>=◌, both, one, pair}
-use Rattle.waff_parse.specs.Texts.{parts, parts_after}
+use Rattle.waff_parse.specs.Refusals.{◌>>=◌, both, one}
 use Rattle.waff_parse.specs.Walks.{gather}
-use Rattle.waff_parse.proofs.Laws.{gather-end, gather-step, nil-both}
-use Rattle.waff_read.specs.Ops.{first_ops, op_of, ops_of, pieces_of}
+use Rattle.waff_parse.proofs.Laws.{gather-push}
+use Rattle.waff_read.specs.Ops.{first_ops, least_of, op_of, ops_of, pieces_of}
 use Rattle.waff_read.specs.TraceFaults.{number}
 use Rattle.waff_read.specs.declared.trace_fault.TraceFault.{TraceFault}
 use Rattle.waff_read.specs.declared.trace_fault.TraceFault.TheVariants as fault
@@ -27,32 +26,31 @@ first_ops-both (Ok xs) (Err e) = refl
 first_ops-both (Err e) (Ok ys) = refl
 first_ops-both (Err d) (Err e) = refl
 
-pub first_ops-few : (so_far : Result (List Op) TraceFault) → IfOk (first_ops so_far) (λ list. length list ≤ MAX_OPS + 1)
-first_ops-few (Ok list) = omega (arith, length-take (MAX_OPS + 1) list)
-first_ops-few (Err e) = tt
+-- the operations kept, unless there is a fault
+abbrev pub so_far : Option TraceFault → List Op → Result (List Op) TraceFault
+so_far None list = Ok list
+so_far (Some fault) list = Err fault
 
-first_ops-all : (list : Result (List Op) TraceFault) → IfOk list (λ l. length l ≤ MAX_OPS + 1) → first_ops list ≡ list
-first_ops-all (Ok l) few = ap Ok (take_all (MAX_OPS + 1) l few)
-first_ops-all (Err e) few = refl
+-- one piece more
+module _ (spaces : List Space) (pieces : List (List ℕ)) (piece : List ℕ) (f : Option TraceFault) (list : List Op)
+    (before : so_far f list ≡ first_ops (gather number (op_of spaces) pieces)) where
+  more : first_ops (both number (so_far f list) (one (op_of spaces piece))) ≡ first_ops (gather number (op_of spaces) (pieces ++ piece ∷ []))
+  more = rw before (first_ops-both (gather number (op_of spaces) pieces) (one (op_of spaces piece))) ∙ ap first_ops (sym (gather-push number (op_of spaces) pieces piece))
 
--- the parts that are left of a text
-abbrev pub left_of : Option (Bor (List ℕ)) → List (List ℕ)
-left_of left = parts_after 59 (option_map (λ s. s.now) left)
+  pub so_far-op : (op : Op) → Ok op ≡ op_of spaces piece
+      → so_far f (take (MAX_OPS + 1) (list ++ op ∷ [])) ≡ first_ops (gather number (op_of spaces) (pieces ++ piece ∷ []))
+  so_far-op op is = by f ∙ (ap (λ (r : Result Op TraceFault). first_ops (both number (so_far f list) (one r))) is ∙ more)
+    where
+      by : (g : Option TraceFault) → so_far g (take (MAX_OPS + 1) (list ++ op ∷ [])) ≡ first_ops (both number (so_far g list) (Ok (op ∷ [])))
+      by None = refl
+      by (Some e) = refl
 
--- of the operations of all pieces none is read, one more is, or all are
-module _ (spaces : List Space) where
-  pub pieces-start : (text : List ℕ) → first_ops (both number (Ok []) (gather number (op_of spaces) (parts 59 text))) ≡ first_ops (pieces_of spaces text)
-  unfolding pieces_of
-  pieces-start text = ap first_ops (nil-both number (gather number (op_of spaces) (parts 59 text)))
-
-  pub pieces-more : (so_far list : Result (List Op) TraceFault) (piece : List ℕ) (others : List (List ℕ)) → list ≡ first_ops (both number so_far (one (op_of spaces piece)))
-      → first_ops (both number list (gather number (op_of spaces) others)) ≡ first_ops (both number so_far (gather number (op_of spaces) (piece ∷ others)))
-  pieces-more so_far list piece others is =
-      rw is (first_ops-both (both number so_far (one (op_of spaces piece))) (gather number (op_of spaces) others)
-      ∙ ap first_ops (gather-step number (op_of spaces) piece others so_far))
-
-  pub pieces-end : (list : Result (List Op) TraceFault) → IfOk list (λ l. length l ≤ MAX_OPS + 1) → list ≡ first_ops (both number list (gather number (op_of spaces) []))
-  pieces-end list few = sym (first_ops-all list few) ∙ ap first_ops (sym (gather-end number (op_of spaces) list))
+  pub so_far-fault : (e : TraceFault) → Err e ≡ op_of spaces piece → so_far (Some (least_of f e)) list ≡ first_ops (gather number (op_of spaces) (pieces ++ piece ∷ []))
+  so_far-fault e is = by f ∙ (ap (λ (r : Result Op TraceFault). first_ops (both number (so_far f list) (one r))) is ∙ more)
+    where
+      by : (g : Option TraceFault) → so_far (Some (least_of g e)) list ≡ first_ops (both number (so_far g list) (Err e))
+      by None = refl
+      by (Some d) = refl
 
 -- one more fits
 pub kept-one : (n : ℕ) (list : List Op) (op : Op) → length list ≤ n → list ++ op ∷ [] ≡ take (n + 1) (list ++ op ∷ [])
@@ -94,15 +92,3 @@ ops_of-few spaces text kept some is few = rw some (by (pieces_of spaces text) is
         let all = kept-few list (rw (← same) few) in
         rw (le-ltb MAX_OPS (length list) all.1) (ap Ok (sym all.0 ∙ sym same))
     by (Err f) e = absurd (cc e)
-
--- where one reading after another gives a value, both do
-pub then-ok : {F A B : Type 0} (m : Result A F) (f : A → Result B F) (y : B) → (m >>= f) ≡ Ok y → (x : A) × (m ≡ Ok x) × (f x ≡ Ok y)
-then-ok (Ok x) f y e = (x, refl, e)
-then-ok (Err d) f y e = absurd (cc e)
-
--- where two readings side by side give a value, both do
-pub pair-ok : {F A B : Type 0} (rank : F → ℕ) (a : Result A F) (b : Result B F) (p : A × B) → pair rank a b ≡ Ok p → (x : A) × (y : B) × (a ≡ Ok x) × (b ≡ Ok y) × (p ≡ (x, y))
-pair-ok rank (Ok x) (Ok y) p e = (x, y, refl, refl, cc)
-pair-ok rank (Ok x) (Err d) p e = absurd (cc e)
-pair-ok rank (Err d) (Ok y) p e = absurd (cc e)
-pair-ok rank (Err c) (Err d) p e = absurd (cc e)

@@ -1,9 +1,11 @@
--- A text that is parted by a byte that no number and no cell has is neither.
-use Rattle.std.proofs.Common.{◌≡◌, ℕ, List, [], ◌∷◌, ◌++◌, ◌∙◌, Bool, true, false, Option, Some, None, Result, Ok, Err, refl, sym, ap}
+-- A text that is parted by a byte that no number and no cell has is neither; words and verbs of an operation.
+use Rattle.std.proofs.Common.{◌≡◌, ℕ, List, [], ◌∷◌, ◌++◌, ◌∙◌, Bool, true, false, Option, Some, None, Result, Ok, Err, refl, sym, ap, append_assoc}
 use Rattle.std.specs.Prelude.{All, IfErr, codes, ok_or, nat_le, nat_lt, not, length, ◌==◌, ◌&&◌, ◌||◌, if◌then◌else◌}
 use Rattle.std.specs.Char.{is_ascii_digit}
 use Rattle.std.specs.List.{join_with_byte, list_all}
 use Rattle.std.specs.Str.{bytes_eq}
+use Rattle.std.specs.Str.Pattern.{FindsTextPrefix, StripsPrefix}
+use Rattle.std.proofs.lemmas.Slice.Eq.{bytes_eq-Decides}
 use Rattle.std.proofs.lemmas.Bool.{and_parts, and_right, both_ways, eqb-true, false_from_ne_true}
 use Rattle.std.proofs.lemmas.List.Elements.{All-cons, All-nil}
 use Rattle.std.proofs.lemmas.List.Folds.{list_all-append}
@@ -12,12 +14,12 @@ use Rattle.waff_model.specs.Layout.{Space, size_at, space_named}
 use Rattle.waff_model.specs.Names.{is_name, is_name_byte}
 use Rattle.waff_model.specs.declared.cell.Cell.{Cell}
 use Rattle.waff_model.specs.declared.limits.TheConstants.{MAX_NAME}
-use Rattle.waff_model.specs.declared.op.Op.{Op}
-use Rattle.waff_model.specs.declared.op.Op.TheVariants as op
+use Rattle.waff_model.specs.declared.op.Verb.{Verb}
+use Rattle.waff_model.specs.declared.op.Verb.TheVariants as verb
 use Rattle.waff_parse.specs.Refusals.{◌>>=◌, least, pair}
 use Rattle.waff_parse.specs.Texts.{has_leading_zero, number_of, parts}
 use Rattle.waff_parse.proofs.TextLaws.{parts-cons}
-use Rattle.waff_read.specs.Ops.{cell_in, cell_of, cell_of_name, cell_of_parts, op_of_two, op_of_verb, op_of_words, value_of}
+use Rattle.waff_read.specs.Ops.{cell_and, cell_in, cell_of, cell_of_name, cell_of_parts, one_cell, op_of, op_of_verb, op_of_words, value_of, verb_named}
 use Rattle.waff_read.specs.TraceFaults.{number}
 use Rattle.waff_read.specs.declared.trace_fault.TraceFault.{TraceFault}
 use Rattle.waff_read.specs.declared.trace_fault.TraceFault.TheVariants as fault
@@ -155,35 +157,80 @@ cell_of-fault spaces text = by (parts 58 text)
     by (name ∷ index ∷ more ∷ others) = refl
 
 -- beside a misspelling no other fault is told
-beside : {A : Type 0} (make : Cell × A → Op) (c : Result Cell TraceFault) (r : Result A TraceFault) → IfErr c NotBefore → r ≡ Err fault.Op
-    → (pair number c r >>= (λ p. Ok (make p))) ≡ Err fault.Op
-beside make (Ok c) r h e = rw e refl
-beside make (Err d) r h e = rw e (ap (λ (f : TraceFault). Err f) h)
+beside : {A : Type 0} (c : Result Cell TraceFault) (r : Result A TraceFault) → IfErr c NotBefore → r ≡ Err fault.Op → pair number c r ≡ Err fault.Op
+beside (Ok c) r h e = rw e refl
+beside (Err d) r h e = rw e (ap (λ (f : TraceFault). Err f) h)
 
-if_both : {A : Type 0} (b : Bool) (x y z : A) → x ≡ z → y ≡ z → (if b then x else y) ≡ z
-if_both true x y z p q = p
-if_both false x y z p q = q
-
--- no operation has three words after its verb
-no_two : (spaces : List Space) (verb first rest a b : List ℕ) (more : List (List ℕ)) → parts 32 rest ≡ a ∷ b ∷ more → op_of_two spaces verb first rest ≡ Err fault.Op
-unfolding op_of_two
-no_two spaces verb first rest a b more e =
-    let told = cell_of-fault spaces first in
-    let value = no_value rest a b more e in
-    let cell = no_cell spaces rest a b more e in
-    if_both (bytes_eq verb (codes "set")) _ _ _ (beside (λ p. op.Set p.0 p.1) (cell_of spaces first) (value_of rest) told value)
-    (if_both (bytes_eq verb (codes "add")) _ _ _ (beside (λ p. op.Add p.0 p.1) (cell_of spaces first) (value_of rest) told value)
-    (if_both (bytes_eq verb (codes "copy")) _ _ _ (beside (λ p. op.Copy p.0 p.1) (cell_of spaces first) (cell_of spaces rest) told cell)
-    (if_both (bytes_eq verb (codes "swap")) _ _ _ (beside (λ p. op.Swap p.0 p.1) (cell_of spaces first) (cell_of spaces rest) told cell) refl)))
-
--- the words after a verb are the word before the first space and the text after it
-pub op_of_verb_two : (spaces : List Space) (verb words first rest : List ℕ) → parts 32 words ≡ first ∷ parts 32 rest → op_of_verb spaces verb words ≡ op_of_two spaces verb first rest
-unfolding op_of_verb
-op_of_verb_two spaces verb words first rest e = rw e (by (parts 32 rest) refl)
+-- two words are the one before the first space and the text after it, where what has a space is not read as a word
+two_words : {A : Type 0} (spaces : List Space) (read : List ℕ → Result A TraceFault)
+    → ((text a b : List ℕ) (more : List (List ℕ)) → parts 32 text ≡ a ∷ b ∷ more → read text ≡ Err fault.Op)
+    → (words first rest : List ℕ) → parts 32 words ≡ first ∷ parts 32 rest → pair number (cell_of spaces first) (read rest) ≡ cell_and spaces read (parts 32 words)
+two_words spaces read none words first rest e = rw e (by (parts 32 rest) refl)
   where
-    by : (others : List (List ℕ)) → parts 32 rest ≡ others → op_of_words spaces verb (first ∷ others) ≡ op_of_two spaces verb first rest
+    by : (others : List (List ℕ)) → parts 32 rest ≡ others → pair number (cell_of spaces first) (read rest) ≡ cell_and spaces read (first ∷ others)
     by [] is =
         let some = parts-cons 32 rest in
         absurd (cc (sym is ∙ some.2))
-    by (x ∷ []) is = ap (λ (second : List ℕ). op_of_two spaces verb first second) (part_is 32 rest x is)
-    by (x ∷ y ∷ more) is = sym (no_two spaces verb first rest x y more is)
+    by (x ∷ []) is = ap (λ (second : List ℕ). pair number (cell_of spaces first) (read second)) (sym (part_is 32 rest x is))
+    by (x ∷ y ∷ more) is = beside (cell_of spaces first) (read rest) (cell_of-fault spaces first) (none rest x y more is)
+
+pub cell_and_value : (spaces : List Space) (words first rest : List ℕ) → parts 32 words ≡ first ∷ parts 32 rest
+    → pair number (cell_of spaces first) (value_of rest) ≡ cell_and spaces value_of (parts 32 words)
+cell_and_value spaces words first rest e = two_words spaces value_of no_value words first rest e
+
+pub two_cells : (spaces : List Space) (words first rest : List ℕ) → parts 32 words ≡ first ∷ parts 32 rest
+    → pair number (cell_of spaces first) (cell_of spaces rest) ≡ cell_and spaces (cell_of spaces) (parts 32 words)
+two_cells spaces words first rest e = two_words spaces (cell_of spaces) (no_cell spaces) words first rest e
+
+pub one_word : (spaces : List Space) (word : List ℕ) → cell_of spaces word ≡ one_cell spaces (parts 32 word)
+one_word spaces word = by (parts 32 word) refl
+  where
+    by : (words : List (List ℕ)) → parts 32 word ≡ words → cell_of spaces word ≡ one_cell spaces words
+    by [] is =
+        let some = parts-cons 32 word in
+        absurd (cc (sym is ∙ some.2))
+    by (x ∷ []) is = ap (λ (cell : List ℕ). cell_of spaces cell) (sym (part_is 32 word x is))
+    by (x ∷ y ∷ more) is = no_cell spaces word x y more is
+
+-- a piece that begins with the name of a verb and a space
+pub begins : (name piece words : List ℕ) → StripsPrefix (FindsTextPrefix name) piece words → piece ≡ name ++ words
+begins name piece words h = h.1.1 ∙ ap (λ (rest : List ℕ). name ++ rest) (sym h.2)
+
+-- the first of two words or more is no name with which, and a space, the piece does not begin
+other_name : (name piece first second : List ℕ) (more : List (List ℕ)) → FindsTextPrefix (name ++ 32 ∷ []) piece None → parts 32 piece ≡ first ∷ second ∷ more
+    → bytes_eq first name ≡ false
+other_name name piece first second more lacks e =
+    false_from_ne_true (bytes_eq first name) (λ same.
+    let is : first ≡ name = (bytes_eq-Decides first name).0 same in
+    let rest = join_with_byte 32 (second ∷ more) in
+    let whole : first ++ 32 ∷ rest ≡ piece = ap (λ (ps : List (List ℕ)). join_with_byte 32 ps) (sym e) ∙ join_with_byte-slice_split 32 piece in
+    lacks rest (sym whole ∙ (ap (λ (front : List ℕ). front ++ 32 ∷ rest) is ∙ sym (append_assoc name (32 ∷ []) rest))))
+
+-- no verb is one without words
+no_words : (spaces : List Space) (found : Option Verb) → Err fault.Op ≡ (ok_or found fault.Op >>= (λ v. op_of_verb spaces v []))
+unfolding op_of_verb
+no_words spaces None = refl
+no_words spaces (Some verb.Set) = refl
+no_words spaces (Some verb.Add) = refl
+no_words spaces (Some verb.Copy) = refl
+no_words spaces (Some verb.Swap) = refl
+no_words spaces (Some verb.Read) = refl
+
+-- a piece that begins with no name of a verb and a space is no operation
+pub no_verb : (spaces : List Space) (piece : List ℕ) → FindsTextPrefix (codes "set ") piece None → FindsTextPrefix (codes "add ") piece None
+    → FindsTextPrefix (codes "copy ") piece None → FindsTextPrefix (codes "swap ") piece None → FindsTextPrefix (codes "read ") piece None
+    → Err fault.Op ≡ op_of spaces piece
+unfolding op_of
+no_verb spaces piece set add copy swap read = by (parts 32 piece) refl
+  where
+    by : (words : List (List ℕ)) → parts 32 piece ≡ words → Err fault.Op ≡ op_of_words spaces words
+    by [] is = refl
+    by (name ∷ []) is = no_words spaces (verb_named name)
+    by (name ∷ word ∷ more) is =
+        rw (
+          other_name (codes "set") piece name word more set is,
+          other_name (codes "add") piece name word more add is,
+          other_name (codes "copy") piece name word more copy is,
+          other_name (codes "swap") piece name word more swap is,
+          other_name (codes "read") piece name word more read is,
+        ) refl

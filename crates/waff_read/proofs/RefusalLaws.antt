@@ -1,15 +1,15 @@
 -- Of the checks that hold of a record, the one of least number is told.
 use Rattle.std.proofs.Common.{◌≡◌, ◌≢◌, ℕ, zero, suc, ◌+◌, ◌<◌, ◌≤◌, List, [], ◌∷◌, length, Bool, true, false, Option, Some, None, Result, Ok, Err, refl, sym, ap, ◌∙◌, arith, inl, inr, ◌⊎◌}
-use Rattle.std.specs.Prelude.{Contains, IfErr, codes, ok_or, option_and_then, nat_le, nat_lt, ◌==◌, if◌then◌else◌}
-use Rattle.std.specs.Str.{bytes_eq}
+use Rattle.std.specs.Prelude.{Contains, IfErr, ok_or, option_and_then, nat_le, nat_lt, ◌==◌, if◌then◌else◌}
 use Rattle.std.proofs.lemmas.Bool.{cases_lt, leb-true, leb-false, ltb-true, ltb-false, eqb-true, eqb-false}
 use Rattle.waff_model.specs.Layout.{Space, size_at, space_named}
 use Rattle.waff_model.specs.Names.{is_name}
-use Rattle.waff_model.specs.declared.cell.Cell.{Cell}
 use Rattle.waff_model.specs.declared.limits.TheConstants.{MAX_COST, MAX_MESSAGES, MAX_OPS, MAX_RELEASE}
 use Rattle.waff_model.specs.declared.message.Message.{Message}
 use Rattle.waff_model.specs.declared.op.Op.{Op}
 use Rattle.waff_model.specs.declared.op.Op.TheVariants as op
+use Rattle.waff_model.specs.declared.op.Verb.{Verb}
+use Rattle.waff_model.specs.declared.op.Verb.TheVariants as verb
 use Rattle.waff_parse.specs.Fields.{Field}
 use Rattle.waff_parse.specs.Refusals.{◌>>=◌, both, one, pair}
 use Rattle.waff_parse.specs.Texts.{number_of, number_within, parts, small}
@@ -17,7 +17,7 @@ use Rattle.waff_parse.specs.Walks.{gather}
 use Rattle.waff_parse.proofs.Laws.{gather-length}
 use Rattle.waff_read.specs.Laws.{HasPiece, HasTraceFault, IsLeastCheck, LeastCheckDecides}
 use Rattle.waff_read.specs.Messages.{cost_of, counted, message_of_fields, name_of, release_of}
-use Rattle.waff_read.specs.Ops.{cell_in, cell_of, cell_of_parts, op_of, op_of_one, op_of_parts, op_of_two, op_of_words, ops_of, pieces_of, value_of, with_cell, with_value}
+use Rattle.waff_read.specs.Ops.{cell_and, cell_in, cell_of, cell_of_parts, one_cell, op_of, op_of_verb, op_of_words, ops_of, pieces_of, value_of, verb_named}
 use Rattle.waff_read.specs.TraceFaults.{number}
 use Rattle.waff_read.specs.declared.trace_fault.TraceFault.{TraceFault}
 use Rattle.waff_read.specs.declared.trace_fault.TraceFault.TheVariants as fault
@@ -170,35 +170,34 @@ value_of-fault : (text : List ℕ) → OfPiece (value_of text)
 unfolding value_of
 value_of-fault text = of_option (option_and_then small (number_of text)) fault.Op (inl refl)
 
-with_value-fault : (make : Cell → ℕ → Op) (spaces : List Space) (cell value : List ℕ) → OfPiece (with_value make spaces cell value)
-with_value-fault make spaces cell value =
-    of_bind (pair number (cell_of spaces cell) (value_of value)) (λ p. Ok (make p.0 p.1))
-    (of_pair (cell_of spaces cell) (value_of value) (cell_of-fault spaces cell) (value_of-fault value)) (λ p. tt)
+cell_and-fault : {A : Type 0} (spaces : List Space) (read : List ℕ → Result A TraceFault) → ((text : List ℕ) → OfPiece (read text))
+    → (words : List (List ℕ)) → OfPiece (cell_and spaces read words)
+cell_and-fault spaces read each [] = inl refl
+cell_and-fault spaces read each (cell ∷ []) = inl refl
+cell_and-fault spaces read each (cell ∷ second ∷ []) = of_pair (cell_of spaces cell) (read second) (cell_of-fault spaces cell) (each second)
+cell_and-fault spaces read each (cell ∷ second ∷ third ∷ others) = inl refl
 
-with_cell-fault : (make : Cell → Cell → Op) (spaces : List Space) (cell other : List ℕ) → OfPiece (with_cell make spaces cell other)
-with_cell-fault make spaces cell other =
-    of_bind (pair number (cell_of spaces cell) (cell_of spaces other)) (λ p. Ok (make p.0 p.1))
-    (of_pair (cell_of spaces cell) (cell_of spaces other) (cell_of-fault spaces cell) (cell_of-fault spaces other)) (λ p. tt)
+one_cell-fault : (spaces : List Space) (words : List (List ℕ)) → OfPiece (one_cell spaces words)
+one_cell-fault spaces [] = inl refl
+one_cell-fault spaces (cell ∷ []) = cell_of-fault spaces cell
+one_cell-fault spaces (cell ∷ more ∷ others) = inl refl
+
+op_of_verb-fault : (spaces : List Space) (v : Verb) (words : List (List ℕ)) → OfPiece (op_of_verb spaces v words)
+unfolding op_of_verb
+op_of_verb-fault spaces verb.Set words = of_bind _ (λ p. Ok (op.Set p.0 p.1)) (cell_and-fault spaces value_of value_of-fault words) (λ p. tt)
+op_of_verb-fault spaces verb.Add words = of_bind _ (λ p. Ok (op.Add p.0 p.1)) (cell_and-fault spaces value_of value_of-fault words) (λ p. tt)
+op_of_verb-fault spaces verb.Copy words = of_bind _ (λ p. Ok (op.Copy p.0 p.1)) (cell_and-fault spaces (cell_of spaces) (cell_of-fault spaces) words) (λ p. tt)
+op_of_verb-fault spaces verb.Swap words = of_bind _ (λ p. Ok (op.Swap p.0 p.1)) (cell_and-fault spaces (cell_of spaces) (cell_of-fault spaces) words) (λ p. tt)
+op_of_verb-fault spaces verb.Read words = of_bind _ (λ cell. Ok (op.Read cell)) (one_cell-fault spaces words) (λ cell. tt)
 
 op_of-fault : (spaces : List Space) (piece : List ℕ) → OfPiece (op_of spaces piece)
-unfolding op_of op_of_one op_of_two
+unfolding op_of
 op_of-fault spaces piece = by (parts 32 piece)
   where
-    words : (verb : List ℕ) (ws : List (List ℕ)) → OfPiece (op_of_words spaces verb ws)
-    words verb [] = inl refl
-    words verb (first ∷ []) =
-        of_test (bytes_eq verb (codes "read")) (cell_of spaces first >>= (λ c. Ok (op.Read c))) (Err fault.Op)
-        (of_bind (cell_of spaces first) (λ c. Ok (op.Read c)) (cell_of-fault spaces first) (λ c. tt)) (inl refl)
-    words verb (first ∷ second ∷ []) =
-        of_test (bytes_eq verb (codes "set")) _ _ (with_value-fault op.Set spaces first second)
-        (of_test (bytes_eq verb (codes "add")) _ _ (with_value-fault op.Add spaces first second)
-        (of_test (bytes_eq verb (codes "copy")) _ _ (with_cell-fault op.Copy spaces first second)
-        (of_test (bytes_eq verb (codes "swap")) (with_cell op.Swap spaces first second) (Err fault.Op) (with_cell-fault op.Swap spaces first second) (inl refl))))
-    words verb (first ∷ second ∷ third ∷ others) = inl refl
-
-    by : (ps : List (List ℕ)) → OfPiece (op_of_parts spaces ps)
+    by : (words : List (List ℕ)) → OfPiece (op_of_words spaces words)
     by [] = inl refl
-    by (verb ∷ ws) = words verb ws
+    by (name ∷ words) =
+        of_bind (ok_or (verb_named name) fault.Op) _ (of_option (verb_named name) fault.Op (inl refl)) (λ v. op_of_verb-fault spaces v words)
 
 piece_number : (d : TraceFault) → IsOfPiece d → (7 ≤ number d) × (number d ≤ 9)
 piece_number d (inl same) = rw same (omega arith, omega arith)

@@ -30,7 +30,7 @@ use Rattle.waff_parse.specs.Fields.{Field}
 use Rattle.waff_parse.specs.Texts.{parts}
 use Rattle.waff_parse.proofs.WrittenRows.{all_if, digits_model, number_of-decimal}
 use Rattle.waff_read.specs.Laws.{IsRelease, Spells, SpelledIsRead}
-use Rattle.waff_read.specs.Ops.{cell_of, op_of, op_of_one, op_of_parts, op_of_two, value_of}
+use Rattle.waff_read.specs.Ops.{cell_of, op_of, op_of_verb, op_of_words, value_of}
 use Rattle.waff_read.specs.Spellings.{HasSmallNumber, cell_spelled, op_spelled, ops_spelled, record_of, words_of}
 use Rattle.waff_read.specs.declared.trace_fault.TraceFault.{TraceFault}
 use Rattle.waff_read.proofs.ExactLaws.{first_version_is_exact, second_version_is_exact}
@@ -200,28 +200,28 @@ module _ (layout : Hierarchy) (is : IsLayout layout) where
   op_words o lie small some = parts-joined 32 (words_of layout.spaces o) some (words_all (IsOther 32) (names_other 32 refl) refl o lie small)
 
   op_is_read : (o : Op) → All (LiesIn (sizes_of layout.spaces)) (cells_of_op o) → HasSmallNumber o → op_of layout.spaces (op_spelled layout.spaces o) ≡ Ok o
-  unfolding op_of op_of_one op_of_two
+  unfolding op_of op_of_verb
   op_is_read (op.Set cell value) lie small =
       let lies = first_cell cell [] lie in
-      ap (op_of_parts layout.spaces) (op_words (op.Set cell value) lie small (omega arith))
+      ap (op_of_words layout.spaces) (op_words (op.Set cell value) lie small (omega arith))
       ∙ rw (cell_is_read cell lies, value_of-decimal value small) refl
   op_is_read (op.Add cell value) lie small =
       let lies = first_cell cell [] lie in
-      ap (op_of_parts layout.spaces) (op_words (op.Add cell value) lie small (omega arith))
+      ap (op_of_words layout.spaces) (op_words (op.Add cell value) lie small (omega arith))
       ∙ rw (cell_is_read cell lies, value_of-decimal value small) refl
   op_is_read (op.Copy cell source) lie small =
       let lies = first_cell cell (source ∷ []) lie in
       let source_lies = second_cell cell source lie in
-      ap (op_of_parts layout.spaces) (op_words (op.Copy cell source) lie small (omega arith))
+      ap (op_of_words layout.spaces) (op_words (op.Copy cell source) lie small (omega arith))
       ∙ rw (cell_is_read cell lies, cell_is_read source source_lies) refl
   op_is_read (op.Swap cell other) lie small =
       let lies = first_cell cell (other ∷ []) lie in
       let other_lies = second_cell cell other lie in
-      ap (op_of_parts layout.spaces) (op_words (op.Swap cell other) lie small (omega arith))
+      ap (op_of_words layout.spaces) (op_words (op.Swap cell other) lie small (omega arith))
       ∙ rw (cell_is_read cell lies, cell_is_read other other_lies) refl
   op_is_read (op.Read cell) lie small =
       let lies = first_cell cell [] lie in
-      ap (op_of_parts layout.spaces) (op_words (op.Read cell) lie small (omega arith))
+      ap (op_of_words layout.spaces) (op_words (op.Read cell) lie small (omega arith))
       ∙ rw (cell_is_read cell lies) refl
 
   -- operations that are spelled are read

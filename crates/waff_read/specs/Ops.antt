@@ -1,6 +1,6 @@
 -- Operations as a trace spells them.
-use Rattle.std.specs.Prelude.{ℕ, List, [], ◌∷◌, Result, Ok, Err, codes, length, take, ◌+◌, ◌==◌}
-use Rattle.std.specs.Prelude.{nat_lt, if◌then◌else◌, ok_or, option_and_then}
+use Rattle.std.specs.Prelude.{ℕ, List, [], ◌∷◌, Option, Some, None, Result, Ok, Err, codes, length}
+use Rattle.std.specs.Prelude.{take, ◌+◌, ◌==◌, nat_lt, if◌then◌else◌, ok_or, option_and_then}
 use Rattle.std.specs.Str.{bytes_eq}
 use Rattle.waff_model.specs.Layout.{Space, size_at, space_named}
 use Rattle.waff_model.specs.Names.{is_name}
@@ -8,8 +8,10 @@ use Rattle.waff_model.specs.declared.limits.TheConstants.{MAX_OPS}
 use Rattle.waff_model.specs.declared.cell.Cell.{Cell}
 use Rattle.waff_model.specs.declared.op.Op.{Op}
 use Rattle.waff_model.specs.declared.op.Op.TheVariants as op
-use Rattle.waff_parse.specs.Refusals.{◌>>=◌, pair}
-use Rattle.waff_parse.specs.Texts.{number_of, parts, small}
+use Rattle.waff_model.specs.declared.op.Verb.{Verb}
+use Rattle.waff_model.specs.declared.op.Verb.TheVariants as verb
+use Rattle.waff_parse.specs.Refusals.{◌>>=◌, least, pair}
+use Rattle.waff_parse.specs.Texts.{blank, colon, number_of, parts, semicolon, small}
 use Rattle.waff_parse.specs.Walks.{gather}
 use Rattle.waff_read.specs.declared.trace_fault.TraceFault.{TraceFault}
 use Rattle.waff_read.specs.declared.trace_fault.TraceFault.TheVariants as fault
@@ -38,67 +40,78 @@ cell_of_parts spaces (name ∷ index ∷ more ∷ others) = Err fault.Op
 
 -- the cell that a text spells
 unfoldable pub cell_of : List Space → List ℕ → Result Cell TraceFault
-cell_of spaces text = cell_of_parts spaces (parts 58 text)
+cell_of spaces text = cell_of_parts spaces (parts colon text)
 
 -- the number below 2^64 that a text spells
 unfoldable pub value_of : List ℕ → Result ℕ TraceFault
 value_of text = ok_or (option_and_then small (number_of text)) fault.Op
 
--- an operation on a cell and a number
-abbrev pub with_value : (Cell → ℕ → Op) → List Space → List ℕ → List ℕ → Result Op TraceFault
-with_value make spaces cell value = do
-  p ← pair number (cell_of spaces cell) (value_of value)
-  Ok (make p.0 p.1)
+-- two words: a cell, and what the second one reads as
+abbrev pub cell_and : {A : Type 0} → List Space
+    → (List ℕ → Result A TraceFault) → List (List ℕ) → Result (Cell × A) TraceFault
+cell_and spaces read [] = Err fault.Op
+cell_and spaces read (cell ∷ []) = Err fault.Op
+cell_and spaces read (cell ∷ second ∷ []) = pair number (cell_of spaces cell) (read second)
+cell_and spaces read (cell ∷ second ∷ third ∷ others) = Err fault.Op
 
--- an operation on two cells
-abbrev pub with_cell : (Cell → Cell → Op) → List Space → List ℕ → List ℕ → Result Op TraceFault
-with_cell make spaces cell other = do
-  p ← pair number (cell_of spaces cell) (cell_of spaces other)
-  Ok (make p.0 p.1)
+-- one word: a cell
+abbrev pub one_cell : List Space → List (List ℕ) → Result Cell TraceFault
+one_cell spaces [] = Err fault.Op
+one_cell spaces (cell ∷ []) = cell_of spaces cell
+one_cell spaces (cell ∷ more ∷ others) = Err fault.Op
 
--- the operation of a verb and one word
-unfoldable pub op_of_one : List Space → List ℕ → List ℕ → Result Op TraceFault
-op_of_one spaces verb cell =
-    if bytes_eq verb (codes "read") then
-    (cell_of spaces cell >>= (λ c. Ok (op.Read c))) else Err fault.Op
+-- the operation of a verb and the words behind it
+unfoldable pub op_of_verb : List Space → Verb → List (List ℕ) → Result Op TraceFault
+op_of_verb spaces verb.Set words = do
+  p ← cell_and spaces value_of words
+  Ok (op.Set p.0 p.1)
+op_of_verb spaces verb.Add words = do
+  p ← cell_and spaces value_of words
+  Ok (op.Add p.0 p.1)
+op_of_verb spaces verb.Copy words = do
+  p ← cell_and spaces (cell_of spaces) words
+  Ok (op.Copy p.0 p.1)
+op_of_verb spaces verb.Swap words = do
+  p ← cell_and spaces (cell_of spaces) words
+  Ok (op.Swap p.0 p.1)
+op_of_verb spaces verb.Read words = do
+  cell ← one_cell spaces words
+  Ok (op.Read cell)
 
--- the operation of a verb and two words
-unfoldable pub op_of_two : List Space → List ℕ → List ℕ → List ℕ → Result Op TraceFault
-op_of_two spaces verb first second =
-    if bytes_eq verb (codes "set") then with_value op.Set spaces first second
-    else if bytes_eq verb (codes "add") then with_value op.Add spaces first second
-    else if bytes_eq verb (codes "copy") then with_cell op.Copy spaces first second
-    else if bytes_eq verb (codes "swap") then with_cell op.Swap spaces first second
-    else Err fault.Op
+-- the verb of this name
+abbrev pub verb_named : List ℕ → Option Verb
+verb_named name =
+    if bytes_eq name (codes "set") then Some verb.Set
+    else if bytes_eq name (codes "add") then Some verb.Add
+    else if bytes_eq name (codes "copy") then Some verb.Copy
+    else if bytes_eq name (codes "swap") then Some verb.Swap
+    else if bytes_eq name (codes "read") then Some verb.Read
+    else None
 
--- the operation of a verb and the words after it
-abbrev pub op_of_words : List Space → List ℕ → List (List ℕ) → Result Op TraceFault
-op_of_words spaces verb [] = Err fault.Op
-op_of_words spaces verb (first ∷ []) = op_of_one spaces verb first
-op_of_words spaces verb (first ∷ second ∷ []) = op_of_two spaces verb first second
-op_of_words spaces verb (first ∷ second ∷ third ∷ others) = Err fault.Op
-
--- the operation of the parts of a piece
-abbrev pub op_of_parts : List Space → List (List ℕ) → Result Op TraceFault
-op_of_parts spaces [] = Err fault.Op
-op_of_parts spaces (verb ∷ words) = op_of_words spaces verb words
-
--- the operation of a verb and a text of words, joined by one space
-unfoldable pub op_of_verb : List Space → List ℕ → List ℕ → Result Op TraceFault
-op_of_verb spaces verb words = op_of_words spaces verb (parts 32 words)
+-- the operation of words: the name of a verb, and what it wants
+abbrev pub op_of_words : List Space → List (List ℕ) → Result Op TraceFault
+op_of_words spaces [] = Err fault.Op
+op_of_words spaces (name ∷ words) = do
+  verb ← ok_or (verb_named name) fault.Op
+  op_of_verb spaces verb words
 
 -- the operation that a piece spells, in words joined by one space
 unfoldable pub op_of : List Space → List ℕ → Result Op TraceFault
-op_of spaces piece = op_of_parts spaces (parts 32 piece)
+op_of spaces piece = op_of_words spaces (parts blank piece)
 
 -- the operations of pieces joined by `;`
 unfoldable pub pieces_of : List Space → List ℕ → Result (List Op) TraceFault
-pieces_of spaces text = gather number (op_of spaces) (parts 59 text)
+pieces_of spaces text = gather number (op_of spaces) (parts semicolon text)
 
 -- operations, of which only one more than the limit is kept
 abbrev pub first_ops : Result (List Op) TraceFault → Result (List Op) TraceFault
 first_ops (Ok list) = Ok (take (MAX_OPS + 1) list)
 first_ops (Err e) = Err e
+
+-- the least of the faults so far and one more
+abbrev pub least_of : Option TraceFault → TraceFault → TraceFault
+least_of None fault = fault
+least_of (Some first) fault = least number first fault
 
 -- the operations of a message: one at least, and not more than the limit
 unfoldable pub ops_of : List Space → List ℕ → Result (List Op) TraceFault

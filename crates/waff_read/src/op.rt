@@ -1,12 +1,12 @@
 //! One operation of a message.
 
 ghost use Rattle.std.specs.Prelude.{ℕ, ◌≡◌, ◌<◌, length};
-ghost use Rattle.waff_parse.specs.Texts.{small};
+ghost use Rattle.waff_parse.specs.Texts.{blank, parts, small};
 ghost use Rattle.waff_read.specs.Ops as ops;
 
 use crate::space_table::SpaceTable;
 use crate::trace_fault::TraceFault;
-use waff_model::{Cell, Op, is_name};
+use waff_model::{Cell, Op, Verb, is_name};
 use waff_parse::{cut, number, pair};
 
 // The cell with this index in a space; none is the index where it is 2^64 or more.
@@ -71,70 +71,82 @@ fn read_value(text: &str) -> Result<u64, TraceFault>
     }
 }
 
-// The operation of a verb and one word.
-#[tactic(auto, unfolding(crate::specs::Ops::op_of_one))]
-fn read_one(spaces: &SpaceTable<'_>, verb: &str, cell: &str) -> Result<Op, TraceFault>
-    ensures { result ≡ ops.op_of_one spaces.now verb.now cell.now }
+// The cell and the number that two words spell. A second word with a space is no number.
+fn cell_and_value(spaces: &SpaceTable<'_>, words: &str) -> Result<(Cell, u64), TraceFault>
+    ensures { result ≡ ops.cell_and spaces.now ops.value_of (parts blank words.now) }
 {
-    if verb != "read" {
-        return Err(TraceFault::Op);
+    let (cell, value) = cut(words, ' ');
+    match value {
+        Some(value) => pair(read_cell(spaces, cell), read_value(value)),
+        None => Err(TraceFault::Op),
     }
-    let cell = read_cell(spaces, cell)?;
-    Ok(Op::Read { cell })
 }
 
-// The operation of a verb and two words.
-#[tactic(auto, unfolding(crate::specs::Ops::op_of_two))]
-fn read_two(
-    spaces: &SpaceTable<'_>,
-    verb: &str,
-    first: &str,
-    second: &str,
-) -> Result<Op, TraceFault>
-    ensures { result ≡ ops.op_of_two spaces.now verb.now first.now second.now }
+// The cells that two words spell. A second word with a space is no cell.
+fn two_cells(spaces: &SpaceTable<'_>, words: &str) -> Result<(Cell, Cell), TraceFault>
+    ensures { result ≡ ops.cell_and spaces.now (ops.cell_of spaces.now) (parts blank words.now) }
 {
-    match verb.as_bytes() {
-        b"set" => {
-            let (cell, value) = pair(read_cell(spaces, first), read_value(second))?;
+    let (cell, other) = cut(words, ' ');
+    match other {
+        Some(other) => pair(read_cell(spaces, cell), read_cell(spaces, other)),
+        None => Err(TraceFault::Op),
+    }
+}
+
+// The cell that one word spells.
+fn one_cell(spaces: &SpaceTable<'_>, word: &str) -> Result<Cell, TraceFault>
+    ensures { result ≡ ops.one_cell spaces.now (parts blank word.now) }
+{
+    read_cell(spaces, word)
+}
+
+// The operation of a verb and the words behind it.
+#[tactic(auto, unfolding(crate::specs::Ops::op_of_verb))]
+fn read_words(spaces: &SpaceTable<'_>, verb: Verb, words: &str) -> Result<Op, TraceFault>
+    ensures { result ≡ ops.op_of_verb spaces.now verb (parts blank words.now) }
+{
+    match verb {
+        Verb::Set => {
+            let (cell, value) = cell_and_value(spaces, words)?;
             Ok(Op::Set { cell, value })
         }
-        b"add" => {
-            let (cell, value) = pair(read_cell(spaces, first), read_value(second))?;
+        Verb::Add => {
+            let (cell, value) = cell_and_value(spaces, words)?;
             Ok(Op::Add { cell, value })
         }
-        b"copy" => {
-            let (cell, source) = pair(read_cell(spaces, first), read_cell(spaces, second))?;
+        Verb::Copy => {
+            let (cell, source) = two_cells(spaces, words)?;
             Ok(Op::Copy { cell, source })
         }
-        b"swap" => {
-            let (cell, other) = pair(read_cell(spaces, first), read_cell(spaces, second))?;
+        Verb::Swap => {
+            let (cell, other) = two_cells(spaces, words)?;
             Ok(Op::Swap { cell, other })
         }
-        _ => Err(TraceFault::Op),
-    }
-}
-
-// The operation of a verb and the words after it. A second word with a space is neither a cell nor
-// a number.
-#[tactic(auto, unfolding(crate::specs::Ops::op_of_verb))]
-fn read_words(spaces: &SpaceTable<'_>, verb: &str, words: &str) -> Result<Op, TraceFault>
-    ensures { result ≡ ops.op_of_verb spaces.now verb.now words.now }
-{
-    let (first, second) = cut(words, ' ');
-    match second {
-        Some(second) => read_two(spaces, verb, first, second),
-        None => read_one(spaces, verb, first),
+        Verb::Read => {
+            let cell = one_cell(spaces, words)?;
+            Ok(Op::Read { cell })
+        }
     }
 }
 
 /// The operation that a piece spells.
-#[tactic(auto, unfolding(crate::specs::Ops::op_of, crate::specs::Ops::op_of_verb))]
 pub(crate) fn read_op(spaces: &SpaceTable<'_>, piece: &str) -> Result<Op, TraceFault>
     ensures { result ≡ ops.op_of spaces.now piece.now }
 {
-    let (verb, rest) = cut(piece, ' ');
-    match rest {
-        None => Err(TraceFault::Op),
-        Some(words) => read_words(spaces, verb, words),
+    if let Some(words) = piece.strip_prefix("set ") {
+        return read_words(spaces, Verb::Set, words);
     }
+    if let Some(words) = piece.strip_prefix("add ") {
+        return read_words(spaces, Verb::Add, words);
+    }
+    if let Some(words) = piece.strip_prefix("copy ") {
+        return read_words(spaces, Verb::Copy, words);
+    }
+    if let Some(words) = piece.strip_prefix("swap ") {
+        return read_words(spaces, Verb::Swap, words);
+    }
+    if let Some(words) = piece.strip_prefix("read ") {
+        return read_words(spaces, Verb::Read, words);
+    }
+    Err(TraceFault::Op)
 }

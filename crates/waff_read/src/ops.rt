@@ -28,23 +28,13 @@ fn keep(list: &mut Ops, op: Op) -> Result<(), AllocError>
     Ok(())
 }
 
-// The operations so far with one more, or the least fault. No more than one above the limit is
-// kept.
-fn with_op(
-    so_far: Result<Ops, TraceFault>,
-    op: Result<Op, TraceFault>,
-) -> Result<Result<Ops, TraceFault>, AllocError>
-    requires { IfOk so_far (λ list. length list ≤ MAX_OPS + 1) }
-    ensures { IfOk result (λ r. r ≡ ops.first_ops (both number so_far (one op))) }
+// The least of the faults so far and one more.
+fn least_of(so_far: Option<TraceFault>, fault: TraceFault) -> TraceFault
+    ensures { result ≡ ops.least_of so_far fault }
 {
-    match (so_far, op) {
-        (Ok(mut list), Ok(op)) => {
-            keep(&mut list, op)?;
-            Ok(Ok(list))
-        }
-        (Ok(_), Err(e)) => Ok(Err(e)),
-        (Err(e), Ok(_)) => Ok(Err(e)),
-        (Err(d), Err(e)) => Ok(Err(least(d, e))),
+    match so_far {
+        Some(first) => least(first, fault),
+        None => fault,
     }
 }
 
@@ -61,21 +51,21 @@ fn room_for(text: &[u8]) -> usize {
 }
 
 // The operations of the pieces of a text, as far as one above the limit, or the fault that counts.
-fn read_pieces(
-    alloc: Global,
-    spaces: &SpaceTable<'_>,
-    text: &str,
-) -> Result<Result<Ops, TraceFault>, AllocError>
-    ensures { IfOk result (λ r. r ≡ ops.first_ops (ops.pieces_of spaces.now text.now)) }
+fn read_pieces(alloc: Global, spaces: &SpaceTable<'_>, text: &str) -> Result<Ops, Stop<TraceFault>>
+    ensures { Gives (λ list. list) result (ops.first_ops (ops.pieces_of spaces.now text.now)) }
 {
-    let mut list = Ok(Ops::with_capacity(alloc, room_for(text.as_bytes()))?);
-    let mut left = Some(text);
-    while let Some(pieces) = left {
-        let (piece, others) = cut(pieces, ';');
-        list = with_op(list, read_op(spaces, piece))?;
-        left = others;
+    let mut list = Ops::with_capacity(alloc, room_for(text.as_bytes()))?;
+    let mut fault = None;
+    for piece in text.split(';') {
+        match read_op(spaces, piece) {
+            Ok(op) => keep(&mut list, op)?,
+            Err(e) => fault = Some(least_of(fault, e)),
+        }
     }
-    Ok(list)
+    match fault {
+        Some(fault) => Err(Stop::Fault(fault)),
+        None => Ok(list),
+    }
 }
 
 /// The operations of a message.
@@ -90,14 +80,9 @@ pub(crate) fn read_ops(
     if text.is_empty() {
         return Err(Stop::Fault(TraceFault::NoOps));
     }
-    match read_pieces(alloc, spaces, text)? {
-        Ok(list) => {
-            if MAX_OPS < list.len() {
-                Err(Stop::Fault(TraceFault::TooManyOps))
-            } else {
-                Ok(list)
-            }
-        }
-        Err(fault) => Err(Stop::Fault(fault)),
+    let list = read_pieces(alloc, spaces, text)?;
+    if MAX_OPS < list.len() {
+        return Err(Stop::Fault(TraceFault::TooManyOps));
     }
+    Ok(list)
 }

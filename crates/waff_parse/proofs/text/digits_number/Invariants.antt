@@ -1,4 +1,4 @@
-use Rattle.std.proofs.Common.{◌≡◌, true, take}
+use Rattle.std.proofs.Common.{◌≡◌, Some, true, take}
 use Rattle.std.specs.Char.{is_ascii_digit}
 use Rattle.std.specs.List.{list_all}
 use Rattle.std.specs.Str.Parse.{digits_value}
@@ -9,5 +9,5 @@ use Rattle.waff_parse.proofs.text.digits_number.Given as goal
 abbrev pub invariant-loop-byte : goal.invariant-loop-byte
 invariant-loop-byte l = record {
   digits : list_all is_ascii_digit (take l.byte-index l.bytes) ≡ true;
-  value : l.value ≡ small (digits_value 10 (take l.byte-index l.bytes));
+  value : small (digits_value 10 (take l.byte-index l.bytes)) ≡ Some l.value;
 }

@@ -5,10 +5,10 @@ use Rattle.waff_read.proofs.ops.read_ops.Goals as goal
 
 pub returns-then-len-gt-MAX_OPS : goal.returns-then-len-gt-MAX_OPS
 returns-then-len-gt-MAX_OPS c =
-    ops_of-many c.args.spaces.now c.args.text.now c.in-Ok.list (sym c.is_empty.ensures ∙ c.if-is_empty.false)
-    (sym c.in-Ok.is ∙ c.in_ok-list.ensures) (omega (arith, c.len.ensures))
+    ops_of-many c.args.spaces.now c.args.text.now c.in_ok-list.list (sym c.is_empty.ensures ∙ c.if-is_empty.false)
+    (sym c.in_ok-list.ensures) (omega (arith, c.len.ensures))
 
-pub returns-else-len-gt-MAX_OPS : goal.returns-else-len-gt-MAX_OPS
-returns-else-len-gt-MAX_OPS c =
-    ops_of-few c.args.spaces.now c.args.text.now c.in-Ok.list (sym c.is_empty.ensures ∙ c.if-is_empty.false)
-    (sym c.in-Ok.is ∙ c.in_ok-list.ensures) (omega (arith, c.len.ensures))
+pub returns : goal.returns
+returns c =
+    ops_of-few c.args.spaces.now c.args.text.now c.in_ok-list.list (sym c.is_empty.ensures ∙ c.if-is_empty.false)
+    (sym c.in_ok-list.ensures) (omega (arith, c.len.ensures))

@@ -1,21 +1,55 @@
--- Each turn takes one piece off those that are left.
-use Rattle.std.proofs.Common.{◌∙◌, ap, arith, rules}
-use Rattle.waff_read.proofs.OpsLaws.{first_ops-few, left_of, pieces-end, pieces-more, pieces-start}
+-- A piece more is an operation more, or a fault more.
+use Rattle.std.proofs.Common.{List, ℕ, Bor, map, [], ◌∷◌, ◌++◌, ◌+◌, ◌∙◌, refl, sym, arith, lit<, rules}
+use Rattle.std.proofs.lemmas.Iterator.Consumers.{YieldsList-end}
+use Rattle.std.proofs.lemmas.Iterator.Splits.{YieldsList-from_str_split}
+use Rattle.std.proofs.lemmas.List.{length-take, map-append}
+use Rattle.waff_model.specs.declared.limits.TheConstants.{MAX_OPS}
+use Rattle.waff_parse.specs.Walks.{gather}
+use Rattle.waff_read.specs.Ops.{pieces_of}
+use Rattle.waff_read.proofs.OpsLaws.{so_far-fault, so_far-op}
 use Rattle.waff_read.proofs.ops.read_pieces.Goals as goal
 
-pub loop-left-init : goal.loop-left-init
-loop-left-init c = rw c.in_ok-with_capacity.ensures (record {
-  read = pieces-start c.args.spaces.now c.args.text.now;
-  few = omega arith;
-})
+-- a piece is read as it was yielded
+abbrev now : Bor (List ℕ) → List ℕ
+now piece = piece.now
 
-pub loop-left-preserved : goal.loop-left-preserved
-loop-left-preserved c = record {
+pub loop-piece-init : goal.loop-piece-init
+unfolding gather
+loop-piece-init c = rw c.in_ok-list.ensures (record { read = refl; few = omega arith })
+
+pub loop-piece-preserved : goal.loop-piece-preserved
+loop-piece-preserved c = record {
   read =
-      pieces-more c.args.spaces.now c.loop-left.list c.in_ok-list.list c.cut.result.0.now (left_of c.cut.result.1) (rw (← c.read_op.ensures) c.in_ok-list.ensures)
-      ∙ (rw (c.in-Some.is, c.cut.ensures) at c.loop-left.invariant.read);
-  few = rw c.in_ok-list.ensures (first_ops-few _);
+      rw (map-append now c.loop-piece.yielded (c.in-Some.piece ∷ []), c.least_of.ensures)
+      (so_far-fault c.args.spaces.now (map now c.loop-piece.yielded) c.in-Some.piece.now c.loop-piece.fault c.loop-piece.list c.loop-piece.invariant.read
+      c.in-Err.e (sym c.in-Err.is ∙ c.read_op.ensures));
+  few = c.loop-piece.invariant.few;
 }
 
-pub returns : goal.returns
-returns c = pieces-end c.args.spaces.now c.loop-left.list c.loop-left.invariant.few ∙ (rw c.in_default.is at c.loop-left.invariant.read)
+pub loop-piece-preserved-in-Continue-branch-2 : goal.loop-piece-preserved-in-Continue-branch-2
+loop-piece-preserved-in-Continue-branch-2 c =
+    rw (map-append now c.loop-piece.yielded (c.in-Some.piece ∷ []), c.in_ok-keep-in-Ok.ensures)
+    (record {
+      read =
+          so_far-op c.args.spaces.now (map now c.loop-piece.yielded) c.in-Some.piece.now c.loop-piece.fault c.loop-piece.list c.loop-piece.invariant.read
+          c.in-Ok.op (sym c.in-Ok.is ∙ c.read_op.ensures);
+      few = omega (arith, length-take (MAX_OPS + 1) (c.loop-piece.list ++ c.in-Ok.op ∷ []));
+    })
+
+pub returns-in-Some-fault : goal.returns-in-Some-fault
+unfolding pieces_of
+returns-in-Some-fault c =
+    let start = c.into_iter-piece-iterator.ensures.into_iter_gives in
+    let split = c.split-piece-items.ensures in
+    let whole = YieldsList-end (YieldsList-from_str_split {s = c.into_iter-piece-iterator.result} 59 c.args.text.now (lit< tt) (search rules) (search rules) (search rules))
+    c.loop-piece.yielded _ c.loop-piece.yielded_by _ _ c.in-None.is c.next.ensures.steps in
+    rw (← whole.0) (sym c.loop-piece.invariant.read ∙ rw c.in-Some-fault.is refl)
+
+pub returns-in-None-fault : goal.returns-in-None-fault
+unfolding pieces_of
+returns-in-None-fault c =
+    let start = c.into_iter-piece-iterator.ensures.into_iter_gives in
+    let split = c.split-piece-items.ensures in
+    let whole = YieldsList-end (YieldsList-from_str_split {s = c.into_iter-piece-iterator.result} 59 c.args.text.now (lit< tt) (search rules) (search rules) (search rules))
+    c.loop-piece.yielded _ c.loop-piece.yielded_by _ _ c.in-None.is c.next.ensures.steps in
+    rw (← whole.0) (sym c.loop-piece.invariant.read ∙ rw c.in-None-fault.is refl)

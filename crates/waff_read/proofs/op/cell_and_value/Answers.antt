@@ -1,0 +1,8 @@
+-- The words are the one before the first space and the text after it.
+use Rattle.std.proofs.Common.{◌∙◌}
+use Rattle.waff_read.proofs.PartLemmas.{cell_and_value}
+use Rattle.waff_read.proofs.op.cell_and_value.Goals as goal
+
+pub returns-in-Some : goal.returns-in-Some
+returns-in-Some c =
+    c.pair.ensures ∙ (rw (c.read_cell.ensures, c.read_value.ensures) (cell_and_value c.args.spaces.now c.args.words.now c.cut.result.0.now c.in-Some.value.now (rw c.in-Some.is at c.cut.ensures)))
