@@ -17,18 +17,13 @@ pub(crate) fn rows<'a>(value: &'a Value, key: &str) -> &'a [Value] {
 
 /// The text at a key, the empty one where there is none.
 pub(crate) fn text_at<'a>(value: &'a Value, key: &str) -> &'a str {
-    match value.get(key) {
-        Some(found) => found.as_str().unwrap_or(""),
-        None => "",
-    }
+    let found = value.get(key);
+    found.and_then(|found| found.as_str()).unwrap_or("")
 }
 
 /// The text at a key of the table of this number, the empty one where there is none.
 pub(crate) fn text_of<'a>(tables: &'a [Value], number: usize, key: &str) -> &'a str {
-    match tables.get(number) {
-        Some(row) => text_at(row, key),
-        None => "",
-    }
+    tables.get(number).map_or("", |row| text_at(row, key))
 }
 
 /// Appends where the table of this number stands: of which kind it is, its number from 0, and its
@@ -139,10 +134,7 @@ fn first_misfit(tables: &[Value], key: &str, wanted: Shape) -> Option<usize> {
 
 /// The value at a key of the table of this number.
 fn value_of<'a>(tables: &'a [Value], number: usize, key: &str) -> Option<&'a Value> {
-    match tables.get(number) {
-        Some(row) => row.get(key),
-        None => None,
-    }
+    tables.get(number)?.get(key)
 }
 
 /// The first value that is no table.

@@ -28,19 +28,11 @@ impl<'a> Hearing<'a> {
     }
 
     fn row(&self, n: u32) -> Option<&Row> {
-        if self.has(n) {
-            Some(self.given.row(n))
-        } else {
-            None
-        }
+        self.has(n).then(|| self.given.row(n))
     }
 
     fn message(&self, n: u32) -> Option<&Message> {
-        if self.has(n) {
-            Some(self.case.trace.message(n))
-        } else {
-            None
-        }
+        self.has(n).then(|| self.case.trace.message(n))
     }
 
     /// How many workers there are, 0 where the plan has none.
@@ -50,50 +42,34 @@ impl<'a> Hearing<'a> {
 
     /// The release of a message, 0 where there is no such message.
     pub(crate) fn release(&self, n: u32) -> u64 {
-        match self.message(n) {
-            Some(message) => u64::from(message.release),
-            None => 0,
-        }
+        self.message(n)
+            .map_or(0, |message| u64::from(message.release))
     }
 
     /// The start that the row of a message tells, 0 where there is no such row.
     pub(crate) fn start(&self, n: u32) -> u64 {
-        match self.row(n) {
-            Some(row) => row.start,
-            None => 0,
-        }
+        self.row(n).map_or(0, |row| row.start)
     }
 
     /// The start and the cost of a message.
     pub(crate) fn end(&self, n: u32) -> u64 {
-        match self.message(n) {
-            Some(message) => self.start(n).saturating_add(u64::from(message.cost)),
-            None => 0,
-        }
+        let cost = self.message(n).map_or(0, |message| message.cost);
+        self.start(n).saturating_add(u64::from(cost))
     }
 
     /// The finish that the row tells.
     pub(crate) fn told_finish(&self, n: u32) -> u64 {
-        match self.row(n) {
-            Some(row) => row.finish,
-            None => 0,
-        }
+        self.row(n).map_or(0, |row| row.finish)
     }
 
     /// The affinity that the row tells.
     pub(crate) fn told_affinity(&self, n: u32) -> &str {
-        match self.row(n) {
-            Some(row) => row.affinity.as_str(),
-            None => "",
-        }
+        self.row(n).map_or("", |row| row.affinity.as_str())
     }
 
     /// The worker that the row tells.
     pub(crate) fn worker(&self, n: u32) -> Option<u64> {
-        match self.row(n) {
-            Some(row) => row.worker,
-            None => None,
-        }
+        self.row(n)?.worker
     }
 
     /// The name of the affinity of a message.

@@ -90,10 +90,8 @@ fn push_no_integer(words: &mut Words, tables: &[Value], kind: &str, key: &str, m
 }
 
 fn integer_at(row: &Value, key: &str) -> i64 {
-    match row.get(key) {
-        Some(found) => found.as_integer().unwrap_or(0),
-        None => 0,
-    }
+    let found = row.get(key);
+    found.and_then(|found| found.as_integer()).unwrap_or(0)
 }
 
 /// Appends which map lists no owners, too many, or one that is no affinity.

@@ -38,10 +38,7 @@ impl<'a> Named<'a> {
 
     /// Whether a table before that of this number has the text.
     pub(crate) fn has_before(&self, number: usize, name: &str) -> bool {
-        match self.place_of(name) {
-            Some(place) => place < number,
-            None => false,
-        }
+        self.place_of(name).is_some_and(|place| place < number)
     }
 
     /// The first of these tables whose text at the key none has.

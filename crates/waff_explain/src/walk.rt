@@ -118,7 +118,7 @@ impl<'a> Walk<'a> {
 }
 
 /// Appends where the first record behind the header stands that begins with this field.
-pub fn push_line(words: &mut Words, bytes: &[u8], first: &str) {
+pub(crate) fn push_line(words: &mut Words, bytes: &[u8], first: &str) {
     let mut walk = Walk::new(words.alloc(), bytes);
     walk.next();
     if walk.find(first) {

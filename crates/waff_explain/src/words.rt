@@ -11,7 +11,7 @@ use waff_parse::cut;
 
 /// What a line begins with, which tells what it has.
 #[derive(Clone, Copy)]
-pub enum Head {
+pub(crate) enum Head {
     /// The file, and the place in it.
     Where,
     /// What there is to tell of the message of this number.
@@ -77,7 +77,7 @@ impl<'a> fmt::Display for Sentence<'a> {
 /// Lines of an explanation. Where memory is refused they keep that, and what comes then is left
 /// out, so that only their end has to be asked.
 #[derive(Drop)]
-pub struct Words {
+pub(crate) struct Words {
     text: String,
     is_refused: bool,
 }
@@ -92,7 +92,7 @@ impl Model for Words {
 
 impl Words {
     /// No lines.
-    pub fn new(alloc: Global) -> Self {
+    pub(crate) fn new(alloc: Global) -> Self {
         Words {
             text: String::new(alloc),
             is_refused: false,
@@ -100,12 +100,12 @@ impl Words {
     }
 
     /// The allocator of the text.
-    pub fn alloc(&self) -> Global {
+    pub(crate) fn alloc(&self) -> Global {
         *self.text.allocator()
     }
 
     /// The text of the lines, unless memory was refused.
-    pub fn finish(self) -> Result<String, AllocError>
+    pub(crate) fn finish(self) -> Result<String, AllocError>
         ensures { IfOk result (λ text. AreHeadedLines (string_bytes text)) }
     {
         if self.is_refused {
@@ -115,12 +115,12 @@ impl Words {
     }
 
     /// Keeps that memory was refused for what the lines tell of.
-    pub fn refuse(&mut self) {
+    pub(crate) fn refuse(&mut self) {
         self.is_refused = true;
     }
 
     /// Appends a line with this head: the sentence of a format, with a value for each `{}`.
-    pub fn say(&mut self, head: Head, format: &str, values: &[Said<'_>])
+    pub(crate) fn say(&mut self, head: Head, format: &str, values: &[Said<'_>])
         requires filled { places format.now ≡ length values.now }
     {
         match line_of(self.alloc(), head, Sentence { format, values }) {
