@@ -1,5 +1,5 @@
 -- Messages are chosen among those that are ready, and workers taken among those that are idle.
-use Rattle.std.proofs.Common.{◌≡◌, ℕ, ◌<◌, ◌≤◌, ◌⊎◌, inl, inr, List, [], ◌∷◌, ◌++◌, get_or, Contains, arith, refl, sym, ◌∙◌, subst, ⊎_elim}
+use Rattle.std.proofs.Common.{◌≡◌, ℕ, ◌<◌, ◌≤◌, ◌⊎◌, inl, inr, List, [], ◌∷◌, ◌++◌, get_or, Contains, arith, refl, sym, ◌∙◌, subst}
 use Rattle.std.specs.List.Sorted.{IsPermutation}
 use Rattle.std.proofs.lemmas.Bool.{cases_lt}
 use Rattle.std.proofs.lemmas.List.{append_assoc, get_or_default, length-append}
@@ -7,7 +7,6 @@ use Rattle.std.proofs.lemmas.List.Quantifiers.{all_pairs_push}
 use Rattle.std.proofs.lemmas.List.Sorted.{IsPermutation-refl, IsPermutation-sym, IsPermutation-trans, IsPermutation-append_left, IsPermutation-append_right, Contains-permutation, length_permutation}
 use Rattle.waff_list.specs.Choosing.{AreChosen}
 use Rattle.waff_list.specs.ListRule.{IsTakenFirst}
-use Rattle.waff_list.specs.Load.{priority_of}
 use Rattle.waff_list.specs.Waiting.{Ready, LeavesLeast, LeavesFirst}
 use Rattle.waff_list.proofs.Each.{none_there, one_of, contains_first, contains_more}
 
@@ -48,15 +47,14 @@ module _ (old_ready : Ready) (old_idle messages workers : List ℕ) (ready : Rea
     manned = parted_more old_idle workers idle w others h.manned takes.rest;
     rising = all_pairs_push (λ x y. x ≤ y) workers w h.rising
         (λ i d inside. h.least (get_or workers i d) w (i, inside, get_or_default workers i (get_or workers i d) d inside) (still idle w others takes.rest w (contains_first w others)));
-    least = λ v u there behind. ⊎_elim {C = v ≤ u}
-        (λ (taken : Contains workers v). h.least v u taken (still idle w others takes.rest u (contains_more w u others behind)))
-        (λ (new : v ≡ w). let smallest : w ≤ u = takes.least u behind in omega arith)
-        (one_of workers w v there);
-    first = λ c other there behind. ⊎_elim {C = (other ≡ c) ⊎ IsTakenFirst (priority_of old_ready.priorities) c other}
-        (λ (taken : Contains messages c). h.first c other taken (still ready.messages m waiting.messages leaves.rest other (contains_more m other waiting.messages behind)))
-        (λ (new : c ≡ m). subst (λ x. (other ≡ x) ⊎ IsTakenFirst (priority_of old_ready.priorities) x other) (sym new)
-        (subst (λ (listed : List ℕ). (other ≡ m) ⊎ IsTakenFirst (priority_of listed) m other) h.same (leaves.first other behind)))
-        (one_of messages m c there);
+    least = λ v u there behind. elim (one_of workers w v there) [
+      | inl taken ↦ h.least v u taken (still idle w others takes.rest u (contains_more w u others behind))
+      | inr new ↦ omega (arith, takes.least u behind, new)
+    ];
+    first = λ c other there behind. elim (one_of messages m c there) [
+      | inl taken ↦ h.first c other taken (still ready.messages m waiting.messages leaves.rest other (contains_more m other waiting.messages behind))
+      | inr new ↦ rw (new, sym h.same) (leaves.first other behind)
+    ];
     same = leaves.same ∙ h.same;
   }
 

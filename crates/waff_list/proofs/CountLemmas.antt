@@ -1,5 +1,5 @@
 -- How often a message is listed, and the counts of needs that have not finished.
-use Rattle.std.proofs.Common.{◌≡◌, ◌≢◌, ℕ, zero, suc, ◌+◌, ◌-◌, ◌<◌, ◌≤◌, ◌⊎◌, Bool, true, false, cond, nat_eq, List, [], ◌∷◌, length, map, get_or, take, sum_by, count_by, All, Contains, arith, refl, ap, sym, ◌∙◌, subst, ⊎_elim}
+use Rattle.std.proofs.Common.{◌≡◌, ◌≢◌, ℕ, zero, suc, ◌+◌, ◌-◌, ◌<◌, ◌≤◌, ◌⊎◌, Bool, true, false, cond, nat_eq, List, [], ◌∷◌, length, map, get_or, take, sum_by, count_by, All, Contains, arith, refl, ap, sym, ◌∙◌, subst, inl, inr}
 use Rattle.std.proofs.lemmas.Bool.{cases_lt, cases_eq, cond-true, cond-false, eq-eqb, ne_eqb}
 use Rattle.std.proofs.lemmas.List.{get_or-map, length-map}
 use Rattle.std.proofs.lemmas.List.Elements.{All-head, All-tail, All-weaker, All-contains, All-contains_itself, Contains-get_or}
@@ -9,7 +9,7 @@ use Rattle.std.proofs.lemmas.List.Sums.{sum_by-cons, sum_by-le, get_or-le-sum_by
 use Rattle.waff_plan.specs.Work.{Work, IsNumber, finish_of}
 use Rattle.waff_plan.specs.Obeys.{IsForward}
 use Rattle.waff_order.specs.Needs.{needs_of, IsNeed}
-use Rattle.waff_list.specs.Waiting.{Runs, AreFinishes, AreLeft, FallAlike, left_of, times, unplaced_needs, running_needs}
+use Rattle.waff_list.specs.Waiting.{Runs, AreFinishes, AreLeft, FallAlike, left_of, times}
 use Rattle.waff_list.specs.declared.work.TheConstants.{NEVER}
 
 -- where no element adds to a sum, it is 0
@@ -25,19 +25,15 @@ sum_some f xs x there = subst (λ y. f y ≤ sum_by f xs) there.2 (get_or-le-sum
 count_none : {X : Type 0} (p : X → Bool) (xs : List X) → ((x : X) → Contains xs x → p x ≡ false) → count_by p xs ≡ 0
 count_none p xs h = sum_none (λ x. cond (p x) 1 0) xs (λ x there. cond-false (p x) 1 0 (h x there))
 
-count_some : {X : Type 0} (p : X → Bool) (xs : List X) (x : X) → Contains xs x → p x ≡ true → 1 ≤ count_by p xs
+pub count_some : {X : Type 0} (p : X → Bool) (xs : List X) (x : X) → Contains xs x → p x ≡ true → 1 ≤ count_by p xs
 count_some p xs x there is =
-    let one : cond {A = ℕ} (p x) 1 0 ≡ 1 = cond-true (p x) 1 0 is in
-    let within = sum_some (λ y. cond (p y) 1 0) xs x there in
-    omega (arith, one, within)
+    omega (arith, cond-true {A = ℕ} (p x) 1 0 is, sum_some (λ y. cond (p y) 1 0) xs x there)
 
 -- where all pass, all are counted
 count_all : {X : Type 0} (p : X → Bool) (xs : List X) → All (λ x. p x ≡ true) xs → count_by p xs ≡ length xs
 count_all p [] h = refl
 count_all p (x ∷ xs) h =
-    let rest = count_all p xs (All-tail (λ y. p y ≡ true) x xs h) in
-    let one : cond {A = ℕ} (p x) 1 0 ≡ 1 = cond-true (p x) 1 0 (All-head (λ y. p y ≡ true) x xs h) in
-    omega (arith, rest, one, sum_by-cons (λ y. cond (p y) 1 0) x xs)
+    omega (arith, count_all p xs (All-tail (λ y. p y ≡ true) x xs h), cond-true {A = ℕ} (p x) 1 0 (All-head (λ y. p y ≡ true) x xs h), sum_by-cons (λ y. cond (p y) 1 0) x xs)
 
 -- a message that is listed is listed once or more
 pub times_some : (m : ℕ) (xs : List ℕ) → Contains xs m → 1 ≤ times m xs
@@ -72,41 +68,37 @@ times_left m xs at d inside is =
     let one : cond {A = ℕ} (nat_eq (get_or xs at d) m) 1 0 ≡ 1 = cond-true (nat_eq (get_or xs at d) m) 1 0 (eq-eqb (get_or xs at d) m is) in
     omega (arith, more, one)
 
+next : (k : ℕ) → k + 1 ≡ suc k
+next k = omega arith
+
 -- numbers below n that rise are at most n
 rises_by_one : (xs : List ℕ) → IsStrictlyIncreasing xs → (k : ℕ) → k < length xs → k ≤ get_or xs k 0
 rises_by_one xs rising zero inside = omega arith
 rises_by_one xs rising (suc k) inside =
-    let before : k ≤ get_or xs k 0 = rises_by_one xs rising k (omega arith) in
-    let more : get_or xs k 0 < get_or xs (k + 1) 0 = rising k (omega arith) in
-    let place : get_or xs (k + 1) 0 ≡ get_or xs (suc k) 0 = ap (λ i. get_or xs i 0) (omega arith) in
-    omega arith
+    omega (arith, rises_by_one xs rising k (omega arith), rising k (omega arith), ap (λ i. get_or xs i 0) (next k))
 
 -- messages that rise from 1 are fewer than the least number above them
 rises_from_one : (xs : List ℕ) → IsStrictlyIncreasing xs → ((x : ℕ) → Contains xs x → 1 ≤ x) → (k : ℕ) → k < length xs → k + 1 ≤ get_or xs k 0
 rises_from_one xs rising from zero inside = from (get_or xs 0 0) (Contains-get_or xs 0 0 inside)
 rises_from_one xs rising from (suc k) inside =
-    let before : k + 1 ≤ get_or xs k 0 = rises_from_one xs rising from k (omega arith) in
-    let more : get_or xs k 0 < get_or xs (k + 1) 0 = rising k (omega arith) in
-    let place : get_or xs (k + 1) 0 ≡ get_or xs (suc k) 0 = ap (λ i. get_or xs i 0) (omega arith) in
-    omega arith
+    omega (arith, rises_from_one xs rising from k (omega arith), rising k (omega arith), ap (λ i. get_or xs i 0) (next k))
 
 pub rising_fewer : (xs : List ℕ) (n : ℕ) → IsStrictlyIncreasing xs → ((x : ℕ) → Contains xs x → (1 ≤ x) × (x < n)) → 1 ≤ n → length xs < n
-rising_fewer xs n rising within some = ⊎_elim {C = length xs < n}
-    (λ (empty : length xs < 1). omega arith)
-    (λ (one : 1 ≤ length xs).
-    let last = rises_from_one xs rising (λ x there. let w = within x there in w.0) (length xs - 1) (omega arith) in
-    let less = within (get_or xs (length xs - 1) 0) (Contains-get_or xs (length xs - 1) 0 (omega arith)) in
-    omega (arith, last, less.1))
-    (cases_lt (length xs) 1)
+rising_fewer xs n rising within some = elim (cases_lt (length xs) 1) [
+  | inl empty ↦ omega arith
+  | inr one ↦
+      let last = rises_from_one xs rising (λ x there. (within x there).0) (length xs - 1) (omega arith) in
+      let less = within (get_or xs (length xs - 1) 0) (Contains-get_or xs (length xs - 1) 0 (omega arith)) in
+      omega (arith, last, less.1)
+]
 
 pub rising_length : (xs : List ℕ) (n : ℕ) → IsStrictlyIncreasing xs → ((x : ℕ) → Contains xs x → x < n) → length xs ≤ n
-rising_length xs n rising below = ⊎_elim {C = length xs ≤ n}
-    (λ (empty : length xs < 1). omega arith)
-    (λ (some : 1 ≤ length xs).
-    let last = rises_by_one xs rising (length xs - 1) (omega arith) in
-    let less = below (get_or xs (length xs - 1) 0) (Contains-get_or xs (length xs - 1) 0 (omega arith)) in
-    omega (arith, last, less))
-    (cases_lt (length xs) 1)
+rising_length xs n rising below = elim (cases_lt (length xs) 1) [
+  | inl empty ↦ omega arith
+  | inr some ↦
+      let less = below (get_or xs (length xs - 1) 0) (Contains-get_or xs (length xs - 1) 0 (omega arith)) in
+      omega (arith, rises_by_one xs rising (length xs - 1) (omega arith), less)
+]
 
 -- where one message is placed, it is one need less that has not been placed, each time that it is listed
 placed_less : (start later : ℕ → ℕ) (x : ℕ) → start x ≡ NEVER → later x ≢ NEVER → (xs : List ℕ) → All (λ i. i ≢ x → later i ≡ start i) xs
@@ -117,17 +109,15 @@ placed_less start later x was is (y ∷ ys) h =
     let before : ℕ = cond (nat_eq (start y) NEVER) 1 0 in
     let after : ℕ = cond (nat_eq (later y) NEVER) 1 0 in
     let here : ℕ = cond (nat_eq y x) 1 0 in
-    let step : before ≡ after + here = ⊎_elim {C = before ≡ after + here}
-    (λ (same : y ≡ x).
-    let first : before ≡ 1 = cond-true (nat_eq (start y) NEVER) 1 0 (eq-eqb (start y) NEVER (ap start same ∙ was)) in
-    let second : after ≡ 0 = cond-false (nat_eq (later y) NEVER) 1 0 (ne_eqb (later y) NEVER (λ never. is (sym (ap later same) ∙ never))) in
-    let third : here ≡ 1 = cond-true (nat_eq y x) 1 0 (eq-eqb y x same) in
-    omega arith)
-    (λ (other : y ≢ x).
-    let first : after ≡ before = ap (λ s. cond {A = ℕ} (nat_eq s NEVER) 1 0) (All-head (λ i. i ≢ x → later i ≡ start i) y ys h other) in
-    let third : here ≡ 0 = cond-false (nat_eq y x) 1 0 (ne_eqb y x other) in
-    omega arith)
-    (cases_eq y x) in
+    let step : before ≡ after + here = elim (cases_eq y x) [
+      | inl same ↦
+          let first = cond-true {A = ℕ} (nat_eq (start y) NEVER) 1 0 (eq-eqb (start y) NEVER (ap start same ∙ was)) in
+          let second = cond-false {A = ℕ} (nat_eq (later y) NEVER) 1 0 (ne_eqb (later y) NEVER (λ never. is (sym (ap later same) ∙ never))) in
+          omega (arith, first, second, cond-true {A = ℕ} (nat_eq y x) 1 0 (eq-eqb y x same))
+      | inr other ↦
+          let first = ap (λ s. cond {A = ℕ} (nat_eq s NEVER) 1 0) (All-head (λ i. i ≢ x → later i ≡ start i) y ys h other) in
+          omega (arith, first, cond-false {A = ℕ} (nat_eq y x) 1 0 (ne_eqb y x other))
+    ] in
     omega (
       arith,
       rest,
@@ -147,11 +137,7 @@ left_fall needs start finishes finishes_after left left_after h fall count = rec
 
 module _ (needs : List (List ℕ)) (work : Work) (forward : IsForward (IsNeed needs) work) (same : length needs ≡ work.count) where
   need_number : (i j : ℕ) → IsNeed needs i j → IsNumber work i
-  need_number i j need =
-      let from : 1 ≤ i = forward.from i j need in
-      let earlier : i < j = forward.earlier i j need in
-      let to : j ≤ work.count = forward.to i j need in
-      record { from = from; to = omega arith }
+  need_number i j need = record { from = forward.from i j need; to = omega (arith, forward.earlier i j need, forward.to i j need) }
 
   need_of : (i m : ℕ) → 1 ≤ m → Contains (needs_of needs m) i → IsNeed needs i m
   need_of i m from there = record { from = from; listed = there }
@@ -177,7 +163,7 @@ module _ (needs : List (List ℕ)) (work : Work) (forward : IsForward (IsNeed ne
     counts = λ m from to.
         let xs = needs_of needs m in
         let less = placed_less start later x was is xs (All-weaker (Contains xs) (λ i. i ≢ x → later i ≡ start i)
-        (λ i there. let number = need_number i m (need_of i m from there) in others i number.from) xs (All-contains_itself xs)) in
+        (λ i there. others i (need_number i m (need_of i m from there)).from) xs (All-contains_itself xs)) in
         let added = sum_by_pushed (λ (r : ℕ × ℕ). times r.1 xs) (tick, x) finishes finishes_after more in
         omega (arith, h.counts m from to, less, added);
   }
@@ -185,7 +171,7 @@ module _ (needs : List (List ℕ)) (work : Work) (forward : IsForward (IsNeed ne
   module _ (start : ℕ → ℕ) (now : ℕ) (finishes : List (ℕ × ℕ)) (left : List ℕ) (short : now < NEVER)
       (run : AreFinishes work start now finishes) (h : AreLeft needs start finishes left) (m : ℕ) (number : IsNumber work m) where
     to_needs : m ≤ length needs
-    to_needs = let to : m ≤ work.count = number.to in omega (arith, same)
+    to_needs = omega (arith, number.to, same)
 
     -- where the count is 0, all needs have finished
     pub left_finished : ((i : ℕ) → IsNumber work i → (start i ≤ now) ⊎ (start i ≡ NEVER)) → left_of left m ≡ 0
@@ -193,33 +179,24 @@ module _ (needs : List (List ℕ)) (work : Work) (forward : IsForward (IsNeed ne
     left_finished placed none i need =
         let xs = needs_of needs m in
         let i_number = need_number i m need in
-        let counts : left_of left m ≡ unplaced_needs needs start m + running_needs needs finishes m = h.counts m number.from to_needs in
-        ⊎_elim {C = finish_of work start i ≤ now}
-        (λ (early : start i ≤ now).
-        ⊎_elim {C = finish_of work start i ≤ now}
-        (λ (late : now < finish_of work start i).
-        let listed = times_some i xs need.listed in
-        let within = sum_some (λ (r : ℕ × ℕ). times r.1 xs) finishes (finish_of work start i, i) (run.each i i_number early late) in
-        absurd (omega (arith, counts, none, listed, within)))
-        (λ (done : finish_of work start i ≤ now). done)
-        (cases_lt now (finish_of work start i)))
-        (λ (never : start i ≡ NEVER).
-        let some = count_some (λ y. nat_eq (start y) NEVER) xs i need.listed (eq-eqb (start i) NEVER never) in
-        absurd (omega (arith, counts, none, some)))
-        (placed i i_number)
+        let counts = h.counts m number.from to_needs in
+        elim (placed i i_number) [
+          | inl early ↦ elim (cases_lt now (finish_of work start i)) [
+            | inl late ↦
+                let within = sum_some (λ (r : ℕ × ℕ). times r.1 xs) finishes (finish_of work start i, i) (run.each i i_number early late) in
+                absurd (omega (arith, counts, none, times_some i xs need.listed, within))
+            | inr done ↦ done
+          ]
+          | inr never ↦ absurd (omega (arith, counts, none, count_some (λ y. nat_eq (start y) NEVER) xs i need.listed (eq-eqb (start i) NEVER never)))
+        ]
 
     -- where all needs have finished, the count is 0
     pub left_over : ((i : ℕ) → IsNeed needs i m → finish_of work start i ≤ now) → left_of left m ≡ 0
     left_over finished =
         let xs = needs_of needs m in
-        let done = λ (i : ℕ) (there : Contains xs i). finished i (need_of i m number.from there) in
-        let unplaced = count_none (λ i. nat_eq (start i) NEVER) xs
-        (λ i there. ne_eqb (start i) NEVER (λ never. let early : start i + work.cost i ≤ now = done i there in omega arith)) in
-        let running = sum_none (λ (r : ℕ × ℕ). times r.1 xs) finishes
-        (λ (r : ℕ × ℕ) there. times_none r.1 xs (λ listed.
+        let done : (i : ℕ) → Contains xs i → finish_of work start i ≤ now = λ i there. finished i (need_of i m number.from there) in
+        let unplaced = count_none (λ i. nat_eq (start i) NEVER) xs (λ i there. ne_eqb (start i) NEVER (λ never. omega (arith, done i there, short, never))) in
+        let running = sum_none (λ (r : ℕ × ℕ). times r.1 xs) finishes (λ (r : ℕ × ℕ) there. times_none r.1 xs (λ listed.
         let runs = All-contains (Runs work start now) finishes r run.only there in
-        let late : now < r.0 = runs.2 in
-        let at : finish_of work start r.1 ≡ r.0 = runs.3 in
-        let early : finish_of work start r.1 ≤ now = done r.1 listed in
-        omega arith)) in
+        omega (arith, runs.2, runs.3, done r.1 listed))) in
         omega (arith, h.counts m number.from to_needs, unplaced, running)

@@ -1,5 +1,5 @@
 -- The chosen messages start, one after another, on the workers that were taken for them.
-use Rattle.std.proofs.Common.{◌≡◌, ◌≢◌, ℕ, suc, ◌+◌, ◌-◌, ◌<◌, ◌≤◌, ◌⊎◌, List, [], ◌∷◌, ◌++◌, length, map, drop, get_or, set, AllPairs, Contains, arith, refl, ap, sym, ◌∙◌, subst, ⊎_elim, get_or-set_other}
+use Rattle.std.proofs.Common.{◌≡◌, ◌≢◌, ℕ, suc, ◌+◌, ◌-◌, ◌<◌, ◌≤◌, ◌⊎◌, inl, inr, List, [], ◌∷◌, ◌++◌, length, map, drop, get_or, set, AllPairs, Contains, arith, refl, ap, sym, ◌∙◌, subst, get_or-set_other}
 use Rattle.std.specs.List.Sorted.{IsPermutation, IsNonDecreasingBy}
 use Rattle.std.proofs.Math.Seq.{drop-cons}
 use Rattle.std.proofs.lemmas.Bool.{cases_eq, cases_lt}
@@ -9,7 +9,6 @@ use Rattle.std.proofs.lemmas.List.Sorted.{IsPermutation-append_left, IsPermutati
 use Rattle.waff_plan.specs.Obeys.{IsForward}
 use Rattle.waff_plan.specs.Timing.{start_of}
 use Rattle.waff_plan.specs.Work.{Work, IsNumber, IsAmongFirst, finish_of}
-use Rattle.waff_plan.specs.Workers.{running}
 use Rattle.waff_list.specs.Choosing.{AreChosen}
 use Rattle.waff_list.specs.ListRule.{IsReady, IsTakenFirst}
 use Rattle.waff_list.specs.Load.{Load, Placed, Pending, before_in, priority_in}
@@ -59,12 +58,12 @@ module _ (load : Load) (forward : IsForward (before_in load) load.work) (same : 
   module _ (placed : Placed) (pending : Pending) (now turn : ℕ) (progress : IsProgress load placed now turn now) (h : IsKept load placed pending now) where
     -- what is ready has not been placed
     unplaced : (m : ℕ) → Contains pending.ready m → now < start_of placed.starts m
-    unplaced m there = ⊎_elim {C = now < start_of placed.starts m}
-        (λ (late : now < start_of placed.starts m). late)
-        (λ (early : start_of placed.starts m ≤ now).
-        let up = h.ready.only m (Contains-append_right placed.order pending.ready m there) in
-        absurd (each_apart (IsUp work (IsReleased work now) pending.left) placed.order pending.ready h.ready m (progress.listed.each m up.number early) there))
-        (cases_lt now (start_of placed.starts m))
+    unplaced m there = elim (cases_lt now (start_of placed.starts m)) [
+      | inl late ↦ late
+      | inr early ↦
+          let up = h.ready.only m (Contains-append_right placed.order pending.ready m there) in
+          absurd (each_apart (IsUp work (IsReleased work now) pending.left) placed.order pending.ready h.ready m (progress.listed.each m up.number early) there)
+    ]
 
     -- and all its needs have finished
     needs_over : (m : ℕ) → now < NEVER → Contains pending.ready m → (i : ℕ) → before_in load i m → finish_of work (start_of placed.starts) i ≤ now
@@ -80,44 +79,37 @@ module _ (load : Load) (forward : IsForward (before_in load) load.work) (same : 
           over = left_over load.needs work forward same (start_of placed.starts) now pending.finishes pending.left short h.finishes h.left m ready.number ready.free;
           released = ready.released;
         } in
-        ⊎_elim {C = Contains pending.ready m}
-        (λ (is_placed : Contains placed.order m).
-        let there = All-contains (λ x. IsNumber work x × (start_of placed.starts x ≤ now)) placed.order m progress.listed.messages is_placed in
-        let early : start_of placed.starts m ≤ now = there.1 in
-        absurd (omega arith))
-        (λ (there : Contains pending.ready m). there)
-        (Contains-append_cases placed.order pending.ready m (each_there (IsUp work (IsReleased work now) pending.left) (placed.order ++ pending.ready) h.ready m up))
+        elim (Contains-append_cases placed.order pending.ready m (each_there (IsUp work (IsReleased work now) pending.left) (placed.order ++ pending.ready) h.ready m up)) [
+          | inl is_placed ↦ absurd (omega (arith, late, (All-contains (λ x. IsNumber work x × (start_of placed.starts x ≤ now)) placed.order m progress.listed.messages is_placed).1))
+          | inr there ↦ there
+        ]
 
   -- a message is placed on the least worker that is idle
   module _ (old : List ℕ) (placed : Placed) (finishes : List (ℕ × ℕ)) (idle left ready : List ℕ) (now turn m w : ℕ)
       (h : IsFilling load old placed (record { finishes = finishes; idle = w ∷ idle; left = left; ready = m ∷ ready }) now turn)
       (short : now < NEVER) (cost : 1 ≤ work.cost m) (up_to : turn ≤ m) (smallest : (v : ℕ) → Contains idle v → w ≤ v) where
-    its_number : IsNumber work m
-    its_number = let up = h.kept.ready.only m (Contains-append_right placed.order (m ∷ ready) m (contains_first m ready)) in up.number
-
     abbrev more : Placed
     more = record { starts = set placed.starts (m - 1) now; seats = set placed.seats (m - 1) w; order = placed.order ++ m ∷ [] }
 
     pub filling_place : (finishes_after : List (ℕ × ℕ)) → IsPermutation ((now + work.cost m, m) ∷ finishes) finishes_after
         → IsFilling load old more (record { finishes = finishes_after; idle = idle; left = left; ready = ready }) now (m + 1)
     filling_place finishes_after pushed =
-        let number = its_number in
+        let up = h.kept.ready.only m (Contains-append_right placed.order (m ∷ ready) m (contains_first m ready)) in
+        let number = up.number in
         let at = progress_skip load forward placed now turn m up_to h.on.progress in
         let ready_there = contains_first m ready in
         let late : now < start_of placed.starts m = unplaced placed _ now m at h.kept m ready_there in
-        let up = h.kept.ready.only m (Contains-append_right placed.order (m ∷ ready) m ready_there) in
         let moved = moved_here load forward placed finishes idle now m w number short cost late at h.kept.finishes h.kept.manned smallest in
         let here : start_of more.starts m ≡ now = moved.here in
-        let never : start_of placed.starts m ≡ NEVER = ⊎_elim {C = start_of placed.starts m ≡ NEVER}
-        (λ (early : start_of placed.starts m ≤ now). absurd (omega arith)) (λ (is : start_of placed.starts m ≡ NEVER). is) (at.settled.placed m number) in
+        let never : start_of placed.starts m ≡ NEVER = elim (at.settled.placed m number) [ inl early ↦ absurd (omega arith) | inr is ↦ is ] in
         record {
           to = omega (arith, number.to);
           on = record {
             progress = progress_place load forward placed finishes idle now m w number short cost late at h.kept.finishes h.kept.manned smallest up.released
                 (needs_over placed _ now m at h.kept m short ready_there);
             kept = λ i i_number early.
-                let is : start_of placed.starts i ≡ start_of old i = h.on.kept i i_number early in
-                moved.others i i_number.from (λ again. let other : start_of placed.starts i ≡ start_of placed.starts m = ap (start_of placed.starts) again in omega arith) ∙ is;
+                let is = h.on.kept i i_number early in
+                moved.others i i_number.from (λ again. omega (arith, is, early, late, ap (start_of placed.starts) again)) ∙ is;
           };
           kept = record {
             finishes = finishes_place work (start_of placed.starts) (start_of more.starts) now m finishes finishes_after number late here cost moved.others pushed h.kept.finishes;
@@ -154,7 +146,7 @@ module _ (load : Load) (forward : IsForward (before_in load) load.work) (same : 
               let m = get_or messages i d in
               let up = all_ready.only m (Contains-append_right placed.order (messages ++ ready.messages) m (Contains-append_left messages ready.messages m (there_at messages i d inside))) in
               up.number.from;
-          started = λ m number is. let turn : m < 1 = progress.settled.turns m number is in let from : 1 ≤ m = number.from in absurd (omega arith);
+          started = λ m number is. absurd (omega (arith, progress.settled.turns m number is, number.from));
         }
 
   module _ (old : List ℕ) (placed : Placed) (pending : Pending) (now : ℕ) (messages workers : List ℕ) (at : ℕ)
@@ -183,20 +175,17 @@ module _ (load : Load) (forward : IsForward (before_in load) load.work) (same : 
 
       -- the message is one of the trace
       pub message_known : IsNumber work message
-      message_known = let free = split.kept.ready.only message (Contains-append_right placed.order (message ∷ ready_after) message (contains_first message ready_after)) in free.number
+      message_known = (split.kept.ready.only message (Contains-append_right placed.order (message ∷ ready_after) message (contains_first message ready_after))).number
 
       -- the worker is the least of those that are left
       is_least : (v : ℕ) → Contains idle_after v → worker ≤ v
-      is_least v there = ⊎_elim {C = worker ≤ v}
-          (λ (taken : Contains (drop (suc at) workers) v).
-          let one = of_rest (suc at) workers v taken in
-          let late : suc at ≤ one.0 = one.1 in
-          let is : get_or workers one.0 v ≡ v = one.3 in
-          let default : get_or workers at v ≡ worker = get_or_default workers at v 0 (omega arith) in
-          let less : get_or workers at v ≤ get_or workers one.0 v = rising at one.0 v (omega arith) one.2 in
-          omega arith)
-          (λ (still : Contains pending.idle v). least worker v (there_at workers at 0 (omega arith)) still)
-          (Contains-append_cases (drop (suc at) workers) pending.idle v there)
+      is_least v there = elim (Contains-append_cases (drop (suc at) workers) pending.idle v there) [
+        | inl taken ↦
+            let one = of_rest (suc at) workers v taken in
+            let less = rising at one.0 v (omega (arith, one.1)) one.2 in
+            omega (arith, less, one.3, get_or_default workers at v 0 (omega arith))
+        | inr still ↦ least worker v (there_at workers at 0 (omega arith)) still
+      ]
 
       pub starting_more : (more : List (ℕ × ℕ)) → now < NEVER → 1 ≤ work.cost message → IsPermutation ((now + work.cost message, message) ∷ pending.finishes) more
           → IsStarting load old (record { starts = set placed.starts (message - 1) now; seats = set placed.seats (message - 1) worker; order = placed.order ++ message ∷ [] })
@@ -210,20 +199,17 @@ module _ (load : Load) (forward : IsForward (before_in load) load.work) (same : 
             on = on;
             turns = λ i d late within.
                 let m = get_or messages i d in
-                let default : get_or messages at d ≡ message = get_or_default messages at d 0 inside in
-                let no_more : get_or messages at d ≤ m = up at i d (omega arith) within in
+                let no_more = up at i d (omega arith) within in
                 let other : message ≢ m = λ again. each_apart (IsUp work (IsReleased work now) pending.left) (placed.order ++ message ∷ []) ready_after on.kept.ready message
                 (Contains-push placed.order message)
                 (Contains-append_left (drop (suc at) messages) pending.ready message (subst (λ x. Contains (drop (suc at) messages) x) (sym again) (in_rest (suc at) messages i d late within))) in
-                omega arith;
-            started = λ m m_number is. ⊎_elim {C = Contains messages m}
-                (λ (new : m ≡ message). subst (λ x. Contains messages x) (sym new) (there_at messages at 0 inside))
-                (λ (other : m ≢ message).
-                let m_from : 1 ≤ m = m_number.from in
-                let from : 1 ≤ message = number.from in
-                let apart : m - 1 ≢ message - 1 = omega arith in
-                h.started m m_number (sym (get_or-set_other placed.starts (message - 1) (m - 1) now 0 apart) ∙ is))
-                (cases_eq m message);
+                omega (arith, no_more, get_or_default messages at d 0 inside, other);
+            started = λ m m_number is. elim (cases_eq m message) [
+              | inl new ↦ rw new (there_at messages at 0 inside)
+              | inr other ↦
+                  let apart : m - 1 ≢ message - 1 = omega (arith, m_number.from, number.from, other) in
+                  h.started m m_number (sym (get_or-set_other placed.starts (message - 1) (m - 1) now 0 apart) ∙ is)
+            ];
           }
 
     -- all chosen messages have been placed
@@ -242,23 +228,22 @@ module _ (load : Load) (forward : IsForward (before_in load) load.work) (same : 
         -- no message that is ready and waits is taken before one that starts at now
         not_before : (m other : ℕ) → Contains pending.ready m → now < start_of placed.starts m → IsNumber work other → IsTakenFirst (priority_in load) m other
             → start_of placed.starts other ≢ now
-        not_before m other there waits number before is = ⊎_elim {C = ⊥}
-            (λ (same_one : m ≡ other). let at_other : start_of placed.starts m ≡ start_of placed.starts other = ap (start_of placed.starts) same_one in omega arith)
-            (λ (next : IsTakenFirst (priority_in load) other m). not_itself (priority_in load) m (onward (priority_in load) m other m before next))
-            (first other m (h.started other number is) there)
+        not_before m other there waits number before is = elim (first other m (h.started other number is) there) [
+          | inl same_one ↦ omega (arith, waits, is, ap (start_of placed.starts) same_one)
+          | inr next ↦ not_itself (priority_in load) m (onward (priority_in load) m other m before next)
+        ]
 
         passed_over : IsPassedOver load forward (start_of placed.starts) now
         passed_over m ready_at waits =
             let there = it_waits placed pending now h.turn all_started.on.progress kept_filled m short ready_at waits in
-            ⊎_elim {C = (running work (start_of placed.starts) now ≡ load.workers)
-            × ((other : ℕ) → IsNumber work other → IsTakenFirst (priority_in load) m other → start_of placed.starts other ≢ now)}
-            (λ (none : pending.idle ≡ []). (
-              all_run load forward (start_of placed.starts) (worker_of placed.seats) now h.turn now all_started.on.progress.settled pending.finishes pending.idle
-                  kept_filled.finishes kept_filled.manned none,
-              λ other number before. not_before m other there waits number before,
-            ))
-            (λ (none : pending.ready ≡ []). absurd (none_there m (subst (λ xs. Contains xs m) none there)))
-            over
+            elim over [
+              | inl none ↦ (
+                all_run load forward (start_of placed.starts) (worker_of placed.seats) now h.turn now all_started.on.progress.settled pending.finishes pending.idle
+                    kept_filled.finishes kept_filled.manned none,
+                λ other number before. not_before m other there waits number before,
+              )
+              | inr none ↦ absurd (none_there m (rw none at there))
+            ]
 
         pub filled : GoesOn load old placed now (work.count + 1) (now + 1)
         filled = record {

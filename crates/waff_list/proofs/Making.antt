@@ -1,5 +1,5 @@
 -- A list plan while it is made: one message more is placed, the tick has been filled, and the next tick begins.
-use Rattle.std.proofs.Common.{◌≡◌, ◌≢◌, ℕ, zero, suc, ◌+◌, ◌-◌, ◌^◌, ◌<◌, ◌≤◌, ◌⊎◌, inl, inr, false, List, [], ◌∷◌, ◌++◌, length, map, get_or, set, replicate, All, Contains, arith, ap, sym, ◌∙◌, subst, ⊎_elim, get_or-set_same, get_or-set_other, length-set}
+use Rattle.std.proofs.Common.{◌≡◌, ◌≢◌, ℕ, zero, suc, ◌+◌, ◌-◌, ◌^◌, ◌<◌, ◌≤◌, ◌⊎◌, inl, inr, List, [], ◌∷◌, ◌++◌, length, map, get_or, set, replicate, All, Contains, arith, ap, sym, ◌∙◌, subst, get_or-set_same, get_or-set_other, length-set}
 use Rattle.std.specs.List.Sorted.{IsPermutation}
 use Rattle.std.proofs.lemmas.Bool.{cases_lt, cases_eq}
 use Rattle.std.proofs.lemmas.List.{get_or-replicate, length-replicate}
@@ -27,18 +27,11 @@ pub record IsMovedTo (old new : ℕ → ℕ) (x y : ℕ) : Type 0 where
 
 -- what holds a worker still does, where both start as before
 holds_same : (work : Work) (start later : ℕ → ℕ) (i m : ℕ) → start i ≡ later i → start m ≡ later m → HoldsWorker work start i m → HoldsWorker work later i m
-holds_same work start later i m same_i same_m h =
-    let parts : (start i ≤ start m) × (start m < start i + work.cost i) = runs_parts work start (start m) i h.runs in
-    let begun : start i ≤ start m = parts.0 in
-    let still : start m < start i + work.cost i = parts.1 in
-    record {
-      number = h.number;
-      sooner = ⊎_elim {C = ComesBefore later i m}
-          (λ (before : start i < start m). inl (omega arith))
-          (λ (both : (start i ≡ start m) × (i < m)). inr (omega (arith, both.0), both.1))
-          h.sooner;
-      runs = runs_from work later (later m) i (omega arith) (omega arith);
-    }
+holds_same work start later i m same_i same_m h = record {
+  number = h.number;
+  sooner = rw (same_i, same_m) at h.sooner;
+  runs = rw (same_i, same_m) at h.runs;
+}
 
 module _ (load : Load) (forward : IsForward (before_in load) load.work) where
   abbrev work : Work
@@ -56,30 +49,23 @@ module _ (load : Load) (forward : IsForward (before_in load) load.work) where
   -- messages that run have been placed, so they have their workers
   pub seated_at : (start worker : ℕ → ℕ) (now turn end t : ℕ) → IsSettled load start worker now turn end → t ≤ now → AreSeatedAt work k start worker t
   seated_at start worker now turn end t h early = record {
-    seated = λ m number runs. let begun = runs_parts work start t m runs in let at : start m ≤ t = begun.0 in h.seated m number (omega arith);
-    within = λ m number runs. let begun = runs_parts work start t m runs in let at : start m ≤ t = begun.0 in h.within m number (omega arith);
+    seated = λ m number runs. h.seated m number (omega (arith, (runs_parts work start t m runs).0));
+    within = λ m number runs. h.within m number (omega (arith, (runs_parts work start t m runs).0));
   }
 
   -- the first of a pair is a message
   pub first_number : (i j : ℕ) → before i j → IsNumber work i
-  first_number i j h =
-      let from : 1 ≤ i = forward.from i j h in
-      let earlier : i < j = forward.earlier i j h in
-      let to : j ≤ work.count = forward.to i j h in
-      record { from = from; to = omega arith }
+  first_number i j h = record { from = forward.from i j h; to = omega (arith, forward.earlier i j h, forward.to i j h) }
 
   pub second_number : (i j : ℕ) → before i j → IsNumber work j
-  second_number i j h =
-      let from : 1 ≤ i = forward.from i j h in
-      let earlier : i < j = forward.earlier i j h in
-      record { from = omega arith; to = forward.to i j h }
+  second_number i j h = record { from = omega (arith, forward.from i j h, forward.earlier i j h); to = forward.to i j h }
 
   -- the turn goes on
   pub settled_skip : (start worker : ℕ → ℕ) (now turn next end : ℕ) → turn ≤ next
       → IsSettled load start worker now turn end → IsSettled load start worker now next end
   settled_skip start worker now turn next end on h = record {
     placed = h.placed;
-    turns = λ m number is. let there = h.turns m number is in omega (arith, there);
+    turns = λ m number is. omega (arith, h.turns m number is);
     released = h.released;
     ordered = h.ordered;
     seated = h.seated;
@@ -103,20 +89,14 @@ module _ (load : Load) (forward : IsForward (before_in load) load.work) where
     ordered = h.ordered;
     seated = h.seated;
     within = h.within;
-    busy = λ t m soon ready waits. ⊎_elim {C = running work start t ≡ k}
-        (λ (past : t < now). h.busy t m past ready waits)
-        (λ (here : now ≤ t).
-        let same : t ≡ now = omega arith in
-        let at = over m (subst (λ x. IsReady before work start x m) same ready) (subst (λ x. x < start m) same waits) in
-        subst (λ x. running work start x ≡ k) (sym same) at.0)
-        (cases_lt t now);
-    in_turn = λ t m other soon ready waits number first is. ⊎_elim {C = ⊥}
-        (λ (past : t < now). h.in_turn t m other past ready waits number first is)
-        (λ (here : now ≤ t).
-        let same : t ≡ now = omega arith in
-        let at = over m (subst (λ x. IsReady before work start x m) same ready) (subst (λ x. x < start m) same waits) in
-        at.1 other number first (is ∙ same))
-        (cases_lt t now);
+    busy = λ t m soon ready waits. elim (cases_lt t now) [
+      | inl past ↦ h.busy t m past ready waits
+      | inr here ↦ let same : t ≡ now = omega arith in rw same ((over m (rw same at ready) (rw same at waits)).0)
+    ];
+    in_turn = λ t m other soon ready waits number first is. elim (cases_lt t now) [
+      | inl past ↦ h.in_turn t m other past ready waits number first is
+      | inr here ↦ let same : t ≡ now = omega arith in (over m (rw same at ready) (rw same at waits)).1 other number first (is ∙ same)
+    ];
   }
 
   -- from one tick to the next at which a message finishes or is released
@@ -125,87 +105,66 @@ module _ (load : Load) (forward : IsForward (before_in load) load.work) where
       → ((m : ℕ) → IsNumber work m → (work.release m ≤ now) ⊎ (next ≤ work.release m))
       → IsSettled load start worker now (work.count + 1) (now + 1) → IsSettled load start worker next 1 next
   settled_advance start worker now next later short finishes releases h =
-      let back = λ (m : ℕ) (number : IsNumber work m) (is : start m ≤ next).
-      ⊎_elim {C = start m ≤ now}
-      (λ (early : start m ≤ now). early)
-      (λ (never : start m ≡ NEVER). absurd (omega arith))
-      (h.placed m number) in
+      let back : (m : ℕ) → IsNumber work m → start m ≤ next → start m ≤ now = λ m number is. elim (h.placed m number) [ inl early ↦ early | inr never ↦ absurd (omega arith) ] in
       record {
-        placed = λ m number. ⊎_elim {C = (start m ≤ next) ⊎ (start m ≡ NEVER)}
-            (λ (early : start m ≤ now). inl (omega arith)) (λ (never : start m ≡ NEVER). inr never) (h.placed m number);
-        turns = λ m number is. let early : start m ≤ now = back m number (omega arith) in absurd (omega arith);
+        placed = λ m number. elim (h.placed m number) [ inl early ↦ inl (omega arith) | inr never ↦ inr never ];
+        turns = λ m number is. absurd (omega (arith, back m number (omega (arith, is))));
         released = λ m number is. h.released m number (back m number is);
         ordered = λ i j pair is. h.ordered i j pair (back j (second_number i j pair) is);
         seated = λ m number is. h.seated m number (back m number is);
         within = λ m number is. h.within m number (back m number is);
-        busy = λ t m soon ready waits. busy_between t m soon ready waits;
-        in_turn = λ t m other soon ready waits number first is. ⊎_elim {C = ⊥}
-            (λ (old : t < now + 1). h.in_turn t m other old ready waits number first is)
-            (λ (new : now + 1 ≤ t). let early : start other ≤ now = back other number (omega arith) in omega arith)
-            (cases_lt t (now + 1));
+        busy = busy_between;
+        in_turn = λ t m other soon ready waits number first is. elim (cases_lt t (now + 1)) [
+          | inl old ↦ h.in_turn t m other old ready waits number first is
+          | inr new ↦ omega (arith, back other number (omega (arith, is)))
+        ];
       }
     where
       ready_at_now : (t m : ℕ) → now ≤ t → t < next → IsReady before work start t m → IsReady before work start now m
       ready_at_now t m from_now before_next ready = record {
         number = ready.number;
-        released = let released : work.release m ≤ t = ready.released in
-            ⊎_elim {C = work.release m ≤ now} (λ (early : work.release m ≤ now). early) (λ (late : next ≤ work.release m). absurd (omega arith))
-            (releases m ready.number);
-        free = λ i pair. let done : finish_of work start i ≤ t = ready.free i pair in
-            ⊎_elim {C = finish_of work start i ≤ now} (λ (early : finish_of work start i ≤ now). early)
-            (λ (late : next ≤ finish_of work start i). absurd (omega arith))
-            (finishes i (first_number i m pair));
+        released = elim (releases m ready.number) [ inl early ↦ early | inr late ↦ absurd (omega (arith, ready.released)) ];
+        free = λ i pair. elim (finishes i (first_number i m pair)) [ inl early ↦ early | inr late ↦ absurd (omega (arith, ready.free i pair)) ];
       }
 
       runs_like_now : (t m : ℕ) → now ≤ t → t < next → IsNumber work m → runs_at work start t m ≡ runs_at work start now m
-      runs_like_now t m from_now before_next number =
-          ⊎_elim {C = runs_at work start t m ≡ runs_at work start now m}
-          (λ (done : finish_of work start m ≤ now).
-          runs_after_finish work start t m (omega arith) ∙ sym (runs_after_finish work start now m done))
-          (λ (still : next ≤ finish_of work start m).
-          ⊎_elim {C = runs_at work start t m ≡ runs_at work start now m}
-          (λ (begun : start m ≤ now). runs_from work start t m (omega arith) (omega arith) ∙ sym (runs_from work start now m begun (omega arith)))
-          (λ (never : start m ≡ NEVER). runs_before_start work start t m (omega arith) ∙ sym (runs_before_start work start now m (omega arith)))
-          (h.placed m number))
-          (finishes m number)
+      runs_like_now t m from_now before_next number = elim (finishes m number) [
+        | inl done ↦ runs_after_finish work start t m (omega arith) ∙ sym (runs_after_finish work start now m done)
+        | inr still ↦ elim (h.placed m number) [
+          | inl begun ↦ runs_from work start t m (omega arith) (omega arith) ∙ sym (runs_from work start now m begun (omega arith))
+          | inr never ↦ runs_before_start work start t m (omega arith) ∙ sym (runs_before_start work start now m (omega arith))
+        ]
+      ]
 
       busy_between : (t m : ℕ) → t < next → IsReady before work start t m → t < start m → running work start t ≡ k
-      busy_between t m past ready waits =
-          ⊎_elim {C = running work start t ≡ k}
-          (λ (old : t < now). h.busy t m (omega arith) ready waits)
-          (λ (new : now ≤ t).
-          let number : IsNumber work m = ready.number in
-          let bound : m ≤ work.count = number.to in
-          running_same work start start t now (λ i i_number. runs_like_now t i new past i_number)
-          ∙ h.busy now m (omega arith) (ready_at_now t m new past ready) (omega arith))
-          (cases_lt t now)
+      busy_between t m past ready waits = elim (cases_lt t now) [
+        | inl old ↦ h.busy t m (omega arith) ready waits
+        | inr new ↦ running_same work start start t now (λ i i_number. runs_like_now t i new past i_number)
+            ∙ h.busy now m (omega arith) (ready_at_now t m new past ready) (omega arith)
+      ]
 
   -- where no message finishes or is released later, all are placed
   pub settled_all : (start worker : ℕ → ℕ) (now : ℕ) → 1 ≤ k → now < NEVER → ((m : ℕ) → IsNumber work m → start m ≤ now → finish_of work start m ≤ now)
       → ((m : ℕ) → IsNumber work m → work.release m ≤ now) → IsSettled load start worker now (work.count + 1) (now + 1)
       → (bound m : ℕ) → m < bound → IsNumber work m → start m ≤ now
   settled_all start worker now some short finishes releases h zero m less number = absurd (omega arith)
-  settled_all start worker now some short finishes releases h (suc bound) m less number =
-      ⊎_elim {C = start m ≤ now}
-      (λ (early : start m ≤ now). early)
-      (λ (never : start m ≡ NEVER).
-      let ready : IsReady before work start now m = record {
-        number = number;
-        released = releases m number;
-        free = λ i pair.
-            let first = first_number i m pair in
-            let sooner : i < m = forward.earlier i m pair in
-            finishes i first (settled_all start worker now some short finishes releases h bound i (omega arith) first);
-      } in
-      let to : m ≤ work.count = number.to in
-      let full : running work start now ≡ k = h.busy now m (omega arith) ready (omega arith) in
-      let none : running work start now ≡ 0 = running_none work start now
-      (λ i i_number. ⊎_elim {C = runs_at work start now i ≡ false}
-      (λ (early : start i ≤ now). runs_after_finish work start now i (finishes i i_number early))
-      (λ (other : start i ≡ NEVER). runs_before_start work start now i (omega arith))
-      (h.placed i i_number)) in
-      absurd (omega arith))
-      (h.placed m number)
+  settled_all start worker now some short finishes releases h (suc bound) m less number = elim (h.placed m number) [
+    | inl early ↦ early
+    | inr never ↦
+        let ready : IsReady before work start now m = record {
+          number = number;
+          released = releases m number;
+          free = λ i pair.
+              let first = first_number i m pair in
+              finishes i first (settled_all start worker now some short finishes releases h bound i (omega (arith, forward.earlier i m pair)) first);
+        } in
+        let full = h.busy now m (omega arith) ready (omega arith) in
+        let none = running_none work start now (λ i i_number. elim (h.placed i i_number) [
+          | inl early ↦ runs_after_finish work start now i (finishes i i_number early)
+          | inr other ↦ runs_before_start work start now i (omega arith)
+        ]) in
+        absurd (omega (arith, full, none))
+  ]
 
   -- the plan in which all messages are placed is a list plan
   pub settled_plan : (start worker : ℕ → ℕ) (now : ℕ) → ((m : ℕ) → IsNumber work m → start m ≤ now)
@@ -228,7 +187,7 @@ module _ (load : Load) (forward : IsForward (before_in load) load.work) where
   }
     where
       soon : (t m : ℕ) → IsReady before work start t m → t < start m → t < now + 1
-      soon t m ready waits = let early : start m ≤ now = all m ready.number in omega arith
+      soon t m ready waits = omega (arith, waits, all m ready.number)
 
   -- the worker of a message that runs, and where a worker is idle and where none is
   module _ (start worker : ℕ → ℕ) (now : ℕ) (finishes : List (ℕ × ℕ)) (run : AreFinishes work start now finishes) where
@@ -273,7 +232,7 @@ module _ (load : Load) (forward : IsForward (before_in load) load.work) where
       (moved : IsMovedTo start later x now) (sat : IsMovedTo worker seats x w)
       (unplaced : now < start x) (settled : IsSettled load start worker now x now) where
     never : start x ≡ NEVER
-    never = ⊎_elim {C = start x ≡ NEVER} (λ (early : start x ≤ now). absurd (omega arith)) (λ (is : start x ≡ NEVER). is) (settled.placed x number)
+    never = elim (settled.placed x number) [ inl early ↦ absurd (omega arith) | inr is ↦ is ]
 
     kept : (m : ℕ) → IsNumber work m → m ≢ x → later m ≡ start m
     kept m m_number other = moved.others m m_number.from other
@@ -286,180 +245,133 @@ module _ (load : Load) (forward : IsForward (before_in load) load.work) where
 
     -- what was placed is another message
     pub placed_is_other : (m : ℕ) → start m ≤ now → m ≢ x
-    placed_is_other m early same = let at : start m ≡ start x = ap start same in omega arith
+    placed_is_other m early same = omega (arith, ap start same)
 
     -- and comes before x
     before_x : (m : ℕ) → IsNumber work m → start m ≤ now → ComesBefore later m x
-    before_x m m_number early =
-        let m_at : later m ≡ start m = kept m m_number (placed_is_other m early) in
-        ⊎_elim {C = ComesBefore later m x}
-        (λ (sooner : start m < now). inl (omega (arith, at_x)))
-        (λ (late : now ≤ start m). inr (omega (arith, at_x), settled.turns m m_number (omega arith)))
-        (cases_lt (start m) now)
+    before_x m m_number early = elim (cases_lt (start m) now) [
+      | inl sooner ↦ inl (rw (kept m m_number (placed_is_other m early), at_x) sooner)
+      | inr late ↦ inr (omega (arith, kept m m_number (placed_is_other m early), at_x), settled.turns m m_number (omega arith))
+    ]
 
     -- what starts by now is x or was placed
     pub placed_cases : (m : ℕ) → IsNumber work m → later m ≤ now → (m ≡ x) ⊎ ((m ≢ x) × (start m ≤ now))
-    placed_cases m m_number early =
-        ⊎_elim {C = (m ≡ x) ⊎ ((m ≢ x) × (start m ≤ now))}
-        (λ (same : m ≡ x). inl same)
-        (λ (other : m ≢ x). let at : later m ≡ start m = kept m m_number other in inr (other, omega arith))
-        (cases_eq m x)
+    placed_cases m m_number early = elim (cases_eq m x) [
+      | inl same ↦ inl same
+      | inr other ↦ inr (other, rw (kept m m_number other) at early)
+    ]
 
     -- a message that holds its worker when one that was placed starts is not x
     holder_is_other : (i m : ℕ) → IsNumber work m → start m ≤ now → HoldsWorker work later i m → i ≢ x
     holder_is_other i m m_number early holds same =
-        let m_at : later m ≡ start m = kept m m_number (placed_is_other m early) in
+        let m_at = kept m m_number (placed_is_other m early) in
         let i_at : later i ≡ now = ap later same ∙ at_x in
-        ⊎_elim {C = ⊥}
-        (λ (sooner : later i < later m). omega arith)
-        (λ (both : (later i ≡ later m) × (i < m)).
-        let at_now : later i ≡ later m = both.0 in
-        let less : i < m = both.1 in
-        let turn : m < x = settled.turns m m_number (omega arith) in
-        omega arith)
-        holds.sooner
+        elim holds.sooner [
+          | inl sooner ↦ omega (arith, m_at)
+          | inr both ↦ omega (arith, same, both.1, settled.turns m m_number (omega (arith, m_at, i_at, both.0)))
+        ]
 
     -- those that were placed keep their workers
     pub seated_kept : (m : ℕ) → IsNumber work m → start m ≤ now → IsSeated work later seats m
     seated_kept m m_number early =
         let other = placed_is_other m early in
         let seat = settled.seated m m_number early in
-        let m_at : later m ≡ start m = kept m m_number other in
-        let m_seat : seats m ≡ worker m = kept_seat m m_number other in
+        let m_at = kept m m_number other in
         record {
-          from = let some : 1 ≤ worker m = seat.from in omega arith;
+          from = rw (kept_seat m m_number other) seat.from;
           free = λ i holds same.
-              let i_number = holds.number in
               let i_other = holder_is_other i m m_number early holds in
-              let i_at : later i ≡ start i = kept i i_number i_other in
-              let i_seat : seats i ≡ worker i = kept_seat i i_number i_other in
-              seat.free i (holds_same work later start i m i_at m_at holds) (sym i_seat ∙ same ∙ m_seat);
+              seat.free i (holds_same work later start i m (kept i holds.number i_other) m_at holds)
+              (sym (kept_seat i holds.number i_other) ∙ same ∙ kept_seat m m_number other);
           least = λ v some less.
-              let there = seat.least v some (omega arith) in
+              let there = seat.least v some (rw (kept_seat m m_number other) at less) in
               let i = there.0 in
               let holds = there.1 in
-              let begun = runs_parts work start (start m) i holds.runs in
-              let i_early : start i ≤ start m = begun.0 in
-              let i_other = placed_is_other i (omega arith) in
+              let i_other = placed_is_other i (omega (arith, early, (runs_parts work start (start m) i holds.runs).0)) in
               (i, holds_same work start later i m (sym (kept i holds.number i_other)) (sym m_at) holds, kept_seat i holds.number i_other ∙ there.2);
         }
 
     -- what is ready in the new plan by now, and waits, was ready and waited
     pub ready_back : (t m : ℕ) → t ≤ now → IsReady before work later t m → t < later m → IsReady before work start t m × (t < start m)
-    ready_back t m early ready waits =
-        let m_number = ready.number in
-        let still : t < start m = ⊎_elim {C = t < start m}
-        (λ (same : m ≡ x). let at : start m ≡ NEVER = ap start same ∙ never in omega arith)
-        (λ (other : m ≢ x). let at : later m ≡ start m = kept m m_number other in omega arith)
-        (cases_eq m x) in (
-          record {
-            number = m_number;
-            released = ready.released;
-            free = λ i pair.
-                let i_number = first_number i m pair in
-                let done : later i + work.cost i ≤ t = ready.free i pair in
-                ⊎_elim {C = start i + work.cost i ≤ t}
-                (λ (same : i ≡ x).
-                let at : later i ≡ now = ap later same ∙ at_x in
-                let some : 1 ≤ work.cost i = subst (λ y. 1 ≤ work.cost y) (sym same) cost in
-                absurd (omega arith))
-                (λ (other : i ≢ x). let at : later i ≡ start i = kept i i_number other in omega arith)
-                (cases_eq i x);
-          },
-          still,
-        )
+    ready_back t m early ready waits = (
+      record {
+        number = ready.number;
+        released = ready.released;
+        free = λ i pair. elim (cases_eq i x) [
+          | inl same ↦ absurd (omega (arith, rw (same, at_x) at (ready.free i pair), cost))
+          | inr other ↦ rw (kept i (first_number i m pair) other) at (ready.free i pair)
+        ];
+      },
+      elim (cases_eq m x) [
+        | inl same ↦ omega (arith, ap start same, never)
+        | inr other ↦ rw (kept m ready.number other) at waits
+      ],
+    )
 
     running_back : (t : ℕ) → t < now → running work later t ≡ running work start t
-    running_back t early = running_same work later start t t (λ m m_number.
-        ⊎_elim {C = runs_at work later t m ≡ runs_at work start t m}
-        (λ (same : m ≡ x).
-        let at : later m ≡ now = ap later same ∙ at_x in
-        let was : start m ≡ NEVER = ap start same ∙ never in
-        runs_before_start work later t m (omega arith) ∙ sym (runs_before_start work start t m (omega arith)))
-        (λ (other : m ≢ x). runs_same work later start t m (kept m m_number other))
-        (cases_eq m x))
+    running_back t early = running_same work later start t t (λ m m_number. elim (cases_eq m x) [
+      | inl same ↦ runs_before_start work later t m (omega (arith, ap later same, at_x)) ∙ sym (runs_before_start work start t m (omega (arith, ap start same, never)))
+      | inr other ↦ runs_same work later start t m (kept m m_number other)
+    ])
 
     -- x is placed at now on the worker w, where fewer than k ran
     pub settled_place : work.release x ≤ now → ((i : ℕ) → before i x → finish_of work start i ≤ now) → running work start now < k
         → IsSeated work later seats x → w ≤ k → IsSettled load later seats now (x + 1) now
     settled_place released free room seat within = record {
-      placed = λ m m_number. ⊎_elim {C = (later m ≤ now) ⊎ (later m ≡ NEVER)}
-          (λ (same : m ≡ x). let at : later m ≡ now = ap later same ∙ at_x in inl (omega arith))
-          (λ (other : m ≢ x). subst (λ s. (s ≤ now) ⊎ (s ≡ NEVER)) (sym (kept m m_number other)) (settled.placed m m_number))
-          (cases_eq m x);
-      turns = λ m m_number is. ⊎_elim {C = m < x + 1}
-          (λ (same : m ≡ x). omega arith)
-          (λ (other : m ≢ x). let turn : m < x = settled.turns m m_number (sym (kept m m_number other) ∙ is) in omega arith)
-          (cases_eq m x);
-      released = λ m m_number early. ⊎_elim {C = work.release m ≤ later m}
-          (λ (same : m ≡ x). subst (λ y. work.release y ≤ later y) (sym same) (subst (λ s. work.release x ≤ s) (sym at_x) released))
-          (λ (both : (m ≢ x) × (start m ≤ now)).
-          let at : later m ≡ start m = kept m m_number both.0 in
-          let there : work.release m ≤ start m = settled.released m m_number both.1 in
-          omega arith)
-          (placed_cases m m_number early);
+      placed = λ m m_number. elim (cases_eq m x) [
+        | inl same ↦ inl (omega (arith, ap later same, at_x))
+        | inr other ↦ rw (kept m m_number other) (settled.placed m m_number)
+      ];
+      turns = λ m m_number is. elim (cases_eq m x) [
+        | inl same ↦ omega arith
+        | inr other ↦ omega (arith, settled.turns m m_number (sym (kept m m_number other) ∙ is))
+      ];
+      released = λ m m_number early. elim (placed_cases m m_number early) [
+        | inl same ↦ rw (same, at_x) released
+        | inr both ↦ rw (kept m m_number both.0) (settled.released m m_number both.1)
+      ];
       ordered = λ i j pair early.
           let i_number = first_number i j pair in
-          let j_number = second_number i j pair in
-          let sooner : i < j = forward.earlier i j pair in
-          ⊎_elim {C = later i + work.cost i ≤ later j}
-          (λ (same : j ≡ x).
-          let i_other : i ≢ x = omega arith in
-          let i_at : later i ≡ start i = kept i i_number i_other in
-          let j_at : later j ≡ now = ap later same ∙ at_x in
-          let done : start i + work.cost i ≤ now = free i (subst (λ y. before i y) same pair) in
-          omega arith)
-          (λ (both : (j ≢ x) × (start j ≤ now)).
-          let there : start i + work.cost i ≤ start j = settled.ordered i j pair both.1 in
-          let j_early : start j ≤ now = both.1 in
-          let i_early : start i ≤ now = omega arith in
-          let i_at : later i ≡ start i = kept i i_number (placed_is_other i i_early) in
-          let j_at : later j ≡ start j = kept j j_number both.0 in
-          omega arith)
-          (placed_cases j j_number early);
-      seated = λ m m_number early. ⊎_elim {C = IsSeated work later seats m}
-          (λ (same : m ≡ x). subst (λ y. IsSeated work later seats y) (sym same) seat)
-          (λ (both : (m ≢ x) × (start m ≤ now)). seated_kept m m_number both.1)
-          (placed_cases m m_number early);
-      within = λ m m_number early. ⊎_elim {C = seats m ≤ k}
-          (λ (same : m ≡ x). let at : seats m ≡ w = ap seats same ∙ sat.here in omega arith)
-          (λ (both : (m ≢ x) × (start m ≤ now)).
-          let at : seats m ≡ worker m = kept_seat m m_number both.0 in
-          let there : worker m ≤ k = settled.within m m_number both.1 in
-          omega arith)
-          (placed_cases m m_number early);
+          elim (placed_cases j (second_number i j pair) early) [
+            | inl same ↦ rw (kept i i_number (omega (arith, forward.earlier i j pair)), same, at_x) (free i (rw same at pair))
+            | inr both ↦
+                let there = settled.ordered i j pair both.1 in
+                rw (kept i i_number (placed_is_other i (omega (arith, there, both.1))), kept j (second_number i j pair) both.0) there
+          ];
+      seated = λ m m_number early. elim (placed_cases m m_number early) [
+        | inl same ↦ rw same seat
+        | inr both ↦ seated_kept m m_number both.1
+      ];
+      within = λ m m_number early. elim (placed_cases m m_number early) [
+        | inl same ↦ rw (same, sat.here) within
+        | inr both ↦ rw (kept_seat m m_number both.0) (settled.within m m_number both.1)
+      ];
       busy = λ t m soon ready waits.
           let was = ready_back t m (omega arith) ready waits in
           running_back t soon ∙ settled.busy t m soon was.0 was.1;
       in_turn = λ t m other soon ready waits other_number first is.
           let was = ready_back t m (omega arith) ready waits in
-          ⊎_elim {C = ⊥}
-          (λ (same : other ≡ x). let at : later other ≡ now = ap later same ∙ at_x in omega arith)
-          (λ (apart : other ≢ x). settled.in_turn t m other soon was.0 was.1 other_number first (sym (kept other other_number apart) ∙ is))
-          (cases_eq other x);
+          elim (cases_eq other x) [
+            | inl same ↦ omega (arith, ap later same, at_x)
+            | inr apart ↦ settled.in_turn t m other soon was.0 was.1 other_number first (sym (kept other other_number apart) ∙ is)
+          ];
     }
 
     order_more : (order : List ℕ) → IsOrderSoFar work start now order → IsOrderSoFar work later now (order ++ x ∷ [])
     order_more order h = record {
       messages = All-push (λ m. IsNumber work m × (later m ≤ now)) order x
           (All-weaker (λ m. IsNumber work m × (start m ≤ now)) (λ m. IsNumber work m × (later m ≤ now))
-          (λ m there. let at : later m ≡ start m = kept m there.0 (placed_is_other m there.1) in let early : start m ≤ now = there.1 in (there.0, omega arith)) order h.messages)
+          (λ m there. (there.0, rw (kept m there.0 (placed_is_other m there.1)) there.1)) order h.messages)
           (number, omega (arith, at_x));
-      each = λ m m_number early. ⊎_elim {C = Contains (order ++ x ∷ []) m}
-          (λ (same : m ≡ x). subst (λ y. Contains (order ++ x ∷ []) y) (sym same) (Contains-push order x))
-          (λ (both : (m ≢ x) × (start m ≤ now)). Contains-append_left order (x ∷ []) m (h.each m m_number both.1))
-          (placed_cases m m_number early);
+      each = λ m m_number early. elim (placed_cases m m_number early) [
+        | inl same ↦ rw same (Contains-push order x)
+        | inr both ↦ Contains-append_left order (x ∷ []) m (h.each m m_number both.1)
+      ];
       sorted = all_pairs_push (ComesBefore later) order x
           (λ i j d less inside.
           let first = All-get_or (λ m. IsNumber work m × (start m ≤ now)) order i d (omega arith) h.messages in
           let second = All-get_or (λ m. IsNumber work m × (start m ≤ now)) order j d inside h.messages in
-          let a = get_or order i d in
-          let b = get_or order j d in
-          let first_at : later a ≡ start a = kept a first.0 (placed_is_other a first.1) in
-          let second_at : later b ≡ start b = kept b second.0 (placed_is_other b second.1) in
-          ⊎_elim {C = ComesBefore later a b}
-          (λ (sooner : start a < start b). inl (omega arith))
-          (λ (both : (start a ≡ start b) × (a < b)). inr (omega (arith, both.0), both.1))
+          rw (kept (get_or order i d) first.0 (placed_is_other (get_or order i d) first.1), kept (get_or order j d) second.0 (placed_is_other (get_or order j d) second.1))
           (h.sorted i j d less inside))
           (λ i d inside.
           let first = All-get_or (λ m. IsNumber work m × (start m ≤ now)) order i d inside h.messages in
@@ -470,51 +382,42 @@ module _ (load : Load) (forward : IsForward (before_in load) load.work) where
     seated_here : (finishes : List (ℕ × ℕ)) (idle : List ℕ) → AreFinishes work start now finishes
         → AreEach (IsAmongFirst k) ((w ∷ idle) ++ map (λ r. worker r.1) finishes) → ((v : ℕ) → Contains idle v → w ≤ v) → IsSeated work later seats x
     seated_here finishes idle run manned smallest =
-        let at_w : seats x ≡ w = sat.here in
-        let w_known = manned.only w (contains_first w (idle ++ map (λ r. worker r.1) finishes)) in
+        let run_at = λ (r : ℕ × ℕ). worker r.1 in
+        let w_known = manned.only w (contains_first w (idle ++ map run_at finishes)) in
         record {
-          from = let some : 1 ≤ w = w_known.from in omega arith;
+          from = rw sat.here w_known.from;
           free = λ i holds same.
-              let parts : (later i ≤ later x) × (later x < later i + work.cost i) = runs_parts work later (later x) i holds.runs in
-              let begun : later i ≤ later x = parts.0 in
-              let still : later x < later i + work.cost i = parts.1 in
-              ⊎_elim {C = ⊥}
-              (λ (is_x : i ≡ x). ⊎_elim {C = ⊥}
-              (λ (sooner : later i < later x). let at : later i ≡ later x = ap later is_x in omega arith)
-              (λ (both : (later i ≡ later x) × (i < x)). omega (arith, both.1))
-              holds.sooner)
-              (λ (both : (i ≢ x) × (start i ≤ now)).
-              let i_at : later i ≡ start i = kept i holds.number both.0 in
-              let i_seat : worker i ≡ w = sym (kept_seat i holds.number both.0) ∙ same ∙ at_w in
-              each_apart (IsAmongFirst k) (w ∷ idle) (map (λ r. worker r.1) finishes) manned w (contains_first w idle)
-              (subst (λ v. Contains (map (λ r. worker r.1) finishes) v) i_seat (its_worker start worker now finishes run i holds.number both.1 (omega arith))))
-              (placed_cases i holds.number (omega arith));
+              let parts = runs_parts work later (later x) i holds.runs in
+              elim (placed_cases i holds.number (omega (arith, parts.0, at_x))) [
+                | inl is_x ↦ elim holds.sooner [
+                  | inl sooner ↦ omega (arith, ap later is_x)
+                  | inr both ↦ omega (arith, both.1)
+                ]
+                | inr both ↦ each_apart (IsAmongFirst k) (w ∷ idle) (map run_at finishes) manned w (contains_first w idle)
+                    (rw (sym (kept_seat i holds.number both.0) ∙ same ∙ sat.here) at
+                    (its_worker start worker now finishes run i holds.number both.1 (omega (arith, parts.1, at_x, kept i holds.number both.0))))
+              ];
           least = λ v some less.
-              let to : w ≤ k = w_known.to in
-              let there = each_there (IsAmongFirst k) ((w ∷ idle) ++ map (λ r. worker r.1) finishes) manned v (record { from = some; to = omega arith }) in
-              ⊎_elim {C = (i : ℕ) × HoldsWorker work later i x × (seats i ≡ v)}
-              (λ (free : Contains (w ∷ idle) v). ⊎_elim {C = (i : ℕ) × HoldsWorker work later i x × (seats i ≡ v)}
-              (λ (behind : Contains idle v). let no_less : w ≤ v = smallest v behind in absurd (omega arith))
-              (λ (same : v ≡ w). absurd (omega arith))
-              (contains_rest_of w v idle free))
-              (λ (busy : Contains (map (λ r. worker r.1) finishes) v).
-              let one = contains_mapped (λ r. worker r.1) finishes v busy in
-              let m = one.0.1 in
-              let runs = All-contains (Runs work start now) finishes one.0 run.only one.1 in
-              let m_number : IsNumber work m = runs.0 in
-              let early : start m ≤ now = runs.1 in
-              let late : now < one.0.0 = runs.2 in
-              let finish : start m + work.cost m ≡ one.0.0 = runs.3 in
-              let m_at : later m ≡ start m = kept m m_number (placed_is_other m early) in (
-                m,
-                record {
-                  number = m_number;
-                  sooner = before_x m m_number early;
-                  runs = runs_from work later (later x) m (omega arith) (omega arith);
-                },
-                kept_seat m m_number (placed_is_other m early) ∙ one.2,
-              ))
-              (Contains-append_cases (w ∷ idle) (map (λ r. worker r.1) finishes) v there);
+              let there = each_there (IsAmongFirst k) ((w ∷ idle) ++ map run_at finishes) manned v (record { from = some; to = omega (arith, sat.here, less, w_known.to) }) in
+              elim (Contains-append_cases (w ∷ idle) (map run_at finishes) v there) [
+                | inl free ↦ elim (contains_rest_of w v idle free) [
+                  | inl behind ↦ absurd (omega (arith, smallest v behind, sat.here, less))
+                  | inr same ↦ absurd (omega (arith, sat.here, less))
+                ]
+                | inr busy ↦
+                    let one = contains_mapped run_at finishes v busy in
+                    let m = one.0.1 in
+                    let runs = All-contains (Runs work start now) finishes one.0 run.only one.1 in
+                    let m_at = kept m runs.0 (placed_is_other m runs.1) in (
+                      m,
+                      record {
+                        number = runs.0;
+                        sooner = before_x m runs.0 runs.1;
+                        runs = runs_from work later (later x) m (omega (arith, m_at, at_x, runs.1)) (omega (arith, m_at, at_x, runs.2, runs.3));
+                      },
+                      kept_seat m runs.0 (placed_is_other m runs.1) ∙ one.2,
+                    )
+              ];
         }
 
   -- a message is placed on the least worker that is idle
@@ -525,10 +428,10 @@ module _ (load : Load) (forward : IsForward (before_in load) load.work) where
     more_placed = record { starts = set placed.starts (x - 1) now; seats = set placed.seats (x - 1) w; order = placed.order ++ x ∷ [] }
 
     pub moved_here : IsMovedTo (start_of placed.starts) (start_of more_placed.starts) x now
-    moved_here = let starts_long : length placed.starts ≡ work.count = h.starts_count in moved_by_set placed.starts x now number.from (omega (arith, number.to))
+    moved_here = moved_by_set placed.starts x now number.from (omega (arith, number.to, h.starts_count))
 
     seated_there : IsMovedTo (worker_of placed.seats) (worker_of more_placed.seats) x w
-    seated_there = let seats_long : length placed.seats ≡ work.count = h.seats_count in moved_by_set placed.seats x w number.from (omega (arith, number.to))
+    seated_there = moved_by_set placed.seats x w number.from (omega (arith, number.to, h.seats_count))
 
     pub progress_place : work.release x ≤ now → ((i : ℕ) → before i x → finish_of work (start_of placed.starts) i ≤ now) → IsProgress load more_placed now (x + 1) now
     progress_place released free =
@@ -550,10 +453,7 @@ module _ (load : Load) (forward : IsForward (before_in load) load.work) where
     manned_place more pushed =
         let kept : All (λ (r : ℕ × ℕ). worker_of placed.seats r.1 ≡ worker_of more_placed.seats r.1) finishes
         = All-weaker (Runs work (start_of placed.starts) now) (λ (r : ℕ × ℕ). worker_of placed.seats r.1 ≡ worker_of more_placed.seats r.1)
-        (λ (r : ℕ × ℕ) runs.
-        let r_number : IsNumber work r.1 = runs.0 in
-        let early : start_of placed.starts r.1 ≤ now = runs.1 in
-        sym (seated_there.others r.1 r_number.from (λ same. let at : start_of placed.starts r.1 ≡ start_of placed.starts x = ap (start_of placed.starts) same in omega arith)))
+        (λ (r : ℕ × ℕ) runs. sym (seated_there.others r.1 runs.0.from (λ same. omega (arith, runs.1, ap (start_of placed.starts) same))))
         finishes run.only in
         each_moved (IsAmongFirst k) (w ∷ idle ++ map (λ r. worker_of placed.seats r.1) finishes) manned (idle ++ map (λ r. worker_of more_placed.seats r.1) more)
         (subst (λ v. IsPermutation (v ∷ idle ++ map (λ r. worker_of placed.seats r.1) finishes) (idle ++ map (λ r. worker_of more_placed.seats r.1) more)) seated_there.here
@@ -562,10 +462,7 @@ module _ (load : Load) (forward : IsForward (before_in load) load.work) where
   -- nothing is placed yet
   pub progress_none : work.count ≤ 2 ^ 32 → IsProgress load (record { starts = replicate work.count NEVER; seats = replicate work.count 0; order = [] }) 0 1 0
   progress_none few =
-      let not_placed = λ (m : ℕ) (number : IsNumber work m) (early : start_of (replicate work.count NEVER) m ≤ 0).
-      let at : start_of (replicate work.count NEVER) m ≡ NEVER = never_at m number in
-      let none : ⊥ = omega arith in
-      none in
+      let not_placed : (m : ℕ) → IsNumber work m → start_of (replicate work.count NEVER) m ≤ 0 → ⊥ = λ m number early. omega (arith, never_at m number, early) in
       record {
         starts_count = length-replicate work.count NEVER;
         seats_count = length-replicate work.count 0;
@@ -612,30 +509,21 @@ module _ (load : Load) (forward : IsForward (before_in load) load.work) where
       let start = start_of placed.starts in
       let later : now < next = tick.later in
       let short : next < NEVER = tick.tick in
-      let back = λ (m : ℕ) (number : IsNumber work m) (is : start_of placed.starts m ≤ next).
-      let early : start m ≤ now = ⊎_elim {C = start m ≤ now}
-      (λ (early : start m ≤ now). early)
-      (λ (never : start m ≡ NEVER). absurd (omega arith))
-      (h.settled.placed m number) in
-      early in
-      let ends = λ (m : ℕ) (number : IsNumber work m).
-      let one : (finish_of work start m ≤ now) ⊎ (next ≤ finish_of work start m) =
-      ⊎_elim {C = (finish_of work start m ≤ now) ⊎ (next ≤ finish_of work start m)}
-      (λ (early : start m ≤ now).
-      ⊎_elim {C = (finish_of work start m ≤ now) ⊎ (next ≤ finish_of work start m)}
-      (λ (late : now < finish_of work start m). inr (All-contains (λ (r : ℕ × ℕ). next ≤ r.0) finishes (finish_of work start m, m) tick.first (run.each m number early late)))
-      (λ (done : finish_of work start m ≤ now). inl done)
-      (cases_lt now (finish_of work start m)))
-      (λ (never : start m ≡ NEVER). inr (omega arith))
-      (h.settled.placed m number) in
-      one in
+      let back : (m : ℕ) → IsNumber work m → start m ≤ next → start m ≤ now = λ m number is. elim (h.settled.placed m number) [ inl early ↦ early | inr never ↦ absurd (omega arith) ] in
+      let ends : (m : ℕ) → IsNumber work m → (finish_of work start m ≤ now) ⊎ (next ≤ finish_of work start m) = λ m number. elim (h.settled.placed m number) [
+        | inl early ↦ elim (cases_lt now (finish_of work start m)) [
+          | inl late ↦ inr (All-contains (λ (r : ℕ × ℕ). next ≤ r.0) finishes (finish_of work start m, m) tick.first (run.each m number early late))
+          | inr done ↦ inl done
+        ]
+        | inr never ↦ inr (omega arith)
+      ] in
       record {
         starts_count = h.starts_count;
         seats_count = h.seats_count;
         settled = settled_advance start (worker_of placed.seats) now next later short ends tick.releases h.settled;
         listed = record {
           messages = All-weaker (λ m. IsNumber work m × (start m ≤ now)) (λ m. IsNumber work m × (start m ≤ next))
-              (λ m there. let early : start m ≤ now = there.1 in (there.0, omega arith)) placed.order h.listed.messages;
+              (λ m there. (there.0, omega (arith, there.1))) placed.order h.listed.messages;
           each = λ m number is. h.listed.each m number (back m number is);
           sorted = h.listed.sorted;
         };

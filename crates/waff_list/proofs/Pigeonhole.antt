@@ -1,7 +1,7 @@
 -- Messages that run at one tick on different workers are no more than the workers.
-use Rattle.std.proofs.Common.{◌≡◌, ◌≢◌, ℕ, zero, suc, ◌+◌, ◌<◌, ◌≤◌, Bool, true, false, cond, ◌&&◌, eqb, nat_le, count_by, arith, refl, ap, sym, ◌∙◌, subst, ⊎_elim}
+use Rattle.std.proofs.Common.{◌≡◌, ◌≢◌, ℕ, zero, suc, ◌+◌, ◌<◌, ◌≤◌, Bool, true, false, cond, ◌&&◌, eqb, nat_le, count_by, arith, refl, ap, sym, inl, inr, ◌∙◌}
 use Rattle.std.specs.List.{range_with_len}
-use Rattle.std.proofs.lemmas.Bool.{cases_Bool, cases_eq, cond-true, cond-false, and_parts, and_from, eqb-true, eq-eqb, leb-true, le-leb, and_left}
+use Rattle.std.proofs.lemmas.Bool.{cases_Bool, cases_eq, cond-true, cond-false, and_parts, and_from, eqb-true, eq-eqb, le-leb, and_left}
 use Rattle.std.proofs.lemmas.Bool.Decides.{nat_tests}
 use Rattle.std.proofs.lemmas.List.Sums.{sum_by-cons}
 
@@ -29,29 +29,25 @@ pub count_one : (p : ℕ → Bool) (a n : ℕ) → ((i j : ℕ) → a ≤ i → 
 count_one p a zero h = omega arith
 count_one p a (suc n) h =
     let step = sum_by-cons (λ x. cond (p x) 1 0) a (range_with_len (a + 1) n) in
-    ⊎_elim {C = count_by p (range_with_len a (suc n)) ≤ 1}
-    (λ (yes' : p a ≡ true).
-    let first : cond {A = ℕ} (p a) 1 0 ≡ 1 = cond-true (p a) 1 0 yes' in
-    let rest : count_by p (range_with_len (a + 1) n) ≡ 0
-    = count_none p (a + 1) n (λ m low high. ⊎_elim {C = p m ≡ false} (λ (two : p m ≡ true). absurd (h a m (omega arith) (omega arith) (omega arith) yes' two)) (λ (none : p m ≡ false). none) (cases_Bool (p m))) in
-    omega (arith, first, rest, step))
-    (λ (no' : p a ≡ false).
-    let first : cond {A = ℕ} (p a) 1 0 ≡ 0 = cond-false (p a) 1 0 no' in
-    let rest : count_by p (range_with_len (a + 1) n) ≤ 1 = count_one p (a + 1) n (λ i j low before high. h i j (omega arith) before (omega arith)) in
-    omega (arith, first, rest, step))
-    (cases_Bool (p a))
+    elim (cases_Bool (p a)) [
+      | inl passes ↦
+          let rest = count_none p (a + 1) n (λ m low high. elim (cases_Bool (p m)) [
+            | inl two ↦ absurd (h a m (omega arith) (omega arith) (omega arith) passes two)
+            | inr none ↦ none
+          ]) in
+          omega (arith, cond-true {A = ℕ} (p a) 1 0 passes, rest, step)
+      | inr fails ↦ omega (arith, cond-false {A = ℕ} (p a) 1 0 fails, count_one p (a + 1) n (λ i j low before high. h i j (omega arith) before (omega arith)), step)
+    ]
 
 -- where one in a range passes, at least one is counted
 pub count_some : (p : ℕ → Bool) (a n m : ℕ) → a ≤ m → m < a + n → p m ≡ true → 1 ≤ count_by p (range_with_len a n)
 count_some p a zero m low high passes = absurd (omega arith)
 count_some p a (suc n) m low high passes =
     let step = sum_by-cons (λ x. cond (p x) 1 0) a (range_with_len (a + 1) n) in
-    ⊎_elim {C = 1 ≤ count_by p (range_with_len a (suc n))}
-    (λ (same : m ≡ a).
-    let first : cond {A = ℕ} (p a) 1 0 ≡ 1 = cond-true (p a) 1 0 (subst (λ x. p x ≡ true) same passes) in
-    omega (arith, first, step))
-    (λ (other : m ≢ a). omega (arith, count_some p (a + 1) n m (omega arith) (omega arith) passes, step))
-    (cases_eq m a)
+    elim (cases_eq m a) [
+      | inl same ↦ omega (arith, cond-true {A = ℕ} (p a) 1 0 (rw same at passes), step)
+      | inr other ↦ omega (arith, count_some p (a + 1) n m (omega arith) (omega arith) passes, step)
+    ]
 
 -- those that run on a worker up to v, and one worker more
 pub count_up_to : (runs : ℕ → Bool) (worker : ℕ → ℕ) (v a n : ℕ)
@@ -84,14 +80,10 @@ module _ (runs : ℕ → Bool) (worker : ℕ → ℕ) (a n : ℕ)
   up_to_zero : up_to 0 ≡ 0
   unfolding up_to
   up_to_zero = count_none (λ m. runs m && nat_le (worker m) 0) a n
-      (λ m low high. ⊎_elim {C = (runs m && nat_le (worker m) 0) ≡ false}
-      (λ (is : (runs m && nat_le (worker m) 0) ≡ true).
-      let parts = and_parts (runs m) (nat_le (worker m) 0) is in
-      let some : 1 ≤ worker m = from m low high parts.0 in
-      let none : worker m ≤ 0 = leb-true (worker m) 0 parts.1 in
-      absurd (omega arith))
-      (λ (none : (runs m && nat_le (worker m) 0) ≡ false). none)
-      (cases_Bool (runs m && nat_le (worker m) 0)))
+      (λ m low high. elim (cases_Bool (runs m)) [
+        | inl is ↦ let some = from m low high is in grind (arith, nat_tests)
+        | inr none ↦ and_left (runs m) (nat_le (worker m) 0) none
+      ])
 
   up_to_more : (v : ℕ) → up_to (suc v) ≡ up_to v + on (suc v)
   unfolding up_to on
@@ -113,10 +105,10 @@ module _ (runs : ℕ → Bool) (worker : ℕ → ℕ) (a n : ℕ)
   all_up_to : (k : ℕ) → ((m : ℕ) → a ≤ m → m < a + n → runs m ≡ true → worker m ≤ k) → count_by runs (range_with_len a n) ≡ up_to k
   unfolding up_to
   all_up_to k within = count_same runs (λ m. runs m && nat_le (worker m) k) a n
-      (λ m low high. ⊎_elim {C = runs m ≡ (runs m && nat_le (worker m) k)}
-      (λ (is : runs m ≡ true). is ∙ sym (and_from (runs m) (nat_le (worker m) k) is (le-leb (worker m) k (within m low high is))))
-      (λ (none : runs m ≡ false). none ∙ sym (and_left (runs m) (nat_le (worker m) k) none))
-      (cases_Bool (runs m)))
+      (λ m low high. elim (cases_Bool (runs m)) [
+        | inl is ↦ is ∙ sym (and_from (runs m) (nat_le (worker m) k) is (le-leb (worker m) k (within m low high is)))
+        | inr none ↦ none ∙ sym (and_left (runs m) (nat_le (worker m) k) none)
+      ])
 
   -- no more run than there are workers
   pub runs_within : (k : ℕ) → ((m : ℕ) → a ≤ m → m < a + n → runs m ≡ true → worker m ≤ k) → count_by runs (range_with_len a n) ≤ k
@@ -142,22 +134,18 @@ module _ (runs : ℕ → Bool) (worker : ℕ → ℕ) (a n : ℕ)
   up_to_lt : (v w : ℕ) → 1 ≤ w → w ≤ v → on w ≡ 0 → up_to v < v
   up_to_lt zero w some less none = absurd (omega arith)
   up_to_lt (suc v) w some less none =
-      ⊎_elim {C = up_to (suc v) < suc v}
-      (λ (last : w ≡ suc v).
-      let here : on (suc v) ≡ 0 = ap on (sym last) ∙ none in
-      omega (arith, up_to_le v, up_to_more v, here))
-      (λ (other : w ≢ suc v). omega (arith, up_to_lt v w some (omega arith) none, up_to_more v, on_one (suc v)))
-      (cases_eq w (suc v))
+      elim (cases_eq w (suc v)) [
+        | inl last ↦ omega (arith, up_to_le v, up_to_more v, ap on (sym last), none)
+        | inr other ↦ omega (arith, up_to_lt v w some (omega arith) none, up_to_more v, on_one (suc v))
+      ]
 
   on_none : (v : ℕ) → ((m : ℕ) → a ≤ m → m < a + n → runs m ≡ true → worker m ≢ v) → on v ≡ 0
   unfolding on
   on_none v h = count_none (λ m. runs m && eqb (worker m) v) a n
-      (λ m low high. ⊎_elim {C = (runs m && eqb (worker m) v) ≡ false}
-      (λ (is : (runs m && eqb (worker m) v) ≡ true).
-      let parts = and_parts (runs m) (eqb (worker m) v) is in
-      absurd (h m low high parts.0 (eqb-true (worker m) v parts.1)))
-      (λ (none : (runs m && eqb (worker m) v) ≡ false). none)
-      (cases_Bool (runs m && eqb (worker m) v)))
+      (λ m low high. elim (cases_Bool (runs m)) [
+        | inl is ↦ let other = h m low high is in grind (arith, nat_tests)
+        | inr none ↦ and_left (runs m) (eqb (worker m) v) none
+      ])
 
   pub runs_not_on : (k w : ℕ) → ((m : ℕ) → a ≤ m → m < a + n → runs m ≡ true → worker m ≤ k) → 1 ≤ w → w ≤ k
       → ((m : ℕ) → a ≤ m → m < a + n → runs m ≡ true → worker m ≢ w) → count_by runs (range_with_len a n) < k

@@ -1,27 +1,25 @@
 -- The messages that run at a tick, and their workers.
-use Rattle.std.proofs.Common.{◌≡◌, ◌≢◌, ℕ, ◌+◌, ◌<◌, ◌≤◌, inl, inr, true, false, ◌&&◌, nat_le, nat_lt, arith, ap, sym, ⊎_elim}
-use Rattle.std.proofs.lemmas.Bool.{cases_lt, and_parts, and_from, and_left, and_right, leb-true, ltb-true, le-leb, lt-leb, le-ltb, lt-ltb}
+use Rattle.std.proofs.Common.{◌≡◌, ◌≢◌, ℕ, ◌+◌, ◌<◌, ◌≤◌, inl, inr, true, false, ◌&&◌, nat_le, nat_lt, arith, ap, sym}
+use Rattle.std.proofs.lemmas.Bool.{cases_lt}
+use Rattle.std.proofs.lemmas.Bool.Decides.{nat_tests}
 use Rattle.waff_plan.specs.Work.{Work, IsNumber, finish_of}
 use Rattle.waff_plan.specs.Workers.{runs_at, running}
-use Rattle.waff_list.specs.Seats.{ComesBefore, HoldsWorker, IsSeated}
+use Rattle.waff_list.specs.Seats.{ComesBefore, IsSeated}
 use Rattle.waff_list.proofs.Pigeonhole.{count_same, count_none, runs_within, runs_on_all, runs_not_on}
 
 module _ (work : Work) (start : ℕ → ℕ) (t m : ℕ) where
   -- a message that runs has started and has not finished
   pub runs_parts : runs_at work start t m ≡ true → (start m ≤ t) × (t < finish_of work start m)
-  runs_parts runs =
-      let parts = and_parts (nat_le (start m) t) (nat_lt t (finish_of work start m)) runs in
-      (leb-true (start m) t parts.0, ltb-true t (finish_of work start m) parts.1)
+  runs_parts runs = (grind (arith, nat_tests), grind (arith, nat_tests))
 
   pub runs_from : start m ≤ t → t < finish_of work start m → runs_at work start t m ≡ true
-  runs_from started unfinished =
-      and_from (nat_le (start m) t) (nat_lt t (finish_of work start m)) (le-leb (start m) t started) (lt-ltb t (finish_of work start m) unfinished)
+  runs_from started unfinished = grind (arith, nat_tests)
 
   pub runs_before_start : t < start m → runs_at work start t m ≡ false
-  runs_before_start early = and_left (nat_le (start m) t) (nat_lt t (finish_of work start m)) (lt-leb (start m) t early)
+  runs_before_start early = grind (arith, nat_tests)
 
   pub runs_after_finish : finish_of work start m ≤ t → runs_at work start t m ≡ false
-  runs_after_finish late = and_right (nat_le (start m) t) (nat_lt t (finish_of work start m)) (le-ltb t (finish_of work start m) late)
+  runs_after_finish late = grind (arith, nat_tests)
 
 -- a message that starts at the same tick runs at the same ticks
 pub runs_same : (work : Work) (start later : ℕ → ℕ) (t m : ℕ) → start m ≡ later m → runs_at work start t m ≡ runs_at work later t m
@@ -42,28 +40,16 @@ seats_apart : (work : Work) (start worker : ℕ → ℕ) (t i j : ℕ) → IsNum
     → runs_at work start t i ≡ true → runs_at work start t j ≡ true → IsSeated work start worker i → IsSeated work start worker j
     → worker i ≢ worker j
 seats_apart work start worker t i j number_i number_j less runs_i runs_j seat_i seat_j =
-    let at_i : (start i ≤ t) × (t < start i + work.cost i) = runs_parts work start t i runs_i in
-    let at_j : (start j ≤ t) × (t < start j + work.cost j) = runs_parts work start t j runs_j in
-    let begun_i : start i ≤ t = at_i.0 in
-    let begun_j : start j ≤ t = at_j.0 in
-    let still_i : t < start i + work.cost i = at_i.1 in
-    let still_j : t < start j + work.cost j = at_j.1 in
-    ⊎_elim {C = worker i ≢ worker j}
-    (λ (later : start j < start i).
-    let holds : HoldsWorker work start j i = record {
-      number = number_j;
-      sooner = inl later;
-      runs = runs_from work start (start i) j (omega arith) (omega arith);
-    } in
-    λ same. seat_i.free j holds (sym same))
-    (λ (sooner : start i ≤ start j).
-    let holds : HoldsWorker work start i j = record {
-      number = number_i;
-      sooner = ⊎_elim {C = ComesBefore start i j} (λ (before : start i < start j). inl before) (λ (after : start j ≤ start i). inr (omega arith, less)) (cases_lt (start i) (start j));
-      runs = runs_from work start (start j) i sooner (omega arith);
-    } in
-    seat_j.free i holds)
-    (cases_lt (start j) (start i))
+    let at_i = runs_parts work start t i runs_i in
+    let at_j = runs_parts work start t j runs_j in
+    elim (cases_lt (start j) (start i)) [
+      | inl later ↦
+          let runs = runs_from work start (start i) j (omega arith) (omega (arith, at_i.0, at_j.1)) in
+          λ same. seat_i.free j (record { number = number_j; sooner = inl later; runs = runs }) (sym same)
+      | inr sooner ↦
+          let first : ComesBefore start i j = elim (cases_lt (start i) (start j)) [ inl before ↦ inl before | inr after ↦ inr (omega arith, less) ] in
+          seat_j.free i (record { number = number_i; sooner = first; runs = runs_from work start (start j) i sooner (omega (arith, at_j.0, at_i.1)) })
+    ]
 
 -- at the tick t each message that runs has its worker, one of k
 pub record AreSeatedAt (work : Work) (k : ℕ) (start worker : ℕ → ℕ) (t : ℕ) : Type 0 where
@@ -81,7 +67,7 @@ module _ (work : Work) (k : ℕ) (start worker : ℕ → ℕ) (t : ℕ) (h : Are
       seats_apart work start worker t i j number_i number_j less runs_i runs_j (h.seated i number_i runs_i) (h.seated j number_j runs_j)
 
   from_one : (m : ℕ) → 1 ≤ m → m < 1 + work.count → runs_at work start t m ≡ true → 1 ≤ worker m
-  from_one m low high runs = let seat = h.seated m (number_of m low high) runs in seat.from
+  from_one m low high runs = (h.seated m (number_of m low high) runs).from
 
   to_k : (m : ℕ) → 1 ≤ m → m < 1 + work.count → runs_at work start t m ≡ true → worker m ≤ k
   to_k m low high runs = h.within m (number_of m low high) runs
@@ -95,9 +81,7 @@ module _ (work : Work) (k : ℕ) (start worker : ℕ → ℕ) (t : ℕ) (h : Are
   running_all each = runs_on_all (runs_at work start t) worker 1 work.count apart from_one k to_k
       (λ w some less.
       let there = each w some less in
-      let number : IsNumber work there.0 = there.1 in
-      let to : there.0 ≤ work.count = number.to in
-      (there.0, number.from, omega (arith, to), there.2, there.3))
+      (there.0, there.1.from, omega (arith, there.1.to), there.2, there.3))
 
   -- where a worker runs none, fewer than k run
   pub running_fewer : (w : ℕ) → 1 ≤ w → w ≤ k → ((m : ℕ) → IsNumber work m → runs_at work start t m ≡ true → worker m ≢ w) → running work start t < k

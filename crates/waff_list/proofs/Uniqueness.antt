@@ -1,12 +1,12 @@
 -- The list plan for k workers is one: two list plans that are the same below a tick are the same at it. A message that starts at
 -- the tick in one and later in the other would be one more than the k that run in the other.
-use Rattle.std.proofs.Common.{◌≡◌, ℕ, zero, suc, ◌+◌, ◌<◌, ◌≤◌, ◌⊎◌, ◌↔◌, ⊎_elim, inl, inr, Bool, true, false, cond, sum_by, refl, arith, sym, ap, subst, ◌∙◌}
+use Rattle.std.proofs.Common.{◌≡◌, ℕ, zero, suc, ◌+◌, ◌<◌, ◌≤◌, ◌⊎◌, ◌↔◌, inl, inr, Bool, true, false, cond, sum_by, count_by, refl, arith, sym, ap, subst, ◌∙◌}
 use Rattle.std.specs.List.{range_with_len}
-use Rattle.std.proofs.lemmas.Bool.{cases_lt, cases_order, false≢true}
+use Rattle.std.proofs.lemmas.Bool.{cases_lt, cases_order}
 use Rattle.waff_assign.specs.Order.{Relation}
-use Rattle.waff_plan.specs.Work.{Work, IsNumber}
+use Rattle.waff_plan.specs.Work.{Work, IsNumber, IsAmongFirst}
 use Rattle.waff_plan.specs.Obeys.{IsForward}
-use Rattle.waff_plan.specs.Workers.{runs_at, running}
+use Rattle.waff_plan.specs.Workers.{runs_at}
 use Rattle.waff_plan.proofs.Longest.{sum_more}
 use Rattle.waff_list.proofs.Running.{runs_parts, runs_from, runs_before_start}
 use Rattle.waff_list.specs.ListRule.{IsReady, IsTakenFirst, IsListPlan, arrival}
@@ -17,48 +17,35 @@ abbrev sum_to : (ℕ → ℕ) → ℕ → ℕ
 sum_to f n = sum_by f (range_with_len 1 n)
 
 sum_to_suc : (f : ℕ → ℕ) (n : ℕ) → sum_to f (suc n) ≡ sum_to f n + f (suc n)
-sum_to_suc f n =
-    let next : n + 1 ≡ suc n = omega arith in
-    subst (λ x. sum_to f x ≡ sum_to f n + f x) next (sum_more f n)
+sum_to_suc f n = subst (λ x. sum_to f x ≡ sum_to f n + f x) (omega arith) (sum_more f n)
 
 sum_to_le : (f g : ℕ → ℕ) (n : ℕ) → ((m : ℕ) → 1 ≤ m → m ≤ n → f m ≤ g m) → sum_to f n ≤ sum_to g n
 sum_to_le f g zero each = omega arith
 sum_to_le f g (suc n) each =
-    let rest : sum_to f n ≤ sum_to g n = sum_to_le f g n (λ m from to. each m from (omega arith)) in
-    let last : f (suc n) ≤ g (suc n) = each (suc n) (omega arith) (omega arith) in
-    omega (arith, sum_to_suc f n, sum_to_suc g n)
+    omega (arith, sum_to_le f g n (λ m from to. each m from (omega arith)), each (suc n) (omega arith) (omega arith), sum_to_suc f n, sum_to_suc g n)
 
 sum_to_lt : (f g : ℕ → ℕ) (n m : ℕ) → ((i : ℕ) → 1 ≤ i → i ≤ n → f i ≤ g i) → 1 ≤ m → m ≤ n → f m < g m → sum_to f n < sum_to g n
 sum_to_lt f g zero m each from to less = absurd (omega arith)
 sum_to_lt f g (suc n) m each from to less = elim (cases_lt m (suc n)) [
-  | inl before ↦
-      let rest : sum_to f n < sum_to g n = sum_to_lt f g n m (λ i i_from i_to. each i i_from (omega arith)) from (omega arith) less in
-      let last : f (suc n) ≤ g (suc n) = each (suc n) (omega arith) (omega arith) in
-      omega (arith, sum_to_suc f n, sum_to_suc g n)
+  | inl before ↦ omega (arith, sum_to_lt f g n m (λ i i_from i_to. each i i_from (omega arith)) from (omega arith) less, each (suc n) (omega arith) (omega arith), sum_to_suc f n, sum_to_suc g n)
   | inr here ↦
       let same : m ≡ suc n = omega arith in
-      let rest : sum_to f n ≤ sum_to g n = sum_to_le f g n (λ i i_from i_to. each i i_from (omega arith)) in
-      let last : f (suc n) < g (suc n) = subst (λ x. f x < g x) same less in
-      omega (arith, sum_to_suc f n, sum_to_suc g n)
+      omega (arith, sum_to_le f g n (λ i i_from i_to. each i i_from (omega arith)), rw same at less, sum_to_suc f n, sum_to_suc g n)
 ]
 
 one_le : (p q : Bool) → (p ≡ true → q ≡ true) → cond p 1 0 ≤ cond q 1 0
-one_le true true h = omega arith
-one_le true false h = absurd (false≢true (h refl))
+one_le true q h = rw (h refl) (omega arith)
 one_le false q h = omega arith
 
-one_lt : (p q : Bool) → p ≡ false → q ≡ true → cond p 1 0 < cond q 1 0
-one_lt true q h is = absurd (false≢true (sym h))
-one_lt false true h is = omega arith
-one_lt false false h is = absurd (false≢true is)
+-- where one test passes only if another does, no more pass it, and fewer where one passes the other alone
+pub counts_le : (p q : ℕ → Bool) (n : ℕ) → ((i : ℕ) → IsAmongFirst n i → p i ≡ true → q i ≡ true) → count_by p (range_with_len 1 n) ≤ count_by q (range_with_len 1 n)
+counts_le p q n each = sum_to_le (λ i. cond (p i) 1 0) (λ i. cond (q i) 1 0) n (λ i from to. one_le (p i) (q i) (each i (record { from = from; to = to })))
 
--- where one plan runs at t all that another runs, and m besides, more run
-more_run : (work : Work) (start other : ℕ → ℕ) (t m : ℕ) → ((i : ℕ) → IsNumber work i → runs_at work other t i ≡ true → runs_at work start t i ≡ true)
-    → IsNumber work m → runs_at work other t m ≡ false → runs_at work start t m ≡ true → running work other t < running work start t
-more_run work start other t m each number waits runs =
-    sum_to_lt (λ i. cond (runs_at work other t i) 1 0) (λ i. cond (runs_at work start t i) 1 0) work.count m
-    (λ i from to. one_le (runs_at work other t i) (runs_at work start t i) (each i (record { from = from; to = to })))
-    number.from number.to (one_lt (runs_at work other t m) (runs_at work start t m) waits runs)
+pub counts_lt : (p q : ℕ → Bool) (n m : ℕ) → ((i : ℕ) → IsAmongFirst n i → p i ≡ true → q i ≡ true) → IsAmongFirst n m → p m ≡ false → q m ≡ true
+    → count_by p (range_with_len 1 n) < count_by q (range_with_len 1 n)
+counts_lt p q n m each number fails passes =
+    sum_to_lt (λ i. cond (p i) 1 0) (λ i. cond (q i) 1 0) n m (λ i from to. one_le (p i) (q i) (each i (record { from = from; to = to })))
+    number.from number.to (rw (fails, passes) (omega arith))
 
 -- two plans start the same messages at each tick below t
 pub record AreSameBelow (work : Work) (start other : ℕ → ℕ) (t : ℕ) : Type 0 where
@@ -105,7 +92,7 @@ order_of_priority priority = record {
 
 pub by_arrival : (i j : ℕ) → IsTakenFirst arrival i j ↔ (i < j)
 by_arrival i j = (
-  (λ first. ⊎_elim {C = i < j} (λ (higher : 0 < 0). absurd (omega arith)) (λ (both : (0 ≡ 0) × (i < j)). both.1) first),
+  (λ first. elim first [ inl higher ↦ absurd (omega (arith, higher)) | inr both ↦ both.1 ]),
   (λ earlier. inr (refl, earlier)),
 )
 
@@ -115,16 +102,11 @@ module _ (before : Relation) (work : Work) (k : ℕ) (forward : IsForward before
       → start m ≡ t → t ≤ other m → IsReady before work other t m
   ready_in_other priority start other t m plan same number here waits = record {
     number = number;
-    released = let released : work.release m ≤ start m = plan.within.obeys.released m number in omega arith;
+    released = omega (arith, plan.within.obeys.released m number, here);
     free = λ i pair.
-        let earlier : i < m = forward.earlier i m pair in
-        let from : 1 ≤ i = forward.from i m pair in
-        let to : m ≤ work.count = number.to in
-        let i_number : IsNumber work i = record { from = from; to = omega arith } in
-        let done : start i + work.cost i ≤ start m = plan.within.obeys.ordered i m pair in
-        let some : 1 ≤ work.cost i = runs i i_number in
-        let at : other i ≡ start i = same.there i i_number (omega arith) in
-        omega arith;
+        let i_number : IsNumber work i = record { from = forward.from i m pair; to = omega (arith, forward.earlier i m pair, number.to) } in
+        let done = plan.within.obeys.ordered i m pair in
+        rw (sym (same.there i i_number (omega (arith, done, here, runs i i_number))), here) at done;
   }
 
 module _ (before : Relation) (first second : ℕ → ℕ) (work : Work) (k : ℕ)
@@ -135,16 +117,15 @@ module _ (before : Relation) (first second : ℕ → ℕ) (work : Work) (k : ℕ
   starts_too start other t m i plan other_plan same number here later i_number i_here =
       elim (cases_order (start i) t) [
         | inl at ↦ at
-        | inr (inl sooner) ↦ let at : other i ≡ start i = same.there i i_number sooner in absurd (omega arith)
+        | inr (inl sooner) ↦ absurd (omega (arith, sooner, i_here, same.there i i_number sooner))
         | inr (inr late) ↦ elim (taken_first first i m) [
-          | inl one ↦ let at : other i ≡ other m = ap other one in absurd (omega arith)
+          | inl one ↦ absurd (omega (arith, i_here, later, ap other one))
           | inr (inl sooner) ↦
               let ready = ready_in_other before work k forward runs second other start t i other_plan (turned work start other t same) i_number i_here (omega arith) in
               absurd (plan.follows.in_turn t i m ready late number sooner here)
           | inr (inr last) ↦
               let ready = ready_in_other before work k forward runs first start other t m plan same number here (omega arith) in
-              let both = alike m i number i_number in
-              absurd (other_plan.follows.in_turn t m i ready later i_number (both.0 last) i_here)
+              absurd (other_plan.follows.in_turn t m i ready later i_number ((alike m i number i_number).0 last) i_here)
         ]
       ]
 
@@ -153,29 +134,25 @@ module _ (before : Relation) (first second : ℕ → ℕ) (work : Work) (k : ℕ
       → AreSameBelow work start other t → IsNumber work m → start m ≡ t → t < other m → ⊥
   not_later start other t m plan other_plan same number here later =
       let ready = ready_in_other before work k forward runs first start other t m plan same number here (omega arith) in
-      let full : running work other t ≡ k = other_plan.follows.busy t m ready later in
-      let within : running work start t ≤ k = plan.within.within t in
-      let some : 1 ≤ work.cost m = runs m number in
+      let full = other_plan.follows.busy t m ready later in
       let each : (i : ℕ) → IsNumber work i → runs_at work other t i ≡ true → runs_at work start t i ≡ true = λ i i_number i_runs.
       let is = runs_parts work other t i i_runs in
-      elim (cases_lt (other i) t) [
-        | inl sooner ↦
-            let at : start i ≡ other i = same.back i i_number sooner in
-            runs_from work start t i (omega arith) (omega (arith, is.1))
+      let at : start i ≡ other i = elim (cases_lt (other i) t) [
+        | inl sooner ↦ same.back i i_number sooner
         | inr not_sooner ↦
             let i_here : other i ≡ t = omega (arith, is.0) in
-            let at : start i ≡ t = starts_too start other t m i plan other_plan same number here later i_number i_here in
-            runs_from work start t i (omega arith) (omega (arith, is.1))
+            starts_too start other t m i plan other_plan same number here later i_number i_here ∙ sym i_here
       ] in
-      let more : running work other t < running work start t
-      = more_run work start other t m each number (runs_before_start work other t m later) (runs_from work start t m (omega arith) (omega arith)) in
-      omega arith
+      runs_from work start t i (omega (arith, at, is.0)) (omega (arith, at, is.1)) in
+      let runs_here = runs_from work start t m (omega arith) (omega (arith, here, runs m number)) in
+      let more = counts_lt (runs_at work other t) (runs_at work start t) work.count m each number (runs_before_start work other t m later) runs_here in
+      omega (arith, more, full, plan.within.within t)
 
   at_tick : (start other : ℕ → ℕ) (t m : ℕ) → IsListPlan before first work k start → IsListPlan before second work k other
       → AreSameBelow work start other t → IsNumber work m → start m ≡ t → other m ≡ start m
   at_tick start other t m plan other_plan same number here = elim (cases_order (other m) t) [
     | inl at ↦ omega arith
-    | inr (inl sooner) ↦ let at : start m ≡ other m = same.back m number sooner in absurd (omega arith)
+    | inr (inl sooner) ↦ absurd (omega (arith, sooner, here, same.back m number sooner))
     | inr (inr later) ↦ absurd (not_later start other t m plan other_plan same number here later)
   ]
 

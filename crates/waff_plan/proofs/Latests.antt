@@ -1,5 +1,5 @@
 -- The latest of the messages that one thing or another holds of.
-use Rattle.std.proofs.Common.{◌≡◌, ◌≢◌, ◌⊎◌, ℕ, ◌+◌, ◌<◌, ◌≤◌, true, false, Option, Some, None, arith, sym, ◌∙◌, ap, subst, inl, inr, ⊎_elim}
+use Rattle.std.proofs.Common.{◌≡◌, ◌⊎◌, ℕ, ◌+◌, ◌<◌, ◌≤◌, true, false, Option, Some, None, arith, sym, ◌∙◌, ap, subst, inl, inr, ⊎_elim}
 use Rattle.std.proofs.lemmas.Bool.{cond_both, cases_eq}
 use Rattle.std.proofs.lemmas.Bool.Decides.{nat_tests}
 use Rattle.waff_plan.specs.Work.{IsAmongFirst}
@@ -36,8 +36,8 @@ found_again P finish again (Some latest) same h =
     record {
       number = record {
         one = h.number.one;
-        latest = λ i p. let there : again i ≡ finish i = same i p in let bound : finish i ≤ finish latest.number = h.number.latest i p in omega arith;
-        lowest = λ i p equal. let there : again i ≡ finish i = same i p in h.number.lowest i p (sym there ∙ equal ∙ here);
+        latest = λ i p. rw (same i p, here) (h.number.latest i p);
+        lowest = λ i p equal. h.number.lowest i p (sym (same i p) ∙ equal ∙ here);
       };
       finish_is = h.finish_is ∙ sym here;
     }
@@ -50,54 +50,40 @@ found_either P Q finish None other none h =
 found_either P Q finish (Some one) None h none =
     found_same P (λ i. P i ⊎ Q i) finish (Some one) (λ i p. inl p) (λ i either. ⊎_elim (λ p. p) (λ q. absurd (none i q)) either) h
 found_either P Q finish (Some one) (Some other) h g =
-    let one_finish : one.finish ≡ finish one.number = h.finish_is in
-    let other_finish : other.finish ≡ finish other.number = g.finish_is in
     cond_both (is_later one other) (Some other) (Some one) (λ x. IsFound (λ i. P i ⊎ Q i) finish x)
     (λ later.
     let order = is_later_true one.finish other.finish one.number other.number later in
-    let no_earlier : one.finish ≤ other.finish = order.0 in
     record {
       number = record {
         one = inr g.number.one;
-        latest = λ i either.
-            ⊎_elim {C = finish i ≤ finish other.number}
-            (λ (p : P i). let bound : finish i ≤ finish one.number = h.number.latest i p in omega arith)
-            (λ (q : Q i). g.number.latest i q)
-            either;
-        lowest = λ i either same.
-            ⊎_elim {C = other.number ≤ i}
-            (λ (p : P i).
-            let bound : finish i ≤ finish one.number = h.number.latest i p in
-            let equal : one.finish ≡ other.finish = omega arith in
-            let lower : other.number < one.number = order.1 equal in
-            let lowest : one.number ≤ i = h.number.lowest i p (omega arith) in
-            omega arith)
-            (λ (q : Q i). g.number.lowest i q same)
-            either;
+        latest = λ i either. elim either [
+          | inl p ↦ omega (arith, h.number.latest i p, h.finish_is, g.finish_is, order.0)
+          | inr q ↦ g.number.latest i q
+        ];
+        lowest = λ i either same. elim either [
+          | inl p ↦
+              let equal : one.finish ≡ other.finish = omega (arith, h.number.latest i p, h.finish_is, g.finish_is, order.0, same) in
+              omega (arith, order.1 equal, h.number.lowest i p (omega (arith, h.finish_is, g.finish_is, equal, same)))
+          | inr q ↦ g.number.lowest i q same
+        ];
       };
       finish_is = g.finish_is;
     })
     (λ not_later.
     let order = is_later_false one.finish other.finish one.number other.number not_later in
-    let no_earlier : other.finish ≤ one.finish = order.0 in
     record {
       number = record {
         one = inl h.number.one;
-        latest = λ i either.
-            ⊎_elim {C = finish i ≤ finish one.number}
-            (λ (p : P i). h.number.latest i p)
-            (λ (q : Q i). let bound : finish i ≤ finish other.number = g.number.latest i q in omega arith)
-            either;
-        lowest = λ i either same.
-            ⊎_elim {C = one.number ≤ i}
-            (λ (p : P i). h.number.lowest i p same)
-            (λ (q : Q i).
-            let bound : finish i ≤ finish other.number = g.number.latest i q in
-            let equal : other.finish ≡ one.finish = omega arith in
-            let lower : one.number ≤ other.number = order.1 equal in
-            let lowest : other.number ≤ i = g.number.lowest i q (omega arith) in
-            omega arith)
-            either;
+        latest = λ i either. elim either [
+          | inl p ↦ h.number.latest i p
+          | inr q ↦ omega (arith, g.number.latest i q, h.finish_is, g.finish_is, order.0)
+        ];
+        lowest = λ i either same. elim either [
+          | inl p ↦ h.number.lowest i p same
+          | inr q ↦
+              let equal : other.finish ≡ one.finish = omega (arith, g.number.latest i q, h.finish_is, g.finish_is, order.0, same) in
+              omega (arith, order.1 equal, g.number.lowest i q (omega (arith, h.finish_is, g.finish_is, equal, same)))
+        ];
       };
       finish_is = h.finish_is;
     })
@@ -108,7 +94,7 @@ pub found_one : (finish : ℕ → ℕ) (message : Latest) (n : ℕ) → message.
 found_one finish message n number is = record {
   number = record {
     one = number;
-    latest = λ i same. let equal : finish i ≡ finish message.number = ap finish (same ∙ sym number) in omega arith;
+    latest = λ i same. omega (arith, ap finish (same ∙ sym number));
     lowest = λ i same equal. omega arith;
   };
   finish_is = sym is ∙ ap finish (sym number);
@@ -120,19 +106,14 @@ pub found_noted : (P : ℕ → Type 0) (finish : ℕ → ℕ) (n : ℕ) (latest 
     → IsFound (λ i. IsAmongFirst (n + 1) i × P i) finish (later_of latest (Some message))
 found_noted P finish n latest message number is holds h =
     found_same (λ i. (IsAmongFirst n i × P i) ⊎ (i ≡ n + 1)) (λ i. IsAmongFirst (n + 1) i × P i) finish (later_of latest (Some message))
-    (λ i either.
-    ⊎_elim {C = IsAmongFirst (n + 1) i × P i}
-    (λ (old : IsAmongFirst n i × P i).
-    let from : 1 ≤ i = old.0.from in let to : i ≤ n = old.0.to in
-    (record { from = from; to = omega arith }, old.1))
-    (λ (last : i ≡ n + 1). (record { from = omega arith; to = omega arith }, subst P (sym last) holds))
-    either)
-    (λ i new.
-    let from : 1 ≤ i = new.0.from in let to : i ≤ n + 1 = new.0.to in
-    ⊎_elim {C = (IsAmongFirst n i × P i) ⊎ (i ≡ n + 1)}
-    (λ (last : i ≡ n + 1). inr last)
-    (λ (other : i ≢ n + 1). inl (record { from = from; to = omega arith }, new.1))
-    (cases_eq i (n + 1)))
+    (λ i either. elim either [
+      | inl old ↦ (record { from = old.0.from; to = omega (arith, old.0.to) }, old.1)
+      | inr last ↦ (record { from = omega (arith, last); to = omega (arith, last) }, subst P (sym last) holds)
+    ])
+    (λ i new. elim (cases_eq i (n + 1)) [
+      | inl last ↦ inr last
+      | inr other ↦ inl (record { from = new.0.from; to = omega (arith, new.0.to, other) }, new.1)
+    ])
     (found_either (λ i. IsAmongFirst n i × P i) (λ i. i ≡ n + 1) finish latest (Some message) h (found_one finish message (n + 1) number is))
 
 -- one more message of which P does not hold
@@ -140,13 +121,9 @@ pub found_passed : (P : ℕ → Type 0) (finish : ℕ → ℕ) (n : ℕ) (latest
     → IsFound (λ i. IsAmongFirst n i × P i) finish latest → IsFound (λ i. IsAmongFirst (n + 1) i × P i) finish latest
 found_passed P finish n latest fails h =
     found_same (λ i. IsAmongFirst n i × P i) (λ i. IsAmongFirst (n + 1) i × P i) finish latest
-    (λ i old.
-    let from : 1 ≤ i = old.0.from in let to : i ≤ n = old.0.to in
-    (record { from = from; to = omega arith }, old.1))
-    (λ i new.
-    let from : 1 ≤ i = new.0.from in let to : i ≤ n + 1 = new.0.to in
-    ⊎_elim {C = IsAmongFirst n i × P i}
-    (λ (last : i ≡ n + 1). absurd (fails (subst P last new.1)))
-    (λ (other : i ≢ n + 1). (record { from = from; to = omega arith }, new.1))
-    (cases_eq i (n + 1)))
+    (λ i old. (record { from = old.0.from; to = omega (arith, old.0.to) }, old.1))
+    (λ i new. elim (cases_eq i (n + 1)) [
+      | inl last ↦ absurd (fails (subst P last new.1))
+      | inr other ↦ (record { from = new.0.from; to = omega (arith, new.0.to, other) }, new.1)
+    ])
     h

@@ -1,20 +1,18 @@
 -- The starts of the least plan, one message after another, by the table of the latest messages.
-use Rattle.std.proofs.Common.{◌≡◌, ℕ, ◌+◌, ◌-◌, ◌*◌, ◌^◌, ◌<◌, ◌≤◌, max, List, [], ◌∷◌, ◌++◌, length, get_or, Option, Some, None, option_map, MatchOption, All, arith, sym, ap, subst, inl, inr}
+use Rattle.std.proofs.Common.{◌≡◌, ℕ, ◌+◌, ◌-◌, ◌*◌, ◌^◌, ◌<◌, ◌≤◌, max, List, [], ◌∷◌, ◌++◌, length, get_or, Option, Some, None, option_map, MatchOption, All, arith, ap, inl, inr}
 use Rattle.std.proofs.lemmas.Bool.{cases_eq}
 use Rattle.std.proofs.lemmas.List.{get_or_append_left, get_or_push, get_or_default}
 use Rattle.waff_model.specs.Tree.{Node}
-use Rattle.waff_model.specs.Preorder.{span_at, AreNested}
 use Rattle.waff_model.specs.declared.preorder.Span.{Span}
 use Rattle.waff_assign.specs.Order.{affinity_of, IsOrdered}
 use Rattle.waff_plan.specs.Work.{Work, finish_of, IsAmongFirst}
 use Rattle.waff_plan.specs.Latest.{IsFound}
-use Rattle.waff_plan.specs.Table.{LatestTable, message_span, IsTable, IsLatestMeeting, IsLatestExcluding}
+use Rattle.waff_plan.specs.Table.{LatestTable, message_span, IsTable, IsLatestExcluding}
 use Rattle.waff_plan.specs.Timing.{start_of}
 use Rattle.waff_plan.specs.declared.last.Placed.{Placed}
 use Rattle.waff_plan.specs.declared.latest.Latest.{Latest}
 use Rattle.waff_model.specs.declared.limits.TheConstants.{MAX_TICK}
 use Rattle.waff_plan.proofs.Latests.{found_again}
-use Rattle.waff_plan.proofs.Tables.{meeting_excludes}
 use Rattle.waff_plan.proofs.Steps.{IsEarliest}
 
 -- with the same finishes the table is the same
@@ -74,18 +72,6 @@ start_early P finish n s release (Some latest) early found small is =
     let number = found.number.one.0 in
     let bound : finish latest.number ≤ 2 ^ 32 * (n + 1) = early latest.number number.from number.to in
     omega arith
-
--- the latest message that message m waits for
-pub found_at : (tree : List Node) (spans : List Span) (assigned : List ℕ) (finish : ℕ → ℕ) (m a : ℕ) (table : LatestTable) (latest : Option Latest)
-    → AreNested tree spans → All (λ a. a < length tree) assigned → 1 ≤ m → m ≤ length assigned
-    → a ≡ affinity_of assigned m → IsTable spans assigned finish (m - 1) table
-    → ((others : List Span) (assigned : List ℕ) (finish : ℕ → ℕ) (n : ℕ) → IsTable others assigned finish n table
-    → IsLatestMeeting others assigned finish n (span_at spans a) latest)
-    → IsLatestExcluding tree assigned finish (m - 1) (affinity_of assigned m) latest
-found_at tree spans assigned finish m a table latest nested known from to is h answer =
-    let within : affinity_of assigned m < length tree = known (m - 1) 0 (omega arith) in
-    subst (λ x. IsLatestExcluding tree assigned finish (m - 1) x latest) is
-    (meeting_excludes tree spans assigned finish m a latest nested known to (subst (λ x. x < length tree) (sym is) within) (answer spans assigned finish (m - 1) h))
 
 -- the starts of the first messages up to m, of which that of m is s
 module _ (work : Work) (starts : List ℕ) (m s : ℕ) (count : length starts ≡ m - 1) (from : 1 ≤ m) where

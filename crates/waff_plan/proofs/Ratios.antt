@@ -2,18 +2,16 @@
 use Rattle.std.proofs.Common.{◌≡◌, ℕ, ◌+◌, ◌-◌, ◌*◌, ◌≤◌, List, [], ◌∷◌, arith, refl, ap, ◌∙◌, mul-zero}
 use Rattle.std.proofs.Math.Nat.{mul-le-mul_left, mul-le-mul_right}
 use Rattle.waff_plan.specs.Work.{Work, IsNumber, length_of, total_of}
-use Rattle.waff_plan.specs.Chain.{IsChain, LinksOn, chain_cost, chain_release}
-use Rattle.waff_plan.proofs.Chains.{chains_are_within_length}
+use Rattle.waff_plan.specs.Chain.{IsChain, chain_cost, chain_release}
+use Rattle.waff_plan.proofs.Chains.{chains_are_within_length, first_is_number}
 use Rattle.waff_plan.proofs.Ticks.{total_is_within_workers}
 use Rattle.waff_plan.specs.Bound.{BoundIsWithinTwice, BoundIsWithinRatio}
 
 twice : (k length total release cost other : ℕ) → k * length ≤ total + k * release + (k - 1) * cost → total ≤ k * other
     → release + cost ≤ other → k * length ≤ 2 * k * other
 twice k length total release cost other bound work chain =
-    let whole : k * (release + cost) ≤ k * other = mul-le-mul_left k chain in
     let less : k - 1 ≤ k = omega arith in
-    let part : (k - 1) * cost ≤ k * cost = mul-le-mul_right cost less in
-    omega arith
+    omega (arith, mul-le-mul_left k chain, mul-le-mul_right cost less)
 
 ratio : (k length total cost other : ℕ) → 1 ≤ k → k * length ≤ total + (k - 1) * cost → total ≤ k * other
     → cost ≤ other → k * length ≤ (2 * k - 1) * other
@@ -28,11 +26,6 @@ bound_is_within_twice before work k start chain is_chain bound other plan =
     twice k (length_of work start) (total_of work) (chain_release work chain) (chain_cost work chain) (length_of work other) bound
     (total_is_within_workers before work k other plan)
     (chains_are_within_length before work chain other is_chain plan.obeys)
-
--- the first message of a chain is a message
-first_is_number : (before : ℕ → ℕ → Type 0) (work : Work) (m : ℕ) (rest : List ℕ) → LinksOn before work m rest → IsNumber work m
-first_is_number before work m [] h = h
-first_is_number before work m (next ∷ rest) h = h.0
 
 -- where no message has a release, no chain has one
 no_release : (before : ℕ → ℕ → Type 0) (work : Work) → ((m : ℕ) → IsNumber work m → work.release m ≡ 0)

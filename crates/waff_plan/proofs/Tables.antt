@@ -173,26 +173,24 @@ last_more spans assigned finish n old next new number is finish_is later one_of_
     }
 
 -- among places that nest, those meet whose affinities exclude each other
-pub meeting_excludes : (tree : List Node) (spans : List Span) (assigned : List ℕ) (finish : ℕ → ℕ) (m a : ℕ) (latest : Option Latest)
-    → AreNested tree spans → All (λ a. a < length tree) assigned → m ≤ length assigned → a < length tree
-    → IsLatestMeeting spans assigned finish (m - 1) (span_at spans a) latest → IsLatestExcluding tree assigned finish (m - 1) a latest
-meeting_excludes tree spans assigned finish m a latest nested known to within found =
-    let known_at : (i : ℕ) → IsAmongFirst (m - 1) i → affinity_of assigned i < length tree
-    = λ i h. let from : 1 ≤ i = h.from in let last : i ≤ m - 1 = h.to in known (i - 1) 0 (omega arith) in
-    found_same (λ i. IsAmongFirst (m - 1) i × (Spans (message_span spans assigned i) (span_at spans a) ⊎ Spans (span_at spans a) (message_span spans assigned i)))
-    (λ i. IsAmongFirst (m - 1) i × Excludes tree (affinity_of assigned i) a) finish latest
-    (λ i h. (
-      h.0,
-      elim h.1 [
-        | inl over ↦ inl ((nested.tells (affinity_of assigned i) a (known_at i h.0) within).0 over)
-        | inr under ↦ inr ((nested.tells a (affinity_of assigned i) within (known_at i h.0)).0 under)
-      ],
-    ))
-    (λ i h. (
-      h.0,
-      elim h.1 [
-        | inl over ↦ inl ((nested.tells (affinity_of assigned i) a (known_at i h.0) within).1 over)
-        | inr under ↦ inr ((nested.tells a (affinity_of assigned i) within (known_at i h.0)).1 under)
-      ],
-    ))
+pub meeting_excludes : (tree : List Node) (spans : List Span) (assigned : List ℕ) (finish : ℕ → ℕ) (n a : ℕ) (latest : Option Latest)
+    → AreNested tree spans → All (λ a. a < length tree) assigned → n ≤ length assigned → a < length tree
+    → IsLatestMeeting spans assigned finish n (span_at spans a) latest → IsLatestExcluding tree assigned finish n a latest
+meeting_excludes tree spans assigned finish n a latest nested known to within found =
+    let over = λ (i : ℕ) (h : IsAmongFirst n i). nested.tells (affinity_of assigned i) a (known (i - 1) 0 (omega (arith, h.from, h.to, to))) within in
+    let under = λ (i : ℕ) (h : IsAmongFirst n i). nested.tells a (affinity_of assigned i) within (known (i - 1) 0 (omega (arith, h.from, h.to, to))) in
+    found_same (λ i. IsAmongFirst n i × (Spans (message_span spans assigned i) (span_at spans a) ⊎ Spans (span_at spans a) (message_span spans assigned i)))
+    (λ i. IsAmongFirst n i × Excludes tree (affinity_of assigned i) a) finish latest
+    (λ i h. (h.0, elim h.1 [ inl is ↦ inl ((over i h.0).0 is) | inr is ↦ inr ((under i h.0).0 is) ]))
+    (λ i h. (h.0, elim h.1 [ inl is ↦ inl ((over i h.0).1 is) | inr is ↦ inr ((under i h.0).1 is) ]))
     found
+
+-- the latest of the first n messages that message m waits for
+pub found_at : (tree : List Node) (spans : List Span) (assigned : List ℕ) (finish : ℕ → ℕ) (n m a : ℕ) (table : LatestTable) (latest : Option Latest)
+    → AreNested tree spans → All (λ a. a < length tree) assigned → n < m → m ≤ length assigned
+    → a ≡ affinity_of assigned m → IsTable spans assigned finish n table
+    → ((others : List Span) (assigned : List ℕ) (finish : ℕ → ℕ) (n : ℕ) → IsTable others assigned finish n table
+    → IsLatestMeeting others assigned finish n (span_at spans a) latest)
+    → IsLatestExcluding tree assigned finish n (affinity_of assigned m) latest
+found_at tree spans assigned finish n m a table latest nested known lt to is h answer =
+    rw is at (meeting_excludes tree spans assigned finish n a latest nested known (omega arith) (rw is (known (m - 1) 0 (omega arith))) (answer spans assigned finish n h))

@@ -1,5 +1,5 @@
 -- The least plan is one, and so is the printed chain of a plan.
-use Rattle.std.proofs.Common.{◌≡◌, ℕ, ◌+◌, ◌*◌, ◌<◌, ◌≤◌, ◌⊎◌, inl, inr, List, [], ◌∷◌, Option, Some, None, arith, refl, sym, ap, subst}
+use Rattle.std.proofs.Common.{◌≡◌, ℕ, ◌+◌, ◌*◌, ◌≤◌, ◌⊎◌, inl, inr, List, [], ◌∷◌, Option, Some, None, arith, refl, sym, ap, subst, ◌∙◌}
 use Rattle.waff_plan.specs.Work.{Work, IsNumber, finish_of, length_of, total_of}
 use Rattle.waff_plan.specs.Bound.{right_side}
 use Rattle.waff_plan.specs.Obeys.{IsForward}
@@ -7,31 +7,21 @@ use Rattle.waff_plan.specs.Chain.{IsLatest, LeadsToEnd, IsPrinted, chain_cost, c
 use Rattle.waff_plan.specs.Totals.{totals_of}
 use Rattle.waff_plan.specs.declared.totals.Totals.{Totals}
 use Rattle.waff_plan.specs.Unique.{AreSame, LeastIsOne, PrintedIsOne}
+use Rattle.waff_plan.proofs.Forward.{first_number}
 use Rattle.waff_plan.proofs.Longest.{finish_of-le-length_of, length_of-le}
 
 pub least_is_one : (before : ℕ → ℕ → Type 0) (work : Work) → LeastIsOne before work
 least_is_one before work start other first second m number =
-    let below : start m ≤ other m = first.least other second.obeys m number in
-    let above : other m ≤ start m = second.least start first.obeys m number in
-    omega arith
-
-same_back : (work : Work) (start other : ℕ → ℕ) → AreSame work start other → AreSame work other start
-same_back work start other same m number = sym (same m number)
+    omega (arith, first.least other second.obeys m number, second.least start first.obeys m number)
 
 no_longer : (work : Work) (start other : ℕ → ℕ) → AreSame work start other → length_of work start ≤ length_of work other
 no_longer work start other same =
-    length_of-le work start (length_of work other)
-    (λ m number.
-    let at : start m ≡ other m = same m number in
-    let within : other m + work.cost m ≤ length_of work other = finish_of-le-length_of work other m number in
-    omega arith)
+    length_of-le work start (length_of work other) (λ m number. omega (arith, same m number, finish_of-le-length_of work other m number))
 
 -- plans with the same starts have the same length
 pub same_length : (work : Work) (start other : ℕ → ℕ) → AreSame work start other → length_of work start ≡ length_of work other
 same_length work start other same =
-    let below = no_longer work start other same in
-    let above = no_longer work other start (same_back work start other same) in
-    omega (arith, below, above)
+    omega (arith, no_longer work start other same, no_longer work other start (λ m number. sym (same m number)))
 
 -- the totals of plans with the same starts are equal
 pub totals_same : (workers : Option ℕ) (work : Work) (start other : ℕ → ℕ) (chain : List ℕ) → AreSame work start other
@@ -57,21 +47,11 @@ totals_same (Some k) work start other chain same =
     } in
     ap totals (same_length work start other same)
 
--- what is before a message is a message
-number_before : (before : ℕ → ℕ → Type 0) (work : Work) → IsForward before work → (i j : ℕ) → before i j → IsNumber work i
-number_before before work forward i j pair =
-    let earlier : i < j = forward.earlier i j pair in
-    let to : j ≤ work.count = forward.to i j pair in
-    record { from = forward.from i j pair; to = omega arith }
-
 -- the latest of messages is one
 latest_is_one : (Is : ℕ → Type 0) (finish : ℕ → ℕ) (a b : ℕ) → IsLatest Is finish a → IsLatest Is finish b → a ≡ b
 latest_is_one Is finish a b first second =
-    let below : finish a ≤ finish b = second.latest a first.one in
-    let above : finish b ≤ finish a = first.latest b second.one in
-    let no_higher : a ≤ b = first.lowest b second.one (omega arith) in
-    let no_lower : b ≤ a = second.lowest a first.one (omega arith) in
-    omega arith
+    let same : finish a ≡ finish b = omega (arith, second.latest a first.one, first.latest b second.one) in
+    omega (arith, first.lowest b second.one (sym same), second.lowest a first.one same)
 
 -- m and what follows it are the end of another chain
 abbrev IsEnd : ℕ → List ℕ → ℕ → List ℕ → Type 0
@@ -125,14 +105,11 @@ module _ (before : ℕ → ℕ → Type 0) (work : Work) (start : ℕ → ℕ) w
   whole m rest other (next ∷ others) free leads (inl same) = same
   whole m rest other (next ∷ others) free leads (inr end) =
       let shorter = whole m rest next others free leads.2 end in
-      let waited : work.release next < finish_of work start other = leads.1 in
-      let done : finish_of work start other ≤ work.release m = free other (subst (λ x. before other x) (sym shorter.0) leads.0.one) in
-      let same : work.release m ≡ work.release next = ap work.release shorter.0 in
-      absurd (omega arith)
+      absurd (omega (arith, leads.1, free other (subst (λ x. before other x) (sym shorter.0) leads.0.one), ap work.release shorter.0))
 
   number_of_leads : IsForward before work → (m : ℕ) (rest : List ℕ) → LeadsToEnd before work start m rest → IsNumber work m
   number_of_leads forward m [] leads = leads.one
-  number_of_leads forward m (next ∷ rest) leads = number_before before work forward m next leads.0.one
+  number_of_leads forward m (next ∷ rest) leads = first_number before work forward m next leads.0.one
 
   -- a plan has one printed chain
   one_chain : IsForward before work → (chain other : List ℕ) → IsPrinted before work start chain → IsPrinted before work start other → chain ≡ other
@@ -152,23 +129,16 @@ module _ (before : ℕ → ℕ → Type 0) (work : Work) (start : ℕ → ℕ) w
 latest_of_same : (Is : ℕ → Type 0) (finish other : ℕ → ℕ) (m : ℕ) → ((i : ℕ) → Is i → finish i ≡ other i) → IsLatest Is finish m → IsLatest Is other m
 latest_of_same Is finish other m same latest = record {
   one = latest.one;
-  latest = λ i is.
-      let at : finish i ≡ other i = same i is in
-      let at_m : finish m ≡ other m = same m latest.one in
-      let sooner : finish i ≤ finish m = latest.latest i is in
-      omega arith;
-  lowest = λ i is equal.
-      let at : finish i ≡ other i = same i is in
-      let at_m : finish m ≡ other m = same m latest.one in
-      latest.lowest i is (omega arith);
+  latest = λ i is. rw (same i is, same m latest.one) at (latest.latest i is);
+  lowest = λ i is equal. latest.lowest i is (same i is ∙ equal ∙ sym (same m latest.one));
 }
 
 module _ (before : ℕ → ℕ → Type 0) (work : Work) (start other : ℕ → ℕ) (forward : IsForward before work) (same : AreSame work start other) where
   same_finish : (i : ℕ) → IsNumber work i → finish_of work start i ≡ finish_of work other i
-  same_finish i number = let at : start i ≡ other i = same i number in omega arith
+  same_finish i number = ap (λ s. s + work.cost i) (same i number)
 
   same_finish_before : (i m : ℕ) → before i m → finish_of work start i ≡ finish_of work other i
-  same_finish_before i m pair = same_finish i (number_before before work forward i m pair)
+  same_finish_before i m pair = same_finish i (first_number before work forward i m pair)
 
   leads_of_same : (m : ℕ) (rest : List ℕ) → LeadsToEnd before work start m rest → LeadsToEnd before work other m rest
   leads_of_same m [] leads = latest_of_same (IsNumber work) (finish_of work start) (finish_of work other) m same_finish leads

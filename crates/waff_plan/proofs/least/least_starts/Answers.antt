@@ -7,7 +7,8 @@ use Rattle.waff_plan.specs.Timing.{work_of, start_of}
 use Rattle.waff_plan.specs.Table.{message_span}
 use Rattle.waff_plan.proofs.Forward.{IsOrdered_forward}
 use Rattle.waff_plan.proofs.Steps.{up_to_none, up_to_more, up_to_all}
-use Rattle.waff_plan.proofs.LeastStarts.{start_early, found_at, earliest_after, kept, last, early_more, table_again, early_is_printable}
+use Rattle.waff_plan.proofs.LeastStarts.{start_early, earliest_after, kept, last, early_more, table_again, early_is_printable}
+use Rattle.waff_plan.proofs.Tables.{found_at}
 use Rattle.waff_plan.proofs.least.least_starts.Goals as goal
 
 pub overflow_add-finish : goal.overflow_add-finish
@@ -66,7 +67,7 @@ loop-m-preserved c =
           (ap (finish_of work later) this ∙ ap (λ x. x + work.cost m) last ∙ ap (λ x. s + x) (sym c.from.ensures)));
       least = up_to_more (IsOrdered tree assigned) work (start_of starts) later m (IsOrdered_forward tree assigned work (sym c.requires.lengths)) number h.least kept
           (rw last (earliest_after tree assigned work (start_of starts) m s c.latest.result room
-          (found_at tree spans assigned finish m c.of.result.0 c.loop-m.table c.latest.result c.spans-spans.ensures c.requires.known from room c.of.ensures h.table c.latest.ensures)
+          (found_at tree spans assigned finish (m - 1) m c.of.result.0 c.loop-m.table c.latest.result c.spans-spans.ensures c.requires.known (omega arith) room c.of.ensures h.table c.latest.ensures)
           c.start_after-start.ensures.start));
       spans = c.note.ensures.count ∙ h.spans;
       room = c.push_reserved.ensures.capacity ∙ h.room;

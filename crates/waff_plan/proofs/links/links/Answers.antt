@@ -7,7 +7,7 @@ use Rattle.waff_plan.specs.Table.{message_span, IsTable}
 use Rattle.waff_plan.specs.Links.{IsLink, link_of}
 use Rattle.waff_plan.specs.Timetable.{work_in, starts_in}
 use Rattle.waff_plan.proofs.Linkings.{is_link, links_more}
-use Rattle.waff_plan.proofs.LeastStarts.{found_at}
+use Rattle.waff_plan.proofs.Tables.{found_at}
 use Rattle.waff_plan.proofs.links.links.Goals as goal
 
 pub loop-m-init : goal.loop-m-init
@@ -34,7 +34,7 @@ loop-m-preserved c =
     let to : m ≤ length assigned = omega (arith, c.len-m-end.ensures.count, c.loop-m-test.true, c.requires.lengths) in
     let this : m - 1 + 1 ≡ m = omega arith in
     let next : m ≡ m + 1 - 1 = omega arith in
-    let found = found_at tree spans assigned finish m c.of.result.0 c.loop-m.table c.latest.result c.spans-spans.ensures c.requires.known from to c.of.ensures
+    let found = found_at tree spans assigned finish (m - 1) m c.of.result.0 c.loop-m.table c.latest.result c.spans-spans.ensures c.requires.known (omega arith) to c.of.ensures
     c.loop-m.invariant.table c.latest.ensures in
     let link_is : link ≡ link_of c.latest.result (work.release m)
     = c.waited_for-link.ensures ∙ ap (λ release. link_of c.latest.result release) c.release.ensures.release in

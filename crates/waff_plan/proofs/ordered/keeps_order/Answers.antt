@@ -4,7 +4,8 @@ use Rattle.waff_model.specs.Preorder.{span_at}
 use Rattle.waff_plan.specs.Work.{finish_of}
 use Rattle.waff_plan.specs.Table.{message_span, IsTable}
 use Rattle.waff_plan.specs.Timetable.{work_in, starts_in}
-use Rattle.waff_plan.proofs.OrderKept.{after_latest, found_among, keeps_more, noted_before, starts_after}
+use Rattle.waff_plan.proofs.OrderKept.{after_latest, keeps_more, noted_before, starts_after}
+use Rattle.waff_plan.proofs.Tables.{found_at}
 use Rattle.waff_plan.proofs.ordered.keeps_order.Goals as goal
 use Rattle.waff_plan.proofs.ordered.keeps_order.Goals.{then-m-count, else-m-count}
 
@@ -30,7 +31,7 @@ returns-then-not-is_finished_by c =
     let kept = c.loop-m.invariant in
     let from : 1 ≤ m = c.loop-m.auto.m in
     let to : m ≤ length assigned = omega (arith, c.len-m-end.ensures.count, c.loop-m-test.true) in
-    let found = found_among tree spans assigned (finish_of work start) (noted_before count m) m c.of.result.0 c.loop-m.table c.latest.result
+    let found = found_at tree spans assigned (finish_of work start) (noted_before count m) m c.of.result.0 c.loop-m.table c.latest.result
     c.spans-spans.ensures c.requires.known (omega arith) to c.of.ensures kept.table c.latest.ensures in (
       λ t. absurd (cc t),
       λ order. (
@@ -51,7 +52,7 @@ loop-m-preserved c =
     let kept = c.loop-m.invariant in
     let from : 1 ≤ m = c.loop-m.auto.m in
     let to : m ≤ length assigned = omega (arith, c.len-m-end.ensures.count, c.loop-m-test.true) in
-    let found = found_among tree spans assigned (finish_of work start) (noted_before count m) m c.of.result.0 c.loop-m.table c.latest.result
+    let found = found_at tree spans assigned (finish_of work start) (noted_before count m) m c.of.result.0 c.loop-m.table c.latest.result
     c.spans-spans.ensures c.requires.known (omega arith) to c.of.ensures kept.table c.latest.ensures in
     let late : IfSome c.latest.result (λ l. l.finish ≤ start m) = rw (sym c.start.ensures.start) (c.is_finished_by.ensures.0 c.if-not-is_finished_by.false) in
     let more = keeps_more tree assigned work start count m kept.kept (starts_after tree assigned work start count m c.latest.result found late) in
