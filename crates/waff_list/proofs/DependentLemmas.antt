@@ -1,5 +1,5 @@
 -- The lists of dependents, as messages are added to them.
-use Rattle.std.proofs.Common.{◌≡◌, ◌≢◌, ℕ, ◌+◌, ◌-◌, ◌<◌, ◌≤◌, ◌⊎◌, inl, inr, List, [], ◌∷◌, length, get_or, set, replicate, Contains, arith, refl, ap, sym, ◌∙◌, subst, ⊎_elim, get_or-set_same, get_or-set_other, length-set}
+use Rattle.std.proofs.Common.{◌≡◌, ◌≢◌, ℕ, ◌+◌, ◌-◌, ◌<◌, ◌≤◌, ◌⊎◌, inl, inr, List, [], ◌∷◌, length, get_or, set, replicate, Contains, arith, refl, ap, sym, ◌∙◌, subst, get_or-set_same, get_or-set_other, length-set}
 use Rattle.std.proofs.lemmas.Bool.{cases_eq, cases_lt}
 use Rattle.std.proofs.lemmas.List.{get_or_past}
 use Rattle.waff_order.specs.Needs.{needs_of, IsNeed, AreLists}
@@ -18,33 +18,33 @@ pub grows_join : (xs ys zs : List (List ℕ)) (m : ℕ) → Grows xs m ys → Gr
 grows_join xs ys zs m first second = record {
   count = second.count ∙ first.count;
   others = λ i x other. second.others i x other ∙ first.others i x other;
-  only = λ i x there. ⊎_elim {C = Contains (dependents_of xs i) x ⊎ (x ≡ m)}
-      (λ (before : Contains (dependents_of ys i) x). first.only i x before) (λ (is : x ≡ m). inr is) (second.only i x there);
+  only = λ i x there. elim (second.only i x there) [ inl before ↦ first.only i x before | inr is ↦ inr is ];
 }
 
 module _ (xs : List (List ℕ)) (i m : ℕ) (to : i - 1 < length xs) where
-  here : dependents_of (set xs (i - 1) (m ∷ dependents_of xs i)) i ≡ m ∷ dependents_of xs i
+  abbrev grown : List (List ℕ)
+  grown = set xs (i - 1) (m ∷ dependents_of xs i)
+
+  here : dependents_of grown i ≡ m ∷ dependents_of xs i
   here = get_or-set_same xs (i - 1) (m ∷ dependents_of xs i) [] to
 
-  at : (j : ℕ) → (dependents_of (set xs (i - 1) (m ∷ dependents_of xs i)) j ≡ m ∷ dependents_of xs j) ⊎ (dependents_of (set xs (i - 1) (m ∷ dependents_of xs i)) j ≡ dependents_of xs j)
-  at j = ⊎_elim {C = (dependents_of (set xs (i - 1) (m ∷ dependents_of xs i)) j ≡ m ∷ dependents_of xs j) ⊎ (dependents_of (set xs (i - 1) (m ∷ dependents_of xs i)) j ≡ dependents_of xs j)}
-      (λ (same : j - 1 ≡ i - 1). inl (ap (λ k. get_or (set xs (i - 1) (m ∷ dependents_of xs i)) k []) same ∙ here ∙ ap (λ k. m ∷ get_or xs k []) (sym same)))
-      (λ (other : j - 1 ≢ i - 1). inr (get_or-set_other xs (i - 1) (j - 1) (m ∷ dependents_of xs i) [] other))
-      (cases_eq (j - 1) (i - 1))
+  at : (j : ℕ) → (dependents_of grown j ≡ m ∷ dependents_of xs j) ⊎ (dependents_of grown j ≡ dependents_of xs j)
+  at j = elim (cases_eq (j - 1) (i - 1)) [
+    | inl same ↦ inl (ap (λ k. get_or grown k []) same ∙ here ∙ ap (λ k. m ∷ get_or xs k []) (sym same))
+    | inr other ↦ inr (get_or-set_other xs (i - 1) (j - 1) (m ∷ dependents_of xs i) [] other)
+  ]
 
   pub grows_one : Grows xs m (set xs (i - 1) (m ∷ dependents_of xs i))
   grows_one = record {
     count = length-set xs (i - 1) (m ∷ dependents_of xs i);
-    others = λ j x other. ⊎_elim {C = times x (dependents_of (set xs (i - 1) (m ∷ dependents_of xs i)) j) ≡ times x (dependents_of xs j)}
-        (λ (more : dependents_of (set xs (i - 1) (m ∷ dependents_of xs i)) j ≡ m ∷ dependents_of xs j).
-        ap (λ ys. times x ys) more ∙ times_cons_other (dependents_of xs j) x other)
-        (λ (same : dependents_of (set xs (i - 1) (m ∷ dependents_of xs i)) j ≡ dependents_of xs j). ap (λ ys. times x ys) same)
-        (at j);
-    only = λ j x there. ⊎_elim {C = Contains (dependents_of xs j) x ⊎ (x ≡ m)}
-        (λ (more : dependents_of (set xs (i - 1) (m ∷ dependents_of xs i)) j ≡ m ∷ dependents_of xs j).
-        contains_rest_of m x (dependents_of xs j) (subst (λ ys. Contains ys x) more there))
-        (λ (same : dependents_of (set xs (i - 1) (m ∷ dependents_of xs i)) j ≡ dependents_of xs j). inl (subst (λ ys. Contains ys x) same there))
-        (at j);
+    others = λ j x other. elim (at j) [
+      | inl more ↦ ap (λ ys. times x ys) more ∙ times_cons_other (dependents_of xs j) x other
+      | inr same ↦ ap (λ ys. times x ys) same
+    ];
+    only = λ j x there. elim (at j) [
+      | inl more ↦ contains_rest_of m x (dependents_of xs j) (subst (λ ys. Contains ys x) more there)
+      | inr same ↦ inl (subst (λ ys. Contains ys x) same there)
+    ];
   }
 
   pub grown_here : times m (dependents_of (set xs (i - 1) (m ∷ dependents_of xs i)) i) ≡ times m (dependents_of xs i) + 1
@@ -64,13 +64,11 @@ dependents_none needs d firsts_are links_are =
       count = count;
       each = λ i m from m_from none. absurd (omega arith);
       only = λ i m there.
-          let empty : dependents_of (trails d) i ≡ [] = ⊎_elim {C = get_or (trails d) (i - 1) [] ≡ []}
-          (λ (inside : i - 1 < length needs). no_trail d (length needs) firsts_are links_are (i - 1) inside)
-          (λ (past : length needs ≤ i - 1). get_or_past (trails d) (i - 1) [] (omega (arith, count)))
-          (cases_lt (i - 1) (length needs)) in
-          let h = subst (λ xs. Contains xs m) empty there in
-          let within = h.1 in
-          absurd (omega (arith, within));
+          let empty : dependents_of (trails d) i ≡ [] = elim (cases_lt (i - 1) (length needs)) [
+            | inl inside ↦ no_trail d (length needs) firsts_are links_are (i - 1) inside
+            | inr past ↦ get_or_past (trails d) (i - 1) [] (omega (arith, count))
+          ] in
+          absurd (omega (arith, (subst (λ xs. Contains xs m) empty there).1));
     }
 
 -- one message more has been asked for its needs
@@ -79,23 +77,20 @@ pub dependents_more : (needs old new : List (List ℕ)) (n : ℕ) → AreDepende
     → AreDependents needs new (n + 1)
 dependents_more needs old new n h grows added = record {
   count = grows.count ∙ h.count;
-  each = λ i m from m_from to. ⊎_elim {C = times m (dependents_of new i) ≡ times i (needs_of needs m)}
-      (λ (last : m ≡ n + 1).
-      let none = times_none (n + 1) (dependents_of old i) (λ there. let within = h.only i (n + 1) there in omega (arith, within.1)) in
-      let all : times (n + 1) (dependents_of new i) ≡ times i (needs_of needs (n + 1)) = omega (arith, added i from, none) in
-      subst (λ x. times x (dependents_of new i) ≡ times i (needs_of needs x)) (sym last) all)
-      (λ (other : m ≢ n + 1). grows.others i m other ∙ h.each i m from m_from (omega arith))
-      (cases_eq m (n + 1));
-  only = λ i m there. ⊎_elim {C = (1 ≤ m) × (m ≤ n + 1)}
-      (λ (before : Contains (dependents_of old i) m). let within = h.only i m before in (within.0, omega (arith, within.1)))
-      (λ (is : m ≡ n + 1). (omega arith, omega arith))
-      (grows.only i m there);
+  each = λ i m from m_from to. elim (cases_eq m (n + 1)) [
+    | inl last ↦
+        let none = times_none (n + 1) (dependents_of old i) (λ there. omega (arith, (h.only i (n + 1) there).1)) in
+        rw last (omega (arith, added i from, none))
+    | inr other ↦ grows.others i m other ∙ h.each i m from m_from (omega arith)
+  ];
+  only = λ i m there. elim (grows.only i m there) [
+    | inl before ↦ let within = h.only i m before in (within.0, omega (arith, within.1))
+    | inr is ↦ (omega (arith, is), omega (arith, is))
+  ];
 }
 
 -- each need of a message is one of the messages
 pub needs_inside : (needs : List (List ℕ)) (m : ℕ) → AreLists needs → 1 ≤ m → (i : ℕ) → Contains (needs_of needs m) i → (1 ≤ i) × (i ≤ length needs)
 needs_inside needs m lists from i there =
     let need : IsNeed needs i m = record { from = from; listed = there } in
-    let earlier = lists.earlier i m need in
-    let to = need_within needs i m need in
-    (lists.from i m need, omega (arith, earlier, to))
+    (lists.from i m need, omega (arith, lists.earlier i m need, need_within needs i m need))

@@ -1,9 +1,9 @@
 -- Lists of all that pass a test, each once.
-use Rattle.std.proofs.Common.{◌≡◌, ◌≢◌, ℕ, zero, suc, ◌+◌, ◌≤◌, ◌⊎◌, inl, inr, cond, ◌==◌, List, [], ◌∷◌, ◌++◌, map, All, Contains, arith, refl, ap, sym, ◌∙◌, subst, ⊎_elim}
+use Rattle.std.proofs.Common.{◌≡◌, ◌≢◌, ℕ, zero, suc, ◌+◌, ◌≤◌, ◌⊎◌, inl, inr, cond, ◌==◌, List, [], ◌∷◌, ◌++◌, map, All, Contains, arith, refl, ap, sym, ◌∙◌, subst}
 use Rattle.std.specs.List.Sorted.{IsPermutation}
 use Rattle.std.proofs.lemmas.Bool.{cases_eq}
 use Rattle.std.proofs.lemmas.List.{get_or-map, length-map}
-use Rattle.std.proofs.lemmas.List.Elements.{All-head, All-tail, Contains-append_left, Contains-append_cases}
+use Rattle.std.proofs.lemmas.List.Elements.{All-head, All-tail, Contains-append_left, Contains-push_cases}
 use Rattle.std.proofs.lemmas.List.Sorted.{IsPermutation-sym, IsPermutation-trans, IsPermutation-map, IsPermutation-middle, IsPermutation-append_left, IsPermutation-append_right, Contains-permutation, sum_by-IsPermutation}
 use Rattle.std.proofs.lemmas.List.Sums.{sum_by-append}
 use Rattle.waff_list.specs.Waiting.{AreEach, times}
@@ -24,10 +24,7 @@ pub contains_first : {X : Type 0} (x : X) (xs : List X) → Contains (x ∷ xs) 
 contains_first x xs = (0, omega arith, refl)
 
 pub one_of : {X : Type 0} (xs : List X) (x y : X) → Contains (xs ++ x ∷ []) y → Contains xs y ⊎ (y ≡ x)
-one_of xs x y there = ⊎_elim {C = Contains xs y ⊎ (y ≡ x)}
-    (λ (first : Contains xs y). inl first)
-    (λ (last : Contains (x ∷ []) y). ⊎_elim {C = Contains xs y ⊎ (y ≡ x)} (λ (none : Contains [] y). absurd (none_there y none)) (λ (is : y ≡ x). inr is) (contains_rest_of x y [] last))
-    (Contains-append_cases xs (x ∷ []) y there)
+one_of xs x y there = elim (Contains-push_cases xs x y there) [ inl first ↦ inl first | inr is ↦ inr (sym is) ]
 
 -- what a list is mapped to
 pub contains_map : {X : Type 0} {Y : Type 0} (f : X → Y) (xs : List X) (x : X) → Contains xs x → Contains (map f xs) (f x)
@@ -50,10 +47,10 @@ times_moved x xs ys moved = sum_by-IsPermutation (λ y. cond (y == x) 1 0) xs ys
 
 times_listed : (x : ℕ) (xs : List ℕ) → 1 ≤ times x xs → Contains xs x
 times_listed x [] some = absurd (omega (arith, some))
-times_listed x (y ∷ ys) some = ⊎_elim {C = Contains (y ∷ ys) x}
-    (λ (same : x ≡ y). subst (λ z. Contains (y ∷ ys) z) (sym same) (contains_first y ys))
-    (λ (other : x ≢ y). contains_more y x ys (times_listed x ys (omega (arith, some, times_cons_other ys x other))))
-    (cases_eq x y)
+times_listed x (y ∷ ys) some = elim (cases_eq x y) [
+  | inl same ↦ subst (λ z. Contains (y ∷ ys) z) (sym same) (contains_first y ys)
+  | inr other ↦ contains_more y x ys (times_listed x ys (omega (arith, some, times_cons_other ys x other)))
+]
 
 module _ (Passes : ℕ → Type 0) (xs : List ℕ) (h : AreEach Passes xs) where
   pub each_there : (x : ℕ) → Passes x → Contains xs x
@@ -69,12 +66,11 @@ module _ (Passes : ℕ → Type 0) (xs : List ℕ) (h : AreEach Passes xs) where
   pub each_more : (Now : ℕ → Type 0) (x : ℕ) → (Contains xs x → ⊥) → Now x → ((y : ℕ) → Passes y → Now y) → ((y : ℕ) → Now y → y ≢ x → Passes y)
       → AreEach Now (x ∷ xs)
   each_more Now x new passes kept back = record {
-    only = λ y there. ⊎_elim {C = Now y} (λ (was : Contains xs y). kept y (h.only y was)) (λ (same : y ≡ x). subst (λ z. Now z) (sym same) passes)
-        (contains_rest_of x y xs there);
-    each = λ y now. ⊎_elim {C = times y (x ∷ xs) ≡ 1}
-        (λ (same : y ≡ x). subst (λ z. times z (x ∷ xs) ≡ 1) (sym same) (omega (arith, times_cons_same xs x, times_none x xs new)))
-        (λ (other : y ≢ x). times_cons_other xs y other ∙ h.each y (back y now other))
-        (cases_eq y x);
+    only = λ y there. elim (contains_rest_of x y xs there) [ inl was ↦ kept y (h.only y was) | inr same ↦ subst Now (sym same) passes ];
+    each = λ y now. elim (cases_eq y x) [
+      | inl same ↦ subst (λ z. times z (x ∷ xs) ≡ 1) (sym same) (omega (arith, times_cons_same xs x, times_none x xs new))
+      | inr other ↦ times_cons_other xs y other ∙ h.each y (back y now other)
+    ];
   }
 
   pub each_same : (Now : ℕ → Type 0) → ((y : ℕ) → Passes y → Now y) → ((y : ℕ) → Now y → Passes y) → AreEach Now xs
@@ -96,7 +92,8 @@ each_pushed Passes Now x xs ys new h pushed before passes kept back =
     (IsPermutation-trans (x ∷ xs ++ ys) (xs ++ x ∷ ys) (xs ++ new)
     (IsPermutation-sym (xs ++ x ∷ ys) (x ∷ xs ++ ys) (IsPermutation-middle xs x ys)) (IsPermutation-append_right xs (x ∷ ys) new pushed))
 
-map_same : {X : Type 0} (f g : X → ℕ) (xs : List X) → All (λ x. f x ≡ g x) xs → map f xs ≡ map g xs
+-- two functions that agree on a list
+pub map_same : {X : Type 0} {Y : Type 0} (f g : X → Y) (xs : List X) → All (λ x. f x ≡ g x) xs → map f xs ≡ map g xs
 map_same f g [] h = refl
 map_same f g (x ∷ xs) h =
     ap (λ y. y ∷ map f xs) (All-head (λ y. f y ≡ g y) x xs h) ∙ ap (λ ys. g x ∷ ys) (map_same f g xs (All-tail (λ y. f y ≡ g y) x xs h))

@@ -1,5 +1,5 @@
 -- Comparisons of numbers, and of pairs by their first parts.
-use Rattle.std.proofs.Common.{◌≡◌, ℕ, ◌<◌, ◌≤◌, ◌⊎◌, inl, inr, subst, false, cond, nat_lt, nat_eq, refl, ap, sym, ◌∙◌, ⊎_elim}
+use Rattle.std.proofs.Common.{◌≡◌, ℕ, ◌<◌, ◌≤◌, ◌⊎◌, inl, inr, subst, false, cond, nat_lt, nat_eq, refl, ap, sym, ◌∙◌}
 use Rattle.std.specs.Ordering.{nat_cmp, is_lt, ordering_then}
 use Rattle.std.specs.Cmp.{nat_cmp_is}
 use Rattle.std.specs.declared.cmp.Ordering.TheVariants.{Less, Equal, Greater}
@@ -10,16 +10,16 @@ less_is x y less = cond-true (nat_lt x y) Less (cond (nat_eq x y) Equal Greater)
 
 -- what is not less is greater or equal
 pub not_less : (x y : ℕ) → is_lt (nat_cmp x y) ≡ false → y ≤ x
-not_less x y h = ⊎_elim {C = y ≤ x}
-    (λ (less : x < y). absurd (false≢true (sym h ∙ ap is_lt (less_is x y less))))
-    (λ (late : y ≤ x). late)
-    (cases_lt x y)
+not_less x y h = elim (cases_lt x y) [
+  | inl less ↦ absurd (false≢true (sym h ∙ ap is_lt (less_is x y less)))
+  | inr late ↦ late
+]
 
 pub not_less_first : (a b : ℕ × ℕ) → is_lt (ordering_then (nat_cmp a.0 b.0) (nat_cmp a.1 b.1)) ≡ false → b.0 ≤ a.0
-not_less_first a b h = ⊎_elim {C = b.0 ≤ a.0}
-    (λ (less : a.0 < b.0). absurd (false≢true (sym h ∙ ap (λ o. is_lt (ordering_then o (nat_cmp a.1 b.1))) (less_is a.0 b.0 less))))
-    (λ (late : b.0 ≤ a.0). late)
-    (cases_lt a.0 b.0)
+not_less_first a b h = elim (cases_lt a.0 b.0) [
+  | inl less ↦ absurd (false≢true (sym h ∙ ap (λ o. is_lt (ordering_then o (nat_cmp a.1 b.1))) (less_is a.0 b.0 less)))
+  | inr late ↦ late
+]
 
 -- and what is greater or equal is not less
 pub first_not_less : (a b : ℕ × ℕ) → is_lt (ordering_then (nat_cmp a.0 b.0) (nat_cmp a.1 b.1)) ≡ false → is_lt (nat_cmp a.0 b.0) ≡ false

@@ -1,8 +1,9 @@
 -- Trails of links, as links are added.
-use Rattle.std.proofs.Common.{◌≡◌, ℕ, zero, suc, ◌+◌, ◌-◌, ◌<◌, ◌≤◌, List, [], ◌∷◌, ◌++◌, length, map, get_or, set, replicate, All, arith, refl, ap, sym, ◌∙◌, subst, ⊎_elim}
+use Rattle.std.proofs.Common.{◌≡◌, ℕ, zero, suc, ◌+◌, ◌-◌, ◌<◌, ◌≤◌, List, [], ◌∷◌, ◌++◌, length, map, get_or, set, replicate, All, arith, refl, ap, sym, ◌∙◌, subst, inl, inr}
 use Rattle.std.proofs.lemmas.Bool.{cases_lt}
 use Rattle.std.proofs.lemmas.List.{get_or_push, get_or_append_left, get_or-map, length_push, length-map, length-replicate, map-set, get_or-replicate}
-use Rattle.std.proofs.lemmas.List.Elements.{All-head, All-tail, All-set, All-weaker, All-get_or, All-replicate}
+use Rattle.std.proofs.lemmas.List.Elements.{All-set, All-weaker, All-get_or, All-replicate}
+use Rattle.waff_list.proofs.Each.{map_same}
 use Rattle.waff_list.specs.Trails.{link_at, trail, trails, AreLinked}
 use Rattle.waff_list.specs.declared.dependents.Dependents.{Dependents}
 use Rattle.waff_list.specs.declared.dependents.Link.{Link}
@@ -53,13 +54,6 @@ module _ (links : List Link) (back : AreBack links) where
       ap (λ (x : Link). x.message ∷ trail (links ++ l ∷ []) most x.next) same
       ∙ ap (λ xs. (link_at links (suc n)).message ∷ xs) (trail_kept l most next (omega arith))
 
--- two functions that agree on a list
-map_same : (f g : ℕ → List ℕ) (xs : List ℕ) → All (λ x. f x ≡ g x) xs → map f xs ≡ map g xs
-map_same f g [] all = refl
-map_same f g (x ∷ xs) all =
-    ap (λ y. y ∷ map f xs) (All-head (λ x. f x ≡ g x) x xs all)
-    ∙ ap (λ ys. g x ∷ ys) (map_same f g xs (All-tail (λ x. f x ≡ g x) x xs all))
-
 module _ (d new : Dependents) (at m : ℕ) (linked : AreLinked d) (to : at < length d.firsts.items)
     (links_are : new.links.items ≡ d.links.items ++ (record { message = m; next = get_or d.firsts.items at 0 }) ∷ [])
     (firsts_are : new.firsts.items ≡ set d.firsts.items at (length d.links.items + 1)) where
@@ -83,16 +77,14 @@ module _ (d new : Dependents) (at m : ℕ) (linked : AreLinked d) (to : at < len
 
   back_more : AreBack (links ++ l ∷ [])
   back_more n from within =
-      ⊎_elim {C = (link_at (links ++ l ∷ []) n).next < n}
-      (λ (before : n < count + 1).
-      let same : link_at (links ++ l ∷ []) n ≡ link_at links n = get_or_append_left links (l ∷ []) no_link (n - 1) (omega arith) in
-      subst (λ (x : Link). x.next < n) (sym same) (linked.earlier n from (omega arith)))
-      (λ (after : count + 1 ≤ n).
-      let long : length (links ++ l ∷ []) ≡ count + 1 = length_push links l in
-      let is : n ≡ count + 1 = omega (arith, within, long) in
-      let below : l.next < count + 1 = omega (arith, first_within) in
-      subst (λ k. (link_at (links ++ l ∷ []) k).next < k) (sym is) (subst (λ (x : Link). x.next < count + 1) (sym last) below))
-      (cases_lt n (count + 1))
+      elim (cases_lt n (count + 1)) [
+        | inl before ↦
+            subst (λ (x : Link). x.next < n) (sym (get_or_append_left links (l ∷ []) no_link (n - 1) (omega arith))) (linked.earlier n from (omega arith))
+        | inr after ↦
+            let is : n ≡ count + 1 = omega (arith, within, length_push links l) in
+            let below : l.next < count + 1 = omega (arith, first_within) in
+            subst (λ k. (link_at (links ++ l ∷ []) k).next < k) (sym is) (subst (λ (x : Link). x.next < count + 1) (sym last) below)
+      ]
 
   pub linked_more : AreLinked new
   linked_more = record {

@@ -1,5 +1,5 @@
 -- What is noted at the affinities of a tree, carried down to all below.
-use Rattle.std.proofs.Common.{◌≡◌, ◌≢◌, ℕ, ◌+◌, ◌<◌, ◌≤◌, ◌⊎◌, List, length, get_or, set, Option, Some, None, IfSome, arith, refl, sym, ◌∙◌, subst, inl, inr, ⊎_elim}
+use Rattle.std.proofs.Common.{◌≡◌, ◌≢◌, ℕ, ◌+◌, ◌<◌, ◌≤◌, ◌⊎◌, List, length, get_or, set, Option, Some, None, IfSome, arith, refl, sym, ◌∙◌, subst, inl, inr}
 use Rattle.std.specs.Prelude.{option_and_then}
 use Rattle.std.proofs.lemmas.Bool.{cases_eq, cases_lt}
 use Rattle.std.proofs.lemmas.List.{get_or-set_same, get_or-set_other, get_or_past}
@@ -27,20 +27,17 @@ module _ (tree coarse_tree : List Node) (old : List (Option AffinityId)) where
 
   noted_split : (n : ℕ) (x : AffinityId) → IsNotedAbove tree old n x → (get_or old n None ≡ Some x) ⊎ IsNotedUp n x
   noted_split n x h =
-      ⊎_elim {C = (get_or old n None ≡ Some x) ⊎ IsNotedUp n x}
-      (λ (same : h.place ≡ n). inl (subst (λ u. get_or old u None ≡ Some x) same h.noted))
-      (λ (other : h.place ≢ n). inr (noted_split_by n x h other (parent_of tree n) refl))
-      (cases_eq h.place n)
+      elim (cases_eq h.place n) [
+        | inl same ↦ inl (subst (λ u. get_or old u None ≡ Some x) same h.noted)
+        | inr other ↦ inr (noted_split_by n x h other (parent_of tree n) refl)
+      ]
 
   pub noted_up : (n : ℕ) (x : AffinityId) → IsNotedUp n x → IsNotedAbove tree old n x
   noted_up n x (p, is, h) = record { place = h.place; above = above_child tree h.place n p is h.above; noted = h.noted }
 
   noted_join : (n : ℕ) (x : AffinityId) → (get_or old n None ≡ Some x) ⊎ IsNotedUp n x → IsNotedAbove tree old n x
   noted_join n x either =
-      ⊎_elim {C = IsNotedAbove tree old n x}
-      (λ (own : get_or old n None ≡ Some x). record { place = n; above = reflexive tree n; noted = own })
-      (λ (up : IsNotedUp n x). noted_up n x up)
-      either
+      elim either [ inl own ↦ record { place = n; above = reflexive tree n; noted = own } | inr up ↦ noted_up n x up ]
 
   own_noted : (o : Option AffinityId) → IsLowestNoted coarse_tree (λ x. o ≡ Some x) o
   own_noted None = λ x is. absurd (cc)
@@ -75,17 +72,14 @@ module _ (tree coarse_tree : List Node) (old : List (Option AffinityId)) where
   carried_alone rooted n new none h =
       let no_up : IsLowestNoted coarse_tree (IsNotedUp n) None = subst (λ x. IsLowestNoted coarse_tree (IsNotedUp n) x) none (up_noted rooted n new h) in
       record {
-        before = λ b below.
-            ⊎_elim {C = IsLowestNoted coarse_tree (IsNotedAbove tree old b) (get_or new b None)}
-            (λ (last : b ≡ n).
-            subst (λ u. IsLowestNoted coarse_tree (IsNotedAbove tree old u) (get_or new u None)) (sym last)
-            (subst (λ u. IsLowestNoted coarse_tree (IsNotedAbove tree old n) u) (sym (h.after n (omega arith)))
-            (noted_same coarse_tree (λ x. get_or old n None ≡ Some x) (IsNotedAbove tree old n) (get_or old n None)
-            (λ x own. noted_join n x (inl own))
-            (λ x above. ⊎_elim {C = get_or old n None ≡ Some x} (λ own. own) (λ up. absurd (no_up x up)) (noted_split n x above))
-            (own_noted (get_or old n None)))))
-            (λ (other : b ≢ n). h.before b (omega arith))
-            (cases_eq b n);
+        before = λ b below. elim (cases_eq b n) [
+          | inl last ↦ rw (last, h.after n (omega arith))
+              (noted_same coarse_tree (λ x. get_or old n None ≡ Some x) (IsNotedAbove tree old n) (get_or old n None)
+              (λ x own. noted_join n x (inl own))
+              (λ x above. elim (noted_split n x above) [ inl own ↦ own | inr up ↦ absurd (no_up x up) ])
+              (own_noted (get_or old n None)))
+          | inr other ↦ h.before b (omega arith)
+        ];
         after = λ b later. h.after b (omega arith);
       }
 
@@ -101,17 +95,11 @@ module _ (tree coarse_tree : List Node) (old : List (Option AffinityId)) where
       = noted_either coarse_tree Own (IsNotedUp n) (get_or old n None) above low (own_noted (get_or old n None)) up
       (subst (λ x. IsLower coarse_tree x above low) kept lower) in
       record {
-        before = λ b below.
-            ⊎_elim {C = IsLowestNoted coarse_tree (IsNotedAbove tree old b) (get_or (set new n (Some low)) b None)}
-            (λ (last : b ≡ n).
-            subst (λ u. IsLowestNoted coarse_tree (IsNotedAbove tree old u) (get_or (set new n (Some low)) u None)) (sym last)
-            (subst (λ u. IsLowestNoted coarse_tree (IsNotedAbove tree old n) u) (sym (get_or-set_same new n (Some low) None within))
-            (noted_same coarse_tree (λ x. Own x ⊎ IsNotedUp n x) (IsNotedAbove tree old n) (Some low)
-            (λ x either. noted_join n x either) (λ x all. noted_split n x all) both)))
-            (λ (other : b ≢ n).
-            subst (λ u. IsLowestNoted coarse_tree (IsNotedAbove tree old b) u) (sym (get_or-set_other new n b (Some low) None other))
-            (h.before b (omega arith)))
-            (cases_eq b n);
+        before = λ b below. elim (cases_eq b n) [
+          | inl last ↦ rw (last, get_or-set_same new n (Some low) None within)
+              (noted_same coarse_tree (λ x. Own x ⊎ IsNotedUp n x) (IsNotedAbove tree old n) (Some low) (λ x either. noted_join n x either) (λ x all. noted_split n x all) both)
+          | inr other ↦ rw (get_or-set_other new n b (Some low) None other) (h.before b (omega arith))
+        ];
         after = λ b later. get_or-set_other new n b (Some low) None (omega arith) ∙ h.after b (omega arith);
       }
 

@@ -1,5 +1,5 @@
 -- The needs of one message after another: each ordered pair is a path through needs.
-use Rattle.std.proofs.Common.{◌≡◌, ◌≢◌, ℕ, zero, suc, ◌+◌, ◌<◌, ◌≤◌, ◌⊎◌, inl, inr, List, [], ◌∷◌, ◌++◌, length, Contains, arith, refl, sym, subst, ⊎_elim}
+use Rattle.std.proofs.Common.{◌≡◌, ◌≢◌, ℕ, zero, suc, ◌+◌, ◌<◌, ◌≤◌, ◌⊎◌, inl, inr, List, [], ◌∷◌, ◌++◌, length, Contains, arith, refl, sym, subst}
 use Rattle.std.specs.List.Sorted.{IsStrictlyIncreasing}
 use Rattle.std.proofs.lemmas.Bool.{cases_eq, cases_order}
 use Rattle.std.proofs.lemmas.List.Elements.{All-contains}
@@ -32,7 +32,7 @@ chosen_last (one ∷ rest) above none some = absurd (omega arith)
 module _ (Above : ℕ → ℕ → Type 0) where
   -- the chosen needs are taken, or the latest above
   pub chosen_taken : (taken : List ℕ) (above i : ℕ) → Contains taken i → Contains (chosen taken above) i
-  chosen_taken [] above i h = let within = h.1 in absurd (omega (arith, within))
+  chosen_taken [] above i h = absurd (omega (arith, h.1))
   chosen_taken (one ∷ rest) above i h = h
 
   chosen_above : (above : ℕ) → 0 < above → Contains (chosen [] above) above
@@ -40,7 +40,7 @@ module _ (Above : ℕ → ℕ → Type 0) where
   chosen_above (suc n) some = (0, omega arith, refl)
 
   pub chosen_cases : (taken : List ℕ) (above i : ℕ) → Contains (chosen taken above) i → Contains taken i ⊎ ((0 < above) × (i ≡ above))
-  chosen_cases [] zero i h = let within = h.1 in absurd (omega (arith, within))
+  chosen_cases [] zero i h = absurd (omega (arith, h.1))
   chosen_cases [] (suc n) i (zero, within, same) = inr (omega arith, sym same)
   chosen_cases [] (suc n) i (suc k, within, same) = absurd (omega arith)
   chosen_cases (one ∷ rest) above i h = inl h
@@ -57,12 +57,8 @@ module _ (Above : ℕ → ℕ → Type 0) where
       → length (chosen taken above) ≤ length taken
   length-chosen_all n [] zero all some takes latest = omega arith
   length-chosen_all n [] (suc above) all some takes latest =
-      let there = latest.some (omega arith) in
-      let one = some (suc above) (omega arith) there.0 in
-      ⊎_elim {C = length (chosen [] (suc above)) ≤ length {A = ℕ} []}
-      (λ (listed : Contains [] one.0). let within = listed.1 in absurd (omega (arith, within)))
-      (λ (apart : ¬ Above (n + 1) one.0). absurd (apart (all one.0 one.1)))
-      (takes.each one.0 one.1)
+      let one = some (suc above) (omega arith) (latest.some (omega arith)).0 in
+      elim (takes.each one.0 one.1) [ inl listed ↦ absurd (omega (arith, listed.1)) | inr apart ↦ absurd (apart (all one.0 one.1)) ]
   length-chosen_all n (one ∷ rest) above all some takes latest = omega arith
 
   -- the chosen needs rise
@@ -75,17 +71,14 @@ module _ (Above : ℕ → ℕ → Type 0) where
   pub chosen_excludes : (n : ℕ) (taken : List ℕ) (above i : ℕ) → AreTaken Above n taken → IsLatestAbove Above n (n + 1) above
       → Contains (chosen taken above) i → (1 ≤ i) × (i ≤ n) × (Above i (n + 1) ⊎ Above (n + 1) i)
   chosen_excludes n taken above i h latest listed =
-      ⊎_elim {C = (1 ≤ i) × (i ≤ n) × (Above i (n + 1) ⊎ Above (n + 1) i)}
-      (λ (one : Contains taken i).
-      let there = All-contains (λ j. IsOpen Above n j × Above (n + 1) j) taken i h.takes one in
-      (there.0.from, there.0.to, inr there.1))
-      (λ (one : (0 < above) × (i ≡ above)).
-      let there = latest.some one.0 in
-      let some : 0 < above = one.0 in
-      let to : above ≤ n = there.0 in
-      let same : i ≡ above = one.1 in
-      (omega arith, omega arith, inl (subst (λ x. Above x (n + 1)) (sym same) there.1)))
-      (chosen_cases taken above i listed)
+      elim (chosen_cases taken above i listed) [
+        | inl one ↦
+            let there = All-contains (λ j. IsOpen Above n j × Above (n + 1) j) taken i h.takes one in
+            (there.0.from, there.0.to, inr there.1)
+        | inr one ↦
+            let there = latest.some one.0 in
+            (omega (arith, one.0, one.1), omega (arith, one.1, there.0), inl (subst (λ x. Above x (n + 1)) (sym one.1) there.1))
+      ]
 
 module _ (Above : ℕ → ℕ → Type 0) (reflexive_above : (i : ℕ) → Above i i)
     (transitive_above : (i j k : ℕ) → Above i j → Above j k → Above i k)
@@ -99,12 +92,11 @@ module _ (Above : ℕ → ℕ → Type 0) (reflexive_above : (i : ℕ) → Above
   -- of two open messages the one above the other is the earlier
   above_is_earlier : (n o w : ℕ) → IsOpen Above n o → IsOpen Above n w → Above o w → o ≢ w → o < w
   above_is_earlier n o w first second is other =
-      ⊎_elim {C = o < w}
-      (λ (same : o ≡ w). absurd (other same))
-      (⊎_elim {C = o < w}
-      (λ (before : o < w). before)
-      (λ (after : w < o). absurd (second.free o after first.to is)))
-      (cases_order o w)
+      elim (cases_order o w) [
+        | inl same ↦ absurd (other same)
+        | inr (inl before) ↦ before
+        | inr (inr after) ↦ absurd (second.free o after first.to is)
+      ]
 
   -- the needs of message n + 1 lead to it from each message before that excludes it, and it is open
   module _ (near more : ℕ → ℕ → Type 0) (n : ℕ) (taken : List ℕ) (above : ℕ) (weaker : (i j : ℕ) → near i j → more i j)
@@ -128,18 +120,14 @@ module _ (Above : ℕ → ℕ → Type 0) (reflexive_above : (i : ℕ) → Above
       where
         kept_leads_by : (list : List ℕ) → taken ≡ list → Path more o (n + 1)
         kept_leads_by [] none =
-            let from : 1 ≤ o = is_open.from in
-            let before : o ≤ above = latest.latest o is_open.from is_open.to is_above in
-            let some : 0 < above = omega arith in
-            let there = latest.some some in
-            let short : above ≤ n = there.0 in
-            let chosen_one : Contains (chosen taken above) above = subst (λ xs. Contains (chosen xs above) above) (sym none) (chosen_above Above above some) in
-            through_chosen o above is_open.from
-            (⊎_elim {C = (o ≡ above) ⊎ ((o < above) × (above ≤ n) × (Above o above ⊎ Above above o))}
-            (λ (same : o ≡ above). inl same)
-            (λ (other : o ≢ above). inr (omega arith, short, comparable_above o above (n + 1) is_above there.1))
-            (cases_eq o above))
-            chosen_one
+            let before = latest.latest o is_open.from is_open.to is_above in
+            let there = latest.some (omega (arith, before, is_open.from)) in
+            let chosen_one = subst (λ xs. Contains (chosen xs above) above) (sym none) (chosen_above Above above (omega (arith, before, is_open.from))) in
+            let on : (o ≡ above) ⊎ ((o < above) × (above ≤ n) × (Above o above ⊎ Above above o)) = elim (cases_eq o above) [
+              | inl same ↦ inl same
+              | inr other ↦ inr (omega (arith, before, other), there.0, comparable_above o above (n + 1) is_above there.1)
+            ] in
+            through_chosen o above is_open.from on chosen_one
         kept_leads_by (w ∷ rest) some =
             let w_taken : Contains taken w = subst (λ xs. Contains xs w) (sym some) (0, omega arith, refl) in
             let there = All-contains (λ j. IsOpen Above n j × Above (n + 1) j) taken w takes.takes w_taken in
@@ -153,52 +141,43 @@ module _ (Above : ℕ → ℕ → Type 0) (reflexive_above : (i : ℕ) → Above
     leads_to_next i from to excludes =
         let lead = closed.leads i from to in
         let o = lead.0 in
-        through i o lead.3
-        (⊎_elim {C = Path more o (n + 1)}
-        (λ (is_taken : Contains taken o). path_one more o (n + 1) (chosen_near o (chosen_taken Above taken above o is_taken)))
-        (λ (apart : ¬ Above (n + 1) o).
-        kept_leads o lead.1 apart
-        (⊎_elim {C = Above o (n + 1)}
-        (λ (high : Above i (n + 1)). transitive_above o i (n + 1) lead.2 high)
-        (λ (low : Above (n + 1) i).
-        ⊎_elim {C = Above o (n + 1)} (λ (is : Above o (n + 1)). is) (λ (is : Above (n + 1) o). absurd (apart is))
-        (comparable_above o (n + 1) i lead.2 low))
-        excludes))
-        (takes.each o lead.1))
+        let high : ¬ Above (n + 1) o → Above o (n + 1) = λ apart. elim excludes [
+          | inl high ↦ transitive_above o i (n + 1) lead.2 high
+          | inr low ↦ elim (comparable_above o (n + 1) i lead.2 low) [ inl is ↦ is | inr is ↦ absurd (apart is) ]
+        ] in
+        through i o lead.3 (elim (takes.each o lead.1) [
+          | inl is_taken ↦ path_one more o (n + 1) (chosen_near o (chosen_taken Above taken above o is_taken))
+          | inr apart ↦ kept_leads o lead.1 apart (high apart)
+        ])
 
     next_leads : (i : ℕ) → 1 ≤ i → i ≤ n + 1 → (o : ℕ) × IsOpen Above (n + 1) o × Above o i × ((i ≡ o) ⊎ Path more i o)
-    next_leads i from to =
-        ⊎_elim {C = (o : ℕ) × IsOpen Above (n + 1) o × Above o i × ((i ≡ o) ⊎ Path more i o)}
-        (λ (last : i ≡ n + 1).
-        (n + 1, open_last Above n, subst (λ x. Above (n + 1) x) (sym last) (reflexive_above (n + 1)), inl last))
-        (λ (other : i ≢ n + 1).
-        let lead = closed.leads i from (omega arith) in
-        let o = lead.0 in
-        ⊎_elim {C = (o : ℕ) × IsOpen Above (n + 1) o × Above o i × ((i ≡ o) ⊎ Path more i o)}
-        (λ (is_taken : Contains taken o).
-        let there = All-contains (λ j. IsOpen Above n j × Above (n + 1) j) taken o takes.takes is_taken in (
-          n + 1,
-          open_last Above n,
-          transitive_above (n + 1) o i there.1 lead.2,
-          inr (through i o lead.3 (path_one more o (n + 1) (chosen_near o (chosen_taken Above taken above o is_taken)))),
-        ))
-        (λ (apart : ¬ Above (n + 1) o). (
-          o,
-          open_more Above n o lead.1 apart,
-          lead.2,
-          ⊎_elim {C = (i ≡ o) ⊎ Path more i o} (λ (same : i ≡ o). inl same) (λ (path : Path near i o). inr (path_weaker near more weaker i o path)) lead.3,
-        ))
-        (takes.each o lead.1))
-        (cases_eq i (n + 1))
+    next_leads i from to = elim (cases_eq i (n + 1)) [
+      | inl last ↦ (n + 1, open_last Above n, subst (λ x. Above (n + 1) x) (sym last) (reflexive_above (n + 1)), inl last)
+      | inr other ↦
+          let lead = closed.leads i from (omega arith) in
+          let o = lead.0 in
+          elim (takes.each o lead.1) [
+            | inl is_taken ↦
+                let there = All-contains (λ j. IsOpen Above n j × Above (n + 1) j) taken o takes.takes is_taken in (
+                  n + 1,
+                  open_last Above n,
+                  transitive_above (n + 1) o i there.1 lead.2,
+                  inr (through i o lead.3 (path_one more o (n + 1) (chosen_near o (chosen_taken Above taken above o is_taken)))),
+                )
+            | inr apart ↦ (
+              o,
+              open_more Above n o lead.1 apart,
+              lead.2,
+              elim lead.3 [ inl same ↦ inl same | inr path ↦ inr (path_weaker near more weaker i o path) ],
+            )
+          ]
+    ]
 
     pub closed_more : IsClosed Above more (n + 1)
     closed_more = record {
       leads = next_leads;
-      paths = λ i j from before to excludes.
-          ⊎_elim {C = Path more i j}
-          (λ (last : j ≡ n + 1).
-          subst (λ x. Path more i x) (sym last)
-          (leads_to_next i from (omega arith) (subst (λ x. Above i x ⊎ Above x i) last excludes)))
-          (λ (other : j ≢ n + 1). path_weaker near more weaker i j (closed.paths i j from before (omega arith) excludes))
-          (cases_eq j (n + 1));
+      paths = λ i j from before to excludes. elim (cases_eq j (n + 1)) [
+        | inl last ↦ subst (λ x. Path more i x) (sym last) (leads_to_next i from (omega arith) (subst (λ x. Above i x ⊎ Above x i) last excludes))
+        | inr other ↦ path_weaker near more weaker i j (closed.paths i j from before (omega arith) excludes)
+      ];
     }

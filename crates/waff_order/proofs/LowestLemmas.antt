@@ -1,5 +1,5 @@
 -- The lowest affinities that are noted, and one more.
-use Rattle.std.proofs.Common.{◌≡◌, ◌≢◌, ℕ, ◌+◌, ◌<◌, ◌≤◌, ◌⊎◌, List, length, get_or, set, take, replicate, Option, Some, None, IfSome, arith, refl, sym, ◌∙◌, subst, inl, inr, ⊎_elim}
+use Rattle.std.proofs.Common.{◌≡◌, ℕ, ◌+◌, ◌<◌, ◌≤◌, ◌⊎◌, List, length, get_or, set, take, replicate, Option, Some, None, IfSome, arith, refl, sym, ◌∙◌, subst, inl, inr}
 use Rattle.std.proofs.lemmas.Bool.{cases_eq, cases_lt, cases_order}
 use Rattle.std.proofs.lemmas.List.{get_or-set_same, get_or-set_other, get_or_past}
 use Rattle.std.proofs.lemmas.List.Elements.{All-get_or, All-take, All-replicate}
@@ -21,7 +21,7 @@ none_noted none count n a =
 
 -- two that exclude each other, the other way round
 pub excludes_back : (tree : List Node) (a b : ℕ) → Excludes tree a b → Excludes tree b a
-excludes_back tree a b h = ⊎_elim {C = Excludes tree b a} (λ up. inr up) (λ down. inl down) h
+excludes_back tree a b h = elim h [ inl up ↦ inr up | inr down ↦ inl down ]
 
 module _ (tree : List Node) where
   -- sets of the same affinities have the same lowest
@@ -50,15 +50,11 @@ module _ (tree : List Node) where
   pub noted_either : (P Q : AffinityId → Type 0) (noted : Option AffinityId) (a low : AffinityId) → IsLowestNoted tree P noted → IsLowestOf tree Q a
       → IsLower tree noted a low → IsLowestNoted tree (λ b. P b ⊎ Q b) (Some low)
   noted_either P Q noted a low h g lower = record {
-    one = ⊎_elim {C = P low ⊎ Q low}
-        (λ (new : low ≡ a). inr (subst Q (sym new) g.one))
-        (λ (old : noted ≡ Some low). inl (noted_is P noted low old h).one)
-        lower.one;
-    each = λ b either.
-        ⊎_elim {C = AtOrAbove tree b.0 low.0}
-        (λ (p : P b). below_noted P noted low b h lower.noted_above p)
-        (λ (q : Q b). transitive tree b.0 a.0 low.0 (g.each b q) lower.above)
-        either;
+    one = elim lower.one [ inl new ↦ inr (subst Q (sym new) g.one) | inr old ↦ inl (noted_is P noted low old h).one ];
+    each = λ b either. elim either [
+      | inl p ↦ below_noted P noted low b h lower.noted_above p
+      | inr q ↦ transitive tree b.0 a.0 low.0 (g.each b q) lower.above
+    ];
   }
 
 module _ (assigned : List ℕ) (coarse_tree : List Node) (coarse_assigned : List ℕ) where
@@ -67,32 +63,18 @@ module _ (assigned : List ℕ) (coarse_tree : List Node) (coarse_assigned : List
       → AreLowests assigned coarse_tree coarse_assigned 1 lowests
   lowests_none lowests none a =
       subst (λ x. IsLowestNoted coarse_tree (IsCoarseOf assigned coarse_assigned 1 a) x) (sym (none a))
-      (λ b h. let from : 1 ≤ h.message = h.from in let before : h.message < 1 = h.before in absurd (omega arith))
+      (λ b h. absurd (omega (arith, h.from, h.before)))
 
   pub coarse_later : (n m a : ℕ) (b : AffinityId) → n ≤ m → IsCoarseOf assigned coarse_assigned n a b → IsCoarseOf assigned coarse_assigned m a b
-  coarse_later n m a b later h = record {
-    message = h.message;
-    from = h.from;
-    before = let before : h.message < n = h.before in omega arith;
-    affinity = h.affinity;
-    coarse = h.coarse;
-  }
+  coarse_later n m a b later h = record { message = h.message; from = h.from; before = omega (arith, h.before); affinity = h.affinity; coarse = h.coarse }
 
   coarse_cases : (n a : ℕ) (b : AffinityId) → IsCoarseOf assigned coarse_assigned (n + 1) a b
       → IsCoarseOf assigned coarse_assigned n a b ⊎ ((affinity_of assigned n ≡ a) × (affinity_of coarse_assigned n ≡ b.0))
   coarse_cases n a b h =
-      ⊎_elim {C = IsCoarseOf assigned coarse_assigned n a b ⊎ ((affinity_of assigned n ≡ a) × (affinity_of coarse_assigned n ≡ b.0))}
-      (λ (last : h.message ≡ n).
-      inr (subst (λ x. affinity_of assigned x ≡ a) last h.affinity, subst (λ x. affinity_of coarse_assigned x ≡ b.0) last h.coarse))
-      (λ (other : h.message ≢ n).
-      inl (record {
-        message = h.message;
-        from = h.from;
-        before = let before : h.message < n + 1 = h.before in omega arith;
-        affinity = h.affinity;
-        coarse = h.coarse;
-      }))
-      (cases_eq h.message n)
+      elim (cases_eq h.message n) [
+        | inl last ↦ inr (rw last at h.affinity, rw last at h.coarse)
+        | inr other ↦ inl (record { message = h.message; from = h.from; before = omega (arith, h.before, other); affinity = h.affinity; coarse = h.coarse })
+      ]
 
   -- one message more
   pub lowests_more : (n : ℕ) (lowests : List (Option AffinityId)) (b low : AffinityId) → 1 ≤ n
@@ -104,41 +86,28 @@ module _ (assigned : List ℕ) (coarse_tree : List Node) (coarse_assigned : List
       let place = affinity_of assigned n in
       let New : AffinityId → Type 0 = IsCoarseOf assigned coarse_assigned (n + 1) a in
       let Old : AffinityId → Type 0 = IsCoarseOf assigned coarse_assigned n a in
-      ⊎_elim {C = IsLowestNoted coarse_tree New (get_or (set lowests place (Some low)) a None)}
-      (λ (same : a ≡ place).
-      let Last : AffinityId → Type 0 = λ x. x.0 ≡ b.0 in
-      let last : IsLowestOf coarse_tree Last b = record {
-        one = refl;
-        each = λ x equal. subst (λ y. AtOrAbove coarse_tree y b.0) (sym equal) (reflexive coarse_tree b.0);
-      } in
-      let entry : get_or (set lowests place (Some low)) a None ≡ Some low
-      = subst (λ x. get_or (set lowests place (Some low)) x None ≡ Some low) (sym same) (get_or-set_same lowests place (Some low) None within) in
-      let lower_here : IsLower coarse_tree (get_or lowests a None) b low
-      = subst (λ x. IsLower coarse_tree (get_or lowests x None) b low) (sym same) lower in
-      subst (λ x. IsLowestNoted coarse_tree New x) (sym entry)
-      (noted_same coarse_tree (λ x. Old x ⊎ Last x) New (Some low)
-      (λ x either.
-      ⊎_elim {C = New x}
-      (λ (old : Old x). coarse_later n (n + 1) a x (omega arith) old)
-      (λ (new : Last x). record { message = n; from = from; before = omega arith; affinity = sym same; coarse = is ∙ sym new })
-      either)
-      (λ x new.
-      ⊎_elim {C = Old x ⊎ Last x}
-      (λ (old : Old x). inl old)
-      (λ (here : (affinity_of assigned n ≡ a) × (affinity_of coarse_assigned n ≡ x.0)). inr (sym here.1 ∙ is))
-      (coarse_cases n a x new))
-      (noted_either coarse_tree Old Last (get_or lowests a None) b low (h a) last lower_here)))
-      (λ (other : a ≢ place).
-      subst (λ x. IsLowestNoted coarse_tree New x) (sym (get_or-set_other lowests place a (Some low) None other))
-      (noted_same coarse_tree Old New (get_or lowests a None)
-      (λ x old. coarse_later n (n + 1) a x (omega arith) old)
-      (λ x new.
-      ⊎_elim {C = Old x}
-      (λ (old : Old x). old)
-      (λ (here : (affinity_of assigned n ≡ a) × (affinity_of coarse_assigned n ≡ x.0)). absurd (other (sym here.0)))
-      (coarse_cases n a x new))
-      (h a)))
-      (cases_eq a place)
+      elim (cases_eq a place) [
+        | inl same ↦
+            let Last : AffinityId → Type 0 = λ x. x.0 ≡ b.0 in
+            let last : IsLowestOf coarse_tree Last b = record { one = refl; each = λ x equal. rw equal (reflexive coarse_tree b.0) } in
+            let entry : get_or (set lowests place (Some low)) a None ≡ Some low
+            = subst (λ x. get_or (set lowests place (Some low)) x None ≡ Some low) (sym same) (get_or-set_same lowests place (Some low) None within) in
+            subst (λ x. IsLowestNoted coarse_tree New x) (sym entry)
+            (noted_same coarse_tree (λ x. Old x ⊎ Last x) New (Some low)
+            (λ x either. elim either [
+              | inl old ↦ coarse_later n (n + 1) a x (omega arith) old
+              | inr new ↦ record { message = n; from = from; before = omega arith; affinity = sym same; coarse = is ∙ sym new }
+            ])
+            (λ x new. elim (coarse_cases n a x new) [ inl old ↦ inl old | inr here ↦ inr (sym here.1 ∙ is) ])
+            (noted_either coarse_tree Old Last (get_or lowests a None) b low (h a) last
+            (subst (λ x. IsLower coarse_tree (get_or lowests x None) b low) (sym same) lower)))
+        | inr other ↦
+            subst (λ x. IsLowestNoted coarse_tree New x) (sym (get_or-set_other lowests place a (Some low) None other))
+            (noted_same coarse_tree Old New (get_or lowests a None)
+            (λ x old. coarse_later n (n + 1) a x (omega arith) old)
+            (λ x new. elim (coarse_cases n a x new) [ inl old ↦ old | inr here ↦ absurd (other (sym here.0)) ])
+            (h a))
+      ]
 
   ordered_excludes : (tree : List Node) → Refines tree assigned coarse_tree coarse_assigned → (i j : ℕ) → 1 ≤ i → i ≤ length assigned
       → 1 ≤ j → j ≤ length assigned → Excludes tree (affinity_of assigned i) (affinity_of assigned j)
@@ -161,13 +130,9 @@ module _ (assigned : List ℕ) (coarse_tree : List Node) (coarse_assigned : List
       → IsCoarseOf assigned coarse_assigned (length assigned + 1) a x → IsCoarseOf assigned coarse_assigned (length assigned + 1) b y
       → Excludes tree a b → Excludes coarse_tree x.0 y.0
   refined_excludes tree refines a b x y one other excludes =
-      let one_before : one.message < length assigned + 1 = one.before in
-      let other_before : other.message < length assigned + 1 = other.before in
-      let fine : Excludes tree (affinity_of assigned one.message) (affinity_of assigned other.message)
-      = subst (λ u. Excludes tree u (affinity_of assigned other.message)) (sym one.affinity) (subst (λ v. Excludes tree a v) (sym other.affinity) excludes) in
-      let coarse : Excludes coarse_tree (affinity_of coarse_assigned one.message) (affinity_of coarse_assigned other.message)
-      = ordered_excludes tree refines one.message other.message one.from (omega arith) other.from (omega arith) fine in
-      subst (λ u. Excludes coarse_tree u y.0) one.coarse (subst (λ v. Excludes coarse_tree (affinity_of coarse_assigned one.message) v) other.coarse coarse)
+      rw one.coarse at (rw other.coarse at
+      (ordered_excludes tree refines one.message other.message one.from (omega (arith, one.before)) other.from (omega (arith, other.before))
+      (rw (one.affinity, other.affinity) excludes)))
 
   -- where one hierarchy refines the other, the lowest affinities agree
   pub refined_agree : (tree : List Node) (lowests : List (Option AffinityId))
@@ -182,10 +147,10 @@ module _ (assigned : List ℕ) (coarse_tree : List Node) (coarse_assigned : List
 
   both_above : (a b x y : ℕ) → AtOrAbove coarse_tree a x → AtOrAbove coarse_tree b y → Excludes coarse_tree x y → Excludes coarse_tree a b
   both_above a b x y above_a above_b excludes =
-      ⊎_elim {C = Excludes coarse_tree a b}
-      (λ (up : AtOrAbove coarse_tree x y). comparable coarse_tree a b y (transitive coarse_tree a x y above_a up) above_b)
-      (λ (down : AtOrAbove coarse_tree y x). comparable coarse_tree a b x above_a (transitive coarse_tree b y x above_b down))
-      excludes
+      elim excludes [
+        | inl up ↦ comparable coarse_tree a b y (transitive coarse_tree a x y above_a up) above_b
+        | inr down ↦ comparable coarse_tree a b x above_a (transitive coarse_tree b y x above_b down)
+      ]
 
   -- where the lowest affinities agree, one hierarchy refines the other
   pub agreed_refine : (tree : List Node) (lowests : List (Option AffinityId)) → length assigned ≡ length coarse_assigned
@@ -193,28 +158,21 @@ module _ (assigned : List ℕ) (coarse_tree : List Node) (coarse_assigned : List
       → Agree tree coarse_tree lowests → Refines tree assigned coarse_tree coarse_assigned
   agreed_refine tree lowests lengths are agree i j is =
       let Of : ℕ → AffinityId → Type 0 = IsCoarseOf assigned coarse_assigned (length assigned + 1) in
-      let from : 1 ≤ i = is.from in
-      let earlier : i < j = is.earlier in
-      let to : j ≤ length assigned = is.to in
       let a = affinity_of assigned i in
       let b = affinity_of assigned j in
       let x : AffinityId = record { 0 = affinity_of coarse_assigned i } in
       let y : AffinityId = record { 0 = affinity_of coarse_assigned j } in
-      let low_a = noted_some coarse_tree (Of a) (get_or lowests a None) x
-      (record { message = i; from = from; before = omega arith; affinity = refl; coarse = refl }) (are a) in
-      let low_b = noted_some coarse_tree (Of b) (get_or lowests b None) y
-      (record { message = j; from = omega arith; before = omega arith; affinity = refl; coarse = refl }) (are b) in
-      let lows : Excludes coarse_tree low_a.0.0 low_b.0.0
-      = ⊎_elim {C = Excludes coarse_tree low_a.0.0 low_b.0.0}
-      (λ (up : AtOrAbove tree a b). agree a b low_a.0 low_b.0 up low_a.1 low_b.1)
-      (λ (down : AtOrAbove tree b a). excludes_back coarse_tree low_b.0.0 low_a.0.0 (agree b a low_b.0 low_a.0 down low_b.1 low_a.1))
-      is.excludes in
+      let of_a : Of a x = record { message = i; from = is.from; before = omega (arith, is.earlier, is.to); affinity = refl; coarse = refl } in
+      let of_b : Of b y = record { message = j; from = omega (arith, is.from, is.earlier); before = omega (arith, is.to); affinity = refl; coarse = refl } in
+      let low_a = noted_some coarse_tree (Of a) (get_or lowests a None) x of_a (are a) in
+      let low_b = noted_some coarse_tree (Of b) (get_or lowests b None) y of_b (are b) in
+      let lows : Excludes coarse_tree low_a.0.0 low_b.0.0 = elim is.excludes [
+        | inl up ↦ agree a b low_a.0 low_b.0 up low_a.1 low_b.1
+        | inr down ↦ excludes_back coarse_tree low_b.0.0 low_a.0.0 (agree b a low_b.0 low_a.0 down low_b.1 low_a.1)
+      ] in
       record {
-        from = from;
-        earlier = earlier;
-        to = omega arith;
-        excludes = both_above x.0 y.0 low_a.0.0 low_b.0.0
-            (low_a.2.each x (record { message = i; from = from; before = omega arith; affinity = refl; coarse = refl }))
-            (low_b.2.each y (record { message = j; from = omega arith; before = omega arith; affinity = refl; coarse = refl }))
-            lows;
+        from = is.from;
+        earlier = is.earlier;
+        to = omega (arith, is.to, lengths);
+        excludes = both_above x.0 y.0 low_a.0.0 low_b.0.0 (low_a.2.each x of_a) (low_b.2.each y of_b) lows;
       }

@@ -1,5 +1,5 @@
 -- Needs of one more message, and paths through needs.
-use Rattle.std.proofs.Common.{◌≡◌, ◌≢◌, ℕ, zero, suc, ◌+◌, ◌-◌, ◌<◌, ◌≤◌, ◌⊎◌, inl, inr, List, [], ◌∷◌, ◌++◌, length, Contains, arith, sym, subst, ⊎_elim}
+use Rattle.std.proofs.Common.{◌≡◌, ℕ, zero, suc, ◌+◌, ◌-◌, ◌≤◌, ◌⊎◌, inl, inr, List, [], ◌∷◌, ◌++◌, length, Contains, arith, sym, subst}
 use Rattle.std.proofs.lemmas.Bool.{cases_eq, cases_lt}
 use Rattle.std.proofs.lemmas.List.{get_or_past, get_or_push, get_or_append_left, length_push}
 use Rattle.waff_model.proofs.Members.{in_none}
@@ -9,19 +9,15 @@ use Rattle.waff_order.specs.Needs.{needs_of, IsNeed}
 -- a need is one of a message that has a list
 pub need_within : (needs : List (List ℕ)) (i j : ℕ) → IsNeed needs i j → j ≤ length needs
 need_within needs i j h =
-    ⊎_elim {C = j ≤ length needs}
-    (λ (below : j - 1 < length needs). let from : 1 ≤ j = h.from in omega arith)
-    (λ (past : length needs ≤ j - 1).
-    let empty : needs_of needs j ≡ [] = get_or_past needs (j - 1) [] past in
-    absurd (in_none i (subst (λ xs. Contains xs i) empty h.listed)))
-    (cases_lt (j - 1) (length needs))
+    elim (cases_lt (j - 1) (length needs)) [
+      | inl below ↦ omega (arith, h.from)
+      | inr past ↦ absurd (in_none i (subst (λ xs. Contains xs i) (get_or_past needs (j - 1) [] past) h.listed))
+    ]
 
 -- a need stays one
 pub need_kept : (needs : List (List ℕ)) (more : List ℕ) (i j : ℕ) → IsNeed needs i j → IsNeed (needs ++ more ∷ []) i j
 need_kept needs more i j h =
-    let from : 1 ≤ j = h.from in
-    let to : j ≤ length needs = need_within needs i j h in
-    let same : needs_of (needs ++ more ∷ []) j ≡ needs_of needs j = get_or_append_left needs (more ∷ []) [] (j - 1) (omega arith) in
+    let same = get_or_append_left needs (more ∷ []) [] (j - 1) (omega (arith, h.from, need_within needs i j h)) in
     record { from = h.from; listed = subst (λ xs. Contains xs i) (sym same) h.listed }
 
 -- the needs of the next message
@@ -34,17 +30,13 @@ need_new needs more n i count listed =
 pub need_cases : (needs : List (List ℕ)) (more : List ℕ) (n i j : ℕ) → length needs ≡ n → IsNeed (needs ++ more ∷ []) i j
     → IsNeed needs i j ⊎ ((j ≡ n + 1) × Contains more i)
 need_cases needs more n i j count h =
-    let from : 1 ≤ j = h.from in
-    let to : j ≤ length (needs ++ more ∷ []) = need_within (needs ++ more ∷ []) i j h in
-    let long : length (needs ++ more ∷ []) ≡ length needs + 1 = length_push needs more in
-    ⊎_elim {C = IsNeed needs i j ⊎ ((j ≡ n + 1) × Contains more i)}
-    (λ (last : j ≡ n + 1).
-    let same : needs_of (needs ++ more ∷ []) j ≡ more = get_or_push needs more [] (j - 1) (omega arith) in
-    inr (last, subst (λ xs. Contains xs i) same h.listed))
-    (λ (other : j ≢ n + 1).
-    let same : needs_of (needs ++ more ∷ []) j ≡ needs_of needs j = get_or_append_left needs (more ∷ []) [] (j - 1) (omega arith) in
-    inl (record { from = h.from; listed = subst (λ xs. Contains xs i) same h.listed }))
-    (cases_eq j (n + 1))
+    let to : j ≤ length needs + 1 = omega (arith, need_within (needs ++ more ∷ []) i j h, length_push needs more) in
+    elim (cases_eq j (n + 1)) [
+      | inl last ↦ inr (last, subst (λ xs. Contains xs i) (get_or_push needs more [] (j - 1) (omega arith)) h.listed)
+      | inr other ↦
+          let same = get_or_append_left needs (more ∷ []) [] (j - 1) (omega (arith, h.from)) in
+          inl (record { from = h.from; listed = subst (λ xs. Contains xs i) same h.listed })
+    ]
 
 -- a path stays one where the pairs do
 path_by_weaker : (fewer more : ℕ → ℕ → Type 0) → ((i j : ℕ) → fewer i j → more i j) → (n i j : ℕ) → PathBy fewer n i j → PathBy more n i j

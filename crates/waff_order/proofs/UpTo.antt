@@ -1,5 +1,5 @@
 -- The needs of the first messages, and of one more.
-use Rattle.std.proofs.Common.{◌≡◌, ℕ, ◌+◌, ◌*◌, ◌<◌, ◌≤◌, ◌⊎◌, List, [], ◌∷◌, ◌++◌, length, All, Contains, arith, refl, sym, ◌∙◌, subst, ⊎_elim, zero, suc, ◌-◌}
+use Rattle.std.proofs.Common.{◌≡◌, ℕ, ◌+◌, ◌*◌, ◌<◌, ◌≤◌, ◌⊎◌, List, [], ◌∷◌, ◌++◌, length, All, arith, refl, sym, ◌∙◌, subst, inl, inr, zero, suc, ◌-◌}
 use Rattle.std.specs.List.Sorted.{IsStrictlyIncreasing}
 use Rattle.std.proofs.lemmas.List.{length_push}
 use Rattle.std.proofs.lemmas.List.Elements.{All-nil, All-push}
@@ -35,7 +35,7 @@ module _ (tree : List Node) (assigned : List ℕ) where
   up_to_none = record {
     count = refl;
     closed = closed_none (IsAbove tree assigned) reflexive_above transitive_above comparable_above (IsNeed []);
-    ordered = λ i j h. let from = h.from in let to = need_within [] i j h in absurd (omega (arith, from, to));
+    ordered = λ i j h. absurd (omega (arith, h.from, need_within [] i j h));
     rising = All-nil _;
   }
 
@@ -48,15 +48,12 @@ module _ (tree : List Node) (assigned : List ℕ) where
         count = omega (arith, length_push needs more, h.count);
         closed = closed_more (IsAbove tree assigned) reflexive_above transitive_above comparable_above (IsNeed needs) (IsNeed (needs ++ more ∷ []))
             n taken above (need_kept needs more) (λ i listed. need_new needs more n i h.count listed) h.closed takes latest;
-        ordered = λ i j need.
-            ⊎_elim {C = IsOrdered tree assigned i j}
-            (λ (before : IsNeed needs i j). h.ordered i j before)
-            (λ (last : (j ≡ n + 1) × Contains more i).
-            let there = chosen_excludes (IsAbove tree assigned) n taken above i takes latest last.1 in
-            let to : i ≤ n = there.1 in
-            subst (λ x. IsOrdered tree assigned i x) (sym last.0)
-            (record { from = there.0; earlier = omega arith; to = room; excludes = there.2 }))
-            (need_cases needs more n i j h.count need);
+        ordered = λ i j need. elim (need_cases needs more n i j h.count need) [
+          | inl before ↦ h.ordered i j before
+          | inr last ↦
+              let there = chosen_excludes (IsAbove tree assigned) n taken above i takes latest last.1 in
+              subst (λ x. IsOrdered tree assigned i x) (sym last.0) (record { from = there.0; earlier = omega (arith, there.1); to = room; excludes = there.2 })
+        ];
         rising = All-push IsStrictlyIncreasing needs more h.rising (chosen_rising (IsAbove tree assigned) n taken above takes);
       }
 
@@ -65,13 +62,13 @@ module _ (tree : List Node) (assigned : List ℕ) where
   up_to_all needs n all h = record {
     count = h.count ∙ all;
     ordered = h.ordered;
-    paths = λ i j pair. let to = pair.to in h.closed.paths i j pair.from pair.earlier (omega (arith, to)) pair.excludes;
+    paths = λ i j pair. h.closed.paths i j pair.from pair.earlier (omega (arith, pair.to)) pair.excludes;
   }
 
   pub up_to_lists : (needs : List (List ℕ)) (n : ℕ) → n ≤ MAX_MESSAGES → AreNeedsUpTo tree assigned needs n → AreLists needs
   up_to_lists needs n few h = record {
-    from = λ i j need. let pair = h.ordered i j need in pair.from;
-    earlier = λ i j need. let pair = h.ordered i j need in pair.earlier;
+    from = λ i j need. (h.ordered i j need).from;
+    earlier = λ i j need. (h.ordered i j need).earlier;
     rising = h.rising;
     few = omega (arith, h.count);
   }
@@ -82,16 +79,14 @@ root_alone tree is_tree flat a within = root_alone_by (root_above tree is_tree a
   where
     root_alone_by : AtOrAbove tree 0 a → a ≡ 0
     root_alone_by (zero, same) = sym same
-    root_alone_by (suc n, leads) = absurd (let bound = flat a (suc n) within leads in omega (arith, bound))
+    root_alone_by (suc n, leads) = absurd (omega (arith, flat a (suc n) within leads))
 
 -- all messages are then of one affinity
 pub all_above : (tree : List Node) (assigned : List ℕ) → IsTree tree → IsWithinDepth tree 0 → All (λ a. a < length tree) assigned
     → (i j : ℕ) → 1 ≤ i → i ≤ length assigned → 1 ≤ j → j ≤ length assigned → IsAbove tree assigned i j
 all_above tree assigned is_tree flat known i j i_from i_to j_from j_to =
-    let first : affinity_of assigned i ≡ 0 = root_alone tree is_tree flat (affinity_of assigned i) (known (i - 1) 0 (omega arith)) in
-    let second : affinity_of assigned j ≡ 0 = root_alone tree is_tree flat (affinity_of assigned j) (known (j - 1) 0 (omega arith)) in
-    subst (λ a. AtOrAbove tree a (affinity_of assigned j)) (sym first)
-    (subst (λ a. AtOrAbove tree 0 a) (sym second) (reflexive tree 0))
+    let at : (m : ℕ) → 1 ≤ m → m ≤ length assigned → affinity_of assigned m ≡ 0 = λ m from to. root_alone tree is_tree flat (affinity_of assigned m) (known (m - 1) 0 (omega arith)) in
+    rw (at i i_from i_to, at j j_from j_to) (reflexive tree 0)
 
 -- the number of needs, by the depth
 pub needs_by_depth : (count total depth : ℕ) → total ≤ 2 * count → (depth ≡ 0 → total ≤ count) → total ≤ count * (depth + 1)

@@ -1,4 +1,4 @@
-use Rattle.std.proofs.Common.{◌≡◌, ℕ, List, sym, ◌∙◌, ◌<◌, ◌≤◌, ◌⊎◌, inl, inr, ◌∷◌, ◌++◌, length, map, Contains, arith, ap, subst, ⊎_elim}
+use Rattle.std.proofs.Common.{◌≡◌, ℕ, List, sym, ◌∙◌, ◌<◌, inl, inr, ◌∷◌, ◌++◌, length, map, Contains, arith, ap, subst}
 use Rattle.std.proofs.lemmas.List.Elements.{All-contains}
 use Rattle.std.proofs.lemmas.List.Sorted.{IsPermutation-sym, Contains-permutation, length_permutation, sum_by_popped}
 use Rattle.waff_model.specs.Numbers.{IsAmongFirst}
@@ -63,14 +63,13 @@ loop-m-preserved c =
         ready = λ order ready. told.wakes.ready order (h.wakes.ready order ready);
         same = told.wakes.same ∙ h.wakes.same;
       };
-      kept = λ (r : ℕ × ℕ) there. ⊎_elim {C = (r.0 ≤ c.args.next) ⊎ Contains new r}
-          (λ (done : r.0 ≤ c.args.next). inl done)
-          (λ (ran : Contains old r).
-          ⊎_elim {C = (r.0 ≤ c.args.next) ⊎ Contains new r}
-          (λ (still : Contains new r). inr still)
-          (λ (same : r ≡ pair). let at = ap (λ (s : ℕ × ℕ). s.0) same in let done : r.0 ≤ c.args.next = omega (arith, at, c.in-Some.ensures.1) in inl done)
-          (contains_rest_of pair r new (Contains-permutation old (pair ∷ new) r c.in-Some.ensures.2 ran)))
-          (h.kept r there);
+      kept = λ (r : ℕ × ℕ) there. elim (h.kept r there) [
+        | inl done ↦ inl done
+        | inr ran ↦ elim (contains_rest_of pair r new (Contains-permutation old (pair ∷ new) r c.in-Some.ensures.2 ran)) [
+          | inl still ↦ inr still
+          | inr same ↦ inl (omega (arith, ap (λ (s : ℕ × ℕ). s.0) same, c.in-Some.ensures.1))
+        ]
+      ];
       only = λ (r : ℕ × ℕ) there. h.only r (was f r (contains_more pair r new there));
       manned = λ workers at_first.
           let run = λ (r : ℕ × ℕ). worker_of seats r.1 in
@@ -84,10 +83,10 @@ returns-clause-finished c =
     let h = c.loop-m.invariant in
     let old = c.loop-m.finishes in
     record {
-      kept = λ (r : ℕ × ℕ) there. ⊎_elim {C = (r.0 ≤ c.args.next) ⊎ Contains c.pop_by.new.self r}
-          (λ (done : r.0 ≤ c.args.next). inl done)
-          (λ (ran : Contains old r). inr (subst (λ (xs : List (ℕ × ℕ)). Contains xs r) (sym none.0) ran))
-          (h.kept r there);
+      kept = λ (r : ℕ × ℕ) there. elim (h.kept r there) [
+        | inl done ↦ inl done
+        | inr ran ↦ inr (subst (λ (xs : List (ℕ × ℕ)). Contains xs r) (sym none.0) ran)
+      ];
       only = λ (r : ℕ × ℕ) there.
           let ran = subst (λ (xs : List (ℕ × ℕ)). Contains xs r) none.0 there in
           (h.only r ran, All-contains (λ (s : ℕ × ℕ). c.args.next < s.0) old r none.1 ran);

@@ -1,7 +1,6 @@
-use Rattle.std.proofs.Common.{◌≡◌, ℕ, ◌^◌, ◌<◌, ◌≤◌, ◌⊎◌, inl, inr, Contains, arith, ◌∙◌, subst, ⊎_elim, rules}
+use Rattle.std.proofs.Common.{◌≡◌, ℕ, ◌<◌, ◌≤◌, inl, inr, Contains, arith, ◌∙◌, subst, rules}
 use Rattle.std.proofs.lemmas.Bool.{cases_lt}
 use Rattle.std.proofs.lemmas.List.Elements.{All-weaker, All-contains}
-use Rattle.waff_plan.specs.Work.{IsNumber}
 use Rattle.waff_list.specs.declared.work.TheConstants.{NEVER}
 use Rattle.waff_list.proofs.ticks.next_tick.Goals as goal
 
@@ -10,12 +9,8 @@ returns-then-next c = λ work small are passed late.
     let release = c.next-2.ensures work c.args.now c.requires are passed in
     let none : c.min-next.result ≡ NEVER = search rules in
     record {
-      none = All-weaker (λ (r : ℕ × ℕ). c.next.result ≤ r.0) (λ (r : ℕ × ℕ). NEVER ≤ r.0) (λ (r : ℕ × ℕ) h. let least : c.next.result ≤ r.0 = h in omega arith)
-          c.args.finishes.now c.next.ensures.least;
-      releases = λ m number. ⊎_elim {C = work.release m ≤ c.args.now}
-          (λ (early : work.release m ≤ c.args.now). early)
-          (λ (later : c.next-2.result ≤ work.release m). let less : work.release m < 2 ^ 32 = small.release m number in absurd (omega arith))
-          (release.releases m number);
+      none = All-weaker (λ (r : ℕ × ℕ). c.next.result ≤ r.0) (λ (r : ℕ × ℕ). NEVER ≤ r.0) (λ (r : ℕ × ℕ) least. omega (arith, least)) c.args.finishes.now c.next.ensures.least;
+      releases = λ m number. elim (release.releases m number) [ inl early ↦ early | inr later ↦ absurd (omega (arith, later, small.release m number)) ];
     }
 
 pub returns-else-next : goal.returns-else-next
@@ -26,32 +21,27 @@ returns-else-next c = λ work small are passed late.
     let release = c.next-2.result in
     let h = c.next-2.ensures work now c.requires are passed in
     let release_later = h.later in
-    let finish_later : now < finish = ⊎_elim {C = now < finish}
-    (λ (never : finish ≡ NEVER). let short = c.requires in omega (arith, short, never))
-    (λ (there : (m : ℕ) × Contains c.args.finishes.now (finish, m)). All-contains (λ (r : ℕ × ℕ). now < r.0) c.args.finishes.now (finish, there.0) late there.1)
-    c.next.ensures.one in
+    let finish_later : now < finish = elim c.next.ensures.one [
+      | inl never ↦ omega (arith, c.requires, never)
+      | inr there ↦ All-contains (λ (r : ℕ × ℕ). now < r.0) c.args.finishes.now (finish, there.0) late there.1
+    ] in
     record {
       later = omega arith;
       tick = omega arith;
-      first = All-weaker (λ (r : ℕ × ℕ). finish ≤ r.0) (λ (r : ℕ × ℕ). next ≤ r.0) (λ (r : ℕ × ℕ) least. let from : finish ≤ r.0 = least in omega arith)
-          c.args.finishes.now c.next.ensures.least;
-      releases = λ m number. ⊎_elim {C = (work.release m ≤ now) ⊎ (next ≤ work.release m)}
-          (λ (early : work.release m ≤ now). inl early)
-          (λ (later : release ≤ work.release m). inr (omega arith))
-          (h.releases m number);
-      one = ⊎_elim {C = ((m : ℕ) × Contains c.args.finishes.now (next, m)) ⊎ ((m : ℕ) × IsNumber work m × (work.release m ≡ next))}
-          (λ (first : finish < release).
-          let same : finish ≡ next = omega arith in
-          ⊎_elim {C = ((m : ℕ) × Contains c.args.finishes.now (next, m)) ⊎ ((m : ℕ) × IsNumber work m × (work.release m ≡ next))}
-          (λ (none : finish ≡ NEVER). absurd (omega arith))
-          (λ (there : (m : ℕ) × Contains c.args.finishes.now (finish, m)).
-          inl (there.0, subst (λ (f : ℕ). Contains c.args.finishes.now (f, there.0)) same there.1))
-          c.next.ensures.one)
-          (λ (second : release ≤ finish).
-          let same : release ≡ next = omega arith in
-          ⊎_elim {C = ((m : ℕ) × Contains c.args.finishes.now (next, m)) ⊎ ((m : ℕ) × IsNumber work m × (work.release m ≡ next))}
-          (λ (none : release ≡ NEVER). absurd (omega arith))
-          (λ (there : (m : ℕ) × IsNumber work m × (work.release m ≡ release)). inr (there.0, there.1, there.2 ∙ same))
-          h.one)
-          (cases_lt finish release);
+      first = All-weaker (λ (r : ℕ × ℕ). finish ≤ r.0) (λ (r : ℕ × ℕ). next ≤ r.0) (λ (r : ℕ × ℕ) least. omega (arith, least)) c.args.finishes.now c.next.ensures.least;
+      releases = λ m number. elim (h.releases m number) [ inl early ↦ inl early | inr later ↦ inr (omega (arith, later)) ];
+      one = elim (cases_lt finish release) [
+        | inl first ↦ elim c.next.ensures.one [
+          | inl none ↦ absurd (omega arith)
+          | inr there ↦
+              let same : finish ≡ next = omega arith in
+              inl (there.0, subst (λ (f : ℕ). Contains c.args.finishes.now (f, there.0)) same there.1)
+        ]
+        | inr second ↦ elim h.one [
+          | inl none ↦ absurd (omega arith)
+          | inr there ↦
+              let same : release ≡ next = omega arith in
+              inr (there.0, there.1, there.2 ∙ same)
+        ]
+      ];
     }

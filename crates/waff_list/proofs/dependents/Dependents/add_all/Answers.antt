@@ -1,4 +1,4 @@
-use Rattle.std.proofs.Common.{◌≡◌, ◌≢◌, ◌+◌, ◌-◌, ◌<◌, ◌≤◌, length, get_or, take, arith, refl, sym, ◌∙◌, ap, subst, ⊎_elim}
+use Rattle.std.proofs.Common.{◌≡◌, ◌+◌, ◌-◌, ◌<◌, ◌≤◌, length, get_or, take, arith, refl, sym, ◌∙◌, ap, subst, inl, inr}
 use Rattle.std.proofs.lemmas.Bool.{cases_eq}
 use Rattle.std.proofs.lemmas.List.{take_all, length-map}
 use Rattle.waff_list.specs.Trails.{trail, trails}
@@ -40,17 +40,15 @@ loop-at-preserved c =
       more = omega (arith, h.one, c.loop-at.invariant.more);
       firsts = sym (length_trails new) ∙ one.count ∙ length_trails old ∙ c.loop-at.invariant.firsts;
       grows = grows_join (trails c.args.self.now) (trails old) (trails new) m c.loop-at.invariant.grows one;
-      added = λ i i_from. ⊎_elim {C = times m (dependents_of (trails new) i) ≡ times m (dependents_of (trails c.args.self.now) i) + times i (take (at + 1) needed)}
-          (λ (same : i ≡ x).
-          let here = subst (λ xs. times m (dependents_of xs x) ≡ times m (dependents_of (trails old) x) + 1) is (grown_here (trails old) x m inside) in
-          let moved = subst (λ y. times m (dependents_of (trails new) y) ≡ times m (dependents_of (trails old) y) + 1) (sym same) here in
-          let more = times_here i needed at 0 c.loop-at-test.true (sym same) in
-          omega (arith, moved, more, c.loop-at.invariant.added i i_from))
-          (λ (other : i ≢ x).
-          let kept = ap (λ ys. times m ys) (subst (λ xs. dependents_of xs i ≡ dependents_of (trails old) i) is (grown_other (trails old) x m inside i from i_from other)) in
-          let more = times_other i needed at 0 c.loop-at-test.true (λ same. other (sym same)) in
-          omega (arith, kept, more, c.loop-at.invariant.added i i_from))
-          (cases_eq i x);
+      added = λ i i_from. elim (cases_eq i x) [
+        | inl same ↦
+            let here = subst (λ xs. times m (dependents_of xs x) ≡ times m (dependents_of (trails old) x) + 1) is (grown_here (trails old) x m inside) in
+            let moved = subst (λ y. times m (dependents_of (trails new) y) ≡ times m (dependents_of (trails old) y) + 1) (sym same) here in
+            omega (arith, moved, times_here i needed at 0 c.loop-at-test.true (sym same), c.loop-at.invariant.added i i_from)
+        | inr other ↦
+            let kept = ap (λ ys. times m ys) (subst (λ xs. dependents_of xs i ≡ dependents_of (trails old) i) is (grown_other (trails old) x m inside i from i_from other)) in
+            omega (arith, kept, times_other i needed at 0 c.loop-at-test.true (λ same. other (sym same)), c.loop-at.invariant.added i i_from)
+      ];
     }
 
 pub returns-clause-added : goal.returns-clause-added

@@ -1,11 +1,10 @@
-use Rattle.std.proofs.Common.{◌≡◌, ℕ, ◌∷◌, ◌<◌, ◌≤◌, [], List, map, All, Contains, arith, sym, ◌∙◌, ap, subst, ⊎_elim, rules}
+use Rattle.std.proofs.Common.{◌≡◌, ℕ, ◌∷◌, ◌<◌, ◌≤◌, [], List, map, All, arith, sym, ◌∙◌, ap, subst, inl, inr, rules}
 use Rattle.std.specs.BinaryHeap.{heap_items}
 use Rattle.std.specs.List.Sorted.{IsPermutation}
 use Rattle.std.specs.declared.cmp.Reverse.{Reverse}
 use Rattle.std.proofs.lemmas.List.{nil_from_length}
 use Rattle.std.proofs.lemmas.List.Elements.{All-map, All-weaker, All-from_recursion, All-contains, All-nil}
 use Rattle.std.proofs.lemmas.List.Sorted.{IsPermutation-map, Contains-permutation}
-use Rattle.waff_list.specs.declared.work.TheConstants.{NEVER}
 use Rattle.waff_list.proofs.OrderingLemmas.{not_less_first}
 use Rattle.waff_list.proofs.Each.{contains_rest_of}
 use Rattle.waff_list.proofs.finishes.Finishes.pop_by.Goals as goal
@@ -23,14 +22,13 @@ returns c = elim c.match-pop.branch [
       let above = All-from_recursion _ new (w.in-Some.ensures.below_top c.self.invariant) in
       let least : All (λ (r : ℕ × ℕ). top.0 ≤ r.0) rest = All-map (λ (r : ℕ × ℕ). top.0 ≤ r.0) (λ (r : Reverse (ℕ × ℕ)). r.0) new
       (All-weaker _ (λ (r : Reverse (ℕ × ℕ)). top.0 ≤ r.0.0) (λ r h. not_less_first r.0 top h) new above) in
-      let early : top.0 ≤ c.next.result = ⊎_elim {C = top.0 ≤ c.next.result}
-      (λ (never : c.next.result ≡ NEVER). absurd (omega arith))
-      (λ (there : (m : ℕ) × Contains old (c.next.result, m)).
-      ⊎_elim {C = top.0 ≤ c.next.result}
-      (λ (in_rest : Contains rest (c.next.result, there.0)). All-contains (λ (r : ℕ × ℕ). top.0 ≤ r.0) rest (c.next.result, there.0) least in_rest)
-      (λ (is : (c.next.result, there.0) ≡ top). let same = ap (λ (r : ℕ × ℕ). r.0) is in omega (arith, same))
-      (contains_rest_of top (c.next.result, there.0) rest (Contains-permutation old (top ∷ rest) (c.next.result, there.0) popped there.1)))
-      c.next.ensures.one in
+      let early : top.0 ≤ c.next.result = elim c.next.ensures.one [
+        | inl never ↦ absurd (omega arith)
+        | inr there ↦ elim (contains_rest_of top (c.next.result, there.0) rest (Contains-permutation old (top ∷ rest) (c.next.result, there.0) popped there.1)) [
+          | inl in_rest ↦ All-contains (λ (r : ℕ × ℕ). top.0 ≤ r.0) rest (c.next.result, there.0) least in_rest
+          | inr is ↦ omega (arith, ap (λ (r : ℕ × ℕ). r.0) is)
+        ]
+      ] in
       let done : top.0 ≤ c.args.tick = omega arith in
       rw w.result-is (top.0, done, popped)
   | in-None w ↦

@@ -1,6 +1,6 @@
 use Rattle.std.proofs.Common.{◌≡◌, ◌<◌, ◌++◌, length, set, eqb, arith, rules, ◌∙◌, ap}
 use Rattle.std.proofs.lemmas.List.Filters.{dedup_is}
-use Rattle.waff_model.specs.Spans.{map_in, messages_in}
+use Rattle.waff_model.specs.Spans.{messages_in}
 use Rattle.waff_model.proofs.SpanLemmas.{length-map_in}
 use Rattle.waff_order.specs.Open.{chosen}
 use Rattle.waff_order.proofs.Taking.{gathered}
