@@ -1,5 +1,5 @@
 -- Laws of readings of lists.
-use Rattle.std.proofs.Common.{◌≡◌, ℕ, ◌≤◌, ◌<◌, List, [], ◌∷◌, ◌++◌, length, suc, map, true, false, Result, Ok, Err, refl, sym, ap, ◌∙◌, append_assoc, arith, inl, inr, ◌⊎◌}
+use Rattle.std.proofs.Common.{◌≡◌, ℕ, ◌≤◌, ◌<◌, List, [], ◌∷◌, ◌++◌, length, suc, true, false, Result, Ok, Err, refl, sym, ap, ◌∙◌, append_assoc, arith, inl, inr, ◌⊎◌}
 use Rattle.std.proofs.lemmas.List.{append-nil}
 use Rattle.std.proofs.Math.Dec.{leb}
 use Rattle.std.proofs.lemmas.Bool.Decides.{leb_tells}
@@ -46,25 +46,6 @@ pub nil-both : {F A : Type 0} (rank : F → ℕ) (a : Result (List A) F) → bot
 nil-both rank (Ok xs) = refl
 nil-both rank (Err e) = refl
 
--- one more item of a gathering
-pub gather-step : {F A B : Type 0} (rank : F → ℕ) (f : A → Result B F) (a : A) (more : List A) (so_far : Result (List B) F)
-    → both rank (both rank so_far (one (f a))) (gather rank f more) ≡ both rank so_far (gather rank f (a ∷ more))
-unfolding gather
-gather-step rank f a more so_far = both-assoc rank so_far (one (f a)) (gather rank f more)
-
--- the end of a gathering
-pub gather-end : {F A B : Type 0} (rank : F → ℕ) (f : A → Result B F) (so_far : Result (List B) F)
-    → both rank so_far (gather rank f []) ≡ so_far
-unfolding gather
-gather-end rank f so_far = both-nil rank so_far
-
--- a gathering of the images of items
-pub gather-map : {F A B C : Type 0} (rank : F → ℕ) (f : B → Result C F) (g : A → B) (xs : List A)
-    → gather rank f (map g xs) ≡ gather rank (λ a. f (g a)) xs
-unfolding gather
-gather-map rank f g [] = refl
-gather-map rank f g (a ∷ more) = ap (λ r. both rank (one (f (g a))) r) (gather-map rank f g more)
-
 -- a gathering of two lists in turn
 pub gather-append : {F A B : Type 0} (rank : F → ℕ) (f : A → Result B F) (xs ys : List A)
     → gather rank f (xs ++ ys) ≡ both rank (gather rank f xs) (gather rank f ys)
@@ -79,12 +60,6 @@ pub with_front-nil : {F B : Type 0} (r : Result (List B) F) → with_front [] r 
 unfolding with_front
 with_front-nil (Ok bs) = refl
 with_front-nil (Err e) = refl
-
--- one front before another
-pub with_front-with_front : {F B : Type 0} (xs ys : List B) (r : Result (List B) F) → with_front xs (with_front ys r) ≡ with_front (xs ++ ys) r
-unfolding with_front
-with_front-with_front xs ys (Ok bs) = ap Ok (sym (append_assoc xs ys bs))
-with_front-with_front xs ys (Err e) = refl
 
 -- one more item of a walk
 pub walk-step : {F A B S : Type 0} (f : S → A → Result B F) (next : S → A → S) (s : S) (a : A) (b : B) (more : List A) (front : List B)
@@ -109,20 +84,6 @@ pub walk-end : {F A B S : Type 0} (f : S → A → Result B F) (next : S → A �
     → with_front front (walk f next s []) ≡ Ok front
 unfolding walk with_front
 walk-end f next s front = ap Ok (append-nil front)
-
--- a walk over the images of items
-pub walk-map : {F A B C S : Type 0} (f : S → B → Result C F) (next : S → B → S) (g : A → B) (s : S) (xs : List A)
-    → walk f next s (map g xs) ≡ walk (λ s a. f s (g a)) (λ s a. next s (g a)) s xs
-unfolding walk
-walk-map f next g s [] = refl
-walk-map f next g s (a ∷ more) = ap (λ r. f s (g a) >>= (λ b. r >>= (λ bs. Ok (b ∷ bs)))) (walk-map f next g (next s (g a)) more)
-
--- a reader that stops at an item stops at the walk
-pub walk-stops : {F A B S : Type 0} (e : Stop F) (f : S → A → Result B F) (next : S → A → S) (s : S) (a : A) (more : List A) (front : List B)
-    → Stops e (f s a)
-    → Stops e (with_front front (walk f next s (a ∷ more)))
-walk-stops stop.Memory f next s a more front h = tt
-walk-stops (stop.Fault d) f next s a more front h = walk-stop f next s a d more front h
 
 -- a reader that stops at the first of two readings stops at both
 pub bind-stops : {F A B : Type 0} (e : Stop F) (r : Result A F) (g : A → Result B F) → Stops e r → Stops e (r >>= g)

@@ -16,7 +16,7 @@ use Rattle.waff_model.specs.declared.message.Version.{Version}
 use Rattle.waff_model.specs.declared.message.Version.TheVariants.{V1, V2}
 use Rattle.waff_parse.specs.Fields.{Field}
 use Rattle.waff_parse.specs.Rows.{Record, records_of}
-use Rattle.waff_parse.specs.Texts.{number_of, number_within, parts}
+use Rattle.waff_parse.specs.Texts.{number_of, number_within, parts, semicolon}
 use Rattle.waff_read.specs.Affinities.{tree_of}
 use Rattle.waff_read.specs.Documents.{document_of, rows_at}
 use Rattle.waff_read.specs.Hierarchies.{hierarchy_of, kind_of, kind_refusal, layout_at}
@@ -46,7 +46,7 @@ pub record Spells (spaces : List Space) (at : ℕ) (name_text cost_text : Field)
   pub some_cost : 1 ≤ message.cost
   pub within_cost : message.cost ≤ MAX_COST
   pub filled : ops_text ≢ []
-  pub ops : map (op_of spaces) (parts 59 ops_text) ≡ map Ok message.ops
+  pub ops : map (op_of spaces) (parts semicolon ops_text) ≡ map Ok message.ops
   pub within_ops : length message.ops ≤ MAX_OPS
   pub counted : at ≤ MAX_MESSAGES + 1
   pub release : IsRelease release_text message.release
@@ -76,7 +76,7 @@ SecondVersionIsExact spaces at row = (message : Message)
 -- a piece between `;` is refused with this fault
 abbrev pub HasPiece : List Space → Field → TraceFault → Type 0
 HasPiece spaces ops e =
-    (piece : List ℕ) × Contains (parts 59 ops) piece × (op_of spaces piece ≡ Err e)
+    (piece : List ℕ) × Contains (parts semicolon ops) piece × (op_of spaces piece ≡ Err e)
 
 -- the check of this fault holds of the fields of the record of this number
 abbrev pub HasTraceFault : List Space → ℕ → Field → Field → Option Field → Field → TraceFault → Type 0
@@ -89,7 +89,7 @@ HasTraceFault spaces at name cost release ops fault.NoOps = ops ≡ []
 HasTraceFault spaces at name cost release ops fault.Op = HasPiece spaces ops fault.Op
 HasTraceFault spaces at name cost release ops fault.SpaceUnknown = HasPiece spaces ops fault.SpaceUnknown
 HasTraceFault spaces at name cost release ops fault.IndexTooLarge = HasPiece spaces ops fault.IndexTooLarge
-HasTraceFault spaces at name cost release ops fault.TooManyOps = MAX_OPS < length (parts 59 ops)
+HasTraceFault spaces at name cost release ops fault.TooManyOps = MAX_OPS < length (parts semicolon ops)
 HasTraceFault spaces at name cost release ops fault.TooManyMessages = MAX_MESSAGES + 1 < at
 HasTraceFault spaces at name cost release ops fault.Release =
     (text : Field) × (release ≡ Some text) × (number_within 0 MAX_RELEASE text ≡ None)

@@ -12,11 +12,12 @@ use Rattle.waff_model.specs.declared.message.Version.TheVariants.{V1, V2}
 use Rattle.waff_model.specs.declared.op.Op.{Op}
 use Rattle.waff_model.specs.declared.op.Op.TheVariants as op
 use Rattle.waff_parse.specs.Rows.{Record}
+use Rattle.waff_parse.specs.Texts.{blank, colon, semicolon}
 
 -- a cell: the name of its space, `:` and its index
 abbrev pub cell_spelled : List Space → Cell → List ℕ
 cell_spelled spaces cell =
-    join_with_byte 58 (unwrap_or (name_at spaces cell.space) [] ∷ decimal cell.index ∷ [])
+    join_with_byte colon (unwrap_or (name_at spaces cell.space) [] ∷ decimal cell.index ∷ [])
 
 -- the words of an operation
 abbrev pub words_of : List Space → Op → List (List ℕ)
@@ -30,11 +31,11 @@ words_of spaces (op.Read cell) = codes "read" ∷ cell_spelled spaces cell ∷ [
 
 -- an operation: its words joined by one space
 abbrev pub op_spelled : List Space → Op → List ℕ
-op_spelled spaces o = join_with_byte 32 (words_of spaces o)
+op_spelled spaces o = join_with_byte blank (words_of spaces o)
 
 -- operations joined by `;`
 abbrev pub ops_spelled : List Space → List Op → List ℕ
-ops_spelled spaces list = join_with_byte 59 (map (op_spelled spaces) list)
+ops_spelled spaces list = join_with_byte semicolon (map (op_spelled spaces) list)
 
 -- the record of a message: its name, its cost, in the second version its release, and its
 -- operations

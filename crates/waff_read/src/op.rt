@@ -93,15 +93,8 @@ fn two_cells(spaces: &SpaceTable<'_>, words: &str) -> Result<(Cell, Cell), Trace
     }
 }
 
-// The cell that one word spells.
-fn one_cell(spaces: &SpaceTable<'_>, word: &str) -> Result<Cell, TraceFault>
-    ensures { result ≡ ops.one_cell spaces.now (parts blank word.now) }
-{
-    read_cell(spaces, word)
-}
-
-// The operation of a verb and the words behind it.
-#[tactic(auto, unfolding(crate::specs::Ops::op_of_verb))]
+// The operation of a verb and the words behind it. A word with a space is no cell.
+#[tactic(auto, unfolding(crate::specs::Ops::op_of_verb), using(crate::proofs::PartLemmas::one_word))]
 fn read_words(spaces: &SpaceTable<'_>, verb: Verb, words: &str) -> Result<Op, TraceFault>
     ensures { result ≡ ops.op_of_verb spaces.now verb (parts blank words.now) }
 {
@@ -123,7 +116,7 @@ fn read_words(spaces: &SpaceTable<'_>, verb: Verb, words: &str) -> Result<Op, Tr
             Ok(Op::Swap { cell, other })
         }
         Verb::Read => {
-            let cell = one_cell(spaces, words)?;
+            let cell = read_cell(spaces, words)?;
             Ok(Op::Read { cell })
         }
     }
