@@ -1,29 +1,19 @@
 -- The workers of the messages of a plan are one, and so is their order.
-use Rattle.std.proofs.Common.{◌≡◌, ◌≢◌, ℕ, zero, suc, ◌+◌, ◌<◌, inl, inr, List, [], ◌∷◌, get_or, All, AllPairs, Contains, IsTrue, refl, arith, sym, ◌∙◌, subst}
+use Rattle.std.proofs.Common.{◌≡◌, ◌≢◌, ℕ, zero, suc, ◌<◌, inl, inr, List, [], ◌∷◌, get_or, All, AllPairs, Contains, refl, arith, sym, ◌∙◌, subst}
 use Rattle.std.proofs.lemmas.Bool.{cases_lt, cases_eq, cases_order}
-use Rattle.std.specs.Prelude.{nat_le, nat_lt, ◌&&◌}
 use Rattle.waff_plan.specs.Work.{Work, IsNumber}
 use Rattle.waff_plan.specs.Unique.{AreSame}
 use Rattle.waff_list.proofs.Each.{none_there, contains_more}
 use Rattle.waff_list.specs.Seats.{ComesBefore, HoldsWorker, IsSeated, IsInOrder}
 use Rattle.waff_list.specs.Unique.{AreSeated, SeatsAreOne, OrderIsOne}
 
--- what comes before in one plan comes before in another with the same starts
-comes_before_in : (start other : ℕ → ℕ) (i m : ℕ) → start i ≡ other i → start m ≡ other m → ComesBefore start i m → ComesBefore other i m
-comes_before_in start other i m at_i at_m (inl sooner) = inl (omega arith)
-comes_before_in start other i m at_i at_m (inr (same, first)) = inr (omega arith, first)
-
+-- what holds its worker in one plan does so in another with the same starts
 holds_in : (work : Work) (start other : ℕ → ℕ) → AreSame work start other → (i m : ℕ) → IsNumber work m → HoldsWorker work start i m
     → HoldsWorker work other i m
 holds_in work start other same i m number holds =
-    let at_i : start i ≡ other i = same i holds.number in
-    let at_m : start m ≡ other m = same m number in
-    record {
-      number = holds.number;
-      sooner = comes_before_in start other i m at_i at_m holds.sooner;
-      runs = subst (λ a. IsTrue (nat_le a (other m) && nat_lt (other m) (a + work.cost i))) at_i
-          (subst (λ b. IsTrue (nat_le (start i) b && nat_lt b (start i + work.cost i))) at_m holds.runs);
-    }
+    let at_i = same i holds.number in
+    let at_m = same m number in
+    record { number = holds.number; sooner = rw (at_i, at_m) at holds.sooner; runs = rw (at_i, at_m) at holds.runs }
 
 seated_in : (work : Work) (start other : ℕ → ℕ) → AreSame work start other → (worker : ℕ → ℕ) (m : ℕ) → IsNumber work m
     → IsSeated work start worker m → IsSeated work other worker m
@@ -121,8 +111,7 @@ module _ (start : ℕ → ℕ) where
 sorted_in : (work : Work) (start other : ℕ → ℕ) → AreSame work start other → (order : List ℕ) → All (IsNumber work) order
     → AllPairs (ComesBefore start) order → AllPairs (ComesBefore other) order
 sorted_in work start other same order numbers sorted i j d less within =
-    comes_before_in start other (get_or order i d) (get_or order j d)
-    (same (get_or order i d) (numbers i d (omega arith))) (same (get_or order j d) (numbers j d within)) (sorted i j d less within)
+    rw (same (get_or order i d) (numbers i d (omega arith)), same (get_or order j d) (numbers j d within)) at (sorted i j d less within)
 
 listed_too : (work : Work) (start other : ℕ → ℕ) (order others : List ℕ) → IsInOrder work start order → IsInOrder work other others
     → (x : ℕ) → Contains order x → Contains others x

@@ -8,17 +8,11 @@ use Rattle.waff_plan.specs.Work.{Work, IsNumber}
 use Rattle.waff_plan.specs.Obeys.{IsForward}
 use Rattle.waff_plan.specs.Chain.{LinksOn, IsChain, chain_cost}
 use Rattle.waff_order.specs.Needs.{IsNeed, AreNeeds}
+use Rattle.waff_plan.proofs.Forward.{second_number}
 use Rattle.waff_order.proofs.NeedLemmas.{path_one}
 use Rattle.waff_list.specs.ListRule.{HaveSamePaths}
 use Rattle.waff_list.proofs.PathPlans.{paths_of_needs}
 use Rattle.waff_list.specs.Tails.{AreTails, TailsAreOne, TailIsGreatestChain, TailsAreShared}
-
--- the later message of a pair is a message
-later_is_number : (before : Relation) (work : Work) → IsForward before work → (m later : ℕ) → before m later → IsNumber work later
-later_is_number before work forward m later pair =
-    let from : 1 ≤ m = forward.from m later pair in
-    let earlier : m < later = forward.earlier m later pair in
-    record { from = omega arith; to = forward.to m later pair }
 
 -- where the tails of later messages are the same, so is the tail of a message
 tail_le : (before : Relation) (work : Work) (tail other : ℕ → ℕ) → AreTails before work tail → AreTails before work other → (m : ℕ) → IsNumber work m
@@ -29,27 +23,22 @@ tail_le before work tail other tails others m number same = elim (tails.one m nu
     | inr (later, pair, _) ↦ absurd (none later pair)
   ]
   | inr (later, pair, is) ↦
-      let within : work.cost m + other later ≤ other m = others.each m later pair in
-      let later_same : tail later ≡ other later = same later pair in
-      omega arith
+      omega (arith, is, others.each m later pair, same later pair)
 ]
 
 -- the last n messages have one tail each
 same_from : (before : Relation) (work : Work) → IsForward before work → (tail other : ℕ → ℕ) → AreTails before work tail → AreTails before work other
     → (n m : ℕ) → IsNumber work m → work.count < m + n → tail m ≡ other m
-same_from before work forward tail other tails others zero m number last = let to : m ≤ work.count = number.to in absurd (omega arith)
+same_from before work forward tail other tails others zero m number last = absurd (omega (arith, last, number.to))
 same_from before work forward tail other tails others (suc n) m number last =
     let rest : (later : ℕ) → before m later → tail later ≡ other later = λ later pair.
-    let earlier : m < later = forward.earlier m later pair in
-    same_from before work forward tail other tails others n later (later_is_number before work forward m later pair) (omega arith) in
-    let there : tail m ≤ other m = tail_le before work tail other tails others m number rest in
-    let back : other m ≤ tail m = tail_le before work other tail others tails m number (λ later pair. sym (rest later pair)) in
-    omega arith
+    same_from before work forward tail other tails others n later (second_number before work forward m later pair) (omega (arith, last, forward.earlier m later pair)) in
+    let back = tail_le before work other tail others tails m number (λ later pair. sym (rest later pair)) in
+    omega (arith, tail_le before work tail other tails others m number rest, back)
 
 pub tails_are_one : (before : Relation) (work : Work) → IsForward before work → TailsAreOne before work
 tails_are_one before work forward tail other tails others m number =
-    let from : 1 ≤ m = number.from in
-    same_from before work forward tail other tails others work.count m number (omega arith)
+    same_from before work forward tail other tails others work.count m number (omega (arith, number.from))
 
 -- no chain from a message costs more than its tail
 chain_within : (before : Relation) (work : Work) (tail : ℕ → ℕ) → AreTails before work tail → (m : ℕ) (rest : List ℕ) → LinksOn before work m rest
@@ -59,27 +48,23 @@ chain_within before work tail tails m [] number = elim (tails.one m number) [
   | inr (later, _, is) ↦ omega (arith, sum_by-cons work.cost m [])
 ]
 chain_within before work tail tails m (next ∷ rest) h =
-    let within : chain_cost work (next ∷ rest) ≤ tail next = chain_within before work tail tails next rest h.2 in
-    let pair : work.cost m + tail next ≤ tail m = tails.each m next h.1 in
-    omega (arith, sum_by-cons work.cost m (next ∷ rest))
+    omega (arith, chain_within before work tail tails next rest h.2, tails.each m next h.1, sum_by-cons work.cost m (next ∷ rest))
 
 -- one costs as much
 chain_from : (before : Relation) (work : Work) → IsForward before work → (tail : ℕ → ℕ) → AreTails before work tail → (n m : ℕ) → IsNumber work m
     → work.count < m + n → (rest : List ℕ) × IsChain before work (m ∷ rest) × (chain_cost work (m ∷ rest) ≡ tail m)
-chain_from before work forward tail tails zero m number last = let to : m ≤ work.count = number.to in absurd (omega arith)
+chain_from before work forward tail tails zero m number last = absurd (omega (arith, last, number.to))
 chain_from before work forward tail tails (suc n) m number last = elim (tails.one m number) [
   | inl (_, is) ↦ ([], number, omega (arith, sum_by-cons work.cost m []))
   | inr (later, pair, is) ↦
-      let earlier : m < later = forward.earlier m later pair in
-      let chain = chain_from before work forward tail tails n later (later_is_number before work forward m later pair) (omega arith) in
-      let costs : chain_cost work (later ∷ chain.0) ≡ tail later = chain.2 in
-      (later ∷ chain.0, (number, pair, chain.1), omega (arith, sum_by-cons work.cost m (later ∷ chain.0)))
+      let chain = chain_from before work forward tail tails n later (second_number before work forward m later pair) (omega (arith, last, forward.earlier m later pair)) in
+      (later ∷ chain.0, (number, pair, chain.1), omega (arith, is, chain.2, sum_by-cons work.cost m (later ∷ chain.0)))
 ]
 
 pub tail_is_greatest_chain : (before : Relation) (work : Work) → IsForward before work → TailIsGreatestChain before work
 tail_is_greatest_chain before work forward tail m tails number = record {
   each = λ rest chain. chain_within before work tail tails m rest chain;
-  one = let from : 1 ≤ m = number.from in chain_from before work forward tail tails work.count m number (omega arith);
+  one = chain_from before work forward tail tails work.count m number (omega (arith, number.from));
 }
 
 -- along a path the tails fall by the cost of its first message or more
@@ -87,9 +72,7 @@ path_by_falls : (before : Relation) (work : Work) (tail : ℕ → ℕ) → ((i j
     → PathBy before n i j → work.cost i + tail j ≤ tail i
 path_by_falls before work tail falls zero i j pair = falls i j pair
 path_by_falls before work tail falls (suc n) i j (m, first, rest) =
-    let one : work.cost i + tail m ≤ tail i = falls i m first in
-    let others : work.cost m + tail j ≤ tail m = path_by_falls before work tail falls n m j rest in
-    omega arith
+    omega (arith, falls i m first, path_by_falls before work tail falls n m j rest)
 
 -- a path begins with a pair
 path_by_first : (before : Relation) (n i j : ℕ) → PathBy before n i j → (m : ℕ) × before i m
@@ -101,9 +84,7 @@ path_by_one : (before : Relation) (work : Work) (tail : ℕ → ℕ) → ((i j :
     → PathBy before n i j → tail i ≡ work.cost i + tail j → (later : ℕ) × before i later × (tail i ≡ work.cost i + tail later)
 path_by_one before work tail falls zero i j pair is = (j, pair, is)
 path_by_one before work tail falls (suc n) i j (m, first, rest) is =
-    let one : work.cost i + tail m ≤ tail i = falls i m first in
-    let others : work.cost m + tail j ≤ tail m = path_by_falls before work tail falls n m j rest in
-    (m, first, omega arith)
+    (m, first, omega (arith, is, falls i m first, path_by_falls before work tail falls n m j rest))
 
 pub same_paths_same_tails : (near before : Relation) (work : Work) → HaveSamePaths near before
     → (tail : ℕ → ℕ) → AreTails near work tail → AreTails before work tail

@@ -32,12 +32,9 @@ module _ (before : Relation) (work : Work) (forward : IsForward before work) whe
   -- no message has had its turn
   pub tails_none : (tail : ℕ → ℕ) → ((m : ℕ) → tail m ≡ 0) → AreTailsAfter before work tail work.count
   tails_none tail none = record {
-    each = λ m later pair after.
-        let earlier : m < later = forward.earlier m later pair in
-        let to : later ≤ work.count = forward.to m later pair in
-        absurd (omega arith);
-    one = λ m number after. let to : m ≤ work.count = number.to in absurd (omega arith);
-    best = λ m later pair to after. let within : later ≤ work.count = forward.to m later pair in absurd (omega arith);
+    each = λ m later pair after. absurd (omega (arith, after, forward.earlier m later pair, forward.to m later pair));
+    one = λ m number after. absurd (omega (arith, after, number.to));
+    best = λ m later pair to after. absurd (omega (arith, after, forward.to m later pair));
     best_one = λ m number to. inl (forward.to m, none m);
     small = λ m number. omega (arith, none m);
   }
@@ -45,8 +42,8 @@ module _ (before : Relation) (work : Work) (forward : IsForward before work) whe
   -- all have
   pub tails_all : (tail : ℕ → ℕ) → AreTailsAfter before work tail 0 → AreTails before work tail
   tails_all tail h = record {
-    each = λ m later pair. let from : 1 ≤ m = forward.from m later pair in h.each m later pair (omega arith);
-    one = λ m number. let from : 1 ≤ m = number.from in h.one m number (omega arith);
+    each = λ m later pair. h.each m later pair (omega (arith, forward.from m later pair));
+    one = λ m number. h.one m number (omega (arith, number.from));
   }
 
   module _ (old new : ℕ → ℕ) (n : ℕ) (number : IsNumber work n) (some : 1 ≤ work.cost n) (little : work.cost n < 2 ^ 32)
@@ -59,34 +56,28 @@ module _ (before : Relation) (work : Work) (forward : IsForward before work) whe
 
     each_more : (m later : ℕ) → before m later → n - 1 < m → work.cost m + new later ≤ new m
     each_more m later pair after =
-        let earlier : m < later = forward.earlier m later pair in
-        let kept : new later ≡ old later = turn.later later (omega arith) in
+        let earlier = forward.earlier m later pair in
+        let kept = turn.later later (omega (arith, after, earlier)) in
         elim (cases_eq m n) [
           | inl here ↦
-              let best : old later ≤ old m = h.best m later pair (omega arith) (omega arith) in
-              let is : new m ≡ old m + work.cost m = subst (λ x. new x ≡ old x + work.cost x) (sym here) turn.here in
-              omega arith
+              let is : new m ≡ old m + work.cost m = rw here turn.here in
+              omega (arith, kept, is, h.best m later pair (omega (arith, here)) (omega (arith, here, earlier)))
           | inr other ↦
-              let is : new m ≡ old m = turn.later m (omega arith) in
-              let was : work.cost m + old later ≤ old m = h.each m later pair (omega arith) in
-              omega arith
+              let past : n < m = omega (arith, after, other) in
+              omega (arith, kept, turn.later m past, h.each m later pair past)
         ]
 
     one_here : (IsBeforeNone before n × (new n ≡ work.cost n)) ⊎ ((later : ℕ) × before n later × (new n ≡ work.cost n + new later))
-    one_here = let is : new n ≡ old n + work.cost n = turn.here in elim (h.best_one n number (omega arith)) [
-      | inl (none, zero) ↦
-          inl ((λ later pair. let earlier : n < later = forward.earlier n later pair in let within : later ≤ n = none later pair in absurd (omega arith)), omega arith)
-      | inr (later, pair, after, was) ↦ let kept : new later ≡ old later = turn.later later after in inr (later, pair, omega arith)
+    one_here = elim (h.best_one n number (omega arith)) [
+      | inl (none, zero) ↦ inl ((λ later pair. absurd (omega (arith, forward.earlier n later pair, none later pair))), omega (arith, zero, turn.here))
+      | inr (later, pair, after, was) ↦ inr (later, pair, omega (arith, was, turn.here, turn.later later after))
     ]
 
     one_after : (m : ℕ) → IsNumber work m → n < m
         → (IsBeforeNone before m × (new m ≡ work.cost m)) ⊎ ((later : ℕ) × before m later × (new m ≡ work.cost m + new later))
-    one_after m m_number after = let is : new m ≡ old m = turn.later m after in elim (h.one m m_number after) [
-      | inl (none, was) ↦ inl (none, omega arith)
-      | inr (later, pair, was) ↦
-          let earlier : m < later = forward.earlier m later pair in
-          let kept : new later ≡ old later = turn.later later (omega arith) in
-          inr (later, pair, omega arith)
+    one_after m m_number after = elim (h.one m m_number after) [
+      | inl (none, was) ↦ inl (none, turn.later m after ∙ was)
+      | inr (later, pair, was) ↦ inr (later, pair, omega (arith, was, turn.later m after, turn.later later (omega (arith, after, forward.earlier m later pair))))
     ]
 
     one_more : (m : ℕ) → IsNumber work m → n - 1 < m
@@ -98,15 +89,10 @@ module _ (before : Relation) (work : Work) (forward : IsForward before work) whe
 
     best_more : (m later : ℕ) → before m later → m ≤ n - 1 → n - 1 < later → new later ≤ new m
     best_more m later pair early after = elim (cases_eq later n) [
-      | inl here ↦
-          let least : new n ≤ new m = turn.each m (subst (λ x. before m x) here pair) in
-          subst (λ x. new x ≤ new m) (sym here) least
+      | inl here ↦ rw here (turn.each m (subst (λ x. before m x) here pair))
       | inr other ↦
-          let m_from : 1 ≤ m = forward.from m later pair in
-          let is : new later ≡ old later = turn.later later (omega arith) in
-          let was : old later ≤ old m = h.best m later pair (omega arith) (omega arith) in
-          let kept : old m ≤ new m = turn.kept m m_from (omega arith) in
-          omega arith
+          let past : n < later = omega (arith, after, other) in
+          omega (arith, turn.later later past, h.best m later pair (omega (arith, early)) past, turn.kept m (forward.from m later pair) (omega (arith, early)))
     ]
 
     best_one_more : (m : ℕ) → IsNumber work m → m ≤ n - 1
@@ -115,33 +101,25 @@ module _ (before : Relation) (work : Work) (forward : IsForward before work) whe
       | inl kept ↦ elim (h.best_one m m_number (omega arith)) [
         | inl (none, zero) ↦ inl (
           (λ later pair. elim (cases_eq later n) [
-            | inl here ↦
-                let least : new n ≤ new m = turn.each m (subst (λ x. before m x) here pair) in
-                let is : new n ≡ old n + work.cost n = turn.here in
-                absurd (omega arith)
-            | inr other ↦ let within : later ≤ n = none later pair in omega arith
+            | inl here ↦ absurd (omega (arith, zero, kept, some, turn.here, turn.each m (subst (λ x. before m x) here pair)))
+            | inr other ↦ omega (arith, other, none later pair)
           ]),
           omega arith,
         )
-        | inr (later, pair, after, was) ↦ let is : new later ≡ old later = turn.later later after in inr (later, pair, omega arith, omega arith)
+        | inr (later, pair, after, was) ↦ inr (later, pair, omega arith, omega (arith, kept, was, turn.later later after))
       ]
       | inr (pair, is) ↦ inr (n, pair, omega arith, is)
     ]
 
     small_more : (m : ℕ) → IsNumber work m → new m ≤ (work.count - (n - 1)) * 2 ^ 32
     small_more m m_number =
-        let m_from : 1 ≤ m = m_number.from in
-        let was : old m ≤ (work.count - n) * 2 ^ 32 = h.small m m_number in
-        let here_was : old n ≤ (work.count - n) * 2 ^ 32 = h.small n number in
-        let here : new n ≡ old n + work.cost n = turn.here in
+        let was = h.small m m_number in
         let most : (work.count - (n - 1)) * 2 ^ 32 ≡ (work.count - n) * 2 ^ 32 + 2 ^ 32 = omega arith in
+        let here : new n ≤ (work.count - (n - 1)) * 2 ^ 32 = omega (arith, h.small n number, turn.here) in
         elim (cases_order m n) [
-          | inl same ↦ subst (λ x. new x ≤ (work.count - (n - 1)) * 2 ^ 32) (sym same) (omega arith)
-          | inr (inl early) ↦ elim (turn.one m m_from early) [
-            | inl kept ↦ omega arith
-            | inr (_, is) ↦ omega arith
-          ]
-          | inr (inr after) ↦ let is : new m ≡ old m = turn.later m after in omega arith
+          | inl same ↦ rw same here
+          | inr (inl early) ↦ elim (turn.one m m_number.from early) [ inl kept ↦ omega (arith, was, kept) | inr (_, is) ↦ omega (arith, is, here) ]
+          | inr (inr after) ↦ omega (arith, was, turn.later m after)
         ]
 
     pub tails_more : AreTailsAfter before work new (n - 1)
@@ -160,7 +138,7 @@ module _ (before : Relation) (work : Work) (forward : IsForward before work) whe
 pub raised_none : (tails : List ℕ) (tail : ℕ) → AreRaised tails [] tail tails
 raised_none tails tail = record {
   count = refl;
-  each = λ m there. let within = there.1 in absurd (omega (arith, within));
+  each = λ m there. absurd (omega (arith, there.1));
   kept = λ m. omega arith;
   one = λ m from. inl refl;
 }
@@ -191,7 +169,7 @@ module _ (old new messages : List ℕ) (tail at : ℕ) (inside : at < length mes
 
   raised : (m : ℕ) → Contains (take (at + 1) messages) m → tail ≤ tail_of after m
   raised m listed = elim (Contains-push_cases (take at messages) x m (subst (λ xs. Contains xs m) more listed)) [
-    | inl was ↦ let least : tail ≤ tail_of new m = h.each m was in omega (arith, rises m)
+    | inl was ↦ omega (arith, h.each m was, rises m)
     | inr is ↦ subst (λ y. tail ≤ tail_of after y) is (omega (arith, here))
   ]
 
@@ -219,7 +197,7 @@ module _ (old new messages : List ℕ) (tail at : ℕ) (inside : at < length mes
   raised_more = record {
     count = length-set new (x - 1) (max (tail_of new x) tail) ∙ h.count;
     each = raised;
-    kept = λ m. let was : tail_of old m ≤ tail_of new m = h.kept m in omega (arith, rises m);
+    kept = λ m. omega (arith, h.kept m, rises m);
     one = one;
   }
 
@@ -230,7 +208,7 @@ module _ (needs : List (List ℕ)) (work : Work) (forward : IsForward (IsNeed ne
   set_here = get_or-set_same old (n - 1) tail 0 (omega arith)
 
   set_other : (m : ℕ) → 1 ≤ m → m ≢ n → tail_of (set old (n - 1) tail) m ≡ tail_of old m
-  set_other m m_from other = let apart : m - 1 ≢ n - 1 = omega arith in get_or-set_other old (n - 1) (m - 1) tail 0 apart
+  set_other m m_from other = get_or-set_other old (n - 1) (m - 1) tail 0 (omega (arith, m_from, from, other))
 
   tail_is : tail_of new n ≡ tail
   tail_is = elim (h.one n from) [
@@ -244,20 +222,17 @@ module _ (needs : List (List ℕ)) (work : Work) (forward : IsForward (IsNeed ne
   is_later : (m : ℕ) → n < m → tail_of new m ≡ tail_of old m
   is_later m after = elim (h.one m (omega arith)) [
     | inl kept ↦ kept ∙ set_other m (omega arith) (omega arith)
-    | inr (listed, _) ↦ let earlier : m < n = forward.earlier m n (is_need m listed) in absurd (omega arith)
+    | inr (listed, _) ↦ absurd (omega (arith, after, forward.earlier m n (is_need m listed)))
   ]
 
   pub takes_turn : TakesTurn (IsNeed needs) work (tail_of old) (tail_of new) n
   takes_turn = record {
     here = tail_is ∙ sum;
     later = is_later;
-    each = λ m need. let least : tail ≤ tail_of new m = h.each m need.listed in omega (arith, tail_is);
-    kept = λ m m_from early.
-        let other : m ≢ n = omega arith in
-        let was : tail_of (set old (n - 1) tail) m ≤ tail_of new m = h.kept m in
-        omega (arith, set_other m m_from other);
+    each = λ m need. omega (arith, h.each m need.listed, tail_is);
+    kept = λ m m_from early. rw (set_other m m_from (omega (arith, early))) at (h.kept m);
     one = λ m m_from early. elim (h.one m m_from) [
-      | inl kept ↦ let other : m ≢ n = omega arith in inl (kept ∙ set_other m m_from other)
+      | inl kept ↦ inl (kept ∙ set_other m m_from (omega (arith, early)))
       | inr (listed, is) ↦ inr (is_need m listed, is ∙ sym tail_is)
     ];
   }

@@ -17,7 +17,7 @@ use crate::WorkerPlan;
 use crate::planner::make;
 use crate::rule::Rule;
 use crate::tails::tails;
-use crate::work::releases;
+use crate::work::releases_of;
 use std::alloc::{AllocError, Global};
 use waff_assign::Assigned;
 use waff_model::{Trace, Tree};
@@ -67,7 +67,7 @@ pub fn list_plan_by(
     ensures order { IfOk result (λ made.
         IsInOrder (work_in made.plan) (starts_in made.plan) made.order) }
 {
-    let releases = releases(alloc, trace)?;
+    let releases = releases_of(alloc, trace)?;
     let priorities = match rule {
         Rule::Arrival => Vec::new(alloc),
         Rule::Longest => tails(alloc, needs, trace)?,

@@ -21,7 +21,7 @@ pub(crate) fn cost_of(trace: &Trace, m: u32) -> u64
 }
 
 /// The tick before which each message may not start.
-pub(crate) fn releases(alloc: Global, trace: &Trace) -> Result<Vec<u32>, AllocError>
+pub(crate) fn releases_of(alloc: Global, trace: &Trace) -> Result<Vec<u32>, AllocError>
     ensures { IfOk result (λ releases. releases.items
         ≡ map (λ message. message.release) trace.now.messages) }
 {

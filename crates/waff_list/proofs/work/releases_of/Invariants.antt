@@ -1,5 +1,5 @@
 use Rattle.std.proofs.Common.{◌≡◌, ◌-◌, length, map, take, vec_capacity}
-use Rattle.waff_list.proofs.work.releases.Given as goal
+use Rattle.waff_list.proofs.work.releases_of.Given as goal
 
 abbrev pub invariant-loop-m : goal.invariant-loop-m
 invariant-loop-m l = record {
