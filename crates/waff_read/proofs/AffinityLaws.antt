@@ -120,48 +120,25 @@ record Decides (a b c d e : Bool) (x : TreeError) : Type 0 where
 
 least_first : (b c d e : Bool) (other : TreeError) → flag true b c d e other ≡ true → 1 ≤ number other
 least_first b c d e refusal.Name h = omega arith
-least_first b c d e refusal.Twice h = omega arith
-least_first b c d e refusal.SecondRoot h = omega arith
-least_first b c d e refusal.ParentUnknown h = omega arith
-least_first b c d e refusal.TooMany h = omega arith
-least_first b c d e refusal.NoRoot h = omega arith
-least_first b c d e refusal.Memory h = omega arith
+least_first b c d e _ h = omega arith
 
 least_second : (c d e : Bool) (other : TreeError) → flag false true c d e other ≡ true → 2 ≤ number other
 least_second c d e refusal.Name h = absurd (cc)
-least_second c d e refusal.Twice h = omega arith
-least_second c d e refusal.SecondRoot h = omega arith
-least_second c d e refusal.ParentUnknown h = omega arith
-least_second c d e refusal.TooMany h = omega arith
-least_second c d e refusal.NoRoot h = omega arith
-least_second c d e refusal.Memory h = omega arith
+least_second c d e _ h = omega arith
 
 least_third : (d e : Bool) (other : TreeError) → flag false false true d e other ≡ true → 3 ≤ number other
 least_third d e refusal.Name h = absurd (cc)
 least_third d e refusal.Twice h = absurd (cc)
-least_third d e refusal.SecondRoot h = omega arith
-least_third d e refusal.ParentUnknown h = omega arith
-least_third d e refusal.TooMany h = omega arith
-least_third d e refusal.NoRoot h = omega arith
-least_third d e refusal.Memory h = omega arith
+least_third d e _ h = omega arith
 
 least_fourth : (e : Bool) (other : TreeError) → flag false false false true e other ≡ true → 5 ≤ number other
-least_fourth e refusal.Name h = absurd (cc)
-least_fourth e refusal.Twice h = absurd (cc)
-least_fourth e refusal.SecondRoot h = absurd (cc)
 least_fourth e refusal.ParentUnknown h = omega arith
 least_fourth e refusal.TooMany h = omega arith
-least_fourth e refusal.NoRoot h = absurd (cc)
-least_fourth e refusal.Memory h = absurd (cc)
+least_fourth e _ h = absurd (cc)
 
 least_fifth : (other : TreeError) → flag false false false false true other ≡ true → 6 ≤ number other
-least_fifth refusal.Name h = absurd (cc)
-least_fifth refusal.Twice h = absurd (cc)
-least_fifth refusal.SecondRoot h = absurd (cc)
-least_fifth refusal.ParentUnknown h = absurd (cc)
 least_fifth refusal.TooMany h = omega arith
-least_fifth refusal.NoRoot h = absurd (cc)
-least_fifth refusal.Memory h = absurd (cc)
+least_fifth _ h = absurd (cc)
 
 decides : (a b c d e : Bool) (x : TreeError)
     → first_refusal ((a, refusal.Name) ∷ (b, refusal.Twice) ∷ (c, refusal.SecondRoot) ∷ (d, refusal.ParentUnknown) ∷ (e, refusal.TooMany) ∷ []) ≡ Some x
@@ -225,8 +202,7 @@ module _ (before : List Node) (row : Data) where
   flag_holds refusal.SecondRoot h = second_root before text h
   flag_holds refusal.ParentUnknown h = parent_lost before text h
   flag_holds refusal.TooMany h = leb-true MAX_AFFINITIES (length before) h
-  flag_holds refusal.NoRoot h = absurd (cc)
-  flag_holds refusal.Memory h = absurd (cc)
+  flag_holds _ h = absurd (cc)
 
   holds_flag : length before ≤ MAX_AFFINITIES → (e : TreeError) → HasTreeFault before row e → flag_of e ≡ true
   holds_flag few refusal.Name h = ap not h
@@ -234,8 +210,7 @@ module _ (before : List Node) (row : Data) where
   holds_flag few refusal.SecondRoot (none, some) = root_second before text none some
   holds_flag few refusal.ParentUnknown (name, is, lost) = lost_parent before few text name is lost
   holds_flag few refusal.TooMany h = le-leb MAX_AFFINITIES (length before) h
-  holds_flag few refusal.NoRoot h = absurd h
-  holds_flag few refusal.Memory h = absurd h
+  holds_flag few _ h = absurd h
 
   refused : length before ≤ MAX_AFFINITIES → (e : TreeError) → refusal_of before (node_in before row) ≡ Some e
       → HasTreeFault before row e × ((other : TreeError) → HasTreeFault before row other → number e ≤ number other)

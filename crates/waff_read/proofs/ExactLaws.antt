@@ -144,11 +144,6 @@ module _ (spaces : List Space) (at : ℕ) (name_text cost_text : Field) (release
             release ← r
             Ok (record { name = name; cost = cost; release = release; ops = ops })) ≡ Ok message
           → Spells spaces at name_text cost_text release_text ops_text message
-      by (Err d) c o a r hn hc ho ha hr e = absurd (cc)
-      by (Ok n) (Err d) o a r hn hc ho ha hr e = absurd (cc)
-      by (Ok n) (Ok c) (Err d) a r hn hc ho ha hr e = absurd (cc)
-      by (Ok n) (Ok c) (Ok o) (Err d) r hn hc ho ha hr e = absurd (cc)
-      by (Ok n) (Ok c) (Ok o) (Ok a) (Err d) hn hc ho ha hr e = absurd (cc)
       by (Ok n) (Ok c) (Ok o) (Ok a) (Ok r) hn hc ho ha hr e =
           let same : ◌≡◌ {A = Message} (record { name = n; cost = c; release = r; ops = o }) message = cc in
           let is_cost = hc c refl in
@@ -166,6 +161,7 @@ module _ (spaces : List Space) (at : ℕ) (name_text cost_text : Field) (release
             counted = ha a refl;
             release = hr r refl;
           })
+      by _ _ _ _ _ hn hc ho ha hr e = absurd (cc)
 
   read-fields : Spells spaces at name_text cost_text release_text ops_text message → message_of_fields spaces at name_text cost_text release_text ops_text ≡ Ok message
   unfolding message_of_fields
@@ -179,19 +175,12 @@ pub first_version_is_exact : (spaces : List Space) (at : ℕ) (row : Record) →
 first_version_is_exact spaces at row message = (forward row, λ (n, c, o, is, s). rw is (read-fields spaces at n c None o message s))
   where
     forward : (row : Record) → message_of V1 spaces at row ≡ Ok message → SpellsInThree spaces at row message
-    forward [] h = absurd (cc)
-    forward (a ∷ []) h = absurd (cc)
-    forward (a ∷ b ∷ []) h = absurd (cc)
     forward (a ∷ b ∷ c ∷ []) h = (a, b, c, refl, fields-read spaces at a b None c message h)
-    forward (a ∷ b ∷ c ∷ d ∷ more) h = absurd (cc)
+    forward _ h = absurd (cc)
 
 pub second_version_is_exact : (spaces : List Space) (at : ℕ) (row : Record) → SecondVersionIsExact spaces at row
 second_version_is_exact spaces at row message = (forward row, λ (n, c, r, o, is, s). rw is (read-fields spaces at n c (Some r) o message s))
   where
     forward : (row : Record) → message_of V2 spaces at row ≡ Ok message → SpellsInFour spaces at row message
-    forward [] h = absurd (cc)
-    forward (a ∷ []) h = absurd (cc)
-    forward (a ∷ b ∷ []) h = absurd (cc)
-    forward (a ∷ b ∷ c ∷ []) h = absurd (cc)
     forward (a ∷ b ∷ c ∷ d ∷ []) h = (a, b, c, d, refl, fields-read spaces at a b (Some c) d message h)
-    forward (a ∷ b ∷ c ∷ d ∷ e ∷ more) h = absurd (cc)
+    forward _ h = absurd (cc)

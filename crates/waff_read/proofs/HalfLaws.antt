@@ -101,10 +101,7 @@ fields-anywhere spaces at to name cost release ops message h few =
         → n >>= (λ n. c >>= (λ c. o >>= (λ o. a >>= (λ _. r >>= (λ r. made n c o r))))) ≡ Ok message
         → n >>= (λ n. c >>= (λ c. o >>= (λ o. r >>= (λ r. made n c o r)))) ≡ Ok message
     by (Ok n) (Ok c) (Ok o) (Ok a) r e = e
-    by (Ok n) (Ok c) (Ok o) (Err f) r e = absurd (cc e)
-    by (Ok n) (Ok c) (Err f) a r e = absurd (cc e)
-    by (Ok n) (Err f) o a r e = absurd (cc e)
-    by (Err f) c o a r e = absurd (cc e)
+    by _ _ _ _ r e = absurd (cc e)
 
 message-anywhere : (version : Version) (spaces : List Space) (at to : ℕ) (row : Record) (message : Message)
     → message_of version spaces at row ≡ Ok message → to ≤ MAX_MESSAGES + 1 → message_of version spaces to row ≡ Ok message

@@ -83,10 +83,7 @@ Plain st.StartRecord fields field = (fields ≡ []) × (field ≡ [])
 Plain st.AfterCr fields field = (fields ≡ []) × (field ≡ [])
 Plain st.StartField fields field = Unit {0}
 Plain st.InField fields field = Unit {0}
-Plain st.InQuoted fields field = ⊥
-Plain st.AfterQuote fields field = ⊥
-Plain st.InEscape fields field = ⊥
-Plain st.InComment fields field = ⊥
+Plain _ fields field = ⊥
 
 -- a step of this state and this action at a byte leads there
 abbrev Leads : State × Action → ℕ → Record → List ℕ → Type 0
@@ -126,10 +123,7 @@ step-leads st.StartField c fields field unquoted plain = start-leads c fields fi
 step-leads st.InField c fields field unquoted plain = field-leads c fields field
 step-leads st.AfterCr c fields field unquoted plain =
     if-leads (c == 10) (st.StartRecord, act.Skip) (start_record default_config c) c fields field (λ feed. plain) (λ other. record-leads c fields field unquoted plain)
-step-leads st.InQuoted c fields field unquoted plain = absurd plain
-step-leads st.AfterQuote c fields field unquoted plain = absurd plain
-step-leads st.InEscape c fields field unquoted plain = absurd plain
-step-leads st.InComment c fields field unquoted plain = absurd plain
+step-leads _ c fields field unquoted plain = absurd plain
 
 -- a text without quotes
 abbrev Unquoted : List ℕ → Type 0
@@ -143,10 +137,7 @@ feed-cuts rest st.StartRecord fields field plain = rw (plain.0, plain.1) refl
 feed-cuts rest st.AfterCr fields field plain = rw (plain.0, plain.1) refl
 feed-cuts rest st.StartField fields field plain = refl
 feed-cuts rest st.InField fields field plain = refl
-feed-cuts rest st.InQuoted fields field plain = absurd plain
-feed-cuts rest st.AfterQuote fields field plain = absurd plain
-feed-cuts rest st.InEscape fields field plain = absurd plain
-feed-cuts rest st.InComment fields field plain = absurd plain
+feed-cuts rest _ fields field plain = absurd plain
 
 -- so it does behind bytes that are no quotes
 all-cut : (x rest : List ℕ) (s : State) (fields : Record) (field : List ℕ) → Unquoted x → Plain s fields field
