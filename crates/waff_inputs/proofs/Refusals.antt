@@ -41,7 +41,7 @@ refusal_is_one hierarchy_file trace_file one other tells also refused too =
     (refused_is hierarchy_file trace_file one tells refused) (refused_is hierarchy_file trace_file other also too)
 
 pub accepted_is_not_refused : (hierarchy_file trace_file : List ℕ) → AcceptedIsNotRefused hierarchy_file trace_file
-accepted_is_not_refused hierarchy_file trace_file layout trace assigned error accepts tells refused =
+accepted_is_not_refused hierarchy_file trace_file instance error accepts tells refused =
     let found = refused_is hierarchy_file trace_file error tells refused in
     let none : of_files trace_file (hierarchy_of hierarchy_file) ≡ None =
     ap (of_files trace_file) accepts.is_layout ∙ ap of_trace accepts.is_trace in

@@ -1,14 +1,15 @@
--- Of the same bytes one hierarchy, one trace and one assignment are accepted.
-use Rattle.std.proofs.Common.{◌≡◌, ℕ, List, Result, Ok, sym, subst}
+-- Of the same bytes one hierarchy, one trace and one instance are accepted.
+use Rattle.std.proofs.Common.{◌≡◌, ℕ, List, Result, Ok, sym, ◌∙◌, ap, subst}
 use Rattle.waff_model.specs.Layout.{Hierarchy}
 use Rattle.waff_model.specs.Messages.{Arrivals}
-use Rattle.waff_model.specs.Tree.{IsTree}
+use Rattle.waff_model.specs.Tree.{IsTree, Node}
 use Rattle.waff_read.specs.Hierarchies.{hierarchy_of}
 use Rattle.waff_read.specs.Traces.{trace_of}
 use Rattle.waff_read.proofs.LimitLaws.{layout_is_within_limits}
+use Rattle.waff_assign.specs.Instance.{Instance}
 use Rattle.waff_assign.specs.Lowest.{IsAssignment}
 use Rattle.waff_assign.proofs.Uniqueness.{assignment_is_one}
-use Rattle.waff_inputs.specs.Inputs.{Accepts}
+use Rattle.waff_inputs.specs.Inputs.{Accepts, IsToldOf}
 
 -- bytes are read as one thing
 pub same_ok : {A E : Type 0} (read : Result A E) (a b : A) → read ≡ Ok a → read ≡ Ok b → a ≡ b
@@ -22,28 +23,26 @@ same_trace layout other file trace more same one two =
 pub layout_tree : (file : List ℕ) (layout : Hierarchy) → hierarchy_of file ≡ Ok layout → IsTree layout.tree
 layout_tree file layout read = let limits = layout_is_within_limits file layout read in limits.tree
 
--- what was read, and the assignment
-pub record IsSameInput (layout other : Hierarchy) (trace more : Arrivals) (assigned affinities : List ℕ) : Type 0 where
-  pub layouts : layout ≡ other
-  pub traces : trace ≡ more
-  pub assignments : assigned ≡ affinities
+same_instance : (one other : Instance) → one.tree ≡ other.tree → one.assigned ≡ other.assigned → one.trace ≡ other.trace → one ≡ other
+same_instance one other trees assignments traces =
+    let made : List Node → List ℕ → Arrivals → Instance = λ tree assigned trace. record { tree = tree; assigned = assigned; trace = trace } in
+    ap (λ t. made t one.assigned one.trace) trees ∙ ap (λ a. made other.tree a one.trace) assignments ∙ ap (made other.tree other.assigned) traces
 
-pub same_input : (hierarchy_file trace_file : List ℕ) (layout other : Hierarchy) (trace more : Arrivals) (assigned affinities : List ℕ)
-    → Accepts hierarchy_file trace_file layout trace assigned → Accepts hierarchy_file trace_file other more affinities
-    → IsSameInput layout other trace more assigned affinities
-same_input hierarchy_file trace_file layout other trace more assigned affinities one two =
-    let layouts = same_ok (hierarchy_of hierarchy_file) layout other one.is_layout two.is_layout in
-    let traces = same_trace layout other trace_file trace more layouts one.is_trace two.is_trace in
-    let moved = subst (λ (l : Hierarchy). IsAssignment l trace.messages affinities) (sym layouts)
-    (subst (λ (t : Arrivals). IsAssignment other t.messages affinities) (sym traces) two.assignment) in
-    record {
-      layouts = layouts;
-      traces = traces;
-      assignments = assignment_is_one layout trace.messages (layout_tree hierarchy_file layout one.is_layout) assigned affinities one.assignment moved;
-    }
+pub same_input : (hierarchy_file trace_file : List ℕ) (one other : Instance) → Accepts hierarchy_file trace_file one → Accepts hierarchy_file trace_file other
+    → one ≡ other
+same_input hierarchy_file trace_file one other p q =
+    let layouts = same_ok (hierarchy_of hierarchy_file) p.layout q.layout p.is_layout q.is_layout in
+    let traces = same_trace p.layout q.layout trace_file one.trace other.trace layouts p.is_trace q.is_trace in
+    let moved = subst (λ (l : Hierarchy). IsAssignment l one.trace.messages other.assigned) (sym layouts)
+    (subst (λ (t : Arrivals). IsAssignment q.layout t.messages other.assigned) (sym traces) q.assignment) in
+    same_instance one other (sym p.tree ∙ ap (λ (l : Hierarchy). l.tree) layouts ∙ q.tree)
+    (assignment_is_one p.layout one.trace.messages (layout_tree hierarchy_file p.layout p.is_layout) one.assigned other.assigned p.assignment moved)
+    traces
 
-pub moved_back : (P : Hierarchy → Arrivals → List ℕ → Type 0) (layout other : Hierarchy) (trace more : Arrivals) (assigned affinities : List ℕ)
-    → IsSameInput layout other trace more assigned affinities → P other more affinities → P layout trace assigned
-moved_back P layout other trace more assigned affinities same h =
-    subst (λ l. P l trace assigned) (sym same.layouts)
-    (subst (λ t. P other t assigned) (sym same.traces) (subst (λ a. P other more a) (sym same.assignments) h))
+-- what is told of files is one where it is one of each instance
+pub told_is_one : {A : Type 0} (IsTold : Instance → A → Type 0) (hierarchy_file trace_file : List ℕ)
+    → ((instance : Instance) → Accepts hierarchy_file trace_file instance → (a b : A) → IsTold instance a → IsTold instance b → a ≡ b)
+    → (a b : A) → IsToldOf IsTold hierarchy_file trace_file a → IsToldOf IsTold hierarchy_file trace_file b → a ≡ b
+told_is_one IsTold hierarchy_file trace_file one a b p q =
+    let same = same_input hierarchy_file trace_file p.instance q.instance p.accepts q.accepts in
+    one p.instance p.accepts a b p.told (subst (λ i. IsTold i b) (sym same) q.told)

@@ -4,17 +4,32 @@ use Rattle.waff_model.specs.Layout.{Hierarchy}
 use Rattle.waff_model.specs.Messages.{Arrivals}
 use Rattle.waff_read.specs.Hierarchies.{hierarchy_of}
 use Rattle.waff_read.specs.Traces.{trace_of}
+use Rattle.waff_assign.specs.Instance.{Instance}
 use Rattle.waff_assign.specs.Lowest.{IsAssignment}
 use Rattle.waff_inputs.specs.declared.fault.ToolError.{ToolError}
 use Rattle.waff_inputs.specs.declared.fault.ToolError.TheVariants as tool
 
--- bytes that are a hierarchy and a trace over it, and the assignment of the trace: for each message
--- the lowest affinity that covers its footprint
-pub record Accepts (hierarchy_file trace_file : List ℕ)
-    (layout : Hierarchy) (trace : Arrivals) (assigned : List ℕ) : Type 0 where
+-- bytes that are a hierarchy and a trace over it, and the instance that they come to: the tree of the
+-- hierarchy, the trace, and its assignment, for each message the lowest affinity that covers its
+-- footprint
+pub record Accepts (hierarchy_file trace_file : List ℕ) (instance : Instance) : Type 0 where
+  pub layout : Hierarchy
   pub is_layout : hierarchy_of hierarchy_file ≡ Ok layout
-  pub is_trace : trace_of layout.spaces trace_file ≡ Ok trace
-  pub assignment : IsAssignment layout trace.messages assigned
+  pub tree : layout.tree ≡ instance.tree
+  pub is_trace : trace_of layout.spaces trace_file ≡ Ok instance.trace
+  pub assignment : IsAssignment layout instance.trace.messages instance.assigned
+
+-- a trace under a hierarchy with these affinities
+abbrev pub instance_under : Hierarchy → List ℕ → Arrivals → Instance
+instance_under layout assigned trace =
+    record { tree = layout.tree; assigned = assigned; trace = trace }
+
+-- what is told of files is told of the instance that they come to
+pub record IsToldOf {A : Type 0} (IsTold : Instance → A → Type 0)
+    (hierarchy_file trace_file : List ℕ) (a : A) : Type 0 where
+  pub instance : Instance
+  pub accepts : Accepts hierarchy_file trace_file instance
+  pub told : IsTold instance a
 
 -- an error tells why the hierarchy of this number is refused, or that memory was
 abbrev pub RefusesHierarchy : ℕ → List ℕ → ToolError → Type 0

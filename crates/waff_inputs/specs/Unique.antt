@@ -1,8 +1,7 @@
 -- One fault for each input: of the same files one error tells why they are refused, and none where
 -- they are accepted.
 use Rattle.std.specs.Prelude.{◌≡◌, ℕ, List}
-use Rattle.waff_model.specs.Layout.{Hierarchy}
-use Rattle.waff_model.specs.Messages.{Arrivals}
+use Rattle.waff_assign.specs.Instance.{Instance}
 use Rattle.waff_inputs.specs.Inputs.{Accepts, Refuses, TellsOfFiles}
 use Rattle.waff_inputs.specs.declared.fault.ToolError.{ToolError}
 
@@ -16,6 +15,5 @@ RefusalIsOne hierarchy_file trace_file =
 -- no error tells why a hierarchy and a trace are refused that are accepted
 abbrev pub AcceptedIsNotRefused : List ℕ → List ℕ → Type 0
 AcceptedIsNotRefused hierarchy_file trace_file =
-    (layout : Hierarchy) (trace : Arrivals) (assigned : List ℕ) (error : ToolError)
-    → Accepts hierarchy_file trace_file layout trace assigned
+    (instance : Instance) (error : ToolError) → Accepts hierarchy_file trace_file instance
     → TellsOfFiles error → ¬ Refuses hierarchy_file trace_file error

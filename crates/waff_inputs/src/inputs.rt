@@ -3,7 +3,8 @@ ghost use Rattle.std.specs.Prelude.{◌≡◌, ◌≢◌, ◌<◌, Ok, ℕ, All,
 ghost use Rattle.waff_model.specs.Messages.{sizes_of};
 ghost use Rattle.waff_read.specs.Hierarchies.{hierarchy_of};
 ghost use Rattle.waff_read.specs.Traces.{GivesTrace, trace_of};
-ghost use Rattle.waff_inputs.specs.Inputs.{Accepts, Refuses, RefusesHierarchy};
+ghost use Rattle.waff_assign.specs.Case.{instance_of};
+ghost use Rattle.waff_inputs.specs.Inputs.{Accepts, Refuses, RefusesHierarchy, instance_under};
 
 use crate::fault::ToolError;
 use std::alloc::Global;
@@ -26,9 +27,8 @@ pub struct Accepted {
 impl Accepted {
     /// The trace under the tree of the hierarchy.
     pub fn case(&self) -> Case<'_>
-        ensures tree { result.tree.now ≡ self.now.layout.tree }
-        ensures assigned { result.assigned.now ≡ self.now.assigned }
-        ensures trace { result.trace.now ≡ self.now.trace }
+        ensures instance { instance_of result
+            ≡ instance_under self.now.layout self.now.assigned self.now.trace }
     {
         Case {
             tree: self.layout.tree(),
@@ -56,7 +56,8 @@ pub const MAX_RANKED: usize = 64;
 /// Reads the files, the hierarchy first.
 pub fn accept(alloc: Global, hierarchy: &[u8], trace: &[u8]) -> Result<Accepted, ToolError>
     ensures accepted { IfOk result (λ a.
-        Accepts hierarchy.now trace.now a.layout a.trace a.assigned) }
+        Accepts hierarchy.now trace.now (instance_under a.layout a.assigned a.trace)) }
+    ensures layout { IfOk result (λ a. hierarchy_of hierarchy.now ≡ Ok a.layout) }
     ensures refused { IfErr result (Refuses hierarchy.now trace.now) }
     ensures nothing { IfErr result (λ e. e ≢ ToolError.Write) }
 {
@@ -76,7 +77,8 @@ pub fn accept_by_threads<R: Threads + Sync>(
     trace: &[u8],
 ) -> Result<Accepted, ToolError>
     ensures accepted { IfOk result (λ a.
-        Accepts hierarchy.now trace.now a.layout a.trace a.assigned) }
+        Accepts hierarchy.now trace.now (instance_under a.layout a.assigned a.trace)) }
+    ensures layout { IfOk result (λ a. hierarchy_of hierarchy.now ≡ Ok a.layout) }
     ensures refused { IfErr result (Refuses hierarchy.now trace.now) }
     ensures nothing { IfErr result (λ e. e ≢ ToolError.Write) }
 {
@@ -98,7 +100,9 @@ fn with_trace(
     ensures accepted { IfOk result (λ a. (hierarchy_file trace_file : List ℕ)
         → hierarchy_of hierarchy_file ≡ Ok layout
         → GivesTrace read (trace_of layout.spaces trace_file)
-        → Accepts hierarchy_file trace_file a.layout a.trace a.assigned) }
+        → Accepts hierarchy_file trace_file (instance_under a.layout a.assigned a.trace)) }
+    ensures layout { IfOk result (λ a. (hierarchy_file : List ℕ)
+        → hierarchy_of hierarchy_file ≡ Ok layout → hierarchy_of hierarchy_file ≡ Ok a.layout) }
     ensures refused { IfErr result (λ e. (hierarchy_file trace_file : List ℕ)
         → hierarchy_of hierarchy_file ≡ Ok layout
         → GivesTrace read (trace_of layout.spaces trace_file)
@@ -119,7 +123,9 @@ fn with_affinities(alloc: Global, layout: Layout, trace: Trace) -> Result<Accept
     requires fits { trace.sizes ≡ sizes_of layout.spaces }
     ensures accepted { IfOk result (λ a. (hierarchy_file trace_file : List ℕ)
         → hierarchy_of hierarchy_file ≡ Ok layout → trace_of layout.spaces trace_file ≡ Ok trace
-        → Accepts hierarchy_file trace_file a.layout a.trace a.assigned) }
+        → Accepts hierarchy_file trace_file (instance_under a.layout a.assigned a.trace)) }
+    ensures layout { IfOk result (λ a. (hierarchy_file : List ℕ)
+        → hierarchy_of hierarchy_file ≡ Ok layout → hierarchy_of hierarchy_file ≡ Ok a.layout) }
     ensures memory { IfErr result (λ e. e ≡ ToolError.Memory) }
 {
     match assign(alloc, &layout, &trace) {

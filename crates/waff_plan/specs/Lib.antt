@@ -15,3 +15,4 @@ pub mod Bound
 pub mod Totals
 pub mod Unique
 pub mod Planned
+pub mod Instances

@@ -1,7 +1,6 @@
 -- What printed chains show of their plans, from the laws of plans.
-use Rattle.std.proofs.Common.{◌≡◌, ℕ, ◌≤◌, List, length, sym, ◌∙◌, ap, subst}
+use Rattle.std.proofs.Common.{◌≡◌, ℕ, ◌≤◌, List, length, sym, ◌∙◌, ap}
 use Rattle.waff_model.specs.Tree.{Node}
-use Rattle.waff_model.specs.Messages.{Arrivals}
 use Rattle.waff_model.specs.declared.message.Message.{Message}
 use Rattle.waff_assign.specs.Order.{IsOrdered, Relation}
 use Rattle.waff_plan.specs.Work.{Work}
@@ -59,10 +58,3 @@ bounded rule before work k start chain some forward planned printed =
       twice = bound_is_within_twice before work k start chain is_chain bound;
       ratio = bound_is_within_ratio before work k start chain some is_chain bound;
     }
-
--- what holds of a case holds of what was accepted, whose case it is
-pub as_accepted : (P : List Node → List ℕ → Arrivals → Type 0) (tree other_tree : List Node) (assigned other_assigned : List ℕ) (trace other_trace : Arrivals)
-    → tree ≡ other_tree → assigned ≡ other_assigned → trace ≡ other_trace → P tree assigned trace → P other_tree other_assigned other_trace
-as_accepted P tree other_tree assigned other_assigned trace other_trace same_tree same_assigned same_trace holds =
-    subst (λ t. P other_tree other_assigned t) same_trace
-    (subst (λ a. P other_tree a trace) same_assigned (subst (λ t. P t assigned trace) same_tree holds))

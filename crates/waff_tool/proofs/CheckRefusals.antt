@@ -51,6 +51,6 @@ pub checked_is_not_refused : (hierarchy_file trace_file plan_file : List ℕ) �
 checked_is_not_refused hierarchy_file trace_file plan_file v error checked tells refused =
     let found = refused_is hierarchy_file trace_file plan_file error tells refused in
     let none : of_files trace_file plan_file (hierarchy_of hierarchy_file) ≡ None =
-    ap (of_files trace_file plan_file) checked.accepts.is_layout ∙ ap (of_trace plan_file) checked.accepts.is_trace
-    ∙ ap of_plan checked.is_plan in
+    ap (of_files trace_file plan_file) checked.accepts.accepts.is_layout ∙ ap (of_trace plan_file) checked.accepts.accepts.is_trace
+    ∙ ap of_plan checked.accepts.is_plan in
     cc

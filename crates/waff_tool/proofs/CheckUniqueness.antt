@@ -1,48 +1,46 @@
 -- Of the same bytes there is one verdict, one picture and one state.
-use Rattle.std.proofs.Common.{◌≡◌, ℕ, List, length, Ok, sym, ◌∙◌, ap, subst}
+use Rattle.std.proofs.Common.{◌≡◌, ℕ, List, length, Result, Ok, sym, ◌∙◌, ap, subst}
 use Rattle.waff_model.specs.Layout.{Hierarchy}
 use Rattle.waff_model.specs.Messages.{Arrivals}
 use Rattle.waff_read.specs.Hierarchies.{hierarchy_of}
+use Rattle.waff_assign.specs.Instance.{Instance}
 use Rattle.waff_plan_text.specs.Given.{Given}
 use Rattle.waff_plan_text.specs.Lines.{text_of}
 use Rattle.waff_plan_text.specs.PlanTexts.{plan_of}
-use Rattle.waff_check.specs.Verdicts.{IsVerdict, claim_of}
-use Rattle.waff_check.specs.declared.verdict.Verdict.{Verdict}
+use Rattle.waff_plan_text.specs.declared.refusal.PlanTextError.{PlanTextError}
+use Rattle.waff_check.specs.Verdicts.{IsVerdict}
 use Rattle.waff_check.proofs.Uniqueness.{verdict_is_one}
 use Rattle.waff_draw.specs.Scene.{scene_of}
 use Rattle.waff_draw.specs.declared.parts.Part.{Part}
-use Rattle.waff_inputs.proofs.SameInput.{moved_back, same_input, same_ok, same_trace}
+use Rattle.waff_inputs.proofs.SameInput.{same_input, same_ok, same_trace}
+use Rattle.waff_tool.specs.CheckText.{AcceptsPlan, claim_on}
 use Rattle.waff_tool.specs.DrawText.{DrawTextIsOne, picture_of}
 use Rattle.waff_tool.specs.ReplayText.{state_after, state_lines}
 use Rattle.waff_tool.specs.Unique.{CheckTextIsOne, ReplayTextIsOne}
 use Rattle.waff_tool.specs.declared.draws.Picture.{Picture}
 
--- the verdict
-abbrev IsFound : List ℕ → Given → Verdict → Hierarchy → Arrivals → List ℕ → Type 0
-IsFound plan_file given v layout trace assigned =
-    (plan_of trace.version (length trace.messages) plan_file ≡ Ok given) × IsVerdict (claim_of layout.tree assigned trace.messages given) v
+-- what holds of the plan of a text holds of one plan
+pub same_given : (P : Instance → Given → Type 0) (hierarchy_file trace_file plan_file : List ℕ) (instance other : Instance) (given more : Given)
+    → AcceptsPlan hierarchy_file trace_file plan_file instance given → AcceptsPlan hierarchy_file trace_file plan_file other more → P other more → P instance given
+same_given P hierarchy_file trace_file plan_file instance other given more p q holds =
+    let same = same_input hierarchy_file trace_file instance other p.accepts q.accepts in
+    let read : Instance → Result Given PlanTextError = λ i. plan_of i.trace.version (length i.trace.messages) plan_file in
+    let plans = same_ok (read instance) given more p.is_plan (subst (λ i. read i ≡ Ok more) (sym same) q.is_plan) in
+    subst (λ g. P instance g) (sym plans) (subst (λ i. P i more) (sym same) holds)
 
+-- the verdict
 pub check_text_is_one : (hierarchy_file trace_file plan_file : List ℕ) → CheckTextIsOne hierarchy_file trace_file plan_file
 check_text_is_one hierarchy_file trace_file plan_file one other p q =
-    let same = same_input hierarchy_file trace_file p.layout q.layout p.trace q.trace p.assigned q.assigned p.accepts q.accepts in
-    let found = moved_back (IsFound plan_file q.given other) p.layout q.layout p.trace q.trace p.assigned q.assigned same (q.is_plan, q.verdict) in
-    let given = same_ok (plan_of p.trace.version (length p.trace.messages) plan_file) p.given q.given p.is_plan found.0 in
-    verdict_is_one (claim_of p.layout.tree p.assigned p.trace.messages p.given) one other p.verdict
-    (subst (λ g. IsVerdict (claim_of p.layout.tree p.assigned p.trace.messages g) other) (sym given) found.1)
+    verdict_is_one (claim_on p.instance p.given) one other p.verdict
+    (same_given (λ i g. IsVerdict (claim_on i g) other) hierarchy_file trace_file plan_file p.instance q.instance p.given q.given p.accepts q.accepts q.verdict)
 
 -- the picture
-abbrev IsDrawnOf : List ℕ → Picture → Part → Given → List ℕ → Hierarchy → Arrivals → List ℕ → Type 0
-IsDrawnOf plan_file picture part given text layout trace assigned =
-    (plan_of trace.version (length trace.messages) plan_file ≡ Ok given)
-    × (text ≡ picture_of picture (scene_of layout.tree assigned trace.messages given part))
-
 pub draw_text_is_one : (hierarchy_file trace_file plan_file : List ℕ) (picture : Picture) (part : Part)
     → DrawTextIsOne hierarchy_file trace_file plan_file picture part
 draw_text_is_one hierarchy_file trace_file plan_file picture part text other p q =
-    let same = same_input hierarchy_file trace_file p.layout q.layout p.trace q.trace p.assigned q.assigned p.accepts q.accepts in
-    let drawn = moved_back (IsDrawnOf plan_file picture part q.given other) p.layout q.layout p.trace q.trace p.assigned q.assigned same (q.is_plan, q.drawn) in
-    let given = same_ok (plan_of p.trace.version (length p.trace.messages) plan_file) p.given q.given p.is_plan drawn.0 in
-    p.drawn ∙ ap (λ g. picture_of picture (scene_of p.layout.tree p.assigned p.trace.messages g part)) given ∙ sym drawn.1
+    p.drawn
+    ∙ sym (same_given (λ i g. other ≡ picture_of picture (scene_of i.tree i.assigned i.trace.messages g part)) hierarchy_file trace_file plan_file
+    p.instance q.instance p.given q.given p.accepts q.accepts q.drawn)
 
 -- the state
 pub replay_text_is_one : (hierarchy_file trace_file : List ℕ) → ReplayTextIsOne hierarchy_file trace_file

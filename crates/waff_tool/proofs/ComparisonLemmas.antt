@@ -43,34 +43,12 @@ pub trace_is_refused : (first second bytes : List ℕ) (classical hierarchical :
     → AreModels first second classical hierarchical → Tells fault (trace_of classical.spaces bytes)
     → RefusesComparison first second bytes (trace_error fault)
 trace_is_refused first second bytes classical hierarchical trace.Memory are told = inl tt
-trace_is_refused first second bytes classical hierarchical (trace.Csv at) are told = (classical, hierarchical, are, told)
-trace_is_refused first second bytes classical hierarchical (trace.Header at) are told = (classical, hierarchical, are, told)
-trace_is_refused first second bytes classical hierarchical (trace.Fields at) are told = (classical, hierarchical, are, told)
-trace_is_refused first second bytes classical hierarchical (trace.Name at) are told = (classical, hierarchical, are, told)
-trace_is_refused first second bytes classical hierarchical (trace.Cost at) are told = (classical, hierarchical, are, told)
-trace_is_refused first second bytes classical hierarchical (trace.NoOps at) are told = (classical, hierarchical, are, told)
-trace_is_refused first second bytes classical hierarchical (trace.Op at) are told = (classical, hierarchical, are, told)
-trace_is_refused first second bytes classical hierarchical (trace.SpaceUnknown at) are told = (classical, hierarchical, are, told)
-trace_is_refused first second bytes classical hierarchical (trace.IndexTooLarge at) are told = (classical, hierarchical, are, told)
-trace_is_refused first second bytes classical hierarchical (trace.TooManyOps at) are told = (classical, hierarchical, are, told)
-trace_is_refused first second bytes classical hierarchical (trace.TooManyMessages at) are told = (classical, hierarchical, are, told)
-trace_is_refused first second bytes classical hierarchical (trace.Release at) are told = (classical, hierarchical, are, told)
+trace_is_refused first second bytes classical hierarchical fault are told = (classical, hierarchical, are, told)
 
 -- it is no fault of a writer
 pub trace_is_read : (fault : TraceError) → trace_error fault ≡ tool.Write → ⊥
 trace_is_read trace.Memory e = cc e
-trace_is_read (trace.Csv at) e = cc e
-trace_is_read (trace.Header at) e = cc e
-trace_is_read (trace.Fields at) e = cc e
-trace_is_read (trace.Name at) e = cc e
-trace_is_read (trace.Cost at) e = cc e
-trace_is_read (trace.NoOps at) e = cc e
-trace_is_read (trace.Op at) e = cc e
-trace_is_read (trace.SpaceUnknown at) e = cc e
-trace_is_read (trace.IndexTooLarge at) e = cc e
-trace_is_read (trace.TooManyOps at) e = cc e
-trace_is_read (trace.TooManyMessages at) e = cc e
-trace_is_read (trace.Release at) e = cc e
+trace_is_read fault e = cc e
 
 -- a line of a model's name, of what is told of two plans, and of the two sides of the bound
 pub measured_further : (version : Version) (kind : List ℕ) (plan list : Totals) (old named planned listed now : List ℕ)

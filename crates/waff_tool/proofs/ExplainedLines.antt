@@ -1,7 +1,7 @@
 -- No line of an explanation below its first one is a first line.
 use Rattle.std.proofs.Common.{◌≡◌, ◌∙◌, ℕ, ◌+◌, ◌*◌, List, [], ◌∷◌, ◌++◌, Bool, true, false, true≢false, refl, sym, ap, codes}
-use Rattle.std.specs.Prelude.{◌==◌, ◌≢◌, ◌&&◌, ◌||◌, slice_index}
-use Rattle.waff_explain.specs.Lines.{IsHeadedLine, head_text}
+use Rattle.std.specs.Prelude.{◌==◌, ◌&&◌, ◌||◌, slice_index}
+use Rattle.waff_explain.specs.Lines.{head_text}
 use Rattle.waff_explain.specs.declared.words.Head.{Head}
 use Rattle.waff_explain.specs.declared.words.Head.TheVariants as head
 use Rattle.waff_check.specs.declared.verdict.Verdict.TheVariants as verdict

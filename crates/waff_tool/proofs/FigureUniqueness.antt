@@ -2,10 +2,9 @@
 use Rattle.std.proofs.Common.{◌≡◌, ℕ, ◌<◌, Bool, true, false, List, ◌∷◌, map, length, get_or, Some, None, arith, sym, ◌∙◌, ap, subst}
 use Rattle.std.proofs.lemmas.List.{same_lists, get_or-map, length-map}
 use Rattle.std.proofs.lemmas.Option.{same_Some}
-use Rattle.waff_model.specs.Layout.{Hierarchy}
-use Rattle.waff_model.specs.Messages.{Arrivals}
-use Rattle.waff_assign.specs.Order.{IsOrdered, Relation}
-use Rattle.waff_plan.specs.Chain.{IsPrinted}
+use Rattle.waff_assign.specs.Instance.{Instance, before_in}
+use Rattle.waff_assign.specs.Order.{Relation}
+use Rattle.waff_plan.specs.Instances.{work_of_instance}
 use Rattle.waff_plan.specs.Obeys.{IsForward, IsLeast}
 use Rattle.waff_plan.specs.Timing.{start_of}
 use Rattle.waff_plan.specs.Work.{Work, length_of}
@@ -15,7 +14,7 @@ use Rattle.waff_list.specs.declared.rule.Rule.{Rule}
 use Rattle.waff_list.specs.Unique.{EachRuns}
 use Rattle.waff_list.proofs.RuleLemmas.{rule_plan_is_one}
 use Rattle.waff_plan_text.specs.Lines.{text_of}
-use Rattle.waff_figures.specs.ByAffinity.{AreCostsBelow, affinities_lines, affinities_header, affinity_row, parent_field, tally_row, runs_in}
+use Rattle.waff_figures.specs.ByAffinity.{affinities_lines, affinities_header, affinity_row, parent_field, tally_row, runs_in}
 use Rattle.waff_model.specs.Tree.{name_of, parent_of}
 use Rattle.waff_figures.specs.Tally.{tally_of}
 use Rattle.waff_figures.specs.ByName.{message_names, names_lines}
@@ -25,11 +24,10 @@ use Rattle.waff_figures.specs.declared.figures.Figures.{Figures}
 use Rattle.waff_figures.proofs.FigureLaws.{figures_are_one}
 use Rattle.waff_figures.proofs.AddingUp.{cost_below_is_one}
 use Rattle.waff_figures.proofs.RowLemmas.{map_range_same}
-use Rattle.waff_tool.specs.PlanText.{work_of_trace}
-use Rattle.waff_tool.specs.Figures.{IsAffinitiesText, IsNamesText, SweepTextIsOne, WhereTextIsOne}
-use Rattle.waff_tool.proofs.CertificateLemmas.{pairs_forward}
-use Rattle.waff_inputs.proofs.SameInput.{moved_back, same_input}
-use Rattle.waff_tool.proofs.TextUniqueness.{trace_runs}
+use Rattle.waff_inputs.specs.Inputs.{Accepts}
+use Rattle.waff_inputs.proofs.SameInput.{same_input, told_is_one}
+use Rattle.waff_tool.specs.Figures.{IsSweepText, SweepTextIsOne, TellsAffinities, TellsNames, TellsSweep, TellsWhere, WhereTextIsOne}
+use Rattle.waff_tool.proofs.TextUniqueness.{each_runs, goes_forward}
 
 -- the figures of plans by the same rule for the same number of workers are the same
 pub listed_same : (rule : Rule) (before : Relation) (work : Work) → IsForward before work → EachRuns work → (shortest : ℕ) (one other : Figures)
@@ -68,95 +66,65 @@ listed_is_one rule before work forward runs shortest workers one other p q =
     listed_same rule before work forward runs shortest (get_or one i d) (get_or other i d) (p.each i d inside) (q.each i d there) same)
 
 -- the sweep
-abbrev pub IsSwept : Rule → List ℕ → List ℕ → List Figures → Figures → Hierarchy → Arrivals → List ℕ → Type 0
-IsSwept rule workers starts listed unlimited layout trace assigned =
-    IsLeast (IsOrdered layout.tree assigned) (work_of_trace trace) (start_of starts)
-    × AreListed rule (IsOrdered layout.tree assigned) (work_of_trace trace) (length_of (work_of_trace trace) (start_of starts)) workers listed
-    × AreFigures None (work_of_trace trace) (length_of (work_of_trace trace) (start_of starts)) (start_of starts) unlimited
-
-one_sweep : (rule : Rule) (layout : Hierarchy) (trace : Arrivals) (assigned : List ℕ) → IsForward (IsOrdered layout.tree assigned) (work_of_trace trace) → EachRuns (work_of_trace trace)
-    → (workers starts others : List ℕ) (listed more : List Figures) (unlimited another : Figures)
-    → IsSwept rule workers starts listed unlimited layout trace assigned → IsSwept rule workers others more another layout trace assigned
-    → text_of (sweep_lines listed unlimited) ≡ text_of (sweep_lines more another)
-one_sweep rule layout trace assigned forward runs workers starts others listed more unlimited another p q =
-    let before = IsOrdered layout.tree assigned in
-    let work = work_of_trace trace in
-    let same = least_is_one before work (start_of starts) (start_of others) p.0 q.0 in
-    let lengths = same_length work (start_of starts) (start_of others) same in
-    let lists = listed_is_one rule before work forward runs (length_of work (start_of starts)) workers listed more p.1
-    (subst (λ n. AreListed rule before work n workers more) (sym lengths) q.1) in
-    let last = figures_are_one work None (length_of work (start_of starts)) (start_of starts) (start_of others) unlimited another same p.2
-    (subst (λ n. AreFigures None work n (start_of others) another) (sym lengths) q.2) in
-    ap (λ fs. text_of (sweep_lines fs unlimited)) lists ∙ ap (λ f. text_of (sweep_lines more f)) last
+sweep_is_one : (rule : Rule) (workers : List ℕ) (instance : Instance) → IsForward (before_in instance) (work_of_instance instance) → EachRuns (work_of_instance instance)
+    → (text other : List ℕ) → TellsSweep rule workers instance text → TellsSweep rule workers instance other → text ≡ other
+sweep_is_one rule workers instance forward runs text other p q =
+    let before = before_in instance in
+    let work = work_of_instance instance in
+    let same = least_is_one before work (start_of p.starts) (start_of q.starts) p.least q.least in
+    let lengths = same_length work (start_of p.starts) (start_of q.starts) same in
+    let lists = listed_is_one rule before work forward runs (length_of work (start_of p.starts)) workers p.listed q.listed p.are_listed
+    (subst (λ n. AreListed rule before work n workers q.listed) (sym lengths) q.are_listed) in
+    let last = figures_are_one work None (length_of work (start_of p.starts)) (start_of p.starts) (start_of q.starts) p.unlimited q.unlimited same p.are_unlimited
+    (subst (λ n. AreFigures None work n (start_of q.starts) q.unlimited) (sym lengths) q.are_unlimited) in
+    p.lines ∙ ap (λ fs. text_of (sweep_lines fs p.unlimited)) lists ∙ ap (λ f. text_of (sweep_lines q.listed f)) last ∙ sym q.lines
 
 pub sweep_text_is_one : (rule : Rule) (hierarchy_file trace_file workers : List ℕ) → SweepTextIsOne rule hierarchy_file trace_file workers
-sweep_text_is_one rule hierarchy_file trace_file workers text other p q =
-    let same = same_input hierarchy_file trace_file p.layout q.layout p.trace q.trace p.assigned q.assigned p.accepts q.accepts in
-    let told = moved_back (IsSwept rule workers q.starts q.listed q.unlimited) p.layout q.layout p.trace q.trace p.assigned q.assigned same (q.least, q.are_listed, q.are_unlimited) in
-    p.lines
-    ∙ one_sweep rule p.layout p.trace p.assigned (pairs_forward p.layout.tree p.assigned p.trace.messages p.accepts.assignment.count)
-    (trace_runs p.layout trace_file p.trace p.accepts.is_trace) workers p.starts q.starts p.listed q.listed p.unlimited q.unlimited
-    (p.least, p.are_listed, p.are_unlimited) told
-    ∙ sym q.lines
+sweep_text_is_one rule hierarchy_file trace_file workers = told_is_one (TellsSweep rule workers) hierarchy_file trace_file
+    (λ i accepts. sweep_is_one rule workers i (goes_forward hierarchy_file trace_file i accepts) (each_runs hierarchy_file trace_file i accepts))
 
--- where the time goes, by affinity
-abbrev IsParted : List ℕ → List ℕ → List ℕ → List ℕ → Hierarchy → Arrivals → List ℕ → Type 0
-IsParted starts chain below text layout trace assigned =
-    IsLeast (IsOrdered layout.tree assigned) (work_of_trace trace) (start_of starts)
-    × IsPrinted (IsOrdered layout.tree assigned) (work_of_trace trace) (start_of starts) chain
-    × AreCostsBelow layout.tree assigned (work_of_trace trace) below
-    × (text ≡ text_of (affinities_lines layout.tree assigned (work_of_trace trace) chain below))
+-- what a sweep of the same bytes tells of an instance
+abbrev pub IsSwept : Rule → List ℕ → List ℕ → List Figures → Figures → Instance → Type 0
+IsSwept rule workers starts listed unlimited instance =
+    IsLeast (before_in instance) (work_of_instance instance) (start_of starts)
+    × AreListed rule (before_in instance) (work_of_instance instance) (length_of (work_of_instance instance) (start_of starts)) workers listed
+    × AreFigures None (work_of_instance instance) (length_of (work_of_instance instance) (start_of starts)) (start_of starts) unlimited
 
-one_part : (layout : Hierarchy) (trace : Arrivals) (assigned : List ℕ) → IsForward (IsOrdered layout.tree assigned) (work_of_trace trace)
-    → (starts chain below text others links sums other : List ℕ) → IsParted starts chain below text layout trace assigned
-    → IsParted others links sums other layout trace assigned → text ≡ other
-one_part layout trace assigned forward starts chain below text others links sums other p q =
-    let tree = layout.tree in
-    let work = work_of_trace trace in
-    let same = least_is_one (IsOrdered tree assigned) work (start_of starts) (start_of others) p.0 q.0 in
-    let chains = printed_is_one (IsOrdered tree assigned) work forward (start_of starts) (start_of others) chain links same p.1 q.1 in
-    let row = λ (a cost : ℕ). tally_row (name_of tree a) (parent_field tree (parent_of tree a)) cost (tally_of work chain (runs_in assigned a)) in
-    let rows = map_range_same (affinity_row tree assigned work chain below) (affinity_row tree assigned work chain sums) 0 (length tree)
-    (λ a from to. ap (row a) (cost_below_is_one tree assigned work a (get_or below a 0) (get_or sums a 0) (p.2 a (omega (arith, to))) (q.2 a (omega (arith, to))))) in
-    p.3
-    ∙ ap (λ rs. text_of (affinities_header ∷ rs)) rows
-    ∙ ap (λ c. text_of (affinities_lines tree assigned work c sums)) chains
-    ∙ sym q.3
+pub told_swept : (rule : Rule) (hierarchy_file trace_file workers sweep : List ℕ) (instance : Instance) → Accepts hierarchy_file trace_file instance
+    → (swept : IsSweepText rule hierarchy_file trace_file workers sweep) → IsSwept rule workers swept.told.starts swept.told.listed swept.told.unlimited instance
+told_swept rule hierarchy_file trace_file workers sweep instance accepts swept =
+    subst (IsSwept rule workers swept.told.starts swept.told.listed swept.told.unlimited)
+    (sym (same_input hierarchy_file trace_file instance swept.instance accepts swept.accepts)) (swept.told.least, swept.told.are_listed, swept.told.are_unlimited)
 
-affinities_text_is_one : (hierarchy_file trace_file text other : List ℕ) → IsAffinitiesText hierarchy_file trace_file text
-    → IsAffinitiesText hierarchy_file trace_file other → text ≡ other
-affinities_text_is_one hierarchy_file trace_file text other p q =
-    let same = same_input hierarchy_file trace_file p.layout q.layout p.trace q.trace p.assigned q.assigned p.accepts q.accepts in
-    let told = moved_back (IsParted q.starts q.chain q.below other) p.layout q.layout p.trace q.trace p.assigned q.assigned same
-    (q.certified.least, q.certified.printed, q.are_below, q.lines) in
-    one_part p.layout p.trace p.assigned (pairs_forward p.layout.tree p.assigned p.trace.messages p.accepts.assignment.count)
-    p.starts p.chain p.below text q.starts q.chain q.below other (p.certified.least, p.certified.printed, p.are_below, p.lines) told
+-- where the time goes, by affinity and by name
+module _ (instance : Instance) (forward : IsForward (before_in instance) (work_of_instance instance)) where
+  affinities_are_one : (text other : List ℕ) → TellsAffinities instance text → TellsAffinities instance other → text ≡ other
+  affinities_are_one text other p q =
+      let tree = instance.tree in
+      let assigned = instance.assigned in
+      let work = work_of_instance instance in
+      let same = least_is_one (before_in instance) work (start_of p.starts) (start_of q.starts) p.certified.least q.certified.least in
+      let chains = printed_is_one (before_in instance) work forward (start_of p.starts) (start_of q.starts) p.chain q.chain same p.certified.printed q.certified.printed in
+      let row = λ (a cost : ℕ). tally_row (name_of tree a) (parent_field tree (parent_of tree a)) cost (tally_of work p.chain (runs_in assigned a)) in
+      let rows = map_range_same (affinity_row tree assigned work p.chain p.below) (affinity_row tree assigned work p.chain q.below) 0 (length tree)
+      (λ a from to. ap (row a) (cost_below_is_one tree assigned work a (get_or p.below a 0) (get_or q.below a 0)
+      (p.are_below a (omega (arith, to))) (q.are_below a (omega (arith, to))))) in
+      p.lines
+      ∙ ap (λ rs. text_of (affinities_header ∷ rs)) rows
+      ∙ ap (λ c. text_of (affinities_lines tree assigned work c q.below)) chains
+      ∙ sym q.lines
 
--- by name
-abbrev IsNamed : List ℕ → List ℕ → List ℕ → Hierarchy → Arrivals → List ℕ → Type 0
-IsNamed starts chain text layout trace assigned =
-    IsLeast (IsOrdered layout.tree assigned) (work_of_trace trace) (start_of starts)
-    × IsPrinted (IsOrdered layout.tree assigned) (work_of_trace trace) (start_of starts) chain
-    × (text ≡ text_of (names_lines (message_names trace.messages) (work_of_trace trace) chain))
+  names_are_one : (text other : List ℕ) → TellsNames instance text → TellsNames instance other → text ≡ other
+  names_are_one text other p q =
+      let work = work_of_instance instance in
+      let same = least_is_one (before_in instance) work (start_of p.starts) (start_of q.starts) p.certified.least q.certified.least in
+      let chains = printed_is_one (before_in instance) work forward (start_of p.starts) (start_of q.starts) p.chain q.chain same p.certified.printed q.certified.printed in
+      p.lines ∙ ap (λ c. text_of (names_lines (message_names instance.trace.messages) work c)) chains ∙ sym q.lines
 
-one_named : (layout : Hierarchy) (trace : Arrivals) (assigned : List ℕ) → IsForward (IsOrdered layout.tree assigned) (work_of_trace trace)
-    → (starts chain text others links other : List ℕ) → IsNamed starts chain text layout trace assigned → IsNamed others links other layout trace assigned
-    → text ≡ other
-one_named layout trace assigned forward starts chain text others links other p q =
-    let work = work_of_trace trace in
-    let same = least_is_one (IsOrdered layout.tree assigned) work (start_of starts) (start_of others) p.0 q.0 in
-    let chains = printed_is_one (IsOrdered layout.tree assigned) work forward (start_of starts) (start_of others) chain links same p.1 q.1 in
-    p.2 ∙ ap (λ c. text_of (names_lines (message_names trace.messages) work c)) chains ∙ sym q.2
-
-names_text_is_one : (hierarchy_file trace_file text other : List ℕ) → IsNamesText hierarchy_file trace_file text
-    → IsNamesText hierarchy_file trace_file other → text ≡ other
-names_text_is_one hierarchy_file trace_file text other p q =
-    let same = same_input hierarchy_file trace_file p.layout q.layout p.trace q.trace p.assigned q.assigned p.accepts q.accepts in
-    let told = moved_back (IsNamed q.starts q.chain other) p.layout q.layout p.trace q.trace p.assigned q.assigned same
-    (q.certified.least, q.certified.printed, q.lines) in
-    one_named p.layout p.trace p.assigned (pairs_forward p.layout.tree p.assigned p.trace.messages p.accepts.assignment.count)
-    p.starts p.chain text q.starts q.chain other (p.certified.least, p.certified.printed, p.lines) told
+  where_is_one : (by_name : Bool) (text other : List ℕ) → TellsWhere by_name instance text → TellsWhere by_name instance other → text ≡ other
+  where_is_one false text other p q = affinities_are_one text other p q
+  where_is_one true text other p q = names_are_one text other p q
 
 pub where_text_is_one : (hierarchy_file trace_file : List ℕ) (by_name : Bool) → WhereTextIsOne hierarchy_file trace_file by_name
-where_text_is_one hierarchy_file trace_file false text other p q = affinities_text_is_one hierarchy_file trace_file text other p q
-where_text_is_one hierarchy_file trace_file true text other p q = names_text_is_one hierarchy_file trace_file text other p q
+where_text_is_one hierarchy_file trace_file by_name = told_is_one (TellsWhere by_name) hierarchy_file trace_file
+    (λ i accepts. where_is_one i (goes_forward hierarchy_file trace_file i accepts) by_name)

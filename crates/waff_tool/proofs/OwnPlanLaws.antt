@@ -1,5 +1,5 @@
 -- The plans that are printed pass the check.
-use Rattle.std.proofs.Common.{◌≡◌, ◌≢◌, ℕ, ◌+◌, ◌-◌, ◌*◌, ◌<◌, ◌≤◌, inl, inr, Bool, true, false, List, [], ◌∷◌, length, get_or, cond, count_by, Option, Some, None, Ok, IfSome, refl, sym, ap, ◌∙◌, arith, subst}
+use Rattle.std.proofs.Common.{◌≡◌, ◌≢◌, ℕ, ◌+◌, ◌-◌, ◌*◌, ◌<◌, ◌≤◌, inl, inr, Bool, true, false, List, [], ◌∷◌, length, get_or, cond, count_by, Option, Some, None, IfSome, refl, sym, ap, ◌∙◌, arith, subst}
 use Rattle.std.specs.Prelude.{All, nat_le, nat_lt, ◌&&◌, sum_by, unwrap_or, option_map}
 use Rattle.std.specs.List.{range_with_len}
 use Rattle.std.proofs.lemmas.Bool.{and_from, and_parts, cases_lt, cases_order, le-leb, leb-true, lt-ltb, ltb-true}
@@ -9,7 +9,6 @@ use Rattle.std.proofs.lemmas.List.FromFn.{get_or-map-range_with_len, get_or-rang
 use Rattle.std.proofs.lemmas.List.Sums.{sum_by-cons}
 use Rattle.std.proofs.lemmas.Option.{slice_get-get_or}
 use Rattle.std.proofs.Math.Nat.{mul-le-mul}
-use Rattle.waff_model.specs.Layout.{Hierarchy}
 use Rattle.waff_model.specs.Messages.{Arrivals, IsMessage, IsTrace}
 use Rattle.waff_model.specs.Names.{is_name}
 use Rattle.waff_model.specs.Tree.{Node, name_of}
@@ -20,12 +19,14 @@ use Rattle.waff_model.specs.declared.message.Version.TheVariants.{V1}
 use Rattle.waff_read.proofs.FaultLaws.{trace_is_exact}
 use Rattle.waff_read.proofs.LimitLaws.{layout_is_within_limits, trace_is_within_limits}
 use Rattle.waff_read.proofs.NamedLaws.{affinities_are_named}
-use Rattle.waff_assign.specs.Order.{IsOrdered, Relation, affinity_of}
+use Rattle.waff_assign.specs.Instance.{Instance, before_in}
+use Rattle.waff_assign.specs.Order.{Relation, affinity_of}
 use Rattle.waff_assign.proofs.Knowing.{affinity_known}
 use Rattle.waff_plan.specs.Bound.{IsWorkers, left_side, right_side}
 use Rattle.waff_plan.specs.Chain.{IsChain, IsListed, chain_cost, chain_release}
+use Rattle.waff_plan.specs.Instances.{work_of_instance}
 use Rattle.waff_plan.specs.Obeys.{IsForward}
-use Rattle.waff_plan.specs.Timetable.{timings_of}
+use Rattle.waff_plan.specs.Timetable.{timings_of, work_of_messages}
 use Rattle.waff_plan.specs.Timing.{no_timing, start_of, timing_of}
 use Rattle.waff_plan.specs.Totals.{totals_of}
 use Rattle.waff_plan.specs.Work.{Work, IsNumber, finish_of, length_of, numbers, total_of}
@@ -45,19 +46,20 @@ use Rattle.waff_plan_text.specs.Given.{Given, IsGiven}
 use Rattle.waff_plan_text.specs.Laws.{IsTellable, plan_told, row_told}
 use Rattle.waff_plan_text.specs.PlanTexts.{plan_of}
 use Rattle.waff_plan_text.specs.Rows.{IsWithinLimit}
-use Rattle.waff_plan_text.specs.Spelling.{no_worker, seat_of}
+use Rattle.waff_plan_text.specs.Lines.{text_of}
+use Rattle.waff_plan_text.specs.Spelling.{no_worker, plan_lines, seat_of}
 use Rattle.waff_plan_text.proofs.WrittenPlans.{written_is_read}
 use Rattle.waff_check.specs.Promises.{AreOneAtATime}
-use Rattle.waff_check.specs.Verdicts.{Claim, IsVerdict, claim_of}
+use Rattle.waff_check.specs.Verdicts.{IsVerdict}
 use Rattle.waff_check.specs.declared.verdict.Verdict.{Verdict}
 use Rattle.waff_check.specs.declared.verdict.Verdict.TheVariants as verdict
 use Rattle.waff_check.proofs.OwnLaws.{own_plan_is_shortest, own_plan_is_within_bound}
 use Rattle.waff_check.proofs.PromiseLaws.{promises}
-use Rattle.waff_tool.specs.CheckText.{IsCheckText}
+use Rattle.waff_tool.specs.CheckText.{AcceptsPlan, IsCheckText, claim_on}
 use Rattle.waff_inputs.specs.Inputs as inputs
-use Rattle.waff_tool.specs.PlanText.{IsPlanText, IsWorkerPlanText, work_of_trace}
+use Rattle.waff_tool.specs.PlanText.{TellsLeastPlan, TellsWorkerPlan}
 use Rattle.waff_tool.specs.OwnPlans.{OwnPlanPasses, OwnWorkerPlanPasses}
-use Rattle.waff_tool.proofs.CertificateLemmas.{pairs_forward}
+use Rattle.waff_tool.proofs.TextUniqueness.{goes_forward}
 
 -- work within the limits of traces
 record IsModest (version : Version) (work : Work) : Type 0 where
@@ -74,24 +76,24 @@ timing_told : Message → Timing
 timing_told message = record { cost = message.cost; release = message.release }
 
 module _ (trace : Arrivals) (within : IsTrace trace) where
-  count_is : (work_of_trace trace).count ≡ length trace.messages
+  count_is : (work_of_messages trace.messages).count ≡ length trace.messages
   count_is = length-map trace.messages (λ (message : Message). let t : Timing = record { cost = message.cost; release = message.release } in t)
 
-  message_at : (m : ℕ) → IsNumber (work_of_trace trace) m → IsMessage trace.version trace.sizes (get_or trace.messages (m - 1) nobody)
+  message_at : (m : ℕ) → IsNumber (work_of_messages trace.messages) m → IsMessage trace.version trace.sizes (get_or trace.messages (m - 1) nobody)
   message_at m number =
       let from : 1 ≤ m = number.from in
-      let to : m ≤ (work_of_trace trace).count = number.to in
+      let to : m ≤ (work_of_messages trace.messages).count = number.to in
       within.messages (m - 1) nobody (omega (arith, count_is))
 
-  timing_at : (m : ℕ) → IsNumber (work_of_trace trace) m → timing_of (timings_of trace.messages) m ≡ timing_told (get_or trace.messages (m - 1) nobody)
+  timing_at : (m : ℕ) → IsNumber (work_of_messages trace.messages) m → timing_of (timings_of trace.messages) m ≡ timing_told (get_or trace.messages (m - 1) nobody)
   unfolding timing_told
   timing_at m number =
       let from : 1 ≤ m = number.from in
-      let to : m ≤ (work_of_trace trace).count = number.to in
+      let to : m ≤ (work_of_messages trace.messages).count = number.to in
       get_or-map (λ (message : Message). let t : Timing = record { cost = message.cost; release = message.release } in t) trace.messages (m - 1) nobody no_timing
       (omega (arith, count_is))
 
-  modest : IsModest trace.version (work_of_trace trace)
+  modest : IsModest trace.version (work_of_messages trace.messages)
   unfolding timing_told
   modest = record {
     few = omega (arith, count_is, within.few);
@@ -102,7 +104,7 @@ module _ (trace : Arrivals) (within : IsTrace trace) where
   }
 
 -- sums of costs within the limit
-few_costs : (f : ℕ → ℕ) (xs : List ℕ) → All (λ m. f m ≤ MAX_COST) xs → sum_by f xs ≤ length xs * 1000000
+few_costs : (f : ℕ → ℕ) (xs : List ℕ) → All (λ m. f m ≤ MAX_COST) xs → sum_by f xs ≤ length xs * MAX_COST
 few_costs f [] each = omega arith
 few_costs f (x ∷ xs) each =
     let first : f x ≤ MAX_COST = All-head (λ m. f m ≤ MAX_COST) x xs each in
@@ -118,7 +120,7 @@ module _ (version : Version) (before : Relation) (work : Work) (modest : IsModes
     few = chain_is_few before work forward chain is_chain;
   }
 
-  chain_cost_within : chain_cost work chain ≤ 65536000000
+  chain_cost_within : chain_cost work chain ≤ MAX_MESSAGES * MAX_COST
   chain_cost_within =
       let sum = few_costs work.cost chain (λ k d within. modest.cost (get_or chain k d) (chain_is_numbers before work chain is_chain k d within)) in
       let few = chain_is_few before work forward chain is_chain in
@@ -135,7 +137,7 @@ module _ (version : Version) (before : Relation) (work : Work) (modest : IsModes
   chain_release_within : chain_release work chain ≤ MAX_RELEASE
   chain_release_within = release_of chain (chain_is_numbers before work chain is_chain)
 
-  total_within : total_of work ≤ 65536000000
+  total_within : total_of work ≤ MAX_MESSAGES * MAX_COST
   total_within =
       let sum = few_costs work.cost (numbers work) (λ k d within. number_cost k d within) in
       omega (arith, sum, modest.few, length-range_with_len 1 work.count)
@@ -291,144 +293,153 @@ manned work start workers k some_cost seated at_once = record {
       apart work start (worker_of workers) some_cost seated i j together.0 i_number j_number earlier together.1 together.2 (i_is ∙ sym j_is);
 }
 
+-- the plan that a text tells of an instance, and what makes it so
+abbrev pub plan_in : Instance → Option ℕ → (ℕ → ℕ) → (ℕ → Option ℕ) → List ℕ → Given
+plan_in instance workers start worker chain =
+    plan_told instance.trace.version instance.tree instance.assigned (work_of_instance instance) workers start worker chain
+
+abbrev IsFit : Instance → Option ℕ → (ℕ → ℕ) → (ℕ → Option ℕ) → List ℕ → Type 0
+IsFit instance workers start worker chain =
+    IsTellable instance.trace.version instance.tree instance.assigned (work_of_instance instance) workers start worker chain
+
+abbrev lines_in : Instance → Option ℕ → (ℕ → ℕ) → (ℕ → Option ℕ) → List ℕ → List (List (List ℕ))
+lines_in instance workers start worker chain =
+    plan_lines instance.trace.version instance.tree instance.assigned (work_of_instance instance) workers start worker chain
+
 -- what was accepted
-module _ (hierarchy_file trace_file : List ℕ) (layout : Hierarchy) (trace : Arrivals) (assigned : List ℕ)
-    (accepts : inputs.Accepts hierarchy_file trace_file layout trace assigned) where
-  is_trace : IsTrace trace
-  is_trace = trace_is_within_limits layout.spaces trace_file trace accepts.is_trace
+module _ (hierarchy_file trace_file : List ℕ) (instance : Instance) (accepts : inputs.Accepts hierarchy_file trace_file instance) where
+  is_trace : IsTrace instance.trace
+  is_trace = trace_is_within_limits accepts.layout.spaces trace_file instance.trace accepts.is_trace
 
-  within_limits : IsModest trace.version (work_of_trace trace)
-  within_limits = modest trace is_trace
+  within_limits : IsModest instance.trace.version (work_of_instance instance)
+  within_limits = modest instance.trace is_trace
 
-  forward_pairs : IsForward (IsOrdered layout.tree assigned) (work_of_trace trace)
-  forward_pairs = pairs_forward layout.tree assigned trace.messages accepts.assignment.count
+  forward : IsForward (before_in instance) (work_of_instance instance)
+  forward = goes_forward hierarchy_file trace_file instance accepts
 
   -- the affinities of messages have names
-  named : (n : ℕ) → IsNumber (work_of_trace trace) n → is_name (name_of layout.tree (affinity_of assigned n)) ≡ true
+  named : (n : ℕ) → IsNumber (work_of_instance instance) n → is_name (name_of instance.tree (affinity_of instance.assigned n)) ≡ true
   named n number =
       let from : 1 ≤ n = number.from in
-      let to : n ≤ (work_of_trace trace).count = number.to in
-      let reads = (trace_is_exact layout.spaces trace_file trace).0 accepts.is_trace in
-      let a = affinity_of assigned n in
+      let to : n ≤ (work_of_instance instance).count = number.to in
+      let layout = accepts.layout in
+      let reads = (trace_is_exact layout.spaces trace_file instance.trace).0 accepts.is_trace in
+      let a = affinity_of instance.assigned n in
       let no_node : Node = record { name = []; parent = None } in
-      let known = affinity_known layout (layout_is_within_limits hierarchy_file layout accepts.is_layout) trace assigned is_trace reads.sizes accepts.assignment n from
-      (omega (arith, count_is trace is_trace)) in
+      let known = affinity_known layout (layout_is_within_limits hierarchy_file layout accepts.is_layout) instance.trace instance.assigned is_trace reads.sizes accepts.assignment n from
+      (omega (arith, count_is instance.trace is_trace)) in
       let is : name_of layout.tree a ≡ (get_or layout.tree a no_node).name =
       ap (λ o. unwrap_or (option_map (λ (node : Node). node.name) o) []) (slice_get-get_or layout.tree a no_node known) in
-      ap is_name is ∙ affinities_are_named hierarchy_file layout accepts.is_layout a no_node known
+      subst (λ tree. is_name (name_of tree a) ≡ true) accepts.tree (ap is_name is ∙ affinities_are_named hierarchy_file layout accepts.is_layout a no_node known)
 
-  -- a plan that is told is read, and a verdict on it is what the check prints
-  module _ (text : List ℕ) (workers : Option ℕ) (start : ℕ → ℕ) (worker : ℕ → Option ℕ) (chain : List ℕ)
-      (is_chain : IsChain (IsOrdered layout.tree assigned) (work_of_trace trace) chain)
-      (can : IsTellable trace.version layout.tree assigned (work_of_trace trace) workers start worker chain) where
-    abbrev plan : Given
-    plan = plan_told trace.version layout.tree assigned (work_of_trace trace) workers start worker chain
+  -- a plan that is told is read
+  accepted_plan : (text : List ℕ) (workers : Option ℕ) (start : ℕ → ℕ) (worker : ℕ → Option ℕ) (chain : List ℕ) → IsFit instance workers start worker chain
+      → text ≡ text_of (lines_in instance workers start worker chain) → AcceptsPlan hierarchy_file trace_file text instance (plan_in instance workers start worker chain)
+  accepted_plan text workers start worker chain can lines =
+      let work = work_of_instance instance in
+      let version = instance.trace.version in
+      record {
+        accepts = accepts;
+        is_plan = ap (plan_of version (length instance.trace.messages)) lines
+            ∙ ap (λ n. plan_of version n (text_of (lines_in instance workers start worker chain))) (sym (count_is instance.trace is_trace))
+            ∙ written_is_read version instance.tree instance.assigned work workers start worker chain can;
+      }
 
-    abbrev claim : Claim
-    claim = claim_of layout.tree assigned trace.messages plan
+  -- and a verdict on it is what the check prints
+  checked : (text : List ℕ) (workers : Option ℕ) (start : ℕ → ℕ) (worker : ℕ → Option ℕ) (chain : List ℕ) → IsChain (before_in instance) (work_of_instance instance) chain
+      → IsFit instance workers start worker chain → AcceptsPlan hierarchy_file trace_file text instance (plan_in instance workers start worker chain)
+      → (v : Verdict) → IsVerdict (claim_on instance (plan_in instance workers start worker chain)) v → IsCheckText hierarchy_file trace_file text v
+  checked text workers start worker chain is_chain can read v is =
+      let before = before_in instance in
+      let work = work_of_instance instance in
+      let plan = plan_in instance workers start worker chain in
+      let claim = claim_on instance plan in
+      let given = given_of instance.trace.version before work within_limits forward chain is_chain instance.tree instance.assigned workers start worker can in
+      let rows = length-map-range_with_len (row_told instance.tree instance.assigned work start worker) 1 work.count ∙ count_is instance.trace is_trace in
+      record {
+        instance = instance;
+        given = plan;
+        accepts = read;
+        verdict = is;
+        promises = promises claim (chains_are_within_length before work) (bound_is_within_twice before work) (bound_is_within_ratio before work) given rows v is;
+      }
 
-    checked : plan_of trace.version (work_of_trace trace).count text ≡ Ok plan → (v : Verdict) → IsVerdict claim v → IsCheckText hierarchy_file trace_file text v
-    checked read v is =
-        let before = IsOrdered layout.tree assigned in
-        let given = given_of trace.version before (work_of_trace trace) within_limits forward_pairs chain is_chain layout.tree assigned workers start worker can in
-        let rows = length-map-range_with_len (row_told layout.tree assigned (work_of_trace trace) start worker) 1 (work_of_trace trace).count ∙ count_is trace is_trace in
-        record {
-          layout = layout;
-          trace = trace;
-          assigned = assigned;
-          given = plan;
-          accepts = accepts;
-          is_plan = ap (λ n. plan_of trace.version n text) (sym (count_is trace is_trace)) ∙ read;
-          verdict = is;
-          promises = promises claim (chains_are_within_length before (work_of_trace trace)) (bound_is_within_twice before (work_of_trace trace))
-              (bound_is_within_ratio before (work_of_trace trace)) given rows v is;
-        }
+  -- that of a plan without workers
+  own_plan_fits : (text : List ℕ) (told : TellsLeastPlan instance text) → IsFit instance None (start_of told.starts) no_worker told.chain
+  own_plan_fits text told =
+      let before = before_in instance in
+      let work = work_of_instance instance in
+      let start = start_of told.starts in
+      let is_chain = told.certified.is_chain in
+      let version = instance.trace.version in
+      let cost = chain_cost_within version before work within_limits forward told.chain is_chain in
+      let release = chain_release_within version before work within_limits forward told.chain is_chain in
+      let as_long = told.certified.as_long in
+      let short : length_of work start ≤ MAX_TICK = omega (arith, as_long, cost, release) in
+      tellable version before work within_limits forward told.chain is_chain instance.tree instance.assigned None start no_worker
+      named (λ n number. tt) tt short short (omega (arith, cost, release))
 
--- a text that tells a plan, and the plan that is read of it
-abbrev pub IsTold : Hierarchy → Arrivals → List ℕ → List ℕ → Option ℕ → List ℕ → (ℕ → Option ℕ) → List ℕ → Type 0
-IsTold layout trace assigned text workers starts worker chain =
-    IsTellable trace.version layout.tree assigned (work_of_trace trace) workers (start_of starts) worker chain
-    × (plan_of trace.version (work_of_trace trace).count text
-    ≡ Ok (plan_told trace.version layout.tree assigned (work_of_trace trace) workers (start_of starts) worker chain))
+  pub own_plan_read : (text : List ℕ) (told : TellsLeastPlan instance text)
+      → AcceptsPlan hierarchy_file trace_file text instance (plan_in instance None (start_of told.starts) no_worker told.chain)
+  own_plan_read text told = accepted_plan text None (start_of told.starts) no_worker told.chain (own_plan_fits text told) told.lines
 
--- that of a plan without workers
-pub own_plan_told : (hierarchy_file trace_file text : List ℕ) (told : IsPlanText hierarchy_file trace_file text)
-    → IsTold told.layout told.trace told.assigned text None told.starts no_worker told.chain
-own_plan_told hierarchy_file trace_file text told =
-    let before = IsOrdered told.layout.tree told.assigned in
-    let work = work_of_trace told.trace in
-    let start = start_of told.starts in
-    let small = within_limits hierarchy_file trace_file told.layout told.trace told.assigned told.accepts in
-    let forward = forward_pairs hierarchy_file trace_file told.layout told.trace told.assigned told.accepts in
-    let is_chain = told.certified.is_chain in
-    let version = told.trace.version in
-    let cost = chain_cost_within version before work small forward told.chain is_chain in
-    let release = chain_release_within version before work small forward told.chain is_chain in
-    let as_long = told.certified.as_long in
-    let short : length_of work start ≤ MAX_TICK = omega (arith, as_long, cost, release) in
-    let can = tellable version before work small forward told.chain is_chain told.layout.tree told.assigned None start no_worker
-    (named hierarchy_file trace_file told.layout told.trace told.assigned told.accepts) (λ n number. tt) tt short short (omega (arith, cost, release)) in
-    let read = ap (plan_of version work.count) told.lines
-    ∙ written_is_read version told.layout.tree told.assigned work None start no_worker told.chain can in
-    (can, read)
+  -- the workers of a plan for k workers
+  crew_of : (rule : Rule) (k : ℕ) (text : List ℕ) (told : TellsWorkerPlan rule k instance text)
+      → AreOneAtATime (work_of_instance instance) (start_of told.starts) (seat_of told.workers) k
+  crew_of rule k text told =
+      manned (work_of_instance instance) (start_of told.starts) told.workers k within_limits.some_cost told.seated told.bounded.at_once
+
+  own_worker_plan_fits : (rule : Rule) (k : ℕ) (text : List ℕ) → IsWorkers k → (told : TellsWorkerPlan rule k instance text)
+      → IsFit instance (Some k) (start_of told.starts) (seat_of told.workers) told.chain
+  own_worker_plan_fits rule k text workers told =
+      let before = before_in instance in
+      let work = work_of_instance instance in
+      let start = start_of told.starts in
+      let is_chain = told.bounded.is_chain in
+      let version = instance.trace.version in
+      let cost = chain_cost_within version before work within_limits forward told.chain is_chain in
+      let release = chain_release_within version before work within_limits forward told.chain is_chain in
+      let total = total_within version before work within_limits forward told.chain is_chain in
+      let from : 1 ≤ k = workers.from in
+      let to : k ≤ MAX_WORKERS = workers.to in
+      let releases : k * chain_release work told.chain ≤ MAX_WORKERS * MAX_RELEASE = mul-le-mul to release in
+      let fewer : k - 1 ≤ MAX_WORKERS - 1 = omega arith in
+      let costs : (k - 1) * chain_cost work told.chain ≤ (MAX_WORKERS - 1) * (MAX_MESSAGES * MAX_COST) = mul-le-mul fewer cost in
+      let right : right_side work k told.chain ≤ MAX_TICK = omega (arith, total, releases, costs) in
+      let bound : left_side work k start ≤ right_side work k told.chain = told.bounded.bound in
+      let left : left_side work k start ≤ MAX_TICK = omega (arith, bound, right) in
+      let once : 1 * length_of work start ≤ k * length_of work start = mul-le-mul from (omega arith) in
+      let short : length_of work start ≤ MAX_TICK = omega (arith, once, left) in
+      let crew = crew_of rule k text told in
+      tellable version before work within_limits forward told.chain is_chain instance.tree instance.assigned (Some k) start (seat_of told.workers)
+      named (λ n number. let one = crew.each n number in let last = one.1 in omega (arith, to, last)) workers short left right
+
+  pub own_worker_plan_read : (rule : Rule) (k : ℕ) (text : List ℕ) → IsWorkers k → (told : TellsWorkerPlan rule k instance text)
+      → AcceptsPlan hierarchy_file trace_file text instance (plan_in instance (Some k) (start_of told.starts) (seat_of told.workers) told.chain)
+  own_worker_plan_read rule k text workers told =
+      accepted_plan text (Some k) (start_of told.starts) (seat_of told.workers) told.chain (own_worker_plan_fits rule k text workers told) told.lines
 
 pub own_plan_passes : (hierarchy_file trace_file text : List ℕ) → OwnPlanPasses hierarchy_file trace_file text
-own_plan_passes hierarchy_file trace_file text told =
-    let is = own_plan_told hierarchy_file trace_file text told in
+own_plan_passes hierarchy_file trace_file text p =
+    let i = p.instance in
+    let told = p.told in
     let is_chain = told.certified.is_chain in
-    checked hierarchy_file trace_file told.layout told.trace told.assigned told.accepts text None (start_of told.starts) no_worker told.chain is_chain is.0 is.1 verdict.Shortest
-    (own_plan_is_shortest told.layout.tree told.assigned told.trace.messages told.trace.version (start_of told.starts) told.chain told.accepts.assignment.count
+    checked hierarchy_file trace_file i p.accepts text None (start_of told.starts) no_worker told.chain is_chain
+    (own_plan_fits hierarchy_file trace_file i p.accepts text told) (own_plan_read hierarchy_file trace_file i p.accepts text told) verdict.Shortest
+    (own_plan_is_shortest i.tree i.assigned i.trace.messages i.trace.version (start_of told.starts) told.chain p.accepts.assignment.count
     told.certified.least.obeys is_chain told.certified.as_long)
 
--- the workers of a plan for k workers
-crew_of : (rule : Rule) (hierarchy_file trace_file : List ℕ) (k : ℕ) (text : List ℕ) (told : IsWorkerPlanText rule hierarchy_file trace_file k text)
-    → AreOneAtATime (work_of_trace told.trace) (start_of told.starts) (seat_of told.workers) k
-crew_of rule hierarchy_file trace_file k text told =
-    let small = within_limits hierarchy_file trace_file told.layout told.trace told.assigned told.accepts in
-    manned (work_of_trace told.trace) (start_of told.starts) told.workers k small.some_cost told.seated told.bounded.at_once
-
-pub own_worker_plan_told : (rule : Rule) (hierarchy_file trace_file : List ℕ) (k : ℕ) (text : List ℕ) → IsWorkers k
-    → (told : IsWorkerPlanText rule hierarchy_file trace_file k text)
-    → IsTold told.layout told.trace told.assigned text (Some k) told.starts (seat_of told.workers) told.chain
-own_worker_plan_told rule hierarchy_file trace_file k text workers told =
-    let before = IsOrdered told.layout.tree told.assigned in
-    let work = work_of_trace told.trace in
-    let start = start_of told.starts in
-    let small = within_limits hierarchy_file trace_file told.layout told.trace told.assigned told.accepts in
-    let forward = forward_pairs hierarchy_file trace_file told.layout told.trace told.assigned told.accepts in
-    let is_chain = told.bounded.is_chain in
-    let version = told.trace.version in
-    let cost = chain_cost_within version before work small forward told.chain is_chain in
-    let release = chain_release_within version before work small forward told.chain is_chain in
-    let total = total_within version before work small forward told.chain is_chain in
-    let from : 1 ≤ k = workers.from in
-    let to : k ≤ MAX_WORKERS = workers.to in
-    let releases : k * chain_release work told.chain ≤ 64 * MAX_RELEASE = mul-le-mul to release in
-    let fewer : k - 1 ≤ 63 = omega arith in
-    let costs : (k - 1) * chain_cost work told.chain ≤ 63 * 65536000000 = mul-le-mul fewer cost in
-    let right : right_side work k told.chain ≤ MAX_TICK = omega (arith, total, releases, costs) in
-    let bound : left_side work k start ≤ right_side work k told.chain = told.bounded.bound in
-    let left : left_side work k start ≤ MAX_TICK = omega (arith, bound, right) in
-    let once : 1 * length_of work start ≤ k * length_of work start = mul-le-mul from (omega arith) in
-    let short : length_of work start ≤ MAX_TICK = omega (arith, once, left) in
-    let crew = crew_of rule hierarchy_file trace_file k text told in
-    let can = tellable version before work small forward told.chain is_chain told.layout.tree told.assigned (Some k) start (seat_of told.workers)
-    (named hierarchy_file trace_file told.layout told.trace told.assigned told.accepts)
-    (λ n number. let one = crew.each n number in let last = one.1 in omega (arith, to, last)) workers short left right in
-    let read = ap (plan_of version work.count) told.lines
-    ∙ written_is_read version told.layout.tree told.assigned work (Some k) start (seat_of told.workers) told.chain can in
-    (can, read)
-
 pub own_worker_plan_passes : (rule : Rule) (hierarchy_file trace_file : List ℕ) (k : ℕ) (text : List ℕ) → OwnWorkerPlanPasses rule hierarchy_file trace_file k text
-own_worker_plan_passes rule hierarchy_file trace_file k text workers told =
-    let is = own_worker_plan_told rule hierarchy_file trace_file k text workers told in
+own_worker_plan_passes rule hierarchy_file trace_file k text workers p =
+    let i = p.instance in
+    let told = p.told in
     let is_chain = told.bounded.is_chain in
-    let by = plan_by_priority rule (IsOrdered told.layout.tree told.assigned) (work_of_trace told.trace) k (start_of told.starts) told.bounded.list in
+    let by = plan_by_priority rule (before_in i) (work_of_instance i) k (start_of told.starts) told.bounded.list in
     let list = by.1 in
-    let passes = checked hierarchy_file trace_file told.layout told.trace told.assigned told.accepts text (Some k) (start_of told.starts) (seat_of told.workers) told.chain is_chain
-    is.0 is.1 in
-    elim (own_plan_is_within_bound told.layout.tree told.assigned told.trace.messages told.trace.version k (start_of told.starts) (seat_of told.workers) told.chain
-    told.accepts.assignment.count list.within (crew_of rule hierarchy_file trace_file k text told) is_chain told.bounded.bound) [
+    let passes = checked hierarchy_file trace_file i p.accepts text (Some k) (start_of told.starts) (seat_of told.workers) told.chain is_chain
+    (own_worker_plan_fits hierarchy_file trace_file i p.accepts rule k text workers told) (own_worker_plan_read hierarchy_file trace_file i p.accepts rule k text workers told) in
+    elim (own_plan_is_within_bound i.tree i.assigned i.trace.messages i.trace.version k (start_of told.starts) (seat_of told.workers) told.chain
+    p.accepts.assignment.count list.within (crew_of hierarchy_file trace_file i p.accepts rule k text told) is_chain told.bounded.bound) [
       | inl shortest ↦ inl (passes verdict.Shortest shortest)
       | inr within ↦ inr (passes verdict.WithinBound within)
     ]

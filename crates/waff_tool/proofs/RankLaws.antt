@@ -5,12 +5,12 @@ use Rattle.std.proofs.lemmas.List.{get_or-take, length-take-le}
 use Rattle.std.proofs.lemmas.List.Elements.{All-cons}
 use Rattle.std.specs.List.{AllZip}
 use Rattle.waff_model.specs.Layout.{Hierarchy}
-use Rattle.waff_model.specs.Messages.{Arrivals}
 use Rattle.waff_model.specs.declared.kind.Kind.{Kind}
 use Rattle.waff_read.specs.Hierarchies.{hierarchy_of}
 use Rattle.waff_read.specs.declared.hier_error.HierError.{HierError}
 use Rattle.waff_read.specs.declared.trace_fault.TraceError.{TraceError}
-use Rattle.waff_assign.specs.Order.{IsOrdered}
+use Rattle.waff_assign.specs.Instance.{Instance, before_in}
+use Rattle.waff_plan.specs.Instances.{work_of_instance}
 use Rattle.waff_plan.specs.Obeys.{IsForward}
 use Rattle.waff_plan.specs.Timing.{start_of}
 use Rattle.waff_plan.specs.Work.{length_of}
@@ -24,21 +24,19 @@ use Rattle.waff_inputs.specs.Inputs.{TellsOfFiles}
 use Rattle.waff_inputs.specs.declared.fault.ToolError.{ToolError}
 use Rattle.waff_inputs.specs.declared.fault.ToolError.TheVariants as tool
 use Rattle.waff_inputs.proofs.Refusals.{of_files, of_trace, refusal_is_one, refused_is}
-use Rattle.waff_inputs.proofs.SameInput.{moved_back, same_input}
-use Rattle.waff_tool.specs.PlanText.{work_of_trace}
+use Rattle.waff_inputs.proofs.SameInput.{same_input, same_ok}
 use Rattle.waff_tool.specs.Ranks.{Admits, IsFirstRefused, IsFirstRefuted, IsHierarchy, IsRanked, IsRankedAsSwept, IsRankedUnder, RankRefusalIsOne, RankTextIsOne, RankedIsNotRefused, RefusesRank, Refutes, file_at, rank_header, rank_rows}
 use Rattle.waff_tool.specs.declared.ranks.Ranked.{Ranked}
-use Rattle.waff_tool.proofs.CertificateLemmas.{pairs_forward}
-use Rattle.waff_tool.proofs.FigureUniqueness.{IsSwept, listed_is_one, listed_same}
+use Rattle.waff_tool.proofs.FigureUniqueness.{listed_is_one, listed_same, told_swept}
 use Rattle.waff_tool.proofs.RankLemmas.{ranked_admit}
-use Rattle.waff_tool.proofs.TextUniqueness.{trace_runs}
+use Rattle.waff_tool.proofs.TextUniqueness.{each_runs, goes_forward}
 
 -- what is told under a hierarchy is one
-under_is_one : (rule : Rule) (layout : Hierarchy) (trace : Arrivals) (assigned : List ℕ) (k : ℕ) (one other : Ranked) → IsForward (IsOrdered layout.tree assigned) (work_of_trace trace)
-    → EachRuns (work_of_trace trace) → IsRankedUnder rule layout trace assigned k one → IsRankedUnder rule layout trace assigned k other → one ≡ other
-under_is_one rule layout trace assigned k one other forward runs p q =
-    let before = IsOrdered layout.tree assigned in
-    let work = work_of_trace trace in
+under_is_one : (rule : Rule) (kind : Kind) (k : ℕ) (instance : Instance) (one other : Ranked) → IsForward (before_in instance) (work_of_instance instance)
+    → EachRuns (work_of_instance instance) → IsRankedUnder rule kind k instance one → IsRankedUnder rule kind k instance other → one ≡ other
+under_is_one rule kind k instance one other forward runs p q =
+    let before = before_in instance in
+    let work = work_of_instance instance in
     let told : Kind → ℕ → ℕ → Figures → Ranked = λ kind affinities length listed. record {
       kind = kind;
       affinities = affinities;
@@ -49,17 +47,19 @@ under_is_one rule layout trace assigned k one other forward runs p q =
     let lengths : one.length ≡ other.length = p.shortest ∙ same_length work (start_of p.starts) (start_of q.starts) same ∙ sym q.shortest in
     let listed : one.listed ≡ other.listed = listed_same rule before work forward runs one.length one.listed other.listed p.listed
     (subst (λ n. IsListed rule before work n other.listed) (sym lengths) q.listed) (p.workers ∙ sym q.workers) in
-    ap (λ kind. told kind one.affinities one.length one.listed) (p.kind ∙ sym q.kind)
+    ap (λ kind. told kind one.affinities one.length one.listed) (p.kind_is ∙ sym q.kind_is)
     ∙ ap (λ n. told other.kind n one.length one.listed) (p.affinities ∙ sym q.affinities)
     ∙ ap (λ n. told other.kind other.affinities n one.listed) lengths
     ∙ ap (told other.kind other.affinities other.length) listed
 
 ranked_is_one : (rule : Rule) (trace_file : List ℕ) (k : ℕ) (file : List ℕ) (one other : Ranked) → IsRanked rule trace_file k file one → IsRanked rule trace_file k file other → one ≡ other
 ranked_is_one rule trace_file k file one other p q =
-    let same = same_input file trace_file p.layout q.layout p.trace q.trace p.assigned q.assigned p.accepts q.accepts in
-    let told = moved_back (λ layout trace assigned. IsRankedUnder rule layout trace assigned k other) p.layout q.layout p.trace q.trace p.assigned q.assigned same q.under in
-    under_is_one rule p.layout p.trace p.assigned k one other (pairs_forward p.layout.tree p.assigned p.trace.messages p.accepts.assignment.count)
-    (trace_runs p.layout trace_file p.trace p.accepts.is_trace) p.under told
+    let same = same_input file trace_file p.instance q.instance p.accepts q.accepts in
+    let layouts = same_ok (hierarchy_of file) p.accepts.layout q.accepts.layout p.accepts.is_layout q.accepts.is_layout in
+    let told = subst (λ (l : Hierarchy). IsRankedUnder rule l.kind k p.instance other) (sym layouts)
+    (subst (λ i. IsRankedUnder rule q.accepts.layout.kind k i other) (sym same) q.under) in
+    under_is_one rule p.accepts.layout.kind k p.instance one other (goes_forward file trace_file p.instance p.accepts) (each_runs file trace_file p.instance p.accepts)
+    p.under told
 
 ranks_are_one : (rule : Rule) (trace_file : List ℕ) (k : ℕ) (files : List (List ℕ)) (ranks others : List Ranked) → AllZip (IsRanked rule trace_file k) files ranks
     → AllZip (IsRanked rule trace_file k) files others → ranks ≡ others
@@ -160,26 +160,20 @@ ranked_is_not_refused rule files trace_file k text error ranked tells refused =
     none_refused files trace_file error tells (ranked_admit rule trace_file k files ranked.ranks ranked.each) refused
 
 -- the list plan alone, as a sweep tells of it
-swept_alone : (rule : Rule) (layout : Hierarchy) (trace : Arrivals) (assigned : List ℕ) (k : ℕ) (ranked : Ranked) (starts : List ℕ) (listed : List Figures) (unlimited : Figures)
-    → IsForward (IsOrdered layout.tree assigned) (work_of_trace trace) → EachRuns (work_of_trace trace) → IsRankedUnder rule layout trace assigned k ranked
-    → IsSwept rule (k ∷ []) starts listed unlimited layout trace assigned → listed ≡ ranked.listed ∷ []
-swept_alone rule layout trace assigned k ranked starts listed unlimited forward runs p q =
-    let before = IsOrdered layout.tree assigned in
-    let work = work_of_trace trace in
-    let same = least_is_one before work (start_of starts) (start_of p.starts) q.0 p.least in
-    let lengths : length_of work (start_of starts) ≡ ranked.length = same_length work (start_of starts) (start_of p.starts) same ∙ sym p.shortest in
-    let alone : AreListed rule before work ranked.length (k ∷ []) (ranked.listed ∷ []) = record {
-      in_turn = ap (λ w. w ∷ []) p.workers;
-      each = All-cons (IsListed rule before work ranked.length) ranked.listed [] p.listed (λ i d inside. absurd (omega (arith, inside)));
-    } in
-    listed_is_one rule before work forward runs ranked.length (k ∷ []) listed (ranked.listed ∷ [])
-    (subst (λ n. AreListed rule before work n (k ∷ []) listed) lengths q.1) alone
-
 pub is_ranked_as_swept : (rule : Rule) (hierarchy_file trace_file : List ℕ) → IsRankedAsSwept rule hierarchy_file trace_file
-is_ranked_as_swept rule hierarchy_file trace_file k ranked text p q =
-    let same = same_input hierarchy_file trace_file p.layout q.layout p.trace q.trace p.assigned q.assigned p.accepts q.accepts in
-    let told = moved_back (IsSwept rule (k ∷ []) q.starts q.listed q.unlimited) p.layout q.layout p.trace q.trace p.assigned q.assigned same
-    (q.least, q.are_listed, q.are_unlimited) in
-    swept_alone rule p.layout p.trace p.assigned k ranked q.starts q.listed q.unlimited
-    (pairs_forward p.layout.tree p.assigned p.trace.messages p.accepts.assignment.count)
-    (trace_runs p.layout trace_file p.trace p.accepts.is_trace) p.under told
+is_ranked_as_swept rule hierarchy_file trace_file k ranked text p swept =
+    let i = p.instance in
+    let under = p.under in
+    let before = before_in i in
+    let work = work_of_instance i in
+    let moved = told_swept rule hierarchy_file trace_file (k ∷ []) text i p.accepts swept in
+    let starts = swept.told.starts in
+    let listed = swept.told.listed in
+    let same = least_is_one before work (start_of starts) (start_of under.starts) moved.0 under.least in
+    let lengths : length_of work (start_of starts) ≡ ranked.length = same_length work (start_of starts) (start_of under.starts) same ∙ sym under.shortest in
+    let alone : AreListed rule before work ranked.length (k ∷ []) (ranked.listed ∷ []) = record {
+      in_turn = ap (λ w. w ∷ []) under.workers;
+      each = All-cons (IsListed rule before work ranked.length) ranked.listed [] under.listed (λ i d inside. absurd (omega (arith, inside)));
+    } in
+    listed_is_one rule before work (goes_forward hierarchy_file trace_file i p.accepts) (each_runs hierarchy_file trace_file i p.accepts) ranked.length (k ∷ [])
+    listed (ranked.listed ∷ []) (subst (λ n. AreListed rule before work n (k ∷ []) listed) lengths moved.1) alone

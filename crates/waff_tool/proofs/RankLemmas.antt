@@ -60,7 +60,7 @@ read_are files layouts are = zip_have (λ file layout. hierarchy_of file ≡ Ok 
 pub ranked_admit : (rule : Rule) (trace_file : List ℕ) (k : ℕ) (files : List (List ℕ)) (ranks : List Ranked) → AllZip (IsRanked rule trace_file k) files ranks
     → All (Admits trace_file) files
 ranked_admit rule trace_file k files ranks are =
-    zip_have (IsRanked rule trace_file k) (Admits trace_file) (λ file ranked is. (is.layout, is.trace, is.accepts.is_layout, is.accepts.is_trace)) files ranks are
+    zip_have (IsRanked rule trace_file k) (Admits trace_file) (λ file ranked is. (is.accepts.layout, is.instance.trace, is.accepts.is_layout, is.accepts.is_trace)) files ranks are
 
 -- the first file that is no hierarchy
 pub first_refused : (files : List (List ℕ)) (trace_file : List ℕ) (i number : ℕ) (error : ToolError) → number ≡ i + 1 → i < length files

@@ -9,18 +9,19 @@ use Rattle.waff_model.specs.declared.kind.Kind.TheVariants as kind
 use Rattle.waff_read.specs.Hierarchies.{hierarchy_of}
 use Rattle.waff_read.specs.Traces.{trace_of}
 use Rattle.waff_read.proofs.LimitLaws.{trace_is_within_limits}
+use Rattle.waff_assign.specs.Instance.{Instance, before_in}
 use Rattle.waff_assign.specs.Order.{IsOrdered, Refines}
 use Rattle.waff_assign.proofs.Uniqueness.{assignment_is_one}
-use Rattle.waff_plan.specs.Chain.{IsPrinted}
-use Rattle.waff_plan.specs.Obeys.{IsForward, IsLeast}
+use Rattle.waff_plan.specs.Instances.{work_of_instance}
+use Rattle.waff_plan.specs.Obeys.{IsForward}
+use Rattle.waff_plan.specs.Timetable.{work_of_messages}
 use Rattle.waff_plan.specs.Timing.{start_of}
 use Rattle.waff_plan.specs.Totals.{totals_of}
 use Rattle.waff_plan.specs.Work.{Work, total_of}
 use Rattle.waff_plan.specs.declared.totals.Totals.{Totals}
 use Rattle.waff_plan.proofs.Uniqueness.{least_is_one, printed_is_one}
-use Rattle.waff_list.specs.Rules.{IsPlanBy}
 use Rattle.waff_list.specs.Seating.{worker_of}
-use Rattle.waff_list.specs.Unique.{AreSeated, EachRuns}
+use Rattle.waff_list.specs.Unique.{EachRuns}
 use Rattle.waff_list.specs.declared.rule.Rule.{Rule}
 use Rattle.waff_list.specs.declared.rule.Rule.TheVariants.{Arrival}
 use Rattle.waff_list.proofs.SeatsUniqueness.{seats_are_one}
@@ -29,9 +30,10 @@ use Rattle.waff_list.proofs.RuleLemmas.{rule_plan_is_one}
 use Rattle.waff_plan_text.specs.Lines.{text_of}
 use Rattle.waff_plan_text.specs.Spelling.{no_worker, seat_of, unlimited_lines, worker_lines}
 use Rattle.waff_plan.proofs.Uniqueness.{totals_same}
-use Rattle.waff_inputs.proofs.SameInput.{layout_tree, moved_back, same_input, same_ok, same_trace}
-use Rattle.waff_tool.specs.AssignText.{assign_lines}
-use Rattle.waff_tool.specs.PlanText.{IsPlanText, IsWorkerPlanText, work_of_trace}
+use Rattle.waff_inputs.specs.Inputs.{Accepts}
+use Rattle.waff_inputs.proofs.SameInput.{layout_tree, same_ok, same_trace, told_is_one}
+use Rattle.waff_tool.specs.AssignText.{TellsAssignment}
+use Rattle.waff_tool.specs.PlanText.{TellsLeastPlan, TellsPlan, TellsWorkerPlan}
 use Rattle.waff_tool.specs.Comparison.{AreModels, IsCompared, IsMeasured, compare_lines}
 use Rattle.waff_tool.specs.Unique.{AssignTextIsOne, CompareTextIsOne, PlanTextIsOne}
 use Rattle.waff_tool.specs.declared.measures.Measured.{Measured}
@@ -39,85 +41,58 @@ use Rattle.waff_tool.proofs.CertificateLemmas.{pairs_forward}
 use Rattle.waff_tool.proofs.LineLaws.{lines_same}
 
 -- each message of a trace that is read runs
-pub trace_runs : (layout : Hierarchy) (file : List ℕ) (trace : Arrivals) → trace_of layout.spaces file ≡ Ok trace → EachRuns (work_of_trace trace)
+pub trace_runs : (layout : Hierarchy) (file : List ℕ) (trace : Arrivals) → trace_of layout.spaces file ≡ Ok trace → EachRuns (work_of_messages trace.messages)
 trace_runs layout file trace read =
     let small = trace_is_small trace (trace_is_within_limits layout.spaces file trace read) in
     small.some_cost
 
+-- an instance that is accepted
+module _ (hierarchy_file trace_file : List ℕ) (instance : Instance) (accepts : Accepts hierarchy_file trace_file instance) where
+  pub goes_forward : IsForward (before_in instance) (work_of_instance instance)
+  goes_forward = pairs_forward instance.tree instance.assigned instance.trace.messages accepts.assignment.count
+
+  pub each_runs : EachRuns (work_of_instance instance)
+  each_runs = trace_runs accepts.layout trace_file instance.trace accepts.is_trace
+
 -- the affinities
-assign_text_is : List ℕ → Hierarchy → Arrivals → List ℕ → Type 0
-assign_text_is text layout trace assigned = text ≡ text_of (assign_lines layout.tree trace.messages assigned)
-
 pub assign_text_is_one : (hierarchy_file trace_file : List ℕ) → AssignTextIsOne hierarchy_file trace_file
-unfolding assign_text_is
-assign_text_is_one hierarchy_file trace_file text other p q =
-    let same = same_input hierarchy_file trace_file p.layout q.layout p.trace q.trace p.assigned q.assigned p.accepts q.accepts in
-    p.lines ∙ sym (moved_back (assign_text_is other) p.layout q.layout p.trace q.trace p.assigned q.assigned same q.lines)
+assign_text_is_one hierarchy_file trace_file = told_is_one TellsAssignment hierarchy_file trace_file (λ i accepts text other p q. p ∙ sym q)
 
--- the plan without workers
-abbrev IsTold : List ℕ → List ℕ → List ℕ → Hierarchy → Arrivals → List ℕ → Type 0
-IsTold starts chain text layout trace assigned =
-    IsLeast (IsOrdered layout.tree assigned) (work_of_trace trace) (start_of starts)
-    × IsPrinted (IsOrdered layout.tree assigned) (work_of_trace trace) (start_of starts) chain
-    × (text ≡ text_of (unlimited_lines trace.version layout.tree assigned (work_of_trace trace) (start_of starts) chain))
+-- the plan without workers, and by a rule for k workers
+module _ (instance : Instance) (forward : IsForward (before_in instance) (work_of_instance instance)) where
+  least_plan_is_one : (text other : List ℕ) → TellsLeastPlan instance text → TellsLeastPlan instance other → text ≡ other
+  least_plan_is_one text other p q =
+      let before = before_in instance in
+      let work = work_of_instance instance in
+      let same = least_is_one before work (start_of p.starts) (start_of q.starts) p.certified.least q.certified.least in
+      let chains = printed_is_one before work forward (start_of p.starts) (start_of q.starts) p.chain q.chain same p.certified.printed q.certified.printed in
+      p.lines
+      ∙ ap text_of (lines_same instance.trace.version instance.tree instance.assigned work None (start_of p.starts) (start_of q.starts) no_worker no_worker p.chain same (λ m number. refl))
+      ∙ ap (λ c. text_of (unlimited_lines instance.trace.version instance.tree instance.assigned work (start_of q.starts) c)) chains
+      ∙ sym q.lines
 
-one_text : (layout : Hierarchy) (trace : Arrivals) (assigned : List ℕ) → IsForward (IsOrdered layout.tree assigned) (work_of_trace trace)
-    → (starts chain text others links other : List ℕ) → IsTold starts chain text layout trace assigned → IsTold others links other layout trace assigned
-    → text ≡ other
-one_text layout trace assigned forward starts chain text others links other p q =
-    let before = IsOrdered layout.tree assigned in
-    let work = work_of_trace trace in
-    let same = least_is_one before work (start_of starts) (start_of others) p.0 q.0 in
-    let chains = printed_is_one before work forward (start_of starts) (start_of others) chain links same p.1 q.1 in
-    p.2
-    ∙ ap text_of (lines_same trace.version layout.tree assigned work None (start_of starts) (start_of others) no_worker no_worker chain same (λ m number. refl))
-    ∙ ap (λ c. text_of (unlimited_lines trace.version layout.tree assigned work (start_of others) c)) chains
-    ∙ sym q.2
+  worker_plan_is_one : EachRuns (work_of_instance instance) → (rule : Rule) (k : ℕ) (text other : List ℕ) → TellsWorkerPlan rule k instance text
+      → TellsWorkerPlan rule k instance other → text ≡ other
+  worker_plan_is_one runs rule k text other p q =
+      let before = before_in instance in
+      let work = work_of_instance instance in
+      let same = rule_plan_is_one before work forward runs rule k (start_of p.starts) (start_of q.starts) p.bounded.list q.bounded.list in
+      let sat = seats_are_one work (start_of p.starts) (start_of q.starts) (worker_of p.workers) (worker_of q.workers) same p.seated q.seated in
+      let chains = printed_is_one before work forward (start_of p.starts) (start_of q.starts) p.chain q.chain same p.bounded.printed q.bounded.printed in
+      p.lines
+      ∙ ap text_of (lines_same instance.trace.version instance.tree instance.assigned work (Some k) (start_of p.starts) (start_of q.starts) (seat_of p.workers) (seat_of q.workers) p.chain same
+      (λ m number. ap Some (sat m number)))
+      ∙ ap (λ c. text_of (worker_lines instance.trace.version instance.tree instance.assigned work k (start_of q.starts) q.workers c)) chains
+      ∙ sym q.lines
 
-unlimited_text_is_one : (hierarchy_file trace_file text other : List ℕ) → IsPlanText hierarchy_file trace_file text
-    → IsPlanText hierarchy_file trace_file other → text ≡ other
-unlimited_text_is_one hierarchy_file trace_file text other p q =
-    let same = same_input hierarchy_file trace_file p.layout q.layout p.trace q.trace p.assigned q.assigned p.accepts q.accepts in
-    let told = moved_back (IsTold q.starts q.chain other) p.layout q.layout p.trace q.trace p.assigned q.assigned same
-    (q.certified.least, q.certified.printed, q.lines) in
-    one_text p.layout p.trace p.assigned (pairs_forward p.layout.tree p.assigned p.trace.messages p.accepts.assignment.count)
-    p.starts p.chain text q.starts q.chain other (p.certified.least, p.certified.printed, p.lines) told
-
--- the plan by a rule for k workers
-abbrev IsToldFor : Rule → ℕ → List ℕ → List ℕ → List ℕ → List ℕ → Hierarchy → Arrivals → List ℕ → Type 0
-IsToldFor rule k starts workers chain text layout trace assigned =
-    IsPlanBy rule (IsOrdered layout.tree assigned) (work_of_trace trace) k (start_of starts)
-    × AreSeated (work_of_trace trace) (start_of starts) (worker_of workers)
-    × IsPrinted (IsOrdered layout.tree assigned) (work_of_trace trace) (start_of starts) chain
-    × (text ≡ text_of (worker_lines trace.version layout.tree assigned (work_of_trace trace) k (start_of starts) workers chain))
-
-one_text_for : (rule : Rule) (layout : Hierarchy) (trace : Arrivals) (assigned : List ℕ) (k : ℕ) → IsForward (IsOrdered layout.tree assigned) (work_of_trace trace)
-    → EachRuns (work_of_trace trace) → (starts workers chain text others seats links other : List ℕ) → IsToldFor rule k starts workers chain text layout trace assigned
-    → IsToldFor rule k others seats links other layout trace assigned → text ≡ other
-one_text_for rule layout trace assigned k forward runs starts workers chain text others seats links other p q =
-    let before = IsOrdered layout.tree assigned in
-    let work = work_of_trace trace in
-    let same = rule_plan_is_one before work forward runs rule k (start_of starts) (start_of others) p.0 q.0 in
-    let sat = seats_are_one work (start_of starts) (start_of others) (worker_of workers) (worker_of seats) same p.1 q.1 in
-    let chains = printed_is_one before work forward (start_of starts) (start_of others) chain links same p.2 q.2 in
-    p.3
-    ∙ ap text_of (lines_same trace.version layout.tree assigned work (Some k) (start_of starts) (start_of others) (seat_of workers) (seat_of seats) chain same (λ m number. ap Some (sat m number)))
-    ∙ ap (λ c. text_of (worker_lines trace.version layout.tree assigned work k (start_of others) seats c)) chains
-    ∙ sym q.3
-
-worker_text_is_one : (rule : Rule) (hierarchy_file trace_file : List ℕ) (k : ℕ) (text other : List ℕ) → IsWorkerPlanText rule hierarchy_file trace_file k text
-    → IsWorkerPlanText rule hierarchy_file trace_file k other → text ≡ other
-worker_text_is_one rule hierarchy_file trace_file k text other p q =
-    let same = same_input hierarchy_file trace_file p.layout q.layout p.trace q.trace p.assigned q.assigned p.accepts q.accepts in
-    let told = moved_back (IsToldFor rule k q.starts q.workers q.chain other) p.layout q.layout p.trace q.trace p.assigned q.assigned same
-    (q.bounded.list, q.seated, q.bounded.printed, q.lines) in
-    one_text_for rule p.layout p.trace p.assigned k (pairs_forward p.layout.tree p.assigned p.trace.messages p.accepts.assignment.count)
-    (trace_runs p.layout trace_file p.trace p.accepts.is_trace) p.starts p.workers p.chain text q.starts q.workers q.chain other
-    (p.bounded.list, p.seated, p.bounded.printed, p.lines) told
+  plan_is_one : EachRuns (work_of_instance instance) → (rule : Rule) (workers : Option ℕ) (text other : List ℕ) → TellsPlan rule workers instance text
+      → TellsPlan rule workers instance other → text ≡ other
+  plan_is_one runs rule None text other p q = least_plan_is_one text other p q
+  plan_is_one runs rule (Some k) text other p q = worker_plan_is_one runs rule k text other p q
 
 pub plan_text_is_one : (rule : Rule) (hierarchy_file trace_file : List ℕ) (workers : Option ℕ) → PlanTextIsOne rule hierarchy_file trace_file workers
-plan_text_is_one rule hierarchy_file trace_file None text other p q = unlimited_text_is_one hierarchy_file trace_file text other p q
-plan_text_is_one rule hierarchy_file trace_file (Some k) text other p q = worker_text_is_one rule hierarchy_file trace_file k text other p q
+plan_text_is_one rule hierarchy_file trace_file workers = told_is_one (TellsPlan rule workers) hierarchy_file trace_file
+    (λ i accepts. plan_is_one i (goes_forward hierarchy_file trace_file i accepts) (each_runs hierarchy_file trace_file i accepts) rule workers)
 
 -- what is told of a trace under one hierarchy
 made_of : Kind → Totals → Totals → Measured
@@ -147,9 +122,9 @@ measured_is_one layout assigned work k one other forward runs p q =
 
 -- the comparison
 compared_is_one : (classical hierarchical : Hierarchy) (trace : Arrivals) (k : ℕ) (text other : List ℕ) → IsTree classical.tree → IsTree hierarchical.tree
-    → EachRuns (work_of_trace trace) → IsCompared classical hierarchical trace k text → IsCompared classical hierarchical trace k other → text ≡ other
+    → EachRuns (work_of_messages trace.messages) → IsCompared classical hierarchical trace k text → IsCompared classical hierarchical trace k other → text ≡ other
 compared_is_one classical hierarchical trace k text other tree fine_tree runs p q =
-    let work = work_of_trace trace in
+    let work = work_of_messages trace.messages in
     let coarse = assignment_is_one classical trace.messages tree p.coarse q.coarse p.coarse_assignment q.coarse_assignment in
     let fine = assignment_is_one hierarchical trace.messages fine_tree p.fine q.fine p.fine_assignment q.fine_assignment in
     let of_classical = measured_is_one classical p.coarse work k p.of_classical q.of_classical

@@ -1,11 +1,9 @@
 -- What was told of the waits of a plan is the text of the files, and there is one.
-use Rattle.std.proofs.Common.{◌≡◌, ℕ, zero, suc, ◌⊎◌, inl, inr, List, [], ◌∷◌, ◌++◌, Bool, Option, Some, None, Contains, get_or, arith, sym, ◌∙◌, ap, subst}
+use Rattle.std.proofs.Common.{◌≡◌, ℕ, zero, suc, ◌⊎◌, inl, inr, List, [], ◌∷◌, ◌++◌, Bool, Option, Some, None, Contains, arith, sym, ◌∙◌, ap, subst}
 use Rattle.std.proofs.lemmas.List.Elements.{Contains-append_cases}
-use Rattle.waff_model.specs.Layout.{Hierarchy}
-use Rattle.waff_model.specs.Messages.{Arrivals}
-use Rattle.waff_model.specs.Tree.{Node}
-use Rattle.waff_model.specs.declared.message.Message.{Message}
-use Rattle.waff_assign.specs.Order.{IsOrdered, Relation}
+use Rattle.waff_assign.specs.Instance.{Instance, before_in}
+use Rattle.waff_assign.specs.Order.{Relation}
+use Rattle.waff_plan.specs.Instances.{work_of_instance}
 use Rattle.waff_plan.specs.Obeys.{IsForward, IsLeast, Obeys}
 use Rattle.waff_plan.specs.Timetable.{timings_of}
 use Rattle.waff_plan.specs.Timing.{start_of, work_of}
@@ -29,21 +27,18 @@ use Rattle.waff_figures.specs.declared.wait_rows.Row.{Row}
 use Rattle.waff_figures.specs.declared.waits.Wait.{Wait}
 use Rattle.waff_figures.proofs.FigureLaws.{waits_same}
 use Rattle.waff_figures.proofs.WaitUnique.{alike_laws, rows_are_one}
-use Rattle.waff_inputs.specs.Inputs.{Accepts}
-use Rattle.waff_inputs.proofs.SameInput.{moved_back, same_input}
-use Rattle.waff_tool.specs.PlanText.{work_of_trace}
-use Rattle.waff_tool.specs.WaitsText.{IsPlanFor, IsWaitsText, WaitsAreSwept, WaitsTextIsOne}
-use Rattle.waff_tool.proofs.CertificateLemmas.{pairs_forward}
-use Rattle.waff_tool.proofs.FigureUniqueness.{IsSwept}
-use Rattle.waff_tool.proofs.TextUniqueness.{trace_runs}
+use Rattle.waff_inputs.proofs.SameInput.{told_is_one}
+use Rattle.waff_tool.specs.WaitsText.{IsPlanFor, TellsWaits, WaitsAreSwept, WaitsTextIsOne}
+use Rattle.waff_tool.proofs.FigureUniqueness.{told_swept}
+use Rattle.waff_tool.proofs.TextUniqueness.{each_runs, goes_forward}
 
 -- what is told of a plan with these timings and starts
-abbrev pub IsTold : Bool → List Node → List ℕ → List Message → List Timing → List ℕ → List ℕ → Type 0
-IsTold by_name tree assigned messages timings starts text =
+abbrev pub IsTold : Bool → Instance → List Timing → List ℕ → List ℕ → Type 0
+IsTold by_name instance timings starts text =
     (waits : List Wait) × (rows : List Row)
-    × AreWaits (IsOrdered tree assigned) (work_of timings) (start_of starts) waits
-    × AreRows (are_alike by_name assigned (message_names messages)) waits rows
-    × (text ≡ text_of (waits_lines by_name tree assigned (message_names messages) rows))
+    × AreWaits (before_in instance) (work_of timings) (start_of starts) waits
+    × AreRows (are_alike by_name instance.assigned (message_names instance.trace.messages)) waits rows
+    × (text ≡ text_of (waits_lines by_name instance.tree instance.assigned (message_names instance.trace.messages) rows))
 
 planned_obeys : (rule : Rule) (before : Relation) (work : Work) (workers : Option ℕ) (start : ℕ → ℕ) → IsPlanFor rule before work workers start
     → Obeys before work start
@@ -53,25 +48,19 @@ planned_obeys rule before work (Some k) start planned =
     let list = by.1 in
     list.within.obeys
 
-pub told_text : (rule : Rule) (hierarchy_file trace_file : List ℕ) (workers : Option ℕ) (by_name : Bool) (layout : Hierarchy) (trace : Arrivals) (assigned starts text : List ℕ)
-    → Accepts hierarchy_file trace_file layout trace assigned
-    → TicksAddUp (IsOrdered layout.tree assigned) (work_of_trace trace)
-    → IsPlanFor rule (IsOrdered layout.tree assigned) (work_of_trace trace) workers (start_of starts)
-    → IsTold by_name layout.tree assigned trace.messages (timings_of trace.messages) starts text
-    → IsWaitsText rule hierarchy_file trace_file workers by_name text
-told_text rule hierarchy_file trace_file workers by_name layout trace assigned starts text accepts adds planned told = record {
-  layout = layout;
-  trace = trace;
-  assigned = assigned;
+pub told_text : (rule : Rule) (workers : Option ℕ) (by_name : Bool) (instance : Instance) (starts text : List ℕ)
+    → TicksAddUp (before_in instance) (work_of_instance instance)
+    → IsPlanFor rule (before_in instance) (work_of_instance instance) workers (start_of starts)
+    → IsTold by_name instance (timings_of instance.trace.messages) starts text → TellsWaits rule workers by_name instance text
+told_text rule workers by_name instance starts text adds planned told = record {
   starts = starts;
   waits = told.0;
   rows = told.1;
-  accepts = accepts;
   planned = planned;
   are_waits = told.2;
   are_rows = told.3;
-  adds_up = adds (are_alike by_name assigned (message_names trace.messages)) (start_of starts) told.0 told.1 told.2
-      (planned_obeys rule (IsOrdered layout.tree assigned) (work_of_trace trace) workers (start_of starts) planned) told.3;
+  adds_up = adds (are_alike by_name instance.assigned (message_names instance.trace.messages)) (start_of starts) told.0 told.1 told.2
+      (planned_obeys rule (before_in instance) (work_of_instance instance) workers (start_of starts) planned) told.3;
   lines = told.4;
 }
 
@@ -81,28 +70,21 @@ same_plan : (rule : Rule) (before : Relation) (work : Work) → IsForward before
 same_plan rule before work forward runs None start other p q = least_is_one before work start other p q
 same_plan rule before work forward runs (Some k) start other p q = rule_plan_is_one before work forward runs rule k start other p q
 
--- the parts of a text
-abbrev IsWaited : Rule → Option ℕ → Bool → List ℕ → List Wait → List Row → List ℕ → Hierarchy → Arrivals → List ℕ → Type 0
-IsWaited rule workers by_name starts waits rows text layout trace assigned =
-    IsPlanFor rule (IsOrdered layout.tree assigned) (work_of_trace trace) workers (start_of starts)
-    × AreWaits (IsOrdered layout.tree assigned) (work_of_trace trace) (start_of starts) waits
-    × AreRows (are_alike by_name assigned (message_names trace.messages)) waits rows
-    × (text ≡ text_of (waits_lines by_name layout.tree assigned (message_names trace.messages) rows))
+waits_are_one : (rule : Rule) (workers : Option ℕ) (by_name : Bool) (instance : Instance) → IsForward (before_in instance) (work_of_instance instance)
+    → EachRuns (work_of_instance instance) → (text other : List ℕ) → TellsWaits rule workers by_name instance text → TellsWaits rule workers by_name instance other
+    → text ≡ other
+waits_are_one rule workers by_name instance forward runs text other p q =
+    let before = before_in instance in
+    let work = work_of_instance instance in
+    let names = message_names instance.trace.messages in
+    let plans = same_plan rule before work forward runs workers (start_of p.starts) (start_of q.starts) p.planned q.planned in
+    let rows = rows_are_one before work forward (are_alike by_name instance.assigned names) (start_of p.starts) (start_of q.starts) p.waits q.waits p.rows q.rows
+    (alike_laws by_name instance.assigned names) plans p.are_waits q.are_waits p.are_rows q.are_rows in
+    p.lines ∙ ap (λ rs. text_of (waits_lines by_name instance.tree instance.assigned names rs)) rows ∙ sym q.lines
 
 pub waits_text_is_one : (rule : Rule) (hierarchy_file trace_file : List ℕ) (workers : Option ℕ) (by_name : Bool) → WaitsTextIsOne rule hierarchy_file trace_file workers by_name
-waits_text_is_one rule hierarchy_file trace_file workers by_name text other p q =
-    let same = same_input hierarchy_file trace_file p.layout q.layout p.trace q.trace p.assigned q.assigned p.accepts q.accepts in
-    let told = moved_back (IsWaited rule workers by_name q.starts q.waits q.rows other) p.layout q.layout p.trace q.trace p.assigned q.assigned same
-    (q.planned, q.are_waits, q.are_rows, q.lines) in
-    let before = IsOrdered p.layout.tree p.assigned in
-    let work = work_of_trace p.trace in
-    let names = message_names p.trace.messages in
-    let forward = pairs_forward p.layout.tree p.assigned p.trace.messages p.accepts.assignment.count in
-    let plans = same_plan rule before work forward (trace_runs p.layout trace_file p.trace p.accepts.is_trace) workers (start_of p.starts) (start_of q.starts)
-    p.planned told.0 in
-    let rows = rows_are_one before work forward (are_alike by_name p.assigned names) (start_of p.starts) (start_of q.starts) p.waits q.waits p.rows q.rows
-    (alike_laws by_name p.assigned names) plans p.are_waits told.1 p.are_rows told.2 in
-    p.lines ∙ ap (λ rs. text_of (waits_lines by_name p.layout.tree p.assigned names rs)) rows ∙ sym told.3
+waits_text_is_one rule hierarchy_file trace_file workers by_name = told_is_one (TellsWaits rule workers by_name) hierarchy_file trace_file
+    (λ i accepts. waits_are_one rule workers by_name i (goes_forward hierarchy_file trace_file i accepts) (each_runs hierarchy_file trace_file i accepts))
 
 -- the lines of a sweep for as many workers are of the same plan
 module _ (rule : Rule) (before : Relation) (work : Work) (forward : IsForward before work) (runs : EachRuns work) (shortest : ℕ) (limit : Option ℕ) (start : ℕ → ℕ)
@@ -132,13 +114,12 @@ module _ (rule : Rule) (before : Relation) (work : Work) (forward : IsForward be
       by (inr (suc i, inside, is)) = absurd (omega (arith, inside))
 
 pub waits_are_swept : (rule : Rule) (hierarchy_file trace_file : List ℕ) (limit : Option ℕ) (by_name : Bool) → WaitsAreSwept rule hierarchy_file trace_file limit by_name
-waits_are_swept rule hierarchy_file trace_file limit by_name workers text sweep line told swept has for =
-    let same = same_input hierarchy_file trace_file told.layout swept.layout told.trace swept.trace told.assigned swept.assigned told.accepts swept.accepts in
-    let moved = moved_back (IsSwept rule workers swept.starts swept.listed swept.unlimited) told.layout swept.layout told.trace swept.trace told.assigned swept.assigned same
-    (swept.least, swept.are_listed, swept.are_unlimited) in
-    let before = IsOrdered told.layout.tree told.assigned in
-    let work = work_of_trace told.trace in
-    let forward = pairs_forward told.layout.tree told.assigned told.trace.messages told.accepts.assignment.count in
+waits_are_swept rule hierarchy_file trace_file limit by_name workers text sweep line p q has for =
+    let instance = p.instance in
+    let told = p.told in
+    let swept = told_swept rule hierarchy_file trace_file workers sweep instance p.accepts q in
+    let work = work_of_instance instance in
     told.adds_up
-    ∙ waits_in_line rule before work forward (trace_runs told.layout trace_file told.trace told.accepts.is_trace) (length_of work (start_of swept.starts)) limit
-    (start_of told.starts) told.planned line workers swept.starts swept.listed swept.unlimited moved.0 moved.1 moved.2 has for
+    ∙ waits_in_line rule (before_in instance) work (goes_forward hierarchy_file trace_file instance p.accepts) (each_runs hierarchy_file trace_file instance p.accepts)
+    (length_of work (start_of q.told.starts)) limit (start_of told.starts) told.planned line workers q.told.starts q.told.listed q.told.unlimited
+    swept.0 swept.1 swept.2 has for

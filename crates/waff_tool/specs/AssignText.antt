@@ -2,13 +2,11 @@
 use Rattle.std.specs.Prelude.{◌≡◌, ℕ, ◌-◌, List, [], ◌∷◌, length, map, option_map, unwrap_or}
 use Rattle.std.specs.Prelude.{codes, decimal, slice_get}
 use Rattle.std.specs.List.{range_with_len}
-use Rattle.waff_model.specs.Layout.{Hierarchy}
-use Rattle.waff_model.specs.Messages.{Arrivals}
-use Rattle.waff_model.specs.Tree.{Node}
 use Rattle.waff_model.specs.declared.message.Message.{Message}
+use Rattle.waff_assign.specs.Instance.{Instance}
 use Rattle.waff_assign.specs.Order.{affinity_name}
 use Rattle.waff_plan_text.specs.Lines.{text_of}
-use Rattle.waff_inputs.specs.Inputs.{Accepts}
+use Rattle.waff_inputs.specs.Inputs.{IsToldOf}
 
 -- the header
 abbrev pub assign_header : List (List ℕ)
@@ -20,19 +18,22 @@ message_name messages n =
     unwrap_or (option_map (λ message. message.name) (slice_get messages (n - 1))) []
 
 -- the line of message n: its number, its name, and the name of its affinity
-abbrev pub assign_row : List Node → List Message → List ℕ → ℕ → List (List ℕ)
-assign_row tree messages assigned n =
-    decimal n ∷ message_name messages n ∷ affinity_name tree assigned n ∷ []
+abbrev pub assign_row : Instance → ℕ → List (List ℕ)
+assign_row instance n =
+    decimal n ∷ message_name instance.trace.messages n
+    ∷ affinity_name instance.tree instance.assigned n ∷ []
 
 -- the lines of an assignment
-abbrev pub assign_lines : List Node → List Message → List ℕ → List (List (List ℕ))
-assign_lines tree messages assigned =
-    assign_header ∷ map (assign_row tree messages assigned) (range_with_len 1 (length messages))
+abbrev pub assign_lines : Instance → List (List (List ℕ))
+assign_lines instance =
+    assign_header
+    ∷ map (assign_row instance) (range_with_len 1 (length instance.trace.messages))
 
--- the text of the affinities of a hierarchy and a trace
-pub record IsAssignText (hierarchy_file trace_file text : List ℕ) : Type 0 where
-  pub layout : Hierarchy
-  pub trace : Arrivals
-  pub assigned : List ℕ
-  pub accepts : Accepts hierarchy_file trace_file layout trace assigned
-  pub lines : text ≡ text_of (assign_lines layout.tree trace.messages assigned)
+-- the text of an assignment
+abbrev pub TellsAssignment : Instance → List ℕ → Type 0
+TellsAssignment instance text = text ≡ text_of (assign_lines instance)
+
+-- that of a hierarchy and a trace
+abbrev pub IsAssignText : List ℕ → List ℕ → List ℕ → Type 0
+IsAssignText hierarchy_file trace_file text =
+    IsToldOf TellsAssignment hierarchy_file trace_file text

@@ -4,10 +4,11 @@ use Rattle.waff_model.specs.Layout.{Hierarchy}
 use Rattle.waff_model.specs.Messages.{Arrivals}
 use Rattle.waff_read.specs.Hierarchies.{hierarchy_of}
 use Rattle.waff_read.specs.Traces.{trace_of}
+use Rattle.waff_assign.specs.Instance.{Instance}
 use Rattle.waff_plan_text.specs.Given.{Given}
 use Rattle.waff_plan_text.specs.PlanTexts.{plan_of}
 use Rattle.waff_check.specs.Promises.{Promises}
-use Rattle.waff_check.specs.Verdicts.{IsVerdict, claim_of}
+use Rattle.waff_check.specs.Verdicts.{Claim, IsVerdict, claim_of}
 use Rattle.waff_plan_text.specs.declared.refusal.PlanTextError.{PlanTextError}
 use Rattle.waff_check.specs.declared.verdict.Verdict.{Verdict}
 use Rattle.waff_check.specs.declared.verdict.Verdict.TheVariants as verdict
@@ -42,17 +43,25 @@ status_after verdict.Shortest = 0
 status_after verdict.WithinBound = 0
 status_after _ = 1
 
--- bytes that are a hierarchy, a trace over it and the text of a plan for its messages; the verdict
--- on that plan, and what the verdict implies
+-- bytes that are a hierarchy, a trace over it and the text of a plan for its messages
+pub record AcceptsPlan (hierarchy_file trace_file plan_file : List ℕ) (instance : Instance)
+    (given : Given) : Type 0 where
+  pub accepts : Accepts hierarchy_file trace_file instance
+  pub is_plan : plan_of instance.trace.version (length instance.trace.messages) plan_file
+      ≡ Ok given
+
+-- the claim that is made by handing in a plan for an instance
+abbrev pub claim_on : Instance → Given → Claim
+claim_on instance given =
+    claim_of instance.tree instance.assigned instance.trace.messages given
+
+-- the verdict on the plan of a text, and what the verdict implies
 pub record IsCheckText (hierarchy_file trace_file plan_file : List ℕ) (v : Verdict) : Type 0 where
-  pub layout : Hierarchy
-  pub trace : Arrivals
-  pub assigned : List ℕ
+  pub instance : Instance
   pub given : Given
-  pub accepts : Accepts hierarchy_file trace_file layout trace assigned
-  pub is_plan : plan_of trace.version (length trace.messages) plan_file ≡ Ok given
-  pub verdict : IsVerdict (claim_of layout.tree assigned trace.messages given) v
-  pub promises : Promises (claim_of layout.tree assigned trace.messages given) v
+  pub accepts : AcceptsPlan hierarchy_file trace_file plan_file instance given
+  pub verdict : IsVerdict (claim_on instance given) v
+  pub promises : Promises (claim_on instance given) v
 
 -- the hierarchy and the trace are accepted, and the text of the plan is refused
 pub record RefusesPlan (hierarchy_file trace_file plan_file : List ℕ)

@@ -11,6 +11,7 @@ use Rattle.waff_read.specs.Hierarchies.{hierarchy_of}
 use Rattle.waff_read.specs.Traces.{trace_of}
 use Rattle.waff_assign.specs.Lowest.{IsAssignment}
 use Rattle.waff_assign.specs.Order.{IsOrdered, Refines, Relation}
+use Rattle.waff_plan.specs.Timetable.{work_of_messages}
 use Rattle.waff_plan.specs.Timing.{start_of}
 use Rattle.waff_plan.specs.Totals.{totals_of}
 use Rattle.waff_plan.specs.Work.{Work, total_of}
@@ -18,7 +19,6 @@ use Rattle.waff_plan.specs.declared.totals.Totals.{Totals}
 use Rattle.waff_list.specs.declared.rule.Rule.TheVariants.{Arrival}
 use Rattle.waff_inputs.specs.Inputs.{RefusesHierarchy}
 use Rattle.waff_tool.specs.Certificates.{IsBounded, IsCertified}
-use Rattle.waff_tool.specs.PlanText.{work_of_trace}
 use Rattle.waff_plan_text.specs.Lines.{text_of}
 use Rattle.waff_inputs.specs.declared.fault.ToolError.{ToolError}
 use Rattle.waff_inputs.specs.declared.fault.ToolError.TheVariants as tool
@@ -94,7 +94,7 @@ pub record AreAssignedAndMeasured (layout : Hierarchy) (trace : Arrivals) (k : �
     (made : List ℕ × Measured) : Type 0 where
   pub assignment : IsAssignment layout trace.messages made.0
   pub known : All (λ a. a < length layout.tree) made.0
-  pub measured : IsMeasured layout made.0 (work_of_trace trace) k made.1
+  pub measured : IsMeasured layout made.0 (work_of_messages trace.messages) k made.1
 
 -- the text of the comparison of a classical and a hierarchical hierarchy on a trace: it tells
 -- whether the hierarchical one refines the classical one, and where it does its least plan is no
@@ -108,12 +108,12 @@ pub record IsCompared (classical hierarchical : Hierarchy)
   pub refined : Bool
   pub coarse_assignment : IsAssignment classical trace.messages coarse
   pub fine_assignment : IsAssignment hierarchical trace.messages fine
-  pub classical_measured : IsMeasured classical coarse (work_of_trace trace) k of_classical
-  pub hierarchical_measured : IsMeasured hierarchical fine (work_of_trace trace) k of_hierarchical
+  pub classical_measured : IsMeasured classical coarse (work_of_messages trace.messages) k of_classical
+  pub hierarchical_measured : IsMeasured hierarchical fine (work_of_messages trace.messages) k of_hierarchical
   pub told : IsTrue refined ↔ Refines hierarchical.tree fine classical.tree coarse
   pub no_longer : IsTrue refined → of_hierarchical.unlimited.length ≤ of_classical.unlimited.length
   pub lines : text ≡ text_of (compare_lines trace.version k
-      (total_of (work_of_trace trace)) of_classical of_hierarchical refined)
+      (total_of (work_of_messages trace.messages)) of_classical of_hierarchical refined)
 
 -- two files that are a classical and a hierarchical hierarchy, in either order, of the same spaces
 pub record AreModels (first_file second_file : List ℕ)

@@ -1,14 +1,12 @@
 -- What the picture of a plan text is.
-use Rattle.std.specs.Prelude.{◌≡◌, ℕ, List, length, Ok}
-use Rattle.waff_model.specs.Layout.{Hierarchy}
-use Rattle.waff_model.specs.Messages.{Arrivals}
+use Rattle.std.specs.Prelude.{◌≡◌, ℕ, List}
+use Rattle.waff_assign.specs.Instance.{Instance}
 use Rattle.waff_plan_text.specs.Given.{Given}
-use Rattle.waff_plan_text.specs.PlanTexts.{plan_of}
 use Rattle.waff_draw.specs.Events.{events_text}
 use Rattle.waff_draw.specs.Scene.{Scene, scene_of}
 use Rattle.waff_draw.specs.Svg.{svg_text}
 use Rattle.waff_draw.specs.declared.parts.Part.{Part}
-use Rattle.waff_inputs.specs.Inputs.{Accepts}
+use Rattle.waff_tool.specs.CheckText.{AcceptsPlan}
 use Rattle.waff_tool.specs.declared.draws.Picture.{Picture}
 use Rattle.waff_tool.specs.declared.draws.Picture.TheVariants as picture
 
@@ -17,17 +15,14 @@ abbrev pub picture_of : Picture → Scene → List ℕ
 picture_of picture.Svg scene = svg_text scene
 picture_of picture.TraceEvents scene = events_text scene
 
--- bytes that are a hierarchy, a trace over it and the text of a plan for its messages, and the
--- picture of a part of that plan
+-- the picture of a part of the plan of a text
 pub record IsDrawText (hierarchy_file trace_file plan_file : List ℕ)
     (picture : Picture) (part : Part) (text : List ℕ) : Type 0 where
-  pub layout : Hierarchy
-  pub trace : Arrivals
-  pub assigned : List ℕ
+  pub instance : Instance
   pub given : Given
-  pub accepts : Accepts hierarchy_file trace_file layout trace assigned
-  pub is_plan : plan_of trace.version (length trace.messages) plan_file ≡ Ok given
-  pub drawn : text ≡ picture_of picture (scene_of layout.tree assigned trace.messages given part)
+  pub accepts : AcceptsPlan hierarchy_file trace_file plan_file instance given
+  pub drawn : text ≡ picture_of picture
+      (scene_of instance.tree instance.assigned instance.trace.messages given part)
 
 -- two pictures of a part of a plan text of a hierarchy and a trace are equal
 abbrev pub DrawTextIsOne : List ℕ → List ℕ → List ℕ → Picture → Part → Type 0

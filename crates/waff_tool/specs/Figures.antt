@@ -1,10 +1,9 @@
 -- What the sweep over numbers of workers prints for the bytes of its files, and what tells where
 -- the time goes.
 use Rattle.std.specs.Prelude.{◌≡◌, ℕ, Bool, true, false, List, None}
-use Rattle.waff_model.specs.Layout.{Hierarchy}
-use Rattle.waff_model.specs.Messages.{Arrivals}
-use Rattle.waff_assign.specs.Order.{IsOrdered}
+use Rattle.waff_assign.specs.Instance.{Instance, before_in}
 use Rattle.waff_plan.specs.Obeys.{IsLeast}
+use Rattle.waff_plan.specs.Instances.{work_of_instance}
 use Rattle.waff_plan.specs.Timing.{start_of}
 use Rattle.waff_plan.specs.Work.{length_of}
 use Rattle.waff_list.specs.declared.rule.Rule.{Rule}
@@ -16,64 +15,64 @@ use Rattle.waff_figures.specs.Least.{IsLowerBound}
 use Rattle.waff_figures.specs.Laws.{ChainAddsUp, CostsAddUp, NamesAddUp}
 use Rattle.waff_figures.specs.Sweep.{AreListed, sweep_lines}
 use Rattle.waff_figures.specs.declared.figures.Figures.{Figures}
+use Rattle.waff_inputs.specs.Inputs.{IsToldOf}
 use Rattle.waff_tool.specs.Certificates.{IsCertified}
-use Rattle.waff_inputs.specs.Inputs.{Accepts}
-use Rattle.waff_tool.specs.PlanText.{work_of_trace}
 
 -- the text of a sweep: the figures of the plan by this rule for each of these numbers of workers, and
 -- those of the least plan; no obeying plan for as many workers is shorter than the `least` of a line
-pub record IsSweepText (rule : Rule) (hierarchy_file trace_file workers text : List ℕ)
+pub record TellsSweep (rule : Rule) (workers : List ℕ) (instance : Instance) (text : List ℕ)
     : Type 0 where
-  pub layout : Hierarchy
-  pub trace : Arrivals
-  pub assigned : List ℕ
   pub starts : List ℕ
   pub listed : List Figures
   pub unlimited : Figures
-  pub accepts : Accepts hierarchy_file trace_file layout trace assigned
-  pub least : IsLeast (IsOrdered layout.tree assigned) (work_of_trace trace) (start_of starts)
-  pub are_listed : AreListed rule (IsOrdered layout.tree assigned)
-      (work_of_trace trace) (length_of (work_of_trace trace) (start_of starts)) workers listed
-  pub are_unlimited : AreFigures None (work_of_trace trace)
-      (length_of (work_of_trace trace) (start_of starts)) (start_of starts) unlimited
-  pub bound : IsLowerBound None (IsOrdered layout.tree assigned) (work_of_trace trace) unlimited.least
+  pub least : IsLeast (before_in instance) (work_of_instance instance) (start_of starts)
+  pub are_listed : AreListed rule (before_in instance) (work_of_instance instance)
+      (length_of (work_of_instance instance) (start_of starts)) workers listed
+  pub are_unlimited : AreFigures None (work_of_instance instance)
+      (length_of (work_of_instance instance) (start_of starts)) (start_of starts) unlimited
+  pub bound : IsLowerBound None (before_in instance) (work_of_instance instance) unlimited.least
   pub lines : text ≡ text_of (sweep_lines listed unlimited)
+
+-- that of a hierarchy and a trace
+abbrev pub IsSweepText : Rule → List ℕ → List ℕ → List ℕ → List ℕ → Type 0
+IsSweepText rule hierarchy_file trace_file workers text =
+    IsToldOf (TellsSweep rule workers) hierarchy_file trace_file text
 
 -- the text of where the time goes by affinity, with the printed chain of the least plan; its
 -- columns add up to the total and to the cost of the chain
-pub record IsAffinitiesText (hierarchy_file trace_file text : List ℕ) : Type 0 where
-  pub layout : Hierarchy
-  pub trace : Arrivals
-  pub assigned : List ℕ
+pub record TellsAffinities (instance : Instance) (text : List ℕ) : Type 0 where
   pub starts : List ℕ
   pub chain : List ℕ
   pub below : List ℕ
-  pub accepts : Accepts hierarchy_file trace_file layout trace assigned
-  pub certified : IsCertified (IsOrdered layout.tree assigned)
-      (work_of_trace trace) (start_of starts) chain
-  pub are_below : AreCostsBelow layout.tree assigned (work_of_trace trace) below
-  pub costs_add_up : CostsAddUp layout.tree assigned (work_of_trace trace) chain
-  pub chain_adds_up : ChainAddsUp layout.tree assigned (work_of_trace trace) chain
-  pub lines : text ≡ text_of (affinities_lines layout.tree assigned (work_of_trace trace) chain below)
+  pub certified : IsCertified (before_in instance)
+      (work_of_instance instance) (start_of starts) chain
+  pub are_below : AreCostsBelow instance.tree instance.assigned (work_of_instance instance) below
+  pub costs_add_up : CostsAddUp instance.tree instance.assigned (work_of_instance instance) chain
+  pub chain_adds_up : ChainAddsUp instance.tree instance.assigned (work_of_instance instance) chain
+  pub lines : text ≡ text_of (affinities_lines instance.tree instance.assigned
+      (work_of_instance instance) chain below)
 
 -- the text of where the time goes by the names of messages; its columns add up to the messages, the
 -- total and the cost of the chain
-pub record IsNamesText (hierarchy_file trace_file text : List ℕ) : Type 0 where
-  pub layout : Hierarchy
-  pub trace : Arrivals
-  pub assigned : List ℕ
+pub record TellsNames (instance : Instance) (text : List ℕ) : Type 0 where
   pub starts : List ℕ
   pub chain : List ℕ
-  pub accepts : Accepts hierarchy_file trace_file layout trace assigned
-  pub certified : IsCertified (IsOrdered layout.tree assigned)
-      (work_of_trace trace) (start_of starts) chain
-  pub names_add_up : NamesAddUp (message_names trace.messages) (work_of_trace trace) chain
-  pub lines : text ≡ text_of (names_lines (message_names trace.messages) (work_of_trace trace) chain)
+  pub certified : IsCertified (before_in instance)
+      (work_of_instance instance) (start_of starts) chain
+  pub names_add_up : NamesAddUp (message_names instance.trace.messages)
+      (work_of_instance instance) chain
+  pub lines : text ≡ text_of (names_lines (message_names instance.trace.messages)
+      (work_of_instance instance) chain)
 
 -- the text of where the time goes, by affinity or by name
+abbrev pub TellsWhere : Bool → Instance → List ℕ → Type 0
+TellsWhere false instance text = TellsAffinities instance text
+TellsWhere true instance text = TellsNames instance text
+
+-- that of a hierarchy and a trace
 abbrev pub IsWhereText : List ℕ → List ℕ → Bool → List ℕ → Type 0
-IsWhereText hierarchy_file trace_file false text = IsAffinitiesText hierarchy_file trace_file text
-IsWhereText hierarchy_file trace_file true text = IsNamesText hierarchy_file trace_file text
+IsWhereText hierarchy_file trace_file by_name text =
+    IsToldOf (TellsWhere by_name) hierarchy_file trace_file text
 
 -- two texts of a sweep of a hierarchy and a trace by the same rule for the same numbers of workers
 -- are equal

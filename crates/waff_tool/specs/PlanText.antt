@@ -1,59 +1,51 @@
 -- What `plan` prints for the bytes of its files.
 use Rattle.std.specs.Prelude.{◌≡◌, ℕ, List, Option, Some, None}
-use Rattle.waff_model.specs.Layout.{Hierarchy}
-use Rattle.waff_model.specs.Messages.{Arrivals}
-use Rattle.waff_assign.specs.Order.{IsOrdered}
-use Rattle.waff_plan.specs.Timetable.{work_of_messages}
+use Rattle.waff_assign.specs.Instance.{Instance, before_in}
+use Rattle.waff_plan.specs.Instances.{work_of_instance}
 use Rattle.waff_plan.specs.Timing.{start_of}
-use Rattle.waff_plan.specs.Work.{Work, IsNumber}
 use Rattle.waff_list.specs.Seating.{worker_of}
-use Rattle.waff_list.specs.Seats.{IsSeated}
+use Rattle.waff_list.specs.Unique.{AreSeated}
 use Rattle.waff_list.specs.declared.rule.Rule.{Rule}
 use Rattle.waff_plan_text.specs.Lines.{text_of}
-use Rattle.waff_inputs.specs.Inputs.{Accepts}
-use Rattle.waff_tool.specs.Certificates.{IsBounded, IsCertified}
 use Rattle.waff_plan_text.specs.Spelling.{unlimited_lines, worker_lines}
+use Rattle.waff_inputs.specs.Inputs.{IsToldOf}
+use Rattle.waff_tool.specs.Certificates.{IsBounded, IsCertified}
 
--- the work that the messages of a trace are
-abbrev pub work_of_trace : Arrivals → Work
-work_of_trace trace = work_of_messages trace.messages
-
--- the text of the least plan of a hierarchy and a trace, with the chain that shows that no obeying
--- plan is shorter
-pub record IsPlanText (hierarchy_file trace_file text : List ℕ) : Type 0 where
-  pub layout : Hierarchy
-  pub trace : Arrivals
-  pub assigned : List ℕ
+-- the text of the least plan of an instance, with the chain that shows that no obeying plan is
+-- shorter
+pub record TellsLeastPlan (instance : Instance) (text : List ℕ) : Type 0 where
   pub starts : List ℕ
   pub chain : List ℕ
-  pub accepts : Accepts hierarchy_file trace_file layout trace assigned
-  pub certified : IsCertified (IsOrdered layout.tree assigned)
-      (work_of_trace trace) (start_of starts) chain
-  pub lines : text ≡ text_of
-      (unlimited_lines trace.version layout.tree assigned (work_of_trace trace) (start_of starts) chain)
+  pub certified : IsCertified (before_in instance)
+      (work_of_instance instance) (start_of starts) chain
+  pub lines : text ≡ text_of (unlimited_lines instance.trace.version
+      instance.tree instance.assigned (work_of_instance instance) (start_of starts) chain)
 
--- the text of the plan by this rule of a hierarchy and a trace for k workers, with the chain that
--- bounds its length
-pub record IsWorkerPlanText (rule : Rule) (hierarchy_file trace_file : List ℕ) (k : ℕ)
-    (text : List ℕ) : Type 0 where
-  pub layout : Hierarchy
-  pub trace : Arrivals
-  pub assigned : List ℕ
+-- the text of the plan by this rule for k workers, with the chain that bounds its length
+pub record TellsWorkerPlan (rule : Rule) (k : ℕ) (instance : Instance) (text : List ℕ) : Type 0 where
   pub starts : List ℕ
   pub workers : List ℕ
   pub chain : List ℕ
-  pub accepts : Accepts hierarchy_file trace_file layout trace assigned
-  pub bounded : IsBounded rule (IsOrdered layout.tree assigned)
-      (work_of_trace trace) k (start_of starts) chain
-  pub seated : (m : ℕ) → IsNumber (work_of_trace trace) m
-      → IsSeated (work_of_trace trace) (start_of starts) (worker_of workers) m
-  pub lines : text ≡ text_of
-      (worker_lines trace.version layout.tree assigned
-      (work_of_trace trace) k (start_of starts) workers chain)
+  pub bounded : IsBounded rule (before_in instance)
+      (work_of_instance instance) k (start_of starts) chain
+  pub seated : AreSeated (work_of_instance instance) (start_of starts) (worker_of workers)
+  pub lines : text ≡ text_of (worker_lines instance.trace.version
+      instance.tree instance.assigned (work_of_instance instance) k (start_of starts) workers chain)
 
 -- the text of the plan by this rule for this number of workers, or of the least plan, whatever the
 -- rule, where there is no number
+abbrev pub TellsPlan : Rule → Option ℕ → Instance → List ℕ → Type 0
+TellsPlan rule None instance text = TellsLeastPlan instance text
+TellsPlan rule (Some k) instance text = TellsWorkerPlan rule k instance text
+
+-- the text of such a plan of a hierarchy and a trace
+abbrev pub IsPlanText : List ℕ → List ℕ → List ℕ → Type 0
+IsPlanText hierarchy_file trace_file text = IsToldOf TellsLeastPlan hierarchy_file trace_file text
+
+abbrev pub IsWorkerPlanText : Rule → List ℕ → List ℕ → ℕ → List ℕ → Type 0
+IsWorkerPlanText rule hierarchy_file trace_file k text =
+    IsToldOf (TellsWorkerPlan rule k) hierarchy_file trace_file text
+
 abbrev pub IsPlanTextFor : Rule → List ℕ → List ℕ → Option ℕ → List ℕ → Type 0
-IsPlanTextFor rule hierarchy_file trace_file None text = IsPlanText hierarchy_file trace_file text
-IsPlanTextFor rule hierarchy_file trace_file (Some k) text =
-    IsWorkerPlanText rule hierarchy_file trace_file k text
+IsPlanTextFor rule hierarchy_file trace_file workers text =
+    IsToldOf (TellsPlan rule workers) hierarchy_file trace_file text

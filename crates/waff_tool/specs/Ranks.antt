@@ -4,11 +4,13 @@ use Rattle.std.specs.Prelude.{length, slice_index_or, take}
 use Rattle.std.specs.List.{AllZip}
 use Rattle.waff_model.specs.Layout.{Hierarchy}
 use Rattle.waff_model.specs.Messages.{Arrivals}
+use Rattle.waff_model.specs.declared.kind.Kind.{Kind}
 use Rattle.waff_read.specs.Hierarchies.{hierarchy_of}
 use Rattle.waff_read.specs.Traces.{trace_of}
 use Rattle.waff_read.specs.declared.hier_error.HierError.{HierError}
 use Rattle.waff_read.specs.declared.trace_fault.TraceError.{TraceError}
-use Rattle.waff_assign.specs.Order.{IsOrdered}
+use Rattle.waff_assign.specs.Instance.{Instance, before_in}
+use Rattle.waff_plan.specs.Instances.{work_of_instance}
 use Rattle.waff_plan.specs.Obeys.{IsLeast}
 use Rattle.waff_plan.specs.Timing.{start_of}
 use Rattle.waff_plan.specs.Work.{length_of}
@@ -20,30 +22,27 @@ use Rattle.waff_inputs.specs.declared.fault.ToolError.{ToolError}
 use Rattle.waff_inputs.specs.declared.fault.ToolError.TheVariants as tool
 use Rattle.waff_tool.specs.Comparison.{kind_field}
 use Rattle.waff_tool.specs.Figures.{IsSweepText}
-use Rattle.waff_tool.specs.PlanText.{work_of_trace}
 use Rattle.waff_tool.specs.declared.ranks.Ranked.{Ranked}
 
 -- what is told of a trace under a hierarchy: its model, how many affinities it has, how long its
 -- least plan is, and the figures of the plan by this rule for k workers
-pub record IsRankedUnder (rule : Rule) (layout : Hierarchy) (trace : Arrivals) (assigned : List ℕ)
-    (k : ℕ) (ranked : Ranked) : Type 0 where
+pub record IsRankedUnder (rule : Rule) (kind : Kind) (k : ℕ) (instance : Instance)
+    (ranked : Ranked) : Type 0 where
   pub starts : List ℕ
-  pub kind : ranked.kind ≡ layout.kind
-  pub affinities : ranked.affinities ≡ length layout.tree
-  pub least : IsLeast (IsOrdered layout.tree assigned) (work_of_trace trace) (start_of starts)
-  pub shortest : ranked.length ≡ length_of (work_of_trace trace) (start_of starts)
-  pub listed : IsListed rule (IsOrdered layout.tree assigned)
-      (work_of_trace trace) ranked.length ranked.listed
+  pub kind_is : ranked.kind ≡ kind
+  pub affinities : ranked.affinities ≡ length instance.tree
+  pub least : IsLeast (before_in instance) (work_of_instance instance) (start_of starts)
+  pub shortest : ranked.length ≡ length_of (work_of_instance instance) (start_of starts)
+  pub listed : IsListed rule (before_in instance)
+      (work_of_instance instance) ranked.length ranked.listed
   pub workers : ranked.listed.workers ≡ Some k
 
 -- what is told of the bytes of a trace under those of a hierarchy
 pub record IsRanked (rule : Rule) (trace_file : List ℕ) (k : ℕ) (hierarchy_file : List ℕ)
     (ranked : Ranked) : Type 0 where
-  pub layout : Hierarchy
-  pub trace : Arrivals
-  pub assigned : List ℕ
-  pub accepts : Accepts hierarchy_file trace_file layout trace assigned
-  pub under : IsRankedUnder rule layout trace assigned k ranked
+  pub instance : Instance
+  pub accepts : Accepts hierarchy_file trace_file instance
+  pub under : IsRankedUnder rule accepts.layout.kind k instance ranked
 
 abbrev pub rank_header : List (List ℕ)
 rank_header =
@@ -147,4 +146,4 @@ abbrev pub IsRankedAsSwept : Rule → List ℕ → List ℕ → Type 0
 IsRankedAsSwept rule hierarchy_file trace_file =
     (k : ℕ) (ranked : Ranked) (text : List ℕ) → IsRanked rule trace_file k hierarchy_file ranked
     → (swept : IsSweepText rule hierarchy_file trace_file (k ∷ []) text)
-    → swept.listed ≡ ranked.listed ∷ []
+    → swept.told.listed ≡ ranked.listed ∷ []

@@ -1,11 +1,14 @@
 -- What `rate` tells of a plan that is handed in.
 use Rattle.std.specs.Prelude.{◌≡◌, ℕ, List, Option, ◌∷◌, Contains, codes}
-use Rattle.waff_assign.specs.Order.{IsOrdered, Relation}
+use Rattle.waff_assign.specs.Instance.{Instance, before_in}
+use Rattle.waff_assign.specs.Order.{Relation}
 use Rattle.waff_plan.specs.Bound.{IsWorkers}
+use Rattle.waff_plan.specs.Instances.{work_of_instance}
 use Rattle.waff_plan.specs.Obeys.{IsLeast}
 use Rattle.waff_plan.specs.Timing.{start_of}
 use Rattle.waff_plan.specs.Work.{Work, length_of}
 use Rattle.waff_list.specs.declared.rule.Rule.{Rule}
+use Rattle.waff_plan_text.specs.Given.{Given}
 use Rattle.waff_plan_text.specs.Lines.{text_of}
 use Rattle.waff_check.specs.Verdicts.{starts_of}
 use Rattle.waff_check.specs.declared.verdict.Verdict.{Verdict}
@@ -15,7 +18,7 @@ use Rattle.waff_figures.specs.Rate.{rate_lines}
 use Rattle.waff_figures.specs.declared.figures.Figures.{Figures}
 use Rattle.waff_tool.specs.CheckText.{IsCheckText, verdict_fields}
 use Rattle.waff_tool.specs.Figures.{IsSweepText}
-use Rattle.waff_tool.specs.PlanText.{IsPlanText, IsWorkerPlanText, work_of_trace}
+use Rattle.waff_tool.specs.PlanText.{IsPlanText, IsWorkerPlanText}
 
 -- the figures of a plan with these starts, whoever made it, against the least plan; no obeying plan for
 -- as many workers is shorter than `least`
@@ -25,6 +28,11 @@ pub record AreRated (before : Relation) (work : Work) (limit : Option ℕ) (star
   pub least : IsLeast before work (start_of starts)
   pub are_figures : AreFigures limit work (length_of work (start_of starts)) start figures
   pub bound : IsLowerBound limit before work figures.least
+
+-- that of a plan that is given
+abbrev pub IsRated : Instance → Given → Figures → Type 0
+IsRated instance given figures = AreRated (before_in instance) (work_of_instance instance)
+    given.summary.workers (start_of (starts_of given)) figures
 
 -- the lines of a verdict and of the figures of a plan
 abbrev pub rated_lines : Verdict → Figures → List (List (List ℕ))
@@ -36,8 +44,7 @@ pub record IsRateText (hierarchy_file trace_file plan_file : List ℕ) (v : Verd
     (text : List ℕ) : Type 0 where
   pub checked : IsCheckText hierarchy_file trace_file plan_file v
   pub figures : Figures
-  pub rated : AreRated (IsOrdered checked.layout.tree checked.assigned) (work_of_trace checked.trace)
-      checked.given.summary.workers (start_of (starts_of checked.given)) figures
+  pub rated : IsRated checked.instance checked.given figures
   pub lines : text ≡ text_of (rated_lines v figures)
 
 -- two texts that tell how good the plan of a text is are equal
@@ -62,7 +69,7 @@ OwnPlanIsSwept rule hierarchy_file trace_file =
     → IsPlanText hierarchy_file trace_file plan_file
     → (rate : IsRateText hierarchy_file trace_file plan_file v text)
     → (swept : IsSweepText rule hierarchy_file trace_file workers sweep)
-    → rate.figures ≡ swept.unlimited
+    → rate.figures ≡ swept.told.unlimited
 
 -- of the text of a plan for k workers they are those of a line of a sweep by the same rule
 abbrev pub OwnWorkerPlanIsSwept : Rule → List ℕ → List ℕ → Type 0
@@ -71,4 +78,4 @@ OwnWorkerPlanIsSwept rule hierarchy_file trace_file =
     → Contains workers k → IsWorkerPlanText rule hierarchy_file trace_file k plan_file
     → (rate : IsRateText hierarchy_file trace_file plan_file v text)
     → (swept : IsSweepText rule hierarchy_file trace_file workers sweep)
-    → Contains swept.listed rate.figures
+    → Contains swept.told.listed rate.figures

@@ -1,9 +1,9 @@
 -- What `waits` prints for the bytes of its files.
 use Rattle.std.specs.Prelude.{◌≡◌, ℕ, Bool, List, [], ◌∷◌, ◌++◌, Option, Some, None, Contains, sum_by}
-use Rattle.waff_model.specs.Layout.{Hierarchy}
-use Rattle.waff_model.specs.Messages.{Arrivals}
-use Rattle.waff_assign.specs.Order.{IsOrdered, Relation}
+use Rattle.waff_assign.specs.Instance.{Instance, before_in}
+use Rattle.waff_assign.specs.Order.{Relation}
 use Rattle.waff_plan.specs.Obeys.{IsLeast}
+use Rattle.waff_plan.specs.Instances.{work_of_instance}
 use Rattle.waff_plan.specs.Timing.{start_of}
 use Rattle.waff_plan.specs.Work.{Work}
 use Rattle.waff_list.specs.Rules.{IsPlanBy}
@@ -17,9 +17,8 @@ use Rattle.waff_figures.specs.WaitText.{are_alike, waits_lines}
 use Rattle.waff_figures.specs.declared.figures.Figures.{Figures}
 use Rattle.waff_figures.specs.declared.wait_rows.Row.{Row}
 use Rattle.waff_figures.specs.declared.waits.Wait.{Wait}
-use Rattle.waff_inputs.specs.Inputs.{Accepts}
+use Rattle.waff_inputs.specs.Inputs.{IsToldOf}
 use Rattle.waff_tool.specs.Figures.{IsSweepText}
-use Rattle.waff_tool.specs.PlanText.{work_of_trace}
 
 -- the plan by this rule for this number of workers, or the least plan, whatever the rule, where there
 -- is no number
@@ -30,23 +29,26 @@ IsPlanFor rule before work (Some k) start = IsPlanBy rule before work k start
 -- the text of who waits for whom in the plan by this rule for this number of workers or without: a
 -- line for each kind of wait, by affinity or by name, whose ticks add up to how long all messages
 -- wait
-pub record IsWaitsText (rule : Rule) (hierarchy_file trace_file : List ℕ) (workers : Option ℕ)
-    (by_name : Bool) (text : List ℕ) : Type 0 where
-  pub layout : Hierarchy
-  pub trace : Arrivals
-  pub assigned : List ℕ
+pub record TellsWaits (rule : Rule) (workers : Option ℕ) (by_name : Bool) (instance : Instance)
+    (text : List ℕ) : Type 0 where
   pub starts : List ℕ
   pub waits : List Wait
   pub rows : List Row
-  pub accepts : Accepts hierarchy_file trace_file layout trace assigned
-  pub planned : IsPlanFor rule (IsOrdered layout.tree assigned)
-      (work_of_trace trace) workers (start_of starts)
-  pub are_waits : AreWaits (IsOrdered layout.tree assigned)
-      (work_of_trace trace) (start_of starts) waits
-  pub are_rows : AreRows (are_alike by_name assigned (message_names trace.messages)) waits rows
-  pub adds_up : sum_by (λ row. row.ticks) rows ≡ waits_of (work_of_trace trace) (start_of starts)
-  pub lines : text ≡ text_of
-      (waits_lines by_name layout.tree assigned (message_names trace.messages) rows)
+  pub planned : IsPlanFor rule (before_in instance)
+      (work_of_instance instance) workers (start_of starts)
+  pub are_waits : AreWaits (before_in instance)
+      (work_of_instance instance) (start_of starts) waits
+  pub are_rows : AreRows
+      (are_alike by_name instance.assigned (message_names instance.trace.messages)) waits rows
+  pub adds_up : sum_by (λ row. row.ticks) rows
+      ≡ waits_of (work_of_instance instance) (start_of starts)
+  pub lines : text ≡ text_of (waits_lines by_name instance.tree instance.assigned
+      (message_names instance.trace.messages) rows)
+
+-- that of a hierarchy and a trace
+abbrev pub IsWaitsText : Rule → List ℕ → List ℕ → Option ℕ → Bool → List ℕ → Type 0
+IsWaitsText rule hierarchy_file trace_file workers by_name text =
+    IsToldOf (TellsWaits rule workers by_name) hierarchy_file trace_file text
 
 -- two texts of who waits for whom are equal
 abbrev pub WaitsTextIsOne : Rule → List ℕ → List ℕ → Option ℕ → Bool → Type 0
@@ -61,5 +63,5 @@ WaitsAreSwept rule hierarchy_file trace_file limit by_name =
     (workers text sweep : List ℕ) (line : Figures)
     → (told : IsWaitsText rule hierarchy_file trace_file limit by_name text)
     → (swept : IsSweepText rule hierarchy_file trace_file workers sweep)
-    → Contains (swept.listed ++ swept.unlimited ∷ []) line → line.workers ≡ limit
-    → sum_by (λ row. row.ticks) told.rows ≡ line.waits
+    → Contains (swept.told.listed ++ swept.told.unlimited ∷ []) line → line.workers ≡ limit
+    → sum_by (λ row. row.ticks) told.told.rows ≡ line.waits

@@ -3,7 +3,7 @@
 ghost use Rattle.std.specs.Prelude.{◌≡◌, ◌≢◌, ◌≤◌, IfErr, IfOk, length};
 ghost use Rattle.std.specs.Thread.{IsSync};
 ghost use Rattle.waff_model.specs.declared.limits.TheConstants.{MAX_MESSAGES};
-ghost use Rattle.waff_inputs.specs.Inputs.{Accepts, Refuses};
+ghost use Rattle.waff_inputs.specs.Inputs.{Accepts, Refuses, instance_under};
 ghost use Rattle.waff_plan_text.specs.PlanTexts as texts;
 ghost use Rattle.waff_tool.specs.Accepted.{IsAccepted};
 ghost use Rattle.waff_tool.specs.Ahead.{IsReadOf};
@@ -34,7 +34,8 @@ pub fn accept_beside<R: Threads + Sync>(
     plan: &[u8],
 ) -> Result<(Accepted, ReadAhead), ToolError>
     ensures accepted { IfOk result (λ made.
-        Accepts hierarchy.now trace.now made.0.layout made.0.trace made.0.assigned) }
+        Accepts hierarchy.now trace.now
+        (instance_under made.0.layout made.0.assigned made.0.trace)) }
     ensures ahead { IfOk result (λ made. IsReadOf plan.now made.1) }
     ensures refused { IfErr result (Refuses hierarchy.now trace.now) }
     ensures nothing { IfErr result (λ e. e ≢ ToolError.Write) }

@@ -2,11 +2,12 @@
 ghost use Rattle.std.specs.Prelude.{◌≡◌, ℕ, List, [], ◌∷◌, IfOk};
 ghost use Rattle.std.specs.Prelude.{OnOk, decimal, length, map, string_bytes};
 ghost use Rattle.std.specs.List.{range_with_len};
+ghost use Rattle.waff_assign.specs.Case.{instance_of};
 ghost use Rattle.waff_plan_text.specs.Lines.{Adds, line_text, text_of};
 ghost use Rattle.waff_inputs.specs.Deliveries.{Delivers, Makes};
 ghost use Rattle.waff_inputs.specs.Inputs.{Refuses};
 ghost use Rattle.waff_tool.specs.Accepted.{IsAccepted};
-ghost use Rattle.waff_tool.specs.AssignText.{IsAssignText, assign_lines, assign_row};
+ghost use Rattle.waff_tool.specs.AssignText.{IsAssignText, TellsAssignment, assign_row};
 
 use std::alloc::{AllocError, Global};
 use std::io::Write;
@@ -62,8 +63,8 @@ fn made_assign_text(
 
 /// The lines of an assignment.
 fn assigned_text(alloc: Global, case: &Case<'_>) -> Result<String, AllocError>
-    ensures { IfOk result (λ text. string_bytes text ≡ text_of
-        (assign_lines case.now.tree.now case.now.trace.now.messages case.now.assigned.now)) }
+    ensures { IfOk result
+        (λ text. TellsAssignment (instance_of case.now) (string_bytes text)) }
 {
     let mut text = String::new(alloc);
     text.push_str("message,name,affinity\n")?;
@@ -74,8 +75,8 @@ fn assigned_text(alloc: Global, case: &Case<'_>) -> Result<String, AllocError>
 /// Appends the lines of all messages.
 fn push_assigned_rows(text: &mut String, case: &Case<'_>) -> Result<(), AllocError>
     ensures { OnOk result (Adds text.old text.new
-        (text_of (map (assign_row case.now.tree.now case.now.trace.now.messages
-        case.now.assigned.now) (range_with_len 1 (length case.now.trace.now.messages))))) }
+        (text_of (map (assign_row (instance_of case.now))
+        (range_with_len 1 (length case.now.trace.now.messages))))) }
 {
     for n in 1..case.trace.len() + 1 {
         let name = case.trace.message(n).name.as_str();

@@ -1,12 +1,14 @@
 //! The check of a plan text.
 ghost use Rattle.std.specs.Prelude.{◌≡◌, ◌≢◌, Ok, ℕ, List, IfOk, IfErr, length};
 ghost use Rattle.std.specs.Prelude.{string_bytes};
+ghost use Rattle.waff_assign.specs.Case.{instance_of};
+ghost use Rattle.waff_check.specs.Promises.{Promises};
+ghost use Rattle.waff_check.specs.Verdicts.{IsVerdict};
 ghost use Rattle.waff_inputs.specs.Deliveries.{Delivers, Makes};
 ghost use Rattle.waff_inputs.specs.Inputs.{Accepts};
-ghost use Rattle.waff_model.specs.Layout.{Hierarchy};
-ghost use Rattle.waff_plan_text.specs.PlanTexts.{plan_of};
 ghost use Rattle.waff_tool.specs.Ahead.{IsReadOf};
-ghost use Rattle.waff_tool.specs.CheckText.{IsCheckText, RefusesCheck, status_after, verdict_text};
+ghost use Rattle.waff_tool.specs.CheckText.{IsCheckText, RefusesCheck, claim_on};
+ghost use Rattle.waff_tool.specs.CheckText.{status_after, verdict_text};
 
 use crate::ahead::{ReadAhead, accept_beside, plan_read};
 use crate::verdict_line::VerdictFields;
@@ -15,7 +17,7 @@ use std::io::Write;
 use std::thread::Threads;
 use waff_assign::Case;
 use waff_check::{GivenPlan, Verdict, check};
-use waff_inputs::{Accepted, ToolError, deliver};
+use waff_inputs::{ToolError, deliver};
 
 /// Writes the verdict on the plan that the text gives for the trace under the hierarchy, and
 /// answers it. The pairs of messages are tested in threads. Nothing is written before the whole
@@ -51,31 +53,30 @@ pub fn made_verdict<R: Threads + Sync>(
         (RefusesCheck hierarchy.now trace.now plan.now) result }
 {
     let (accepted, ahead) = accept_beside(rt, alloc, hierarchy, trace, plan)?;
-    let verdict = verdict_on(rt, alloc, &accepted, plan, ahead);
+    let verdict = verdict_on(rt, alloc, &accepted.case(), plan, ahead);
     drop(accepted);
     verdict
 }
 
-/// The verdict on the plan of the text for what was read.
+/// The verdict on the plan of the text for a case.
 fn verdict_on<R: Threads + Sync>(
     rt: &R,
     alloc: Global,
-    accepted: &Accepted,
+    case: &Case<'_>,
     plan: &[u8],
     ahead: ReadAhead,
 ) -> Result<Verdict, ToolError>
     requires ahead { IsReadOf plan.now ahead }
     ensures made { IfOk result (λ verdict. (hierarchy trace : List ℕ)
-        → Accepts hierarchy trace accepted.now.layout accepted.now.trace accepted.now.assigned
+        → Accepts hierarchy trace (instance_of case.now)
         → IsCheckText hierarchy trace plan.now verdict) }
     ensures refused { IfErr result (λ e. (hierarchy trace : List ℕ)
-        → Accepts hierarchy trace accepted.now.layout accepted.now.trace accepted.now.assigned
+        → Accepts hierarchy trace (instance_of case.now)
         → RefusesCheck hierarchy trace plan.now e) }
     ensures nothing { IfErr result (λ e. e ≢ ToolError.Write) }
 {
-    let case = accepted.case();
     let given = plan_read(alloc, case.trace.version(), case.trace.len(), plan, ahead)?;
-    let verdict = verdict_of(rt, alloc, &case, &given)?;
+    let verdict = verdict_of(rt, alloc, case, &given)?;
     drop(given);
     Ok(verdict)
 }
@@ -89,12 +90,8 @@ pub fn verdict_of<R: Threads + Sync>(
 ) -> Result<Verdict, AllocError>
     requires rows { length given.now.rows ≡ length case.now.trace.now.messages }
     requires version { given.now.version ≡ case.now.trace.now.version }
-    ensures { IfOk result (λ verdict. (hierarchy trace plan : List ℕ) (layout : Hierarchy)
-        → Accepts hierarchy trace layout case.now.trace.now case.now.assigned.now
-        → layout.tree ≡ case.now.tree.now
-        → plan_of case.now.trace.now.version (length case.now.trace.now.messages) plan
-        ≡ Ok given.now
-        → IsCheckText hierarchy trace plan verdict) }
+    ensures verdict { IfOk result (IsVerdict (claim_on (instance_of case.now) given.now)) }
+    ensures promises { IfOk result (Promises (claim_on (instance_of case.now) given.now)) }
 {
     let verdict = check(rt, alloc, case.tree, case.assigned, case.trace, given)?;
     Ok(verdict)

@@ -1,6 +1,7 @@
 //! The picture of a plan.
 ghost use Rattle.std.specs.Prelude.{◌≡◌, ◌≢◌, ℕ, List, IfOk, IfErr};
 ghost use Rattle.std.specs.Prelude.{length, string_bytes};
+ghost use Rattle.waff_assign.specs.Case.{instance_of};
 ghost use Rattle.waff_inputs.specs.Deliveries.{Delivers, Makes};
 ghost use Rattle.waff_inputs.specs.Inputs.{Accepts};
 ghost use Rattle.waff_tool.specs.Ahead.{IsReadOf};
@@ -15,7 +16,7 @@ use std::thread::Threads;
 use waff_assign::Case;
 use waff_check::GivenPlan;
 use waff_draw::{Part, events_text, svg_text};
-use waff_inputs::{Accepted, ToolError, deliver};
+use waff_inputs::{ToolError, deliver};
 
 /// As what a plan is drawn: a document in SVG for a browser, or events for a viewer of traces.
 #[derive(Clone, Copy)]
@@ -59,15 +60,15 @@ fn made_picture<R: Threads + Sync>(
         (RefusesCheck hierarchy.now trace.now plan.now) result }
 {
     let (accepted, ahead) = accept_beside(rt, alloc, hierarchy, trace, plan)?;
-    let text = picture_on(alloc, &accepted, plan, ahead, picture, part);
+    let text = picture_on(alloc, &accepted.case(), plan, ahead, picture, part);
     drop(accepted);
     text
 }
 
-/// The picture of this part of the plan of the text for what was read.
+/// The picture of this part of the plan of the text for a case.
 fn picture_on(
     alloc: Global,
-    accepted: &Accepted,
+    case: &Case<'_>,
     plan: &[u8],
     ahead: ReadAhead,
     picture: Picture,
@@ -75,16 +76,15 @@ fn picture_on(
 ) -> Result<String, ToolError>
     requires ahead { IsReadOf plan.now ahead }
     ensures made { IfOk result (λ text. (hierarchy trace : List ℕ)
-        → Accepts hierarchy trace accepted.now.layout accepted.now.trace accepted.now.assigned
+        → Accepts hierarchy trace (instance_of case.now)
         → IsDrawText hierarchy trace plan.now picture part (string_bytes text)) }
     ensures refused { IfErr result (λ e. (hierarchy trace : List ℕ)
-        → Accepts hierarchy trace accepted.now.layout accepted.now.trace accepted.now.assigned
+        → Accepts hierarchy trace (instance_of case.now)
         → RefusesCheck hierarchy trace plan.now e) }
     ensures nothing { IfErr result (λ e. e ≢ ToolError.Write) }
 {
-    let case = accepted.case();
     let given = plan_read(alloc, case.trace.version(), case.trace.len(), plan, ahead)?;
-    let text = pictured(alloc, &case, &given, picture, part)?;
+    let text = pictured(alloc, case, &given, picture, part)?;
     drop(given);
     Ok(text)
 }

@@ -6,6 +6,7 @@ ghost use Rattle.waff_model.specs.Messages.{sizes_of};
 ghost use Rattle.waff_read.specs.HierRefusals.{Tells};
 ghost use Rattle.waff_read.specs.Hierarchies.{hierarchy_of};
 ghost use Rattle.waff_read.specs.Traces as traces;
+ghost use Rattle.waff_assign.specs.Case.{instance_of};
 ghost use Rattle.waff_plan_text.specs.PlanTexts as texts;
 ghost use Rattle.waff_explain.specs.Lines.{AreHeadedLines};
 ghost use Rattle.waff_inputs.specs.Deliveries.{Delivers};
@@ -237,9 +238,8 @@ fn explain_case<R: Threads + Sync>(
     case: &Case<'_>,
     plan: &[u8],
 ) -> Result<Explanation, AllocError>
-    requires tree { layout.now.tree ≡ case.now.tree.now }
     ensures { IfOk result (λ made. (hierarchy trace_file : List ℕ)
-        → Accepts hierarchy trace_file layout.now case.now.trace.now case.now.assigned.now
+        → Accepts hierarchy trace_file (instance_of case.now)
         → IsExplanation hierarchy (Some trace_file) (Some plan.now)
         made.explained (string_bytes made.text)) }
 {
@@ -286,13 +286,12 @@ fn explain_verdict<R: Threads + Sync>(
     given: &GivenPlan,
     plan: &[u8],
 ) -> Result<Explanation, AllocError>
-    requires tree { layout.now.tree ≡ case.now.tree.now }
     requires rows { length given.now.rows ≡ length case.now.trace.now.messages }
     requires version { given.now.version ≡ case.now.trace.now.version }
     requires plan { texts.plan_of case.now.trace.now.version
         (length case.now.trace.now.messages) plan.now ≡ Ok given.now }
     ensures { IfOk result (λ made. (hierarchy trace_file : List ℕ)
-        → Accepts hierarchy trace_file layout.now case.now.trace.now case.now.assigned.now
+        → Accepts hierarchy trace_file (instance_of case.now)
         → IsExplanation hierarchy (Some trace_file) (Some plan.now)
         made.explained (string_bytes made.text)) }
 {

@@ -1,16 +1,19 @@
 //! The command `plan`: for a number of workers, or with no limit on them.
 ghost use Rattle.std.specs.Prelude.{◌<◌, ℕ, List, IfOk, IfSome};
 ghost use Rattle.std.specs.Prelude.{length, string_bytes};
+ghost use Rattle.waff_assign.specs.Case.{instance_of};
 ghost use Rattle.waff_plan.specs.Bound.{IsWorkers};
 ghost use Rattle.waff_inputs.specs.Deliveries.{Delivers, Makes};
-ghost use Rattle.waff_inputs.specs.Inputs.{Accepts, Refuses};
+ghost use Rattle.waff_inputs.specs.Inputs.{Refuses};
 ghost use Rattle.waff_tool.specs.Accepted.{IsAccepted};
-ghost use Rattle.waff_tool.specs.PlanText.{IsPlanText, IsPlanTextFor, IsWorkerPlanText};
+ghost use Rattle.waff_tool.specs.PlanText.{IsPlanTextFor, TellsLeastPlan, TellsPlan};
+ghost use Rattle.waff_tool.specs.PlanText.{TellsWorkerPlan};
 
 use crate::certificates::{bounded_plan, certified_plan};
 use std::alloc::{AllocError, Global};
 use std::io::Write;
 use std::thread::Threads;
+use waff_assign::Case;
 use waff_inputs::{Accepted, ToolError, accept, accept_by_threads, deliver};
 use waff_list::Rule;
 use waff_plan::Planned;
@@ -70,39 +73,35 @@ fn made_plan_text(
         (Refuses hierarchy trace) result }
 {
     let accepted = accepted?;
-    let text = planned_text(alloc, &accepted, workers, rule).map_err(ToolError::from);
+    let text = planned_text(alloc, &accepted.case(), workers, rule).map_err(ToolError::from);
     drop(accepted);
     text
 }
 
-/// The text of the plan of what was accepted.
+/// The text of the plan of a case.
 fn planned_text(
     alloc: Global,
-    accepted: &Accepted,
+    case: &Case<'_>,
     workers: Option<u32>,
     rule: Rule,
 ) -> Result<String, AllocError>
     requires workers { IfSome workers IsWorkers }
-    ensures { IfOk result (λ text. (hierarchy trace : List ℕ)
-        → Accepts hierarchy trace accepted.now.layout accepted.now.trace accepted.now.assigned
-        → IsPlanTextFor rule hierarchy trace workers (string_bytes text)) }
+    ensures { IfOk result
+        (λ text. TellsPlan rule workers (instance_of case.now) (string_bytes text)) }
 {
     match workers {
-        None => made_unlimited_text(alloc, accepted),
-        Some(k) => made_worker_text(alloc, accepted, k, rule),
+        None => least_plan_text(alloc, case),
+        Some(k) => worker_plan_text(alloc, case, k, rule),
     }
 }
 
 /// The text of the unlimited plan.
-fn made_unlimited_text(alloc: Global, accepted: &Accepted) -> Result<String, AllocError>
-    ensures { IfOk result (λ text. (hierarchy trace : List ℕ)
-        → Accepts hierarchy trace accepted.now.layout accepted.now.trace accepted.now.assigned
-        → IsPlanText hierarchy trace (string_bytes text)) }
+fn least_plan_text(alloc: Global, case: &Case<'_>) -> Result<String, AllocError>
+    ensures { IfOk result (λ text. TellsLeastPlan (instance_of case.now) (string_bytes text)) }
 {
-    let case = accepted.case();
-    let certified = certified_plan(alloc, &case)?;
+    let certified = certified_plan(alloc, case)?;
     let planned = Planned {
-        case,
+        case: *case,
         plan: &certified.plan,
     };
     let text = unlimited_text(alloc, &planned, certified.chain.messages());
@@ -111,21 +110,19 @@ fn made_unlimited_text(alloc: Global, accepted: &Accepted) -> Result<String, All
 }
 
 /// The text of the list plan by this rule for k workers.
-fn made_worker_text(
+fn worker_plan_text(
     alloc: Global,
-    accepted: &Accepted,
+    case: &Case<'_>,
     k: u32,
     rule: Rule,
 ) -> Result<String, AllocError>
     requires workers { IsWorkers k }
-    ensures { IfOk result (λ text. (hierarchy trace : List ℕ)
-        → Accepts hierarchy trace accepted.now.layout accepted.now.trace accepted.now.assigned
-        → IsWorkerPlanText rule hierarchy trace k (string_bytes text)) }
+    ensures { IfOk result
+        (λ text. TellsWorkerPlan rule k (instance_of case.now) (string_bytes text)) }
 {
-    let case = accepted.case();
-    let bounded = bounded_plan(alloc, &case, rule, k)?;
+    let bounded = bounded_plan(alloc, case, rule, k)?;
     let plan = bounded.made.plan();
-    let planned = Planned { case, plan };
+    let planned = Planned { case: *case, plan };
     let chain = bounded.chain.messages();
     let text = worker_text(alloc, &planned, k, bounded.made.seats(), chain);
     drop(bounded);

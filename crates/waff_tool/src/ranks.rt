@@ -4,7 +4,8 @@ ghost use Rattle.std.specs.Prelude.{[], OnOk, length, map, string_bytes};
 ghost use Rattle.std.specs.List.{AllZip};
 ghost use Rattle.waff_model.specs.Messages.{sizes_of};
 ghost use Rattle.waff_read.specs.Hierarchies.{hierarchy_of};
-ghost use Rattle.waff_assign.specs.Lowest.{IsAssignment};
+ghost use Rattle.waff_read.specs.Traces.{trace_of};
+ghost use Rattle.waff_assign.specs.Case.{instance_of};
 ghost use Rattle.waff_plan.specs.Bound.{IsWorkers};
 ghost use Rattle.waff_plan_text.specs.Lines.{Adds, line_text, text_of};
 ghost use Rattle.waff_inputs.specs.Deliveries.{Delivers, Makes};
@@ -199,9 +200,9 @@ fn rank_assigned(
 ) -> Result<Ranked, AllocError>
     requires fits { trace.now.sizes ≡ sizes_of layout.now.spaces }
     requires workers { IsWorkers k }
-    ensures { IfOk result (λ ranked. (assigned : List ℕ)
-        × IsAssignment layout.now trace.now.messages assigned
-        × IsRankedUnder rule layout.now trace.now assigned k ranked) }
+    ensures { IfOk result (λ ranked. (file trace_file : List ℕ) → hierarchy_of file ≡ Ok layout.now
+        → trace_of layout.now.spaces trace_file ≡ Ok trace.now
+        → IsRanked rule trace_file k file ranked) }
 {
     let assigned = assign(alloc, layout, trace)?;
     let case = Case {
@@ -222,10 +223,8 @@ fn rank_planned(
     k: u32,
     rule: Rule,
 ) -> Result<Ranked, AllocError>
-    requires tree { case.now.tree.now ≡ layout.now.tree }
     requires workers { IsWorkers k }
-    ensures { IfOk result
-        (IsRankedUnder rule layout.now case.now.trace.now case.now.assigned.now k) }
+    ensures { IfOk result (IsRankedUnder rule layout.now.kind k (instance_of case.now)) }
 {
     let plan = plan(alloc, case.tree, case.assigned, case.trace)?;
     let planned = Planned {

@@ -1,29 +1,27 @@
 //! How good a plan is, whoever made it.
 ghost use Rattle.std.specs.Prelude.{◌≡◌, ◌≢◌, ℕ, List, IfOk, IfErr};
 ghost use Rattle.std.specs.Prelude.{length, string_bytes};
-ghost use Rattle.waff_assign.specs.Case.{pairs_of};
-ghost use Rattle.waff_plan.specs.Timing.{start_of};
-ghost use Rattle.waff_plan.specs.Timetable.{work_of_messages};
+ghost use Rattle.waff_assign.specs.Case.{instance_of};
 ghost use Rattle.waff_list.specs.declared.rule.Rule.{Rule};
 ghost use Rattle.waff_plan_text.specs.Lines.{text_of};
-ghost use Rattle.waff_check.specs.Verdicts.{starts_of};
 ghost use Rattle.waff_inputs.specs.Deliveries.{Delivers, Makes};
 ghost use Rattle.waff_inputs.specs.Inputs.{Accepts};
 ghost use Rattle.waff_tool.specs.Ahead.{IsReadOf};
 ghost use Rattle.waff_tool.specs.CheckText.{RefusesCheck};
-ghost use Rattle.waff_tool.specs.Rate.{AreRated, IsRateText, OwnPlanIsSwept, OwnWorkerPlanIsSwept};
+ghost use Rattle.waff_tool.specs.Rate.{IsRateText, IsRated, OwnPlanIsSwept, OwnWorkerPlanIsSwept};
 ghost use Rattle.waff_tool.specs.Rate.{RateTextIsOne, RatedIsChecked, rated_lines};
 
 use crate::ahead::{ReadAhead, accept_beside, plan_read};
+use crate::checks::verdict_of;
 use crate::verdict_line::VerdictFields;
 use std::alloc::{AllocError, Global};
 use std::io::Write;
 use std::thread::Threads;
 use waff_assign::Case;
-use waff_check::{GivenPlan, Verdict, check};
+use waff_check::{GivenPlan, Verdict};
 use waff_figures::figures::least_is_lower_bound;
 use waff_figures::{Figures, figures_of, push_rate};
-use waff_inputs::{Accepted, ToolError, deliver};
+use waff_inputs::{ToolError, deliver};
 use waff_plan::unlimited::plan;
 
 /// The verdict on a plan, and the text that tells how good the plan is.
@@ -65,32 +63,31 @@ fn made_rating<R: Threads + Sync>(
         (RefusesCheck hierarchy.now trace.now plan.now) result }
 {
     let (accepted, ahead) = accept_beside(rt, alloc, hierarchy, trace, plan)?;
-    let rating = rating_on(rt, alloc, &accepted, plan, ahead);
+    let rating = rating_on(rt, alloc, &accepted.case(), plan, ahead);
     drop(accepted);
     rating
 }
 
-/// The rating of the plan of the text for what was read.
+/// The rating of the plan of the text for a case.
 fn rating_on<R: Threads + Sync>(
     rt: &R,
     alloc: Global,
-    accepted: &Accepted,
+    case: &Case<'_>,
     plan: &[u8],
     ahead: ReadAhead,
 ) -> Result<Rating, ToolError>
     requires ahead { IsReadOf plan.now ahead }
     ensures made { IfOk result (λ rating. (hierarchy trace : List ℕ)
-        → Accepts hierarchy trace accepted.now.layout accepted.now.trace accepted.now.assigned
+        → Accepts hierarchy trace (instance_of case.now)
         → IsRateText hierarchy trace plan.now rating.verdict (string_bytes rating.text)) }
     ensures refused { IfErr result (λ e. (hierarchy trace : List ℕ)
-        → Accepts hierarchy trace accepted.now.layout accepted.now.trace accepted.now.assigned
+        → Accepts hierarchy trace (instance_of case.now)
         → RefusesCheck hierarchy trace plan.now e) }
     ensures nothing { IfErr result (λ e. e ≢ ToolError.Write) }
 {
-    let case = accepted.case();
     let given = plan_read(alloc, case.trace.version(), case.trace.len(), plan, ahead)?;
-    let verdict = check(rt, alloc, case.tree, case.assigned, case.trace, &given)?;
-    let figures = given_figures(alloc, &case, &given)?;
+    let verdict = verdict_of(rt, alloc, case, &given)?;
+    let figures = given_figures(alloc, case, &given)?;
     drop(given);
     let text = rated_text(alloc, verdict, &figures)?;
     Ok(Rating { verdict, text })
@@ -100,9 +97,7 @@ fn rating_on<R: Threads + Sync>(
 /// its summary tells.
 fn given_figures(alloc: Global, case: &Case<'_>, given: &GivenPlan) -> Result<Figures, AllocError>
     requires rows { length given.now.rows ≡ length case.now.trace.now.messages }
-    ensures { IfOk result (AreRated (pairs_of case.now)
-        (work_of_messages case.now.trace.now.messages)
-        given.now.summary.workers (start_of (starts_of given.now))) }
+    ensures { IfOk result (IsRated (instance_of case.now) given.now) }
 {
     let _rows = given.len();
     let unlimited = plan(alloc, case.tree, case.assigned, case.trace)?;

@@ -1,17 +1,19 @@
 //! The sweep over numbers of workers.
 ghost use Rattle.std.specs.Prelude.{◌<◌, ℕ, All, List, IfOk};
 ghost use Rattle.std.specs.Prelude.{length, string_bytes};
+ghost use Rattle.waff_assign.specs.Case.{instance_of};
 ghost use Rattle.waff_plan.specs.Bound.{IsWorkers};
 ghost use Rattle.waff_inputs.specs.Deliveries.{Delivers, Makes};
-ghost use Rattle.waff_inputs.specs.Inputs.{Accepts, Refuses};
-ghost use Rattle.waff_tool.specs.Figures.{IsSweepText, SweepTextIsOne};
+ghost use Rattle.waff_inputs.specs.Inputs.{Refuses};
+ghost use Rattle.waff_tool.specs.Figures.{IsSweepText, SweepTextIsOne, TellsSweep};
 
 use std::alloc::{AllocError, Global};
 use std::io::Write;
 use std::thread::Threads;
+use waff_assign::Case;
 use waff_figures::figures::least_is_lower_bound;
 use waff_figures::{figures_of, figures_text, list_figures};
-use waff_inputs::{Accepted, ToolError, accept_by_threads, deliver};
+use waff_inputs::{ToolError, accept_by_threads, deliver};
 use waff_list::Rule;
 use waff_plan::Planned;
 use waff_plan::unlimited::plan;
@@ -52,28 +54,29 @@ fn made_sweep_text<R: Threads + Sync>(
         (Refuses hierarchy.now trace.now) result }
 {
     let accepted = accept_by_threads(rt, alloc, hierarchy, trace)?;
-    let text = swept_text(alloc, &accepted, workers, rule).map_err(ToolError::from);
+    let text = swept_text(alloc, &accepted.case(), workers, rule).map_err(ToolError::from);
     drop(accepted);
     text
 }
 
-/// The text of a sweep of what was read.
+/// The text of a sweep of a case.
 fn swept_text(
     alloc: Global,
-    accepted: &Accepted,
+    case: &Case<'_>,
     workers: &[u32],
     rule: Rule,
 ) -> Result<String, AllocError>
     requires workers { All IsWorkers workers.now }
-    ensures { IfOk result (λ text. (hierarchy trace : List ℕ)
-        → Accepts hierarchy trace accepted.now.layout accepted.now.trace accepted.now.assigned
-        → IsSweepText rule hierarchy trace workers.now (string_bytes text)) }
+    ensures { IfOk result (λ text.
+        TellsSweep rule workers.now (instance_of case.now) (string_bytes text)) }
 {
-    let case = accepted.case();
     let plan = plan(alloc, case.tree, case.assigned, case.trace)?;
     let unlimited = figures_of(alloc, &plan, None, plan.length())?;
     least_is_lower_bound();
-    let planned = Planned { case, plan: &plan };
+    let planned = Planned {
+        case: *case,
+        plan: &plan,
+    };
     let listed = list_figures(alloc, &planned, rule, workers)?;
     let text = figures_text(alloc, listed.as_slice(), &unlimited);
     drop(listed);

@@ -1,17 +1,19 @@
 //! Who waits for whom.
 ghost use Rattle.std.specs.Prelude.{◌<◌, ℕ, Bool, List, Option, IfOk};
 ghost use Rattle.std.specs.Prelude.{None, Some, IfSome, length, string_bytes};
+ghost use Rattle.waff_assign.specs.Case.{instance_of};
 ghost use Rattle.waff_plan.specs.Bound.{IsWorkers};
 ghost use Rattle.waff_inputs.specs.Deliveries.{Delivers, Makes};
-ghost use Rattle.waff_inputs.specs.Inputs.{Accepts, Refuses};
-ghost use Rattle.waff_tool.specs.WaitsText.{IsWaitsText, WaitsAreSwept, WaitsTextIsOne};
+ghost use Rattle.waff_inputs.specs.Inputs.{Refuses};
+ghost use Rattle.waff_tool.specs.WaitsText.{IsWaitsText, TellsWaits, WaitsAreSwept, WaitsTextIsOne};
 
 use std::alloc::{AllocError, Global};
 use std::io::Write;
 use std::thread::Threads;
+use waff_assign::Case;
 use waff_figures::wait_laws::ticks_add_up;
 use waff_figures::waiting_text;
-use waff_inputs::{Accepted, ToolError, accept_by_threads, deliver};
+use waff_inputs::{ToolError, accept_by_threads, deliver};
 use waff_list::laws::needs_make_the_same_plans;
 use waff_list::{Rule, list_plan_by};
 use waff_order::predecessors::needs;
@@ -58,40 +60,42 @@ fn made_waits_text<R: Threads + Sync>(
         (Refuses hierarchy.now trace.now) result }
 {
     let accepted = accept_by_threads(rt, alloc, hierarchy, trace)?;
-    let text = waited_text(alloc, &accepted, workers, rule, by_name).map_err(ToolError::from);
+    let text = waited_text(alloc, &accepted.case(), workers, rule, by_name).map_err(
+        ToolError::from,
+    );
     drop(accepted);
     text
 }
 
-/// The text of who waits for whom in the plan of what was read.
+/// The text of who waits for whom in the plan of a case.
 fn waited_text(
     alloc: Global,
-    accepted: &Accepted,
+    case: &Case<'_>,
     workers: Option<u32>,
     rule: Rule,
     by_name: bool,
 ) -> Result<String, AllocError>
     requires { IfSome workers IsWorkers }
-    ensures { IfOk result (λ text. (hierarchy trace : List ℕ)
-        → Accepts hierarchy trace accepted.now.layout accepted.now.trace accepted.now.assigned
-        → IsWaitsText rule hierarchy trace workers by_name (string_bytes text)) }
+    ensures { IfOk result (λ text.
+        TellsWaits rule workers by_name (instance_of case.now) (string_bytes text)) }
 {
     match workers {
-        None => unlimited_waits(alloc, accepted, by_name),
-        Some(k) => worker_waits(alloc, accepted, k, rule, by_name),
+        None => unlimited_waits(alloc, case, by_name),
+        Some(k) => worker_waits(alloc, case, k, rule, by_name),
     }
 }
 
 /// The text of the unlimited plan.
-fn unlimited_waits(alloc: Global, accepted: &Accepted, by_name: bool) -> Result<String, AllocError>
-    ensures { IfOk result (λ text. (rule : Rule) (hierarchy trace : List ℕ)
-        → Accepts hierarchy trace accepted.now.layout accepted.now.trace accepted.now.assigned
-        → IsWaitsText rule hierarchy trace None by_name (string_bytes text)) }
+fn unlimited_waits(alloc: Global, case: &Case<'_>, by_name: bool) -> Result<String, AllocError>
+    ensures { IfOk result (λ text. (rule : Rule)
+        → TellsWaits rule None by_name (instance_of case.now) (string_bytes text)) }
 {
-    let case = accepted.case();
     let plan = plan(alloc, case.tree, case.assigned, case.trace)?;
     ticks_add_up();
-    let planned = Planned { case, plan: &plan };
+    let planned = Planned {
+        case: *case,
+        plan: &plan,
+    };
     let text = waiting_text(alloc, &planned, by_name);
     drop(plan);
     text
@@ -100,24 +104,22 @@ fn unlimited_waits(alloc: Global, accepted: &Accepted, by_name: bool) -> Result<
 /// The text of the list plan by this rule for k workers.
 fn worker_waits(
     alloc: Global,
-    accepted: &Accepted,
+    case: &Case<'_>,
     k: u32,
     rule: Rule,
     by_name: bool,
 ) -> Result<String, AllocError>
     requires { IsWorkers k }
-    ensures { IfOk result (λ text. (hierarchy trace : List ℕ)
-        → Accepts hierarchy trace accepted.now.layout accepted.now.trace accepted.now.assigned
-        → IsWaitsText rule hierarchy trace (Some k) by_name (string_bytes text)) }
+    ensures { IfOk result (λ text.
+        TellsWaits rule (Some k) by_name (instance_of case.now) (string_bytes text)) }
 {
-    let case = accepted.case();
     let needs = needs(alloc, case.tree, case.assigned)?;
     let made = list_plan_by(alloc, &needs, case.trace, rule, k)?;
     drop(needs);
     needs_make_the_same_plans();
     ticks_add_up();
     let plan = made.plan();
-    let planned = Planned { case, plan };
+    let planned = Planned { case: *case, plan };
     let text = waiting_text(alloc, &planned, by_name);
     drop(made);
     text

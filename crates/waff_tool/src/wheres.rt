@@ -1,18 +1,20 @@
 //! Where the time goes.
 ghost use Rattle.std.specs.Prelude.{◌<◌, ℕ, Bool, List, IfOk};
 ghost use Rattle.std.specs.Prelude.{length, string_bytes};
+ghost use Rattle.waff_assign.specs.Case.{instance_of};
 ghost use Rattle.waff_inputs.specs.Deliveries.{Delivers, Makes};
-ghost use Rattle.waff_inputs.specs.Inputs.{Accepts, Refuses};
-ghost use Rattle.waff_tool.specs.Figures.{IsAffinitiesText, IsNamesText, IsWhereText};
+ghost use Rattle.waff_inputs.specs.Inputs.{Refuses};
+ghost use Rattle.waff_tool.specs.Figures.{IsWhereText, TellsAffinities, TellsNames, TellsWhere};
 ghost use Rattle.waff_tool.specs.Figures.{WhereTextIsOne};
 
 use crate::certificates::certified_plan;
 use std::alloc::{AllocError, Global};
 use std::io::Write;
 use std::thread::Threads;
+use waff_assign::Case;
 use waff_figures::laws::{chain_adds_up, costs_add_up, names_add_up};
 use waff_figures::{affinities_text, names_text};
-use waff_inputs::{Accepted, ToolError, accept_by_threads, deliver};
+use waff_inputs::{ToolError, accept_by_threads, deliver};
 use waff_plan::Planned;
 
 /// Writes where the time of the trace goes under the hierarchy: for each affinity, or for each name
@@ -46,37 +48,32 @@ fn made_where_text<R: Threads + Sync>(
         (Refuses hierarchy.now trace.now) result }
 {
     let accepted = accept_by_threads(rt, alloc, hierarchy, trace)?;
-    let text = spent_text(alloc, &accepted, by_name).map_err(ToolError::from);
+    let text = spent_text(alloc, &accepted.case(), by_name).map_err(ToolError::from);
     drop(accepted);
     text
 }
 
-/// The text of where the time of what was read goes.
-fn spent_text(alloc: Global, accepted: &Accepted, by_name: bool) -> Result<String, AllocError>
-    ensures { IfOk result (λ text. (hierarchy trace : List ℕ)
-        → Accepts hierarchy trace accepted.now.layout accepted.now.trace accepted.now.assigned
-        → IsWhereText hierarchy trace by_name (string_bytes text)) }
+/// The text of where the time of a case goes.
+fn spent_text(alloc: Global, case: &Case<'_>, by_name: bool) -> Result<String, AllocError>
+    ensures { IfOk result (λ text. TellsWhere by_name (instance_of case.now) (string_bytes text)) }
 {
     if by_name {
-        made_names_text(alloc, accepted)
+        spent_by_name(alloc, case)
     } else {
-        made_affinities_text(alloc, accepted)
+        spent_by_affinity(alloc, case)
     }
 }
 
 /// The text by affinity.
-fn made_affinities_text(alloc: Global, accepted: &Accepted) -> Result<String, AllocError>
-    ensures { IfOk result (λ text. (hierarchy trace : List ℕ)
-        → Accepts hierarchy trace accepted.now.layout accepted.now.trace accepted.now.assigned
-        → IsAffinitiesText hierarchy trace (string_bytes text)) }
+fn spent_by_affinity(alloc: Global, case: &Case<'_>) -> Result<String, AllocError>
+    ensures { IfOk result (λ text. TellsAffinities (instance_of case.now) (string_bytes text)) }
 {
-    let case = accepted.case();
     let _affinities = case.tree.len();
-    let certified = certified_plan(alloc, &case)?;
+    let certified = certified_plan(alloc, case)?;
     costs_add_up();
     chain_adds_up();
     let planned = Planned {
-        case,
+        case: *case,
         plan: &certified.plan,
     };
     let text = affinities_text(alloc, &planned, certified.chain.messages());
@@ -85,16 +82,13 @@ fn made_affinities_text(alloc: Global, accepted: &Accepted) -> Result<String, Al
 }
 
 /// The text by the names of messages.
-fn made_names_text(alloc: Global, accepted: &Accepted) -> Result<String, AllocError>
-    ensures { IfOk result (λ text. (hierarchy trace : List ℕ)
-        → Accepts hierarchy trace accepted.now.layout accepted.now.trace accepted.now.assigned
-        → IsNamesText hierarchy trace (string_bytes text)) }
+fn spent_by_name(alloc: Global, case: &Case<'_>) -> Result<String, AllocError>
+    ensures { IfOk result (λ text. TellsNames (instance_of case.now) (string_bytes text)) }
 {
-    let case = accepted.case();
-    let certified = certified_plan(alloc, &case)?;
+    let certified = certified_plan(alloc, case)?;
     names_add_up();
     let planned = Planned {
-        case,
+        case: *case,
         plan: &certified.plan,
     };
     let text = names_text(alloc, &planned, certified.chain.messages());

@@ -1,10 +1,11 @@
 use Rattle.std.proofs.Common.{◌≡◌, ◌-◌, ◌++◌, map, string_bytes}
 use Rattle.std.specs.List.{range_with_len}
 use Rattle.waff_plan_text.specs.Lines.{text_of}
+use Rattle.waff_assign.specs.Case.{instance_of}
 use Rattle.waff_tool.specs.AssignText.{assign_row}
 use Rattle.waff_tool.proofs.assigns.push_assigned_rows.Given as goal
 
 abbrev pub invariant-loop-n : goal.invariant-loop-n
 invariant-loop-n l =
     string_bytes l.text ≡ string_bytes l.initial.text
-    ++ text_of (map (assign_row l.case.tree.now l.case.trace.now.messages l.case.assigned.now) (range_with_len 1 (l.n - 1)))
+    ++ text_of (map (assign_row (instance_of l.case)) (range_with_len 1 (l.n - 1)))

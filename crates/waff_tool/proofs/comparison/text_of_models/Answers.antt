@@ -2,8 +2,8 @@ use Rattle.std.proofs.Common.{◌≡◌, ℕ, ◌↔◌, IsTrue, List, string_by
 use Rattle.std.proofs.lemmas.Result.{IfOk-at_ok, IfOk-weaker}
 use Rattle.waff_model.specs.declared.message.Version.{Version}
 use Rattle.waff_assign.specs.Order.{Refines}
+use Rattle.waff_plan.specs.Timetable.{work_of_messages}
 use Rattle.waff_plan.specs.Work.{total_of}
-use Rattle.waff_tool.specs.PlanText.{work_of_trace}
 use Rattle.waff_tool.specs.Comparison.{AreAssignedAndMeasured, IsCompared, compare_lines}
 use Rattle.waff_plan_text.specs.Lines.{text_of}
 use Rattle.waff_tool.proofs.ComparisonLemmas.{refined_is_no_longer}
@@ -23,7 +23,7 @@ returns c =
     let under_hierarchical = IfOk-at_ok (AreAssignedAndMeasured hierarchical trace c.args.k) c.in_ok-fine.was c.requires.hierarchical in
     let told : IsTrue refined ↔ Refines hierarchical.tree fine classical.tree coarse =
     rw (c.tree.ensures, c.tree-2.ensures) at c.refines-refined.ensures in
-    let total : of_classical.unlimited.total ≡ total_of (work_of_trace trace) =
+    let total : of_classical.unlimited.total ≡ total_of (work_of_messages trace.messages) =
     ap (λ totals. totals.total) under_classical.measured.least.told in
     let text_for : Version → ℕ → List ℕ = λ version total. text_of
     (compare_lines version c.args.k total of_classical of_hierarchical refined) in
@@ -41,9 +41,9 @@ returns c =
       classical_measured = under_classical.measured;
       hierarchical_measured = under_hierarchical.measured;
       told = told;
-      no_longer = λ yes. refined_is_no_longer classical hierarchical coarse fine (work_of_trace trace) c.args.k of_classical
+      no_longer = λ yes. refined_is_no_longer classical hierarchical coarse fine (work_of_messages trace.messages) c.args.k of_classical
           of_hierarchical under_classical.measured under_hierarchical.measured
-          (c.refined_is_no_longer.ensures hierarchical.tree classical.tree fine coarse (work_of_trace trace) (told.0 yes));
+          (c.refined_is_no_longer.ensures hierarchical.tree classical.tree fine coarse (work_of_messages trace.messages) (told.0 yes));
       lines = lines ∙ ap (λ v. text_for v of_classical.unlimited.total) c.version.ensures
           ∙ ap (λ t. text_for trace.version t) total;
     })
