@@ -36,7 +36,7 @@ impl Board {
     }
 
     /// The message that this number draws.
-    fn message_at(&self, number: u64) -> Option<u32>
+    pub(crate) fn message_at(&self, number: u64) -> Option<u32>
         ensures drawn { slice_get self.now.job.order number ≡ result }
         ensures some { IfSome result
             (λ m. IsIn self.now.job m × (number < length self.now.job.ops)) }

@@ -12,7 +12,7 @@
 //! - `board`, `opening`: the board, and making it with its seats; `tokens`: what the calls take and
 //!   give.
 //! - `drawing`, `clearing`, `running`, `ending`, `closing`: the calls, in their order; `reading`:
-//!   what a token tells.
+//!   what a token tells; `peeking`: glances without a seat, for whoever waits.
 //! - `laws`: what holds between any two steps, whichever threads make them.
 //!
 //! At most 16 seats. The words that contracts cite stand in `specs/`: `Seats`, `Shows` and `Rule`
@@ -27,6 +27,7 @@ mod ending;
 mod hand;
 pub mod laws;
 mod opening;
+mod peeking;
 mod plays;
 mod reading;
 mod rule;

@@ -11,6 +11,7 @@ ghost use Rattle.waff_board.specs.Tokens.{IsOf};
 ghost use Rattle.waff_core.specs.Seats.{IsSeats};
 
 use crate::gate::Gate;
+use crate::sleepers::Sleepers;
 use crate::work::work;
 use std::alloc::{AllocError, Global};
 use std::sync::Wait;
@@ -41,7 +42,8 @@ pub fn replay<R: Threads + Wait + Sync, G: Gate>(
     let Some(mine) = others.pop() else {
         unreachable!()
     };
-    let end = settle(rt, &board, team(rt, &board, mine, others, gate));
+    let sleepers = Sleepers::new(alloc, workers)?;
+    let end = settle(rt, &board, team(rt, &board, &sleepers, mine, others, gate));
     match board.close(end) {
         Ok(state) => Ok(state),
         Err(CloseError::Memory) => Err(AllocError),
@@ -53,6 +55,7 @@ pub fn replay<R: Threads + Wait + Sync, G: Gate>(
 fn team<R: Threads + Wait + Sync, G: Gate>(
     rt: &R,
     board: &Board,
+    sleepers: &Sleepers,
     mine: Seat,
     mut others: Vec<Seat>,
     gate: &G,
@@ -62,16 +65,17 @@ fn team<R: Threads + Wait + Sync, G: Gate>(
     ensures { IsOf board.now result }
 {
     let Some(other) = others.pop() else {
-        return work(rt, board, mine, gate);
+        return work(rt, board, sleepers, 0, mine, gate);
     };
+    let number = others.len() + 1;
     let theirs = move || -> EndSeat
         requires { IsSync R.row × IsSync G.row × IsOf board.now other }
-    { work(rt, board, other, gate) };
+    { work(rt, board, sleepers, number, other, gate) };
     let ours = move || -> EndSeat
         requires { IsSync R.row × IsSync G.row × IsOf board.now mine
             × All (IsOf board.now) others.items }
         ensures { IsOf board.entry.now result }
-    { team(rt, board, mine, others, gate) };
+    { team(rt, board, sleepers, mine, others, gate) };
     let (_, end) = thread::join(rt, theirs, ours);
     end
 }
