@@ -20,8 +20,8 @@ use waff_check::{GivenPlan, Verdict, check};
 use waff_inputs::{ToolError, deliver};
 
 /// Writes the verdict on the plan that the text gives for the trace under the hierarchy, and
-/// answers it. The pairs of messages are tested in threads. Nothing is written before the whole
-/// line is made.
+/// answers it. Pairs of messages are tested only where some overlap, in threads, to name the first.
+/// Nothing is written before the whole line is made.
 pub fn check_text<R: Threads + Sync, W: Write>(
     rt: &R,
     alloc: Global,
