@@ -122,6 +122,17 @@ def windows_of_ticks(messages: list[Message], width: int, every: int) -> Windows
         yield number * every, found[number]
 
 
+def prefix_of(out: str) -> str:
+    """How the names of windows begin: with the words that were given, or in a folder, which is made if it is not there."""
+    if not out.endswith(os.sep) and not os.path.isdir(out):
+        return out
+    try:
+        os.makedirs(out, exist_ok=True)
+    except OSError as fault:
+        raise Refusal(4, f"{shown(out)}: {fault.strerror}") from None
+    return os.path.join(out, "window-")
+
+
 def window(asked: Namespace) -> str:
     """Writes a trace for each window, with its releases from 0, and answers the names of the files."""
     trace = read_trace(asked.trace)
@@ -132,9 +143,10 @@ def window(asked: Namespace) -> str:
     if len(trace.messages) * max(1, width // every) > MOST_IN_WINDOWS:
         raise Refusal(2, f"--every {every}: more than {MOST_IN_WINDOWS} messages in all windows")
     parts = windows_of_messages if asked.messages else windows_of_ticks
+    prefix = prefix_of(asked.out)
     lines = ["file,messages,from"]
     for number, (start, messages) in enumerate(parts(trace.messages, width, every), 1):
-        name = f"{asked.out}{number:05}.csv"
+        name = f"{prefix}{number:05}.csv"
         moved = [Message(it.name, it.cost, it.release - start, it.ops) for it in messages]
         if len(moved) > limits.MESSAGES:
             tell(f"{shown(name)}: {len(moved)} messages are more than the {limits.MESSAGES} that waff takes")

@@ -12,7 +12,7 @@ from collections.abc import Callable
 from fractions import Fraction
 from typing import NoReturn
 
-from . import blocks, fio, hot, limits, model, plans, strace, traces
+from . import blocks, fio, gathering, hot, limits, model, plans, strace, traces
 from .logs import Refusal, is_number, tell
 
 # What is done for the words of a command: the text that it prints.
@@ -26,6 +26,17 @@ together, take `--cost size`: `--base` microseconds and `--per-kib` for each KiB
 
 What is left out: a trace has no order but that of what excludes each other. Two messages of one client run side by side in a plan
 where they did not in the log, unless their releases keep them apart."""
+
+WINDOW_HELP = """\
+What a window does not show: the messages that were under way before it. Each window begins with no message that runs or waits, so
+that its first ones start sooner than in the whole trace, and its waits and latencies are less. The wider the windows are beside the
+latencies, the less that is: take two widths, and compare. Windows that overlap (`--every`) count messages more than once."""
+
+GATHER_HELP = """\
+A line for each line of the answers: how many windows, their messages, and the sums of length, list, least and waits. The mean is
+weighted by messages, speedup and busy by lengths. p50, p99 and latency are those of the median window (of an even number, the lower one
+of the two in the middle), and with `-worst` those of the worst one; they are no percentiles of all messages. Each window begins with no
+message under way, so waits and latencies are less than those of the whole trace (`waff-trace window --help`)."""
 
 
 class Words(ArgumentParser):
@@ -109,9 +120,9 @@ def words() -> ArgumentParser:
     top = Words(prog="waff-trace", description="Makes traces of waff out of logs of real systems. Tested, not proved.")
     parts = top.add_subparsers(dest="command", metavar="COMMAND", required=True, parser_class=Words)
 
-    def part(name: str, what: str, run: Run, epilog: str | None = None) -> ArgumentParser:
+    def part(name: str, what: str, run: Run, epilog: str | None = None, aliases: tuple[str, ...] = ()) -> ArgumentParser:
         found = parts.add_parser(
-            name, help=what, description=what[0].upper() + what[1:] + ".", epilog=epilog,
+            name, aliases=aliases, help=what, description=what[0].upper() + what[1:] + ".", epilog=epilog,
             formatter_class=argparse.RawDescriptionHelpFormatter,
         )
         found.set_defaults(run=run)
@@ -159,7 +170,8 @@ def words_of_traces(part: Callable[..., ArgumentParser]) -> None:
     either.add_argument("--speed", type=speed, metavar="N", help="divide each release by N (2, 0.5), rounded down")
     either.add_argument("--at-once", action="store_true", help="leave the releases out")
 
-    found = part("window", "a file for each window of a trace, with its releases from 0; prints their names", traces.window)
+    what = "a file for each window of a trace, with its releases from 0; prints their names"
+    found = part("window", what, traces.window, WINDOW_HELP, aliases=("windows",))
     found.add_argument("trace", metavar="TRACE")
     either = found.add_mutually_exclusive_group(required=True)
     either.add_argument("--messages", type=number(1, 1 << 50, "number"), metavar="N", help="windows of N messages")
@@ -167,7 +179,18 @@ def words_of_traces(part: Callable[..., ArgumentParser]) -> None:
     found.add_argument(
         "--every", type=number(1, 1 << 50, "number"), metavar="N", help="a window begins at each N messages or ticks (its width)"
     )
-    found.add_argument("--out", metavar="PREFIX", default="window-", help="how the files' names begin (window-)")
+    found.add_argument(
+        "--out", metavar="PREFIX", default="window-",
+        help="how the files' names begin (window-); a folder, or what ends with `/`, holds the files, and is made if it is not there",
+    )
+
+    what = "what `waff sweep` or `waff rank` told of each window, in one table"
+    found = part("gather", what, gathering.gather, GATHER_HELP)
+    found.add_argument("windows", metavar="WINDOWS", help="what `waff-trace window` printed")
+    found.add_argument(
+        "answers", metavar="ANSWER", nargs="+",
+        help="the answers, or folders of them: that of a window is named like it, but for what stands behind the last point",
+    )
 
     found = part("sort", "the trace in the order of its releases", traces.sort)
     found.add_argument("trace", metavar="TRACE")

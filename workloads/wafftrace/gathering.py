@@ -1,0 +1,139 @@
+"""What `waff sweep` or `waff rank` tells of each window of a trace, gathered in one table."""
+
+import csv
+import os
+import re
+from argparse import Namespace
+from dataclasses import dataclass
+
+from .logs import Refusal, is_number, read_text, shown
+
+# The columns of an answer that name a line, those that add up, and those of which the median and the worst window count.
+KEYS = {"workers": ("workers",), "hierarchy": ("hierarchy", "model", "affinities")}
+SUMS = ("length", "list", "least", "waits")
+PERCENTILES = ("p50", "p99", "latency")
+
+WINDOWS = "file,messages,from"
+SWEEP = "workers,length,speedup,busy,least,over,waits,mean,p50,p99,latency"
+RANK = "hierarchy,model,affinities,length,list,least,over,waits,mean,p50,p99,latency"
+
+Row = dict[str, str]
+
+
+@dataclass(slots=True)
+class Window:
+    """A window: how many messages it has, and the rows of its answer."""
+
+    messages: int
+    rows: list[Row]
+
+
+def stem(path: str) -> str:
+    """What the names of a window and of its answer share."""
+    return os.path.splitext(os.path.basename(path))[0]
+
+
+def read_table(name: str, *headers: str) -> list[Row]:
+    """The rows of a table with one of these headers."""
+    try:
+        lines = [it for it in csv.reader(read_text(name).splitlines(), strict=True) if it]
+    except csv.Error as fault:
+        raise Refusal(3, f"{shown(name)}: no CSV: {fault}") from None
+    if not lines or ",".join(lines[0]) not in headers:
+        raise Refusal(3, f"{shown(name)}: its first line is not {' or '.join(headers)}")
+    for number, line in enumerate(lines, 1):
+        if len(line) != len(lines[0]):
+            raise Refusal(3, f"{shown(name)}: line {number} has {len(line)} fields in place of {len(lines[0])}")
+    return [dict(zip(lines[0], line, strict=True)) for line in lines[1:]]
+
+
+def files_of(names: list[str]) -> list[str]:
+    """The files that are named, and those in the folders that are named."""
+    found: list[str] = []
+    for name in names:
+        try:
+            inside = [os.path.join(name, it) for it in sorted(os.listdir(name))] if os.path.isdir(name) else [name]
+        except OSError as fault:
+            raise Refusal(4, f"{shown(name)}: {fault.strerror}") from None
+        found += [it for it in inside if it == name or os.path.isfile(it)]
+    return found
+
+
+def gathered(table: str, names: list[str]) -> list[Window]:
+    """The windows of a table, each with its answer: the file that is named as the window, but for what stands behind the last point."""
+    answers: dict[str, str] = {}
+    for name in files_of(names):
+        if stem(name) in answers:
+            raise Refusal(3, f"two answers of {shown(stem(name))}")
+        answers[stem(name)] = name
+    found = []
+    for row in read_table(table, WINDOWS):
+        name = answers.pop(stem(row["file"]), None)
+        if name is None:
+            raise Refusal(3, f"no answer of {shown(row['file'])}: wanted is a file {shown(stem(row['file']))}, with any ending")
+        if not is_number(row["messages"]):
+            raise Refusal(3, f"{shown(table)}: no number of messages: {shown(row['messages'])}")
+        found.append(Window(int(row["messages"]), read_table(name, SWEEP, RANK)))
+        if [list(it) for it in found[-1].rows] != [list(it) for it in found[0].rows] or keys(found[-1]) != keys(found[0]):
+            raise Refusal(3, f"{shown(name)}: its lines are not those of the first answer")
+    if answers:
+        raise Refusal(3, f"{shown(next(iter(answers.values())))}: an answer of no window of {shown(table)}")
+    return found
+
+
+def keys(window: Window) -> list[list[str]]:
+    """What names each line of an answer."""
+    return [[row[it] for it in KEYS[next(iter(row))]] for row in window.rows]
+
+
+def whole(rows: list[Row], name: str) -> list[int]:
+    found = [row[name] for row in rows]
+    for word in found:
+        if not is_number(word):
+            raise Refusal(3, f"an answer has {shown(word)} in the column {name}, where a number is wanted")
+    return [int(it) for it in found]
+
+
+def hundredths(word: str, name: str) -> int:
+    if re.fullmatch(r"[0-9]{1,15}\.[0-9]{2}", word) is None:
+        raise Refusal(3, f"an answer has {shown(word)} in the column {name}, where a number with two digits is wanted")
+    return int(word.replace(".", ""))
+
+
+def mean(rows: list[Row], name: str, weights: list[int]) -> str:
+    """The weighted mean of a column with two digits, rounded down; `-` where the answers have none."""
+    total = sum(weights)
+    if total == 0 or all(row[name] == "-" for row in rows):
+        return "-"
+    found = sum(hundredths(row[name], name) * weight for row, weight in zip(rows, weights, strict=True)) // total
+    return f"{found // 100}.{found % 100:02}"
+
+
+def line_of(rows: list[Row], messages: list[int]) -> dict[str, object]:
+    """What the windows come to, of the rows that are of one line."""
+    found: dict[str, object] = {it: rows[0][it] for it in KEYS[next(iter(rows[0]))]}
+    found |= {"windows": len(rows), "messages": sum(messages)}
+    of_workers = "list" if "list" in rows[0] else "length"
+    for name in list(rows[0])[len(found) - 2 :]:
+        if name in SUMS:
+            found[name] = sum(whole(rows, name))
+        elif name in PERCENTILES:
+            ordered = sorted(whole(rows, name))
+            found |= {name: ordered[(len(ordered) - 1) // 2], f"{name}-worst": ordered[-1]}
+        elif name == "over":
+            length, least = sum(whole(rows, of_workers)), sum(whole(rows, "least"))
+            ratio = -(-100 * length // least) if least else 100
+            found[name] = f"{ratio // 100}.{ratio % 100:02}"
+        else:
+            found[name] = mean(rows, name, messages if name == "mean" else whole(rows, of_workers))
+    return found
+
+
+def gather(asked: Namespace) -> str:
+    """A line for each line of the answers: what the windows come to together."""
+    windows = gathered(asked.windows, asked.answers)
+    if not windows or not windows[0].rows:
+        raise Refusal(3, f"{shown(asked.windows)}: no window with an answer of a line or more")
+    messages = [it.messages for it in windows]
+    lines = [line_of([it.rows[number] for it in windows], messages) for number in range(len(windows[0].rows))]
+    return "".join(",".join(map(str, it)) + "\n" for it in (lines[0], *(it.values() for it in lines)))
