@@ -7,9 +7,9 @@ r"""Transcripts: cases of what programs are asked, and of what they print. Each 
     status 3
 
 The case runs in a folder with the files of examples/, with the folders that lie beside the transcript, as `inputs`, and with `box` of
-tests/workloads. Lines of bash lay its other files there; then comes the command, of `waff` or of workloads/, and what it prints: `| ` stands before a line of
-standard output, `! ` before one of standard error, and the status is told if it is not 0. A line `|\` says that the one before it
-does not end. `| ...` or `! ...` is any text but none: clap's words are free.
+tests/workloads. Lines of bash lay its other files there; then comes the command, of `waff` or of workloads/, and what it prints: `| `
+stands before a line of standard output, `! ` before one of standard error, and the status is told if it is not 0. A line `|\` says
+that the one before it does not end. `| ...` or `! ...` is any text but none: clap's words are free.
 """
 
 import difflib
