@@ -1,9 +1,58 @@
 """Hierarchies: read, written, and the ways of their affinities up to the root."""
 
-from collections.abc import Iterable, Mapping
+import re
+from collections.abc import Iterable
 from dataclasses import dataclass, field
 
 from .logs import Refusal, read_text, shown
+
+# What a comment stands at: a table (`affinity`, `space` or `map`; `model`, `end`) and the name of its entry, none for the table itself.
+Place = tuple[str, str]
+
+# A comment begins at the first `#` outside of strings.
+COMMENT = re.compile(r"""((?:[^#"']|"(?:[^"\\]|\\.)*"|'[^']*')*)(#.*)?""")
+TABLE = re.compile(r"\s*(?:\[\[\s*(affinity|space|map)\s*\]\]|(affinity|space|map)\s*=\s*\[|(model)\s*=)")
+ENTRY = {"affinity": "name", "space": "name", "map": "space"}
+
+
+@dataclass(slots=True)
+class Comments:
+    """The comments of a hierarchy: those on lines of their own before a place, and the one beside it."""
+
+    before: dict[Place, list[str]] = field(default_factory=dict)
+    beside: dict[Place, str] = field(default_factory=dict)
+
+    @staticmethod
+    def of(text: str) -> "Comments":
+        """The comments of a file that is a hierarchy. One inside of an entry of several lines stands beside it."""
+        found, waiting = Comments(), list[str]()
+        place: Place = ("model", "")
+        for line in text.splitlines():
+            match = COMMENT.match(line)
+            code, comment = (match[1], match[2]) if match else (line, None)
+            if not code.strip():
+                waiting += [comment] if comment else []
+                continue
+            begun = TABLE.match(code)
+            if begun:
+                place = (begun[1] or begun[2] or begun[3], "")
+            named = re.search(rf"""\b{ENTRY.get(place[0], "model")}\s*=\s*["']([^"']*)["']""", code)
+            if named and place[0] in ENTRY:
+                place = (place[0], named[1])
+            # What stands before an entry of the form [[affinity]] waits for the entry's name.
+            if named or begun and "[[" not in code:
+                found.before.setdefault(place, []).extend(waiting)
+                waiting = []
+            if comment:
+                found.beside[place] = f"{found.beside[place]} {comment}" if place in found.beside else comment
+        found.before["end", ""] = waiting
+        return found
+
+    def lines(self, place: Place, line: str) -> list[str]:
+        """The line of a place, with what is remarked of it."""
+        indent = " " * (len(line) - len(line.lstrip()))
+        beside = f"  {self.beside[place]}" if place in self.beside else ""
+        return [*(indent + it for it in self.before.get(place, ())), line + beside]
 
 
 @dataclass(slots=True)
@@ -14,21 +63,27 @@ class Tree:
     parents: dict[str, str | None]
     sizes: dict[str, int]
     maps: dict[str, tuple[int, list[str]]]
+    comments: Comments = field(default_factory=Comments)
     ways: dict[str, list[str]] = field(default_factory=dict)
 
-    def text(self, remarks: Mapping[str, str] = {}) -> str:
-        """The file, with what is remarked of a space beside it."""
-        lines = [f'model = "{self.model}"', "", "affinity = ["]
+    def changed(self, parents: dict[str, str | None], maps: dict[str, tuple[int, list[str]]]) -> "Tree":
+        """The tree with other affinities and maps, and its comments."""
+        return Tree(self.model, parents, self.sizes, maps, self.comments)
+
+    def text(self) -> str:
+        """The file, with the comments of what it has."""
+        told = self.comments.lines
+        lines = [*told(("model", ""), f'model = "{self.model}"'), "", *told(("affinity", ""), "affinity = [")]
         for name, parent in self.parents.items():
-            lines.append(f'    {{ name = "{name}"' + (f', parent = "{parent}"' if parent else "") + " },")
-        lines += ["]", "", "space = ["]
+            lines += told(("affinity", name), f'    {{ name = "{name}"' + (f', parent = "{parent}"' if parent else "") + " },")
+        lines += ["]", "", *told(("space", ""), "space = [")]
         for space, size in self.sizes.items():
-            lines.append(f'    {{ name = "{space}", size = {size} }},' + (f"  # {remarks[space]}" if space in remarks else ""))
-        lines += ["]", "", "map = ["]
+            lines += told(("space", space), f'    {{ name = "{space}", size = {size} }},')
+        lines += ["]", "", *told(("map", ""), "map = [")]
         for space, (unit, owners) in self.maps.items():
             names = ", ".join(f'"{name}"' for name in owners)
-            lines.append(f'    {{ space = "{space}", unit = {unit}, to = [{names}] }},')
-        return "\n".join([*lines, "]"]) + "\n"
+            lines += told(("map", space), f'    {{ space = "{space}", unit = {unit}, to = [{names}] }},')
+        return "\n".join([*lines, "]", *self.comments.before.get(("end", ""), ())]) + "\n"
 
     def way(self, affinity: str) -> list[str]:
         """The affinities from one up to the root."""
@@ -65,7 +120,8 @@ def read_tree(name: str) -> Tree:
     import tomllib  # since Python 3.11; all that reads no hierarchy does without it
 
     try:
-        table = tomllib.loads(read_text(name).removeprefix("\ufeff"))
+        text = read_text(name).removeprefix("\ufeff")
+        table = tomllib.loads(text)
         parents = {it["name"]: it.get("parent") for it in table["affinity"]}
         sizes = {it["name"]: it["size"] for it in table["space"]}
         maps = {it["space"]: (it["unit"], it["to"]) for it in table["map"]}
@@ -80,6 +136,6 @@ def read_tree(name: str) -> Tree:
             if parent not in before and (parent is not None or before):
                 raise ValueError("a parent that does not stand before its child")
             before.add(affinity)
-        return Tree(table["model"], parents, sizes, maps)
+        return Tree(table["model"], parents, sizes, maps, Comments.of(text))
     except (tomllib.TOMLDecodeError, UnicodeError, KeyError, TypeError, ValueError, AttributeError) as fault:
         raise Refusal(3, f"{shown(name)}: no hierarchy, `waff explain` tells why ({fault})") from None

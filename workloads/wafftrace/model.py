@@ -360,7 +360,9 @@ def tree_text(store: Store, shape: Shape, stripes: int) -> str:
     tree, remarks = store.tree(shape.spaces, stripes, shape.unit)
     if len(tree.parents) > limits.AFFINITIES or len(tree.maps) > limits.SPACES:
         raise Refusal(3, f"{len(tree.parents)} affinities, {len(tree.maps)} spaces: more than a hierarchy has (fewer --stripes may do)")
-    return f"# Made by waff-trace. A cell of data is {shape.cell} bytes.\n" + tree.text(remarks)
+    tree.comments.before["model", ""] = [f"# Made by waff-trace. A cell of data is {shape.cell} bytes."]
+    tree.comments.beside = {("space", space): f"# {what}" for space, what in remarks.items()}
+    return tree.text()
 
 
 def warn(messages: Messages) -> None:

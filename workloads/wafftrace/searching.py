@@ -30,6 +30,10 @@ class Figures:
         return Figures(int(row["list"]), int(row["waits"]), row["mean"], int(row["p99"]))
 
 
+# The figures of a tree for each number of workers.
+Row = tuple[Figures, ...]
+
+
 @dataclass(slots=True)
 class Group:
     """Affinities that spaces are dealt out to: leaves below one affinity, or one affinity with others below it (`is_inner`)."""
@@ -93,7 +97,7 @@ class Deal:
                 parents |= dict.fromkeys(group.names, group.parent)
             waiting = [it for it in waiting if it not in ready]
         maps = {space: (unit, list(self.groups[name].names)) for space, (name, unit) in self.spaces.items()}
-        return Tree(self.tree.model, parents, self.tree.sizes, maps)
+        return self.tree.changed(parents, maps)
 
     def with_unit(self, space: str, unit: int) -> "Deal":
         return replace(self, spaces={**self.spaces, space: (self.spaces[space][0], unit)})
@@ -142,9 +146,9 @@ def search(
     tree: Tree,
     spaces: list[str],
     longest: int,
-    rank: Callable[[list[Tree]], list[Figures]],
-    order: Callable[[Figures], tuple[int, ...]],
-) -> tuple[list[tuple[str, Figures]], Tree]:
+    rank: Callable[[list[Tree]], list[Row]],
+    order: Callable[[Row], tuple[int, ...]],
+) -> tuple[list[tuple[str, Row]], Tree]:
     """The changes for these spaces, each with the figures after it, and the tree at the end. `rank` tells the figures of trees;
     `order` compares them, the least first."""
     deal = Deal.of(tree)
@@ -164,7 +168,7 @@ def search(
                 what, deal, built = found[at]
                 best = figures[at]
                 steps.append((what, best))
-                tell(f"{what}: length {best.length}, mean {best.mean}")
+                tell(f"{what}: " + "; ".join(f"length {it.length}, mean {it.mean}" for it in best))
         if len(steps) == before:
             break
     tell(f"{count} trees were planned")

@@ -1,5 +1,6 @@
 """Trees with other numbers of stripes and other units, and how the proved program plans a trace under each."""
 
+import argparse
 import csv
 import itertools
 import os
@@ -14,7 +15,7 @@ from concurrent.futures import ThreadPoolExecutor
 from . import limits
 from .hierarchy import Tree, read_tree
 from .logs import Refusal, shown, tell
-from .searching import Figures, search
+from .searching import Figures, Row, search
 from .traces import Trace, read_trace, write_file
 from .words import Words, number, run_words
 
@@ -36,7 +37,7 @@ def with_stripes(tree: Tree, spaces: list[str], count: int, unit: int) -> Tree:
         maps = {space: (width, new if tuple(to) == old else to) for space, (width, to) in maps.items()}
     for space in spaces:
         maps[space] = unit, maps[space][1]
-    return Tree(tree.model, parents, tree.sizes, maps)
+    return tree.changed(parents, maps)
 
 
 def striped(parents: dict[str, str | None], owners: list[str], count: int) -> tuple[dict[str, str | None], list[str]]:
@@ -74,14 +75,31 @@ ORDERS: dict[str, Callable[[Figures], tuple[int, ...]]] = {
 }
 
 
-def order_of(length: int, trace: Trace) -> str:
+def order(by: str, over: str) -> Callable[[Row], tuple[int, ...]]:
+    """The order of trees by the sums, or the worst, of their figures for each number of workers."""
+    taken = max if over == "worst" else sum
+    return lambda row: tuple(taken(it) for it in zip(*map(ORDERS[by], row), strict=True))
+
+
+def order_of(row: Row, trace: Trace) -> str:
     """What trees are sorted by where nobody says: by the mean latency where the last message is released in the second half of the
-    plan, so that it is the releases that make the plan long, and else by the length."""
+    plan (of each, if they are for several numbers of workers), so that it is the releases that make the plan long, and else by the
+    length."""
     last = max((it.release for it in trace.messages), default=0)
-    return "mean" if 2 * last >= length and last else "length"
+    return "mean" if last and all(2 * last >= it.length for it in row) else "length"
 
 
-def rank(asked: Namespace, trees: list[Tree]) -> list[Figures]:
+def columns(names: list[str], workers: list[int]) -> str:
+    """The header of a table with figures for so many workers; their numbers are told where there are several."""
+    told = [f"{it}-{count}" if len(workers) > 1 else it for count in workers for it in ("length", "mean", "p99")]
+    return ",".join([*names, *told])
+
+
+def cells(row: Row) -> str:
+    return ",".join(f"{it.length},{it.mean},{it.p99}" for it in row)
+
+
+def rank(asked: Namespace, trees: list[Tree]) -> list[Row]:
     """The figures of the trees' list plans, in order, as `waff rank` tells them."""
     if asked.folder and not os.path.isdir(asked.folder):
         raise Refusal(4, f"{shown(asked.folder)}: no folder")
@@ -89,12 +107,12 @@ def rank(asked: Namespace, trees: list[Tree]) -> list[Figures]:
         names = [os.path.abspath(os.path.join(folder, f"{number}.toml")) for number, _ in enumerate(trees, 1)]
         for name, tree in zip(names, trees, strict=True):
             write_file(name, tree.text())
-        jobs = [job(asked, part) for part in parts(names)]
+        jobs = [job(asked, workers, part) for workers in asked.workers for part in parts(names)]
         texts = told_by_runner(asked, jobs) if asked.runner else told_here(asked, jobs)
     figures = [Figures.of(row) for text in texts for row in csv.DictReader(text.splitlines())]
-    if len(figures) != len(trees):
-        raise Refusal(3, f"{len(figures)} trees were told of, and {len(trees)} were asked for")
-    return figures
+    if len(figures) != len(trees) * len(asked.workers):
+        raise Refusal(3, f"{len(figures)} trees were told of, and {len(trees) * len(asked.workers)} were asked for")
+    return [tuple(figures[at :: len(trees)]) for at in range(len(trees))]
 
 
 def parts(names: list[str]) -> list[list[str]]:
@@ -103,10 +121,10 @@ def parts(names: list[str]) -> list[list[str]]:
     return [names[at : at + size] for at in range(0, len(names), size)]
 
 
-def job(asked: Namespace, names: list[str]) -> list[str]:
+def job(asked: Namespace, workers: int, names: list[str]) -> list[str]:
     """The words of a call that ranks the trees of these files."""
     program = os.path.abspath(asked.program) if os.sep in asked.program else asked.program
-    words = [program, "rank", "--workers", str(asked.workers), "--rule", asked.rule, "--", os.path.abspath(asked.trace)]
+    words = [program, "rank", "--workers", str(workers), "--rule", asked.rule, "--", os.path.abspath(asked.trace)]
     return [*words, *names]
 
 
@@ -142,6 +160,13 @@ def numbers(word: str) -> list[int]:
     return [number(1, limits.CELLS, "number")(it) for it in word.split(",")]
 
 
+def workers_of(word: str) -> list[int]:
+    found = [number(1, limits.WORKERS, "number")(it) for it in word.split(",")]
+    if len(set(found)) != len(found):
+        raise argparse.ArgumentTypeError(f"{word!r} has a number twice")
+    return found
+
+
 def words() -> ArgumentParser:
     top = Words(
         prog="waff-tune",
@@ -151,7 +176,10 @@ def words() -> ArgumentParser:
     )
     top.add_argument("hier", metavar="HIER")
     top.add_argument("trace", metavar="TRACE")
-    top.add_argument("--workers", type=number(1, limits.WORKERS, "number"), metavar="K", required=True)
+    top.add_argument(
+        "--workers", type=workers_of, metavar="K,K..", required=True,
+        help="how many messages may run at once, from 1 to 64; of several numbers the table shows the figures of each",
+    )
     top.add_argument(
         "--space", nargs="+", metavar="NAME",
         help="spaces that are tuned together; without it the largest of those with stripes, and in a search all of several cells",
@@ -162,6 +190,11 @@ def words() -> ArgumentParser:
         "--by", choices=list(ORDERS),
         help="the best is the tree of the least length, mean or p99; without it of the least mean where the last message is released"
         " in the second half of the plan under the tree as it is, else of the least length",
+    )
+    top.add_argument(
+        "--over", choices=["sum", "worst"], default="sum",
+        help="with several numbers of workers the best is the tree whose figures have the least sum (sum), or of whose figures the"
+        " greatest is the least (worst)",
     )
     top.add_argument("--rule", choices=["arrival", "longest"], default="arrival", help="the rule of the plans (arrival)")
     top.add_argument(
@@ -206,25 +239,31 @@ def tune(asked: Namespace) -> str:
     trees = [with_stripes(tree, spaces, *it) for it in tries]
     tell(f"{len(trees)} trees with other stripes or units for {', '.join(spaces)}")
     first, *others = rank(asked, [tree, *trees])
-    by = asked.by or order_of(first.length, trace)
-    tell(f"the best is the tree of the least {by}")
-    found = sorted(zip(others, tries, trees, strict=True), key=lambda it: (ORDERS[by](it[0]), it[1]))
-    lines = ["stripes,unit,length,mean,p99", f"-,-,{first.length},{first.mean},{first.p99}"]
-    lines += [f"{stripes},{unit},{it.length},{it.mean},{it.p99}" for it, (stripes, unit), _ in found]
+    by = asked.by or order_of(first, trace)
+    tell_best(asked, by)
+    key = order(by, asked.over)
+    found = sorted(zip(others, tries, trees, strict=True), key=lambda it: (key(it[0]), it[1]))
+    lines = [columns(["stripes", "unit"], asked.workers), f"-,-,{cells(first)}"]
+    lines += [f"{stripes},{unit},{cells(it)}" for it, (stripes, unit), _ in found]
     if asked.write:
         write_file(asked.write, found[0][2].text())
     return "\n".join(lines) + "\n"
 
 
+def tell_best(asked: Namespace, by: str) -> None:
+    over = f" ({asked.over} for {', '.join(map(str, asked.workers))} workers)" if len(asked.workers) > 1 else ""
+    tell(f"the best is the tree of the least {by}{over}")
+
+
 def searched(asked: Namespace, tree: Tree, spaces: list[str], trace: Trace) -> str:
     """The changes that a search made for these spaces, and the figures after each."""
     longest = max((it.ops.count(";") + 1 for it in trace.messages), default=1)
-    by = asked.by or order_of(rank(asked, [tree])[0].length, trace)
-    tell(f"the best is the tree of the least {by}")
-    steps, best = search(tree, spaces, longest, lambda trees: rank(asked, trees), ORDERS[by])
+    by = asked.by or order_of(rank(asked, [tree])[0], trace)
+    tell_best(asked, by)
+    steps, best = search(tree, spaces, longest, lambda trees: rank(asked, trees), order(by, asked.over))
     if asked.write:
         write_file(asked.write, best.text())
-    lines = ["change,length,mean,p99", *(f"{what},{it.length},{it.mean},{it.p99}" for what, it in steps)]
+    lines = [columns(["change"], asked.workers), *(f"{what},{cells(it)}" for what, it in steps)]
     return "\n".join(lines) + "\n"
 
 
