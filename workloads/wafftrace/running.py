@@ -203,11 +203,14 @@ def words() -> ArgumentParser:
         description="Runs a trace on this machine: makes a sparse file for each space in DIR, and each operation reads or writes a cell"
         " of it. K threads run the messages; one starts when it is released and all that exclude it and came before have finished."
         " Prints what happened as the text of a plan, with the starts that were measured. Tested, not proved.",
+    ).version()
+    top.add_argument("hier", metavar="HIER", help="the hierarchy, a TOML file")
+    top.add_argument("trace", metavar="TRACE", help="the trace, a CSV file")
+    top.add_argument("folder", metavar="DIR", help="the folder of the files, which is made if it is not there")
+    top.add_argument(
+        "--workers", type=number(1, limits.WORKERS, "number"), metavar="K", required=True,
+        help="how many messages may run at once, from 1 to 64",
     )
-    top.add_argument("hier", metavar="HIER")
-    top.add_argument("trace", metavar="TRACE")
-    top.add_argument("folder", metavar="DIR")
-    top.add_argument("--workers", type=number(1, limits.WORKERS, "number"), metavar="K", required=True)
     top.add_argument("--trace", metavar="FILE", dest="measured", help="write the trace with the costs that were measured to this file")
     top.add_argument("--cell", type=number(8, 1 << 30, "number of bytes"), metavar="BYTES", default=4096, help="bytes of a cell (4096)")
     top.add_argument("--tick", type=tick, metavar="MICROSECONDS", default=1000, help="microseconds in a tick (1)")

@@ -173,9 +173,9 @@ def words() -> ArgumentParser:
         description="Tries other numbers of stripes and other units for spaces of a tree, and tells for each how the proved program"
         " plans the trace for K workers: its length, the mean latency of its messages, and the latency that 99 of 100 have at most."
         " The best comes first. The first line is the tree as it is. Tested, not proved; its numbers are the program's.",
-    )
-    top.add_argument("hier", metavar="HIER")
-    top.add_argument("trace", metavar="TRACE")
+    ).version()
+    top.add_argument("hier", metavar="HIER", help="the hierarchy, a TOML file")
+    top.add_argument("trace", metavar="TRACE", help="the trace, a CSV file")
     top.add_argument(
         "--workers", type=workers_of, metavar="K,K..", required=True,
         help="how many messages may run at once, from 1 to 64; of several numbers the table shows the figures of each",

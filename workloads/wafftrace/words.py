@@ -12,7 +12,7 @@ from collections.abc import Callable
 from fractions import Fraction
 from typing import NoReturn
 
-from . import blocks, fio, gathering, hot, limits, model, plans, strace, traces
+from . import VERSION, blocks, fio, gathering, hot, limits, model, plans, strace, traces
 from .logs import Refusal, is_number, tell
 
 # What is done for the words of a command: the text that it prints.
@@ -40,6 +40,12 @@ message under way, so waits and latencies are less than those of the whole trace
 
 
 class Words(ArgumentParser):
+    def version(self) -> "Words":
+        """With the words that tell the version."""
+        told = f"{self.prog} {VERSION}"
+        self.add_argument("-V", "--version", action="version", version=told, help="show the version, that of the program, and exit")
+        return self
+
     def error(self, message: str) -> NoReturn:
         raise Refusal(2, f"{message} (`{self.prog} --help` tells the words)")
 
@@ -117,7 +123,7 @@ def of_volume(part: ArgumentParser) -> None:
 
 
 def words() -> ArgumentParser:
-    top = Words(prog="waff-trace", description="Makes traces of waff out of logs of real systems. Tested, not proved.")
+    top = Words(prog="waff-trace", description="Makes traces of waff out of logs of real systems. Tested, not proved.").version()
     parts = top.add_subparsers(dest="command", metavar="COMMAND", required=True, parser_class=Words)
 
     def part(name: str, what: str, run: Run, epilog: str | None = None, aliases: tuple[str, ...] = ()) -> ArgumentParser:
@@ -165,14 +171,14 @@ def words_of_logs(part: Callable[..., ArgumentParser]) -> None:
 
 def words_of_traces(part: Callable[..., ArgumentParser]) -> None:
     found = part("pace", "the trace with its releases divided, or without them", traces.pace)
-    found.add_argument("trace", metavar="TRACE")
+    found.add_argument("trace", metavar="TRACE", help="the trace, a CSV file")
     either = found.add_mutually_exclusive_group(required=True)
     either.add_argument("--speed", type=speed, metavar="N", help="divide each release by N (2, 0.5), rounded down")
     either.add_argument("--at-once", action="store_true", help="leave the releases out")
 
-    what = "a file for each window of a trace, with its releases from 0; prints their names"
+    what = "a file for each window of a trace, with its releases from 0; prints their names (`windows` is the same)"
     found = part("window", what, traces.window, WINDOW_HELP, aliases=("windows",))
-    found.add_argument("trace", metavar="TRACE")
+    found.add_argument("trace", metavar="TRACE", help="the trace, a CSV file")
     either = found.add_mutually_exclusive_group(required=True)
     either.add_argument("--messages", type=number(1, 1 << 50, "number"), metavar="N", help="windows of N messages")
     either.add_argument("--ticks", type=number(1, 1 << 50, "number"), metavar="T", help="windows of T ticks, by releases")
@@ -193,20 +199,20 @@ def words_of_traces(part: Callable[..., ArgumentParser]) -> None:
     )
 
     found = part("sort", "the trace in the order of its releases", traces.sort)
-    found.add_argument("trace", metavar="TRACE")
+    found.add_argument("trace", metavar="TRACE", help="the trace, a CSV file")
 
     found = part("stats", "what a trace has, and how much of it is over the limits of waff", traces.stats)
-    found.add_argument("trace", metavar="TRACE")
+    found.add_argument("trace", metavar="TRACE", help="the trace, a CSV file")
 
     found = part("hot", "which files and names the time of affinities is of", hot.hot)
-    found.add_argument("hier", metavar="HIER")
-    found.add_argument("trace", metavar="TRACE")
+    found.add_argument("hier", metavar="HIER", help="the hierarchy, a TOML file")
+    found.add_argument("trace", metavar="TRACE", help="the trace, a CSV file")
     found.add_argument("--map", metavar="FILE", required=True, help="which cells are whose, as an import of the log wrote it")
     found.add_argument("--affinity", metavar="A", nargs="+", help="of these affinities alone")
 
     found = part("plan", "the text of a plan that another scheduler made, for `waff check` and `waff draw`", plans.plan)
-    found.add_argument("hier", metavar="HIER")
-    found.add_argument("trace", metavar="TRACE")
+    found.add_argument("hier", metavar="HIER", help="the hierarchy, a TOML file")
+    found.add_argument("trace", metavar="TRACE", help="the trace, a CSV file")
     found.add_argument("starts", metavar="STARTS", help="lines of a message's number, its start, and its worker if it has one")
     found.add_argument(
         "--workers", type=number(1, limits.WORKERS, "number"), metavar="K", help="how many workers it is for; without it the greatest worker"
@@ -249,7 +255,11 @@ def run_words(given: list[str], parser: Callable[[], ArgumentParser], run: Run) 
     try:
         if sys.stdout is None:
             raise Refusal(4, "standard output: it is closed")
-        asked = parser().parse_args(given)
+        try:
+            asked = parser().parse_args(given)
+        except SystemExit:  # the help or the version was printed
+            sys.stdout.flush()
+            return 0
         if sum(it == "-" for it in given) > 1:
             raise Refusal(2, "two files from standard input")
         text = run(asked)
