@@ -95,8 +95,11 @@ class Lines:
 
 
 def tell(text: str) -> None:
-    """Tells something on standard error."""
-    print(f"{os.path.basename(sys.argv[0])}: {text}", file=sys.stderr)
+    """Tells something on standard error. Where nobody can read it, nothing more is told there."""
+    try:
+        print(f"{os.path.basename(sys.argv[0])}: {text}", file=sys.stderr, flush=True)
+    except OSError:
+        os.dup2(os.open(os.devnull, os.O_WRONLY), 2)
 
 
 @dataclass(slots=True, eq=False)

@@ -1,5 +1,6 @@
 """A volume or devices as spaces of cells, and requests as messages of a trace over them."""
 
+import collections
 import csv
 import io
 import operator
@@ -255,7 +256,7 @@ class Messages:
         self.lines = ["message,cost,release,ops"]
         self.release = 0
         self.cut_costs = 0
-        self.guessed = 0
+        self.guessed: collections.Counter[str] = collections.Counter()
         self.number = 0
         self.spaces: dict[File, str] = {}
 
@@ -267,7 +268,7 @@ class Messages:
             self.release = (request.time - start) // tick
             self.number += 1
             if self.measured and request.took is None:
-                self.guessed += 1
+                self.guessed[request.name] += 1
             if isinstance(request, Data):
                 self.data(request)
             else:
@@ -369,7 +370,8 @@ def warn(messages: Messages) -> None:
     """Tells what of the trace waff would refuse, and what was cut so that it does not."""
     count = len(messages.lines) - 1
     if messages.guessed:
-        tell(f"requests without a latency, which cost what their size says: {messages.guessed}")
+        names = ", ".join(f"{name} {times}" for name, times in sorted(messages.guessed.items()))
+        tell(f"requests without a latency, which cost what their size says: {messages.guessed.total()} ({names})")
     if messages.cut_costs:
         tell(f"costs above {limits.COST} ticks, which were cut to that: {messages.cut_costs} (a larger --tick keeps them)")
     if count > limits.MESSAGES:

@@ -5,7 +5,6 @@ import errno
 import io
 import os
 import re
-import signal
 import sys
 from argparse import ArgumentParser, Namespace
 from collections.abc import Callable
@@ -22,7 +21,8 @@ COST_HELP = """\
 What a cost is: the time for which a message holds its affinity and a worker. `--cost latency` takes the latency of the log,
 which is that only where the request did not wait: in a queue, for a lock, for the disk. A latency that includes waiting is no
 cost, since the plan adds the waits of its own tree and workers, and then they count twice. Where requests were in flight
-together, take `--cost size`: `--base` microseconds and `--per-kib` for each KiB begun.
+together, take `--cost size`: `--base` microseconds and `--per-kib` for each KiB begun. Their values without the options are guesses;
+workloads/README.md shows how to measure them.
 
 What is left out: a trace has no order but that of what excludes each other. Two messages of one client run side by side in a plan
 where they did not in the log, unless their releases keep them apart."""
@@ -45,6 +45,10 @@ class Words(ArgumentParser):
         told = f"{self.prog} {VERSION}"
         self.add_argument("-V", "--version", action="version", version=told, help="show the version, that of the program, and exit")
         return self
+
+    def _print_message(self, message: str, file: object = None) -> None:
+        """The help and the version. What cannot be written is a fault, which the method of the class is silent of."""
+        write_out(message)
 
     def error(self, message: str) -> NoReturn:
         raise Refusal(2, f"{message} (`{self.prog} --help` tells the words)")
@@ -105,10 +109,12 @@ def imported(part: ArgumentParser) -> None:
         "--cost", choices=["latency", "size"], default="latency", help="cost by the latency in the log (latency), or by the size"
     )
     part.add_argument(
-        "--base", type=nanoseconds, metavar="MICROSECONDS", default=10000, help="cost by size: of each request (10)"
+        "--base", type=nanoseconds, metavar="MICROSECONDS", default=10000,
+        help="cost by size: of each request (10, a guess)",
     )
     part.add_argument(
-        "--per-kib", type=nanoseconds, metavar="MICROSECONDS", default=1000, help="cost by size: of each KiB begun (1)"
+        "--per-kib", type=nanoseconds, metavar="MICROSECONDS", default=1000,
+        help="cost by size: of each KiB begun (1, a guess)",
     )
 
 
@@ -243,10 +249,16 @@ def of_log(read: model.Log) -> Run:
     return run
 
 
+def write_out(text: str) -> None:
+    """Writes a text to standard output, which may take it in parts."""
+    left = memoryview(text.encode("utf-8", "surrogateescape"))
+    while left:
+        left = left[os.write(sys.stdout.fileno(), left) :]
+
+
 def run_words(given: list[str], parser: Callable[[], ArgumentParser], run: Run) -> int:
     """Runs what words ask for, and answers the exit status: 0, or 2 for words, 3 for a bad file, 4 for one that cannot be read
     or written. What is refused is told in one line."""
-    signal.signal(signal.SIGPIPE, signal.SIG_DFL)
     # A standard stream that was closed before the program began is none in Python.
     if sys.stderr is None:
         sys.stderr = open(os.devnull, "w")
@@ -258,13 +270,10 @@ def run_words(given: list[str], parser: Callable[[], ArgumentParser], run: Run) 
         try:
             asked = parser().parse_args(given)
         except SystemExit:  # the help or the version was printed
-            sys.stdout.flush()
             return 0
         if sum(it == "-" for it in given) > 1:
             raise Refusal(2, "two files from standard input")
-        text = run(asked)
-        sys.stdout.buffer.write(text.encode("utf-8", "surrogateescape"))
-        sys.stdout.buffer.flush()
+        write_out(run(asked))
     except Refusal as refusal:
         tell(str(refusal))
         return refusal.status
