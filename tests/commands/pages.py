@@ -22,7 +22,7 @@ NO_CASE = {"waff: Memory"}
 
 def shows(case: Case, call: str, commands: set[str], output: list[str]) -> bool:
     words, _, kept = call.replace("examples/", "").replace("< ", "<").removeprefix("./").partition(" >")
-    setup = {line for line in case.setup.splitlines() if not line.startswith("#") and "inputs/" not in line}
+    setup = {line for line in case.setup.splitlines() if not line.startswith(("#", "cp box/")) and "inputs/" not in line}
     printed = ("" if kept else case.stream("|")) + case.stream("!")
     return case.command == words and setup <= commands and re.fullmatch(pattern(output), printed) is not None
 
