@@ -172,12 +172,14 @@ def stats(asked: Namespace) -> str:
         entry[1] += it.cost
     spaces = collections.Counter(cell.rpartition(":")[0] for cell in touched)
     messages = trace.messages
+    cost, last = sum(it.cost for it in messages), max((it.release for it in messages), default=0)
     lines = [
         f"messages,{len(messages)}",
         f"operations,{operations}",
         f"cells,{len(touched)}",
-        f"cost,{sum(it.cost for it in messages)}",
-        f"release,{max((it.release for it in messages), default=0)}",
+        f"cost,{cost}",
+        f"release,{last}",
+        f"load,{cost // last}.{100 * cost // last % 100:02}" if last else "load,-",
         f"over-messages,{max(0, len(messages) - limits.MESSAGES)}",
         f"over-operations,{long}",
         f"over-cost,{sum(not 1 <= it.cost <= limits.COST for it in messages)}",

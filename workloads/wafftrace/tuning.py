@@ -240,6 +240,7 @@ def tune(asked: Namespace) -> str:
     tell(f"{len(trees)} trees with other stripes or units for {', '.join(spaces)}")
     first, *others = rank(asked, [tree, *trees])
     by = asked.by or order_of(first, trace)
+    tell_calm(first, trace)
     tell_best(asked, by)
     key = order(by, asked.over)
     found = sorted(zip(others, tries, trees, strict=True), key=lambda it: (key(it[0]), it[1]))
@@ -250,6 +251,13 @@ def tune(asked: Namespace) -> str:
     return "\n".join(lines) + "\n"
 
 
+def tell_calm(row: Row, trace: Trace) -> None:
+    """Tells where messages hardly wait under the tree as it is, so that other trees can gain nothing."""
+    waits, cost = max(it.waits for it in row), sum(it.cost for it in trace.messages)
+    if 100 * waits < cost:
+        tell(f"under the tree as it is messages wait {waits} ticks in all, and cost {cost}: another tree gains little (`waff-trace pace`)")
+
+
 def tell_best(asked: Namespace, by: str) -> None:
     over = f" ({asked.over} for {', '.join(map(str, asked.workers))} workers)" if len(asked.workers) > 1 else ""
     tell(f"the best is the tree of the least {by}{over}")
@@ -258,7 +266,9 @@ def tell_best(asked: Namespace, by: str) -> None:
 def searched(asked: Namespace, tree: Tree, spaces: list[str], trace: Trace) -> str:
     """The changes that a search made for these spaces, and the figures after each."""
     longest = max((it.ops.count(";") + 1 for it in trace.messages), default=1)
-    by = asked.by or order_of(rank(asked, [tree])[0], trace)
+    (first,) = rank(asked, [tree])
+    by = asked.by or order_of(first, trace)
+    tell_calm(first, trace)
     tell_best(asked, by)
     steps, best = search(tree, spaces, longest, lambda trees: rank(asked, trees), order(by, asked.over))
     if asked.write:
