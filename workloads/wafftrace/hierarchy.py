@@ -127,6 +127,10 @@ def read_tree(name: str) -> Tree:
         maps = {it["space"]: (it["unit"], it["to"]) for it in table["map"]}
         if [len(parents), len(sizes), len(maps)] != [len(table[it]) for it in ("affinity", "space", "map")]:
             raise ValueError("a name that is there twice")
+        if not all(type(it) is int for it in [*sizes.values(), *(unit for unit, _ in maps.values())]):
+            raise ValueError("a size or a unit that is no whole number")
+        if not all(type(it) is str for it in [table["model"], *parents, *sizes]) or not all(type(to) is list for _, to in maps.values()):
+            raise ValueError("a model or a name that is no text, or no list of affinities")
         if set(maps) != set(sizes) or min(sizes.values(), default=1) < 1 or not all(unit > 0 and to for unit, to in maps.values()):
             raise ValueError("a space without a size, a map, a unit or an affinity")
         if not all(owner in parents for _, to in maps.values() for owner in to):

@@ -5,6 +5,7 @@ import csv
 import io
 from argparse import Namespace
 
+from . import limits
 from .hierarchy import read_tree
 from .logs import Refusal, is_number, read_text, shown
 from .plans import affinities_of
@@ -15,11 +16,14 @@ def read_map(name: str) -> dict[str, list[str]]:
     """The names of each cell, of a file that an import wrote with `--map`."""
     called = shown(name)
     found: dict[str, list[str]] = collections.defaultdict(list)
-    records = csv.reader(io.StringIO(read_text(name), newline=""))
-    if next(records, None) != ["space", "first", "last", "name"]:
+    try:
+        records = list(csv.reader(io.StringIO(read_text(name), newline="")))
+    except csv.Error as fault:
+        raise Refusal(3, f"{called}: no CSV: {fault}") from None
+    if records[:1] != [["space", "first", "last", "name"]]:
         raise Refusal(3, f"{called}: its first record is not space,first,last,name")
-    for number, record in enumerate(records, 2):
-        if len(record) != 4 or not (is_number(record[1]) and is_number(record[2])):
+    for number, record in enumerate(records[1:], 2):
+        if len(record) != 4 or not (is_number(record[1]) and is_number(record[2])) or int(record[2]) >= limits.CELLS:
             raise Refusal(3, f"{called}: record {number} is no space, first cell, last cell and name")
         space, first, last, whose = record
         for index in range(int(first), int(last) + 1):

@@ -82,7 +82,7 @@ class Deal:
         return Deal(tree, {name: parent for name, parent in parents.items() if name not in leaves}, groups, spaces)
 
     def built(self) -> Tree | None:
-        """The tree, None where it can have no such names."""
+        """The tree, None where it can have no such names, or not be classical any more."""
         used = dict.fromkeys(name for name, _ in self.spaces.values())
         parents = dict(self.kept)
         waiting = [self.groups[it] for it in used if not self.groups[it].is_inner]
@@ -96,6 +96,10 @@ class Deal:
                     return None
                 parents |= dict.fromkeys(group.names, group.parent)
             waiting = [it for it in waiting if it not in ready]
+        # A classical tree is a root with leaves.
+        root = next(iter(parents))
+        if self.tree.model == "classical" and any(parent not in (None, root) for parent in parents.values()):
+            return None
         maps = {space: (unit, list(self.groups[name].names)) for space, (name, unit) in self.spaces.items()}
         return self.tree.changed(parents, maps)
 
