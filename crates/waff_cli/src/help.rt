@@ -52,8 +52,8 @@ and prints the plan of both.";
 pub const RULE: &str = "\
 Which ready messages start first: by arrival those that arrived first,
 by longest those on which the longest chain of work hangs. Without
---rule it is arrival. Mostly the plan is shorter by longest, and the
-greatest latencies are less by arrival";
+--rule it is arrival. Longest usually gives the shorter plan; where
+requests arrive over time it may raise the greatest latencies";
 
 /// What the long help of `waff assign` ends with.
 const ASSIGN: &str = with_statuses!(

@@ -11,7 +11,7 @@ use waff_parse::cut;
 
 /// What a line begins with, which tells what it has.
 #[derive(Clone, Copy)]
-pub(crate) enum Head {
+pub enum Head {
     /// The file, and the place in it.
     Where,
     /// What there is to tell of the message of this number.
