@@ -7,9 +7,9 @@ r"""Transcripts: cases of what programs are asked, and of what they print. Each 
     status 3
 
 The case runs in a folder with the files of examples/, with the folders that lie beside the transcript, as `inputs`, and with `box` of
-tests/workloads. Lines of bash lay its other files there; then comes the command, of `waff` or of workloads/, and what it prints: `| `
-stands before a line of standard output, `! ` before one of standard error, and the status is told if it is not 0. A line `|\` says
-that the one before it does not end. `| ...` or `! ...` is any text but none: clap's words are free.
+tests/workloads. Lines of bash lay its other files there; then comes the command, of `waff`, of workloads/ or of the transcript's folder,
+and what it prints: `| ` stands before a line of standard output, `! ` before one of standard error, and the status is told if it is not
+0. A line `|\` says that the one before it does not end. `| ...` or `! ...` is any text but none: clap's words are free.
 """
 
 import difflib
@@ -54,7 +54,8 @@ class Case:
             for beside in {BOX, *filter(pathlib.Path.is_dir, self.folder.iterdir())}:
                 (files / beside.name).symlink_to(beside)
             (folder / "waff").symlink_to(program)
-            environment = {**os.environ, "PATH": f"{folder}:{ROOT / 'workloads'}:{os.environ['PATH']}", "WAFF": program, "LC_ALL": "C"}
+            path = f"{folder}:{ROOT / 'workloads'}:{os.environ['PATH']}:{self.folder}"
+            environment = {**os.environ, "PATH": path, "WAFF": program, "LC_ALL": "C"}
             # What fails to lay the files is shown in place of the command.
             for words in (["bash", "-ec", self.setup], ["timeout", SECONDS, "bash", "-o", "pipefail", "-c", self.command]):
                 done = subprocess.run(words, cwd=files, env=environment, stdin=subprocess.DEVNULL, capture_output=True)

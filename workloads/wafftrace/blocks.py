@@ -2,6 +2,7 @@
 
 import re
 from argparse import Namespace
+from dataclasses import dataclass
 
 from .logs import Data, Lines, Meta, Refusal, Request, is_number, read_lines
 from .model import Devices
@@ -10,7 +11,7 @@ SECTOR = 512
 
 # Device, processor, sequence, seconds, process, action, kind; then the sector and the sectors where it has some.
 EVENT = re.compile(
-    r"\s*(\d{1,6}),(\d{1,7})\s+\d+\s+\d+\s+(\d{1,12})\.(\d{9})\s+\d+\s+([A-Z]+)\s+([A-Z]+)"
+    r"\s*(\d{1,6}),(\d{1,7})\s+\d+\s+\d+\s+(\d{1,12})\.(\d{9})\s+(\d+)\s+([A-Z]+)\s+([A-Z]+)"
     r"(?:\s+(\d{1,18}) \+ (\d{1,18}))?(?:\s|$)",
     re.ASCII,
 )
@@ -33,14 +34,24 @@ class Reader:
         self.store = Devices()
         self.requests: list[Request] = []
 
-    def data(self, time: int, took: int, name: str, kind: str, device: str, offset: int, length: int) -> None:
+    def data(self, time: int, took: int, name: str, kind: str, device: str, offset: int, length: int, client: str = "-") -> None:
         file = self.store.device(device)
         file.end = max(file.end, offset + length)
-        self.requests.append(Data(time, took, name, kind, file, offset, length))
+        self.requests.append(Data(time, took, name, kind, file, offset, length, client=client))
 
-    def flush(self, time: int, took: int, device: str) -> None:
+    def flush(self, time: int, took: int, device: str, client: str) -> None:
         self.store.device(device)
-        self.requests.append(Meta(time, took, "flush", [("read", device, "dev", 0)]))
+        self.requests.append(Meta(time, took, "flush", [("read", device, "dev", 0)], client=client))
+
+
+@dataclass(slots=True)
+class Issue:
+    """A request that is under way: when it was issued, its kind, its sectors, and the process that issued it."""
+
+    time: int
+    flags: str
+    sectors: str | None
+    process: str
 
 
 class BlkReader(Reader):
@@ -49,7 +60,7 @@ class BlkReader(Reader):
     def __init__(self, log: Lines) -> None:
         super().__init__()
         self.log = log
-        self.issued: dict[tuple[str, str], tuple[int, str, str | None]] = {}
+        self.issued: dict[tuple[str, str], Issue] = {}
 
     def read(self, lines: list[str]) -> None:
         summary = False
@@ -69,7 +80,7 @@ class BlkReader(Reader):
             self.log.without["requests that were not completed"] += len(self.issued)
 
     def event(self, event: re.Match[str]) -> None:
-        major, minor, seconds, nanoseconds, action, flags, sector, sectors = event.groups()
+        major, minor, seconds, nanoseconds, process, action, flags, sector, sectors = event.groups()
         time = int(seconds) * 10**9 + int(nanoseconds)
         self.log.at(time)
         device = f"dev{major}-{minor}"
@@ -78,7 +89,7 @@ class BlkReader(Reader):
         if action == "D":
             if key in self.issued:
                 self.log.without["requests that were issued again"] += 1
-            self.issued[key] = time, flags, sectors
+            self.issued[key] = Issue(time, flags, sectors, process[:20])
             return
         if action == "R" and key in self.issued:
             del self.issued[key]
@@ -87,21 +98,20 @@ class BlkReader(Reader):
         elif key not in self.issued:
             self.log.without["completions of what was not issued"] += 1
         else:
-            start, flags, sectors = self.issued.pop(key)
-            self.complete(device, start, time - start, flags, sector, sectors)
+            self.complete(device, self.issued.pop(key), time, sector)
 
-    def complete(self, device: str, start: int, took: int, flags: str, sector: str | None, sectors: str | None) -> None:
-        found = kind_of(flags)
+    def complete(self, device: str, issue: Issue, end: int, sector: str | None) -> None:
+        found, sectors, took = kind_of(issue.flags), issue.sectors, end - issue.time
         self.log.without["issues, which are told with their completions"] += 1
         if not sector or not sectors or not int(sectors):
-            if "F" in flags:
-                self.flush(start, took, device)
+            if "F" in issue.flags:
+                self.flush(issue.time, took, device, issue.process)
             else:
                 self.log.without["requests without sectors"] += 1
         elif found is None:
             self.log.without["requests of other kinds"] += 1
         else:
-            self.data(start, took, *found, device, int(sector) * SECTOR, int(sectors) * SECTOR)
+            self.data(issue.time, took, *found, device, int(sector) * SECTOR, int(sectors) * SECTOR, issue.process)
 
 
 def read_blkparse(asked: Namespace) -> tuple[Devices, list[Request]]:

@@ -4,6 +4,7 @@ The times of version 3 are in microseconds, as fio 3.33 writes them; latencies a
 """
 
 import collections
+import os
 import re
 from argparse import Namespace
 from fractions import Fraction
@@ -14,6 +15,8 @@ from .model import VOLUME, Volume
 HEADER = re.compile(r"fio version ([23]) iolog")
 KINDS = {"read": "read", "write": "write", "trim": "free"}
 DIRECTIONS = {"read": "0", "write": "1", "trim": "2"}
+# What of a job's name stands before the number of a lane.
+JOB_NAME = 20
 FLUSHES = {"sync": "sync", "datasync": "sync", "sync_file_range": "sync"}
 
 
@@ -55,16 +58,19 @@ class Reader:
             file = self.known[name] = self.store.new_file(name)
         return file
 
-    def read(self, name: str, latencies: Latencies | None, start: int) -> None:
+    def read(self, name: str, latencies: Latencies | None, start: int, client: str) -> None:
         """Adds the requests of a log whose job started so many nanoseconds after the others."""
         lines = read_lines(name)
         log = Lines(name, len(lines))
+        first = len(self.requests)
         if lines:
             header = HEADER.fullmatch(lines[0].strip())
             if header is None:
-                raise Refusal(3, f"{shown(log.name)}: no iolog: its first line is not `fio version 2 iolog` or `.. 3 ..`")
+                raise Refusal(3, f"{log.name}: no iolog: its first line is not `fio version 2 iolog` or `.. 3 ..`")
             self.actions(log, lines, header[1] == "3", latencies, start)
             log.without["the header"] = 1
+        for it in self.requests[first:]:
+            it.client = client
         log.report()
         if latencies and (left := sum(len(it) for it in latencies.waiting.values())):
             tell(f"{latencies.lines.name}: latencies of no request: {left}")
@@ -72,6 +78,9 @@ class Reader:
     def actions(self, log: Lines, lines: list[str], has_times: bool, latencies: Latencies | None, start: int) -> None:
         now = start
         for number, line in enumerate(lines[1:], 2):
+            if HEADER.fullmatch(line.strip()):
+                log.notes["headers of other jobs, whose lines may be mixed with those before (each job has a log of its own)"] += 1
+                continue
             words = line.split()
             if has_times:
                 if not words or not is_number(words[0]):
@@ -123,16 +132,27 @@ def starts_of(asked: Namespace) -> dict[str, int]:
     return starts
 
 
+def jobs_of(logs: list[str]) -> list[str]:
+    """The names of the jobs: those of their logs, up to the last point, as a client may be named. One that is there twice gets a
+    number."""
+    found: list[str] = []
+    for log in logs:
+        stem = re.sub(r"[^A-Za-z0-9_.-]", "_", os.path.splitext(os.path.basename(log))[0]).strip("-")[:JOB_NAME] or "job"
+        names = (stem, *(f"{stem}_{number}" for number in range(2, len(logs) + 1)))
+        found.append(next(it for it in names if it not in found))
+    return found
+
+
 def read(asked: Namespace) -> tuple[Volume, list[Request]]:
     """The volume and the requests of the logs. `asked.latencies` has as many files as there are logs, or none."""
     if not asked.logs:
         raise Refusal(2, "fio: no LOG is given (--latencies takes all names behind it, so the logs stand before it)")
     if asked.latencies and len(asked.latencies) != len(asked.logs):
-        raise Refusal(2, f"fio: {len(asked.logs)} logs and {len(asked.latencies)} logs of latencies: one is wanted for each")
+        raise Refusal(2, f"fio: {len(asked.logs)} logs and {len(asked.latencies)} logs of latencies: one is wanted for each, NAME_clat.N.log of job N")
     starts = starts_of(asked)
     if len(asked.logs) > 1 and not asked.starts:
         tell("the times of each log are from the start of its own job, and all jobs are taken to start together (--starts)")
     reader = Reader()
-    for place, name in enumerate(asked.logs):
-        reader.read(name, Latencies(asked.latencies[place]) if asked.latencies else None, starts[name])
+    for place, (name, job) in enumerate(zip(asked.logs, jobs_of(asked.logs), strict=True)):
+        reader.read(name, Latencies(asked.latencies[place]) if asked.latencies else None, starts[name], job)
     return reader.store, reader.requests

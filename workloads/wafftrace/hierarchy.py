@@ -6,12 +6,12 @@ from dataclasses import dataclass, field
 
 from .logs import Refusal, read_text, shown
 
-# What a comment stands at: a table (`affinity`, `space` or `map`; `model`, `end`) and the name of its entry, none for the table itself.
+# What a comment stands at: a table (`affinity`, `space` or `map`; `model`, `format`, `end`) and the name of its entry, none for the table itself.
 Place = tuple[str, str]
 
 # A comment begins at the first `#` outside of strings.
 COMMENT = re.compile(r"""((?:[^#"']|"(?:[^"\\]|\\.)*"|'[^']*')*)(#.*)?""")
-TABLE = re.compile(r"\s*(?:\[\[\s*(affinity|space|map)\s*\]\]|(affinity|space|map)\s*=\s*\[|(model)\s*=)")
+TABLE = re.compile(r"\s*(?:\[\[\s*(affinity|space|map)\s*\]\]|(affinity|space|map)\s*=\s*\[|(model)\s*=|(format)\s*=\s*\+?2\s*$)")
 ENTRY = {"affinity": "name", "space": "name", "map": "space"}
 
 
@@ -35,7 +35,7 @@ class Comments:
                 continue
             begun = TABLE.match(code)
             if begun:
-                place = (begun[1] or begun[2] or begun[3], "")
+                place = (next(it for it in begun.groups() if it), "")
             named = re.search(rf"""\b{ENTRY.get(place[0], "model")}\s*=\s*["']([^"']*)["']""", code)
             if named and place[0] in ENTRY:
                 place = (place[0], named[1])
@@ -64,16 +64,20 @@ class Tree:
     sizes: dict[str, int]
     maps: dict[str, tuple[int, list[str]]]
     comments: Comments = field(default_factory=Comments)
+    # Whether it is of format 2, for large spaces.
+    is_large: bool = False
     ways: dict[str, list[str]] = field(default_factory=dict)
 
     def changed(self, parents: dict[str, str | None], maps: dict[str, tuple[int, list[str]]]) -> "Tree":
         """The tree with other affinities and maps, and its comments."""
-        return Tree(self.model, parents, self.sizes, maps, self.comments)
+        return Tree(self.model, parents, self.sizes, maps, self.comments, self.is_large)
 
     def text(self) -> str:
         """The file, with the comments of what it has."""
         told = self.comments.lines
-        lines = [*told(("model", ""), f'model = "{self.model}"'), "", *told(("affinity", ""), "affinity = [")]
+        lines = told(("model", ""), f'model = "{self.model}"')
+        lines += told(("format", ""), "format = 2") if self.is_large else []
+        lines += ["", *told(("affinity", ""), "affinity = [")]
         for name, parent in self.parents.items():
             lines += told(("affinity", name), f'    {{ name = "{name}"' + (f', parent = "{parent}"' if parent else "") + " },")
         lines += ["]", "", *told(("space", ""), "space = [")]
@@ -94,13 +98,13 @@ class Tree:
                 found.append(parent)
         return found
 
-    def owner(self, cell: str) -> str | None:
-        """The affinity that a cell is mapped to, None where there is no such cell."""
-        space, _, index = cell.rpartition(":")
-        if space not in self.sizes or int(index) >= self.sizes[space]:
-            return None
+    def owners(self, space: str, first: int, last: int) -> list[str]:
+        """The affinities that cells from one to another are mapped to; none where there are no such cells."""
+        if space not in self.sizes or last >= self.sizes[space]:
+            return []
         unit, owners = self.maps[space]
-        return owners[int(index) // unit % len(owners)]
+        count = min(last // unit - first // unit + 1, len(owners))
+        return [owners[(first // unit + n) % len(owners)] for n in range(count)]
 
     def lowest(self, owners: Iterable[str]) -> str:
         """The lowest affinity that is at or above all of these."""
@@ -140,6 +144,8 @@ def read_tree(name: str) -> Tree:
             if parent not in before and (parent is not None or before):
                 raise ValueError("a parent that does not stand before its child")
             before.add(affinity)
-        return Tree(table["model"], parents, sizes, maps, Comments.of(text))
+        # No text, and no 2.0.
+        is_large = type(table.get("format")) is int and table["format"] == 2
+        return Tree(table["model"], parents, sizes, maps, Comments.of(text), is_large)
     except (tomllib.TOMLDecodeError, UnicodeError, KeyError, TypeError, ValueError, AttributeError) as fault:
         raise Refusal(3, f"{shown(name)}: no hierarchy, `waff explain` tells why ({fault})") from None

@@ -3,10 +3,18 @@
 AFFINITIES = 4096
 SPACES = 256
 CELLS = 262144
+# Of a hierarchy of format 2, in which all spaces together may have any number of cells.
+LARGE_SIZE = 4294967295
+LARGE_UNIT = 4294967295
 OWNERS = 256
 NAME = 32
-MESSAGES = 65536
-OPS = 32
+# Of traces with clients, and of those of versions 1 and 2.
+MESSAGES = 1048576
+EARLIER_MESSAGES = 65536
+OPS = 1024
+EARLIER_OPS = 32
+ALL_OPS = 16777216
 COST = 1000000
 RELEASE = 1000000000
+THINK = 10000000
 WORKERS = 64

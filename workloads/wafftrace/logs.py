@@ -50,12 +50,24 @@ def shown(text: str, most: int = SHOWN_CHARACTERS) -> str:
     return plain + ("..." if len(text) > most else "")
 
 
+def named(text: str) -> str:
+    """A name on one line, as it is but for a backslash, which is two, and bytes that are no UTF-8 or no characters that can be printed,
+    which are `\\xHH`."""
+
+    def character(it: str) -> str:
+        if it == "\\":
+            return "\\\\"
+        return it if it.isprintable() else "".join(f"\\x{byte:02x}" for byte in it.encode("utf-8", "surrogateescape"))
+
+    return text if text.isprintable() and "\\" not in text else "".join(map(character, text))
+
+
 class Lines:
     """The lines of one log: how many there are, what became of those that no message comes of, and what else is to be told.
     `wanted` says how such a log is recorded."""
 
     def __init__(self, name: str, count: int, wanted: str = "") -> None:
-        self.name = "standard input" if name == "-" else name
+        self.name = "standard input" if name == "-" else named(name)
         self.count = count
         self.wanted = wanted
         self.notes: collections.Counter[str] = collections.Counter()
@@ -91,7 +103,7 @@ class Lines:
             for number, line in self.strange:
                 tell(f"{self.name}:{number}: {shown(line)}")
         if self.strange_count and self.strange_count + self.without["blank lines"] == self.count:
-            raise Refusal(3, f"{shown(self.name)}: no line of it is understood{f': {self.wanted}' if self.wanted else ''}")
+            raise Refusal(3, f"{self.name}: no line of it is understood{f': {self.wanted}' if self.wanted else ''}")
 
 
 def tell(text: str) -> None:
@@ -117,7 +129,7 @@ class File:
 
 @dataclass(slots=True)
 class Data:
-    """A request for bytes of a file or a device, in the order of the log. Times are in nanoseconds.
+    """A request for bytes of a file or a device, in the order of the log, and whose it is. Times are in nanoseconds.
 
     `took` is None where the log has no latency; `kind` is read, write or free; `fresh` is the number of the first byte that the
     request is known to be the first to write, None where there is none.
@@ -131,6 +143,7 @@ class Data:
     offset: int
     length: int
     fresh: int | None = None
+    client: str = "-"
 
 
 # Data that is given back or taken: the file, its first byte, the one behind its last, and free or alloc.
@@ -147,6 +160,7 @@ class Meta:
     name: str
     ops: list[tuple[str, str, str, int]]
     blocks: Blocks | None = None
+    client: str = "-"
 
 
 Request = Data | Meta

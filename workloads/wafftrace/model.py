@@ -5,14 +5,16 @@ import csv
 import io
 import operator
 from argparse import Namespace
-from collections.abc import Callable, Iterator
+from collections.abc import Callable, Iterable, Iterator
 from typing import Protocol
 
 from . import limits
+from .clients import Loop
 from .hierarchy import Tree
-from .logs import Data, File, Meta, Refusal, Request, shown, tell
+from .logs import Data, File, Meta, Refusal, Request, named, tell
 
 LEAST_CELL = 4096
+SECTOR = 512
 LEAST_UNIT = 8
 INODE_CELLS = 65536
 DIRECTORY_CELLS = 32768
@@ -40,6 +42,9 @@ class Store(Protocol):
 
     def data_space(self, file: File) -> str:
         """The space of a file's data."""
+
+    def block(self, requests: Iterable[Request]) -> int:
+        """The bytes of a block, which no cell needs to be smaller than."""
 
     def place(self, cell: int, unit: int) -> dict[str, int]:
         """Places the files, in cells and units of so many bytes and cells. Tells how many cells there are, by their spaces."""
@@ -83,6 +88,9 @@ class Volume:
 
     def data_space(self, file: File) -> str:
         return VOLUME + ".data"
+
+    def block(self, requests: Iterable[Request]) -> int:
+        return LEAST_CELL
 
     def place(self, cell: int, unit: int) -> dict[str, int]:
         """Places the files one behind another, each in cells of its own where these are small, and none across the edge of a
@@ -153,6 +161,11 @@ class Devices:
     def data_space(self, file: File) -> str:
         return file.name + ".data"
 
+    def block(self, requests: Iterable[Request]) -> int:
+        """That of the file system above, where all requests are of whole ones, and else a sector."""
+        is_whole = all((it.offset | it.length) % LEAST_CELL == 0 for it in requests if isinstance(it, Data))
+        return LEAST_CELL if is_whole else SECTOR
+
     def place(self, cell: int, unit: int) -> dict[str, int]:
         spaces = {}
         for file in self.files.values():
@@ -184,34 +197,65 @@ class Devices:
 
 
 class Shape:
-    """How large a cell and a unit are, and the cells that come of that."""
+    """How large a cell and a unit are, the cells that come of that, and whether they want a hierarchy of format 2 (`is_large`).
+    A message has `most` operations."""
 
-    def __init__(self, store: Store, requests: list[Request], options: Namespace) -> None:
-        longest = max((it.length for it in requests if isinstance(it, Data) and it.kind != "free"), default=1)
-        self.cell: int = options.cell or LEAST_CELL
-        while True:
-            self.unit: int = options.unit or min(max(power_from(upwards(longest, self.cell)), LEAST_UNIT), limits.OPS)
-            self.spaces = store.place(self.cell, self.unit)
-            self.count = sum(self.spaces.values())
-            if self.count <= limits.CELLS:
-                return
-            if options.cell:
-                raise Refusal(2, f"--cell {self.cell} makes {self.count} cells, and a hierarchy has at most {limits.CELLS}")
-            self.cell *= 2
+    def __init__(self, store: Store, requests: list[Request], options: Namespace, most: int) -> None:
+        self.store = store
+        self.asked_unit: int | None = options.unit
+        self.most = most
+        moved = [it for it in requests if isinstance(it, Data) and it.kind != "free"]
+        self.longest = max((it.length for it in moved), default=1)
+        self.lay(options.cell or LEAST_CELL)
+        self.is_large: bool = options.large or max(self.count, self.unit) > limits.CELLS
+        if self.is_large:
+            self.lay_large(moved, options.cell)
+
+    def lay(self, cell: int) -> None:
+        """Lays the files in cells of so many bytes."""
+        self.cell = cell
+        self.unit = self.asked_unit or min(max(power_from(upwards(self.longest, cell)), LEAST_UNIT), self.most)
+        self.spaces = self.store.place(cell, self.unit)
+        self.count = sum(self.spaces.values())
+
+    def lay_large(self, moved: list[Data], cell: int | None) -> None:
+        """Lays them in cells of so many bytes, or in those of the least power of two, from a block on, with which each request that
+        moves data is one message."""
+        if cell is None:
+            self.lay(max(self.store.block(moved), power_from(upwards(self.longest, self.most))))
+            while any(self.cells_of(it) > self.most for it in moved) or max(self.spaces.values()) > limits.LARGE_SIZE:
+                self.lay(self.cell * 2)
+        elif max(self.spaces.values()) > limits.LARGE_SIZE:
+            raise Refusal(2, f"--cell {cell} makes {self.count} cells, and a space has at most {limits.LARGE_SIZE}")
+
+    def cells_of(self, it: Data) -> int:
+        """How many cells the bytes of a request are in."""
+        at = it.place.base + it.offset
+        return (at + it.length - 1) // self.cell - at // self.cell + 1
 
 
 def cost_of(options: Namespace, measured: bool) -> Callable[[int | None, int], int]:
     """A function that tells the cost of a request in ticks, of its latency if that is `measured`, or of its bytes."""
     tick: int = options.tick
-    base: int = options.base
-    kib: int = options.per_kib
+    by_size = size_of(options)
 
     def cost(took: int | None, length: int) -> int:
-        if took is None or not measured:
-            took = base + kib * upwards(length, 1024)
-        return max(1, upwards(took, tick))
+        return max(1, upwards(by_size(length) if took is None or not measured else took, tick))
 
     return cost
+
+
+def size_of(options: Namespace) -> Callable[[int], int]:
+    """A function that tells what so many bytes cost, in nanoseconds."""
+    base: int = options.base
+    kib: int = options.per_kib
+    return lambda length: base + kib * upwards(length, 1024)
+
+
+def took_of(options: Namespace) -> Callable[[Request], int]:
+    """A function that tells how long a request took, in nanoseconds: its latency, or what its bytes cost where the log has none."""
+    by_size = size_of(options)
+    return lambda it: it.took if it.took is not None else by_size(it.length if isinstance(it, Data) else 0)
 
 
 def shares(total: int, weights: list[int]) -> list[int]:
@@ -226,13 +270,13 @@ def shares(total: int, weights: list[int]) -> list[int]:
     return parts
 
 
-def pieces(first: int, last: int) -> list[tuple[int, int]]:
-    """The cells from one to another in runs that a message has room for, which end before a multiple of that room."""
-    if last - first < limits.OPS:
+def pieces(first: int, last: int, most: int) -> list[tuple[int, int]]:
+    """The cells from one to another in runs of so many that a message has room for, which end before a multiple of that."""
+    if last - first < most:
         return [(first, last)]
     runs = []
     while first <= last:
-        end = min(last, first - first % limits.OPS + limits.OPS - 1)
+        end = min(last, first - first % most + most - 1)
         runs.append((first, end))
         first = end + 1
     return runs
@@ -244,17 +288,20 @@ Line = tuple[str, int, str]
 
 class Messages:
     """The lines of a trace, made of the requests in the order of their times. Their costs are those that were measured, or those of
-    their sizes."""
+    their sizes. With a `loop` the trace has clients."""
 
-    def __init__(self, store: Store, shape: Shape, options: Namespace, measured: bool) -> None:
+    def __init__(self, store: Store, shape: Shape, options: Namespace, measured: bool, loop: Loop | None) -> None:
         self.store = store
         self.cell = shape.cell
         self.unit = shape.unit
+        self.most = shape.most
         self.options = options
         self.measured = measured
         self.cost = cost_of(options, measured)
-        self.lines = ["message,cost,release,ops"]
-        self.release = 0
+        self.loop = loop
+        self.lines = ["message,cost,release,client,think,ops" if loop else "message,cost,release,ops"]
+        self.client = "-"
+        self.release = self.think = self.latest = self.count = 0
         self.cut_costs = 0
         self.guessed: collections.Counter[str] = collections.Counter()
         self.number = 0
@@ -265,7 +312,10 @@ class Messages:
         start = requests[0].time if requests else 0
         tick = self.options.tick
         for request in requests:
-            self.release = (request.time - start) // tick
+            self.release = self.latest = (request.time - start) // tick
+            if self.loop:
+                self.client = request.client
+                self.release, self.think = self.loop.of(request, self.release)
             self.number += 1
             if self.measured and request.took is None:
                 self.guessed[request.name] += 1
@@ -278,7 +328,20 @@ class Messages:
         if cost > limits.COST:
             self.cut_costs += 1
             cost = limits.COST
-        self.lines.append(f"{name},{cost},{self.release},{ops}")
+        if self.loop is None:
+            self.lines.append(f"{name},{cost},{self.release},{ops}")
+            return
+        self.lines.append(f"{name},{cost},{self.release},{self.client},{self.think},{ops}")
+        # What else comes of the request follows at once.
+        self.release = 0 if self.loop.is_closed else self.release
+        self.think = 0
+
+    def operations(self, head: str, space: str, first: int, last: int, tail: str) -> str:
+        """An operation on each of these cells; a trace with clients has it once, with their range."""
+        self.count += last - first + 1
+        if self.loop is None:
+            return ";".join([f"{head}{space}:{n}{tail}" for n in range(first, last + 1)])
+        return f"{head}{space}:{first}{tail}" if first == last else f"{head}{space}:{first}-{last}{tail}"
 
     def data(self, it: Data) -> None:
         file = it.place
@@ -291,13 +354,13 @@ class Messages:
         head, tail = {"read": ("read ", ""), "write": ("set ", f" {self.number}"), "free": ("set ", " 0")}[it.kind]
         blocks = self.taken(it, first, last)
         if first == last and not blocks:
-            self.line(it.name, cost, f"{head}{space}:{first}{tail}")
+            self.line(it.name, cost, self.operations(head, space, first, first, tail))
             return
         cost, after = self.blocks(cost, *blocks) if blocks else (cost, [])
-        runs = pieces(first, last)
+        runs = pieces(first, last, self.most)
         parts = shares(cost, [end - begin + 1 for begin, end in runs])
         for (begin, end), part in zip(runs, parts, strict=True):
-            self.line(it.name, part, ";".join([f"{head}{space}:{n}{tail}" for n in range(begin, end + 1)]))
+            self.line(it.name, part, self.operations(head, space, begin, end, tail))
         for line in after:
             self.line(*line)
 
@@ -319,10 +382,10 @@ class Messages:
     def blocks(self, cost: int, name: str, first: int, last: int) -> tuple[int, list[Line]]:
         """What is left of a cost behind the messages for the blocks of these cells, and these messages."""
         share = max(1, cost // BLOCKS_SHARE)
-        runs = pieces(first // self.unit, last // self.unit)
+        runs = pieces(first // self.unit, last // self.unit, self.most)
         parts = shares(share, [end - begin + 1 for begin, end in runs])
         lines = [
-            (name, part, ";".join([f"add {VOLUME}.map:{n} 1" for n in range(begin, end + 1)]))
+            (name, part, self.operations("add ", VOLUME + ".map", begin, end, " 1"))
             for (begin, end), part in zip(runs, parts, strict=True)
         ]
         return max(1, cost - share), lines
@@ -339,7 +402,9 @@ class Messages:
         for word, store, space, number in it.ops:
             cell = f"{store}.{space}:{self.store.index(space, number)}"
             words.append({"read": f"read {cell}", "set": f"set {cell} {self.number}", "add": f"add {cell} 1"}[word])
-        for line in [(it.name, cost, ";".join(dict.fromkeys(words))), *after]:
+        words = list(dict.fromkeys(words))
+        self.count += len(words)
+        for line in [(it.name, cost, ";".join(words)), *after]:
             self.line(*line)
 
 
@@ -348,11 +413,11 @@ def trace_text(messages: Messages) -> str:
 
 
 def map_text(store: Store, shape: Shape) -> str:
-    """Which cells are whose, as CSV. Bytes of names that are no UTF-8, and controls, are shown as `\\xHH`."""
+    """Which cells are whose, as CSV."""
     text = io.StringIO()
     rows = csv.writer(text, lineterminator="\n")
     rows.writerow(("space", "first", "last", "name"))
-    rows.writerows((space, first, last, shown(name, len(name))) for space, first, last, name in store.cells(shape.cell))
+    rows.writerows((space, first, last, named(name)) for space, first, last, name in store.cells(shape.cell))
     return text.getvalue()
 
 
@@ -361,20 +426,28 @@ def tree_text(store: Store, shape: Shape, stripes: int) -> str:
     tree, remarks = store.tree(shape.spaces, stripes, shape.unit)
     if len(tree.parents) > limits.AFFINITIES or len(tree.maps) > limits.SPACES:
         raise Refusal(3, f"{len(tree.parents)} affinities, {len(tree.maps)} spaces: more than a hierarchy has (fewer --stripes may do)")
+    tree.is_large = shape.is_large
     tree.comments.before["model", ""] = [f"# Made by waff-trace. A cell of data is {shape.cell} bytes."]
     tree.comments.beside = {("space", space): f"# {what}" for space, what in remarks.items()}
     return tree.text()
 
 
-def warn(messages: Messages) -> None:
+def warn(messages: Messages, shape: Shape) -> None:
     """Tells what of the trace waff would refuse, and what was cut so that it does not."""
+    if shape.is_large and shape.count > limits.CELLS:
+        tell(f"{shape.count} cells: the hierarchy is of format 2, and `waff replay` takes at most {limits.CELLS} (a larger --cell)")
     count = len(messages.lines) - 1
     if messages.guessed:
         names = ", ".join(f"{name} {times}" for name, times in sorted(messages.guessed.items()))
         tell(f"requests without a latency, which cost what their size says: {messages.guessed.total()} ({names})")
     if messages.cut_costs:
         tell(f"costs above {limits.COST} ticks, which were cut to that: {messages.cut_costs} (a larger --tick keeps them)")
-    if count > limits.MESSAGES:
-        tell(f"{count} messages are more than the {limits.MESSAGES} that waff takes: `waff-trace window` parts the trace")
-    if messages.release > limits.RELEASE:
-        tell(f"the last release, {messages.release}, is above {limits.RELEASE}: a larger --tick, or `waff-trace window`")
+    most = limits.MESSAGES if messages.loop else limits.EARLIER_MESSAGES
+    if count > most:
+        tell(f"{count} messages are more than the {most} that waff takes: `waff-trace window` parts the trace")
+    if messages.loop:
+        messages.loop.warn()
+        if messages.count > limits.ALL_OPS:
+            tell(f"{messages.count} operations are more than the {limits.ALL_OPS} that waff takes: a larger --cell, or `waff-trace window`")
+    if messages.latest > limits.RELEASE:
+        tell(f"the last release, {messages.latest}, is above {limits.RELEASE}: a larger --tick, or `waff-trace window`")

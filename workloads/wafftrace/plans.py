@@ -2,24 +2,26 @@
 
 import csv
 import io
+import itertools
 from argparse import Namespace
 from collections.abc import Iterator, Sequence
 
 from . import limits
+from .clients import NONE
 from .hierarchy import Tree, read_tree
 from .logs import Refusal, is_number, read_text, shown
-from .traces import Trace, cells, read_trace
+from .traces import Cells, Trace, cells, read_trace
 
 
-def affinities_of(tree: Tree, trace: Trace, name: str) -> Iterator[tuple[str, list[str]]]:
+def affinities_of(tree: Tree, trace: Trace, name: str) -> Iterator[tuple[str, list[Cells]]]:
     """For each message of the trace of this file its affinity, and the cells that it names."""
     called = shown(name)
     for number, it in enumerate(trace.messages, 2):
-        named = cells(called, number, it.ops)
-        owners = [owner for cell in named if (owner := tree.owner(cell)) is not None]
-        if len(owners) < len(named):
+        named = cells(called, number, it.ops, trace.version)
+        owners = [tree.owners(*it) for it in named]
+        if not all(owners):
             raise Refusal(3, f"{called}: record {number}: a cell that the hierarchy does not have")
-        yield tree.lowest(owners), named
+        yield tree.lowest(owner for found in owners for owner in found), named
 
 
 def read_starts(name: str, count: int) -> tuple[list[int], list[int | None], bool]:
@@ -48,30 +50,77 @@ def read_starts(name: str, count: int) -> tuple[list[int], list[int | None], boo
     return [start for start, _ in found], [worker for _, worker in found], width == 3
 
 
-def chain_of(tree: Tree, affinities: list[str], trace: Trace, finishes: list[int]) -> list[int]:
-    """The printed chain: it ends with the message of greatest finish, and before each message stands the one of greatest finish
-    among the earlier ones that exclude it, unless its release is no less. The lowest number decides a tie."""
-    own: dict[str, tuple[int, int]] = {}
-    below: dict[str, tuple[int, int]] = {}
-    before: dict[int, int] = {}
-    for number, (affinity, finish) in enumerate(zip(affinities, finishes, strict=True)):
-        way = tree.way(affinity)
-        found = [own[it] for it in way[1:] if it in own]
-        if affinity in below:
-            found.append(below[affinity])
-        last = max(found, default=None)
-        if last is not None and last[0] > trace.messages[number].release:
-            before[number] = -last[1]
+class Seen:
+    """The greatest finish of the messages that were seen, and the lowest number with it, by their affinities: of those in one, and of
+    those in it or below it."""
+
+    def __init__(self, tree: Tree) -> None:
+        self.tree = tree
+        self.own: dict[str, tuple[int, int]] = {}
+        self.below: dict[str, tuple[int, int]] = {}
+
+    def last(self, affinity: str) -> list[tuple[int, int]]:
+        """Those of the messages that exclude this affinity: the greatest is the last one."""
+        found = [self.own[it] for it in self.tree.way(affinity)[1:] if it in self.own]
+        return found + [self.below[affinity]] if affinity in self.below else found
+
+    def add(self, affinity: str, finish: int, number: int) -> None:
         entry = finish, -number
-        own[affinity] = max(own.get(affinity, entry), entry)
-        for it in way:
-            below[it] = max(below.get(it, entry), entry)
+        self.own[affinity] = max(self.own.get(affinity, entry), entry)
+        for it in self.tree.way(affinity):
+            self.below[it] = max(self.below.get(it, entry), entry)
+
+
+def chain_of(tree: Tree, affinities: list[str], trace: Trace, starts: list[int], finishes: list[int]) -> list[int]:
+    """The printed chain: it ends with the message of greatest finish, and before each message stands the one of greatest finish
+    among those that it waits for, unless its release is no less. It waits for the earlier ones that exclude it; in a trace with clients
+    for those that exclude it and start before it, and a think time for the one before of its client. The lowest number decides a tie."""
+    seen = Seen(tree)
+    own = ones_before(trace)
+    before: dict[int, int] = {}
+    for group in groups_of(trace, starts):
+        for number in group:
+            it, last = trace.messages[number], seen.last(affinities[number])
+            one = own.get(number)
+            if one is not None and starts[one] < starts[number]:
+                last.append((finishes[one] + it.think, -one))
+            if last and max(last)[0] > floor_of(trace, own, number):
+                before[number] = -max(last)[1]
+        for number in group:
+            seen.add(affinities[number], finishes[number], number)
     if not finishes:
         return []
     chain = [max(range(len(finishes)), key=lambda n: (finishes[n], -n))]
     while chain[-1] in before:
         chain.append(before[chain[-1]])
     return chain[::-1]
+
+
+def ones_before(trace: Trace) -> dict[int, int]:
+    """The message before each one of its client, by their numbers from 0."""
+    latest: dict[str, int] = {}
+    found = {}
+    for number, it in enumerate(trace.messages):
+        if it.client != NONE:
+            if it.client in latest:
+                found[number] = latest[it.client]
+            latest[it.client] = number
+    return found
+
+
+def floor_of(trace: Trace, own: dict[int, int], number: int) -> int:
+    """The tick from which on a message may start, whatever the plan."""
+    it = trace.messages[number]
+    return it.release if number in own else max(it.release, it.think)
+
+
+def groups_of(trace: Trace, starts: list[int]) -> Iterator[list[int]]:
+    """The messages in the order of their numbers, or in a trace with clients in that of their starts, those of one start together."""
+    if not trace.has_clients:
+        yield from ([number] for number in range(len(starts)))
+        return
+    order = sorted(range(len(starts)), key=lambda n: (starts[n], n))
+    yield from (list(group) for _, group in itertools.groupby(order, key=lambda n: starts[n]))
 
 
 def plan(asked: Namespace) -> str:
@@ -92,11 +141,13 @@ def plan_text(
     """The text of a plan with these starts and workers, for so many workers or (None) with no limit on them."""
     messages = trace.messages
     finishes = [start + it.cost for start, it in zip(starts, messages, strict=True)]
-    chain = chain_of(tree, affinities, trace, finishes)
+    chain = chain_of(tree, affinities, trace, starts, finishes)
+    own = ones_before(trace)
 
     total = sum(it.cost for it in messages)
     length = max(finishes, default=0)
-    release = messages[chain[0]].release if chain else 0
+    release = floor_of(trace, own, chain[0]) if chain else 0
+    release += sum(messages[number].think for one, number in itertools.pairwise(chain) if own.get(number) == one)
     cost = sum(messages[it].cost for it in chain)
     lines = ["message,affinity,start,finish,worker"]
     for number, (affinity, start, finish, worker) in enumerate(zip(affinities, starts, finishes, workers, strict=True), 1):

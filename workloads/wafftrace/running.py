@@ -7,13 +7,15 @@ import threading
 import time
 from argparse import ArgumentParser, Namespace
 from collections.abc import Callable, Mapping
+from dataclasses import replace
 from functools import partial
+from typing import Protocol
 
 from . import limits
 from .hierarchy import Tree, read_tree
 from .logs import Refusal, shown, tell
-from .plans import affinities_of, plan_text
-from .traces import Message, Trace, read_trace, write_file
+from .plans import Seen, affinities_of, ones_before, plan_text
+from .traces import Trace, read_trace, write_file
 from .words import Words, number, run_words, tick
 
 VALUES = 1 << 64
@@ -22,25 +24,109 @@ VALUES = 1 << 64
 Place = tuple[int, int]
 
 
-class Needs:
-    """For each message the earlier ones that it waits for: those that are open at or below its affinity, or the latest at or above
+# When a message comes, in nanoseconds, and its number from 0.
+Coming = tuple[int, int]
+
+
+class Order(Protocol):
+    """Which messages wait for which."""
+
+    def first(self) -> list[Coming]:
+        """The messages that come whatever the others do."""
+
+    def due(self, message: int) -> bool:
+        """A message has come. Whether it is ready."""
+
+    def done(self, message: int, at: int) -> tuple[list[int], list[Coming]]:
+        """A message has finished. Those that are ready now, and those that come now or later."""
+
+    def key(self, message: int) -> int:
+        """Of messages that are ready the one of the least key is the first, and of equal ones that of the lower number."""
+
+
+class Numbers:
+    """The order of the numbers. A message waits for the earlier ones that are open at or below its affinity, or the latest at or above
     it where there is none. A message is open until one at or above it has waited for it."""
 
-    def __init__(self, tree: Tree, affinities: list[str]) -> None:
-        self.of: list[list[int]] = []
+    def __init__(self, tree: Tree, affinities: list[str], trace: Trace, tick: int) -> None:
+        self.releases = [it.release * tick for it in trace.messages]
+        self.left = [0] * len(affinities)
         self.dependents: list[list[int]] = [[] for _ in affinities]
         last: dict[str, int] = {}
         below: dict[str, dict[int, None]] = {}
         for message, affinity in enumerate(affinities):
             way = tree.way(affinity)
-            self.of.append(list(below.get(affinity, ())) or sorted(last[it] for it in way if it in last)[-1:])
-            for need in self.of[-1]:
+            needs = list(below.get(affinity, ())) or sorted(last[it] for it in way if it in last)[-1:]
+            self.left[message] = len(needs)
+            for need in needs:
                 self.dependents[need].append(message)
                 for it in tree.way(affinities[need]):
                     below.get(it, {}).pop(need, None)
             last[affinity] = message
             for it in way:
                 below.setdefault(it, {})[message] = None
+
+    def first(self) -> list[Coming]:
+        return [(self.releases[message], message) for message, left in enumerate(self.left) if left == 0]
+
+    def due(self, message: int) -> bool:
+        return True
+
+    def done(self, message: int, at: int) -> tuple[list[int], list[Coming]]:
+        later = []
+        for other in self.dependents[message]:
+            self.left[other] -= 1
+            if self.left[other] == 0:
+                later.append((max(at, self.releases[other]), other))
+        return [], later
+
+    def key(self, message: int) -> int:
+        return message
+
+
+class Issues:
+    """The order in which clients issue their messages: each one a think time after the one before has finished. A message waits for
+    those that exclude it and were issued before it."""
+
+    def __init__(self, tree: Tree, affinities: list[str], trace: Trace, tick: int) -> None:
+        self.affinities = affinities
+        self.ways = {it: set(tree.way(it)) for it in affinities}
+        self.own = ones_before(trace)
+        self.after = {one: message for message, one in self.own.items()}
+        self.releases = [it.release * tick for it in trace.messages]
+        self.thinks = [it.think * tick for it in trace.messages]
+        self.issued = [0] * len(affinities)
+        self.left = [0] * len(affinities)
+        self.dependents: list[list[int]] = [[] for _ in affinities]
+        # Those that were issued and have not finished, by their affinities.
+        self.active: dict[str, set[int]] = {}
+
+    def coming(self, message: int, at: int) -> Coming:
+        self.issued[message] = max(self.releases[message], at + self.thinks[message])
+        return self.issued[message], message
+
+    def first(self) -> list[Coming]:
+        return [self.coming(message, 0) for message in range(len(self.affinities)) if message not in self.own]
+
+    def due(self, message: int) -> bool:
+        mine = self.affinities[message]
+        for affinity, them in self.active.items():
+            if affinity in self.ways[mine] or mine in self.ways[affinity]:
+                self.left[message] += len(them)
+                for other in them:
+                    self.dependents[other].append(message)
+        self.active.setdefault(mine, set()).add(message)
+        return self.left[message] == 0
+
+    def done(self, message: int, at: int) -> tuple[list[int], list[Coming]]:
+        self.active[self.affinities[message]].remove(message)
+        for other in self.dependents[message]:
+            self.left[other] -= 1
+        ready = [other for other in self.dependents[message] if self.left[other] == 0]
+        return ready, [self.coming(self.after[message], at)] if message in self.after else []
+
+    def key(self, message: int) -> int:
+        return self.issued[message]
 
 
 class Cells:
@@ -66,9 +152,11 @@ class Cells:
         file, at = place
         os.pwrite(file, content, at)
 
-    def place(self, cell: str) -> Place:
-        space, _, index = cell.rpartition(":")
-        return self.files[space], int(index) * self.cell
+    def places(self, cell: str) -> list[Place]:
+        """Where a cell lies, or each of a range."""
+        space, _, indices = cell.rpartition(":")
+        first, _, last = indices.partition("-")
+        return [(self.files[space], index * self.cell) for index in range(int(first), int(last or first) + 1)]
 
     def with_number(self, value: int) -> bytes:
         return struct.pack("<Q", value % VALUES).ljust(self.cell, b"\0")
@@ -78,17 +166,18 @@ class Cells:
         found: list[Callable[[], object]] = []
         for op in text.split(";"):
             verb, first, *rest = op.split(" ")
-            one = self.place(first)
-            if verb == "read":
-                found.append(partial(self.read, one))
-            elif verb in ("set", "add"):
-                (value,) = rest
-                if not (value.isascii() and value.isdecimal() and len(value) <= 20 and int(value) < VALUES):
-                    raise Refusal(3, f"no number of 64 bits: {shown(op)}")
-                is_set = verb == "set"
-                found.append(partial(self.write, one, self.with_number(int(value))) if is_set else partial(self.add, one, int(value)))
-            else:
-                found.append(partial(self.copy if verb == "copy" else self.swap, one, self.place(rest[0])))
+            if verb in ("copy", "swap"):
+                (other,) = self.places(rest[0])
+                found.append(partial(self.copy if verb == "copy" else self.swap, self.places(first)[0], other))
+                continue
+            if verb != "read" and not (rest[0].isascii() and rest[0].isdecimal() and len(rest[0]) <= 20 and int(rest[0]) < VALUES):
+                raise Refusal(3, f"no number of 64 bits: {shown(op)}")
+            for place in self.places(first):
+                if verb == "read":
+                    found.append(partial(self.read, place))
+                else:
+                    value = int(rest[0])
+                    found.append(partial(self.write, place, self.with_number(value)) if verb == "set" else partial(self.add, place, value))
         return found
 
     def add(self, place: Place, value: int) -> None:
@@ -105,17 +194,16 @@ class Cells:
 
 
 class Run:
-    """Messages run by workers: a free worker takes the ready one that arrived first."""
+    """Messages run by workers: a free worker takes the ready one that is the first in their order."""
 
-    def __init__(self, trace: Trace, needs: Needs, calls: list[list[Callable[[], object]]], nanoseconds: int) -> None:
-        self.needs = needs
+    def __init__(self, order: Order, calls: list[list[Callable[[], object]]]) -> None:
+        self.order = order
         self.calls = calls
-        self.releases = [it.release * nanoseconds for it in trace.messages]
-        self.left = [len(it) for it in needs.of]
         self.waiting = len(calls)
         self.changed = threading.Condition()
         self.ready: list[tuple[int, int]] = []
-        self.later: list[tuple[int, int]] = []
+        self.later = order.first()
+        heapq.heapify(self.later)
         self.since = [0] * len(calls)
         self.starts = [0] * len(calls)
         self.finishes = [0] * len(calls)
@@ -127,18 +215,18 @@ class Run:
     def now(self) -> int:
         return time.perf_counter_ns() - self.begin
 
-    def enter(self, message: int) -> None:
-        """A message whose needs have finished: it is ready, or will be when it is released."""
-        heap, key = (self.later, self.releases[message]) if self.releases[message] > self.now() else (self.ready, message)
-        heapq.heappush(heap, (key, message))
-        self.since[message] = max(self.now(), self.releases[message])
+    def enter(self, message: int, at: int) -> None:
+        """A message is ready since this time."""
+        heapq.heappush(self.ready, (self.order.key(message), message))
+        self.since[message] = at
 
     def take(self) -> int | None:
         """The next message for a worker that is free; None where none is left."""
         while self.waiting and self.fault is None:
             while self.later and self.later[0][0] <= self.now():
-                message = heapq.heappop(self.later)[1]
-                heapq.heappush(self.ready, (message, message))
+                at, message = heapq.heappop(self.later)
+                if self.order.due(message):
+                    self.enter(message, at)
             if self.ready:
                 self.waiting -= 1
                 return heapq.heappop(self.ready)[1]
@@ -158,10 +246,11 @@ class Run:
                     call()
                 self.finishes[message] = free = self.now()
                 with self.changed:
-                    for other in self.needs.dependents[message]:
-                        self.left[other] -= 1
-                        if self.left[other] == 0:
-                            self.enter(other)
+                    ready, later = self.order.done(message, free)
+                    for other in ready:
+                        self.enter(other, free)
+                    for it in later:
+                        heapq.heappush(self.later, it)
                     self.changed.notify_all()
                     message = self.take()
         except OSError as fault:
@@ -172,9 +261,6 @@ class Run:
 
     def run(self, count: int) -> None:
         self.begin = time.perf_counter_ns()
-        for message, left in enumerate(self.left):
-            if left == 0:
-                self.enter(message)
         threads = [threading.Thread(target=self.work, args=(worker,)) for worker in range(1, count + 1)]
         for thread in threads:
             thread.start()
@@ -184,16 +270,20 @@ class Run:
             raise Refusal(4, f"a cell: {self.fault.strerror}")
 
 
-def in_ticks(run: Run, nanoseconds: int) -> tuple[list[int], list[int]]:
+def in_ticks(run: Run, tree: Tree, affinities: list[str], trace: Trace, nanoseconds: int) -> tuple[list[int], list[int]]:
     """The starts and costs of messages in whole ticks: rounded down, each cost at least a tick, and a start moved behind what it
     waited for where rounding would have it before."""
     starts, finishes = [0] * len(run.starts), [0] * len(run.starts)
     free: dict[int, int] = {}
+    seen, own = Seen(tree), ones_before(trace)
     for message in sorted(range(len(run.starts)), key=lambda it: (run.starts[it], it)):
-        after = [finishes[it] for it in run.needs.of[message]] + [free.get(run.workers[message], 0)]
+        after = [finish for finish, _ in seen.last(affinities[message])] + [free.get(run.workers[message], 0)]
+        if message in own:
+            after.append(finishes[own[message]] + trace.messages[message].think)
         starts[message] = max(run.starts[message] // nanoseconds, *after)
         finishes[message] = max(run.finishes[message] // nanoseconds, starts[message] + 1)
         free[run.workers[message]] = finishes[message]
+        seen.add(affinities[message], finishes[message], message)
     return starts, [finish - start for start, finish in zip(starts, finishes, strict=True)]
 
 
@@ -220,21 +310,21 @@ def words() -> ArgumentParser:
 def run(asked: Namespace) -> str:
     tree, trace = read_tree(asked.hier), read_trace(asked.trace)
     affinities = [affinity for affinity, _ in affinities_of(tree, trace, asked.trace)]
-    needs = Needs(tree, affinities)
+    order = (Issues if trace.has_clients else Numbers)(tree, affinities, trace, asked.tick)
     cells = Cells(asked.folder, tree.sizes, asked.cell)
-    done = Run(trace, needs, [cells.ops(it.ops) for it in trace.messages], asked.tick)
+    done = Run(order, [cells.ops(it.ops) for it in trace.messages])
     done.run(asked.workers)
-    starts, costs = in_ticks(done, asked.tick)
+    starts, costs = in_ticks(done, tree, affinities, trace, asked.tick)
     if max(costs, default=0) > limits.COST:
         raise Refusal(3, f"a message took {max(costs)} ticks, and a cost is at most {limits.COST}: a larger --tick")
-    measured = [Message(it.name, cost, it.release, it.ops) for it, cost in zip(trace.messages, costs, strict=True)]
+    measured = [replace(it, cost=cost) for it, cost in zip(trace.messages, costs, strict=True)]
     if asked.measured:
-        write_file(asked.measured, Trace(trace.has_releases, measured).text())
+        write_file(asked.measured, Trace(trace.version, measured).text())
     delays = sorted(done.delays)
     if delays:
         mean, most = sum(delays) / len(delays) / 1000, delays[len(delays) * 99 // 100] / 1000
         tell(f"a message began {mean:.1f} microseconds after it could (mean; 99 of 100 at most {most:.1f}): what this runner takes")
-    return plan_text(tree, affinities, Trace(trace.has_releases, measured), starts, done.workers, asked.workers)
+    return plan_text(tree, affinities, Trace(trace.version, measured), starts, done.workers, asked.workers)
 
 
 def main(given: list[str]) -> int:

@@ -10,6 +10,9 @@ from .logs import Refusal, tell
 from .model import power_from
 
 COUNTS = (1, 2, 3, 4, 6, 8, 12, 16, 24, 32, 48, 64)
+# How many affinities of its own a space gets where it goes elsewhere; what follows tries other numbers.
+MOVED_COUNTS = (1, 4, 16, 64)
+PAIRED_COUNT = 16
 # A unit is at most so many times the largest request.
 REQUESTS_A_UNIT = 16
 MOST_ROUNDS = 20
@@ -47,6 +50,14 @@ class Group:
         """The group with so many affinities, named alike."""
         names = self.names if count == len(self.names) else tuple(f"{self.stem}{n}" for n in range(count))
         return Group(self.parent, names, self.stem, False)
+
+
+@dataclass(frozen=True, slots=True)
+class Place:
+    """Below this affinity, which stays or is the only one of its own of a space."""
+
+    affinity: str
+    space: str | None
 
 
 # What is changed, in words, and what it comes to.
@@ -132,18 +143,72 @@ class Deal:
             if group.is_inner or shared:
                 yield f"{space}: {count} of its own", self.with_own(space, count)
 
+    def places(self, space: str, spaces: list[str]) -> list[Place]:
+        """Where a space may have affinities of its own: below each that stays, and below the one of its own of another space."""
+        return [Place(it, None) for it in self.kept] + [Place(f"{it}0", it) for it in spaces if it != space]
+
+    def placed(self, space: str, count: int, place: Place) -> "Deal":
+        """The space has so many affinities of its own there. Another space that it is below has one of its own."""
+        deal = self if place.space is None else self.with_own(place.space, 1)
+        return deal.with_own(space, count, place.affinity)
+
+    def moves(self, space: str, spaces: list[str]) -> Changes:
+        """What may be changed for a space if it goes elsewhere."""
+        for place, count in itertools.product(self.places(space, spaces), MOVED_COUNTS):
+            yield told(space, count, place), self.placed(space, count, place)
+
     def pairs(self, spaces: list[str]) -> Changes:
-        """What may be changed for two spaces: the one has an affinity of its own, and the other one has its own below that."""
-        for space, other in itertools.permutations(spaces, 2):
-            first = self.with_own(space, 1)
-            for count in COUNTS:
-                yield f"{space}: 1 of its own; {other}: {count} below it", first.with_own(other, count, f"{space}0")
+        """What may be changed for two spaces that go elsewhere together."""
+        for space, other in itertools.combinations(spaces, 2):
+            places = itertools.product(self.places(space, spaces), self.places(other, spaces))
+            for one, two in places:
+                deal = self.placed(space, PAIRED_COUNT, one).placed(other, PAIRED_COUNT, two)
+                yield f"{told(space, PAIRED_COUNT, one)}; {told(other, PAIRED_COUNT, two)}", deal
+
+
+def told(space: str, count: int, place: Place) -> str:
+    above = f"below {place.affinity}" if place.space is None else f"below the only one of {place.space}"
+    return f"{space}: {count} of its own {above}"
 
 
 def units_of(tree: Tree, space: str, longest: int) -> list[int]:
     """The units that are tried for a space: powers of two up to its size and so many times the largest request."""
     most = min(power_from(tree.sizes[space]), power_from(longest * REQUESTS_A_UNIT))
     return [1 << n for n in range(most.bit_length())]
+
+
+def bounds_of(tree: Tree, spaces: list[str]) -> dict[str, str]:
+    """For each of these spaces the highest affinity above all of it that another space is mapped to, as that of a volume as a whole: it
+    stays above it."""
+    fixed = {owner for space, (_, owners) in tree.maps.items() if space not in spaces for owner in owners}
+    found = {}
+    for space in spaces:
+        above = [it for it in tree.way(tree.lowest(tree.maps[space][1])) if it in fixed]
+        found |= {space: above[-1]} if above else {}
+    return found
+
+
+def is_within(tree: Tree, bounds: dict[str, str]) -> bool:
+    """Whether each of these spaces is below the affinity that it has to be below."""
+    return all(above in tree.way(it) for space, above in bounds.items() for it in tree.maps[space][1])
+
+
+def changes_of(deal: Deal, space: str | None, spaces: list[str], longest: int) -> Changes:
+    """What is tried for a space, or for two together."""
+    if space is None:
+        return deal.pairs(spaces)
+    return itertools.chain(deal.changes(space, units_of(deal.tree, space, longest)), deal.moves(space, spaces))
+
+
+def gains(figures: tuple[int, ...], old: tuple[int, ...]) -> bool:
+    """Whether the first of these figures is less by a thousandth, or a later one by a hundredth while none before it is more. What gains
+    less is as good for this log alone."""
+    for new, before, parts in zip(figures, old, (1000, 100, 100), strict=True):
+        if parts * new <= (parts - 1) * before and new < before:
+            return True
+        if new > before:
+            return False
+    return False
 
 
 def search(
@@ -157,18 +222,19 @@ def search(
     `order` compares them, the least first."""
     deal = Deal.of(tree)
     built = deal.built() or tree
+    bounds = bounds_of(tree, spaces)
     (best,) = rank([tree])
     steps, count = [("-", best)], 1
     for _ in range(MOST_ROUNDS):
         before = len(steps)
         for space in [*spaces, None]:
-            changes = deal.changes(space, units_of(tree, space, longest)) if space else deal.pairs(spaces)
-            found = [(what, other, made) for what, other in changes if (made := other.built()) is not None]
+            changes = changes_of(deal, space, spaces, longest)
+            found = [(what, other, made) for what, other in changes if (made := other.built()) is not None and is_within(made, bounds)]
             figures = rank([made for _, _, made in found])
             count += len(found)
-            at = min(range(len(found)), key=lambda n: (order(figures[n]), len(found[n][2].parents)), default=None)
-            # What gains less than a thousandth is as good for this log alone.
-            if at is not None and 1000 * order(figures[at])[0] <= 999 * order(best)[0] and order(figures[at]) < order(best):
+            better = [n for n, row in enumerate(figures) if gains(order(row), order(best))]
+            at = min(better, key=lambda n: (order(figures[n]), len(found[n][2].parents)), default=None)
+            if at is not None:
                 what, deal, built = found[at]
                 best = figures[at]
                 steps.append((what, best))

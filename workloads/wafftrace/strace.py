@@ -10,7 +10,7 @@ from dataclasses import dataclass
 from functools import partial
 from typing import TypeGuard
 
-from .logs import Blocks, Data, File, Lines, Meta, Refusal, Request, is_number, read_lines, shown
+from .logs import Blocks, Data, File, Lines, Meta, Refusal, Request, is_number, named, read_lines, tell
 from .model import VOLUME, Volume
 
 # A line: who, when, perhaps an instruction pointer (-i) or the number of a call (-n), and what.
@@ -86,18 +86,36 @@ class Open:
 
 
 @dataclass(slots=True)
+class Who:
+    """What may be the client of a process's requests, by the words of `--clients`: a thread, a process, or a child of the log's first
+    process with all that comes of it (`is_first` is that of the first process itself)."""
+
+    thread: str
+    process: str
+    family: str
+    is_first: bool
+
+    def child(self, name: str, flags: str) -> "Who":
+        if "CLONE_THREAD" in flags:
+            return Who(name, self.process, self.family, self.is_first)
+        return Who(name, name, name if self.is_first else self.family, False)
+
+
+@dataclass(slots=True)
 class Process:
-    """What a process has: descriptors (a table that threads share), those that a new program does not get, a directory (a list of
+    """Who a process is, and what it has: descriptors (a table that threads share), those that a new program does not get, a directory (a list of
     one, which threads share), and a call that is not finished: its time and its text."""
 
+    who: Who
     files: dict[int, Open]
     closing: set[int]
     directory: list[str | None]
     pending: tuple[int, str] | None = None
 
-    def child(self, flags: str) -> "Process":
+    def child(self, name: str, flags: str) -> "Process":
         shares_files = "CLONE_FILES" in flags
         return Process(
+            self.who.child(name, flags),
             self.files if shares_files else dict(self.files),
             self.closing if shares_files else set(self.closing),
             self.directory if "CLONE_FS" in flags else list(self.directory),
@@ -183,8 +201,9 @@ def parted(args: str) -> tuple[str, re.Match[str] | None]:
 
 
 class Reader:
-    def __init__(self, log: Lines, under: str | None, directory: str | None) -> None:
+    def __init__(self, log: Lines, under: str | None, directory: str | None, clients: str | None) -> None:
         self.log = log
+        self.clients = clients
         self.under = under
         self.directory = directory
         self.store = Volume()
@@ -194,6 +213,9 @@ class Reader:
         self.processes: dict[str, Process] = {}
         self.births: dict[str, collections.deque[Birth]] = {}
         self.attached: set[str] = set()
+        # How many processes of a number have ended; a number may come again.
+        self.ended: collections.Counter[str] = collections.Counter()
+        self.has_first = False
         self.idle: collections.Counter[str] = collections.Counter()
 
     # Lines
@@ -202,7 +224,7 @@ class Reader:
         events = list(self.events(lines))
         first = next((event for event in events if event.pid is not None), None)
         if first and first.time == 0:
-            raise Refusal(3, f"{shown(self.log.name)}: its times are from line to line (-r): record it with `{FLAGS_WANTED}`")
+            raise Refusal(3, f"{self.log.name}: its times are from line to line (-r): record it with `{FLAGS_WANTED}`")
         self.births = births_of(events)
         for at, event in enumerate(events):
             if event.pid is None:
@@ -264,6 +286,7 @@ class Reader:
                 if process.pending is not None:
                     self.log.without["calls that were not finished"] += 1
                 del self.processes[pid]
+                self.ended[pid] += 1
             return True
         return self.call(at, process, time, rest)
 
@@ -275,16 +298,22 @@ class Reader:
         if births and births[0].begun < at:
             birth = births.popleft()
             parent = self.processes.get(birth.parent) or self.newcomer(birth.parent, at)
-            return parent.child(birth.args)
+            return parent.child(self.name(pid), birth.args)
         if "" in self.processes and pid not in self.attached:
             return self.processes[""]
         forking = [(it, it.pending[1]) for it in self.processes.values() if it.pending is not None and FORKED.match(it.pending[1])]
         if len(forking) == 1 and not births:
             parent, text = forking[0]
-            return parent.child(text)
+            return parent.child(self.name(pid), text)
         if forking:
             self.log.notes["processes whose parent is not known: names that begin in their folders are of other files"] += 1
-        return Process({}, set(), [self.directory])
+        is_first, self.has_first = not self.has_first, True
+        name = self.name(pid)
+        return Process(Who(name, name, name, is_first), {}, set(), [self.directory])
+
+    def name(self, pid: str) -> str:
+        """What a process is called: its number, and which of this number it is if that came again."""
+        return (pid or "main") + (f".{self.ended[pid] + 1}" if self.ended[pid] else "")
 
     def call(self, at: int, process: Process, time: int, rest: str) -> bool:
         name, bracket, args = rest.partition("(")
@@ -376,7 +405,13 @@ class Reader:
 
     def meta(self, call: Call, name: str, *ops: tuple[str, str, int], blocks: Blocks | None = None) -> None:
         found = [(word, VOLUME, space, number) for word, space, number in ops]
-        self.requests.append(Meta(call.time, call.took, name, found, blocks))
+        self.requests.append(Meta(call.time, call.took, name, found, blocks, self.client(call)))
+
+    def client(self, call: Call) -> str:
+        if self.clients is None:
+            return "-"
+        who = call.process.who
+        return {"thread": who.thread, "process": who.process, "family": who.family}[self.clients]
 
     def is_inside(self, path: str | None) -> TypeGuard[str]:
         """Whether a path is of the volume; one that is not is counted."""
@@ -391,14 +426,14 @@ class Reader:
         """A request for bytes that a call has read or written."""
         file = found.file
         if length == 0:
-            self.requests.append(Meta(call.time, took, kind, [("read", VOLUME, "inode", file.inode)]))
+            self.requests.append(Meta(call.time, took, kind, [("read", VOLUME, "inode", file.inode)], None, self.client(call)))
             return
         end = at + length
         fresh: int | None = None
         if kind == "write" and file.size is not None and end > file.size:
             fresh, file.size = max(at, file.size), end
         file.end = max(file.end, end)
-        self.requests.append(Data(call.time, took, kind, kind, file, at, length, fresh))
+        self.requests.append(Data(call.time, took, kind, kind, file, at, length, fresh, self.client(call)))
 
     def sequential(self, call: Call, kind: str, length: int, took: int | None, found: Open) -> None:
         if kind == "write" and found.append:
@@ -683,7 +718,7 @@ class Reader:
         births = self.births.get(str(answer))
         if births and births[0].returned == at:
             births.popleft()
-            self.processes[str(answer)] = process.child(args)
+            self.processes[str(answer)] = process.child(self.name(str(answer)), args)
 
     def new_program(self, call: Call) -> None:
         self.idle["execve"] += 1
@@ -756,7 +791,9 @@ def read(asked: Namespace) -> tuple[Volume, list[Request]]:
     log = Lines(asked.log, len(lines), f"record it with `{FLAGS_WANTED}`")
     directory = os.path.abspath(asked.cwd) if asked.cwd else None
     under = posixpath.normpath(posixpath.join(directory or os.getcwd(), asked.under)) if asked.under else None
-    reader = Reader(log, under, directory)
+    reader = Reader(log, under, directory, asked.clients)
     reader.read(lines)
     log.report()
+    if under and not reader.requests:
+        tell(f"no call of the log is on a file in {named(under)} or below it (--under)")
     return reader.store, reader.requests

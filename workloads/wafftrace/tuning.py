@@ -157,7 +157,7 @@ def told_by_runner(asked: Namespace, jobs: list[list[str]]) -> list[str]:
 
 
 def numbers(word: str) -> list[int]:
-    return [number(1, limits.CELLS, "number")(it) for it in word.split(",")]
+    return [number(1, limits.LARGE_UNIT, "number")(it) for it in word.split(",")]
 
 
 def workers_of(word: str) -> list[int]:
@@ -232,6 +232,9 @@ def tune(asked: Namespace) -> str:
         return searched(asked, tree, spaces, trace)
     most = max(tree.sizes[space] for space in spaces)
     units = asked.unit or [unit for unit in UNITS if unit <= most]
+    most_cells = limits.LARGE_UNIT if tree.is_large else limits.CELLS
+    if max(units) > most_cells:
+        raise Refusal(2, f"--unit {max(units)}: a unit of this hierarchy has at most {most_cells} cells")
     stripes = asked.stripes or STRIPES
     tries = list(dict.fromkeys(itertools.product(stripes, units)))
     if len(tries) > MOST_TREES or max(stripes) > limits.OWNERS:
@@ -265,7 +268,7 @@ def tell_best(asked: Namespace, by: str) -> None:
 
 def searched(asked: Namespace, tree: Tree, spaces: list[str], trace: Trace) -> str:
     """The changes that a search made for these spaces, and the figures after each."""
-    longest = max((it.ops.count(";") + 1 for it in trace.messages), default=1)
+    longest = max((it.count() for it in trace.messages), default=1)
     (first,) = rank(asked, [tree])
     by = asked.by or order_of(first, trace)
     tell_calm(first, trace)

@@ -11,7 +11,7 @@ from collections.abc import Callable
 from fractions import Fraction
 from typing import NoReturn
 
-from . import VERSION, blocks, fio, gathering, hot, limits, model, plans, strace, traces
+from . import VERSION, ahead, blocks, clients, fio, gathering, hot, limits, model, plans, strace, traces
 from .logs import Refusal, is_number, tell
 
 # What is done for the words of a command: the text that it prints.
@@ -89,21 +89,7 @@ def imported(part: ArgumentParser) -> None:
     part.add_argument(
         "--map", metavar="FILE", help="write which cells are whose to this file (space, first and last cell, path or device)"
     )
-    part.add_argument(
-        "--cell",
-        type=number(1, 1 << 50, "number of bytes"),
-        metavar="BYTES",
-        help="bytes of a cell; without it the least power of two from 4096 on with which all cells fit a hierarchy",
-    )
-    part.add_argument(
-        "--stripes", type=number(1, limits.OWNERS, "number"), metavar="N", default=4, help="stripes of the volume or of each device (4)"
-    )
-    part.add_argument(
-        "--unit",
-        type=number(1, limits.CELLS, "number"),
-        metavar="N",
-        help="cells in a row in one stripe; without it the least power of two from 8 to 32 that holds the largest request",
-    )
+    of_cells(part)
     part.add_argument("--tick", type=tick, metavar="MICROSECONDS", default=1000, help="microseconds in a tick (1)")
     part.add_argument(
         "--cost", choices=["latency", "size"], default="latency", help="cost by the latency in the log (latency), or by the size"
@@ -115,6 +101,51 @@ def imported(part: ArgumentParser) -> None:
     part.add_argument(
         "--per-kib", type=nanoseconds, metavar="MICROSECONDS", default=1000,
         help="cost by size: of each KiB begun (1, a guess)",
+    )
+
+
+def of_clients(part: ArgumentParser, kinds: tuple[str, ...], usual: str, has_lanes: bool = False, has_depth: bool = False) -> None:
+    """The words about the clients of a trace, which are hidden as long as the program knows none. A client that has several requests
+    in flight has lanes (`has_lanes`)."""
+
+    def told(text: str) -> str:
+        return text if ahead.CLIENTS else argparse.SUPPRESS
+
+    part.set_defaults(usual=usual, has_lanes=has_lanes, depth=None)
+    part.add_argument("--clients", choices=kinds, help=told(f"what a client is, which asks for one thing after another ({usual})"))
+    part.add_argument(
+        "--loop", choices=["closed", "open"],
+        help=told("whether a client's request comes so long after the answer to the one before as it did (closed), or when it did (open)"),
+    )
+    if has_depth:
+        part.add_argument(
+            "--depth", type=number(1, limits.OPS, "number"), metavar="N",
+            help=told("how many requests of a job were in flight, where its log has no latencies (1)"),
+        )
+
+
+def of_cells(part: ArgumentParser) -> None:
+    """The words about the cells and the stripes of the tree."""
+    part.add_argument(
+        "--cell",
+        type=number(1, 1 << 50, "number of bytes"),
+        metavar="BYTES",
+        help="bytes of a cell; without it 4096, or where that makes more than 262144 cells as --large does",
+    )
+    part.add_argument(
+        "--stripes", type=number(1, limits.OWNERS, "number"), metavar="N", default=4, help="stripes of the volume or of each device (4)"
+    )
+    part.add_argument(
+        "--unit",
+        type=number(1, limits.LARGE_UNIT, "number"),
+        metavar="N",
+        help="cells in a row in one stripe; without it the least power of two from 8 to 32 that holds the largest request",
+    )
+    part.add_argument(
+        "--large",
+        action="store_true",
+        help="write a hierarchy of format 2, as is done for more than 262144 cells; without --cell a cell is the least power of two, from"
+        " the blocks of the log on (512 or 4096), with which each read and write is one message",
     )
 
 
@@ -150,7 +181,7 @@ def words_of_logs(part: Callable[..., ArgumentParser]) -> None:
     found.add_argument("logs", nargs="*", metavar="LOG", help="an iolog (write_iolog) of one job; `-` is standard input")
     found.add_argument(
         "--latencies", nargs="+", metavar="FILE",
-        help="the logs of completion latencies of these jobs (write_lat_log: NAME_clat.1.log, with log_offset=1), in the order of LOG",
+        help="the logs of completion latencies of these jobs (write_lat_log: NAME_clat.N.log of job N, with log_offset=1), in the order of LOG",
     )
     found.add_argument(
         "--starts", nargs="+", metavar="LOG=SECONDS",
@@ -158,6 +189,7 @@ def words_of_logs(part: Callable[..., ArgumentParser]) -> None:
     )
     imported(found)
     of_volume(found)
+    of_clients(found, ("job", "none"), "job", has_lanes=True, has_depth=True)
 
     found = part("strace", "the trace of a log of `strace -f -ttt -T -o LOG`", of_log(strace.read), COST_HELP)
     found.add_argument("log", metavar="LOG", help="the log; `-` is standard input")
@@ -165,14 +197,17 @@ def words_of_logs(part: Callable[..., ArgumentParser]) -> None:
     found.add_argument("--cwd", metavar="DIRECTORY", help="where the first process was started, for names that begin there")
     imported(found)
     of_volume(found)
+    of_clients(found, ("thread", "process", "family", "none"), "thread")
 
     found = part("blkparse", "the trace of the default text of blkparse", of_log(blocks.read_blkparse), COST_HELP)
     found.add_argument("log", metavar="LOG", help="the text; `-` is standard input")
     imported(found)
+    of_clients(found, ("process", "none"), "none", has_lanes=True)
 
     found = part("msr", "the trace of a log in the form of SNIA's MSR Cambridge set", of_log(blocks.read_msr), COST_HELP)
     found.add_argument("log", metavar="CSV", help="the log; `-` is standard input")
     imported(found)
+    of_clients(found, ("none",), "none")
 
 
 def words_of_traces(part: Callable[..., ArgumentParser]) -> None:
@@ -229,17 +264,22 @@ def of_log(read: model.Log) -> Run:
     """What is done for a log: the tree is written where one is wanted, and the answer is the trace."""
 
     def run(asked: Namespace) -> str:
+        kind = asked.clients = clients.kind_of(asked)
         store, requests = read(asked)
         if not requests:
             raise Refusal(3, "the log has no request that is kept, so there is no trace")
         measured = asked.cost == "latency" and any(it.took is not None for it in requests)
         if asked.cost == "latency" and not measured:
             tell("the log has no latencies: costs are those of sizes")
-        shape = model.Shape(store, requests, asked)
-        messages = model.Messages(store, shape, asked, measured)
+        took = model.took_of(asked)
+        if kind and asked.has_lanes:
+            clients.deal(requests, took, asked.depth)
+        loop = clients.Loop(asked.loop != "open", took, asked.tick) if kind else None
+        shape = model.Shape(store, requests, asked, limits.OPS if loop else limits.EARLIER_OPS)
+        messages = model.Messages(store, shape, asked, measured, loop)
         messages.add(requests)
         text = model.tree_text(store, shape, asked.stripes)
-        model.warn(messages)
+        model.warn(messages, shape)
         if asked.tree:
             traces.write_file(asked.tree, text)
         if asked.map:

@@ -15,7 +15,7 @@ use Rattle.waff_tool.specs.Figures.{IsSweepText, IsWhereText}
 use Rattle.waff_tool.specs.PlanText.{IsPlanText, IsPlanTextFor}
 use Rattle.waff_tool.specs.Ranks.{IsRankText, RefusesRank, file_at}
 use Rattle.waff_tool.specs.Rate.{IsRateText}
-use Rattle.waff_tool.specs.ReplayText.{IsReplayText}
+use Rattle.waff_tool.specs.ReplayText.{IsReplayText, RefusesReplay}
 use Rattle.waff_tool.specs.WaitsText.{IsWaitsText}
 use Rattle.waff_tool.specs.declared.draws.Picture.{Picture}
 use Rattle.waff_tool.specs.declared.draws.Picture.TheVariants as picture
@@ -65,10 +65,10 @@ Answers asked.Rate files status text =
 Answers (asked.Sweep given rule) files status text =
     (status ≡ 0) × IsSweepText rule (first files) (second files)
     (unwrap_or (option_map (λ numbers. numbers.items) given) sweep_workers) text
-Answers (asked.Where by_name) files status text =
-    (status ≡ 0) × IsWhereText (first files) (second files) by_name text
-Answers (asked.Waits workers rule by_name) files status text =
-    (status ≡ 0) × IsWaitsText rule (first files) (second files) workers by_name text
+Answers (asked.Where grouping) files status text =
+    (status ≡ 0) × IsWhereText (first files) (second files) grouping text
+Answers (asked.Waits workers rule grouping) files status text =
+    (status ≡ 0) × IsWaitsText rule (first files) (second files) workers grouping text
 Answers (asked.Draw drawing part) files status text =
     (status ≡ 0)
     × IsDrawText (first files) (second files) (third files) (picture_for drawing) part text
@@ -86,13 +86,13 @@ RefusesAsked asked.PlanOfInput files error =
 RefusesAsked asked.Assign files error = Refuses (first files) (second files) error
 RefusesAsked (asked.Plan workers rule) files error = Refuses (first files) (second files) error
 RefusesAsked asked.Check files error = RefusesCheck (first files) (second files) (third files) error
-RefusesAsked (asked.Replay workers) files error = Refuses (first files) (second files) error
+RefusesAsked (asked.Replay workers) files error = RefusesReplay (first files) (second files) error
 RefusesAsked (asked.Compare k) files error =
     RefusesComparison (first files) (second files) (third files) error
 RefusesAsked asked.Rate files error = RefusesCheck (first files) (second files) (third files) error
 RefusesAsked (asked.Sweep given rule) files error = Refuses (first files) (second files) error
-RefusesAsked (asked.Where by_name) files error = Refuses (first files) (second files) error
-RefusesAsked (asked.Waits workers rule by_name) files error =
+RefusesAsked (asked.Where grouping) files error = Refuses (first files) (second files) error
+RefusesAsked (asked.Waits workers rule grouping) files error =
     Refuses (first files) (second files) error
 RefusesAsked (asked.Draw drawing part) files error =
     RefusesCheck (first files) (second files) (third files) error

@@ -24,7 +24,7 @@ owner_known layout is cell small = at (slice_get layout.spaces cell.space) refl 
     at None is_none none = absurd (omega (arith, none))
     at (Some space) there inside =
         let has : Contains layout.spaces space = (cell.space, slice_get_within layout.spaces cell.space space there, get_or_from_slice_get layout.spaces cell.space space space there) in
-        let here : IsSpace layout.tree space = All-contains (IsSpace layout.tree) layout.spaces space is.each has in
+        let here : IsSpace layout.format layout.tree space = All-contains (IsSpace layout.format layout.tree) layout.spaces space is.each has in
         let place = (cell.index / space.unit) % length space.to in
         let within : place < length space.to = omega (arith, here.owned) in
         here.affinities place 0 within

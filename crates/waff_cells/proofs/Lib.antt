@@ -1,7 +1,6 @@
 pub mod HeldCells
 pub mod MeaningLaws
 mod Writes
-mod Meanings
 pub mod Zeros
 pub mod Holdings
 mod InRows

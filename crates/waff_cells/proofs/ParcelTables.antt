@@ -1,16 +1,15 @@
 -- The table of parcels: how it is filled, and what it says of a cell.
-use Rattle.std.proofs.Common.{◌≡◌, ℕ, ◌+◌, ◌<◌, inl, inr, List, [], length, map, get_or, set, Vec, Global, ap, sym, subst, ◌∙◌, arith, length-set, zero-add}
-use Rattle.std.specs.List.{range_with_len}
+use Rattle.std.proofs.Common.{◌≡◌, ℕ, ◌+◌, ◌<◌, inl, inr, List, [], length, get_or, set, Vec, Global, ap, sym, subst, ◌∙◌, arith, length-set, zero-add}
 use Rattle.std.proofs.lemmas.Bool.{cases_eq}
 use Rattle.std.proofs.lemmas.List.{get_or-set_same, get_or-set_other, get_or_read}
 use Rattle.std.proofs.lemmas.List.FromFn.{length-map-range_with_len, get_or-map-range_with_len}
 use Rattle.waff_model.specs.declared.cell.Cell.{Cell}
 use Rattle.waff_model.specs.Layout.{Space, IsCell, size_at, owner_of}
-use Rattle.waff_model.specs.Parcel.{cells_ahead, cells_before, owned_among, offset_of}
+use Rattle.waff_model.specs.Parcel.{cells_ahead, cells_before, owned_among}
 use Rattle.waff_model.proofs.ParcelLemmas.{owned_more, owned_same}
 use Rattle.waff_model.proofs.OwnerLemmas.{space_below}
 use Rattle.waff_cells.specs.Held.{rows_of}
-use Rattle.waff_cells.specs.ParcelTable.{AreCounted, offsets_in}
+use Rattle.waff_cells.specs.ParcelTable.{AreCounted, AreOfCells, across}
 use Rattle.waff_cells.proofs.Writes.{row_of, count_of}
 
 -- the owner of one cell more is counted
@@ -28,8 +27,7 @@ counted_more spaces cell is_cell counts owner is inside counted b below =
           ∙ sym (owned_same spaces cell is_cell b (λ same. other (sym same ∙ sym is)))
     ]
 
-module _ (spaces : List Space) (vecs : List (Vec ℕ Global)) (rows : rows_of vecs ≡ map (offsets_in spaces) (range_with_len 0 (length spaces)))
-    (cell : Cell) (is_cell : IsCell spaces cell) where
+module _ (spaces : List Space) (number : Cell → ℕ) (vecs : List (Vec ℕ Global)) (rows : AreOfCells spaces number (rows_of vecs)) (cell : Cell) (is_cell : IsCell spaces cell) where
   space_within : cell.space < length spaces
   space_within = space_below spaces cell.space cell.index is_cell
 
@@ -37,22 +35,22 @@ module _ (spaces : List Space) (vecs : List (Vec ℕ Global)) (rows : rows_of ve
   pub row_there : cell.space < length vecs
   row_there =
       let within = space_within in
-      omega (arith, within, count_of vecs, ap length rows, length-map-range_with_len (offsets_in spaces) 0 (length spaces))
+      omega (arith, within, count_of vecs, ap length rows, length-map-range_with_len (across spaces number) 0 (length spaces))
 
   module _ (row : Vec ℕ Global) (read : row ≡ get_or vecs cell.space row) where
-    row_is : row.items ≡ offsets_in spaces cell.space
+    row_is : row.items ≡ across spaces number cell.space
     row_is =
         ap (λ (v : Vec ℕ Global). v.items) read ∙ row_of vecs cell.space row row_there ∙ ap (λ xs. get_or xs cell.space []) rows
-        ∙ get_or-map-range_with_len (offsets_in spaces) 0 (length spaces) cell.space cell.space [] space_within (zero-add cell.space)
+        ∙ get_or-map-range_with_len (across spaces number) 0 (length spaces) cell.space cell.space [] space_within (zero-add cell.space)
 
-    abbrev offset : ℕ → ℕ
-    offset i = offset_of spaces (record { space = cell.space; index = i })
+    abbrev at : ℕ → ℕ
+    at i = number (record { space = cell.space; index = i })
 
-    -- and an offset for the cell in it
-    pub offset_there : cell.index < length row.items
-    offset_there = let is = row_is in omega (arith, is_cell, ap length is, length-map-range_with_len offset 0 (size_at spaces cell.space))
+    -- and the cell's number in it
+    pub number_there : cell.index < length row.items
+    number_there = let is = row_is in omega (arith, is_cell, ap length is, length-map-range_with_len at 0 (size_at spaces cell.space))
 
-    pub offset_is : (found : ℕ) → found ≡ get_or row.items cell.index found → found ≡ offset_of spaces cell
-    offset_is found is =
-        get_or_read row.items cell.index found offset_there is 0 ∙ ap (λ xs. get_or xs cell.index 0) row_is
-        ∙ get_or-map-range_with_len offset 0 (size_at spaces cell.space) cell.index cell.index 0 is_cell (zero-add cell.index)
+    pub number_is : (found : ℕ) → found ≡ get_or row.items cell.index found → found ≡ number cell
+    number_is found is =
+        get_or_read row.items cell.index found number_there is 0 ∙ ap (λ xs. get_or xs cell.index 0) row_is
+        ∙ get_or-map-range_with_len at 0 (size_at spaces cell.space) cell.index cell.index 0 is_cell (zero-add cell.index)

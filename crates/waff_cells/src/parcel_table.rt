@@ -1,26 +1,27 @@
 //! Where each cell of a layout lies in the parcels.
 
 ghost use Rattle.std.specs.Prelude.{◌≡◌, ◌+◌, ◌<◌, length, IfOk, OnOk};
-ghost use Rattle.waff_model.specs.Layout.{IsCell, IsLayout};
-ghost use Rattle.waff_model.specs.Parcel.{cells_ahead, parcel_size};
-ghost use Rattle.waff_cells.specs.ParcelTable.{AreCounted, offsets_in};
+ghost use Rattle.waff_model.specs.Layout.{HasFewCells, IsCell, IsLayout, owner_of};
+ghost use Rattle.waff_model.specs.Parcel.{cells_ahead, offset_of, parcel_size};
+ghost use Rattle.waff_cells.specs.ParcelTable.{AreCounted, across};
 
 use crate::addresses::Addresses;
 use std::alloc::{AllocError, Global};
 use std::marker::Model;
 use waff_model::{AffinityId, Cell, Layout};
 
-/// A layout with the table of its parcels: the offset of each cell among those of its owner, in a
-/// row for each space, and how many cells each affinity owns.
+/// A layout with the table of its parcels: the owner of each cell, and the offset of each cell among
+/// those of its owner, in a row for each space, and how many cells each affinity owns.
 pub struct ParcelTable {
     layout: Layout,
+    owners: Vec<Vec<u16>>,
     offsets: Vec<Vec<u32>>,
     sizes: Vec<u32>,
 }
 
 impl Model for ParcelTable {
-    ghost use Rattle.std.specs.Prelude.{map};
     ghost use Rattle.waff_model.specs.Layout.{Hierarchy};
+    ghost use Rattle.waff_cells.specs.Held.{rows_of};
     ghost use Rattle.waff_cells.specs.ParcelTable.{IsParcelTable};
 
     ghost Value = { Hierarchy };
@@ -28,7 +29,7 @@ impl Model for ParcelTable {
     ghost view = { λ t. t.layout };
 
     ghost invariant = { λ t.
-        IsParcelTable t.layout (map (λ row. row.items) t.offsets.items) t.sizes.items };
+        IsParcelTable t.layout (rows_of t.owners.items) (rows_of t.offsets.items) t.sizes.items };
 }
 
 // Written out: a derived drop is proved again in each crate that lets go of the value.
@@ -36,28 +37,35 @@ impl Drop for ParcelTable {
     fn drop(self) {
         let ParcelTable {
             layout,
+            owners,
             offsets,
             sizes,
         } = self;
         drop(layout);
+        drop(owners);
         drop(offsets);
         drop(sizes);
     }
 }
 
 impl ParcelTable {
-    /// The layout with its table.
+    /// The layout, which has few cells, with its table.
     pub fn new(alloc: Global, layout: Layout) -> Result<ParcelTable, AllocError>
+        requires few { HasFewCells layout.spaces }
         ensures kept { IfOk result (λ table. table ≡ layout) }
         ensures layout { OnOk result (IsLayout layout) }
     {
+        let mut owners = Vec::new(alloc);
         let mut offsets = Vec::new(alloc);
         let mut sizes = vec![in alloc; 0; layout.tree().len() as usize]?;
         for s in 0..layout.space_count() {
-            offsets.push(offsets_in(alloc, &layout, s, &mut sizes)?)?;
+            let (owner_row, offset_row) = rows_across(alloc, &layout, s, &mut sizes)?;
+            owners.push(owner_row)?;
+            offsets.push(offset_row)?;
         }
         Ok(ParcelTable {
             layout,
+            owners,
             offsets,
             sizes,
         })
@@ -68,6 +76,14 @@ impl ParcelTable {
         ensures { result.now ≡ self.now }
     {
         &self.layout
+    }
+
+    /// The affinity that owns the cell.
+    pub fn owner(&self, cell: Cell) -> AffinityId
+        requires { IsCell self.now.spaces cell }
+        ensures { result.0 ≡ owner_of self.now.spaces cell }
+    {
+        AffinityId(self.owners[cell.space as usize][cell.index as usize])
     }
 
     /// How many cells the affinity owns.
@@ -90,34 +106,39 @@ impl Addresses for ParcelTable {
 
     fn address(&self, cell: Cell) -> (usize, usize) {
         let offset = self.offsets[cell.space as usize][cell.index as usize];
-        (self.layout.owner(cell).0 as usize, offset as usize)
+        (self.owner(cell).0 as usize, offset as usize)
     }
 }
 
-/// The offsets of the cells of space `s`. What each affinity owns of the cells before them is
-/// counted, and then what it owns of them too.
-fn offsets_in(
+/// The owners and the offsets of the cells of space `s`. What each affinity owns of the cells before
+/// them is counted, and then what it owns of them too.
+fn rows_across(
     alloc: Global,
     layout: &Layout,
     s: u32,
     counts: &mut [u32],
-) -> Result<Vec<u32>, AllocError>
-    requires layout { IsLayout layout.now }
+) -> Result<(Vec<u16>, Vec<u32>), AllocError>
+    requires few { HasFewCells layout.now.spaces }
     requires space { s < length layout.now.spaces }
     requires count { length counts.old ≡ length layout.now.tree }
     requires counted { AreCounted layout.now.spaces (cells_ahead layout.now.spaces s) counts.old }
-    ensures offsets { IfOk result (λ row. row.items ≡ offsets_in layout.now.spaces s) }
+    ensures owners { IfOk result (λ rows. rows.0.items
+        ≡ across layout.now.spaces (owner_of layout.now.spaces) s) }
+    ensures offsets { IfOk result (λ rows. rows.1.items
+        ≡ across layout.now.spaces (offset_of layout.now.spaces) s) }
     ensures count { length counts.new ≡ length layout.now.tree }
     ensures counted { OnOk result
         (AreCounted layout.now.spaces (cells_ahead layout.now.spaces (s + 1)) counts.new) }
 {
     let size = layout.space_size(s);
+    let mut owners = Vec::with_capacity(alloc, size as usize)?;
     let mut offsets = Vec::with_capacity(alloc, size as usize)?;
     for index in 0..size {
-        let owner = layout.owner(Cell { space: s, index }).0 as usize;
-        let count = counts[owner];
+        let owner = layout.owner(Cell { space: s, index }).0;
+        let count = counts[owner as usize];
+        owners.push_reserved(owner);
         offsets.push_reserved(count);
-        counts[owner] = count + 1;
+        counts[owner as usize] = count + 1;
     }
-    Ok(offsets)
+    Ok((owners, offsets))
 }

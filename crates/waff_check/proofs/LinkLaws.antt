@@ -2,7 +2,9 @@
 use Rattle.std.proofs.Common.{◌≡◌, ℕ, zero, suc, ◌+◌, ◌-◌, ◌<◌, ◌≤◌, List, [], ◌∷◌, length, All, arith, inl, inr, refl, subst, sym}
 use Rattle.std.proofs.lemmas.Bool.{cases_eq, cases_lt}
 use Rattle.waff_plan.specs.Chain.{IsChain, LinksOn}
+use Rattle.waff_plan.specs.Obeys.{FollowsNone}
 use Rattle.waff_plan.specs.Work.{IsNumber, Work}
+use Rattle.waff_plan.proofs.NoClients.{linked_before}
 use Rattle.waff_check.specs.Faults.{AreLinked, IsBroken, link_at}
 use Rattle.waff_check.proofs.FirstLaws.{NoneBelow}
 
@@ -50,19 +52,21 @@ module _ (before : ℕ → ℕ → Type 0) where
       on m [] linked numbers = All-first (IsNumber work) (m ∷ []) [] m refl numbers
       on m (next ∷ rest) linked numbers = (
         All-first (IsNumber work) (m ∷ next ∷ rest) (next ∷ rest) m refl numbers,
-        linked 2 (omega arith) (omega arith),
+        inl (linked 2 (omega arith) (omega arith)),
         on next rest (others-linked m (next ∷ rest) linked) (All-others (IsNumber work) (m ∷ next ∷ rest) (next ∷ rest) m refl numbers),
       )
 
-  -- the neighbours in a chain are ordered pairs
-  pub chain-linked : (work : Work) (chain : List ℕ) → IsChain before work chain → AreLinked before chain
-  chain-linked work [] h = λ place from to. absurd (omega arith)
-  chain-linked work (m ∷ rest) h = on m rest h
+  -- the neighbours in a chain are ordered pairs, where no message follows another
+  pub chain-linked : (work : Work) → FollowsNone work → (chain : List ℕ) → IsChain before work chain → AreLinked before chain
+  chain-linked work none [] h = λ place from to. absurd (omega arith)
+  chain-linked work none (m ∷ rest) h = on m rest h
     where
       on : (m : ℕ) (rest : List ℕ) → LinksOn before work m rest → AreLinked before (m ∷ rest)
       on m [] h place from to = absurd (omega arith)
       on m (next ∷ rest) h place from to = elim (cases_eq place 2) [
-        | inl same ↦ subst (λ p. before (link_at (m ∷ next ∷ rest) (p - 1)) (link_at (m ∷ next ∷ rest) p)) (sym same) h.1
+        | inl same ↦
+            subst (λ p. before (link_at (m ∷ next ∷ rest) (p - 1)) (link_at (m ∷ next ∷ rest) p)) (sym same)
+            (linked_before work none before m next h.1)
         | inr other ↦
             let pair = on next rest h.2 (place - 1) (omega (arith, other)) (omega arith) in
             let one = link-more m (next ∷ rest) (place - 1 - 1) (place - 1) (omega (arith, other)) (omega (arith, other)) in

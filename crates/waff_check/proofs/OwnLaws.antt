@@ -4,18 +4,17 @@ use Rattle.std.specs.Prelude.{nat_le, nat_lt, ◌&&◌}
 use Rattle.std.proofs.lemmas.Bool.{cases_eq}
 use Rattle.std.proofs.lemmas.List.{get_or-map, length-map}
 use Rattle.std.proofs.lemmas.List.FromFn.{get_or-map-range_with_len, length-map-range_with_len}
-use Rattle.waff_model.specs.Tree.{Node}
 use Rattle.waff_model.specs.declared.message.Message.{Message}
-use Rattle.waff_model.specs.declared.message.Version.{Version}
-use Rattle.waff_assign.specs.Order.{IsOrdered}
+use Rattle.waff_assign.specs.Instance.{Instance, before_in}
 use Rattle.waff_plan.specs.Bound.{right_side}
 use Rattle.waff_plan.specs.Chain.{IsChain, chain_cost, chain_release}
 use Rattle.waff_plan.specs.Obeys.{Obeys}
-use Rattle.waff_plan.specs.Timetable.{work_of_messages}
+use Rattle.waff_plan.specs.Instances.{work_of_instance}
 use Rattle.waff_plan.specs.Unique.{AreSame}
 use Rattle.waff_plan.specs.Work.{Work, IsNumber, finish_of, length_of, numbers}
 use Rattle.waff_plan.specs.Workers.{running, runs_at}
 use Rattle.waff_plan.specs.declared.timing.Timing.{Timing}
+use Rattle.waff_plan.proofs.Holding.{released}
 use Rattle.waff_plan.proofs.Ticks.{sum_by-numbers-le}
 use Rattle.waff_plan.proofs.Uniqueness.{same_length, totals_same}
 use Rattle.waff_plan_text.specs.Given.{no_row, row_at}
@@ -26,7 +25,7 @@ use Rattle.waff_check.specs.Faults.{HasWrongWorker, IsCrowded, IsMisplaced, IsTa
 use Rattle.waff_check.specs.Promises.{AreOneAtATime}
 use Rattle.waff_check.specs.OwnPlans.{OwnPlanIsShortest, OwnPlanIsWithinBound, claim_told}
 use Rattle.waff_check.specs.Shifts.{IsOneOf}
-use Rattle.waff_check.specs.Verdicts.{Claim, IsFaultless, IsFreeBelow, ReachesLength, start_in, worker_in}
+use Rattle.waff_check.specs.Verdicts.{Claim, IsFaultless, IsFreeBelow, ReachesLength, stage, start_in, worker_in}
 use Rattle.waff_check.specs.declared.verdict.Verdict.TheVariants as verdict
 use Rattle.waff_check.proofs.LinkLaws.{chain-linked}
 
@@ -79,27 +78,27 @@ no_workers : (work : Work) (start : ℕ → ℕ) (told : ℕ → Option ℕ) →
 no_workers work start told tells n wrong =
     subst (λ w. IsMisplaced work start told None n w) (tells n wrong.number) wrong.wrong
 
-module _ (tree : List Node) (assigned : List ℕ) (messages : List Message) (version : Version) (workers : Option ℕ) (start : ℕ → ℕ)
+module _ (instance : Instance) (workers : Option ℕ) (start : ℕ → ℕ)
     (worker : ℕ → Option ℕ) (chain : List ℕ) where
   abbrev claim : Claim
-  claim = claim_told tree assigned messages version workers start worker chain
+  claim = claim_told instance workers start worker chain
 
   abbrev work : Work
-  work = work_of_messages messages
+  work = work_of_instance instance
 
   -- the claim tells the rows
-  tells_row : (n : ℕ) → IsNumber work n → row_at claim.plan.rows n ≡ row_told tree assigned work start worker n
+  tells_row : (n : ℕ) → IsNumber work n → row_at claim.plan.rows n ≡ row_told instance.tree instance.assigned work start worker n
   tells_row n number =
       let from : 1 ≤ n = number.from in
       let to : n ≤ work.count = number.to in
-      get_or-map-range_with_len (row_told tree assigned work start worker) 1 work.count (n - 1) n no_row (omega arith) (omega arith)
+      get_or-map-range_with_len (row_told instance.tree instance.assigned work start worker) 1 work.count (n - 1) n no_row (omega arith) (omega arith)
 
   tells_start : AreSame work (start_in claim) start
   tells_start n number =
       let from : 1 ≤ n = number.from in
       let to : n ≤ work.count = number.to in
-      get_or-map (λ (row : Row). row.start) (map (row_told tree assigned work start worker) (numbers work)) (n - 1) no_row 0
-      (omega (arith, length-map-range_with_len (row_told tree assigned work start worker) 1 work.count))
+      get_or-map (λ (row : Row). row.start) (map (row_told instance.tree instance.assigned work start worker) (numbers work)) (n - 1) no_row 0
+      (omega (arith, length-map-range_with_len (row_told instance.tree instance.assigned work start worker) 1 work.count))
       ∙ ap (λ (row : Row). row.start) (tells_row n number)
 
   tells_back : AreSame work start (start_in claim)
@@ -109,14 +108,14 @@ module _ (tree : List Node) (assigned : List ℕ) (messages : List Message) (ver
   tells_worker n number = ap (λ (row : Row). row.worker) (tells_row n number)
 
   -- a claim of an obeying plan with its chain has no fault
-  no_fault : length assigned ≡ length messages → Obeys (IsOrdered tree assigned) work start → IsChain (IsOrdered tree assigned) work chain
+  no_fault : length instance.assigned ≡ length instance.trace.messages → Obeys (before_in instance) work start → IsChain (before_in instance) work chain
       → ((k : ℕ) → workers ≡ Some k → (t : ℕ) → running work start t ≤ k)
       → NoneOf (HasWrongWorker work (start_in claim) (worker_in claim.plan) workers) → IsFaultless claim
   no_fault count obeys is_chain within manned (verdict.Overlap i j) less = λ overlap.
       let from : 1 ≤ i = overlap.ordered.from in
       let earlier : i < j = overlap.ordered.earlier in
-      let to : j ≤ length assigned = overlap.ordered.to in
-      let all : work.count ≡ length messages = length-map messages (λ (message : Message). let t : Timing = record { cost = message.cost; release = message.release } in t) in
+      let to : j ≤ length instance.assigned = overlap.ordered.to in
+      let all : work.count ≡ length instance.trace.messages = length-map instance.trace.messages (λ (message : Message). let t : Timing = record { cost = message.cost; release = message.release } in t) in
       let one : start_in claim i ≡ start i = tells_start i (record { from = from; to = omega arith }) in
       let other : start_in claim j ≡ start j = tells_start j (record { from = omega arith; to = omega arith }) in
       let after : finish_of work start i ≤ start j = obeys.ordered i j overlap.ordered in
@@ -131,39 +130,39 @@ module _ (tree : List Node) (assigned : List ℕ) (messages : List Message) (ver
   no_fault count obeys is_chain within manned (verdict.Finish n) less = λ wrong.
       wrong.wrong (ap (λ (row : Row). row.finish) (tells_row n wrong.number) ∙ ap (λ s. s + work.cost n) (tells_back n wrong.number))
   no_fault count obeys is_chain within manned verdict.Totals less = totals_same workers work start (start_in claim) chain tells_back
-  no_fault count obeys is_chain within manned (verdict.NotAChain place) less = chain-linked (IsOrdered tree assigned) work chain is_chain place
+  no_fault count obeys is_chain within manned (verdict.NotAChain place) less = chain-linked (before_in instance) work (λ _. refl) chain is_chain place
   no_fault count obeys is_chain within manned (verdict.Early n) less = λ early.
       let same : start_in claim n ≡ start n = tells_start n early.number in
-      let released : work.release n ≤ start n = obeys.released n early.number in
+      let released : work.release n ≤ start n = released (before_in instance) work start obeys n early.number in
       let sooner : start_in claim n < work.release n = early.early in
       omega (arith, same, released, sooner)
   no_fault count obeys is_chain within manned _ less = absurd (omega arith)
 
 -- a plan without a fault that is no shortest one
-not_shortest : (claim : Claim) → IsFaultless claim → (ReachesLength claim → ⊥) → IsFreeBelow claim 9
+not_shortest : (claim : Claim) → IsFaultless claim → (ReachesLength claim → ⊥) → IsFreeBelow claim (stage verdict.WithinBound)
 not_shortest claim good longer verdict.Shortest less = longer
 not_shortest claim good longer v less = good v (omega arith)
 
-pub own_plan_is_shortest : (tree : List Node) (assigned : List ℕ) (messages : List Message) (version : Version) (start : ℕ → ℕ) (chain : List ℕ)
-    → OwnPlanIsShortest tree assigned messages version start chain
-own_plan_is_shortest tree assigned messages version start chain count obeys is_chain as_long =
-    let told = claim_told tree assigned messages version None start no_worker chain in record {
-      free = no_fault tree assigned messages version None start no_worker chain count obeys is_chain (λ k none. absurd (cc))
-          (no_workers (work_of_messages messages) (start_in told) (worker_in told.plan) (tells_worker tree assigned messages version None start no_worker chain));
-      found = as_long ∙ same_length (work_of_messages messages) start (start_in told) (tells_back tree assigned messages version None start no_worker chain);
+pub own_plan_is_shortest : (instance : Instance) (start : ℕ → ℕ) (chain : List ℕ)
+    → OwnPlanIsShortest instance start chain
+own_plan_is_shortest instance start chain count obeys is_chain as_long =
+    let told = claim_told instance None start no_worker chain in record {
+      free = no_fault instance None start no_worker chain count obeys is_chain (λ k none. absurd (cc))
+          (no_workers (work_of_instance instance) (start_in told) (worker_in told.plan) (tells_worker instance None start no_worker chain));
+      found = as_long ∙ same_length (work_of_instance instance) start (start_in told) (tells_back instance None start no_worker chain);
     }
 
-pub own_plan_is_within_bound : (tree : List Node) (assigned : List ℕ) (messages : List Message) (version : Version) (k : ℕ) (start : ℕ → ℕ)
-    (worker : ℕ → Option ℕ) (chain : List ℕ) → OwnPlanIsWithinBound tree assigned messages version k start worker chain
-own_plan_is_within_bound tree assigned messages version k start worker chain count plan manned is_chain bound =
-    let told = claim_told tree assigned messages version (Some k) start worker chain in
-    let all = work_of_messages messages in
-    let same = tells_start tree assigned messages version (Some k) start worker chain in
+pub own_plan_is_within_bound : (instance : Instance) (k : ℕ) (start : ℕ → ℕ)
+    (worker : ℕ → Option ℕ) (chain : List ℕ) → OwnPlanIsWithinBound instance k start worker chain
+own_plan_is_within_bound instance k start worker chain count plan manned is_chain bound =
+    let told = claim_told instance (Some k) start worker chain in
+    let all = work_of_instance instance in
+    let same = tells_start instance (Some k) start worker chain in
     let good : IsFaultless told =
-    no_fault tree assigned messages version (Some k) start worker chain count plan.obeys is_chain
+    no_fault instance (Some k) start worker chain count plan.obeys is_chain
     (λ j is t. subst (λ n. running all start t ≤ n) (some_is k j is) (plan.within t))
-    (right_workers all start (start_in told) worker (worker_in told.plan) k same (tells_worker tree assigned messages version (Some k) start worker chain) manned) in
-    let kept = subst (λ n. k * n ≤ right_side all k chain) (same_length all start (start_in told) (tells_back tree assigned messages version (Some k) start worker chain)) bound in
+    (right_workers all start (start_in told) worker (worker_in told.plan) k same (tells_worker instance (Some k) start worker chain) manned) in
+    let kept = subst (λ n. k * n ≤ right_side all k chain) (same_length all start (start_in told) (tells_back instance (Some k) start worker chain)) bound in
     elim (cases_eq (chain_release all chain + chain_cost all chain) (length_of all (start_in told))) [
       | inl as_long ↦ inl (record { free = good; found = as_long })
       | inr shorter ↦ inr (record { free = not_shortest told good shorter; found = (k, refl, kept) })

@@ -1,11 +1,12 @@
 -- What follows from a verdict without a fault.
-use Rattle.std.proofs.Common.{◌≡◌, ℕ, ◌+◌, ◌≤◌, length, Option, Some, IfSome, arith, inl, inr, subst}
+use Rattle.std.proofs.Common.{◌≡◌, ℕ, ◌+◌, ◌≤◌, length, Option, Some, IfSome, arith, refl, inl, inr, subst}
 use Rattle.std.proofs.lemmas.Bool.{cases_lt}
 use Rattle.std.proofs.lemmas.List.{length-map}
 use Rattle.waff_model.specs.declared.message.Message.{Message}
 use Rattle.waff_plan.specs.Bound.{BoundIsWithinRatio, BoundIsWithinTwice, IsWorkers}
 use Rattle.waff_plan.specs.Chain.{IsChain, chain_cost, chain_release}
 use Rattle.waff_plan.specs.Laws.{ChainsAreWithinLength}
+use Rattle.waff_plan.proofs.NoClients.{obeys_released}
 use Rattle.waff_plan.specs.Obeys.{Obeys}
 use Rattle.waff_plan.specs.Timetable.{timings_of}
 use Rattle.waff_plan.specs.Work.{finish_of, length_of}
@@ -29,13 +30,16 @@ faultless-of claim _ h a v less = absurd a
 
 module _ (claim : Claim) where
   obeys : IsFaultless claim → Obeys (before_of claim) (work_of_claim claim) (start_in claim)
-  obeys good = record {
-    released = λ m n. elim (cases_lt (start_in claim m) ((work_of_claim claim).release m)) [ inl lt ↦ absurd (good (verdict.Early m) (omega arith) (record { number = n; early = lt })) | inr le ↦ le ];
-    ordered = λ i j b. elim (cases_lt (start_in claim j) (finish_of (work_of_claim claim) (start_in claim) i)) [
-      | inl lt ↦ absurd (good (verdict.Overlap i j) (omega arith) (record { ordered = b; early = lt }))
-      | inr le ↦ le
-    ];
-  }
+  obeys good =
+      obeys_released (work_of_claim claim) (λ _. refl) (before_of claim) (start_in claim)
+      (λ m n. elim (cases_lt (start_in claim m) ((work_of_claim claim).release m)) [
+        | inl lt ↦ absurd (good (verdict.Early m) (omega arith) (record { number = n; early = lt }))
+        | inr le ↦ le
+      ])
+      (λ i j b. elim (cases_lt (start_in claim j) (finish_of (work_of_claim claim) (start_in claim) i)) [
+        | inl lt ↦ absurd (good (verdict.Overlap i j) (omega arith) (record { ordered = b; early = lt }))
+        | inr le ↦ le
+      ])
 
   worker-plan : IsFaultless claim → (k : ℕ) → workers_in claim ≡ Some k → IsWorkerPlan (before_of claim) (work_of_claim claim) k (start_in claim)
   worker-plan good k e = record {
@@ -59,13 +63,13 @@ module _ (claim : Claim) where
             not-taken work start worker k none j i w nj wj (record { from = ni.from; earlier = earlier; same = wi; together = together });
       }
 
-  chain-of : IsGiven claim.plan → length claim.plan.rows ≡ length claim.messages → IsFaultless claim → IsChain (before_of claim) (work_of_claim claim) (chain_in claim)
+  chain-of : IsGiven claim.plan → length claim.plan.rows ≡ length claim.instance.trace.messages → IsFaultless claim → IsChain (before_of claim) (work_of_claim claim) (chain_in claim)
   chain-of given same good =
-      let count : length (timings_of claim.messages) ≡ length claim.messages = length-map claim.messages (λ (message : Message). let t : Timing = record { cost = message.cost; release = message.release } in t) in
+      let count : length (timings_of claim.instance.trace.messages) ≡ length claim.instance.trace.messages = length-map claim.instance.trace.messages (λ (message : Message). let t : Timing = record { cost = message.cost; release = message.release } in t) in
       is-chain (before_of claim) (work_of_claim claim) (chain_in claim) (λ place. good (verdict.NotAChain place) (omega arith))
       (λ i d lt. let m = given.chain.each i d lt in let from = m.from in let to = m.to in record { from = from; to = omega arith })
 
-  shortest : ChainsAreWithinLength (before_of claim) (work_of_claim claim) → IsGiven claim.plan → length claim.plan.rows ≡ length claim.messages → IsVerdict claim verdict.Shortest → (other : ℕ → ℕ) → Obeys (before_of claim) (work_of_claim claim) other
+  shortest : ChainsAreWithinLength (before_of claim) (work_of_claim claim) → IsGiven claim.plan → length claim.plan.rows ≡ length claim.instance.trace.messages → IsVerdict claim verdict.Shortest → (other : ℕ → ℕ) → Obeys (before_of claim) (work_of_claim claim) other
       → length_of (work_of_claim claim) (start_in claim) ≤ length_of (work_of_claim claim) other
   shortest chains given same h other o =
       let within = chains (chain_in claim) other (chain-of given same h.free) o in
@@ -76,7 +80,7 @@ module _ (claim : Claim) where
   some-workers w k e h = let at = rw e at h in at.from
 
   bound : BoundIsWithinTwice (before_of claim) (work_of_claim claim) → BoundIsWithinRatio (before_of claim) (work_of_claim claim)
-      → IsGiven claim.plan → length claim.plan.rows ≡ length claim.messages → IsVerdict claim verdict.WithinBound → (k : ℕ) × IsWithin claim k
+      → IsGiven claim.plan → length claim.plan.rows ≡ length claim.instance.trace.messages → IsVerdict claim verdict.WithinBound → (k : ℕ) × IsWithin claim k
   bound twice ratio given same h =
       let start = start_in claim in
       let chain = chain_in claim in
@@ -94,7 +98,7 @@ module _ (claim : Claim) where
       )
 
   pub promises : ChainsAreWithinLength (before_of claim) (work_of_claim claim) → BoundIsWithinTwice (before_of claim) (work_of_claim claim)
-      → BoundIsWithinRatio (before_of claim) (work_of_claim claim) → IsGiven claim.plan → length claim.plan.rows ≡ length claim.messages
+      → BoundIsWithinRatio (before_of claim) (work_of_claim claim) → IsGiven claim.plan → length claim.plan.rows ≡ length claim.instance.trace.messages
       → (v : Verdict) → IsVerdict claim v → Promises claim v
   promises chains twice ratio given same v h = record {
     obeys = λ a. obeys (faultless-of claim v h a);

@@ -12,7 +12,13 @@ IsOneOf k (Some w) = (1 ≤ w) × (w ≤ k)
 
 -- the first messages of the work, this many
 abbrev pub first_of : Work → ℕ → Work
-first_of work many = record { count = many; cost = work.cost; release = work.release }
+first_of work many = record {
+  count = many;
+  cost = work.cost;
+  release = work.release;
+  follows = work.follows;
+  think = work.think;
+}
 
 abbrev pub shift_of : ℕ → ℕ → ℕ → Shift
 shift_of worker start number = record { worker = worker; start = start; number = number }

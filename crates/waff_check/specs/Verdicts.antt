@@ -1,11 +1,10 @@
 -- The verdict on a plan that is given: the first fault, or else how good the plan is.
 use Rattle.std.specs.Prelude.{◌≡◌, ℕ, ◌+◌, ◌<◌, List, length, map, All, Option, Some}
-use Rattle.waff_model.specs.Tree.{Node}
-use Rattle.waff_model.specs.declared.message.Message.{Message}
-use Rattle.waff_assign.specs.Order.{IsOrdered, Relation, affinity_name}
+use Rattle.waff_assign.specs.Instance.{Instance, before_in}
+use Rattle.waff_assign.specs.Order.{Relation, affinity_name}
 use Rattle.waff_plan.specs.Bound.{IsWithinBound}
 use Rattle.waff_plan.specs.Chain.{chain_cost, chain_release}
-use Rattle.waff_plan.specs.Timetable.{work_of_messages}
+use Rattle.waff_plan.specs.Instances.{work_of_instance}
 use Rattle.waff_plan.specs.Timing.{start_of}
 use Rattle.waff_plan.specs.Work.{Work, length_of}
 use Rattle.waff_plan_text.specs.Given.{Given, row_at}
@@ -15,29 +14,26 @@ use Rattle.waff_check.specs.Faults.{Overlaps, StartsEarly}
 use Rattle.waff_check.specs.declared.verdict.Verdict.{Verdict}
 use Rattle.waff_check.specs.declared.verdict.Verdict.TheVariants as verdict
 
--- a plan that is given for the messages of a trace with their affinities
+-- a plan that is given for an instance
 pub record Claim : Type 0 where
-  pub tree : List Node
-  pub assigned : List ℕ
-  pub messages : List Message
+  pub instance : Instance
   pub plan : Given
 
-abbrev pub claim_of : List Node → List ℕ → List Message → Given → Claim
-claim_of tree assigned messages plan =
-    record { tree = tree; assigned = assigned; messages = messages; plan = plan }
+abbrev pub claim_of : Instance → Given → Claim
+claim_of instance plan = record { instance = instance; plan = plan }
 
 -- the assignment, the rows and the messages are as many, and the affinities are those of the tree
 pub record IsClaim (claim : Claim) : Type 0 where
-  pub lengths : length claim.messages ≡ length claim.assigned
-  pub rows : length claim.plan.rows ≡ length claim.messages
-  pub known : All (λ a. a < length claim.tree) claim.assigned
+  pub lengths : length claim.instance.trace.messages ≡ length claim.instance.assigned
+  pub rows : length claim.plan.rows ≡ length claim.instance.trace.messages
+  pub known : All (λ a. a < length claim.instance.tree) claim.instance.assigned
 
 -- the ordered pairs, the work and the starts
 abbrev pub before_of : Claim → Relation
-before_of claim = IsOrdered claim.tree claim.assigned
+before_of claim = before_in claim.instance
 
 abbrev pub work_of_claim : Claim → Work
-work_of_claim claim = work_of_messages claim.messages
+work_of_claim claim = work_of_instance claim.instance
 
 abbrev pub starts_of : Given → List ℕ
 starts_of plan = map (λ row. row.start) plan.rows
@@ -76,7 +72,7 @@ WorkerIsWrong claim =
 abbrev pub NameIsWrong : Claim → ℕ → Type 0
 NameIsWrong claim =
     HasWrongName (work_of_claim claim) (told_name claim.plan)
-    (affinity_name claim.tree claim.assigned)
+    (affinity_name claim.instance.tree claim.instance.assigned)
 
 abbrev pub FinishIsWrong : Claim → ℕ → Type 0
 FinishIsWrong claim = HasWrongFinish (work_of_claim claim) (start_in claim) (told_finish claim.plan)
@@ -151,6 +147,15 @@ IsFound claim verdict.Obeys = Unit {0}
 abbrev pub IsFreeBelow : Claim → ℕ → Type 0
 IsFreeBelow claim n = (v : Verdict) → stage v < n → IsFreeOf claim v
 
+-- no ordered pair overlaps, no tick is crowded, and each message has a right worker
+abbrev pub IsManned : Claim → Type 0
+IsManned claim = IsFreeBelow claim (stage (verdict.Affinity 0))
+
+-- and what rows and totals say is right
+abbrev pub IsSummed : Claim → Type 0
+IsSummed claim = IsFreeBelow claim (stage (verdict.NotAChain 0))
+
+-- and the chain is one, and no start is early: no fault is left
 abbrev pub IsFaultless : Claim → Type 0
 IsFaultless claim = IsFreeBelow claim (stage verdict.Shortest)
 

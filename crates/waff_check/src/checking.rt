@@ -1,8 +1,9 @@
 //! The check of a plan that is given.
 
 ghost use Rattle.std.specs.Prelude.{◌≡◌, length, IfOk};
-ghost use Rattle.waff_check.specs.Claimed.{claimed};
-ghost use Rattle.waff_check.specs.Verdicts.{IsClaim, IsFaultless, IsFreeBelow, IsVerdict};
+ghost use Rattle.waff_assign.specs.Case.{instance_of};
+ghost use Rattle.waff_check.specs.Claimed.{claim_under, claimed};
+ghost use Rattle.waff_check.specs.Verdicts.{IsClaim, IsFaultless, IsManned, IsSummed, IsVerdict};
 ghost use Rattle.waff_check.specs.Verdicts.{claim_of};
 ghost use Rattle.waff_check.specs.Promises.{Promises};
 
@@ -33,12 +34,12 @@ pub fn check<R: Threads + Sync>(
     trace: &Trace,
     given: &GivenPlan,
 ) -> Result<Verdict, AllocError>
-    requires claim { IsClaim (claim_of tree.now assigned.now trace.now.messages given.now) }
+    requires claim { IsClaim (claim_under tree.now assigned.now trace.now given.now) }
     requires version { given.now.version ≡ trace.now.version }
     ensures verdict { IfOk result
-        (IsVerdict (claim_of tree.now assigned.now trace.now.messages given.now)) }
+        (IsVerdict (claim_under tree.now assigned.now trace.now given.now)) }
     ensures promises { IfOk result
-        (Promises (claim_of tree.now assigned.now trace.now.messages given.now)) }
+        (Promises (claim_under tree.now assigned.now trace.now given.now)) }
 {
     chains_are_within_length();
     bound_is_within_twice();
@@ -60,8 +61,7 @@ fn find<'a, R: Threads + Sync>(
     given: &'a GivenPlan,
 ) -> Result<Verdict, AllocError>
     requires rows { length given.now.rows ≡ length case.now.trace.now.messages }
-    ensures { IfOk result (IsVerdict (claim_of case.now.tree.now case.now.assigned.now
-        case.now.trace.now.messages given.now)) }
+    ensures { IfOk result (IsVerdict (claim_of (instance_of case.now) given.now)) }
 {
     let plan = given.plan(alloc, case.trace)?;
     let planned = Planned {
@@ -92,7 +92,7 @@ fn judge<R: Threads + Sync>(rt: &R, alloc: Global, claim: &Claim<'_>) -> Result<
 
 // The verdict on a plan whose messages keep their order and have right workers.
 fn judge_manned(claim: &Claim<'_>) -> Verdict
-    requires { IsFreeBelow (claimed claim.now) 3 }
+    requires { IsManned (claimed claim.now) }
     ensures { IsVerdict (claimed claim.now) result }
 {
     if let Some(message) = wrong_name(claim) {
@@ -109,7 +109,7 @@ fn judge_manned(claim: &Claim<'_>) -> Verdict
 
 // The verdict on a plan whose rows and totals are right.
 fn judge_summed(claim: &Claim<'_>) -> Verdict
-    requires { IsFreeBelow (claimed claim.now) 6 }
+    requires { IsSummed (claimed claim.now) }
     ensures { IsVerdict (claimed claim.now) result }
 {
     if let Some(place) = broken_link(&claim.planned.case, claim.given.chain()) {

@@ -6,7 +6,7 @@ use Rattle.waff_cli.specs.declared.words.Asked.TheVariants as asked
 
 pub within_limits-prop : (asked : Asked) → IsProp (IsWithinLimits asked)
 within_limits-prop (asked.Plan workers rule) = Prim.hlevel props
-within_limits-prop (asked.Waits workers rule by_name) = Prim.hlevel props
+within_limits-prop (asked.Waits workers rule grouping) = Prim.hlevel props
 within_limits-prop (asked.Sweep given rule) = Prim.hlevel props
 within_limits-prop (asked.Compare k) = Prim.hlevel props
 within_limits-prop (asked.Rank k rule) = Prim.hlevel props

@@ -10,7 +10,7 @@ use Rattle.waff_cli.specs.declared.words.Asked.TheVariants as asked
 -- that number is within the limits, and so is each number of a sweep
 abbrev pub IsWithinLimits : Asked → Type 0
 IsWithinLimits (asked.Plan workers rule) = IfSome workers IsWorkers
-IsWithinLimits (asked.Waits workers rule by_name) = IfSome workers IsWorkers
+IsWithinLimits (asked.Waits workers rule grouping) = IfSome workers IsWorkers
 IsWithinLimits (asked.Sweep given rule) = IfSome given (λ numbers. All IsWorkers numbers.items)
 IsWithinLimits (asked.Compare k) = IsWorkers k
 IsWithinLimits (asked.Rank k rule) = IsWorkers k

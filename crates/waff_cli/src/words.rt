@@ -13,6 +13,7 @@ use clap::ArgMatches;
 use std::alloc::{AllocError, Global};
 use waff_core::limits::MAX_SEATS;
 use waff_draw::Part;
+use waff_figures::Grouping;
 use waff_inputs::MAX_RANKED;
 use waff_list::Rule;
 use waff_model::limits::MAX_WORKERS;
@@ -47,11 +48,11 @@ pub enum Asked {
     /// How long the trace takes by this rule, for each of these numbers of workers, or for the usual
     /// ones.
     Sweep(Option<Vec<u32>>, Rule),
-    /// Where the time goes, by the names of messages or by affinity.
-    Where(bool),
+    /// Where the time goes, by affinity or by the names of messages.
+    Where(Grouping),
     /// Who waits for whom, in the plan for this number of workers by this rule or in a shortest one,
-    /// by the names of messages or not.
-    Waits(Option<u32>, Rule, bool),
+    /// by affinity or by the names of messages too.
+    Waits(Option<u32>, Rule, Grouping),
     /// This part of the plan drawn as this picture.
     Draw(Drawing, Part),
     /// How several hierarchies serve the trace, for this number of workers by this rule. The trace
@@ -161,7 +162,7 @@ fn asked_of(
         "check" => Ok(Asked::Check),
         "explain" => Ok(Asked::Explain),
         "rate" => Ok(Asked::Rate),
-        "where" => Ok(Asked::Where(matches.get_flag("names"))),
+        "where" => Ok(Asked::Where(grouping(matches))),
         "replay" => Ok(Asked::Replay(workers(matches, MAX_SEATS)?)),
         "compare" => Ok(Asked::Compare(wanted_workers(matches)?)),
         "draw" => Ok(Asked::Draw(drawn_as(matches)?, part_of(rt, matches)?)),
@@ -184,7 +185,7 @@ fn asked_by_rule(
         "sweep" => Ok(Asked::Sweep(swept_workers(rt, alloc, matches)?, rule)),
         "waits" => {
             let workers = workers(matches, MAX_WORKERS)?;
-            Ok(Asked::Waits(workers, rule, matches.get_flag("names")))
+            Ok(Asked::Waits(workers, rule, grouping(matches)))
         }
         "rank" => Ok(Asked::Rank(wanted_workers(matches)?, rule)),
         _ => Err(Refusal::NoWords),
@@ -293,6 +294,15 @@ fn rule_of(matches: &ArgMatches<'_>) -> Result<Rule, Refusal> {
         Some("arrival") => Ok(Rule::Arrival),
         Some("longest") => Ok(Rule::Longest),
         _ => Err(Refusal::NoWords),
+    }
+}
+
+/// What the messages of one row have in common.
+fn grouping(matches: &ArgMatches<'_>) -> Grouping {
+    if matches.get_flag("names") {
+        Grouping::Name
+    } else {
+        Grouping::Affinity
     }
 }
 

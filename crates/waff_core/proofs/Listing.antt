@@ -8,6 +8,7 @@ use Rattle.std.proofs.lemmas.Option.{get_or_from_slice_get, slice_get_within}
 use Rattle.waff_model.specs.Cells.{cells_of, cells_of_op}
 use Rattle.waff_model.specs.Layout.{Space, IsCell, owner_of}
 use Rattle.waff_model.specs.declared.cell.Cell.{Cell}
+use Rattle.waff_model.specs.declared.limits.TheConstants.{MAX_OPS}
 use Rattle.waff_model.specs.declared.message.Message.{Message}
 use Rattle.waff_model.specs.declared.op.Op.{Op}
 use Rattle.waff_model.specs.declared.op.Op.TheVariants.{Set, Add, Copy, Swap, Read}
@@ -128,10 +129,10 @@ lists_owners spaces ops owners h = record {
 pub record AreOwnersUpTo (spaces : List Space) (ops : List (List Op)) (owners : List (List ℕ)) (n : ℕ) : Type 0 where
   pub count : length owners ≡ n
   pub each : (m : ℕ) → 1 ≤ m → m ≤ n → ListsOwners spaces (ops_of ops m) (owners_of owners m)
-  pub few : All (λ owners. length owners ≤ 64) owners
+  pub few : All (λ owners. length owners ≤ 2 * MAX_OPS) owners
 
 pub owners_one_more : (spaces : List Space) (ops : List (List Op)) (owners : List (List ℕ)) (n : ℕ) (kept : List ℕ)
-    → AreOwnersUpTo spaces ops owners n → ListsOwners spaces (get_or ops n []) kept → length kept ≤ 64
+    → AreOwnersUpTo spaces ops owners n → ListsOwners spaces (get_or ops n []) kept → length kept ≤ 2 * MAX_OPS
     → AreOwnersUpTo spaces ops (owners ++ kept ∷ []) (n + 1)
 owners_one_more spaces ops owners n kept h lists short = record {
   count = omega (arith, h.count, length_push owners kept);
@@ -147,7 +148,7 @@ owners_one_more spaces ops owners n kept h lists short = record {
       let within : m - 1 < length owners = omega (arith, h.count) in
       subst (λ xs. ListsOwners spaces (ops_of ops m) xs) (sym (get_or_append_left owners (kept ∷ []) [] (m - 1) within)) (h.each m from before))
       (cases_eq m (n + 1));
-  few = All-push (λ (owners : List ℕ). length owners ≤ 64) owners kept h.few short;
+  few = All-push (λ (owners : List ℕ). length owners ≤ 2 * MAX_OPS) owners kept h.few short;
 }
 
 pub owners_all : (spaces : List Space) (ops : List (List Op)) (owners : List (List ℕ)) (n : ℕ) → n ≡ length ops

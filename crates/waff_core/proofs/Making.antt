@@ -9,6 +9,7 @@ use Rattle.waff_model.specs.Messages.{Arrivals, IsMessage, IsTrace, sizes_of}
 use Rattle.waff_model.specs.declared.limits.TheConstants.{MAX_OPS}
 use Rattle.waff_model.specs.declared.message.Message.{Message}
 use Rattle.waff_model.specs.declared.op.Op.{Op}
+use Rattle.waff_model.proofs.TraceLemmas.{max_ops-most}
 use Rattle.waff_assign.specs.Lowest.{AreLowest, IsLowest, IsInFootprint}
 use Rattle.waff_assign.specs.Order.{affinity_of}
 use Rattle.waff_assign.proofs.Assignments.{cells_of_layout}
@@ -22,7 +23,7 @@ use Rattle.waff_core.proofs.Listing.{ops_of-at, operations_at}
 pub few_operations : (trace : Arrivals) → IsTrace trace → All (λ ops. length ops ≤ MAX_OPS) (operations trace.messages)
 few_operations trace is =
     All-map (λ (ops : List Op). length ops ≤ MAX_OPS) (λ (m : Message). m.ops) trace.messages
-    (All-weaker (IsMessage trace.version trace.sizes) (λ m. length m.ops ≤ MAX_OPS) (λ m h. h.within_ops) trace.messages is.messages)
+    (All-weaker (IsMessage trace.version trace.sizes) (λ m. length m.ops ≤ MAX_OPS) (λ m h. omega (arith, h.within_ops, max_ops-most trace.version)) trace.messages is.messages)
 
 pub cells_operations : (trace : Arrivals) (spaces : List Space) → IsTrace trace → trace.sizes ≡ sizes_of spaces
     → All (λ ops. All (IsCell spaces) (cells_of ops)) (operations trace.messages)

@@ -3,6 +3,7 @@ use Rattle.std.proofs.Common.{◌≡◌, ℕ, inl, inr, zero, suc, ◌+◌, ◌-
 use Rattle.std.proofs.lemmas.List.Folds.{sum_by-replicate}
 use Rattle.std.proofs.lemmas.List.Sums.{sum_by-set}
 use Rattle.std.proofs.lemmas.Option.{none-some, slice_get_within, get_or_from_slice_get}
+use Rattle.waff_model.specs.declared.limits.TheConstants.{MAX_MESSAGES}
 use Rattle.waff_core.specs.Job.{JobValue, IsJob}
 use Rattle.waff_core.specs.Machine.{Core, Steps, Runs, opening, phase_of, with_phase, phase_drawn}
 use Rattle.waff_core.specs.Shown.{IsSteady}
@@ -72,8 +73,8 @@ steady_reached job is seats events s runs =
     }
 
 -- the events are few
-pub events_few : (job : JobValue) → IsJob job → length job.ops ≤ 65536 → (seats : ℕ) → seats ≤ 16 → (events : List Event) (s : Core)
-    → Runs job (opening seats) events s → (n : ℕ) → IsPaced n s → (n ≤ 196656) × (s.drawn ≤ 65552)
+pub events_few : (job : JobValue) → IsJob job → length job.ops ≤ MAX_MESSAGES → (seats : ℕ) → seats ≤ 16 → (events : List Event) (s : Core)
+    → Runs job (opening seats) events s → (n : ℕ) → IsPaced n s → (n ≤ 3 * (MAX_MESSAGES + 16)) × (s.drawn ≤ MAX_MESSAGES + 16)
 events_few job is few seats short events s runs n paced =
     let bound = draws_are_few job is seats s (events, runs) in
     (omega (arith, paced, bound), omega (arith, bound))

@@ -1,8 +1,10 @@
 -- The owners of footprints.
-use Rattle.std.specs.Prelude.{◌≡◌, ◌↔◌, ◌⊎◌, ℕ, ◌+◌, ◌≤◌, List, length, map, All, Contains}
+use Rattle.std.specs.Prelude.{◌≡◌, ◌↔◌, ◌⊎◌, ℕ, ◌+◌, ◌*◌, ◌<◌, ◌≤◌, List, length, map, All, Contains}
+use Rattle.std.specs.Prelude.{slice_index_or}
 use Rattle.waff_model.specs.Layout.{Hierarchy, Space, IsLayout, owner_of}
 use Rattle.waff_model.specs.Messages.{Arrivals, IsTrace}
 use Rattle.waff_model.specs.declared.cell.Cell.{Cell}
+use Rattle.waff_model.specs.declared.limits.TheConstants.{MAX_OPS}
 use Rattle.waff_model.specs.declared.op.Op.{Op}
 use Rattle.waff_cells.specs.Serial.{operations, ops_of}
 use Rattle.waff_core.specs.Job.{ListsOwners, StandOnce, owners_of}
@@ -17,13 +19,23 @@ pub record AreOwners (spaces : List Space) (ops : List (List Op)) (owners : List
   pub count : length owners ≡ length ops
   pub each : (n : ℕ) → 1 ≤ n → n ≤ length ops
       → ListsOwners spaces (ops_of ops n) (owners_of owners n)
-  pub few : All (λ owners. length owners ≤ 64) owners
+  pub few : All (λ owners. length owners ≤ 2 * MAX_OPS) owners
 
 -- those of these affinities that are new come to a list, each once
 pub record AreAdded (more before after : List ℕ) : Type 0 where
   pub each : (a : ℕ) → Contains after a ↔ (Contains before a ⊎ Contains more a)
   pub once : StandOnce before → StandOnce after
   pub few : length after ≤ length before + length more
+
+-- the owners that were found, of so many affinities
+pub record Found : Type 0 where
+  pub count : ℕ
+  pub owners : List ℕ
+
+-- each of these owners has its place noted
+abbrev pub ArePlaces : List ℕ → List ℕ → Type 0
+ArePlaces places owners = (k : ℕ) → k < length owners
+    → slice_index_or places (slice_index_or owners k 0) 0 ≡ k
 
 -- what a job keeps beside what it is given, if the order is one: the table of the layout, the
 -- owners of the footprints, and a copy of the order

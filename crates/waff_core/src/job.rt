@@ -3,7 +3,7 @@
 ghost use Rattle.std.specs.Prelude.{◌≡◌, ◌↔◌, ◌<◌, ◌≤◌, length, All, IsTrue, IfOk, IfErr, OnOk};
 ghost use Rattle.std.specs.Prelude.{slice_get};
 ghost use Rattle.waff_model.specs.Cells.{cells_of};
-ghost use Rattle.waff_model.specs.Layout.{IsCell, IsLayout};
+ghost use Rattle.waff_model.specs.Layout.{HasFewCells, IsCell, IsLayout};
 ghost use Rattle.waff_model.specs.Messages.{IsTrace, sizes_of};
 ghost use Rattle.waff_model.specs.declared.limits.TheConstants.{MAX_MESSAGES};
 ghost use Rattle.waff_assign.specs.Lowest.{IsAssignment};
@@ -82,7 +82,7 @@ impl Drop for Job {
 
 impl Job {
     /// The job of a trace's messages, with the assignment and the needs of that trace under that
-    /// layout.
+    /// layout, which has few cells.
     pub fn new(
         alloc: Global,
         layout: Layout,
@@ -91,6 +91,7 @@ impl Job {
         needs: Needs,
         order: &[u32],
     ) -> Result<Job, JobError>
+        requires few { HasFewCells layout.spaces }
         requires fits { trace.sizes ≡ sizes_of layout.spaces }
         requires assignment { IsAssignment layout trace.messages assigned }
         requires known { All (λ a. a < length layout.tree) assigned }
@@ -194,6 +195,7 @@ fn parts_of(
     needs: &Needs,
     order: &[u32],
 ) -> Result<(ParcelTable, Lists<u16>, Vec<u32>), JobError>
+    requires few { HasFewCells layout.spaces }
     requires fits { trace.now.sizes ≡ sizes_of layout.spaces }
     ensures parts { IfOk result
         (λ made. AreParts layout trace.now order.now made.0 made.1 made.2.items) }
@@ -218,12 +220,13 @@ fn make_parts(
     trace: &Trace,
     order: &[u32],
 ) -> Result<(ParcelTable, Lists<u16>, Vec<u32>), AllocError>
+    requires few { HasFewCells layout.spaces }
     requires fits { trace.now.sizes ≡ sizes_of layout.spaces }
     ensures { IfOk result
         (λ made. AreParts layout trace.now order.now made.0 made.1 made.2.items) }
 {
-    let owners = list_owners(alloc, &layout, trace)?;
-    let order = Vec::from_slice(alloc, order)?;
     let table = ParcelTable::new(alloc, layout)?;
+    let owners = list_owners(alloc, &table, trace)?;
+    let order = Vec::from_slice(alloc, order)?;
     Ok((table, owners, order))
 }

@@ -5,7 +5,8 @@
 //! ends it. The machine is pure: no thread is in it. What the crates above rest on: whatever list
 //! of events it accepts, each cell has the value that the order of arrival gives it after the last
 //! message that is done and could touch it.
-//! - `job`, `order`, `refusal`: jobs, and why they are refused; `owners`: the owners of footprints.
+//! - `job`, `order`, `refusal`: jobs, and why they are refused; `owners`, over
+//!   `owner_set`: the owners of footprints.
 //! - `laws`: what holds of the machine, whoever runs it. The board is proved over these and over
 //!   `Steps`, the relation of states (`specs/Machine.antt`).
 //! - `steps`, `run`: one event, and lists of them; `core_state`, over `event`, `phase`, `status` and
@@ -21,6 +22,7 @@ mod job;
 pub mod laws;
 pub mod limits;
 mod order;
+mod owner_set;
 mod owners;
 mod phase;
 mod refusal;

@@ -6,13 +6,12 @@ use Rattle.waff_assign.specs.Order.{affinity_name}
 use Rattle.waff_plan.specs.Work.{numbers}
 use Rattle.waff_draw.specs.Kinds.{shown_row}
 use Rattle.waff_draw.specs.Lanes.{is_among}
-use Rattle.waff_draw.specs.Pieces.{bar_end, bar_start}
+use Rattle.waff_draw.specs.Pieces.{bar_end, bar_middle, bar_start}
 use Rattle.waff_draw.specs.Scene.{Scene, finish_in, from_in, name_in, shown_start, shown_ticks}
 use Rattle.waff_draw.specs.Scene.{span_in, start_in, work_of_scene}
 use Rattle.waff_draw.specs.Xml.{xml_text}
 use Rattle.waff_draw.specs.declared.bars.Bar.{Bar}
 use Rattle.waff_draw.specs.declared.lanes.LaneKind.{LaneKind}
-use Rattle.waff_draw.specs.declared.pieces.TheConstants.{BAR_MIDDLE}
 
 -- whether so many ticks are narrower than a pixel where these are a thousand wide
 abbrev pub is_narrow : ℕ → ℕ → Bool
@@ -34,7 +33,7 @@ bar_text bar name affinity =
     bar_start (mark_of bar.is_link bar.is_thin) bar.left
     (bar.row * 10 + margin_of bar.is_link bar.is_thin) bar.width
     (10 - 2 * margin_of bar.is_link bar.is_thin) bar.message
-    ++ xml_text name ++ BAR_MIDDLE.now ++ xml_text affinity ++ bar_end bar.start bar.finish
+    ++ xml_text name ++ bar_middle ++ xml_text affinity ++ bar_end bar.start bar.finish
 
 -- the bar of message n in a row: it is as wide as its ticks that are shown, and tells of all
 abbrev pub bar_at : Scene → ℕ → ℕ → Bar
@@ -52,7 +51,7 @@ bar_at scene row n = record {
 -- its text
 abbrev pub bar_in : Scene → ℕ → ℕ → List ℕ
 bar_in scene row n =
-    bar_text (bar_at scene row n) (name_in scene n) (affinity_name scene.tree scene.assigned n)
+    bar_text (bar_at scene row n) (name_in scene n) (affinity_name scene.instance.tree scene.instance.assigned n)
 
 -- the bar of message n in its row, if it has one
 abbrev pub bar_where : Scene → ℕ → Option ℕ → List ℕ

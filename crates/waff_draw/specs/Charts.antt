@@ -10,19 +10,19 @@ use Rattle.waff_draw.specs.declared.lanes.Lane.{Lane}
 -- of the scene, with the row of each affinity and which numbers are on the chain
 pub record IsChart (scene : Scene) (lanes : List Lane) (plan : Timetable) (ticks end : ℕ)
     (rows : List ℕ) (links : List Bool) : Type 0 where
-  pub messages : length scene.messages ≡ (work_of_scene scene).count
+  pub messages : length scene.instance.trace.messages ≡ (work_of_scene scene).count
   pub given : length scene.plan.rows ≡ (work_of_scene scene).count
   pub shown : lanes ≡ lanes_in scene
-  pub shown_known : All (λ lane. lane.affinity < length scene.tree) lanes
+  pub shown_known : All (λ lane. lane.affinity < length scene.instance.tree) lanes
   pub few : length lanes ≤ 65536
-  pub timings : plan.timings ≡ timings_of scene.messages
+  pub timings : plan.timings ≡ timings_of scene.instance.trace.messages
   pub starts : plan.starts ≡ map (λ row. row.start) scene.plan.rows
   pub long : ticks ≡ length_in scene
   pub ends : end ≡ end_in scene
   pub some : from_in scene < end
   pub small : end ≤ 2 ^ 64
-  pub row_count : length rows ≡ length scene.tree
-  pub each_row : (a : ℕ) → a < length scene.tree
+  pub row_count : length rows ≡ length scene.instance.tree
+  pub each_row : (a : ℕ) → a < length scene.instance.tree
       → slice_index rows a ≡ row_of (lanes_in scene) a
   pub link_count : (work_of_scene scene).count < length links
   pub each_link : (n : ℕ) → n < length links

@@ -13,10 +13,25 @@ use Rattle.waff_draw.specs.Lanes.{is_among, lane_of}
 use Rattle.waff_draw.specs.Pieces.{joined, worker_name}
 use Rattle.waff_draw.specs.Scene.{Scene, lanes_in, name_in, shown_start, shown_ticks, work_of_scene}
 use Rattle.waff_draw.specs.declared.events.Event.{Event}
-use Rattle.waff_draw.specs.declared.events.TheConstants.{DOCUMENT_END, DOCUMENT_START, WORKERS_START}
 use Rattle.waff_draw.specs.declared.lanes.Lane.{Lane}
 use Rattle.waff_draw.specs.declared.lanes.LaneKind.{LaneKind}
 use Rattle.waff_draw.specs.declared.lanes.LaneKind.TheVariants.{Affinity, Worker}
+
+-- a process of this name, with its place
+abbrev pub process_text : List ℕ → List ℕ → List ℕ
+process_text process name =
+    codes "{\"name\":\"process_name\",\"ph\":\"M\",\"pid\":" ++ process
+    ++ codes ",\"args\":{\"name\":\"" ++ name ++ codes "\"}},\n"
+    ++ codes "{\"name\":\"process_sort_index\",\"ph\":\"M\",\"pid\":" ++ process
+    ++ codes ",\"args\":{\"sort_index\":" ++ process ++ codes "}}"
+
+-- the start of the document, with the process whose threads are the lanes of affinities
+unfoldable pub document_start : List ℕ
+document_start = codes "{\"traceEvents\":[\n" ++ process_text (codes "1") (codes "affinities")
+
+-- the process whose threads are the lanes of workers
+abbrev pub workers_start : List ℕ
+workers_start = codes ",\n" ++ process_text (codes "2") (codes "workers")
 
 -- the name of a thread of a process, which is given as JSON, and its place
 unfoldable pub thread_name : ℕ → ℕ → List ℕ → List ℕ
@@ -74,7 +89,7 @@ worker_thread first worker = thread_text 2 (first + worker) (worker_name worker)
 abbrev pub worker_threads : ℕ → Option ℕ → List ℕ
 worker_threads first None = []
 worker_threads first (Some k) =
-    WORKERS_START.now ++ flat_map (worker_thread first) (range_with_len 1 k)
+    workers_start ++ flat_map (worker_thread first) (range_with_len 1 k)
 
 -- the event of message n in a row of a process: it has the ticks that are shown
 abbrev pub event_at : Scene → ℕ → ℕ → ℕ → Event
@@ -92,7 +107,7 @@ event_at scene process row n = record {
 abbrev pub event_in : Scene → ℕ → ℕ → ℕ → List ℕ
 event_in scene process row n =
     event_text (event_at scene process row n) (name_in scene n)
-    (affinity_name scene.tree scene.assigned n)
+    (affinity_name scene.instance.tree scene.instance.assigned n)
 
 -- the event of message n in its row, if it has one
 abbrev pub event_where : Scene → ℕ → ℕ → Option ℕ → List ℕ
@@ -108,12 +123,12 @@ events_of scene kind =
 -- what stands before the events of messages
 abbrev pub threads_text : Scene → List ℕ
 threads_text scene =
-    DOCUMENT_START.now
-    ++ flat_map (affinity_thread scene.tree (lanes_in scene))
+    document_start
+    ++ flat_map (affinity_thread scene.instance.tree (lanes_in scene))
     (range_with_len 0 (length (lanes_in scene)))
     ++ worker_threads (length (lanes_in scene)) scene.plan.summary.workers
 
 -- the document
 abbrev pub events_text : Scene → List ℕ
 events_text scene =
-    threads_text scene ++ events_of scene Affinity ++ events_of scene Worker ++ DOCUMENT_END.now
+    threads_text scene ++ events_of scene Affinity ++ events_of scene Worker ++ codes "\n]}\n"

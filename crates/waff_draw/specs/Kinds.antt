@@ -16,7 +16,7 @@ worker_row first k (Some worker) =
 
 -- the row of message n among the lanes of a kind, if it has one there
 abbrev pub row_in : Scene → LaneKind → ℕ → Option ℕ
-row_in scene Affinity n = Some (row_of (lanes_in scene) (affinity_of scene.assigned n))
+row_in scene Affinity n = Some (row_of (lanes_in scene) (affinity_of scene.instance.assigned n))
 row_in scene Worker n =
     worker_row (length (lanes_in scene)) (workers_in scene) (row_at scene.plan.rows n).worker
 

@@ -27,6 +27,10 @@ lane_start top left base = joined (
     ∷ codes "' width='1380' height='20'/><text x='" ∷ decimal left
     ∷ codes "' y='" ∷ decimal base ∷ codes "'>" ∷ [])
 
+-- its end, behind the name
+unfoldable pub lane_end : List ℕ
+lane_end = codes "</text></g>\n"
+
 unfoldable pub worker_name : ℕ → List ℕ
 worker_name worker = joined (codes "worker " ∷ decimal worker ∷ [])
 
@@ -55,6 +59,10 @@ bar_start mark left top width height message = joined (
     codes "<rect" ∷ mark ∷ codes " x='" ∷ decimal left ∷ codes "' y='" ∷ decimal top
     ∷ codes "' width='" ∷ decimal width ∷ codes "' height='" ∷ decimal height
     ∷ codes "'><title>" ∷ decimal message ∷ codes " " ∷ [])
+
+-- what stands between the name of its message and that of its affinity
+unfoldable pub bar_middle : List ℕ
+bar_middle = codes " in "
 
 -- what it tells behind the name of its affinity
 unfoldable pub bar_end : ℕ → ℕ → List ℕ

@@ -1,11 +1,8 @@
--- What a picture shows: a plan that is given for the messages of a trace with their affinities, or
--- a part of it.
+-- What a picture shows: a plan that is given for an instance, or a part of it.
 use Rattle.std.specs.Prelude.{ℕ, ◌+◌, ◌-◌, max, min, Bool, List, [], Option, Some, None, length}
 use Rattle.std.specs.Prelude.{map, nat_lt, slice_index_or}
-use Rattle.waff_model.specs.Tree.{Node}
-use Rattle.waff_model.specs.declared.message.Message.{Message}
-use Rattle.waff_assign.specs.declared.case.Case.{Case}
-use Rattle.waff_plan.specs.Timetable.{work_of_messages}
+use Rattle.waff_assign.specs.Instance.{Instance}
+use Rattle.waff_plan.specs.Instances.{work_of_instance}
 use Rattle.waff_plan.specs.Timing.{start_of}
 use Rattle.waff_plan.specs.Work.{Work, finish_of, length_of}
 use Rattle.waff_plan_text.specs.Given.{Given}
@@ -15,24 +12,16 @@ use Rattle.waff_draw.specs.declared.lanes.Lane.{Lane}
 use Rattle.waff_draw.specs.declared.parts.Part.{Part}
 
 pub record Scene : Type 0 where
-  pub tree : List Node
-  pub assigned : List ℕ
-  pub messages : List Message
+  pub instance : Instance
   pub plan : Given
   pub part : Part
 
-abbrev pub scene_of : List Node → List ℕ → List Message → Given → Part → Scene
-scene_of tree assigned messages plan part =
-    record { tree = tree; assigned = assigned; messages = messages; plan = plan; part = part }
-
--- that of a plan that is given for the messages of a case
-abbrev pub scene_of_case : Case → Given → Part → Scene
-scene_of_case case plan part =
-    scene_of case.tree.now case.assigned.now case.trace.now.messages plan part
+abbrev pub scene_of : Instance → Given → Part → Scene
+scene_of instance plan part = record { instance = instance; plan = plan; part = part }
 
 -- the work, the starts, the finishes and the length of the plan
 abbrev pub work_of_scene : Scene → Work
-work_of_scene scene = work_of_messages scene.messages
+work_of_scene scene = work_of_instance scene.instance
 
 abbrev pub start_in : Scene → ℕ → ℕ
 start_in scene = start_of (map (λ row. row.start) scene.plan.rows)
@@ -66,7 +55,7 @@ is_shown scene n = nat_lt 0 (shown_ticks scene n)
 
 -- the lanes of affinities; below them a plan for k workers has k more
 abbrev pub lanes_in : Scene → List Lane
-lanes_in scene = lanes_of scene.tree scene.assigned
+lanes_in scene = lanes_of scene.instance.tree scene.instance.assigned
 
 abbrev pub worker_count : Option ℕ → ℕ
 worker_count None = 0
@@ -80,4 +69,4 @@ rows_in scene = length (lanes_in scene) + workers_in scene
 
 -- the name of message n
 abbrev pub name_in : Scene → ℕ → List ℕ
-name_in scene n = slice_index_or (map (λ message. message.name) scene.messages) (n - 1) []
+name_in scene n = slice_index_or (map (λ message. message.name) scene.instance.trace.messages) (n - 1) []

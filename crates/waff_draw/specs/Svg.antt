@@ -1,6 +1,6 @@
 -- The picture as a document in SVG.
 use Rattle.std.specs.Prelude.{ℕ, ◌+◌, ◌-◌, ◌*◌, ◌/◌, min, List, [], ◌++◌, Option, if◌then◌else◌}
-use Rattle.std.specs.Prelude.{length, nat_le, slice_index_or}
+use Rattle.std.specs.Prelude.{codes, length, nat_le, slice_index_or}
 use Rattle.std.specs.List.{flat_map, range_with_len}
 use Rattle.waff_model.specs.Tree.{Node, name_of}
 use Rattle.waff_plan.specs.Work.{total_of}
@@ -8,30 +8,35 @@ use Rattle.waff_plan_text.specs.Spelling.{worker_field}
 use Rattle.waff_draw.specs.Axis.{line_at}
 use Rattle.waff_draw.specs.Bars.{bars_of}
 use Rattle.waff_draw.specs.Lanes.{lane_of}
-use Rattle.waff_draw.specs.Pieces.{grid_line, heading_start, lane_start, plan_start, tick_label}
-use Rattle.waff_draw.specs.Pieces.{top_start, worker_name}
+use Rattle.waff_draw.specs.Pieces.{grid_line, heading_start, lane_end, lane_start, plan_start}
+use Rattle.waff_draw.specs.Pieces.{tick_label, top_start, worker_name}
 use Rattle.waff_draw.specs.Scene.{Scene, end_in, from_in, lanes_in, length_in, rows_in, span_in}
 use Rattle.waff_draw.specs.Scene.{work_of_scene, workers_in}
 use Rattle.waff_draw.specs.Xml.{xml_text}
 use Rattle.waff_draw.specs.declared.lanes.Lane.{Lane}
 use Rattle.waff_draw.specs.declared.lanes.LaneKind.TheVariants.{Affinity, Worker}
-use Rattle.waff_draw.specs.declared.pieces.TheConstants.{DOCUMENT_END, HEADING_END, LANE_END}
-use Rattle.waff_draw.specs.declared.pieces.TheConstants.{LEGEND, STYLE}
+use Rattle.waff_draw.specs.declared.pieces.TheConstants.{STYLE}
+
+-- what the bars are
+abbrev pub legend : List ℕ
+legend = codes "<text x='8' y='48'>A bar is a message from its start to its finish. "
+    ++ codes "The plan's chain has thick outlines; its bars narrower than a pixel fill the height "
+    ++ codes "of the lane.</text>\n"
 
 -- the top of the document, for this many rows
 abbrev pub top_text : ℕ → List ℕ
-top_text rows = top_start (rows * 20 + 112) ++ STYLE.now ++ LEGEND.now
+top_text rows = top_start (rows * 20 + 112) ++ STYLE.now ++ legend
 
 -- what is told of the plan
 abbrev pub heading_text : ℕ → ℕ → Option ℕ → List ℕ
 heading_text length total workers =
-    heading_start length total ++ worker_field workers ++ HEADING_END.now
+    heading_start length total ++ worker_field workers ++ codes "</text>\n"
 
 -- a lane with its name, set in by depth, twelve steps at most
 abbrev pub lane_text : ℕ → ℕ → List ℕ → List ℕ
 lane_text row depth name =
     lane_start (row * 20 + 80) (min depth 12 * 8 + 8) (row * 20 + 94) ++ name
-    ++ LANE_END.now
+    ++ lane_end
 
 -- the lane of an affinity
 abbrev pub affinity_lane_text : List Node → ℕ → Lane → List ℕ
@@ -73,7 +78,7 @@ abbrev pub ground_text : Scene → List ℕ
 ground_text scene =
     top_text (rows_in scene)
     ++ heading_text (length_in scene) (total_of (work_of_scene scene)) scene.plan.summary.workers
-    ++ flat_map (affinity_lane scene.tree (lanes_in scene))
+    ++ flat_map (affinity_lane scene.instance.tree (lanes_in scene))
     (range_with_len 0 (length (lanes_in scene)))
     ++ flat_map (worker_lane (length (lanes_in scene))) (range_with_len 1 (workers_in scene))
     ++ each_line scene (tick_text scene)
@@ -83,4 +88,5 @@ ground_text scene =
 -- the document
 abbrev pub svg_text : Scene → List ℕ
 svg_text scene =
-    ground_text scene ++ bars_of scene Affinity ++ bars_of scene Worker ++ DOCUMENT_END.now
+    ground_text scene ++ bars_of scene Affinity ++ bars_of scene Worker
+    ++ codes "</svg>\n</svg>\n"

@@ -8,7 +8,7 @@ ghost use Rattle.waff_draw.specs.Scene.{work_of_scene};
 
 use crate::chart::Chart;
 use crate::lanes::LaneKind;
-use crate::pieces::{BAR_MIDDLE, push_bar_end, push_bar_start};
+use crate::pieces::{push_bar_end, push_bar_middle, push_bar_start};
 use crate::xml::push_xml;
 use std::alloc::AllocError;
 
@@ -54,7 +54,7 @@ fn push_bar(text: &mut String, chart: &Chart<'_>, row: u64, n: u32) -> Result<()
     let top = u128::from(bar.row) * 10 + u128::from(margin);
     push_bar_start(text, &bar, top, 10 - 2 * margin, mark)?;
     push_xml(text, chart.name(n))?;
-    text.push_str(BAR_MIDDLE)?;
+    push_bar_middle(text)?;
     push_xml(text, chart.affinity_name(n))?;
     push_bar_end(text, bar.start, bar.finish)
 }

@@ -3,6 +3,7 @@
 ghost use Rattle.std.specs.Prelude.{◌≡◌, ◌^◌, ◌<◌, ◌≤◌, IfOk, IfSome, length};
 ghost use Rattle.std.specs.Prelude.{slice_index_or};
 ghost use Rattle.waff_model.specs.Tree.{name_of};
+ghost use Rattle.waff_assign.specs.Case.{instance_of};
 ghost use Rattle.waff_assign.specs.Order.{affinity_name, affinity_of};
 ghost use Rattle.waff_plan.specs.Bound.{IsWorkers};
 ghost use Rattle.waff_plan.specs.Work.{IsNumber, total_of};
@@ -10,7 +11,7 @@ ghost use Rattle.waff_plan_text.specs.Given.{row_at};
 ghost use Rattle.waff_draw.specs.Kinds.{row_in, shown_row, worker_row};
 ghost use Rattle.waff_draw.specs.Lanes.{is_among, lane_of, row_of};
 ghost use Rattle.waff_draw.specs.Scene.{end_in, finish_in, from_in, lanes_in, length_in};
-ghost use Rattle.waff_draw.specs.Scene.{name_in, rows_in, scene_of_case, shown_start, shown_ticks};
+ghost use Rattle.waff_draw.specs.Scene.{name_in, rows_in, scene_of, shown_start, shown_ticks};
 ghost use Rattle.waff_draw.specs.Scene.{span_in, start_in, work_of_scene, workers_in};
 ghost use Rattle.waff_draw.specs.Svg.{line_in};
 
@@ -44,7 +45,8 @@ pub(crate) struct Chart<'a> {
 
 impl<'a> Model for Chart<'a> {
     ghost use Rattle.std.specs.Coded.{codes};
-    ghost use Rattle.waff_draw.specs.Scene.{Scene, scene_of_case};
+    ghost use Rattle.waff_assign.specs.Case.{instance_of};
+    ghost use Rattle.waff_draw.specs.Scene.{Scene, scene_of};
     ghost use Rattle.waff_draw.specs.Charts.{IsChart};
     ghost use Rattle.waff_draw.specs.contracts.parts.Part.{the_row};
 
@@ -53,9 +55,9 @@ impl<'a> Model for Chart<'a> {
     // A part has a fact, so that its code has to be named.
     ghost coded = { Prim.hlevel (codes, the_row.coded) };
 
-    ghost view = { λ c. scene_of_case c.case c.given.now c.part };
+    ghost view = { λ c. scene_of (instance_of c.case) c.given.now c.part };
 
-    ghost invariant = { λ c. IsChart (scene_of_case c.case c.given.now c.part)
+    ghost invariant = { λ c. IsChart (scene_of (instance_of c.case) c.given.now c.part)
         c.lanes.items c.plan c.ticks c.end c.rows.items c.links.items };
 }
 
@@ -89,7 +91,7 @@ impl<'a> Chart<'a> {
         part: Part,
     ) -> Result<Self, AllocError>
         requires rows { length given.now.rows ≡ length case.now.trace.now.messages }
-        ensures { IfOk result (λ chart. chart ≡ scene_of_case case.now given.now part) }
+        ensures { IfOk result (λ chart. chart ≡ scene_of (instance_of case.now) given.now part) }
     {
         let lanes = lanes(alloc, case)?;
         let rows = rows(alloc, case.tree.len() as usize, lanes.as_slice())?;
@@ -129,7 +131,7 @@ impl<'a> Chart<'a> {
     /// The name of its affinity.
     pub(crate) fn affinity_name(&self, n: u32) -> &str
         requires { IsNumber (work_of_scene self.now) n }
-        ensures { result.now ≡ affinity_name self.now.tree self.now.assigned n }
+        ensures { result.now ≡ affinity_name self.now.instance.tree self.now.instance.assigned n }
     {
         self.case.affinity_name(n)
     }
@@ -215,7 +217,7 @@ impl<'a> Chart<'a> {
     /// The row of its affinity.
     fn affinity_row(&self, n: u32) -> u64
         requires { IsNumber (work_of_scene self.now) n }
-        ensures { result ≡ row_of (lanes_in self.now) (affinity_of self.now.assigned n) }
+        ensures { result ≡ row_of (lanes_in self.now) (affinity_of self.now.instance.assigned n) }
     {
         let assigned = self.case.assigned;
         let affinity = assigned.of(n);
@@ -256,7 +258,7 @@ impl<'a> Chart<'a> {
     /// The name of this affinity.
     pub(crate) fn lane_name(&self, row: u64) -> &str
         requires { row < length (lanes_in self.now) }
-        ensures { result.now ≡ name_of self.now.tree
+        ensures { result.now ≡ name_of self.now.instance.tree
             (slice_index_or (lanes_in self.now) row (lane_of 0 0)).affinity }
     {
         let tree = self.case.tree;

@@ -2,14 +2,15 @@
 
 ghost use Rattle.std.specs.Prelude.{◌≡◌, ◌≤◌, IfOk, OnOk, length, string_bytes};
 ghost use Rattle.std.specs.List.{flat_map, range_with_len};
+ghost use Rattle.waff_assign.specs.Case.{instance_of};
 ghost use Rattle.waff_plan.specs.Work.{IsNumber};
 ghost use Rattle.waff_plan_text.specs.Lines.{Adds};
-ghost use Rattle.waff_draw.specs.Events.{affinity_thread, category, event_at, event_entry};
-ghost use Rattle.waff_draw.specs.Events.{event_text, events_of, events_text, quoted};
+ghost use Rattle.waff_draw.specs.Events.{affinity_thread, category, document_start, event_at};
+ghost use Rattle.waff_draw.specs.Events.{event_entry, event_text, events_of, events_text, quoted};
 ghost use Rattle.waff_draw.specs.Events.{thread_name, thread_place, thread_text, threads_text};
 ghost use Rattle.waff_draw.specs.Events.{worker_thread, worker_threads};
 ghost use Rattle.waff_draw.specs.Kinds.{process_of};
-ghost use Rattle.waff_draw.specs.Scene.{lanes_in, scene_of_case, work_of_scene};
+ghost use Rattle.waff_draw.specs.Scene.{lanes_in, scene_of, work_of_scene};
 
 use crate::chart::Chart;
 use crate::lanes::LaneKind;
@@ -29,9 +30,6 @@ const DOCUMENT_START: &str = r#"{"traceEvents":[
 const WORKERS_START: &str = r#",
 {"name":"process_name","ph":"M","pid":2,"args":{"name":"workers"}},
 {"name":"process_sort_index","ph":"M","pid":2,"args":{"sort_index":2}}"#;
-
-/// The end of the document.
-const DOCUMENT_END: &str = "\n]}\n";
 
 /// A message as it runs in a thread of a process, as far as it is shown.
 #[derive(Clone, Copy)]
@@ -55,7 +53,7 @@ pub fn events_text(
 ) -> Result<String, AllocError>
     requires rows { length given.now.rows ≡ length case.now.trace.now.messages }
     ensures { IfOk result (λ text.
-        string_bytes text ≡ events_text (scene_of_case case.now given.now part)) }
+        string_bytes text ≡ events_text (scene_of (instance_of case.now) given.now part)) }
 {
     let chart = Chart::new(alloc, case, given, part)?;
     document(alloc, &chart)
@@ -69,7 +67,7 @@ fn document(alloc: Global, chart: &Chart<'_>) -> Result<String, AllocError>
     push_threads(alloc, &mut text, chart)?;
     push_events(alloc, &mut text, chart, LaneKind::Affinity)?;
     push_events(alloc, &mut text, chart, LaneKind::Worker)?;
-    text.push_str(DOCUMENT_END)?;
+    text.push_str("\n]}\n")?;
     Ok(text)
 }
 
@@ -77,9 +75,17 @@ fn document(alloc: Global, chart: &Chart<'_>) -> Result<String, AllocError>
 fn push_threads(alloc: Global, text: &mut String, chart: &Chart<'_>) -> Result<(), AllocError>
     ensures { OnOk result (Adds text.old text.new (threads_text chart.now)) }
 {
-    text.push_str(DOCUMENT_START)?;
+    push_document_start(text)?;
     push_affinity_threads(alloc, text, chart)?;
     push_worker_threads(alloc, text, chart)
+}
+
+/// Appends the start of the document.
+#[tactic(auto, unfolding(crate::specs::Events::document_start))]
+fn push_document_start(text: &mut String) -> Result<(), AllocError>
+    ensures { OnOk result (Adds text.old text.new document_start) }
+{
+    text.push_str(DOCUMENT_START)
 }
 
 /// Appends the threads of the lanes of affinities.
@@ -89,7 +95,7 @@ fn push_affinity_threads(
     chart: &Chart<'_>,
 ) -> Result<(), AllocError>
     ensures { OnOk result (Adds text.old text.new
-        (flat_map (affinity_thread chart.now.tree (lanes_in chart.now))
+        (flat_map (affinity_thread chart.now.instance.tree (lanes_in chart.now))
         (range_with_len 0 (length (lanes_in chart.now))))) }
 {
     for row in 0..chart.lane_count() {

@@ -27,18 +27,6 @@ pub(crate) const LEGEND: &str = "\
 <text x='8' y='48'>A bar is a message from its start to its finish. The plan's chain has thick \
 outlines; its bars narrower than a pixel fill the height of the lane.</text>\n";
 
-/// What stands between the name of a message and that of its affinity.
-pub(crate) const BAR_MIDDLE: &str = " in ";
-
-/// The end of what is told of the plan.
-pub(crate) const HEADING_END: &str = "</text>\n";
-
-/// The end of a lane, behind its name.
-pub(crate) const LANE_END: &str = "</text></g>\n";
-
-/// The end of the document.
-pub(crate) const DOCUMENT_END: &str = "</svg>\n</svg>\n";
-
 /// Appends the top of the document, of this height.
 #[tactic(auto, unfolding(crate::specs::Pieces::top_start))]
 pub(crate) fn push_top_start(text: &mut String, height: u64) -> Result<(), AllocError>
@@ -76,6 +64,14 @@ pub(crate) fn push_lane_start(
         text,
         "<g class='lane'><rect y='{top}' width='1380' height='20'/><text x='{left}' y='{base}'>"
     )
+}
+
+/// Appends the end of a lane, behind its name.
+#[tactic(auto, unfolding(crate::specs::Pieces::lane_end))]
+pub(crate) fn push_lane_end(text: &mut String) -> Result<(), AllocError>
+    ensures { OnOk result (Adds text.old text.new pieces.lane_end) }
+{
+    text.push_str("</text></g>\n")
 }
 
 /// Appends the name of a worker's lane.
@@ -148,6 +144,14 @@ pub(crate) fn push_bar_start(
         text,
         "<rect{mark} x='{left}' y='{top}' width='{width}' height='{height}'><title>{message} "
     )
+}
+
+/// Appends what stands between the name of a bar's message and that of its affinity.
+#[tactic(auto, unfolding(crate::specs::Pieces::bar_middle))]
+pub(crate) fn push_bar_middle(text: &mut String) -> Result<(), AllocError>
+    ensures { OnOk result (Adds text.old text.new pieces.bar_middle) }
+{
+    text.push_str(" in ")
 }
 
 /// Appends the end of a bar, behind the name of the affinity.

@@ -2,11 +2,12 @@
 
 ghost use Rattle.std.specs.Prelude.{◌≡◌, ◌<◌, ◌≤◌, IfOk, OnOk, length, string_bytes};
 ghost use Rattle.std.specs.List.{flat_map, range_with_len};
+ghost use Rattle.waff_assign.specs.Case.{instance_of};
 ghost use Rattle.waff_plan.specs.Work.{total_of};
 ghost use Rattle.waff_plan_text.specs.Lines.{Adds};
 ghost use Rattle.waff_plan_text.specs.Spelling.{worker_field};
 ghost use Rattle.waff_draw.specs.Scene.{end_in, from_in, lanes_in, length_in, rows_in};
-ghost use Rattle.waff_draw.specs.Scene.{scene_of_case, span_in, work_of_scene, workers_in};
+ghost use Rattle.waff_draw.specs.Scene.{scene_of, span_in, work_of_scene, workers_in};
 ghost use Rattle.waff_draw.specs.Svg.{affinity_lane, each_line, grid_text, ground_text};
 ghost use Rattle.waff_draw.specs.Svg.{heading_text, plan_text, svg_text, tick_text, top_text};
 ghost use Rattle.waff_draw.specs.Svg.{upto, worker_lane};
@@ -16,8 +17,8 @@ use crate::chart::Chart;
 use crate::lanes::LaneKind;
 use crate::parts::Part;
 use crate::pieces::{
-    DOCUMENT_END, HEADING_END, LANE_END, LEGEND, STYLE, push_grid_line, push_heading_start,
-    push_lane_start, push_plan_start, push_tick_label, push_top_start, push_worker_name,
+    LEGEND, STYLE, push_grid_line, push_heading_start, push_lane_end, push_lane_start,
+    push_plan_start, push_tick_label, push_top_start, push_worker_name,
 };
 use crate::xml::push_xml;
 use std::alloc::{AllocError, Global};
@@ -34,7 +35,7 @@ pub fn svg_text(
 ) -> Result<String, AllocError>
     requires rows { length given.now.rows ≡ length case.now.trace.now.messages }
     ensures { IfOk result (λ text.
-        string_bytes text ≡ svg_text (scene_of_case case.now given.now part)) }
+        string_bytes text ≡ svg_text (scene_of (instance_of case.now) given.now part)) }
 {
     let chart = Chart::new(alloc, case, given, part)?;
     picture(alloc, &chart)
@@ -48,7 +49,7 @@ fn picture(alloc: Global, chart: &Chart<'_>) -> Result<String, AllocError>
     push_ground(&mut text, chart)?;
     push_bars(&mut text, chart, LaneKind::Affinity)?;
     push_bars(&mut text, chart, LaneKind::Worker)?;
-    text.push_str(DOCUMENT_END)?;
+    text.push_str("</svg>\n</svg>\n")?;
     Ok(text)
 }
 
@@ -83,7 +84,7 @@ fn push_heading(text: &mut String, chart: &Chart<'_>) -> Result<(), AllocError>
     let speedup = Ratio(chart.total(), u128::from(chart.length()));
     push_heading_start(text, speedup)?;
     push_workers(text, chart.workers())?;
-    text.push_str(HEADING_END)
+    text.push_str("</text>\n")
 }
 
 /// Appends a number of workers.
@@ -99,7 +100,7 @@ fn push_workers(text: &mut String, workers: Option<u32>) -> Result<(), AllocErro
 /// Appends the lanes of affinities.
 fn push_affinity_lanes(text: &mut String, chart: &Chart<'_>) -> Result<(), AllocError>
     ensures { OnOk result (Adds text.old text.new
-        (flat_map (affinity_lane chart.now.tree (lanes_in chart.now))
+        (flat_map (affinity_lane chart.now.instance.tree (lanes_in chart.now))
         (range_with_len 0 (length (lanes_in chart.now))))) }
 {
     for row in 0..chart.lane_count() {
@@ -112,13 +113,13 @@ fn push_affinity_lanes(text: &mut String, chart: &Chart<'_>) -> Result<(), Alloc
 fn push_affinity_lane(text: &mut String, chart: &Chart<'_>, row: u64) -> Result<(), AllocError>
     requires { row < length (lanes_in chart.now) }
     ensures { OnOk result (Adds text.old text.new
-        (affinity_lane chart.now.tree (lanes_in chart.now) row)) }
+        (affinity_lane chart.now.instance.tree (lanes_in chart.now) row)) }
 {
     let _lanes = chart.lane_count();
     let left = chart.lane_depth(row).min(12) * 8 + 8;
     push_lane_start(text, row * 20 + 80, left, row * 20 + 94)?;
     push_xml(text, chart.lane_name(row))?;
-    text.push_str(LANE_END)
+    push_lane_end(text)
 }
 
 /// Appends the lanes of workers.
@@ -142,7 +143,7 @@ fn push_worker_lane(text: &mut String, chart: &Chart<'_>, worker: u32) -> Result
     let row = chart.lane_count() + u64::from(worker) - 1;
     push_lane_start(text, row * 20 + 80, 8, row * 20 + 94)?;
     push_worker_name(text, worker)?;
-    text.push_str(LANE_END)
+    push_lane_end(text)
 }
 
 /// Appends the numbers of ticks along the axis, above the lanes and below.

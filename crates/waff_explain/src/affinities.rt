@@ -65,7 +65,7 @@ fn push_error(
             push_unknown(words, named, number, text_of(affinities, number, "parent"))
         }
         TreeError::TooMany => {
-            push_too_many(words, "affinities", affinities.len(), MAX_AFFINITIES)
+            push_too_many(words, "affinities", affinities.len() as u64, MAX_AFFINITIES)
         },
         TreeError::NoRoot | TreeError::Memory => {}
     }

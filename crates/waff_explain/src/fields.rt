@@ -33,7 +33,7 @@ fn no_text(walk: &Walk<'_>) -> Option<usize> {
 }
 
 /// Appends that there are more than are allowed.
-pub(crate) fn push_too_many(words: &mut Words, what: &str, found: usize, most: usize) {
+pub(crate) fn push_too_many(words: &mut Words, what: &str, found: u64, most: usize) {
     say!(words; Found: "{} {}", found, what);
     say!(words; Wanted: "{} {} or fewer", most, what);
 }

@@ -5,20 +5,22 @@ use crate::fields::push_no_name;
 use crate::named::Named;
 use crate::words::{Words, say};
 use toml::Value;
-use waff_model::limits::{MAX_CELLS, MAX_OWNERS, MAX_SIZE, MAX_SPACES, MAX_UNIT};
+use waff_model::limits::{MAX_CELLS, MAX_OWNERS, MAX_SPACES};
 use waff_model::{LayoutError, is_name};
+use waff_read::read_format;
 
 /// Appends which space or map is refused, what was found and what is wanted.
 pub(crate) fn push_no_layout(words: &mut Words, document: &Value, error: LayoutError) {
     let spaces = rows(document, "space");
     let maps = rows(document, "map");
+    let format = read_format(document);
     match error {
         LayoutError::Space => push_no_space(words, spaces, maps),
-        LayoutError::Size => push_no_integer(words, spaces, "space", "size", i64::from(MAX_SIZE)),
+        LayoutError::Size => push_no_integer(words, spaces, "space", "size", format.max_size()),
         LayoutError::SpaceTwice => push_twice(words, spaces, "space", "name"),
         LayoutError::NoMap => push_no_map(words, spaces, maps),
         LayoutError::MapTwice => push_twice(words, maps, "map", "space"),
-        LayoutError::Unit => push_no_integer(words, maps, "map", "unit", i64::from(MAX_UNIT)),
+        LayoutError::Unit => push_no_integer(words, maps, "map", "unit", format.max_unit()),
         LayoutError::To => push_no_owners(words, rows(document, "affinity"), maps),
         LayoutError::TooManyCells => push_cells(words, spaces),
         LayoutError::Memory => {}
@@ -78,10 +80,10 @@ fn push_twice(words: &mut Words, tables: &[Value], kind: &str, key: &str) {
 }
 
 /// Appends which table has a number outside of 1 to the most.
-fn push_no_integer(words: &mut Words, tables: &[Value], kind: &str, key: &str, most: i64) {
+fn push_no_integer(words: &mut Words, tables: &[Value], kind: &str, key: &str, most: u32) {
     for (number, row) in tables.iter().enumerate() {
         let found = integer_at(row, key);
-        if found < 1 || found > most {
+        if found < 1 || found > i64::from(most) {
             push_row(words, kind, tables, number);
             say!(words; Found: "the {} {}", key, found);
             return say!(words; Wanted: "a {} from 1 to {}", key, most);

@@ -1,8 +1,8 @@
 //! What is wrong with an operation of a message.
 
 use crate::words::{Words, say};
-use waff_model::{Layout, is_name};
-use waff_parse::{cut, number};
+use waff_model::{Layout, Version, is_name};
+use waff_parse::{are_rising, cut, number, two_parts};
 use waff_read::TraceError;
 
 /// What is wrong with a piece, in the order in which faults are told.
@@ -12,6 +12,8 @@ pub(crate) enum Flaw<'a> {
     Words,
     /// This word is no cell.
     Cell(&'a str),
+    /// This word is no range of cells.
+    Range(&'a str),
     /// This word is no number below 2^64.
     Number(&'a str),
     /// No space has this name.
@@ -23,7 +25,7 @@ pub(crate) enum Flaw<'a> {
 impl<'a> Flaw<'a> {
     fn rank(self) -> u32 {
         match self {
-            Flaw::Words | Flaw::Cell(_) | Flaw::Number(_) => 1,
+            Flaw::Words | Flaw::Cell(_) | Flaw::Range(_) | Flaw::Number(_) => 1,
             Flaw::Space(_) => 2,
             Flaw::Index(..) => 3,
         }
@@ -52,6 +54,11 @@ impl<'a> Flaw<'a> {
                 say!(words; Found: "operation {}, `{}`: `{}` is no cell", piece, op, word);
                 say!(words; Wanted: "a cell: a name, `:` and a number without a leading zero");
             }
+            Flaw::Range(word) => {
+                let word = word.as_bytes();
+                say!(words; Found: "operation {}, `{}`: `{}` is no range of cells", piece, op, word);
+                say!(words; Wanted: "a range: a name, `:` and two numbers joined by `-` that do not fall");
+            }
             Flaw::Number(word) => {
                 let word = word.as_bytes();
                 say!(words; Found: "operation {}, `{}`: `{}` is no number in range", piece, op, word);
@@ -71,22 +78,27 @@ impl<'a> Flaw<'a> {
     }
 }
 
-/// What is wrong with a piece, if anything is.
-pub(crate) fn flaw_of<'a>(layout: &Layout, piece: &'a str) -> Option<Flaw<'a>> {
+/// What is wrong with a piece of a trace of this version, if anything is.
+pub(crate) fn flaw_of<'a>(layout: &Layout, version: Version, piece: &'a str) -> Option<Flaw<'a>> {
     let (verb, words) = cut(piece, ' ');
     let Some(words) = words else {
         return Some(Flaw::Words);
     };
     let (first, second) = cut(words, ' ');
     match second {
-        None => flaw_of_one(layout, verb, first),
-        Some(second) => flaw_of_two(layout, verb, first, second),
+        None => flaw_of_one(layout, version, verb, first),
+        Some(second) => flaw_of_two(layout, version, verb, first, second),
     }
 }
 
-fn flaw_of_one<'a>(layout: &Layout, verb: &str, cell: &'a str) -> Option<Flaw<'a>> {
+fn flaw_of_one<'a>(
+    layout: &Layout,
+    version: Version,
+    verb: &str,
+    cells: &'a str,
+) -> Option<Flaw<'a>> {
     if verb == "read" {
-        cell_flaw(layout, cell)
+        cells_flaw(layout, version, cells)
     } else {
         Some(Flaw::Words)
     }
@@ -94,14 +106,67 @@ fn flaw_of_one<'a>(layout: &Layout, verb: &str, cell: &'a str) -> Option<Flaw<'a
 
 fn flaw_of_two<'a>(
     layout: &Layout,
+    version: Version,
     verb: &str,
     first: &'a str,
     second: &'a str,
 ) -> Option<Flaw<'a>> {
     match verb {
-        "set" | "add" => least(cell_flaw(layout, first), number_flaw(second)),
+        "set" | "add" => least(cells_flaw(layout, version, first), number_flaw(second)),
         "copy" | "swap" => least(cell_flaw(layout, first), cell_flaw(layout, second)),
         _ => Some(Flaw::Words),
+    }
+}
+
+/// The indices of a word that is a range, or is to be one: they are joined by `-`.
+fn range_of(version: Version, word: &str) -> Option<(&str, &str, &str)> {
+    match version {
+        Version::V1 | Version::V2 => None,
+        Version::V3 => {
+            let (name, indices) = cut(word, ':');
+            let (first, last) = two_parts(indices?, '-')?;
+            Some((name, first, last))
+        }
+    }
+}
+
+/// How many operations the pieces of a field stand for.
+pub(crate) fn count_ops(version: Version, ops: &str) -> u64 {
+    let mut count: u64 = 0;
+    for piece in ops.split(';') {
+        count = count.saturating_add(ops_of(version, piece));
+    }
+    count
+}
+
+/// How many operations a piece stands for.
+fn ops_of(version: Version, piece: &str) -> u64 {
+    let (_, words) = cut(piece, ' ');
+    let (cells, _) = cut(words.unwrap_or(""), ' ');
+    match range_of(version, cells) {
+        Some((_, first, last)) => match (number(first), number(last)) {
+            (Some(Some(first)), Some(Some(last))) => last.saturating_sub(first).saturating_add(1),
+            _ => 1,
+        },
+        None => 1,
+    }
+}
+
+/// What is wrong with the cells of a word: a range, or a single one.
+fn cells_flaw<'a>(layout: &Layout, version: Version, word: &'a str) -> Option<Flaw<'a>> {
+    let Some((name, first, last)) = range_of(version, word) else {
+        return cell_flaw(layout, word);
+    };
+    if !is_name(name) || !are_rising(first, last) {
+        return Some(Flaw::Range(word));
+    }
+    let Some(space) = layout.find_space(name) else {
+        return Some(Flaw::Space(name));
+    };
+    let size = layout.space_size(space);
+    match number(last) {
+        Some(Some(index)) => index_flaw(word, index, size),
+        _ => Some(Flaw::Index(word, size)),
     }
 }
 

@@ -10,7 +10,7 @@ use std::alloc::{AllocError, Global};
 use waff_model::limits::{MAX_TICK, MAX_WORKERS};
 use waff_model::{Trace, Version, is_name};
 use waff_parse::{number, number_within};
-use waff_plan_text::PlanTextError;
+use waff_plan_text::{COLUMNS, PlanTextError};
 
 /// Where the fault is for which the text of a plan of the trace is refused, what was found and what
 /// is wanted.
@@ -55,7 +55,9 @@ fn push_fault(words: &mut Words, messages: u32, walk: &Walk<'_>, fault: PlanText
         PlanTextError::Csv { .. } => push_no_text(words, walk),
         PlanTextError::Header { .. } => {
             say!(words; Found: "no header");
-            say!(words; Wanted: "the header message,affinity,start,finish,worker");
+            let [message, affinity, start, finish, worker] = COLUMNS;
+            say!(words; Wanted: "the header {},{},{},{},{}",
+                message, affinity, start, finish, worker);
         }
         PlanTextError::Row { .. } => push_no_row(words, messages, walk),
         PlanTextError::Missing { message } => {

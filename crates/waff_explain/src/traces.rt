@@ -4,37 +4,76 @@ ghost use Rattle.std.specs.Prelude.{IfOk, string_bytes};
 ghost use Rattle.waff_explain.specs.Lines.{AreHeadedLines};
 
 use crate::fields::{push_no_name, push_no_number, push_no_text, push_too_many};
-use crate::operations::flaw_of;
+use crate::operations::{count_ops, flaw_of};
 use crate::walk::Walk;
 use crate::words::{Words, say};
 use std::alloc::{AllocError, Global};
-use waff_model::Layout;
-use waff_model::limits::{MAX_COST, MAX_MESSAGES, MAX_OPS, MAX_RELEASE};
+use waff_model::limits::{MAX_ALL_OPS, MAX_COST, MAX_RELEASE, MAX_THINK};
+use waff_model::{Layout, Version};
 use waff_read::TraceError;
 
 /// Where the fault is for which the trace is refused under the layout, what was found and what is
-/// wanted.
+/// wanted, of the versions of traces up to the newest.
 pub fn trace_words(
     alloc: Global,
     layout: &Layout,
+    newest: Version,
     trace: &[u8],
     fault: TraceError,
 ) -> Result<String, AllocError>
     ensures { IfOk result (λ text. AreHeadedLines (string_bytes text)) }
 {
     let mut words = Words::new(alloc);
-    push_refusal(&mut words, layout, trace, fault);
+    push_refusal(&mut words, layout, newest, trace, fault);
     words.finish()
 }
 
 /// Appends the record that has the fault, what was found and what is wanted.
-fn push_refusal(words: &mut Words, layout: &Layout, trace: &[u8], fault: TraceError) {
+fn push_refusal(
+    words: &mut Words,
+    layout: &Layout,
+    newest: Version,
+    trace: &[u8],
+    fault: TraceError,
+) {
     let mut walk = Walk::new(words.alloc(), trace);
     walk.next();
-    let fields = walk.len();
+    let version = version_of(walk.len());
     walk.push_record(words, "trace", record_of(fault));
-    push_fault(words, layout, &walk, fields, fault);
+    match fault {
+        TraceError::Header { .. } => push_no_header(words, newest),
+        _ => push_fault(words, layout, version, &walk, fault),
+    }
     walk.end(words);
+}
+
+/// The version of a trace whose header has so many fields.
+fn version_of(fields: usize) -> Version {
+    match fields {
+        3 => Version::V1,
+        4 => Version::V2,
+        _ => Version::V3,
+    }
+}
+
+/// How many fields a record of the version has.
+fn fields_of(version: Version) -> usize {
+    match version {
+        Version::V1 => 3,
+        Version::V2 => 4,
+        Version::V3 => 6,
+    }
+}
+
+/// Appends that there is no header, and which there may be, up to that of the newest version.
+fn push_no_header(words: &mut Words, newest: Version) {
+    say!(words; Found: "no header");
+    match newest {
+        Version::V1 | Version::V2 =>
+            say!(words; Wanted: "the header message,cost,ops or message,cost,release,ops"),
+        Version::V3 =>
+            say!(words; Wanted: "the header message,cost,ops, message,cost,release,ops or message,cost,release,client,think,ops"),
+    }
 }
 
 /// The number of the record that a fault tells.
@@ -51,26 +90,25 @@ fn record_of(fault: TraceError) -> u64 {
         | TraceError::IndexTooLarge { at }
         | TraceError::TooManyOps { at }
         | TraceError::TooManyMessages { at }
-        | TraceError::Release { at } => at,
+        | TraceError::Release { at }
+        | TraceError::Client { at }
+        | TraceError::Think { at } => at,
         TraceError::Memory => 0,
     }
 }
 
-/// Appends what was found and what is wanted of the record at which the walk stands; the header has
-/// this many fields.
+/// Appends what was found and what is wanted of the record at which the walk stands, in a trace of
+/// this version.
 fn push_fault(
     words: &mut Words,
     layout: &Layout,
+    version: Version,
     walk: &Walk<'_>,
-    fields: usize,
     fault: TraceError,
 ) {
+    let fields = fields_of(version);
     match fault {
         TraceError::Csv { .. } => push_no_text(words, walk),
-        TraceError::Header { .. } => {
-            say!(words; Found: "no header");
-            say!(words; Wanted: "the header message,cost,ops or message,cost,release,ops");
-        }
         TraceError::Fields { .. } => {
             say!(words; Found: "fields: {}", walk.len());
             say!(words; Wanted: "fields: {}, as the header has", fields);
@@ -82,34 +120,53 @@ fn push_fault(
         TraceError::Release { .. } => {
             push_no_number(words, "release", walk.field(2), 0, u64::from(MAX_RELEASE))
         }
+        TraceError::Client { .. } => push_no_name(words, "client", walk.field(3)),
+        TraceError::Think { .. } => {
+            push_no_number(words, "think time", walk.field(4), 0, u64::from(MAX_THINK))
+        }
         TraceError::TooManyMessages { at } => {
             say!(words; Found: "message {}", at.saturating_sub(1));
-            say!(words; Wanted: "{} messages or fewer", MAX_MESSAGES);
+            say!(words; Wanted: "{} messages or fewer", version.max_messages());
         }
-        _ => push_no_ops(words, layout, walk.field(fields.saturating_sub(1)), fault),
+        _ => push_no_ops(
+            words,
+            layout,
+            version,
+            walk.field(fields.saturating_sub(1)),
+            fault,
+        ),
     }
 }
 
 /// Appends what is wrong with the operations of a message.
-fn push_no_ops(words: &mut Words, layout: &Layout, ops: &str, fault: TraceError) {
+fn push_no_ops(words: &mut Words, layout: &Layout, version: Version, ops: &str, fault: TraceError) {
     match fault {
         TraceError::NoOps { .. } => {
             say!(words; Found: "no operation");
-            say!(words; Wanted: "1 to {} operations joined by `;`", MAX_OPS);
+            say!(words; Wanted: "1 to {} operations joined by `;`", version.max_ops());
         }
-        TraceError::TooManyOps { .. } => {
-            push_too_many(words, "operations", ops.split(';').count(), MAX_OPS)
-        }
-        _ => push_flaw(words, layout, ops, fault),
+        TraceError::TooManyOps { .. } => push_many_ops(words, version, ops),
+        _ => push_flaw(words, layout, version, ops, fault),
     }
 }
 
+/// Appends that there are too many operations: of the message, or else of all messages so far.
+fn push_many_ops(words: &mut Words, version: Version, ops: &str) {
+    let found = count_ops(version, ops);
+    let most = version.max_ops();
+    if (most as u64) < found {
+        return push_too_many(words, "operations", found, most);
+    }
+    say!(words; Found: "{} operations, with which all messages have more than {}", found, MAX_ALL_OPS);
+    say!(words; Wanted: "{} operations or fewer of all messages", MAX_ALL_OPS);
+}
+
 /// Appends which operation has the fault, and which.
-fn push_flaw(words: &mut Words, layout: &Layout, ops: &str, fault: TraceError) {
+fn push_flaw(words: &mut Words, layout: &Layout, version: Version, ops: &str, fault: TraceError) {
     let mut number: u64 = 0;
     for piece in ops.split(';') {
         number = number.saturating_add(1);
-        if let Some(flaw) = flaw_of(layout, piece)
+        if let Some(flaw) = flaw_of(layout, version, piece)
             && flaw.is_of(fault)
         {
             return flaw.push_words(words, number, piece);

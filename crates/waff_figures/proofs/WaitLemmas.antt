@@ -6,11 +6,13 @@ use Rattle.std.proofs.lemmas.List.{append-nil, flat_map_more}
 use Rattle.std.proofs.lemmas.List.Elements.{All-nil, All-push}
 use Rattle.std.proofs.lemmas.List.Quantifiers.{all_pairs_push}
 use Rattle.waff_model.specs.Tree.{Node}
-use Rattle.waff_assign.specs.Order.{IsOrdered}
+use Rattle.waff_assign.specs.Order.{Relation, IsOrdered}
 use Rattle.waff_plan.specs.Links.{AreLinks, IsLink}
+use Rattle.waff_plan.specs.Obeys.{FollowsNone}
 use Rattle.waff_plan.specs.Work.{Work, IsAmongFirst, finish_of}
 use Rattle.waff_plan.proofs.Longest.{range_with_len_more}
-use Rattle.waff_figures.specs.Waits.{ComesFirst, IsWaitAmong, wait_of, waits_in}
+use Rattle.waff_plan.proofs.NoClients.{holds_is_finish, linked_before}
+use Rattle.waff_figures.specs.Waits.{AreWaitedFor, ComesFirst, IsWaitAmong, IsWaitedFor, wait_of, waits_in}
 use Rattle.waff_figures.specs.declared.waits.Wait.{Wait}
 
 abbrev wait : ℕ → Option ℕ → ℕ → Wait
@@ -117,8 +119,26 @@ module _ (work : Work) (start : ℕ → ℕ) (links : List (Option ℕ)) where
       subst (AreSoFar count (suc n)) (sym (upto_more n (suc n) next))
       (so_far_more count n (suc n) next within work start (get_or links (suc n - 1) None) (known (suc n) (omega arith) within) (waits_upto n) old)
 
+-- where no message follows another, a link is the message that was waited for
+waited_for_link : (before : Relation) (work : Work) (start : ℕ → ℕ) (m : ℕ) (link : Option ℕ) → FollowsNone work → IsLink before work start m link
+    → IsWaitedFor before work start m link
+waited_for_link before work start m None none is = λ i pair. omega (arith, is i (inl pair), holds_is_finish work none start i m)
+waited_for_link before work start m (Some i) none is =
+    let hold = λ (j : ℕ). holds_is_finish work none start j m in (
+      record {
+        one = linked_before work none before i m is.0.one;
+        latest = λ j pair. omega (arith, is.0.latest j (inl pair), hold i, hold j);
+        lowest = λ j pair same. is.0.lowest j (inl pair) (omega (arith, same, hold i, hold j));
+      },
+      omega (arith, is.1, hold i),
+    )
+
+pub waited_for_links : (before : Relation) (work : Work) (start : ℕ → ℕ) (n : ℕ) (links : List (Option ℕ)) → FollowsNone work → AreLinks before work start n links
+    → AreWaitedFor before work start n links
+waited_for_links before work start n links none are m from to = waited_for_link before work start m (get_or links (m - 1) None) none (are m from to)
+
 -- a message waited for one of the messages
-link_known : (tree : List Node) (assigned : List ℕ) (work : Work) (start : ℕ → ℕ) (m : ℕ) (link : Option ℕ) → IsLink (IsOrdered tree assigned) work start m link
+link_known : (tree : List Node) (assigned : List ℕ) (work : Work) (start : ℕ → ℕ) (m : ℕ) (link : Option ℕ) → IsWaitedFor (IsOrdered tree assigned) work start m link
     → IfSome link (IsAmongFirst (length assigned))
 link_known tree assigned work start m None is = tt
 link_known tree assigned work start m (Some i) is =
@@ -126,6 +146,6 @@ link_known tree assigned work start m (Some i) is =
     record { from = one.from; to = omega (arith, one.earlier, one.to) }
 
 pub links_known : (tree : List Node) (assigned : List ℕ) (work : Work) (start : ℕ → ℕ) (links : List (Option ℕ)) (n : ℕ) → n ≡ length assigned
-    → AreLinks (IsOrdered tree assigned) work start n links → (m : ℕ) → 1 ≤ m → m ≤ length assigned → IfSome (get_or links (m - 1) None) (IsAmongFirst (length assigned))
+    → AreWaitedFor (IsOrdered tree assigned) work start n links → (m : ℕ) → 1 ≤ m → m ≤ length assigned → IfSome (get_or links (m - 1) None) (IsAmongFirst (length assigned))
 links_known tree assigned work start links n count are m from to =
     link_known tree assigned work start m (get_or links (m - 1) None) (are m from (omega (arith, to, count)))

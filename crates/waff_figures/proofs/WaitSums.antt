@@ -4,11 +4,10 @@ use Rattle.std.specs.List.{range_with_len}
 use Rattle.std.proofs.lemmas.Bool.{cases_Bool, cond_both, ltb-false}
 use Rattle.std.proofs.lemmas.Bool.Decides.{nat_tests}
 use Rattle.std.proofs.lemmas.List.Sums.{sum_by-append, sum_by-cons}
-use Rattle.waff_plan.specs.Links.{IsLink}
 use Rattle.waff_plan.specs.Obeys.{Obeys}
 use Rattle.waff_plan.specs.Work.{Work, IsNumber, finish_of, numbers}
 use Rattle.waff_plan.proofs.Longest.{sum_more}
-use Rattle.waff_figures.specs.Waits.{AreWaits, ready_of, wait_of, waits_in}
+use Rattle.waff_figures.specs.Waits.{AreWaits, IsWaitedFor, ready_of, wait_of, waits_in}
 use Rattle.waff_figures.specs.WaitLaws.{ReadyIsGreatest, TicksAddUp, WaitsAddUp}
 use Rattle.waff_figures.specs.WaitRows.{same_kind}
 use Rattle.waff_figures.specs.declared.wait_rows.Row.{Row}
@@ -65,7 +64,7 @@ sum_in counts work start m link =
     ∙ weight (counts m) ticks more
 
 -- from the release to the start
-all_of_it : (before : ℕ → ℕ → Type 0) (work : Work) (start : ℕ → ℕ) (m : ℕ) (link : Option ℕ) → IsLink before work start m link → Obeys before work start
+all_of_it : (before : ℕ → ℕ → Type 0) (work : Work) (start : ℕ → ℕ) (m : ℕ) (link : Option ℕ) → IsWaitedFor before work start m link → Obeys before work start
     → (ready_of work start m link - work.release m) + (start m - ready_of work start m link) ≡ start m - work.release m
 all_of_it before work start m None is obeys = omega arith
 all_of_it before work start m (Some i) is obeys =

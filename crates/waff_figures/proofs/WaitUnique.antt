@@ -9,14 +9,15 @@ use Rattle.std.proofs.lemmas.Cmp.{and_equiv, nat_eq_equiv, on_equiv}
 use Rattle.std.proofs.lemmas.Slice.Eq.{bytes_eq-Decides}
 use Rattle.std.proofs.lemmas.Option.{get_or_from_slice_get, same_Some, slice_get-get_or, slice_get_within}
 use Rattle.waff_assign.specs.Order.{affinity_of}
-use Rattle.waff_plan.specs.Links.{AreLinks, IsLink}
 use Rattle.waff_plan.specs.Obeys.{IsForward}
 use Rattle.waff_plan.specs.Unique.{AreSame}
 use Rattle.waff_plan.specs.Work.{Work, IsNumber, finish_of}
-use Rattle.waff_figures.specs.Waits.{AreWaits, ComesFirst, ready_of, wait_of, waits_in}
+use Rattle.waff_figures.specs.Waits.{AreWaitedFor, AreWaits, ComesFirst, IsWaitedFor, ready_of, wait_of, waits_in}
 use Rattle.waff_figures.specs.WaitLaws.{RowsAreOne}
 use Rattle.waff_figures.specs.WaitRows.{AreRows, IsRow, StandsBefore, row_of, same_kind}
 use Rattle.waff_figures.specs.WaitText.{are_alike, name_at}
+use Rattle.waff_figures.specs.declared.grouping.Grouping.{Grouping}
+use Rattle.waff_figures.specs.declared.grouping.Grouping.TheVariants.{Affinity, Name}
 use Rattle.waff_figures.specs.declared.wait_rows.Row.{Row}
 use Rattle.waff_figures.specs.declared.waits.Wait.{Wait}
 use Rattle.waff_figures.proofs.WaitKinds.{kinds_are}
@@ -26,12 +27,9 @@ use Rattle.waff_figures.proofs.WaitRowLemmas.{counted_is_there}
 -- plans with the same starts have the same links, and the same waits
 module _ (before : ℕ → ℕ → Type 0) (work : Work) (forward : IsForward before work) (start other : ℕ → ℕ) (same : AreSame work start other) where
   same_finish : (i m : ℕ) → before i m → finish_of work start i ≡ finish_of work other i
-  same_finish i m pair =
-      let earlier : i < m = forward.earlier i m pair in
-      let to : m ≤ work.count = forward.to i m pair in
-      ap (λ s. s + work.cost i) (same i (record { from = forward.from i m pair; to = omega (arith, earlier, to) }))
+  same_finish i m pair = ap (λ s. s + work.cost i) (same i (forward.first i m (inl pair)))
 
-  link_is_one : (m : ℕ) (a b : Option ℕ) → IsLink before work start m a → IsLink before work other m b → a ≡ b
+  link_is_one : (m : ℕ) (a b : Option ℕ) → IsWaitedFor before work start m a → IsWaitedFor before work other m b → a ≡ b
   link_is_one m None None first second = refl
   link_is_one m None (Some j) first second =
       let pair = second.0.one in
@@ -55,18 +53,18 @@ module _ (before : ℕ → ℕ → Type 0) (work : Work) (forward : IsForward be
       let equal : i ≡ j = omega (arith, no_higher, no_lower) in
       ap Some equal
 
-  same_ready : (m : ℕ) (link : Option ℕ) → IsLink before work start m link → ready_of work start m link ≡ ready_of work other m link
+  same_ready : (m : ℕ) (link : Option ℕ) → IsWaitedFor before work start m link → ready_of work start m link ≡ ready_of work other m link
   same_ready m None is = refl
   same_ready m (Some i) is = same_finish i m is.0.one
 
-  same_waits_in : (m : ℕ) (a b : Option ℕ) → IsNumber work m → IsLink before work start m a → IsLink before work other m b
+  same_waits_in : (m : ℕ) (a b : Option ℕ) → IsNumber work m → IsWaitedFor before work start m a → IsWaitedFor before work other m b
       → waits_in work start m a ≡ waits_in work other m b
   same_waits_in m a b number first second =
       let waits : ℕ → ℕ → List Wait = λ ready s. wait_of m a (ready - work.release m) ++ wait_of m None (s - ready) in
       ap (λ r. waits r (start m)) (same_ready m a first) ∙ ap (waits (ready_of work other m a)) (same m number)
       ∙ ap (λ link. waits_in work other m link) (link_is_one m a b first second)
 
-  same_upto : (links other_links : List (Option ℕ)) → AreLinks before work start work.count links → AreLinks before work other work.count other_links
+  same_upto : (links other_links : List (Option ℕ)) → AreWaitedFor before work start work.count links → AreWaitedFor before work other work.count other_links
       → (n : ℕ) → n ≤ work.count → waits_upto work start links n ≡ waits_upto work other other_links n
   same_upto links other_links are other_are zero within = refl
   same_upto links other_links are other_are (suc n) within =
@@ -187,6 +185,6 @@ bytes_laws = record {
 }
 
 -- messages are alike by an equivalence
-pub alike_laws : (by_name : Bool) (assigned : List ℕ) (names : List (List ℕ)) → IsEquivalence (are_alike by_name assigned names)
-alike_laws false assigned names = on_equiv (affinity_of assigned) nat_eq_equiv
-alike_laws true assigned names = and_equiv (on_equiv (name_at names) bytes_laws) (on_equiv (affinity_of assigned) nat_eq_equiv)
+pub alike_laws : (grouping : Grouping) (assigned : List ℕ) (names : List (List ℕ)) → IsEquivalence (are_alike grouping assigned names)
+alike_laws Affinity assigned names = on_equiv (affinity_of assigned) nat_eq_equiv
+alike_laws Name assigned names = and_equiv (on_equiv (name_at names) bytes_laws) (on_equiv (affinity_of assigned) nat_eq_equiv)

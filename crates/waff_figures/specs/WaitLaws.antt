@@ -2,12 +2,11 @@
 use Rattle.std.specs.Prelude.{◌≡◌, ℕ, ◌-◌, ◌==◌, ◌≤◌, ◌⊎◌, Bool, List, Option, if◌then◌else◌, sum_by}
 use Rattle.std.specs.Cmp.{IsEquivalence}
 use Rattle.waff_assign.specs.Order.{Relation}
-use Rattle.waff_plan.specs.Links.{IsLink}
 use Rattle.waff_plan.specs.Obeys.{Obeys}
 use Rattle.waff_plan.specs.Unique.{AreSame}
 use Rattle.waff_plan.specs.Work.{Work, IsNumber, finish_of}
 use Rattle.waff_figures.specs.Figures.{waits_of}
-use Rattle.waff_figures.specs.Waits.{AreWaits, ready_of}
+use Rattle.waff_figures.specs.Waits.{AreWaits, IsWaitedFor, ready_of}
 use Rattle.waff_figures.specs.WaitRows.{AreRows}
 use Rattle.waff_figures.specs.declared.wait_rows.Row.{Row}
 use Rattle.waff_figures.specs.declared.waits.Wait.{Wait}
@@ -22,7 +21,7 @@ pub record IsReady (before : Relation) (work : Work)
 -- a message waits for another one until that tick, and for a worker from then on
 abbrev pub ReadyIsGreatest : Relation → Work → Type 0
 ReadyIsGreatest before work =
-    (start : ℕ → ℕ) (m : ℕ) (waited_for : Option ℕ) → IsLink before work start m waited_for
+    (start : ℕ → ℕ) (m : ℕ) (waited_for : Option ℕ) → IsWaitedFor before work start m waited_for
     → IsReady before work start m (ready_of work start m waited_for)
 
 -- the waits of a message add up to the time from its release to its start

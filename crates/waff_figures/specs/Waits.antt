@@ -1,9 +1,9 @@
 -- Who waits for whom in a plan (own).
-use Rattle.std.specs.Prelude.{◌≡◌, ℕ, ◌-◌, ◌<◌, ◌⊎◌, List, [], ◌∷◌, ◌++◌, Option, Some, None, IsSome}
-use Rattle.std.specs.Prelude.{IfSome, if◌then◌else◌, nat_lt, slice_index_or}
+use Rattle.std.specs.Prelude.{◌≡◌, ℕ, ◌-◌, ◌<◌, ◌≤◌, ◌⊎◌, List, [], ◌∷◌, ◌++◌, Option, Some, None, IsSome}
+use Rattle.std.specs.Prelude.{IfSome, MatchOption, if◌then◌else◌, nat_lt, slice_index_or}
 use Rattle.std.specs.List.{flat_map}
 use Rattle.waff_assign.specs.Order.{Relation}
-use Rattle.waff_plan.specs.Links.{AreLinks}
+use Rattle.waff_plan.specs.Chain.{IsLatest}
 use Rattle.waff_plan.specs.Work.{Work, IsAmongFirst, finish_of, numbers}
 use Rattle.waff_figures.specs.declared.waits.Wait.{Wait}
 
@@ -25,12 +25,24 @@ waits_in work start m waited_for =
     wait_of m waited_for (ready_of work start m waited_for - work.release m)
     ++ wait_of m None (start m - ready_of work start m waited_for)
 
--- the waits of a plan, message by message. The link of a message is the one that it waited for: the
--- latest before it, where that finishes after the message's release
+-- the message that m waited for: the latest before it, where that finishes after the release of m
+abbrev pub IsWaitedFor : Relation → Work → (ℕ → ℕ) → ℕ → Option ℕ → Type 0
+IsWaitedFor before work start m waited_for =
+    MatchOption waited_for ((i : ℕ) → before i m → finish_of work start i ≤ work.release m)
+    (λ i. IsLatest (λ j. before j m) (finish_of work start) i
+    × (work.release m < finish_of work start i))
+
+-- the messages that the first n waited for
+abbrev pub AreWaitedFor : Relation → Work → (ℕ → ℕ) → ℕ → List (Option ℕ) → Type 0
+AreWaitedFor before work start n links =
+    (m : ℕ) → 1 ≤ m → m ≤ n
+    → IsWaitedFor before work start m (slice_index_or links (m - 1) None)
+
+-- the waits of a plan, message by message
 pub record AreWaits (before : Relation) (work : Work)
     (start : ℕ → ℕ) (waits : List Wait) : Type 0 where
   pub links : List (Option ℕ)
-  pub are_links : AreLinks before work start work.count links
+  pub are_links : AreWaitedFor before work start work.count links
   pub waits_are : waits ≡ flat_map (λ m. waits_in work start m (slice_index_or links (m - 1) None))
       (numbers work)
 

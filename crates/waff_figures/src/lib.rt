@@ -6,7 +6,7 @@
 //!   for some numbers of workers; `rate`: of any plan.
 //! - `tally`, over `grouped`: what is told of the messages of each group; `below`: costs summed up
 //!   the tree; `names`: the distinct names.
-//! - `by_affinity`, `by_name`: the texts of these.
+//! - `by_affinity`, `by_name`: the texts of these; `grouping`: by which of the two.
 //! - `waits`: the waits of a plan; `wait_groups`: the messages that are told of together;
 //!   `wait_rows`: the waits of one kind, told in one row; `wait_text`: their text.
 //! - `laws`, `wait_laws`: the columns of these texts add up.
@@ -18,6 +18,7 @@ mod by_name;
 mod fields;
 pub mod figures;
 mod grouped;
+mod grouping;
 pub mod laws;
 mod names;
 pub mod percentile;
@@ -34,6 +35,7 @@ pub use by_affinity::affinities_text;
 pub use by_name::names_text;
 pub use fields::QualityFields;
 pub use figures::{Figures, figures_of};
+pub use grouping::Grouping;
 pub use rate::push_rate;
 pub use sweep::{SWEEP_WORKERS, figures_text, list_figures, list_figures_for, sweep_workers};
 pub use tally::Tally;

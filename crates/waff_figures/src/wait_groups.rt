@@ -8,6 +8,7 @@ ghost use Rattle.waff_figures.specs.ByName.{message_names};
 ghost use Rattle.waff_figures.specs.WaitRows.{same_group};
 ghost use Rattle.waff_figures.specs.WaitText.{are_alike};
 
+use crate::grouping::Grouping;
 use crate::names::names_of;
 use crate::wait_rows::Group;
 use std::alloc::{AllocError, Global};
@@ -18,20 +19,21 @@ use waff_assign::{Assigned, Case};
 pub(crate) fn groups(
     alloc: Global,
     case: &Case<'_>,
-    by_name: bool,
+    grouping: Grouping,
 ) -> Result<Vec<Group>, AllocError>
     ensures count { IfOk result (λ groups. length groups.items ≡ length case.now.assigned.now) }
     ensures tell { IfOk result (λ groups. (m n : ℕ)
         → IsAmongFirst (length case.now.assigned.now) m
         → IsAmongFirst (length case.now.assigned.now) n
-        → same_group groups.items m n ≡ are_alike by_name case.now.assigned.now
+        → same_group groups.items m n ≡ are_alike grouping case.now.assigned.now
         (message_names case.now.trace.now.messages) m n) }
 {
-    if by_name {
-        let found = names_of(alloc, case.trace)?;
-        numbered_groups(alloc, case.assigned, found.places.as_slice())
-    } else {
-        affinity_groups(alloc, case.assigned)
+    match grouping {
+        Grouping::Affinity => affinity_groups(alloc, case.assigned),
+        Grouping::Name => {
+            let found = names_of(alloc, case.trace)?;
+            numbered_groups(alloc, case.assigned, found.places.as_slice())
+        }
     }
 }
 

@@ -6,6 +6,7 @@ ghost use Rattle.std.specs.Prelude.{◌≡◌, ℕ, List, length};
 ghost use Rattle.waff_model.specs.Tree.{Node};
 ghost use Rattle.waff_assign.specs.Order.{IsOrdered};
 ghost use Rattle.waff_plan.specs.Work.{Work};
+ghost use Rattle.waff_plan.specs.Obeys.{FollowsEarlier};
 ghost use Rattle.waff_figures.specs.WaitLaws.{ReadyIsGreatest, RowsAreOne, TicksAddUp, WaitsAddUp};
 
 /// A message waits for another one until the greatest of its release and the finishes of the
@@ -30,5 +31,6 @@ pub fn ticks_add_up()
 /// The rows of a plan are one list.
 pub fn rows_are_one()
     ensures equal { (tree : List Node) (assigned : List ℕ) (work : Work)
-        → length assigned ≡ work.count → RowsAreOne (IsOrdered tree assigned) work }
+        → length assigned ≡ work.count → FollowsEarlier work
+        → RowsAreOne (IsOrdered tree assigned) work }
 {}

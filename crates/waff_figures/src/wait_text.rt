@@ -1,7 +1,7 @@
 //! The text that tells who waits for whom.
 
-ghost use Rattle.std.specs.Prelude.{◌≡◌, All, IfOk, IfSome, List, OnOk, false, length};
-ghost use Rattle.std.specs.Prelude.{map, string_bytes, true, []};
+ghost use Rattle.std.specs.Prelude.{◌≡◌, All, IfOk, IfSome, List, OnOk, length};
+ghost use Rattle.std.specs.Prelude.{map, string_bytes, []};
 ghost use Rattle.waff_assign.specs.Order.{affinity_name};
 ghost use Rattle.waff_plan.specs.Planned.{planned_pairs, planned_starts, planned_work};
 ghost use Rattle.waff_plan.specs.Work.{IsAmongFirst};
@@ -14,6 +14,7 @@ ghost use Rattle.waff_figures.specs.WaitText.{waits_lines, waits_row};
 ghost use Rattle.waff_figures.specs.declared.wait_rows.Row.{Row as RowOf};
 ghost use Rattle.waff_figures.specs.declared.waits.Wait.{Wait as WaitOf};
 
+use crate::grouping::Grouping;
 use crate::wait_groups::groups;
 use crate::wait_rows::{Row, rows};
 use crate::waits::waits;
@@ -26,47 +27,52 @@ use waff_plan::Planned;
 pub fn waiting_text(
     alloc: Global,
     planned: &Planned<'_>,
-    by_name: bool,
+    grouping: Grouping,
 ) -> Result<String, AllocError>
     ensures { IfOk result (λ text. (waits : List WaitOf) × (rows : List RowOf)
         × AreWaits (planned_pairs planned.now) (planned_work planned.now)
         (planned_starts planned.now) waits
-        × AreRows (are_alike by_name planned.now.case.assigned.now
+        × AreRows (are_alike grouping planned.now.case.assigned.now
         (message_names planned.now.case.trace.now.messages)) waits rows
-        × (string_bytes text ≡ text_of (waits_lines by_name planned.now.case.tree.now
+        × (string_bytes text ≡ text_of (waits_lines grouping planned.now.case.tree.now
         planned.now.case.assigned.now (message_names planned.now.case.trace.now.messages) rows))) }
 {
-    let rows = waiting_rows(alloc, planned, by_name)?;
+    let rows = waiting_rows(alloc, planned, grouping)?;
     let mut text = String::new(alloc);
-    push_header(&mut text, by_name)?;
-    push_rows(&mut text, &planned.case, by_name, rows.as_slice())?;
+    push_header(&mut text, grouping)?;
+    push_rows(&mut text, &planned.case, grouping, rows.as_slice())?;
     Ok(text)
 }
 
 /// What is told of the waits of the plan.
-fn waiting_rows(alloc: Global, planned: &Planned<'_>, by_name: bool) -> Result<Vec<Row>, AllocError>
+fn waiting_rows(
+    alloc: Global,
+    planned: &Planned<'_>,
+    grouping: Grouping,
+) -> Result<Vec<Row>, AllocError>
     ensures rows { IfOk result (λ rows. (waits : List WaitOf)
         × AreWaits (planned_pairs planned.now) (planned_work planned.now)
         (planned_starts planned.now) waits
-        × AreRows (are_alike by_name planned.now.case.assigned.now
+        × AreRows (are_alike grouping planned.now.case.assigned.now
         (message_names planned.now.case.trace.now.messages)) waits rows.items) }
     ensures among { IfOk result (λ rows.
         All (λ row. IsWaitAmong (length planned.now.case.assigned.now) row.first) rows.items) }
 {
     let waits = waits(alloc, planned)?;
-    let groups = groups(alloc, &planned.case, by_name)?;
+    let groups = groups(alloc, &planned.case, grouping)?;
     rows(alloc, waits.as_slice(), groups.as_slice())
 }
 
 /// Appends the first line.
-fn push_header(text: &mut String, by_name: bool) -> Result<(), AllocError>
+fn push_header(text: &mut String, grouping: Grouping) -> Result<(), AllocError>
     ensures { OnOk result (Adds text.old text.new
-        (line_text (waits_header by_name))) }
+        (line_text (waits_header grouping))) }
 {
-    if by_name {
-        text.push_str("name,affinity,forname,foraffinity,messages,ticks,longest\n")
-    } else {
-        text.push_str("affinity,for,messages,ticks,longest\n")
+    match grouping {
+        Grouping::Affinity => text.push_str("affinity,for,messages,ticks,longest\n"),
+        Grouping::Name => {
+            text.push_str("name,affinity,forname,foraffinity,messages,ticks,longest\n")
+        }
     }
 }
 
@@ -74,32 +80,36 @@ fn push_header(text: &mut String, by_name: bool) -> Result<(), AllocError>
 fn push_rows(
     text: &mut String,
     case: &Case<'_>,
-    by_name: bool,
+    grouping: Grouping,
     rows: &[Row],
 ) -> Result<(), AllocError>
     requires among { All (λ row. IsWaitAmong (length case.now.assigned.now) row.first) rows.now }
     ensures { OnOk result (Adds text.old text.new
         (text_of
-        (map (waits_row by_name case.now.tree.now case.now.assigned.now
+        (map (waits_row grouping case.now.tree.now case.now.assigned.now
         (message_names case.now.trace.now.messages)) rows.now))) }
 {
     for row in rows {
-        push_row(text, case, by_name, row)?;
+        push_row(text, case, grouping, row)?;
     }
     Ok(())
 }
 
 /// Appends the line of a row.
-fn push_row(text: &mut String, case: &Case<'_>, by_name: bool, row: &Row) -> Result<(), AllocError>
+fn push_row(
+    text: &mut String,
+    case: &Case<'_>,
+    grouping: Grouping,
+    row: &Row,
+) -> Result<(), AllocError>
     requires among { IsWaitAmong (length case.now.assigned.now) row.now.first }
     ensures { OnOk result (Adds text.old text.new
-        (line_text (waits_row by_name case.now.tree.now case.now.assigned.now
+        (line_text (waits_row grouping case.now.tree.now case.now.assigned.now
         (message_names case.now.trace.now.messages) row.now))) }
 {
-    if by_name {
-        push_name_row(text, case, row)
-    } else {
-        push_affinity_row(text, case, row)
+    match grouping {
+        Grouping::Affinity => push_affinity_row(text, case, row),
+        Grouping::Name => push_name_row(text, case, row),
     }
 }
 
@@ -107,7 +117,7 @@ fn push_row(text: &mut String, case: &Case<'_>, by_name: bool, row: &Row) -> Res
 fn push_affinity_row(text: &mut String, case: &Case<'_>, row: &Row) -> Result<(), AllocError>
     requires among { IsWaitAmong (length case.now.assigned.now) row.now.first }
     ensures { OnOk result (Adds text.old text.new
-        (line_text (waits_row false case.now.tree.now case.now.assigned.now [] row.now))) }
+        (line_text (waits_row Grouping.Affinity case.now.tree.now case.now.assigned.now [] row.now))) }
 {
     let affinity = case.affinity_name(row.first.message);
     let on = affinity_waited_for(case, row.first.on);
@@ -124,7 +134,7 @@ fn push_affinity_row(text: &mut String, case: &Case<'_>, row: &Row) -> Result<()
 fn push_name_row(text: &mut String, case: &Case<'_>, row: &Row) -> Result<(), AllocError>
     requires among { IsWaitAmong (length case.now.assigned.now) row.now.first }
     ensures { OnOk result (Adds text.old text.new
-        (line_text (waits_row true case.now.tree.now case.now.assigned.now
+        (line_text (waits_row Grouping.Name case.now.tree.now case.now.assigned.now
         (message_names case.now.trace.now.messages) row.now))) }
 {
     let name = message_name(case, row.first.message);

@@ -3,7 +3,7 @@ use Rattle.std.proofs.Common.{◌≡◌, ℕ, List, Option, Some, None, Result, 
 use Rattle.waff_model.specs.Layout.{Hierarchy}
 use Rattle.waff_model.specs.Messages.{Arrivals}
 use Rattle.waff_read.specs.Hierarchies.{hierarchy_of}
-use Rattle.waff_read.specs.Traces.{trace_of}
+use Rattle.waff_inputs.specs.Known.{trace_of}
 use Rattle.waff_read.specs.declared.hier_error.HierError.{HierError}
 use Rattle.waff_read.specs.declared.trace_fault.TraceError.{TraceError}
 use Rattle.waff_inputs.specs.Inputs.{Refuses, TellsOfFiles}
@@ -31,6 +31,7 @@ refused_is hierarchy_file trace_file tool.SpacesDiffer tells refused = absurd re
 refused_is hierarchy_file trace_file tool.ModelsSame tells refused = absurd refused
 refused_is hierarchy_file trace_file tool.Write tells refused = absurd tells
 refused_is hierarchy_file trace_file tool.Memory tells refused = absurd tells
+refused_is hierarchy_file trace_file tool.TooManyCells tells refused = absurd refused
 
 pub same_some : {A : Type 0} (found : Option A) (one other : A) → found ≡ Some one → found ≡ Some other → one ≡ other
 same_some found one other is that = cc

@@ -78,6 +78,8 @@ trace_fault (trace.TooManyOps at) = codes "TooManyOps" ++ and_number at
 trace_fault (trace.TooManyMessages at) = codes "TooManyMessages" ++ and_number at
 trace_fault trace.Memory = codes "Memory"
 trace_fault (trace.Release at) = codes "Release" ++ and_number at
+trace_fault (trace.Client at) = codes "Client" ++ and_number at
+trace_fault (trace.Think at) = codes "Think" ++ and_number at
 
 -- what is said of the text of a plan
 abbrev pub plan_text_fault : PlanTextError → List ℕ
@@ -99,6 +101,7 @@ fault_line tool.SpacesDiffer = codes "waff: SpacesDiffer"
 fault_line tool.ModelsSame = codes "waff: ModelsSame"
 fault_line tool.Write = codes "waff: Write"
 fault_line tool.Memory = codes "waff: Memory"
+fault_line tool.TooManyCells = codes "waff: TooManyCells"
 
 -- the exit status: 3 where the files are refused, 4 where a text could not be written or memory was
 -- refused
@@ -110,3 +113,4 @@ status_of tool.SpacesDiffer = 3
 status_of tool.ModelsSame = 3
 status_of tool.Write = 4
 status_of tool.Memory = 4
+status_of tool.TooManyCells = 3

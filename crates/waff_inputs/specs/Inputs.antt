@@ -3,7 +3,7 @@ use Rattle.std.specs.Prelude.{◌≡◌, ℕ, List, Ok, Err}
 use Rattle.waff_model.specs.Layout.{Hierarchy}
 use Rattle.waff_model.specs.Messages.{Arrivals}
 use Rattle.waff_read.specs.Hierarchies.{hierarchy_of}
-use Rattle.waff_read.specs.Traces.{trace_of}
+use Rattle.waff_inputs.specs.Known.{trace_of}
 use Rattle.waff_assign.specs.Instance.{Instance}
 use Rattle.waff_assign.specs.Lowest.{IsAssignment}
 use Rattle.waff_inputs.specs.declared.fault.ToolError.{ToolError}
@@ -51,6 +51,7 @@ Refuses hierarchy_file trace_file tool.SpacesDiffer = ⊥
 Refuses hierarchy_file trace_file tool.ModelsSame = ⊥
 Refuses hierarchy_file trace_file tool.Write = Unit {0}
 Refuses hierarchy_file trace_file tool.Memory = Unit {0}
+Refuses hierarchy_file trace_file tool.TooManyCells = ⊥
 
 -- an error that tells of the files: neither an allocation failure nor a writer's fault
 abbrev pub TellsOfFiles : ToolError → Type 0

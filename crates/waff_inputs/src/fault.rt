@@ -36,6 +36,9 @@ pub enum ToolError {
     Write,
     #[error("out of memory")]
     Memory,
+    /// A trace is to be replayed over more cells than a replay keeps.
+    #[error("too many cells for a replay")]
+    TooManyCells,
 }
 
 impl From<AllocError> for ToolError {
@@ -135,6 +138,7 @@ fn told_error(error: ToolError) -> (&'static str, Told)
         ToolError::ModelsSame => ("waff: ", named("ModelsSame")),
         ToolError::Write => ("waff: ", named("Write")),
         ToolError::Memory => ("waff: ", named("Memory")),
+        ToolError::TooManyCells => ("waff: ", named("TooManyCells")),
     }
 }
 
@@ -147,7 +151,8 @@ pub fn fault_status(error: &ToolError) -> u8
         | ToolError::Trace(_)
         | ToolError::PlanText(_)
         | ToolError::SpacesDiffer
-        | ToolError::ModelsSame => 3,
+        | ToolError::ModelsSame
+        | ToolError::TooManyCells => 3,
         ToolError::Write | ToolError::Memory => 4,
     }
 }

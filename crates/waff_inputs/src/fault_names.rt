@@ -110,6 +110,8 @@ pub(crate) fn told_trace(fault: TraceError) -> Told
         TraceError::TooManyMessages { at } => numbered("TooManyMessages", at),
         TraceError::Memory => named("Memory"),
         TraceError::Release { at } => numbered("Release", at),
+        TraceError::Client { at } => numbered("Client", at),
+        TraceError::Think { at } => numbered("Think", at),
     }
 }
 

@@ -2,16 +2,18 @@
 ghost use Rattle.std.specs.Prelude.{◌≡◌, ◌≢◌, ◌<◌, Ok, ℕ, All, IfErr, IfOk, List, length};
 ghost use Rattle.waff_model.specs.Messages.{sizes_of};
 ghost use Rattle.waff_read.specs.Hierarchies.{hierarchy_of};
-ghost use Rattle.waff_read.specs.Traces.{GivesTrace, trace_of};
+ghost use Rattle.waff_read.specs.Traces.{GivesTrace};
 ghost use Rattle.waff_assign.specs.Case.{instance_of};
 ghost use Rattle.waff_inputs.specs.Inputs.{Accepts, Refuses, RefusesHierarchy, instance_under};
+ghost use Rattle.waff_inputs.specs.Known.{trace_of};
 
 use crate::fault::ToolError;
+use crate::traces::{read_trace, read_trace_by_threads};
 use std::alloc::Global;
 use std::thread::Threads;
 use waff_assign::{Assigned, Case, assign};
 use waff_model::{Layout, Trace};
-use waff_read::{TraceError, read_hierarchy, read_trace, read_trace_by_threads};
+use waff_read::{TraceError, read_hierarchy};
 
 /// A hierarchy, a trace over it, and the affinity of each message.
 #[derive(Drop)]
@@ -86,6 +88,24 @@ pub fn accept_by_threads<R: Threads + Sync>(
         Ok(layout) => layout,
         Err(fault) => return Err(ToolError::of_hierarchy(1, fault)),
     };
+    accept_over_layout(rt, alloc, layout, trace)
+}
+
+/// Reads the trace over a hierarchy that was read, by several threads where it is long.
+pub fn accept_over_layout<R: Threads + Sync>(
+    rt: &R,
+    alloc: Global,
+    layout: Layout,
+    trace: &[u8],
+) -> Result<Accepted, ToolError>
+    ensures accepted { IfOk result (λ a. (hierarchy_file : List ℕ)
+        → hierarchy_of hierarchy_file ≡ Ok layout
+        → Accepts hierarchy_file trace.now (instance_under a.layout a.assigned a.trace)) }
+    ensures layout { IfOk result (λ a. a.layout ≡ layout) }
+    ensures refused { IfErr result (λ e. (hierarchy_file : List ℕ)
+        → hierarchy_of hierarchy_file ≡ Ok layout → Refuses hierarchy_file trace.now e) }
+    ensures nothing { IfErr result (λ e. e ≢ ToolError.Write) }
+{
     let read = read_trace_by_threads(rt, alloc, &layout, trace);
     with_trace(alloc, layout, read)
 }
@@ -101,8 +121,7 @@ fn with_trace(
         → hierarchy_of hierarchy_file ≡ Ok layout
         → GivesTrace read (trace_of layout.spaces trace_file)
         → Accepts hierarchy_file trace_file (instance_under a.layout a.assigned a.trace)) }
-    ensures layout { IfOk result (λ a. (hierarchy_file : List ℕ)
-        → hierarchy_of hierarchy_file ≡ Ok layout → hierarchy_of hierarchy_file ≡ Ok a.layout) }
+    ensures layout { IfOk result (λ a. a.layout ≡ layout) }
     ensures refused { IfErr result (λ e. (hierarchy_file trace_file : List ℕ)
         → hierarchy_of hierarchy_file ≡ Ok layout
         → GivesTrace read (trace_of layout.spaces trace_file)
@@ -124,8 +143,7 @@ fn with_affinities(alloc: Global, layout: Layout, trace: Trace) -> Result<Accept
     ensures accepted { IfOk result (λ a. (hierarchy_file trace_file : List ℕ)
         → hierarchy_of hierarchy_file ≡ Ok layout → trace_of layout.spaces trace_file ≡ Ok trace
         → Accepts hierarchy_file trace_file (instance_under a.layout a.assigned a.trace)) }
-    ensures layout { IfOk result (λ a. (hierarchy_file : List ℕ)
-        → hierarchy_of hierarchy_file ≡ Ok layout → hierarchy_of hierarchy_file ≡ Ok a.layout) }
+    ensures layout { IfOk result (λ a. a.layout ≡ layout) }
     ensures memory { IfErr result (λ e. e ≡ ToolError.Memory) }
 {
     match assign(alloc, &layout, &trace) {

@@ -7,6 +7,7 @@
 //! is refused decides.
 //!
 //! - `inputs`: a hierarchy by its number; a hierarchy and a trace with the affinities.
+//! - `traces`: traces of the versions that the commands know.
 //! - `fault`, `fault_names`: faults, their lines and statuses.
 //! - `output`: a text written.
 //! - `unique`: one fault for each input.
@@ -19,8 +20,12 @@ mod fault;
 mod fault_names;
 mod inputs;
 mod output;
+mod traces;
 pub mod unique;
 
 pub use fault::{ToolError, fault_message, fault_status, fault_text};
-pub use inputs::{Accepted, MAX_RANKED, accept, accept_by_threads, read_numbered};
+pub use inputs::{
+    Accepted, MAX_RANKED, accept, accept_by_threads, accept_over_layout, read_numbered,
+};
 pub use output::{deliver, write_text};
+pub use traces::{newest, read_trace, read_trace_by_threads};

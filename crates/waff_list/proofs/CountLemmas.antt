@@ -137,7 +137,7 @@ left_fall needs start finishes finishes_after left left_after h fall count = rec
 
 module _ (needs : List (List ℕ)) (work : Work) (forward : IsForward (IsNeed needs) work) (same : length needs ≡ work.count) where
   need_number : (i j : ℕ) → IsNeed needs i j → IsNumber work i
-  need_number i j need = record { from = forward.from i j need; to = omega (arith, forward.earlier i j need, forward.to i j need) }
+  need_number i j need = forward.first i j (inl need)
 
   need_of : (i m : ℕ) → 1 ≤ m → Contains (needs_of needs m) i → IsNeed needs i m
   need_of i m from there = record { from = from; listed = there }

@@ -6,12 +6,13 @@ use Rattle.std.proofs.lemmas.Bool.{cases_eq, cases_lt}
 use Rattle.std.proofs.lemmas.List.{get_or_default, get_or-drop, length-drop, drop_all, append_assoc}
 use Rattle.std.proofs.lemmas.List.Elements.{All-contains, Contains-append_left, Contains-append_right, Contains-append_cases, Contains-push}
 use Rattle.std.proofs.lemmas.List.Sorted.{IsPermutation-append_left, IsPermutation-append_right}
-use Rattle.waff_plan.specs.Obeys.{IsForward}
+use Rattle.waff_plan.specs.Obeys.{IsForward, FollowsNone}
+use Rattle.waff_plan.proofs.NoClients.{issue_is_release}
 use Rattle.waff_plan.specs.Timing.{start_of}
 use Rattle.waff_plan.specs.Work.{Work, IsNumber, IsAmongFirst, finish_of}
 use Rattle.waff_list.specs.Choosing.{AreChosen}
-use Rattle.waff_list.specs.ListRule.{IsReady, IsTakenFirst}
-use Rattle.waff_list.specs.Load.{Load, Placed, Pending, before_in, priority_in}
+use Rattle.waff_list.specs.ListRule.{IsReady}
+use Rattle.waff_list.specs.Load.{Load, Placed, Pending, before_in, priority_in, first_in}
 use Rattle.waff_list.specs.Progress.{IsProgress, IsKept, GoesOn}
 use Rattle.waff_list.specs.Seating.{worker_of}
 use Rattle.waff_list.specs.Waiting.{Ready, AreEach, IsUp, IsReleased}
@@ -20,7 +21,7 @@ use Rattle.waff_list.proofs.CountLemmas.{left_place, left_finished, left_over}
 use Rattle.waff_list.proofs.Each.{none_there, contains_first, each_there, each_moved, each_apart}
 use Rattle.waff_list.proofs.FinishLemmas.{finishes_place}
 use Rattle.waff_list.proofs.Making.{IsPassedOver, all_run, moved_here, progress_place, manned_place, progress_skip, progress_filled}
-use Rattle.waff_list.proofs.Uniqueness.{not_itself, onward}
+use Rattle.waff_list.proofs.Uniqueness.{alike_same, numbers_of, followed_of, not_itself, onward}
 
 -- the element of a list at an index is in it, and in the rest of it from there on
 pub there_at : (xs : List ℕ) (i d : ℕ) → i < length xs → Contains xs (get_or xs i d)
@@ -51,7 +52,7 @@ pub record IsStarting (load : Load) (old : List ℕ) (placed : Placed) (pending 
   pub turns : (i d : ℕ) → at ≤ i → i < length messages → turn ≤ get_or messages i d
   pub started : (m : ℕ) → IsNumber load.work m → start_of placed.starts m ≡ now → Contains messages m
 
-module _ (load : Load) (forward : IsForward (before_in load) load.work) (same : length load.needs ≡ load.work.count) where
+module _ (load : Load) (forward : IsForward (before_in load) load.work) (none : FollowsNone load.work) (same : length load.needs ≡ load.work.count) where
   abbrev work : Work
   work = load.work
 
@@ -77,7 +78,7 @@ module _ (load : Load) (forward : IsForward (before_in load) load.work) (same : 
         let up : IsUp work (IsReleased work now) pending.left m = record {
           number = ready.number;
           over = left_over load.needs work forward same (start_of placed.starts) now pending.finishes pending.left short h.finishes h.left m ready.number ready.free;
-          released = ready.released;
+          released = omega (arith, ready.issued, issue_is_release work none (start_of placed.starts) m);
         } in
         elim (Contains-append_cases placed.order pending.ready m (each_there (IsUp work (IsReleased work now) pending.left) (placed.order ++ pending.ready) h.ready m up)) [
           | inl is_placed ↦ absurd (omega (arith, late, (All-contains (λ x. IsNumber work x × (start_of placed.starts x ≤ now)) placed.order m progress.listed.messages is_placed).1))
@@ -96,16 +97,18 @@ module _ (load : Load) (forward : IsForward (before_in load) load.work) (same : 
     filling_place finishes_after pushed =
         let up = h.kept.ready.only m (Contains-append_right placed.order (m ∷ ready) m (contains_first m ready)) in
         let number = up.number in
-        let at = progress_skip load forward placed now turn m up_to h.on.progress in
+        let at = progress_skip (before_in load) (first_in load) work load.workers (numbers_of (before_in load) work forward) (followed_of (before_in load) work forward) placed now turn m up_to h.on.progress in
         let ready_there = contains_first m ready in
         let late : now < start_of placed.starts m = unplaced placed _ now m at h.kept m ready_there in
-        let moved = moved_here load forward placed finishes idle now m w number short cost late at h.kept.finishes h.kept.manned smallest in
+        let moved = moved_here (before_in load) (first_in load) work load.workers (numbers_of (before_in load) work forward) (followed_of (before_in load) work forward) placed finishes idle now m w number short cost late at h.kept.finishes h.kept.manned smallest in
         let here : start_of more.starts m ≡ now = moved.here in
         let never : start_of placed.starts m ≡ NEVER = elim (at.settled.placed m number) [ inl early ↦ absurd (omega arith) | inr is ↦ is ] in
         record {
           to = omega (arith, number.to);
           on = record {
-            progress = progress_place load forward placed finishes idle now m w number short cost late at h.kept.finishes h.kept.manned smallest up.released
+            progress = progress_place (before_in load) (first_in load) work load.workers (numbers_of (before_in load) work forward) (followed_of (before_in load) work forward) placed finishes idle now m w number short cost late at h.kept.finishes h.kept.manned smallest
+                (before_in load) (first_in load) (λ i j pair. forward.second i j (inl pair)) (alike_same work (before_in load) (first_in load) _ _ now)
+                (omega (arith, up.released, issue_is_release work none (start_of placed.starts) m))
                 (needs_over placed _ now m at h.kept m short ready_there);
             kept = λ i i_number early.
                 let is = h.on.kept i i_number early in
@@ -113,7 +116,7 @@ module _ (load : Load) (forward : IsForward (before_in load) load.work) (same : 
           };
           kept = record {
             finishes = finishes_place work (start_of placed.starts) (start_of more.starts) now m finishes finishes_after number late here cost moved.others pushed h.kept.finishes;
-            manned = manned_place load forward placed finishes idle now m w number short cost late at h.kept.finishes h.kept.manned smallest finishes_after pushed;
+            manned = manned_place (before_in load) (first_in load) work load.workers (numbers_of (before_in load) work forward) (followed_of (before_in load) work forward) placed finishes idle now m w number short cost late at h.kept.finishes h.kept.manned smallest finishes_after pushed;
             left = left_place load.needs work forward same (start_of placed.starts) (start_of more.starts) m (now + work.cost m) finishes finishes_after left never
                 (λ again. omega (arith, here, again)) moved.others pushed h.kept.left;
             ready = subst (λ xs. AreEach (IsUp work (IsReleased work now) left) xs) (sym (append_assoc placed.order (m ∷ []) ready)) h.kept.ready;
@@ -224,21 +227,21 @@ module _ (load : Load) (forward : IsForward (before_in load) load.work) (same : 
       kept_filled = all_started.kept
 
       module _ (short : now < NEVER) (over : (pending.idle ≡ []) ⊎ (pending.ready ≡ []))
-          (first : (m other : ℕ) → Contains messages m → Contains pending.ready other → (other ≡ m) ⊎ IsTakenFirst (priority_in load) m other) where
+          (first : (m other : ℕ) → Contains messages m → Contains pending.ready other → (other ≡ m) ⊎ first_in load m other) where
         -- no message that is ready and waits is taken before one that starts at now
-        not_before : (m other : ℕ) → Contains pending.ready m → now < start_of placed.starts m → IsNumber work other → IsTakenFirst (priority_in load) m other
+        not_before : (m other : ℕ) → Contains pending.ready m → now < start_of placed.starts m → IsNumber work other → first_in load m other
             → start_of placed.starts other ≢ now
         not_before m other there waits number before is = elim (first other m (h.started other number is) there) [
           | inl same_one ↦ omega (arith, waits, is, ap (start_of placed.starts) same_one)
           | inr next ↦ not_itself (priority_in load) m (onward (priority_in load) m other m before next)
         ]
 
-        passed_over : IsPassedOver load forward (start_of placed.starts) now
+        passed_over : IsPassedOver (before_in load) (first_in load) work load.workers (numbers_of (before_in load) work forward) (followed_of (before_in load) work forward) (start_of placed.starts) now
         passed_over m ready_at waits =
             let there = it_waits placed pending now h.turn all_started.on.progress kept_filled m short ready_at waits in
             elim over [
               | inl none ↦ (
-                all_run load forward (start_of placed.starts) (worker_of placed.seats) now h.turn now all_started.on.progress.settled pending.finishes pending.idle
+                all_run (before_in load) (first_in load) work load.workers (numbers_of (before_in load) work forward) (followed_of (before_in load) work forward) (start_of placed.starts) (worker_of placed.seats) now h.turn now all_started.on.progress.settled pending.finishes pending.idle
                     kept_filled.finishes kept_filled.manned none,
                 λ other number before. not_before m other there waits number before,
               )
@@ -247,6 +250,6 @@ module _ (load : Load) (forward : IsForward (before_in load) load.work) (same : 
 
         pub filled : GoesOn load old placed now (work.count + 1) (now + 1)
         filled = record {
-          progress = progress_filled load forward placed now h.turn all_started.to passed_over all_started.on.progress;
+          progress = progress_filled (before_in load) (first_in load) work load.workers (numbers_of (before_in load) work forward) (followed_of (before_in load) work forward) placed now h.turn all_started.to passed_over all_started.on.progress;
           kept = all_started.on.kept;
         }

@@ -1,3 +1,5 @@
+mod IssueLemmas
+mod ClientLemmas
 pub mod Graham
 pub mod Pigeonhole
 mod Each
@@ -18,4 +20,6 @@ pub mod Uniqueness
 pub mod SeatsUniqueness
 pub mod TailLemmas
 pub mod RuleLemmas
+pub mod IssuePlans
+mod ServiceLemmas
 mod TailMaking

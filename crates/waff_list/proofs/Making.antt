@@ -6,18 +6,20 @@ use Rattle.std.proofs.lemmas.List.{get_or-replicate, length-replicate}
 use Rattle.std.proofs.lemmas.List.Elements.{All-nil, All-push, All-weaker, All-get_or, All-contains, Contains-append_left, Contains-append_cases, Contains-push}
 use Rattle.std.proofs.lemmas.List.Quantifiers.{all_pairs_push}
 use Rattle.waff_assign.specs.Order.{Relation}
-use Rattle.waff_plan.specs.Work.{Work, IsNumber, IsAmongFirst, finish_of}
-use Rattle.waff_plan.specs.Obeys.{IsForward}
+use Rattle.waff_plan.specs.Work.{Work, IsNumber, IsAmongFirst, finish_of, issue_of}
 use Rattle.waff_plan.specs.Workers.{runs_at, running}
 use Rattle.waff_plan.specs.Timing.{start_of}
-use Rattle.waff_list.specs.ListRule.{IsReady, IsTakenFirst, IsListPlan}
-use Rattle.waff_list.specs.Load.{Load, Placed, before_in, priority_in}
+use Rattle.waff_list.specs.ListRule.{IsReady, IsListPlan}
+use Rattle.waff_list.specs.Load.{Placed}
 use Rattle.waff_list.specs.Seats.{ComesBefore, HoldsWorker, IsSeated}
 use Rattle.waff_list.specs.Seating.{worker_of}
-use Rattle.waff_list.specs.Progress.{IsSettled, IsOrderSoFar, IsProgress, IsNextTick}
+use Rattle.waff_list.specs.Progress.{IsSettled, IsOrderSoFar, IsProgressOf, IsNextTick}
 use Rattle.waff_list.specs.Waiting.{AreEach, AreManned, AreFinishes, Runs}
 use Rattle.waff_list.specs.declared.work.TheConstants.{NEVER}
 use Rattle.waff_list.proofs.Each.{each_there, each_moved, each_apart, contains_rest_of, contains_first, contains_map, contains_mapped, manned_more}
+use Rattle.waff_list.proofs.TailLemmas.{IsAhead}
+use Rattle.waff_list.proofs.Uniqueness.{AreAlike, FollowsMessages}
+use Rattle.waff_list.proofs.IssueLemmas.{issue_same, followed_by}
 use Rattle.waff_list.proofs.Running.{AreSeatedAt, runs_parts, runs_before_start, runs_after_finish, runs_from, runs_same, running_same, running_none, running_within, running_all, running_fewer}
 
 -- the same numbers but at x, which has y
@@ -33,21 +35,10 @@ holds_same work start later i m same_i same_m h = record {
   runs = rw (same_i, same_m) at h.runs;
 }
 
-module _ (load : Load) (forward : IsForward (before_in load) load.work) where
-  abbrev work : Work
-  work = load.work
-
-  abbrev before : Relation
-  before = before_in load
-
-  abbrev priority : ℕ → ℕ
-  priority = priority_in load
-
-  abbrev k : ℕ
-  k = load.workers
-
+module _ (before taken_first : Relation) (work : Work) (k : ℕ) (numbers : (i j : ℕ) → before i j → IsNumber work i × IsNumber work j)
+    (followed : FollowsMessages work) where
   -- messages that run have been placed, so they have their workers
-  pub seated_at : (start worker : ℕ → ℕ) (now turn end t : ℕ) → IsSettled load start worker now turn end → t ≤ now → AreSeatedAt work k start worker t
+  pub seated_at : (start worker : ℕ → ℕ) (now turn end t : ℕ) → IsSettled before taken_first work k start worker now turn end → t ≤ now → AreSeatedAt work k start worker t
   seated_at start worker now turn end t h early = record {
     seated = λ m number runs. h.seated m number (omega (arith, (runs_parts work start t m runs).0));
     within = λ m number runs. h.within m number (omega (arith, (runs_parts work start t m runs).0));
@@ -55,18 +46,18 @@ module _ (load : Load) (forward : IsForward (before_in load) load.work) where
 
   -- the first of a pair is a message
   pub first_number : (i j : ℕ) → before i j → IsNumber work i
-  first_number i j h = record { from = forward.from i j h; to = omega (arith, forward.earlier i j h, forward.to i j h) }
+  first_number i j h = (numbers i j h).0
 
   pub second_number : (i j : ℕ) → before i j → IsNumber work j
-  second_number i j h = record { from = omega (arith, forward.from i j h, forward.earlier i j h); to = forward.to i j h }
+  second_number i j h = (numbers i j h).1
 
   -- the turn goes on
   pub settled_skip : (start worker : ℕ → ℕ) (now turn next end : ℕ) → turn ≤ next
-      → IsSettled load start worker now turn end → IsSettled load start worker now next end
+      → IsSettled before taken_first work k start worker now turn end → IsSettled before taken_first work k start worker now next end
   settled_skip start worker now turn next end on h = record {
     placed = h.placed;
     turns = λ m number is. omega (arith, h.turns m number is);
-    released = h.released;
+    issued = h.issued;
     ordered = h.ordered;
     seated = h.seated;
     within = h.within;
@@ -77,15 +68,15 @@ module _ (load : Load) (forward : IsForward (before_in load) load.work) where
   -- a message that is ready at now and has not been placed: k run, and it is taken before none that starts at now
   abbrev pub IsPassedOver : (ℕ → ℕ) → ℕ → Type 0
   IsPassedOver start now = (m : ℕ) → IsReady before work start now m → now < start m
-      → (running work start now ≡ k) × ((other : ℕ) → IsNumber work other → IsTakenFirst priority m other → start other ≢ now)
+      → (running work start now ≡ k) × ((other : ℕ) → IsNumber work other → taken_first m other → start other ≢ now)
 
   -- the tick has been filled
   pub settled_filled : (start worker : ℕ → ℕ) (now turn : ℕ) → IsPassedOver start now
-      → IsSettled load start worker now turn now → IsSettled load start worker now turn (now + 1)
+      → IsSettled before taken_first work k start worker now turn now → IsSettled before taken_first work k start worker now turn (now + 1)
   settled_filled start worker now turn over h = record {
     placed = h.placed;
     turns = h.turns;
-    released = h.released;
+    issued = h.issued;
     ordered = h.ordered;
     seated = h.seated;
     within = h.within;
@@ -99,17 +90,17 @@ module _ (load : Load) (forward : IsForward (before_in load) load.work) where
     ];
   }
 
-  -- from one tick to the next at which a message finishes or is released
+  -- from one tick to the next at which a message finishes or is issued
   pub settled_advance : (start worker : ℕ → ℕ) (now next : ℕ) → now < next → next < NEVER
       → ((m : ℕ) → IsNumber work m → (finish_of work start m ≤ now) ⊎ (next ≤ finish_of work start m))
-      → ((m : ℕ) → IsNumber work m → (work.release m ≤ now) ⊎ (next ≤ work.release m))
-      → IsSettled load start worker now (work.count + 1) (now + 1) → IsSettled load start worker next 1 next
-  settled_advance start worker now next later short finishes releases h =
+      → ((m : ℕ) → IsNumber work m → (issue_of work start m ≤ now) ⊎ (next ≤ issue_of work start m))
+      → IsSettled before taken_first work k start worker now (work.count + 1) (now + 1) → IsSettled before taken_first work k start worker next 1 next
+  settled_advance start worker now next later short finishes issues h =
       let back : (m : ℕ) → IsNumber work m → start m ≤ next → start m ≤ now = λ m number is. elim (h.placed m number) [ inl early ↦ early | inr never ↦ absurd (omega arith) ] in
       record {
         placed = λ m number. elim (h.placed m number) [ inl early ↦ inl (omega arith) | inr never ↦ inr never ];
         turns = λ m number is. absurd (omega (arith, back m number (omega (arith, is))));
-        released = λ m number is. h.released m number (back m number is);
+        issued = λ m number is. h.issued m number (back m number is);
         ordered = λ i j pair is. h.ordered i j pair (back j (second_number i j pair) is);
         seated = λ m number is. h.seated m number (back m number is);
         within = λ m number is. h.within m number (back m number is);
@@ -123,7 +114,7 @@ module _ (load : Load) (forward : IsForward (before_in load) load.work) where
       ready_at_now : (t m : ℕ) → now ≤ t → t < next → IsReady before work start t m → IsReady before work start now m
       ready_at_now t m from_now before_next ready = record {
         number = ready.number;
-        released = elim (releases m ready.number) [ inl early ↦ early | inr late ↦ absurd (omega (arith, ready.released)) ];
+        issued = elim (issues m ready.number) [ inl early ↦ early | inr late ↦ absurd (omega (arith, late, ready.issued)) ];
         free = λ i pair. elim (finishes i (first_number i m pair)) [ inl early ↦ early | inr late ↦ absurd (omega (arith, ready.free i pair)) ];
       }
 
@@ -143,36 +134,41 @@ module _ (load : Load) (forward : IsForward (before_in load) load.work) where
             ∙ h.busy now m (omega arith) (ready_at_now t m new past ready) (omega arith)
       ]
 
-  -- where no message finishes or is released later, all are placed
-  pub settled_all : (start worker : ℕ → ℕ) (now : ℕ) → 1 ≤ k → now < NEVER → ((m : ℕ) → IsNumber work m → start m ≤ now → finish_of work start m ≤ now)
-      → ((m : ℕ) → IsNumber work m → work.release m ≤ now) → IsSettled load start worker now (work.count + 1) (now + 1)
-      → (bound m : ℕ) → m < bound → IsNumber work m → start m ≤ now
-  settled_all start worker now some short finishes releases h zero m less number = absurd (omega arith)
-  settled_all start worker now some short finishes releases h (suc bound) m less number = elim (h.placed m number) [
-    | inl early ↦ early
-    | inr never ↦
-        let ready : IsReady before work start now m = record {
-          number = number;
-          released = releases m number;
-          free = λ i pair.
-              let first = first_number i m pair in
-              finishes i first (settled_all start worker now some short finishes releases h bound i (omega (arith, forward.earlier i m pair)) first);
-        } in
-        let full = h.busy now m (omega arith) ready (omega arith) in
-        let none = running_none work start now (λ i i_number. elim (h.placed i i_number) [
-          | inl early ↦ runs_after_finish work start now i (finishes i i_number early)
-          | inr other ↦ runs_before_start work start now i (omega arith)
-        ]) in
-        absurd (omega (arith, full, none))
-  ]
+  -- where no message finishes later, all that are issued by now are placed
+  module _ (start worker : ℕ → ℕ) (now : ℕ) (some : 1 ≤ k) (short : now < NEVER)
+      (finishes : (m : ℕ) → IsNumber work m → start m ≤ now → finish_of work start m ≤ now) (ahead : IsAhead before work)
+      (issued_too : (i m : ℕ) → before i m → issue_of work start m ≤ now → issue_of work start i ≤ now)
+      (h : IsSettled before taken_first work k start worker now (work.count + 1) (now + 1)) where
+    settled_from : (bound m : ℕ) → ahead.place m < bound → IsNumber work m → issue_of work start m ≤ now → start m ≤ now
+    settled_from zero m less number issued = absurd (omega arith)
+    settled_from (suc bound) m less number issued = elim (h.placed m number) [
+      | inl early ↦ early
+      | inr never ↦
+          let ready : IsReady before work start now m = record {
+            number = number;
+            issued = issued;
+            free = λ i pair.
+                let first = first_number i m pair in
+                finishes i first (settled_from bound i (omega (arith, less, ahead.earlier i m pair)) first (issued_too i m pair issued));
+          } in
+          let full = h.busy now m (omega arith) ready (omega arith) in
+          let none = running_none work start now (λ i i_number. elim (h.placed i i_number) [
+            | inl early ↦ runs_after_finish work start now i (finishes i i_number early)
+            | inr other ↦ runs_before_start work start now i (omega arith)
+          ]) in
+          absurd (omega (arith, full, none))
+    ]
+
+    pub settled_all : (m : ℕ) → IsNumber work m → issue_of work start m ≤ now → start m ≤ now
+    settled_all m = settled_from (suc (ahead.place m)) m (omega arith)
 
   -- the plan in which all messages are placed is a list plan
   pub settled_plan : (start worker : ℕ → ℕ) (now : ℕ) → ((m : ℕ) → IsNumber work m → start m ≤ now)
-      → IsSettled load start worker now (work.count + 1) (now + 1) → IsListPlan before priority work k start
+      → IsSettled before taken_first work k start worker now (work.count + 1) (now + 1) → IsListPlan before taken_first work k start
   settled_plan start worker now all h = record {
     within = record {
       obeys = record {
-        released = λ m number. h.released m number (all m number);
+        issued = λ m number. h.issued m number (all m number);
         ordered = λ i j pair. h.ordered i j pair (all j (second_number i j pair));
       };
       within = λ t. running_within work k start worker t (record {
@@ -194,7 +190,7 @@ module _ (load : Load) (forward : IsForward (before_in load) load.work) where
     its_worker : (m : ℕ) → IsNumber work m → start m ≤ now → now < finish_of work start m → Contains (map (λ r. worker r.1) finishes) (worker m)
     its_worker m number early late = contains_map (λ r. worker r.1) finishes (finish_of work start m, m) (run.each m number early late)
 
-  module _ (start worker : ℕ → ℕ) (now turn end : ℕ) (settled : IsSettled load start worker now turn end) (finishes : List (ℕ × ℕ)) (idle : List ℕ)
+  module _ (start worker : ℕ → ℕ) (now turn end : ℕ) (settled : IsSettled before taken_first work k start worker now turn end) (finishes : List (ℕ × ℕ)) (idle : List ℕ)
       (run : AreFinishes work start now finishes) (manned : AreEach (IsAmongFirst k) (idle ++ map (λ r. worker r.1) finishes)) where
     pub all_run : idle ≡ [] → running work start now ≡ k
     all_run none = running_all work k start worker now (seated_at start worker now turn end now settled (omega arith))
@@ -230,7 +226,7 @@ module _ (load : Load) (forward : IsForward (before_in load) load.work) where
 
   module _ (start worker later seats : ℕ → ℕ) (now x w : ℕ) (number : IsNumber work x) (short : now < NEVER) (cost : 1 ≤ work.cost x)
       (moved : IsMovedTo start later x now) (sat : IsMovedTo worker seats x w)
-      (unplaced : now < start x) (settled : IsSettled load start worker now x now) where
+      (unplaced : now < start x) (settled : IsSettled before taken_first work k start worker now x now) where
     never : start x ≡ NEVER
     never = elim (settled.placed x number) [ inl early ↦ absurd (omega arith) | inr is ↦ is ]
 
@@ -291,16 +287,33 @@ module _ (load : Load) (forward : IsForward (before_in load) load.work) where
               (i, holds_same work start later i m (sym (kept i holds.number i_other)) (sym m_at) holds, kept_seat i holds.number i_other ∙ there.2);
         }
 
+    -- what is issued by now in the new plan was issued then
+    issue_back : (m t : ℕ) → t ≤ now → issue_of work later m ≤ t → issue_of work later m ≡ issue_of work start m
+    issue_back m t early issued = issue_same work later start m (λ f follows. elim (cases_eq f x) [
+      | inl same ↦ absurd (omega (arith, followed_by work later m t f issued follows, early, ap (finish_of work later) same, at_x, cost))
+      | inr other ↦ kept f (followed f m follows) other
+    ])
+
+    -- and stays so
+    issue_kept : (m t : ℕ) → t ≤ now → issue_of work start m ≤ t → issue_of work later m ≡ issue_of work start m
+    issue_kept m t early issued = issue_same work later start m (λ f follows. elim (cases_eq f x) [
+      | inl same ↦ absurd (omega (arith, followed_by work start m t f issued follows, early, ap (finish_of work start) same, never, short))
+      | inr other ↦ kept f (followed f m follows) other
+    ])
+
     -- what is ready in the new plan by now, and waits, was ready and waited
-    pub ready_back : (t m : ℕ) → t ≤ now → IsReady before work later t m → t < later m → IsReady before work start t m × (t < start m)
-    ready_back t m early ready waits = (
+    pub ready_back : (near second : Relation) → AreAlike work before near taken_first second start later now
+        → (t m : ℕ) → t ≤ now → IsReady near work later t m → t < later m → IsReady before work start t m × (t < start m)
+    ready_back near second alike t m early ready waits = (
       record {
         number = ready.number;
-        released = ready.released;
-        free = λ i pair. elim (cases_eq i x) [
-          | inl same ↦ absurd (omega (arith, rw (same, at_x) at (ready.free i pair), cost))
-          | inr other ↦ rw (kept i (first_number i m pair) other) at (ready.free i pair)
-        ];
+        issued = omega (arith, ready.issued, issue_back m t (omega arith) ready.issued);
+        free = λ i pair.
+            let near_pair = alike.before_to i m (omega (arith, early, ready.issued, issue_back m t early ready.issued)) pair in
+            elim (cases_eq i x) [
+              | inl same ↦ absurd (omega (arith, rw (same, at_x) at (ready.free i near_pair), cost))
+              | inr other ↦ rw (kept i (first_number i m pair) other) at (ready.free i near_pair)
+            ];
       },
       elim (cases_eq m x) [
         | inl same ↦ omega (arith, ap start same, never)
@@ -308,16 +321,30 @@ module _ (load : Load) (forward : IsForward (before_in load) load.work) where
       ],
     )
 
+    -- what was placed is issued by now in the new plan too
+    issued_placed : (m : ℕ) → IsNumber work m → start m ≤ now → issue_of work later m ≤ now
+    issued_placed m m_number early =
+        let was = settled.issued m m_number early in
+        omega (arith, was, early, issue_kept m now (omega arith) (omega (arith, was, early)))
+
     running_back : (t : ℕ) → t < now → running work later t ≡ running work start t
     running_back t early = running_same work later start t t (λ m m_number. elim (cases_eq m x) [
       | inl same ↦ runs_before_start work later t m (omega (arith, ap later same, at_x)) ∙ sym (runs_before_start work start t m (omega (arith, ap start same, never)))
       | inr other ↦ runs_same work later start t m (kept m m_number other)
     ])
 
+    -- so is x
+    issued_by_now : issue_of work start x ≤ now → (m : ℕ) → IsNumber work m → later m ≤ now → issue_of work later m ≤ now
+    issued_by_now issued m m_number early = elim (placed_cases m m_number early) [
+      | inl same ↦ subst (λ y. issue_of work later y ≤ now) (sym same) (omega (arith, issue_kept x now (omega arith) issued, issued))
+      | inr both ↦ issued_placed m m_number both.1
+    ]
+
     -- x is placed at now on the worker w, where fewer than k ran
-    pub settled_place : work.release x ≤ now → ((i : ℕ) → before i x → finish_of work start i ≤ now) → running work start now < k
-        → IsSeated work later seats x → w ≤ k → IsSettled load later seats now (x + 1) now
-    settled_place released free room seat within = record {
+    pub settled_place : (near second : Relation) → ((i j : ℕ) → near i j → IsNumber work j) → AreAlike work before near taken_first second start later now
+        → issue_of work start x ≤ now → ((i : ℕ) → before i x → finish_of work start i ≤ now) → running work start now < k
+        → IsSeated work later seats x → w ≤ k → IsSettled near second work k later seats now (x + 1) now
+    settled_place near second near_number alike issued free room seat within = record {
       placed = λ m m_number. elim (cases_eq m x) [
         | inl same ↦ inl (omega (arith, ap later same, at_x))
         | inr other ↦ rw (kept m m_number other) (settled.placed m m_number)
@@ -326,14 +353,17 @@ module _ (load : Load) (forward : IsForward (before_in load) load.work) where
         | inl same ↦ omega arith
         | inr other ↦ omega (arith, settled.turns m m_number (sym (kept m m_number other) ∙ is))
       ];
-      released = λ m m_number early. elim (placed_cases m m_number early) [
-        | inl same ↦ rw (same, at_x) released
-        | inr both ↦ rw (kept m m_number both.0) (settled.released m m_number both.1)
+      issued = λ m m_number early. elim (placed_cases m m_number early) [
+        | inl same ↦ subst (λ y. issue_of work later y ≤ later y) (sym same) (omega (arith, issue_kept x now (omega arith) issued, issued, at_x))
+        | inr both ↦
+            let was = settled.issued m m_number both.1 in
+            omega (arith, issue_kept m (start m) both.1 was, was, kept m m_number both.0)
       ];
-      ordered = λ i j pair early.
+      ordered = λ i j near_pair early.
+          let pair : before i j = alike.before_back i j (issued_by_now issued j (near_number i j near_pair) early) near_pair in
           let i_number = first_number i j pair in
           elim (placed_cases j (second_number i j pair) early) [
-            | inl same ↦ rw (kept i i_number (omega (arith, forward.earlier i j pair)), same, at_x) (free i (rw same at pair))
+            | inl same ↦ rw (kept i i_number (λ is_x. omega (arith, free i (rw same at pair), ap (finish_of work start) is_x, never, short)), same, at_x) (free i (rw same at pair))
             | inr both ↦
                 let there = settled.ordered i j pair both.1 in
                 rw (kept i i_number (placed_is_other i (omega (arith, there, both.1))), kept j (second_number i j pair) both.0) there
@@ -347,13 +377,16 @@ module _ (load : Load) (forward : IsForward (before_in load) load.work) where
         | inr both ↦ rw (kept_seat m m_number both.0) (settled.within m m_number both.1)
       ];
       busy = λ t m soon ready waits.
-          let was = ready_back t m (omega arith) ready waits in
+          let was = ready_back near second alike t m (omega arith) ready waits in
           running_back t soon ∙ settled.busy t m soon was.0 was.1;
-      in_turn = λ t m other soon ready waits other_number first is.
-          let was = ready_back t m (omega arith) ready waits in
+      in_turn = λ t m other soon ready waits other_number takes is.
+          let was = ready_back near second alike t m (omega arith) ready waits in
           elim (cases_eq other x) [
             | inl same ↦ omega (arith, ap later same, at_x)
-            | inr apart ↦ settled.in_turn t m other soon was.0 was.1 other_number first (sym (kept other other_number apart) ∙ is)
+            | inr apart ↦
+                let took = alike.first_back m other ready.number other_number (omega (arith, ready.issued, soon))
+                (issued_placed other other_number (omega (arith, is, soon, kept other other_number apart))) takes in
+                settled.in_turn t m other soon was.0 was.1 other_number took (sym (kept other other_number apart) ∙ is)
           ];
     }
 
@@ -422,7 +455,7 @@ module _ (load : Load) (forward : IsForward (before_in load) load.work) where
 
   -- a message is placed on the least worker that is idle
   module _ (placed : Placed) (finishes : List (ℕ × ℕ)) (idle : List ℕ) (now x w : ℕ) (number : IsNumber work x) (short : now < NEVER) (cost : 1 ≤ work.cost x)
-      (unplaced : now < start_of placed.starts x) (h : IsProgress load placed now x now) (run : AreFinishes work (start_of placed.starts) now finishes)
+      (unplaced : now < start_of placed.starts x) (h : IsProgressOf before taken_first work k placed now x now) (run : AreFinishes work (start_of placed.starts) now finishes)
       (manned : AreManned k placed.seats finishes (w ∷ idle)) (smallest : (v : ℕ) → Contains idle v → w ≤ v) where
     abbrev pub more_placed : Placed
     more_placed = record { starts = set placed.starts (x - 1) now; seats = set placed.seats (x - 1) w; order = placed.order ++ x ∷ [] }
@@ -433,8 +466,10 @@ module _ (load : Load) (forward : IsForward (before_in load) load.work) where
     seated_there : IsMovedTo (worker_of placed.seats) (worker_of more_placed.seats) x w
     seated_there = moved_by_set placed.seats x w number.from (omega (arith, number.to, h.seats_count))
 
-    pub progress_place : work.release x ≤ now → ((i : ℕ) → before i x → finish_of work (start_of placed.starts) i ≤ now) → IsProgress load more_placed now (x + 1) now
-    progress_place released free =
+    pub progress_place : (near second : Relation) → ((i j : ℕ) → near i j → IsNumber work j)
+        → AreAlike work before near taken_first second (start_of placed.starts) (start_of more_placed.starts) now
+        → issue_of work (start_of placed.starts) x ≤ now → ((i : ℕ) → before i x → finish_of work (start_of placed.starts) i ≤ now) → IsProgressOf near second work k more_placed now (x + 1) now
+    progress_place near second near_number alike issued free =
         let start = start_of placed.starts in
         let worker = worker_of placed.seats in
         let later = start_of more_placed.starts in
@@ -445,7 +480,7 @@ module _ (load : Load) (forward : IsForward (before_in load) load.work) where
         record {
           starts_count = length-set placed.starts (x - 1) now ∙ h.starts_count;
           seats_count = length-set placed.seats (x - 1) w ∙ h.seats_count;
-          settled = settled_place start worker later seats now x w number short cost moved_here seated_there unplaced h.settled released free room seat known.to;
+          settled = settled_place start worker later seats now x w number short cost moved_here seated_there unplaced h.settled near second near_number alike issued free room seat known.to;
           listed = order_more start worker later seats now x w number short cost moved_here seated_there unplaced h.settled placed.order h.listed;
         }
 
@@ -460,7 +495,7 @@ module _ (load : Load) (forward : IsForward (before_in load) load.work) where
         (manned_more (λ r. worker_of placed.seats r.1) idle finishes (now + work.cost x, x) more (λ r. worker_of more_placed.seats r.1) kept pushed))
 
   -- nothing is placed yet
-  pub progress_none : work.count ≤ 2 ^ 32 → IsProgress load (record { starts = replicate work.count NEVER; seats = replicate work.count 0; order = [] }) 0 1 0
+  pub progress_none : work.count ≤ 2 ^ 32 → IsProgressOf before taken_first work k (record { starts = replicate work.count NEVER; seats = replicate work.count 0; order = [] }) 0 1 0
   progress_none few =
       let not_placed : (m : ℕ) → IsNumber work m → start_of (replicate work.count NEVER) m ≤ 0 → ⊥ = λ m number early. omega (arith, never_at m number, early) in
       record {
@@ -469,7 +504,7 @@ module _ (load : Load) (forward : IsForward (before_in load) load.work) where
         settled = record {
           placed = λ m number. inr (never_at m number);
           turns = λ m number is. absurd (not_placed m number (omega (arith, is)));
-          released = λ m number early. absurd (not_placed m number early);
+          issued = λ m number early. absurd (not_placed m number early);
           ordered = λ i j pair early. absurd (not_placed j (second_number i j pair) early);
           seated = λ m number early. absurd (not_placed m number early);
           within = λ m number early. absurd (not_placed m number early);
@@ -485,7 +520,7 @@ module _ (load : Load) (forward : IsForward (before_in load) load.work) where
 
   -- the turn goes on, and the tick has been filled
   pub progress_filled : (placed : Placed) (now turn : ℕ) → turn ≤ work.count + 1 → IsPassedOver (start_of placed.starts) now
-      → IsProgress load placed now turn now → IsProgress load placed now (work.count + 1) (now + 1)
+      → IsProgressOf before taken_first work k placed now turn now → IsProgressOf before taken_first work k placed now (work.count + 1) (now + 1)
   progress_filled placed now turn on over h = record {
     starts_count = h.starts_count;
     seats_count = h.seats_count;
@@ -494,7 +529,7 @@ module _ (load : Load) (forward : IsForward (before_in load) load.work) where
     listed = h.listed;
   }
 
-  pub progress_skip : (placed : Placed) (now turn next : ℕ) → turn ≤ next → IsProgress load placed now turn now → IsProgress load placed now next now
+  pub progress_skip : (placed : Placed) (now turn next : ℕ) → turn ≤ next → IsProgressOf before taken_first work k placed now turn now → IsProgressOf before taken_first work k placed now next now
   progress_skip placed now turn next on h = record {
     starts_count = h.starts_count;
     seats_count = h.seats_count;
@@ -502,10 +537,11 @@ module _ (load : Load) (forward : IsForward (before_in load) load.work) where
     listed = h.listed;
   }
 
-  -- on to the next tick at which a message finishes or is released
+  -- on to the next tick at which a message finishes or is issued
   pub progress_advance : (placed : Placed) (now next : ℕ) (finishes : List (ℕ × ℕ)) → AreFinishes work (start_of placed.starts) now finishes → IsNextTick work finishes now next
-      → IsProgress load placed now (work.count + 1) (now + 1) → IsProgress load placed next 1 next
-  progress_advance placed now next finishes run tick h =
+      → ((m : ℕ) → IsNumber work m → (issue_of work (start_of placed.starts) m ≤ now) ⊎ (next ≤ issue_of work (start_of placed.starts) m))
+      → IsProgressOf before taken_first work k placed now (work.count + 1) (now + 1) → IsProgressOf before taken_first work k placed next 1 next
+  progress_advance placed now next finishes run tick issues h =
       let start = start_of placed.starts in
       let later : now < next = tick.later in
       let short : next < NEVER = tick.tick in
@@ -520,7 +556,7 @@ module _ (load : Load) (forward : IsForward (before_in load) load.work) where
       record {
         starts_count = h.starts_count;
         seats_count = h.seats_count;
-        settled = settled_advance start (worker_of placed.seats) now next later short ends tick.releases h.settled;
+        settled = settled_advance start (worker_of placed.seats) now next later short ends issues h.settled;
         listed = record {
           messages = All-weaker (λ m. IsNumber work m × (start m ≤ now)) (λ m. IsNumber work m × (start m ≤ next))
               (λ m there. (there.0, omega (arith, there.1))) placed.order h.listed.messages;

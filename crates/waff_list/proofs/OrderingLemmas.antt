@@ -34,3 +34,22 @@ not_less_then a b m x h = elim (cases_order a b) [
   | inr (inl less) ↦ absurd (false≢true (sym h ∙ ap (λ o. is_lt (ordering_then o (nat_cmp x m))) (less_is a b less)))
   | inr (inr more) ↦ inl more
 ]
+
+-- what is no less by priority, and then the other way round by issue and by number
+pub not_less_ranked : (r s : ℕ × (ℕ × ℕ)) → is_lt (ordering_then (nat_cmp r.0 s.0) (ordering_then (nat_cmp s.1.0 r.1.0) (nat_cmp s.1.1 r.1.1))) ≡ false
+    → (s.0 < r.0) ⊎ ((r.0 ≡ s.0) × ((r.1.0 < s.1.0) ⊎ ((r.1.0 ≡ s.1.0) × (r.1.1 ≤ s.1.1))))
+not_less_ranked r s h = elim (cases_order r.0 s.0) [
+  | inl same ↦
+      let rest : is_lt (ordering_then (nat_cmp s.1.0 r.1.0) (nat_cmp s.1.1 r.1.1)) ≡ false
+      = subst (λ o. is_lt (ordering_then o (ordering_then (nat_cmp s.1.0 r.1.0) (nat_cmp s.1.1 r.1.1))) ≡ false) (sym (nat_cmp_is r.0 s.0 Equal same)) h in
+      inr (
+        same,
+        elim (not_less_then s.1.0 r.1.0 r.1.1 s.1.1 rest) [
+          | inl sooner ↦ inl sooner
+          | inr level ↦ inr (sym level.0, level.1)
+        ],
+      )
+  | inr (inl less) ↦
+      absurd (false≢true (sym h ∙ ap (λ o. is_lt (ordering_then o (ordering_then (nat_cmp s.1.0 r.1.0) (nat_cmp s.1.1 r.1.1)))) (less_is r.0 s.0 less)))
+  | inr (inr more) ↦ inl more
+]

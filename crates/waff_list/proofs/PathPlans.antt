@@ -26,11 +26,11 @@ path_by_free before work start t m ordered free (suc n) i (j, first, rest) =
     let others : start j + work.cost j ≤ t = path_by_free before work start t m ordered free n j rest in
     omega arith
 
-pub same_paths_same_plans : (near before : Relation) (work : Work) → HaveSamePaths near before → (priority : ℕ → ℕ) (k : ℕ) (start : ℕ → ℕ)
-    → IsListPlan near priority work k start → IsListPlan before priority work k start
-same_paths_same_plans near before work same priority k start h = record {
+pub same_paths_same_plans : (near before : Relation) (work : Work) → HaveSamePaths near before → (first : Relation) (k : ℕ) (start : ℕ → ℕ)
+    → IsListPlan near first work k start → IsListPlan before first work k start
+same_paths_same_plans near before work same first k start h = record {
   within = record {
-    obeys = record { released = h.within.obeys.released; ordered = ordered };
+    obeys = record { issued = h.within.obeys.issued; ordered = ordered };
     within = h.within.within;
   };
   follows = record {
@@ -45,14 +45,14 @@ same_paths_same_plans near before work same priority k start h = record {
     ready_near : (t m : ℕ) → IsReady before work start t m → IsReady near work start t m
     ready_near t m ready = record {
       number = ready.number;
-      released = ready.released;
+      issued = ready.issued;
       free = λ i pair. let path = same.from i m pair in path_by_free before work start t m ordered ready.free path.0 i path.1;
     }
 
-pub shared_plans : (near before : Relation) (work : Work) → ListPlansAreShared near before work
-shared_plans near before work same priority k start = (
-  same_paths_same_plans near before work same priority k start,
-  same_paths_same_plans before near work (record { to = same.from; from = same.to }) priority k start,
+pub shared_plans : (near before first : Relation) (work : Work) → ListPlansAreShared near before first work
+shared_plans near before first work same k start = (
+  same_paths_same_plans near before work same first k start,
+  same_paths_same_plans before near work (record { to = same.from; from = same.to }) first k start,
 )
 
 -- needs have the same paths as the paths through them, and those as the ordered pairs
@@ -63,18 +63,18 @@ paths_of_needs tree assigned needs are = record {
 }
 
 -- needs and the paths through them
-pub plan_over_paths : (near : Relation) (work : Work) (priority : ℕ → ℕ) (k : ℕ) (start : ℕ → ℕ) → IsListPlan near priority work k start → IsListPlan (Path near) priority work k start
-plan_over_paths near work priority k start h =
-    same_paths_same_plans near (Path near) work (record { to = λ i j path. path; from = λ i j pair. path_one (Path near) i j (path_one near i j pair) }) priority k start h
+pub plan_over_paths : (near : Relation) (work : Work) (first : Relation) (k : ℕ) (start : ℕ → ℕ) → IsListPlan near first work k start → IsListPlan (Path near) first work k start
+plan_over_paths near work first k start h =
+    same_paths_same_plans near (Path near) work (record { to = λ i j path. path; from = λ i j pair. path_one (Path near) i j (path_one near i j pair) }) first k start h
 
 -- paths through needs and the ordered pairs
-pub plan_over_pairs : (tree : List Node) (assigned : List ℕ) (needs : List (List ℕ)) (work : Work) (priority : ℕ → ℕ) (k : ℕ) (start : ℕ → ℕ) → AreNeeds tree assigned needs
-    → IsListPlan (Path (IsNeed needs)) priority work k start → IsListPlan (IsOrdered tree assigned) priority work k start
-plan_over_pairs tree assigned needs work priority k start are h =
-    same_paths_same_plans (Path (IsNeed needs)) (IsOrdered tree assigned) work (paths_of_needs tree assigned needs are) priority k start h
+pub plan_over_pairs : (tree : List Node) (assigned : List ℕ) (needs : List (List ℕ)) (work : Work) (first : Relation) (k : ℕ) (start : ℕ → ℕ) → AreNeeds tree assigned needs
+    → IsListPlan (Path (IsNeed needs)) first work k start → IsListPlan (IsOrdered tree assigned) first work k start
+plan_over_pairs tree assigned needs work first k start are h =
+    same_paths_same_plans (Path (IsNeed needs)) (IsOrdered tree assigned) work (paths_of_needs tree assigned needs are) first k start h
 
-pub plan_over_needs : (tree : List Node) (assigned : List ℕ) (needs : List (List ℕ)) (work : Work) (priority : ℕ → ℕ) (k : ℕ) (start : ℕ → ℕ) → AreNeeds tree assigned needs
-    → IsListPlan (IsOrdered tree assigned) priority work k start → IsListPlan (Path (IsNeed needs)) priority work k start
-plan_over_needs tree assigned needs work priority k start are h =
+pub plan_over_needs : (tree : List Node) (assigned : List ℕ) (needs : List (List ℕ)) (work : Work) (first : Relation) (k : ℕ) (start : ℕ → ℕ) → AreNeeds tree assigned needs
+    → IsListPlan (IsOrdered tree assigned) first work k start → IsListPlan (Path (IsNeed needs)) first work k start
+plan_over_needs tree assigned needs work first k start are h =
     let same = paths_of_needs tree assigned needs are in
-    same_paths_same_plans (IsOrdered tree assigned) (Path (IsNeed needs)) work (record { to = same.from; from = same.to }) priority k start h
+    same_paths_same_plans (IsOrdered tree assigned) (Path (IsNeed needs)) work (record { to = same.from; from = same.to }) first k start h

@@ -1,18 +1,42 @@
 -- Tails of messages: each message has one, the greatest cost of a chain that begins with it, and pairs with the same paths have the
 -- same tails.
-use Rattle.std.proofs.Common.{◌≡◌, ℕ, zero, suc, ◌+◌, ◌<◌, ◌≤◌, ◌↔◌, inl, inr, List, [], ◌∷◌, arith, sym}
+use Rattle.std.proofs.Common.{◌≡◌, ℕ, zero, suc, ◌+◌, ◌<◌, ◌≤◌, ◌↔◌, inl, inr, List, [], ◌∷◌, length, arith, sym}
 use Rattle.std.proofs.lemmas.List.Sums.{sum_by-cons}
 use Rattle.waff_model.specs.Tree.{Node}
 use Rattle.waff_assign.specs.Order.{Relation, IsOrdered, PathBy, Path}
 use Rattle.waff_plan.specs.Work.{Work, IsNumber}
-use Rattle.waff_plan.specs.Obeys.{IsForward}
+use Rattle.waff_plan.specs.Obeys.{IsForward, FollowsNone}
 use Rattle.waff_plan.specs.Chain.{LinksOn, IsChain, chain_cost}
 use Rattle.waff_order.specs.Needs.{IsNeed, AreNeeds}
-use Rattle.waff_plan.proofs.Forward.{second_number}
+use Rattle.waff_plan.proofs.NoClients.{linked_before}
 use Rattle.waff_order.proofs.NeedLemmas.{path_one}
 use Rattle.waff_list.specs.ListRule.{HaveSamePaths}
 use Rattle.waff_list.proofs.PathPlans.{paths_of_needs}
 use Rattle.waff_list.specs.Tails.{AreTails, TailsAreOne, TailIsGreatestChain, TailsAreShared}
+
+-- what is before another message has an earlier place
+pub record IsAhead (before : Relation) (work : Work) : Type 0 where
+  pub place : ℕ → ℕ
+  pub to : (m : ℕ) → IsNumber work m → place m ≤ work.count
+  pub second : (i j : ℕ) → before i j → IsNumber work j
+  pub earlier : (i j : ℕ) → before i j → place i < place j
+
+pub ahead_of : (before : Relation) (work : Work) → IsForward before work → IsAhead before work
+ahead_of before work forward = record {
+  place = forward.place;
+  to = forward.to;
+  second = λ i j pair. forward.second i j (inl pair);
+  earlier = λ i j pair. forward.earlier i j (inl pair);
+}
+
+-- so are ordered pairs
+pub ordered_ahead : (tree : List Node) (assigned : List ℕ) (work : Work) → length assigned ≡ work.count → IsAhead (IsOrdered tree assigned) work
+ordered_ahead tree assigned work same = record {
+  place = λ m. m;
+  to = λ m number. number.to;
+  second = λ i j pair. record { from = omega (arith, pair.from, pair.earlier); to = omega (arith, same, pair.to) };
+  earlier = λ i j pair. pair.earlier;
+}
 
 -- where the tails of later messages are the same, so is the tail of a message
 tail_le : (before : Relation) (work : Work) (tail other : ℕ → ℕ) → AreTails before work tail → AreTails before work other → (m : ℕ) → IsNumber work m
@@ -27,44 +51,44 @@ tail_le before work tail other tails others m number same = elim (tails.one m nu
 ]
 
 -- the last n messages have one tail each
-same_from : (before : Relation) (work : Work) → IsForward before work → (tail other : ℕ → ℕ) → AreTails before work tail → AreTails before work other
-    → (n m : ℕ) → IsNumber work m → work.count < m + n → tail m ≡ other m
-same_from before work forward tail other tails others zero m number last = absurd (omega (arith, last, number.to))
-same_from before work forward tail other tails others (suc n) m number last =
+same_from : (before : Relation) (work : Work) (ahead : IsAhead before work) (tail other : ℕ → ℕ) → AreTails before work tail → AreTails before work other
+    → (n m : ℕ) → IsNumber work m → work.count < ahead.place m + n → tail m ≡ other m
+same_from before work ahead tail other tails others zero m number last = absurd (omega (arith, last, ahead.to m number))
+same_from before work ahead tail other tails others (suc n) m number last =
     let rest : (later : ℕ) → before m later → tail later ≡ other later = λ later pair.
-    same_from before work forward tail other tails others n later (second_number before work forward m later pair) (omega (arith, last, forward.earlier m later pair)) in
+    same_from before work ahead tail other tails others n later (ahead.second m later pair) (omega (arith, last, ahead.earlier m later pair)) in
     let back = tail_le before work other tail others tails m number (λ later pair. sym (rest later pair)) in
     omega (arith, tail_le before work tail other tails others m number rest, back)
 
-pub tails_are_one : (before : Relation) (work : Work) → IsForward before work → TailsAreOne before work
-tails_are_one before work forward tail other tails others m number =
-    same_from before work forward tail other tails others work.count m number (omega (arith, number.from))
+pub tails_are_one : (before : Relation) (work : Work) → IsAhead before work → TailsAreOne before work
+tails_are_one before work ahead tail other tails others m number =
+    same_from before work ahead tail other tails others (work.count + 1) m number (omega arith)
 
 -- no chain from a message costs more than its tail
-chain_within : (before : Relation) (work : Work) (tail : ℕ → ℕ) → AreTails before work tail → (m : ℕ) (rest : List ℕ) → LinksOn before work m rest
+chain_within : (before : Relation) (work : Work) → FollowsNone work → (tail : ℕ → ℕ) → AreTails before work tail → (m : ℕ) (rest : List ℕ) → LinksOn before work m rest
     → chain_cost work (m ∷ rest) ≤ tail m
-chain_within before work tail tails m [] number = elim (tails.one m number) [
+chain_within before work none tail tails m [] number = elim (tails.one m number) [
   | inl (_, is) ↦ omega (arith, sum_by-cons work.cost m [])
   | inr (later, _, is) ↦ omega (arith, sum_by-cons work.cost m [])
 ]
-chain_within before work tail tails m (next ∷ rest) h =
-    omega (arith, chain_within before work tail tails next rest h.2, tails.each m next h.1, sum_by-cons work.cost m (next ∷ rest))
+chain_within before work none tail tails m (next ∷ rest) h =
+    omega (arith, chain_within before work none tail tails next rest h.2, tails.each m next (linked_before work none before m next h.1), sum_by-cons work.cost m (next ∷ rest))
 
 -- one costs as much
-chain_from : (before : Relation) (work : Work) → IsForward before work → (tail : ℕ → ℕ) → AreTails before work tail → (n m : ℕ) → IsNumber work m
-    → work.count < m + n → (rest : List ℕ) × IsChain before work (m ∷ rest) × (chain_cost work (m ∷ rest) ≡ tail m)
-chain_from before work forward tail tails zero m number last = absurd (omega (arith, last, number.to))
-chain_from before work forward tail tails (suc n) m number last = elim (tails.one m number) [
+chain_from : (before : Relation) (work : Work) (ahead : IsAhead before work) (tail : ℕ → ℕ) → AreTails before work tail → (n m : ℕ) → IsNumber work m
+    → work.count < ahead.place m + n → (rest : List ℕ) × IsChain before work (m ∷ rest) × (chain_cost work (m ∷ rest) ≡ tail m)
+chain_from before work ahead tail tails zero m number last = absurd (omega (arith, last, ahead.to m number))
+chain_from before work ahead tail tails (suc n) m number last = elim (tails.one m number) [
   | inl (_, is) ↦ ([], number, omega (arith, sum_by-cons work.cost m []))
   | inr (later, pair, is) ↦
-      let chain = chain_from before work forward tail tails n later (second_number before work forward m later pair) (omega (arith, last, forward.earlier m later pair)) in
-      (later ∷ chain.0, (number, pair, chain.1), omega (arith, is, chain.2, sum_by-cons work.cost m (later ∷ chain.0)))
+      let chain = chain_from before work ahead tail tails n later (ahead.second m later pair) (omega (arith, last, ahead.earlier m later pair)) in
+      (later ∷ chain.0, (number, inl pair, chain.1), omega (arith, is, chain.2, sum_by-cons work.cost m (later ∷ chain.0)))
 ]
 
-pub tail_is_greatest_chain : (before : Relation) (work : Work) → IsForward before work → TailIsGreatestChain before work
-tail_is_greatest_chain before work forward tail m tails number = record {
-  each = λ rest chain. chain_within before work tail tails m rest chain;
-  one = chain_from before work forward tail tails work.count m number (omega (arith, number.from));
+pub tail_is_greatest_chain : (before : Relation) (work : Work) → IsAhead before work → FollowsNone work → TailIsGreatestChain before work
+tail_is_greatest_chain before work ahead none tail m tails number = record {
+  each = λ rest chain. chain_within before work none tail tails m rest chain;
+  one = chain_from before work ahead tail tails (work.count + 1) m number (omega arith);
 }
 
 -- along a path the tails fall by the cost of its first message or more

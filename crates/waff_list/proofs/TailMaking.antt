@@ -4,9 +4,10 @@ use Rattle.std.proofs.Common.{◌≡◌, ◌≢◌, ℕ, ◌+◌, ◌-◌, ◌*�
 use Rattle.std.proofs.lemmas.Bool.{cases_eq, cases_lt, cases_order}
 use Rattle.std.proofs.lemmas.List.{get_or_default, length-set, take_more}
 use Rattle.std.proofs.lemmas.List.Elements.{Contains-append_left, Contains-push, Contains-push_cases}
+use Rattle.waff_model.specs.declared.limits.TheConstants.{MAX_MESSAGES}
 use Rattle.waff_assign.specs.Order.{Relation}
 use Rattle.waff_plan.specs.Work.{Work, IsNumber}
-use Rattle.waff_plan.specs.Obeys.{IsForward}
+use Rattle.waff_plan.specs.Obeys.{IsEarlier}
 use Rattle.waff_order.specs.Needs.{needs_of, IsNeed}
 use Rattle.waff_list.specs.Tails.{tail_of, IsBeforeNone, AreTails, AreRaised}
 
@@ -28,21 +29,21 @@ pub record TakesTurn (before : Relation) (work : Work) (old new : ℕ → ℕ) (
   pub kept : (m : ℕ) → 1 ≤ m → m < n → old m ≤ new m
   pub one : (m : ℕ) → 1 ≤ m → m < n → (new m ≡ old m) ⊎ (before m n × (new m ≡ new n))
 
-module _ (before : Relation) (work : Work) (forward : IsForward before work) where
+module _ (before : Relation) (work : Work) (forward : (i j : ℕ) → before i j → IsEarlier work i j) where
   -- no message has had its turn
   pub tails_none : (tail : ℕ → ℕ) → ((m : ℕ) → tail m ≡ 0) → AreTailsAfter before work tail work.count
   tails_none tail none = record {
-    each = λ m later pair after. absurd (omega (arith, after, forward.earlier m later pair, forward.to m later pair));
+    each = λ m later pair after. absurd (omega (arith, after, (forward m later pair).earlier, (forward m later pair).to));
     one = λ m number after. absurd (omega (arith, after, number.to));
-    best = λ m later pair to after. absurd (omega (arith, after, forward.to m later pair));
-    best_one = λ m number to. inl (forward.to m, none m);
+    best = λ m later pair to after. absurd (omega (arith, after, (forward m later pair).to));
+    best_one = λ m number to. inl ((λ later pair. (forward m later pair).to), none m);
     small = λ m number. omega (arith, none m);
   }
 
   -- all have
   pub tails_all : (tail : ℕ → ℕ) → AreTailsAfter before work tail 0 → AreTails before work tail
   tails_all tail h = record {
-    each = λ m later pair. h.each m later pair (omega (arith, forward.from m later pair));
+    each = λ m later pair. h.each m later pair (omega (arith, (forward m later pair).from));
     one = λ m number. h.one m number (omega (arith, number.from));
   }
 
@@ -56,7 +57,7 @@ module _ (before : Relation) (work : Work) (forward : IsForward before work) whe
 
     each_more : (m later : ℕ) → before m later → n - 1 < m → work.cost m + new later ≤ new m
     each_more m later pair after =
-        let earlier = forward.earlier m later pair in
+        let earlier = (forward m later pair).earlier in
         let kept = turn.later later (omega (arith, after, earlier)) in
         elim (cases_eq m n) [
           | inl here ↦
@@ -69,7 +70,7 @@ module _ (before : Relation) (work : Work) (forward : IsForward before work) whe
 
     one_here : (IsBeforeNone before n × (new n ≡ work.cost n)) ⊎ ((later : ℕ) × before n later × (new n ≡ work.cost n + new later))
     one_here = elim (h.best_one n number (omega arith)) [
-      | inl (none, zero) ↦ inl ((λ later pair. absurd (omega (arith, forward.earlier n later pair, none later pair))), omega (arith, zero, turn.here))
+      | inl (none, zero) ↦ inl ((λ later pair. absurd (omega (arith, (forward n later pair).earlier, none later pair))), omega (arith, zero, turn.here))
       | inr (later, pair, after, was) ↦ inr (later, pair, omega (arith, was, turn.here, turn.later later after))
     ]
 
@@ -77,7 +78,7 @@ module _ (before : Relation) (work : Work) (forward : IsForward before work) whe
         → (IsBeforeNone before m × (new m ≡ work.cost m)) ⊎ ((later : ℕ) × before m later × (new m ≡ work.cost m + new later))
     one_after m m_number after = elim (h.one m m_number after) [
       | inl (none, was) ↦ inl (none, turn.later m after ∙ was)
-      | inr (later, pair, was) ↦ inr (later, pair, omega (arith, was, turn.later m after, turn.later later (omega (arith, after, forward.earlier m later pair))))
+      | inr (later, pair, was) ↦ inr (later, pair, omega (arith, was, turn.later m after, turn.later later (omega (arith, after, (forward m later pair).earlier))))
     ]
 
     one_more : (m : ℕ) → IsNumber work m → n - 1 < m
@@ -92,7 +93,7 @@ module _ (before : Relation) (work : Work) (forward : IsForward before work) whe
       | inl here ↦ rw here (turn.each m (subst (λ x. before m x) here pair))
       | inr other ↦
           let past : n < later = omega (arith, after, other) in
-          omega (arith, turn.later later past, h.best m later pair (omega (arith, early)) past, turn.kept m (forward.from m later pair) (omega (arith, early)))
+          omega (arith, turn.later later past, h.best m later pair (omega (arith, early)) past, turn.kept m ((forward m later pair).from) (omega (arith, early)))
     ]
 
     best_one_more : (m : ℕ) → IsNumber work m → m ≤ n - 1
@@ -126,8 +127,8 @@ module _ (before : Relation) (work : Work) (forward : IsForward before work) whe
     tails_more = record { each = each_more; one = one_more; best = best_more; best_one = best_one_more; small = small_more }
 
   -- no tail is great
-  pub tails_small : (tails : List ℕ) → length tails ≡ work.count → work.count ≤ 65536 → AreTailsAfter before work (tail_of tails) 0
-      → All (λ tail. tail ≤ 2 ^ 48) tails
+  pub tails_small : (tails : List ℕ) → length tails ≡ work.count → work.count ≤ MAX_MESSAGES → AreTailsAfter before work (tail_of tails) 0
+      → All (λ tail. tail ≤ 2 ^ 52) tails
   tails_small tails count few h = λ k d within.
       let here : get_or tails (k + 1 - 1) 0 ≤ (work.count - 0) * 2 ^ 32 = h.small (k + 1) (record { from = omega arith; to = omega arith }) in
       let at : k + 1 - 1 ≡ k = omega arith in
@@ -202,7 +203,7 @@ module _ (old new messages : List ℕ) (tail at : ℕ) (inside : at < length mes
   }
 
 -- a message that has its cost, and whose needs have been raised to its tail, has had its turn
-module _ (needs : List (List ℕ)) (work : Work) (forward : IsForward (IsNeed needs) work) (old new : List ℕ) (n tail : ℕ) (from : 1 ≤ n) (to : n ≤ length old)
+module _ (needs : List (List ℕ)) (work : Work) (forward : (i j : ℕ) → IsNeed needs i j → IsEarlier work i j) (old new : List ℕ) (n tail : ℕ) (from : 1 ≤ n) (to : n ≤ length old)
     (sum : tail ≡ tail_of old n + work.cost n) (h : AreRaised (set old (n - 1) tail) (needs_of needs n) tail new) where
   set_here : tail_of (set old (n - 1) tail) n ≡ tail
   set_here = get_or-set_same old (n - 1) tail 0 (omega arith)
@@ -222,7 +223,7 @@ module _ (needs : List (List ℕ)) (work : Work) (forward : IsForward (IsNeed ne
   is_later : (m : ℕ) → n < m → tail_of new m ≡ tail_of old m
   is_later m after = elim (h.one m (omega arith)) [
     | inl kept ↦ kept ∙ set_other m (omega arith) (omega arith)
-    | inr (listed, _) ↦ absurd (omega (arith, after, forward.earlier m n (is_need m listed)))
+    | inr (listed, _) ↦ absurd (omega (arith, after, (forward m n (is_need m listed)).earlier))
   ]
 
   pub takes_turn : TakesTurn (IsNeed needs) work (tail_of old) (tail_of new) n

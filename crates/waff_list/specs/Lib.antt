@@ -11,3 +11,7 @@ pub mod Planning
 pub mod Unique
 pub mod Tails
 pub mod Rules
+pub mod ByIssue
+pub mod Clients
+pub mod Serving
+pub mod Issuing

@@ -1,8 +1,8 @@
--- The list rule for k workers (Graham 1969), for any priority of the messages: whenever a worker is
--- free and messages are ready, the ready message that is taken first starts.
+-- The list rule for k workers (Graham 1969), for any relation that says which of two messages is taken
+-- first: whenever a worker is free and messages are ready, the one that is taken first starts.
 use Rattle.std.specs.Prelude.{◌≡◌, ◌≢◌, ℕ, ◌<◌, ◌≤◌, ◌⊎◌}
 use Rattle.waff_assign.specs.Order.{Path, Relation}
-use Rattle.waff_plan.specs.Work.{Work, IsNumber, finish_of}
+use Rattle.waff_plan.specs.Work.{Work, IsNumber, finish_of, issue_of}
 use Rattle.waff_plan.specs.Workers.{running, IsWorkerPlan}
 
 -- of two ready messages i is taken first: its priority is higher, or they have the same and i
@@ -14,26 +14,30 @@ IsTakenFirst priority i j = (priority j < priority i) ⊎ ((priority i ≡ prior
 abbrev pub arrival : ℕ → ℕ
 arrival m = 0
 
--- m is ready at the tick t: its release is no later than t, and each message that is before it has
--- finished by t
+-- m is ready at the tick t: it is issued by t, and each message that is before it has finished by t
 pub record IsReady (before : Relation) (work : Work) (start : ℕ → ℕ) (t m : ℕ) : Type 0 where
   pub number : IsNumber work m
-  pub released : work.release m ≤ t
+  pub issued : issue_of work start m ≤ t
   pub free : (i : ℕ) → before i m → finish_of work start i ≤ t
 
--- where a message is ready at t and starts later, k messages run at t, and none that it is taken
--- before starts at t
-pub record FollowsListRule (before : Relation) (priority : ℕ → ℕ)
+-- no worker idles while a message is ready: where one is ready at t and starts later, k messages run
+-- at t
+abbrev pub KeepsBusy : Relation → Work → ℕ → (ℕ → ℕ) → Type 0
+KeepsBusy before work k start =
+    (t m : ℕ) → IsReady before work start t m → t < start m → running work start t ≡ k
+
+-- and where a message is ready at t and starts later, none that it is taken before starts at t
+pub record FollowsListRule (before first : Relation)
     (work : Work) (k : ℕ) (start : ℕ → ℕ) : Type 0 where
-  pub busy : (t m : ℕ) → IsReady before work start t m → t < start m → running work start t ≡ k
+  pub busy : KeepsBusy before work k start
   pub in_turn : (t m other : ℕ) → IsReady before work start t m → t < start m
-      → IsNumber work other → IsTakenFirst priority m other → start other ≢ t
+      → IsNumber work other → first m other → start other ≢ t
 
 -- a list plan for k: a worker plan for k that follows the list rule
-pub record IsListPlan (before : Relation) (priority : ℕ → ℕ)
+pub record IsListPlan (before first : Relation)
     (work : Work) (k : ℕ) (start : ℕ → ℕ) : Type 0 where
   pub within : IsWorkerPlan before work k start
-  pub follows : FollowsListRule before priority work k start
+  pub follows : FollowsListRule before first work k start
 
 -- each pair of one set of pairs is a path through the other
 pub record HaveSamePaths (near before : Relation) : Type 0 where

@@ -3,6 +3,7 @@ use Rattle.std.specs.Prelude.{ℕ, ◌-◌, List, slice_index}
 use Rattle.waff_assign.specs.Order.{Relation}
 use Rattle.waff_plan.specs.Work.{Work}
 use Rattle.waff_order.specs.Needs.{IsNeed}
+use Rattle.waff_list.specs.ListRule.{IsTakenFirst}
 
 -- messages with their needs, their priorities and their work, for so many workers
 pub record Load : Type 0 where
@@ -22,7 +23,13 @@ release_of releases m = slice_index releases (m - 1)
 -- work with these releases in place of its own
 abbrev pub released_at : List ℕ → Work → Work
 released_at releases work =
-    record { count = work.count; cost = work.cost; release = λ m. release_of releases m }
+    record {
+      count = work.count;
+      cost = work.cost;
+      release = λ m. release_of releases m;
+      follows = work.follows;
+      think = work.think;
+    }
 
 -- a message is before those that need it
 abbrev pub before_in : Load → Relation
@@ -30,6 +37,10 @@ before_in load = IsNeed load.needs
 
 abbrev pub priority_in : Load → ℕ → ℕ
 priority_in load = priority_of load.priorities
+
+-- of two ready messages the one of the higher priority is taken first
+abbrev pub first_in : Load → Relation
+first_in load = IsTakenFirst (priority_in load)
 
 -- the start and the worker of each message, and the messages that are placed, in their order
 pub record Placed : Type 0 where

@@ -5,17 +5,19 @@
 ghost use Rattle.std.specs.Prelude.{◌≡◌, ℕ, List, length};
 ghost use Rattle.waff_model.specs.Tree.{Node};
 ghost use Rattle.waff_assign.specs.Order.{IsOrdered, Path};
+ghost use Rattle.waff_plan.specs.Obeys.{FollowsEarlier};
 ghost use Rattle.waff_plan.specs.Work.{Work};
 ghost use Rattle.waff_order.specs.Needs.{IsNeed, AreNeeds};
 ghost use Rattle.waff_list.specs.Rules.{IsPlanBy};
-ghost use Rattle.waff_list.specs.Bound.{ListPlansAreWithinBound};
+ghost use Rattle.waff_list.specs.Bound.{BusyPlansAreWithinBound};
 ghost use Rattle.waff_list.specs.declared.rule.Rule.{Rule};
 
-/// The list bound: k times the length of a list plan is at most the total, k times the release of
+/// The list bound: k times the length of a list plan, or of any other plan in which no worker idles
+/// while a message is ready, is at most the total, k times the release of
 /// its printed chain, and k - 1 times the cost of that chain.
 pub fn list_plans_are_within_bound()
     ensures { (tree : List Node) (assigned : List ℕ) (work : Work) → length assigned ≡ work.count
-        → ListPlansAreWithinBound (IsOrdered tree assigned) work }
+        → FollowsEarlier work → BusyPlansAreWithinBound (IsOrdered tree assigned) work }
 {}
 
 /// The plan by a rule over the paths through the needs of messages is the plan by that rule over

@@ -13,14 +13,18 @@
 //!   tick), `releases` and `ticks` (when something happens), `work` (costs and releases).
 //! - `tails`: the tail of each message, which is its priority under the rule of the longest tail.
 //! - `laws`: the bound, and that needs make the same plans as all pairs; `tail_laws`: what tails
-//!   are; `unique`: that there is one list plan.
+//!   are; `unique`: that there is one list plan; `issue_laws`: of list plans in the order in which
+//!   clients issue messages.
 #![tactic(auto)]
 
 mod candidates;
 mod chosen;
+mod clients;
 mod dependents;
 mod finishes;
 mod idle;
+pub mod issue_laws;
+mod issues;
 pub mod laws;
 mod list;
 mod planner;
@@ -29,6 +33,8 @@ mod releases;
 mod rule;
 pub mod tail_laws;
 mod tails;
+mod tails_by_client;
+mod takers;
 mod task;
 mod ticks;
 pub mod unique;
@@ -36,6 +42,8 @@ mod waiting;
 mod work;
 mod worker_plan;
 
+pub use clients::Clients;
 pub use list::{list_chain, list_plan, list_plan_by};
 pub use rule::Rule;
+pub use tails_by_client::client_tails;
 pub use worker_plan::WorkerPlan;

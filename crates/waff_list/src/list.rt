@@ -6,8 +6,8 @@ ghost use Rattle.waff_plan.specs.Bound.{IsWithinBound, IsWithinRatio, IsWithinTw
 ghost use Rattle.waff_plan.specs.Chain.{IsChain, IsListed, IsPrinted, chain_cost, chain_release};
 ghost use Rattle.waff_plan.specs.Timetable.{starts_in, timings_of, work_in};
 ghost use Rattle.waff_order.specs.Needs.{IsNeed};
-ghost use Rattle.waff_list.specs.Bound.{IsSomeListPlan};
-ghost use Rattle.waff_list.specs.ListRule.{IsListPlan, arrival};
+ghost use Rattle.waff_list.specs.Bound.{IsBusyPlan};
+ghost use Rattle.waff_list.specs.ListRule.{IsListPlan, IsTakenFirst, arrival};
 ghost use Rattle.waff_list.specs.Rules.{IsPlanBy};
 ghost use Rattle.waff_list.specs.Seats.{IsInOrder};
 ghost use Rattle.waff_list.specs.Seating.{worker_of};
@@ -38,7 +38,8 @@ pub fn list_plan(
     ensures timings { IfOk result (λ made. made.plan.timings ≡ timings_of trace.now.messages) }
     ensures workers { IfOk result (λ made. made.workers ≡ k) }
     ensures follows { IfOk result (λ made. IsListPlan
-        (Path (IsNeed needs.now)) arrival (work_in made.plan) k (starts_in made.plan)) }
+        (Path (IsNeed needs.now)) (IsTakenFirst arrival) (work_in made.plan) k
+        (starts_in made.plan)) }
     ensures seated { IfOk result (λ made. AreSeated
         (work_in made.plan) (starts_in made.plan) (worker_of made.seats)) }
     ensures order { IfOk result (λ made.
@@ -77,8 +78,8 @@ pub fn list_plan_by(
     Ok(WorkerPlan::new(plan, k, made.seats, made.order))
 }
 
-/// The printed chain of the list plan. Where the plan follows the list rule over the ordered pairs
-/// of this tree and assignment, its length is within the list bound of this chain, and so within a
+/// The printed chain of the list plan. Where no worker idles while a message is ready, as in every plan
+/// that follows the list rule, over the ordered pairs of this tree and assignment, its length is within the list bound of this chain, and so within a
 /// constant ratio of that of any worker plan.
 pub fn list_chain(
     alloc: Global,
@@ -98,15 +99,15 @@ pub fn list_chain(
         chain.cost ≡ chain_cost (work_in made.now.plan) chain.messages) }
     ensures release { IfOk result (λ chain.
         chain.release ≡ chain_release (work_in made.now.plan) chain.messages) }
-    ensures bound { IfOk result (λ chain. IsSomeListPlan (IsOrdered tree.now assigned.now)
+    ensures bound { IfOk result (λ chain. IsBusyPlan (IsOrdered tree.now assigned.now)
         (work_in made.now.plan) made.now.workers (starts_in made.now.plan)
         → IsWithinBound
         (work_in made.now.plan) made.now.workers (starts_in made.now.plan) chain.messages) }
-    ensures twice { IfOk result (λ _. IsSomeListPlan (IsOrdered tree.now assigned.now)
+    ensures twice { IfOk result (λ _. IsBusyPlan (IsOrdered tree.now assigned.now)
         (work_in made.now.plan) made.now.workers (starts_in made.now.plan)
         → IsWithinTwice (IsOrdered tree.now assigned.now)
         (work_in made.now.plan) made.now.workers (starts_in made.now.plan)) }
-    ensures ratio { IfOk result (λ _. IsSomeListPlan (IsOrdered tree.now assigned.now)
+    ensures ratio { IfOk result (λ _. IsBusyPlan (IsOrdered tree.now assigned.now)
         (work_in made.now.plan) made.now.workers (starts_in made.now.plan)
         → IsWithinRatio (IsOrdered tree.now assigned.now)
         (work_in made.now.plan) made.now.workers (starts_in made.now.plan)) }

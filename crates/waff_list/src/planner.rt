@@ -1,8 +1,9 @@
 //! The planner: at each tick at which a message finishes or is released, ready messages start on the
 //! workers that are free, those first that are taken first.
 
-ghost use Rattle.std.specs.Prelude.{◌≡◌, ℕ, ◌+◌, ◌^◌, ◌<◌, ◌≤◌, [], IfOk, OnOk, length, map};
+ghost use Rattle.std.specs.Prelude.{◌≡◌, ℕ, ◌+◌, ◌^◌, ◌<◌, ◌≤◌, [], All, IfOk, OnOk, length, map};
 ghost use Rattle.waff_model.specs.Numbers.{IsAmongFirst};
+ghost use Rattle.waff_model.specs.declared.limits.TheConstants.{MAX_RELEASE};
 ghost use Rattle.waff_plan.specs.Bound.{IsWorkers};
 ghost use Rattle.waff_order.specs.Needs.{needs_of};
 ghost use Rattle.waff_list.specs.Load.{Load, released_at};
@@ -38,6 +39,7 @@ pub(crate) fn make(
 ) -> Result<Progress, AllocError>
     requires lengths { length needs.now ≡ length trace.now.messages }
     requires workers { IsWorkers k }
+    requires small { All (λ release. release ≤ MAX_RELEASE) releases.items }
     ensures { IfOk result (λ made. IsMade (record {
       needs = needs.now;
       priorities = priorities.items;

@@ -19,7 +19,7 @@ pub(crate) fn tails(alloc: Global, needs: &Needs, trace: &Trace) -> Result<Vec<u
         (work_of_messages trace.now.messages) (tail_of tails.items)) }
     ensures paths { IfOk result (λ tails. AreTails (Path (IsNeed needs.now))
         (work_of_messages trace.now.messages) (tail_of tails.items)) }
-    ensures small { IfOk result (λ tails. All (λ tail. tail ≤ 2 ^ 48) tails.items) }
+    ensures small { IfOk result (λ tails. All (λ tail. tail ≤ 2 ^ 52) tails.items) }
 {
     let mut tails = vec![in alloc; 0; needs.len() as usize]?;
     for m in (1..needs.len() + 1).rev() {

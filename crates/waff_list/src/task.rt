@@ -1,6 +1,7 @@
 //! What is to be planned: the messages of a trace with their needs.
 
-ghost use Rattle.std.specs.Prelude.{◌≡◌, ◌^◌, ◌<◌, ◌≤◌, length, IfOk};
+ghost use Rattle.std.specs.Prelude.{◌≡◌, ◌≤◌, length, All, IfOk};
+ghost use Rattle.waff_model.specs.declared.limits.TheConstants.{MAX_RELEASE};
 ghost use Rattle.waff_plan.specs.Bound.{IsWorkers};
 ghost use Rattle.waff_order.specs.Needs.{AreLists};
 ghost use Rattle.waff_list.specs.Load.{release_of};
@@ -26,6 +27,7 @@ pub(crate) struct Task<'a> {
     ghost linked: { AreLinked dependents },
     ghost told: { AreDependents needs.now (trails dependents) (length needs.now) },
     ghost some: { IsWorkers workers },
+    ghost small: { All (λ release. release ≤ MAX_RELEASE) releases.items },
 }
 
 impl<'a> Task<'a> {
@@ -39,6 +41,7 @@ impl<'a> Task<'a> {
     ) -> Result<Self, AllocError>
         requires lengths { length needs.now ≡ length trace.now.messages }
         requires workers { IsWorkers k }
+        requires small { All (λ release. release ≤ MAX_RELEASE) releases.items }
         ensures needs { IfOk result (λ task. task.needs.now ≡ needs.entry.now) }
         ensures trace { IfOk result (λ task. task.trace.now ≡ trace.entry.now) }
         ensures releases { IfOk result (λ task. task.releases.items ≡ releases.items) }
@@ -58,7 +61,7 @@ impl<'a> Task<'a> {
     pub fn release(&self, m: u32) -> u64
         requires { 1 ≤ m }
         ensures release { result ≡ release_of self.now.releases.items m }
-        ensures small { result < 2 ^ 32 }
+        ensures small { result ≤ MAX_RELEASE }
     {
         match self.releases.get(m as usize - 1) {
             Some(release) => u64::from(*release),

@@ -4,6 +4,7 @@
 ghost use Rattle.std.specs.Prelude.{◌≡◌, ℕ, ◌<◌, ◌↔◌, List, length};
 ghost use Rattle.waff_model.specs.Tree.{Node};
 ghost use Rattle.waff_assign.specs.Order.{IsOrdered, Path};
+ghost use Rattle.waff_plan.specs.Obeys.{FollowsEarlier};
 ghost use Rattle.waff_plan.specs.Work.{Work};
 ghost use Rattle.waff_order.specs.Needs.{IsNeed, AreNeeds};
 ghost use Rattle.waff_list.specs.ListRule.{IsTakenFirst, IsListPlan, arrival};
@@ -21,28 +22,31 @@ pub fn one_is_taken_first()
 /// needs, whichever needs they are, and by each of the rules.
 pub fn list_plan_is_one()
     ensures pairs { (tree : List Node) (assigned : List ℕ) (work : Work)
-        → length assigned ≡ work.count
-        → EachRuns work → ListPlanIsOne (IsOrdered tree assigned) work }
+        (priority other : ℕ → ℕ) → length assigned ≡ work.count → FollowsEarlier work
+        → EachRuns work → ListPlanIsOne
+        (IsOrdered tree assigned) (IsTakenFirst priority) (IsTakenFirst other) work }
     ensures needs { (tree : List Node) (assigned : List ℕ) (needs : List (List ℕ)) (work : Work)
-        → length assigned ≡ work.count → EachRuns work → AreNeeds tree assigned needs
-        → ListPlanIsOne (Path (IsNeed needs)) work }
+        (priority other : ℕ → ℕ) → length assigned ≡ work.count → FollowsEarlier work
+        → EachRuns work → AreNeeds tree assigned needs → ListPlanIsOne
+        (Path (IsNeed needs)) (IsTakenFirst priority) (IsTakenFirst other) work }
     ensures rules { (tree : List Node) (assigned : List ℕ) (work : Work)
-        → length assigned ≡ work.count
+        → length assigned ≡ work.count → FollowsEarlier work
         → EachRuns work → RulePlanIsOne (IsOrdered tree assigned) work }
 {}
 
 /// Pairs with the same paths have the same list plans: any two sets of pairs, each given as lists
 /// of needs; those of two hierarchies; and the needs and the ordered pairs of one.
 pub fn same_paths_have_the_same_plans()
-    ensures sets { (needs others : List (List ℕ)) (work : Work)
-        → ListPlansAreShared (IsNeed needs) (IsNeed others) work }
+    ensures sets { (needs others : List (List ℕ)) (work : Work) (priority : ℕ → ℕ)
+        → ListPlansAreShared (IsNeed needs) (IsNeed others) (IsTakenFirst priority) work }
     ensures hierarchies { (tree other_tree : List Node)
-        (assigned other_assigned : List ℕ) (work : Work)
-        → ListPlansAreShared (IsOrdered tree assigned) (IsOrdered other_tree other_assigned) work }
+        (assigned other_assigned : List ℕ) (work : Work) (priority : ℕ → ℕ)
+        → ListPlansAreShared (IsOrdered tree assigned) (IsOrdered other_tree other_assigned)
+        (IsTakenFirst priority) work }
     ensures needs { (tree : List Node) (assigned : List ℕ) (needs : List (List ℕ)) (work : Work)
         (priority : ℕ → ℕ) (k : ℕ) (start : ℕ → ℕ) → AreNeeds tree assigned needs
-        → IsListPlan (Path (IsNeed needs)) priority work k start
-        ↔ IsListPlan (IsOrdered tree assigned) priority work k start }
+        → IsListPlan (Path (IsNeed needs)) (IsTakenFirst priority) work k start
+        ↔ IsListPlan (IsOrdered tree assigned) (IsTakenFirst priority) work k start }
 {}
 
 /// The workers of the messages of a plan are one.

@@ -1,6 +1,7 @@
 //! The costs and the releases of the messages of a trace, in ticks.
 
-ghost use Rattle.std.specs.Prelude.{◌≡◌, ◌^◌, ◌<◌, ◌≤◌, length, map, IfOk};
+ghost use Rattle.std.specs.Prelude.{◌≡◌, ◌^◌, ◌<◌, ◌≤◌, length, map, All, IfOk};
+ghost use Rattle.waff_model.specs.declared.limits.TheConstants.{MAX_RELEASE};
 ghost use Rattle.waff_model.specs.Numbers.{IsAmongFirst};
 ghost use Rattle.waff_list.specs.Progress.{work_of_messages};
 
@@ -22,8 +23,10 @@ pub(crate) fn cost_of(trace: &Trace, m: u32) -> u64
 
 /// The tick before which each message may not start.
 pub(crate) fn releases_of(alloc: Global, trace: &Trace) -> Result<Vec<u32>, AllocError>
-    ensures { IfOk result (λ releases. releases.items
+    ensures releases { IfOk result (λ releases. releases.items
         ≡ map (λ message. message.release) trace.now.messages) }
+    ensures small { IfOk result (λ releases.
+        All (λ release. release ≤ MAX_RELEASE) releases.items) }
 {
     let mut releases = Vec::with_capacity(alloc, trace.len() as usize)?;
     for m in 1..trace.len() + 1 {

@@ -1,23 +1,26 @@
 -- Rows that are not refused give a layout.
-use Rattle.std.proofs.Common.{◌≡◌, ◌≢◌, ℕ, suc, zero-add, ◌+◌, ◌<◌, ◌≤◌, inl, inr, Bool, true, false, not, cond, nat_lt, ◌==◌, ◌||◌, List, [], ◌∷◌, length, map, take, get_or, Some, None, unwrap_or, find, All, AllPairs, Contains, count_by, sum_by, refl, ap, sym, ◌∙◌, arith}
+use Rattle.std.proofs.Common.{◌≡◌, ◌≢◌, ℕ, suc, zero-add, ◌+◌, ◌*◌, ◌<◌, ◌≤◌, inl, inr, Bool, true, false, not, cond, nat_lt, ◌==◌, ◌||◌, List, [], ◌∷◌, length, map, take, get_or, Some, None, unwrap_or, find, All, AllPairs, Contains, count_by, sum_by, refl, ap, sym, ◌∙◌, arith}
 use Rattle.std.specs.Prelude.{is_none, ℤ, pos, negsuc}
 use Rattle.std.specs.List.{list_any}
 use Rattle.std.specs.Str.{bytes_eq}
 use Rattle.std.proofs.lemmas.Bool.{cases_Bool, or_parts}
 use Rattle.std.proofs.lemmas.Bool.Decides.{nat_tests}
 use Rattle.std.proofs.lemmas.List.{get_or-take, get_or-map, length-map, length-take}
-use Rattle.std.proofs.lemmas.List.Elements.{All-map, All-contains}
+use Rattle.std.proofs.lemmas.List.Elements.{All-map, All-weaker, All-contains}
 use Rattle.std.proofs.lemmas.List.Folds.{list_any_at, fold-map}
-use Rattle.std.proofs.lemmas.List.Sums.{sum_by-cons, sum_by_more_le, get_or-le-sum_by}
+use Rattle.std.proofs.lemmas.List.Sums.{sum_by-le, sum_by-cons, sum_by_more_le, get_or-le-sum_by}
 use Rattle.std.proofs.lemmas.Slice.Eq.{bytes_eq-Decides}
-use Rattle.waff_model.specs.declared.limits.TheConstants.{MAX_SPACES, MAX_SIZE, MAX_CELLS, MAX_UNIT, MAX_OWNERS}
+use Rattle.waff_model.specs.declared.limits.TheConstants.{MAX_SPACES, MAX_LARGE_SIZE, MAX_OWNERS}
+use Rattle.waff_model.specs.declared.format.Format.{Format}
+use Rattle.waff_model.specs.declared.format.Format.TheVariants.{F1, F2}
 use Rattle.waff_model.specs.declared.kind.Kind.{Kind}
 use Rattle.waff_model.specs.declared.layout_rows.SpaceSpec.{SpaceSpec}
 use Rattle.waff_model.specs.declared.layout_rows.MapSpec.{MapSpec}
 use Rattle.waff_model.specs.Names.{is_name}
 use Rattle.waff_model.specs.Tree.{Node, IsTree, number_of}
-use Rattle.waff_model.specs.Layout.{Space, IsSpace, IsLayout}
-use Rattle.waff_model.specs.LayoutRefusal.{within, size_of, spaces_named, maps_named, layout_checks, layout_refusal, are_bad_owners}
+use Rattle.waff_model.specs.Formats.{max_size_of, max_unit_of}
+use Rattle.waff_model.specs.Layout.{Hierarchy, Space, IsSpace, IsLayout, HasFewCells}
+use Rattle.waff_model.specs.LayoutRefusal.{within, spaces_named, maps_named, layout_checks, layout_refusal, are_bad_owners, has_too_many_cells}
 use Rattle.waff_model.specs.LayoutOf.{owners_of, space_of, hierarchy_of}
 use Rattle.waff_model.proofs.RefusalLemmas.{none_holds}
 
@@ -84,16 +87,16 @@ are_owners tree names good =
           (λ k d inside. is_affinity tree (get_or names k d) (fails_each (λ name. is_none (number_of tree name)) names sizes.1 k d inside));
     }
 
-module _ (tree : List Node) (maps : List MapSpec) where
+module _ (format : Format) (tree : List Node) (maps : List MapSpec) where
   -- a space of a name and a size within the limits, which has a map, has a space's numbers
-  is_space : (space : SpaceSpec) → not (is_name space.name) ≡ false → is_none (within space.size MAX_SIZE) ≡ false → (maps_named maps space.name == 0) ≡ false
-      → All (λ m. is_none (within m.unit MAX_UNIT) ≡ false) maps → All (λ m. are_bad_owners tree m.to ≡ false) maps
-      → IsSpace tree (space_of tree maps space)
+  is_space : (space : SpaceSpec) → not (is_name space.name) ≡ false → is_none (within space.size (max_size_of format)) ≡ false → (maps_named maps space.name == 0) ≡ false
+      → All (λ m. is_none (within m.unit (max_unit_of format)) ≡ false) maps → All (λ m. are_bad_owners tree m.to ≡ false) maps
+      → IsSpace format tree (space_of format tree maps space)
   is_space space name size mapped units owners =
       let mine = found (λ m. bytes_eq m.space space.name) maps mapped in
-      let unit = is_within mine.0.unit MAX_UNIT (All-contains (λ m. is_none (within m.unit MAX_UNIT) ≡ false) maps mine.0 units mine.2) in
+      let unit = is_within mine.0.unit (max_unit_of format) (All-contains (λ m. is_none (within m.unit (max_unit_of format)) ≡ false) maps mine.0 units mine.2) in
       let to = are_owners tree mine.0.to (All-contains (λ m. are_bad_owners tree m.to ≡ false) maps mine.0 owners mine.2) in
-      let cells = is_within space.size MAX_SIZE size in
+      let cells = is_within space.size (max_size_of format) size in
       record {
         named = not_false (is_name space.name) name;
         filled = cells.0;
@@ -106,41 +109,60 @@ module _ (tree : List Node) (maps : List MapSpec) where
       }
 
   -- spaces that are named once have different names
-  are_different : (spaces : List SpaceSpec) → All (λ s. nat_lt 1 (spaces_named spaces s.name) ≡ false) spaces → AllPairs (λ s t. s.name ≢ t.name) (map (space_of tree maps) spaces)
+  are_different : (spaces : List SpaceSpec) → All (λ s. nat_lt 1 (spaces_named spaces s.name) ≡ false) spaces → AllPairs (λ s t. s.name ≢ t.name) (map (space_of format tree maps) spaces)
   are_different spaces once i j d before inside same =
       let none : SpaceSpec = record { name = []; size = pos 0 } in
       let inside' : j < length spaces = simp length-map at inside in
       let before' : i < length spaces = omega arith in
       let name : List ℕ = (get_or spaces i none).name in
-      let name_i : (get_or (map (space_of tree maps) spaces) i d).name ≡ name = ap (λ s. s.name) (get_or-map (space_of tree maps) spaces i none d before') in
-      let name_j : (get_or (map (space_of tree maps) spaces) j d).name ≡ (get_or spaces j none).name = ap (λ s. s.name) (get_or-map (space_of tree maps) spaces j none d inside') in
+      let name_i : (get_or (map (space_of format tree maps) spaces) i d).name ≡ name = ap (λ s. s.name) (get_or-map (space_of format tree maps) spaces i none d before') in
+      let name_j : (get_or (map (space_of format tree maps) spaces) j d).name ≡ (get_or spaces j none).name = ap (λ s. s.name) (get_or-map (space_of format tree maps) spaces j none d inside') in
       let same_name : (get_or spaces j none).name ≡ name = sym name_j ∙ sym same ∙ name_i in
       let twice : nat_lt 1 (spaces_named spaces name) ≡ true = count_two (λ s. bytes_eq s.name name) spaces i j none before inside' ((bytes_eq-Decides name name).1 refl) ((bytes_eq-Decides (get_or spaces j none).name name).1 same_name) in
       let not_twice : nat_lt 1 (spaces_named spaces name) ≡ false = once i none before' in
       cc
 
+-- no format has larger spaces
+pub size_below : (format : Format) → max_size_of format ≤ MAX_LARGE_SIZE
+size_below F1 = omega arith
+size_below F2 = omega arith
+
+-- how many cells there are at most
+pub cells_within : (layout : Hierarchy) → IsLayout layout → sum_by (λ space. space.size) layout.spaces ≤ MAX_SPACES * MAX_LARGE_SIZE
+cells_within layout is =
+    let each : All (λ (space : Space). space.size ≤ MAX_LARGE_SIZE) layout.spaces
+    = All-weaker (IsSpace layout.format layout.tree) (λ space. space.size ≤ MAX_LARGE_SIZE) (λ space h. omega (arith, h.size, size_below layout.format)) layout.spaces is.each in
+    let sum = sum_by-le (λ (space : Space). space.size) MAX_LARGE_SIZE layout.spaces each in
+    omega (arith, sum, is.few)
+
+-- where there are not too many cells, they are few in format 1
+has_few_cells : (format : Format) (tree : List Node) (maps : List MapSpec) (spaces : List SpaceSpec) → has_too_many_cells format spaces ≡ false
+    → format ≡ F1 → HasFewCells (map (space_of format tree maps) spaces)
+has_few_cells F1 tree maps spaces few is = rw (fold-map (λ a (s : Space). a + s.size) (space_of F1 tree maps) 0 spaces) (grind (arith, nat_tests, few))
+has_few_cells F2 tree maps spaces few is = absurd (cc)
+
 -- rows that are not refused give a layout
-pub is_layout : (kind : Kind) (tree : List Node) (spaces : List SpaceSpec) (maps : List MapSpec) → IsTree tree → layout_refusal tree spaces maps ≡ None → IsLayout (hierarchy_of kind tree spaces maps)
-is_layout kind tree spaces maps is_tree none =
-    let checks = none_holds (layout_checks tree spaces maps) none in
+pub is_layout : (format : Format) (kind : Kind) (tree : List Node) (spaces : List SpaceSpec) (maps : List MapSpec) → IsTree tree → layout_refusal format tree spaces maps ≡ None → IsLayout (hierarchy_of format kind tree spaces maps)
+is_layout format kind tree spaces maps is_tree none =
+    let checks = none_holds (layout_checks format tree spaces maps) none in
     let counts : Bool = length spaces == 0 || nat_lt MAX_SPACES (length spaces) in
     let bad_name = list_any (λ (s : SpaceSpec). not (is_name s.name)) spaces in
     let strange_map = list_any (λ (m : MapSpec). spaces_named spaces m.space == 0) maps in
     let space = or_parts counts (bad_name || strange_map) checks.0 in
     let count = or_parts (length spaces == 0) (nat_lt MAX_SPACES (length spaces)) space.0 in
     let names = fails_each (λ (s : SpaceSpec). not (is_name s.name)) spaces (or_parts bad_name strange_map space.1).0 in
-    let sizes = fails_each (λ (s : SpaceSpec). is_none (within s.size MAX_SIZE)) spaces checks.1.0 in
+    let sizes = fails_each (λ (s : SpaceSpec). is_none (within s.size (max_size_of format))) spaces checks.1.0 in
     let once = fails_each (λ (s : SpaceSpec). nat_lt 1 (spaces_named spaces s.name)) spaces checks.1.1.0 in
     let mapped = fails_each (λ (s : SpaceSpec). maps_named maps s.name == 0) spaces checks.1.1.1.0 in
-    let units = fails_each (λ (m : MapSpec). is_none (within m.unit MAX_UNIT)) maps checks.1.1.1.1.1.0 in
+    let units = fails_each (λ (m : MapSpec). is_none (within m.unit (max_unit_of format))) maps checks.1.1.1.1.1.0 in
     let owners = fails_each (λ (m : MapSpec). are_bad_owners tree m.to) maps checks.1.1.1.1.1.1.0 in
-    let few : nat_lt MAX_CELLS (sum_by size_of spaces) ≡ false = checks.1.1.1.1.1.1.1.0 in
+    let few : has_too_many_cells format spaces ≡ false = checks.1.1.1.1.1.1.1.0 in
     record {
       tree = is_tree;
       some = simp length-map (grind (arith, nat_tests, count.0));
       few = simp length-map (grind (arith, nat_tests, count.1));
-      each = All-map (IsSpace tree) (space_of tree maps) spaces
-          (λ k d inside. is_space tree maps (get_or spaces k d) (names k d inside) (sizes k d inside) (mapped k d inside) units owners);
-      different = are_different tree maps spaces once;
-      cells = rw (fold-map (λ a (s : Space). a + s.size) (space_of tree maps) 0 spaces) (grind (arith, nat_tests, few));
+      each = All-map (IsSpace format tree) (space_of format tree maps) spaces
+          (λ k d inside. is_space format tree maps (get_or spaces k d) (names k d inside) (sizes k d inside) (mapped k d inside) units owners);
+      different = are_different format tree maps spaces once;
+      cells = has_few_cells format tree maps spaces few;
     }

@@ -3,6 +3,7 @@ use Rattle.std.proofs.Common.{◌≡◌, ℕ, zero, suc, ◌/◌, ◌%◌, ◌<�
 use Rattle.std.proofs.lemmas.Nat.{mod_below}
 use Rattle.std.proofs.lemmas.List.Elements.{All-head, All-tail}
 use Rattle.waff_model.specs.declared.cell.Cell.{Cell}
+use Rattle.waff_model.specs.declared.format.Format.{Format}
 use Rattle.waff_model.specs.Tree.{Node}
 use Rattle.waff_model.specs.Layout.{Space, IsSpace, IsCell, size_at, owner_at, owner_of}
 
@@ -29,14 +30,14 @@ space_read (first ∷ spaces) (suc s) within space is =
 pub space_of_cell : (spaces : List Space) (cell : Cell) → IsCell spaces cell → (space : Space) → space ≡ get_or spaces cell.space space → IsRead spaces cell.space space
 space_of_cell spaces cell is_cell = space_read spaces cell.space (space_below spaces cell.space cell.index is_cell)
 
-owner_below : (tree : List Node) (spaces : List Space) (s i : ℕ) → All (IsSpace tree) spaces → i < size_at spaces s → owner_of spaces (record { space = s; index = i }) < length tree
+owner_below : {format : Format} (tree : List Node) (spaces : List Space) (s i : ℕ) → All (IsSpace format tree) spaces → i < size_at spaces s → owner_of spaces (record { space = s; index = i }) < length tree
 owner_below tree [] s i each within = absurd (omega arith)
 owner_below tree (space ∷ spaces) zero i each within =
-    let is_space = All-head (IsSpace tree) space spaces each in
+    let is_space = All-head (IsSpace _ tree) space spaces each in
     is_space.affinities ((i / space.unit) % length space.to) 0 (mod_below (i / space.unit) (length space.to) is_space.owned)
 owner_below tree (space ∷ spaces) (suc s) i each within =
-    owner_below tree spaces s i (All-tail (IsSpace tree) space spaces each) within
+    owner_below tree spaces s i (All-tail (IsSpace _ tree) space spaces each) within
 
 -- the owner of a cell is an affinity
-pub owner_is_affinity : (tree : List Node) (spaces : List Space) → All (IsSpace tree) spaces → (cell : Cell) → IsCell spaces cell → owner_of spaces cell < length tree
+pub owner_is_affinity : {format : Format} (tree : List Node) (spaces : List Space) → All (IsSpace format tree) spaces → (cell : Cell) → IsCell spaces cell → owner_of spaces cell < length tree
 owner_is_affinity tree spaces each cell is_cell = owner_below tree spaces cell.space cell.index each is_cell

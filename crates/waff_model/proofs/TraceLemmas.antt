@@ -1,20 +1,40 @@
 -- A trace with one message more.
-use Rattle.std.proofs.Common.{◌≡◌, ℕ, zero, suc, ◌<◌, ◌==◌, Bool, true, List, [], ◌∷◌, ◌++◌, length, slice_index, arith, length-append, subst, refl, eq-eqb}
+use Rattle.std.proofs.Common.{◌≡◌, ℕ, zero, suc, ◌+◌, ◌<◌, ◌≤◌, ◌==◌, Bool, true, List, [], ◌∷◌, ◌++◌, length, slice_index, arith, length-append, subst, refl, eq-eqb}
 use Rattle.std.specs.List.{list_all, zip}
 use Rattle.std.proofs.lemmas.Bool.{and_parts}
 use Rattle.std.proofs.lemmas.Bool.Decides.{nat_tests}
 use Rattle.std.proofs.lemmas.List.Elements.{All-push}
-use Rattle.waff_model.specs.declared.limits.TheConstants.{MAX_MESSAGES}
+use Rattle.std.proofs.lemmas.List.Sums.{sum_by-append}
+use Rattle.waff_model.specs.Versions.{max_messages, max_ops}
+use Rattle.waff_model.specs.declared.limits.TheConstants.{MAX_ALL_OPS, MAX_MESSAGES, MAX_OPS}
+use Rattle.waff_model.specs.declared.message.Version.{Version}
+use Rattle.waff_model.specs.declared.message.Version.TheVariants.{V1, V2, V3}
 use Rattle.waff_model.specs.declared.message.Message.{Message}
 use Rattle.waff_model.specs.declared.cell.Cell.{Cell}
 use Rattle.waff_model.specs.Cells.{LiesIn}
 use Rattle.waff_model.specs.Layout.{Space, IsCell, size_at}
-use Rattle.waff_model.specs.Messages.{Arrivals, IsMessage, IsTrace, sizes_of}
+use Rattle.waff_model.specs.Messages.{Arrivals, IsMessage, IsTrace, ops_in, sizes_of}
 
-pub is_trace-push : (trace : Arrivals) (message : Message) → IsTrace trace → IsMessage trace.version trace.sizes message → length trace.messages < MAX_MESSAGES → IsTrace (record trace { messages = trace.messages ++ message ∷ [] })
-is_trace-push trace message is_trace is_message room = record {
+-- the limits of no version are above those of all
+pub max_messages-most : (version : Version) → max_messages version ≤ MAX_MESSAGES
+max_messages-most V1 = omega arith
+max_messages-most V2 = omega arith
+max_messages-most V3 = omega arith
+
+pub max_ops-most : (version : Version) → max_ops version ≤ MAX_OPS
+max_ops-most V1 = omega arith
+max_ops-most V2 = omega arith
+max_ops-most V3 = omega arith
+
+pub few_messages : (trace : Arrivals) → IsTrace trace → length trace.messages ≤ MAX_MESSAGES
+few_messages trace is = omega (arith, is.few, max_messages-most trace.version)
+
+pub is_trace-push : (trace : Arrivals) (message : Message) → IsTrace trace → IsMessage trace.version trace.sizes message → length trace.messages < max_messages trace.version
+    → ops_in trace.messages + length message.ops ≤ MAX_ALL_OPS → IsTrace (record trace { messages = trace.messages ++ message ∷ [] })
+is_trace-push trace message is_trace is_message room room_ops = record {
   messages = All-push (IsMessage trace.version trace.sizes) trace.messages message is_trace.messages is_message;
-  few = omega (arith, length-append trace.messages (message ∷ []));
+  few = omega (arith, length-append trace.messages (message ∷ []), room);
+  few_ops = omega (arith, sum_by-append (λ (m : Message). length m.ops) trace.messages (message ∷ []), room_ops);
 }
 
 abbrev has_size : ℕ × Space → Bool

@@ -5,9 +5,11 @@ use Rattle.std.specs.Prelude.{AllPairs}
 use Rattle.std.specs.Str.{bytes_eq}
 use Rattle.waff_model.specs.Names.{is_name}
 use Rattle.waff_model.specs.Tree.{Node, IsTree}
-use Rattle.waff_model.specs.declared.limits.TheConstants.{MAX_SPACES, MAX_SIZE, MAX_CELLS, MAX_UNIT}
-use Rattle.waff_model.specs.declared.limits.TheConstants.{MAX_OWNERS}
+use Rattle.waff_model.specs.Formats.{max_size_of, max_unit_of}
+use Rattle.waff_model.specs.declared.limits.TheConstants.{MAX_SPACES, MAX_CELLS, MAX_OWNERS}
 use Rattle.waff_model.specs.declared.cell.Cell.{Cell}
+use Rattle.waff_model.specs.declared.format.Format.{Format}
+use Rattle.waff_model.specs.declared.format.Format.TheVariants.{F1}
 use Rattle.waff_model.specs.declared.kind.Kind.{Kind}
 
 -- a space of cells with its map: runs of `unit` cells go to the affinities of `to` in turn, over
@@ -18,8 +20,10 @@ pub record Space : Type 0 where
   pub unit : ℕ
   pub to : List ℕ
 
--- what a layout stands for: its kind, its tree of affinities, and its spaces, numbered from 0
+-- what a layout stands for: its format, its kind, its tree of affinities, and its spaces, numbered
+-- from 0
 pub record Hierarchy : Type 0 where
+  pub format : Format
   pub kind : Kind
   pub tree : List Node
   pub spaces : List Space
@@ -62,22 +66,26 @@ abbrev pub owner_of : List Space → Cell → ℕ
 owner_of spaces cell =
     unwrap_or (option_map (λ space. owner_at space cell.index) (slice_get spaces cell.space)) 0
 
+-- there are few cells over all spaces, so that each can be kept
+abbrev pub HasFewCells : List Space → Type 0
+HasFewCells spaces = sum_by (λ space. space.size) spaces ≤ MAX_CELLS
+
 -- a space whose numbers are within the limits, and whose owners are affinities of the tree
-pub record IsSpace (tree : List Node) (space : Space) : Type 0 where
+pub record IsSpace (format : Format) (tree : List Node) (space : Space) : Type 0 where
   pub named : IsTrue (is_name space.name)
   pub filled : 0 < space.size
-  pub size : space.size ≤ MAX_SIZE
+  pub size : space.size ≤ max_size_of format
   pub whole : 0 < space.unit
-  pub unit : space.unit ≤ MAX_UNIT
+  pub unit : space.unit ≤ max_unit_of format
   pub owned : 0 < length space.to
   pub owners : length space.to ≤ MAX_OWNERS
   pub affinities : All (λ a. a < length tree) space.to
 
--- a layout: a tree, and spaces of different names over it, within the limits
+-- a layout: a tree, and spaces of different names over it, within the limits of its format
 pub record IsLayout (layout : Hierarchy) : Type 0 where
   pub tree : IsTree layout.tree
   pub some : 0 < length layout.spaces
   pub few : length layout.spaces ≤ MAX_SPACES
-  pub each : All (IsSpace layout.tree) layout.spaces
+  pub each : All (IsSpace layout.format layout.tree) layout.spaces
   pub different : AllPairs (λ s t. s.name ≢ t.name) layout.spaces
-  pub cells : sum_by (λ s. s.size) layout.spaces ≤ MAX_CELLS
+  pub cells : layout.format ≡ F1 → HasFewCells layout.spaces

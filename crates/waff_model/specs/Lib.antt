@@ -6,6 +6,7 @@ pub mod TreeRefusal
 pub mod Nodes
 pub mod Preorder
 pub mod Cells
+pub mod Formats
 pub mod Layout
 pub mod LayoutOf
 pub mod LayoutRefusal
@@ -14,6 +15,7 @@ pub mod KeptOps
 pub mod Parcel
 pub mod ParcelLaws
 pub mod Numbers
+pub mod Versions
 pub mod Messages
 pub mod Later
 pub mod Blocks

@@ -1,13 +1,15 @@
 -- Messages and traces, and the limits that they keep.
-use Rattle.std.specs.Prelude.{◌≡◌, ℕ, ◌≤◌, true, List, length, All}
+use Rattle.std.specs.Prelude.{◌≡◌, ◌≢◌, ℕ, ◌≤◌, true, List, length, All, codes}
+use Rattle.std.specs.List.{sum_by}
 pub use Rattle.waff_model.specs.Layout.{sizes_of}
 use Rattle.waff_model.specs.Names.{is_name}
 use Rattle.waff_model.specs.Cells.{cells_of, LiesIn}
-use Rattle.waff_model.specs.declared.limits.TheConstants.{MAX_COST, MAX_RELEASE, MAX_OPS}
-use Rattle.waff_model.specs.declared.limits.TheConstants.{MAX_MESSAGES}
+use Rattle.waff_model.specs.Versions.{max_messages, max_ops}
+use Rattle.waff_model.specs.declared.limits.TheConstants.{MAX_ALL_OPS, MAX_COST, MAX_RELEASE}
+use Rattle.waff_model.specs.declared.limits.TheConstants.{MAX_THINK}
 use Rattle.waff_model.specs.declared.message.Message.{Message}
 use Rattle.waff_model.specs.declared.message.Version.{Version}
-use Rattle.waff_model.specs.declared.message.Version.TheVariants.{V1}
+use Rattle.waff_model.specs.declared.message.Version.TheVariants.{V1, V3}
 
 -- a trace: its version, the sizes of the spaces in which its cells lie, and its messages in the
 -- order of arrival
@@ -16,6 +18,10 @@ pub record Arrivals : Type 0 where
   pub sizes : List ℕ
   pub messages : List Message
 
+-- the name that stands where a message is of no client
+abbrev pub no_client : List ℕ
+no_client = codes "-"
+
 -- the message is within the limits, and its cells lie in spaces of these sizes
 pub record IsMessage (version : Version) (sizes : List ℕ) (message : Message) : Type 0 where
   pub named : is_name message.name ≡ true
@@ -23,11 +29,20 @@ pub record IsMessage (version : Version) (sizes : List ℕ) (message : Message) 
   pub within_cost : message.cost ≤ MAX_COST
   pub within_release : message.release ≤ MAX_RELEASE
   pub no_release : version ≡ V1 → message.release ≡ 0
+  pub named_client : is_name message.client ≡ true
+  pub no_client : version ≢ V3 → message.client ≡ no_client
+  pub within_think : message.think ≤ MAX_THINK
+  pub no_think : version ≢ V3 → message.think ≡ 0
   pub some_ops : 1 ≤ length message.ops
-  pub within_ops : length message.ops ≤ MAX_OPS
+  pub within_ops : length message.ops ≤ max_ops version
   pub cells : All (LiesIn sizes) (cells_of message.ops)
 
--- every message is within the limits, and so is their number
+-- how many operations messages have
+abbrev pub ops_in : List Message → ℕ
+ops_in messages = sum_by (λ message. length message.ops) messages
+
+-- every message is within the limits, and so are their number and that of their operations
 pub record IsTrace (trace : Arrivals) : Type 0 where
   pub messages : All (IsMessage trace.version trace.sizes) trace.messages
-  pub few : length trace.messages ≤ MAX_MESSAGES
+  pub few : length trace.messages ≤ max_messages trace.version
+  pub few_ops : ops_in trace.messages ≤ MAX_ALL_OPS

@@ -7,14 +7,15 @@ ghost use Rattle.std.specs.Prelude.{[], ◌∷◌, ◌++◌};
 ghost use Rattle.std.specs.Prelude.{option_map, unwrap_or, None, Some, IsTrue, IfOk, IfErr, IfSome, OnOk};
 ghost use Rattle.waff_model.specs.Tree.{IsTree, number_of};
 ghost use Rattle.waff_model.specs.Layout.{IsLayout, IsCell, SameSpaces, name_at, size_at};
-ghost use Rattle.waff_model.specs.Layout.{space_named, owner_of};
+ghost use Rattle.waff_model.specs.Layout.{space_named, owner_of, HasFewCells};
 ghost use Rattle.waff_model.specs.LayoutOf.{owners_of, map_of, space_of, hierarchy_of};
 ghost use Rattle.waff_model.specs.LayoutRefusal.{layout_refusal};
 
 use crate::cell::Cell;
+use crate::format::Format;
 use crate::kind::Kind;
-use crate::layout_rows::{LayoutError, MapSpec, SpaceSpec, refusal, size_of, within};
-use crate::limits::MAX_UNIT;
+use crate::layout_rows::{LayoutError, MapSpec, SpaceSpec, refusal, size_of, unit_of};
+use crate::limits::MAX_CELLS;
 use crate::name::Text;
 use crate::space::Space;
 use crate::tree::{AffinityId, Tree};
@@ -23,6 +24,7 @@ use std::marker::Model;
 
 /// Spaces of cells, numbered from 0, each with a map that gives its cells to affinities of a tree.
 pub struct Layout {
+    format: Format,
     kind: Kind,
     tree: Tree,
     spaces: Vec<Space>,
@@ -33,16 +35,26 @@ impl Model for Layout {
 
     ghost Value = { Hierarchy };
 
-    ghost view = { λ l. record { kind = l.kind; tree = l.tree; spaces = l.spaces.items } };
+    ghost view = { λ l. record {
+      format = l.format;
+      kind = l.kind;
+      tree = l.tree;
+      spaces = l.spaces.items;
+    } };
 
-    ghost invariant = { λ l.
-        IsLayout (record { kind = l.kind; tree = l.tree; spaces = l.spaces.items }) };
+    ghost invariant = { λ l. IsLayout (record {
+      format = l.format;
+      kind = l.kind;
+      tree = l.tree;
+      spaces = l.spaces.items;
+    }) };
 }
 
 // Written out: a derived drop is proved again in each crate that lets go of the value.
 impl Drop for Layout {
     fn drop(self) {
         let Layout {
+            format: _,
             kind: _,
             tree,
             spaces,
@@ -57,22 +69,36 @@ impl Layout {
     /// given.
     pub fn new(
         alloc: Global,
+        format: Format,
         kind: Kind,
         tree: Tree,
         spaces: &[SpaceSpec],
         maps: &[MapSpec],
     ) -> Result<Layout, LayoutError>
-        ensures kept { IfOk result (λ layout. layout ≡ hierarchy_of kind tree spaces.now maps.now) }
-        ensures accepted { OnOk result (layout_refusal tree spaces.now maps.now ≡ None) }
+        ensures kept { IfOk result (λ layout.
+            layout ≡ hierarchy_of format kind tree spaces.now maps.now) }
+        ensures accepted { OnOk result (layout_refusal format tree spaces.now maps.now ≡ None) }
 
         // Memory is answered only where nothing else is to be refused.
         ensures refused { IfErr result (λ e.
-            e ≡ unwrap_or (layout_refusal tree spaces.now maps.now) LayoutError.Memory) }
+            e ≡ unwrap_or (layout_refusal format tree spaces.now maps.now) LayoutError.Memory) }
     {
-        match spaces_or_refusal(alloc, &tree, spaces, maps) {
-            Ok(spaces) => Ok(Layout { kind, tree, spaces }),
+        match spaces_or_refusal(alloc, format, &tree, spaces, maps) {
+            Ok(spaces) => Ok(Layout {
+                format,
+                kind,
+                tree,
+                spaces,
+            }),
             Err(refusal) => Err(refusal),
         }
+    }
+
+    /// The format, which says how large the spaces may be.
+    pub fn format(&self) -> Format
+        ensures { result ≡ self.now.format }
+    {
+        self.format
     }
 
     /// Whether the hierarchy is a classical or a hierarchical one.
@@ -140,6 +166,18 @@ impl Layout {
         are_same(&self.spaces, &other.spaces)
     }
 
+    /// Whether there are few cells over all spaces, so that each can be kept.
+    pub fn has_few_cells(&self) -> bool
+        ensures { IsTrue result ↔ HasFewCells self.now.spaces }
+    {
+        let cells: u64 = self
+            .spaces
+            .iter()
+            .map(|space| u64::from(space.size()))
+            .sum();
+        cells <= u64::from(MAX_CELLS)
+    }
+
     /// Whether the cell lies in one of the spaces.
     pub fn has(&self, cell: Cell) -> bool
         ensures { IsTrue result ↔ IsCell self.now.spaces cell }
@@ -165,19 +203,21 @@ impl Layout {
 /// The spaces of the rows, with their maps, or why the rows are refused.
 fn spaces_or_refusal(
     alloc: Global,
+    format: Format,
     tree: &Tree,
     spaces: &[SpaceSpec],
     maps: &[MapSpec],
 ) -> Result<Vec<Space>, LayoutError>
-    ensures spaces { IfOk result (λ v. v.items ≡ map (space_of tree.now maps.now) spaces.now) }
-    ensures accepted { OnOk result (layout_refusal tree.now spaces.now maps.now ≡ None) }
+    ensures spaces { IfOk result (λ v.
+        v.items ≡ map (space_of format tree.now maps.now) spaces.now) }
+    ensures accepted { OnOk result (layout_refusal format tree.now spaces.now maps.now ≡ None) }
     ensures refused { IfErr result (λ e.
-        e ≡ unwrap_or (layout_refusal tree.now spaces.now maps.now) LayoutError.Memory) }
+        e ≡ unwrap_or (layout_refusal format tree.now spaces.now maps.now) LayoutError.Memory) }
 {
-    if let Some(refusal) = refusal(tree, spaces, maps) {
+    if let Some(refusal) = refusal(format, tree, spaces, maps) {
         return Err(refusal);
     }
-    match spaces_of(alloc, tree, spaces, maps) {
+    match spaces_of(alloc, format, tree, spaces, maps) {
         Ok(spaces) => Ok(spaces),
         Err(_) => Err(LayoutError::Memory),
     }
@@ -201,15 +241,16 @@ fn each_is_same(spaces: &[Space], others: &[Space]) -> bool
 /// The spaces with their maps.
 fn spaces_of(
     alloc: Global,
+    format: Format,
     tree: &Tree,
     spaces: &[SpaceSpec],
     maps: &[MapSpec],
 ) -> Result<Vec<Space>, AllocError>
-    ensures { IfOk result (λ v. v.items ≡ map (space_of tree.now maps.now) spaces.now) }
+    ensures { IfOk result (λ v. v.items ≡ map (space_of format tree.now maps.now) spaces.now) }
 {
     let mut made = Vec::with_capacity(alloc, spaces.len())?;
     for space in spaces {
-        add_space(&mut made, tree, maps, space)?;
+        add_space(&mut made, format, tree, maps, space)?;
     }
     Ok(made)
 }
@@ -217,23 +258,24 @@ fn spaces_of(
 /// Appends the space of a row, with its map.
 fn add_space(
     made: &mut Vec<Space>,
+    format: Format,
     tree: &Tree,
     maps: &[MapSpec],
     space: &SpaceSpec,
 ) -> Result<(), AllocError>
     ensures { OnOk result (made.new.items
-        ≡ made.old.items ++ space_of tree.now maps.now space.now ∷ []) }
+        ≡ made.old.items ++ space_of format tree.now maps.now space.now ∷ []) }
 {
     let alloc = *made.allocator();
     let (unit, to) = match find_map(maps, space.name.as_str()) {
         Some(map) => (
-            within(map.unit, MAX_UNIT).unwrap_or(0),
+            unit_of(format, map),
             owners(alloc, tree, map.to.as_slice())?,
         ),
         None => (0, Vec::new(alloc)),
     };
     let name = Text::of(alloc, space.name.as_str())?;
-    let size = size_of(space);
+    let size = size_of(format, space);
     made.push(Space {
         name,
         size,

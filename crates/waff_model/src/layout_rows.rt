@@ -6,7 +6,8 @@ ghost use Rattle.waff_model.specs.Names as names;
 ghost use Rattle.waff_model.specs.Tree.{number_of};
 ghost use Rattle.waff_model.specs.LayoutRefusal as spec;
 
-use crate::limits::{MAX_CELLS, MAX_OWNERS, MAX_SIZE, MAX_SPACES, MAX_UNIT};
+use crate::format::Format;
+use crate::limits::{MAX_CELLS, MAX_OWNERS, MAX_SPACES};
 use crate::name::{Text, is_name};
 use crate::texts::Texts;
 use crate::tree::Tree;
@@ -44,7 +45,7 @@ pub enum LayoutError {
     Unit,
     /// No owner in a map, too many, or one that is no affinity.
     To,
-    /// Too many cells over all spaces.
+    /// Too many cells over all spaces, in format 1.
     TooManyCells,
     /// Out of memory.
     Memory,
@@ -61,14 +62,19 @@ pub(crate) fn within(n: i64, limit: u32) -> Option<u32>
     }
 }
 
-/// Why the rows give no layout over the tree.
-pub(crate) fn refusal(tree: &Tree, spaces: &[SpaceSpec], maps: &[MapSpec]) -> Option<LayoutError>
-    ensures { result ≡ spec.layout_refusal tree.now spaces.now maps.now }
+/// Why the rows give no layout of this format over the tree.
+pub(crate) fn refusal(
+    format: Format,
+    tree: &Tree,
+    spaces: &[SpaceSpec],
+    maps: &[MapSpec],
+) -> Option<LayoutError>
+    ensures { result ≡ spec.layout_refusal format tree.now spaces.now maps.now }
 {
     if has_bad_space(spaces, maps) {
         return Some(LayoutError::Space);
     }
-    if has_bad_size(spaces) {
+    if has_bad_size(format, spaces) {
         return Some(LayoutError::Size);
     }
     if has_space_twice(spaces) {
@@ -80,13 +86,13 @@ pub(crate) fn refusal(tree: &Tree, spaces: &[SpaceSpec], maps: &[MapSpec]) -> Op
     if has_map_twice(spaces, maps) {
         return Some(LayoutError::MapTwice);
     }
-    if has_bad_unit(maps) {
+    if has_bad_unit(format, maps) {
         return Some(LayoutError::Unit);
     }
     if has_bad_owners(tree, maps) {
         return Some(LayoutError::To);
     }
-    if has_too_many_cells(spaces) {
+    if has_too_many_cells(format, spaces) {
         return Some(LayoutError::TooManyCells);
     }
     None
@@ -112,10 +118,11 @@ fn has_strange_map(spaces: &[SpaceSpec], maps: &[MapSpec]) -> bool
         .any(|m| spaces_named(spaces, m.space.as_str()) == 0)
 }
 
-fn has_bad_size(spaces: &[SpaceSpec]) -> bool
-    ensures { result ≡ spec.has_bad_size spaces.now }
+fn has_bad_size(format: Format, spaces: &[SpaceSpec]) -> bool
+    ensures { result ≡ spec.has_bad_size format spaces.now }
 {
-    spaces.iter().any(|s| within(s.size, MAX_SIZE).is_none())
+    let limit = format.max_size();
+    spaces.iter().any(|s| within(s.size, limit).is_none())
 }
 
 fn has_space_twice(spaces: &[SpaceSpec]) -> bool
@@ -140,10 +147,11 @@ fn has_map_twice(spaces: &[SpaceSpec], maps: &[MapSpec]) -> bool
     spaces.iter().any(|s| 1 < maps_named(maps, s.name.as_str()))
 }
 
-fn has_bad_unit(maps: &[MapSpec]) -> bool
-    ensures { result ≡ spec.has_bad_unit maps.now }
+fn has_bad_unit(format: Format, maps: &[MapSpec]) -> bool
+    ensures { result ≡ spec.has_bad_unit format maps.now }
 {
-    maps.iter().any(|m| within(m.unit, MAX_UNIT).is_none())
+    let limit = format.max_unit();
+    maps.iter().any(|m| within(m.unit, limit).is_none())
 }
 
 fn has_bad_owners(tree: &Tree, maps: &[MapSpec]) -> bool
@@ -164,19 +172,31 @@ fn has_unknown_owner(tree: &Tree, to: &[Text]) -> bool
     to.iter().any(|name| tree.find(name.as_str()).is_none())
 }
 
-fn has_too_many_cells(spaces: &[SpaceSpec]) -> bool
+fn has_too_many_cells(format: Format, spaces: &[SpaceSpec]) -> bool
     requires { length spaces.now ≤ MAX_SPACES }
-    ensures { result ≡ spec.has_too_many_cells spaces.now }
+    ensures { result ≡ spec.has_too_many_cells format spaces.now }
 {
-    let cells: u32 = spaces.iter().map(|s| size_of(s)).sum();
-    MAX_CELLS < cells
+    match format {
+        Format::F1 => {
+            let cells: u32 = spaces.iter().map(|s| size_of(Format::F1, s)).sum();
+            MAX_CELLS < cells
+        }
+        Format::F2 => false,
+    }
 }
 
 /// The size, 0 where it is not within the limit.
-pub(crate) fn size_of(space: &SpaceSpec) -> u32
-    ensures { result ≡ spec.size_of space.now }
+pub(crate) fn size_of(format: Format, space: &SpaceSpec) -> u32
+    ensures { result ≡ spec.size_of format space.now }
 {
-    within(space.size, MAX_SIZE).unwrap_or(0)
+    within(space.size, format.max_size()).unwrap_or(0)
+}
+
+/// The unit, 0 where it is not within the limit.
+pub(crate) fn unit_of(format: Format, map: &MapSpec) -> u32
+    ensures { result ≡ spec.unit_of format map.now }
+{
+    within(map.unit, format.max_unit()).unwrap_or(0)
 }
 
 fn spaces_named(spaces: &[SpaceSpec], name: &str) -> usize

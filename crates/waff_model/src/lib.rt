@@ -9,7 +9,7 @@
 //! - `trace`, `message`, `op`, `ops` over `packed_op`: messages with their costs, releases (in
 //!   ticks) and operations on cells.
 //! - `cell`, `kind`, `name`, `texts`: the small parts; `limits`: the limits of hierarchies, traces
-//!   and plans.
+//!   and plans; `format`: which of them hold of spaces.
 //! - `laws`: what holds of the parcels of all layouts.
 //!
 //! A tree keeps for each affinity its span in preorder. So *at or above* is two comparisons, and the
@@ -20,6 +20,7 @@
 #![tactic(auto)]
 
 mod cell;
+mod format;
 mod kind;
 pub mod laws;
 mod layout;
@@ -40,6 +41,7 @@ mod trace;
 mod tree;
 
 pub use cell::Cell;
+pub use format::Format;
 pub use kind::Kind;
 pub use layout::Layout;
 pub use layout_rows::{LayoutError, MapSpec, SpaceSpec};

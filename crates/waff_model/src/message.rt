@@ -1,13 +1,52 @@
 //! Messages, and the versions of traces.
 
+ghost use Rattle.std.specs.Prelude.{◌≡◌};
+ghost use Rattle.waff_model.specs.Versions as versions;
+
+use crate::limits::{MAX_EARLIER_MESSAGES, MAX_EARLIER_OPS, MAX_MESSAGES, MAX_OPS};
 use crate::name::Text;
 use crate::ops::Ops;
 
-/// The version of a trace: in the first every release is 0.
+/// The version of a trace: in the first every release is 0, and before the third no message is of
+/// a client.
 #[derive(Clone, Copy, Debug, PartialEq)]
 pub enum Version {
     V1,
     V2,
+    V3,
+}
+
+impl Version {
+    /// The number of the version, from 1.
+    pub fn number(self) -> u32
+        ensures { result ≡ versions.number self }
+    {
+        match self {
+            Version::V1 => 1,
+            Version::V2 => 2,
+            Version::V3 => 3,
+        }
+    }
+
+    /// How many messages a trace of the version may have.
+    pub fn max_messages(self) -> usize
+        ensures { result ≡ versions.max_messages self }
+    {
+        match self {
+            Version::V1 | Version::V2 => MAX_EARLIER_MESSAGES,
+            Version::V3 => MAX_MESSAGES,
+        }
+    }
+
+    /// How many operations a message of the version may have.
+    pub fn max_ops(self) -> usize
+        ensures { result ≡ versions.max_ops self }
+    {
+        match self {
+            Version::V1 | Version::V2 => MAX_EARLIER_OPS,
+            Version::V3 => MAX_OPS,
+        }
+    }
 }
 
 /// A message of a trace.
@@ -19,5 +58,9 @@ pub struct Message {
     pub cost: u32,
     /// The tick before which the message may not start.
     pub release: u32,
+    /// The name of the client that issues the message, `-` where it is of none.
+    pub client: Text,
+    /// How long the client thinks before it issues the message, in ticks.
+    pub think: u32,
     pub ops: Ops,
 }

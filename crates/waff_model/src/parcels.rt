@@ -10,7 +10,7 @@ use crate::tree::AffinityId;
 
 impl Layout {
     /// How many cells the affinity owns.
-    pub fn parcel_len(&self, a: AffinityId) -> u32
+    pub fn parcel_len(&self, a: AffinityId) -> u64
         ensures { result ≡ parcel_size self.now.spaces a.0 }
     {
         count_ahead(self, a, self.space_count())
@@ -18,7 +18,7 @@ impl Layout {
 
     /// The owner of the cell, and the cell's place in the owner's parcel: how many of the owner's
     /// cells come before it.
-    pub fn place(&self, cell: Cell) -> (AffinityId, u32)
+    pub fn place(&self, cell: Cell) -> (AffinityId, u64)
         requires { IsCell self.now.spaces cell }
         ensures owner { result.0.0 ≡ owner_of self.now.spaces cell }
         ensures affinity { result.0.0 < length self.now.tree }
@@ -32,7 +32,7 @@ impl Layout {
 }
 
 /// How many cells of the spaces before `s` the affinity owns.
-fn count_ahead(layout: &Layout, a: AffinityId, s: u32) -> u32
+fn count_ahead(layout: &Layout, a: AffinityId, s: u32) -> u64
     requires { s ≤ length layout.now.spaces }
     ensures { result ≡ owned_among layout.now.spaces (cells_ahead layout.now.spaces s) a.0 }
 {
@@ -44,7 +44,7 @@ fn count_ahead(layout: &Layout, a: AffinityId, s: u32) -> u32
 }
 
 /// The count of cells before space `s` that the affinity owns, and then those of it below `end`.
-fn count_on(layout: &Layout, a: AffinityId, ahead: u32, s: u32, end: u32) -> u32
+fn count_on(layout: &Layout, a: AffinityId, ahead: u64, s: u32, end: u32) -> u64
     requires space { s < length layout.now.spaces }
     requires end { end ≤ size_at layout.now.spaces s }
     requires ahead { ahead ≡ owned_among layout.now.spaces (cells_ahead layout.now.spaces s) a.0 }

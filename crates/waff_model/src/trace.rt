@@ -5,7 +5,8 @@ ghost use Rattle.std.specs.Prelude.{All, IsTrue, IfOk, OnOk, OnErr, slice_get};
 ghost use Rattle.std.specs.Prelude.{◌==◌};
 ghost use Rattle.std.specs.List.{list_all, zip};
 ghost use Rattle.waff_model.specs.Messages.{sizes_of};
-ghost use Rattle.waff_model.specs.declared.limits.TheConstants.{MAX_MESSAGES};
+ghost use Rattle.waff_model.specs.Versions.{max_messages};
+ghost use Rattle.waff_model.specs.declared.limits.TheConstants.{MAX_ALL_OPS, MAX_MESSAGES};
 
 use crate::layout::Layout;
 use crate::message::{Message, Version};
@@ -52,7 +53,7 @@ impl Drop for Trace {
 }
 
 impl Trace {
-    ghost use Rattle.waff_model.specs.Messages.{sizes_of, IsMessage, IsTrace};
+    ghost use Rattle.waff_model.specs.Messages.{sizes_of, ops_in, IsMessage, IsTrace};
     ghost use Rattle.waff_model.specs.Numbers.{IsAmongFirst};
     ghost use Rattle.waff_model.specs.declared.message.Version.TheVariants.{V1};
 
@@ -84,7 +85,8 @@ impl Trace {
         messages: Vec<Message>,
     ) -> Result<Self, AllocError>
         requires messages { All (IsMessage version (sizes_of layout.now.spaces)) messages.items }
-        requires few { length messages.items ≤ MAX_MESSAGES }
+        requires few { length messages.items ≤ max_messages version }
+        requires few_ops { ops_in messages.items ≤ MAX_ALL_OPS }
         ensures { IfOk result (λ t. t ≡ record {
           version = version;
           sizes = sizes_of layout.now.spaces;
@@ -111,7 +113,7 @@ impl Trace {
         have_sizes(layout.spaces(), &self.sizes)
     }
 
-    /// The version of the format: releases stand in the second alone.
+    /// The version of the format: the first has no releases, and the third alone has clients.
     pub fn version(&self) -> Version
         ensures { result ≡ self.now.version }
     {
@@ -121,7 +123,8 @@ impl Trace {
     /// Appends a message.
     pub fn push(&mut self, message: Message) -> Result<(), AllocError>
         requires message { IsMessage self.old.version self.old.sizes message }
-        requires room { length self.old.messages < MAX_MESSAGES }
+        requires room { length self.old.messages < max_messages self.old.version }
+        requires few_ops { ops_in self.old.messages + length message.ops ≤ MAX_ALL_OPS }
         ensures pushed { OnOk result (self.new
             ≡ record self.old { messages = self.old.messages ++ message ∷ [] }) }
         ensures unchanged { OnErr result (self.new ≡ self.old) }
@@ -133,9 +136,23 @@ impl Trace {
     /// How many messages there are.
     pub fn len(&self) -> u32
         ensures count { result ≡ length self.now.messages }
+        ensures few { result ≤ MAX_MESSAGES }
         ensures trace { IsTrace self.now }
     {
         self.messages.len() as u32
+    }
+
+    /// How many operations all messages have.
+    pub fn op_count(&self) -> usize
+        ensures { result ≡ ops_in self.now.messages }
+    {
+        let mut count = 0;
+        let mut place = 0;
+        while place < self.messages.len() {
+            count += self.messages[place].ops.len();
+            place += 1;
+        }
+        count
     }
 
     /// The message with this number, from 1.

@@ -5,13 +5,14 @@ use Rattle.std.proofs.lemmas.Bool.{cases_eq, cases_order}
 use Rattle.std.proofs.lemmas.List.Elements.{All-contains}
 use Rattle.waff_assign.specs.Order.{Path}
 use Rattle.waff_order.specs.Open.{IsOpen, AreTaken, IsLatestAbove, chosen}
+use Rattle.waff_order.specs.Joined.{LeadToOpen}
 use Rattle.waff_order.proofs.NeedLemmas.{path_weaker, path_one, path_join}
 use Rattle.waff_order.proofs.Holding.{open_more, open_last}
 
 -- the needs of the first n messages lead from each ordered pair's first to its second, and each message is led to an open one
 -- at or above it
 pub record IsClosed (Above : ℕ → ℕ → Type 0) (near : ℕ → ℕ → Type 0) (n : ℕ) : Type 0 where
-  pub leads : (i : ℕ) → 1 ≤ i → i ≤ n → (o : ℕ) × IsOpen Above n o × Above o i × ((i ≡ o) ⊎ Path near i o)
+  pub leads : LeadToOpen Above near n
   pub paths : (i j : ℕ) → 1 ≤ i → i < j → j ≤ n → Above i j ⊎ Above j i → Path near i j
 
 -- what is chosen, by what is taken

@@ -4,19 +4,11 @@ use Rattle.std.proofs.lemmas.Bool.{cases_eq, cases_lt}
 use Rattle.std.proofs.lemmas.List.{get_or-set_same, get_or-set_other}
 use Rattle.std.proofs.lemmas.List.Elements.{Contains-get_or}
 use Rattle.waff_order.specs.Open.{IsOpen, AreTaken, IsLatestAbove}
+use Rattle.waff_order.specs.Joined.{AreHeld, AreLatest}
 use Rattle.waff_model.specs.Spans.{map_in, messages_in}
 use Rattle.waff_model.proofs.SpanLemmas.{length-map_in, at_before, at_within, at_after, messages_at, at_listed}
 use Rattle.waff_model.proofs.TakeLemmas.{none_at, gone_at}
 use Rattle.waff_order.specs.Runs.{AreGathered}
-
--- each open message stands at its place in the table, and nothing else
-pub record AreHeld (Above : ℕ → ℕ → Type 0) (first : ℕ → ℕ) (n : ℕ) (messages : List ℕ) : Type 0 where
-  pub held : (p : ℕ) → 0 < get_or messages p 0 → IsOpen Above n (get_or messages p 0) × (first (get_or messages p 0) ≡ p)
-  pub each : (i : ℕ) → IsOpen Above n i → get_or messages (first i) 0 ≡ i
-
--- at the place of each message the latest before that is at or above it is noted
-abbrev pub AreLatest : (ℕ → ℕ → Type 0) → (ℕ → ℕ) → ℕ → ℕ → (ℕ → ℕ) → Type 0
-AreLatest Above first count n at = (m : ℕ) → 1 ≤ m → m ≤ count → IsLatestAbove Above n m (at (first m))
 
 module _ (Above : ℕ → ℕ → Type 0) where
   pub open_more : (n i : ℕ) → IsOpen Above n i → ¬ Above (n + 1) i → IsOpen Above (n + 1) i
@@ -41,28 +33,10 @@ module _ (Above : ℕ → ℕ → Type 0) where
         h.free (n + 1) (omega arith) (omega arith),
       )
 
-  latest_more : (n m above : ℕ) → ¬ Above (n + 1) m → IsLatestAbove Above n m above → IsLatestAbove Above (n + 1) m above
-  latest_more n m above apart h = record {
-    some = λ some. let there = h.some some in let before : above ≤ n = there.0 in (omega arith, there.1);
-    latest = λ i from to is. elim (cases_eq i (n + 1)) [
-      | inl last ↦ absurd (apart (subst (λ x. Above x m) last is))
-      | inr other ↦ h.latest i from (omega arith) is
-    ];
-  }
-
-  latest_last : (n m : ℕ) → Above (n + 1) m → IsLatestAbove Above (n + 1) m (n + 1)
-  latest_last n m is = record { some = λ some. (omega arith, is); latest = λ i from to above. omega arith }
-
   pub held_none : (first : ℕ → ℕ) (size : ℕ) → AreHeld Above first 0 (replicate size 0)
   held_none first size = record {
     held = λ p some. let none = none_at size p in absurd (omega (arith, none));
     each = λ i is_open. let from = is_open.from in let to = is_open.to in absurd (omega (arith, from, to));
-  }
-
-  pub latest_none : (first : ℕ → ℕ) (count : ℕ) (at : ℕ → ℕ) → ((p : ℕ) → at p ≡ 0) → AreLatest Above first count 0 at
-  latest_none first count at none m from to = record {
-    some = λ some. let nothing = none (first m) in absurd (omega (arith, nothing));
-    latest = λ i from to is. absurd (omega arith);
   }
 
   module _ (first end : ℕ → ℕ) (count : ℕ)
@@ -168,27 +142,47 @@ module _ (Above : ℕ → ℕ → Type 0) where
           ]
         ]
 
-    -- what is noted after it
-    pub latest_next : (old : List ℕ) → end (n + 1) ≤ length old → AreLatest Above first count n (λ p. get_or old p 0)
-        → AreLatest Above first count (n + 1) (λ p. get_or (map_in (λ v. max v (n + 1)) old (first (n + 1)) (end (n + 1))) p 0)
-    latest_next old short h m from to =
-        let law = spans (n + 1) m (omega arith) room from to in
-        let before = h m from to in
-        let above = get_or old (first m) 0 in
-        elim (cases_lt (first m) (first (n + 1))) [
-          | inl early ↦
-              subst (λ x. IsLatestAbove Above (n + 1) m x) (sym (at_before (λ v. max v (n + 1)) old (first (n + 1)) (end (n + 1)) (first m) 0 early))
-              (latest_more n m above (λ is. let low : first (n + 1) ≤ first m = (law.1 is).0 in omega arith) before)
-          | inr low ↦ elim (cases_lt (first m) (end (n + 1))) [
-            | inl high ↦
-                let few : above ≤ n = elim (cases_lt 0 above) [
-                  | inl some ↦ (before.some some).0
-                  | inr none ↦ omega arith
-                ] in
-                let larger : max above (n + 1) ≡ n + 1 = omega arith in
-                subst (λ x. IsLatestAbove Above (n + 1) m x) (sym (at_within (λ v. max v (n + 1)) old (first (n + 1)) (end (n + 1)) (first m) 0 low high (omega arith) ∙ larger)) (latest_last n m (law.0 (low, high)))
-            | inr past ↦
-                subst (λ x. IsLatestAbove Above (n + 1) m x) (sym (at_after (λ v. max v (n + 1)) old (first (n + 1)) (end (n + 1)) (first m) 0 past))
-                (latest_more n m above (λ is. let high : first m < end (n + 1) = (law.1 is).1 in omega arith) before)
-          ]
+module _ (Over : ℕ → ℕ → Type 0) where
+  latest_more : (n a above : ℕ) → ¬ Over (n + 1) a → IsLatestAbove Over n a above → IsLatestAbove Over (n + 1) a above
+  latest_more n a above apart h = record {
+    some = λ some. let there = h.some some in let before : above ≤ n = there.0 in (omega arith, there.1);
+    latest = λ i from to is. elim (cases_eq i (n + 1)) [
+      | inl last ↦ absurd (apart (subst (λ x. Over x a) last is))
+      | inr other ↦ h.latest i from (omega arith) is
+    ];
+  }
+
+  latest_last : (n a : ℕ) → Over (n + 1) a → IsLatestAbove Over (n + 1) a (n + 1)
+  latest_last n a is = record { some = λ some. (omega arith, is); latest = λ i from to above. omega arith }
+
+  pub latest_none : (place : ℕ → ℕ) (affinities size : ℕ) → AreLatest Over place affinities 0 (replicate size 0)
+  latest_none place affinities size a within = record {
+    some = λ some. let nothing = none_at size (place a) in absurd (omega (arith, nothing));
+    latest = λ i from to is. absurd (omega arith);
+  }
+
+  -- what is noted after message n + 1, whose affinity has the places from first up to end
+  pub latest_next : (place : ℕ → ℕ) (affinities n first end : ℕ) → ((a : ℕ) → a < affinities → ((first ≤ place a) × (place a < end)) ↔ Over (n + 1) a)
+      → (old : List ℕ) → end ≤ length old → AreLatest Over place affinities n old
+      → AreLatest Over place affinities (n + 1) (map_in (λ v. max v (n + 1)) old first end)
+  latest_next place affinities n first end spans old short h a within =
+      let law = spans a within in
+      let before = h a within in
+      let above = get_or old (place a) 0 in
+      elim (cases_lt (place a) first) [
+        | inl early ↦
+            subst (λ x. IsLatestAbove Over (n + 1) a x) (sym (at_before (λ v. max v (n + 1)) old first end (place a) 0 early))
+            (latest_more n a above (λ is. let low : first ≤ place a = (law.1 is).0 in omega arith) before)
+        | inr low ↦ elim (cases_lt (place a) end) [
+          | inl high ↦
+              let few : above ≤ n = elim (cases_lt 0 above) [
+                | inl some ↦ (before.some some).0
+                | inr none ↦ omega arith
+              ] in
+              let larger : max above (n + 1) ≡ n + 1 = omega arith in
+              subst (λ x. IsLatestAbove Over (n + 1) a x) (sym (at_within (λ v. max v (n + 1)) old first end (place a) 0 low high (omega arith) ∙ larger)) (latest_last n a (law.0 (low, high)))
+          | inr past ↦
+              subst (λ x. IsLatestAbove Over (n + 1) a x) (sym (at_after (λ v. max v (n + 1)) old first end (place a) 0 past))
+              (latest_more n a above (λ is. let high : place a < end = (law.1 is).1 in omega arith) before)
         ]
+      ]

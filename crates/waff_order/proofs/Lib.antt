@@ -7,3 +7,4 @@ mod UpTo
 mod Reaching
 mod LowestLemmas
 mod CarryLemmas
+mod OneMore

@@ -7,12 +7,12 @@ use Rattle.waff_model.specs.Preorder.{span_at, AreNested}
 use Rattle.waff_model.specs.Spans.{map_in, messages_in}
 use Rattle.waff_model.specs.declared.preorder.Span.{Span}
 use Rattle.waff_model.proofs.SpanLemmas.{held, length-map_in, held-put, held-taken, held-none}
-use Rattle.waff_model.proofs.TakeLemmas.{none_at}
 use Rattle.waff_assign.specs.Order.{affinity_of}
 use Rattle.waff_order.specs.Needs.{IsWithinDepth}
 use Rattle.waff_order.specs.Open.{IsAbove, AreTaken, IsLatestAbove, chosen}
 use Rattle.waff_order.specs.Runs.{AreGathered}
-use Rattle.waff_order.proofs.Holding.{AreHeld, AreLatest, held_none, latest_none, taken, held_more, latest_next}
+use Rattle.waff_order.specs.Joined.{AreHeld, AreLatest, IsOver, place_at}
+use Rattle.waff_order.proofs.Holding.{held_none, latest_none, taken, held_more, latest_next}
 use Rattle.waff_order.proofs.Closure.{length-chosen, length-chosen_all}
 use Rattle.waff_order.proofs.UpTo.{AreNeedsUpTo, up_to_none, up_to_more, all_above}
 
@@ -32,7 +32,7 @@ pub record IsReached (tree : List Node) (assigned : List ℕ) (spans : List Span
   pub count : length messages ≡ length tree
   pub holds : AreHeld (IsAbove tree assigned) (first_of spans assigned) n messages
   pub noted_count : length noted ≡ length tree
-  pub latest : AreLatest (IsAbove tree assigned) (first_of spans assigned) (length assigned) n (λ p. get_or noted p 0)
+  pub latest : AreLatest (IsOver tree assigned) (place_at spans) (length tree) n noted
   pub total : sum_by length lists + held messages ≤ 2 * n
   pub flat : IsWithinDepth tree 0 → sum_by length lists + held messages ≤ n
 
@@ -57,8 +57,7 @@ module _ (tree : List Node) (assigned : List ℕ) (spans : List Span) (is_tree :
         count = length-replicate (length tree) 0;
         holds = held_none (IsAbove tree assigned) (first_of spans assigned) (length tree);
         noted_count = length-replicate (length tree) 0;
-        latest = latest_none (IsAbove tree assigned) (first_of spans assigned) (length assigned) (λ p. get_or (replicate (length tree) 0) p 0)
-            (λ p. none_at (length tree) p);
+        latest = latest_none (IsOver tree assigned) (place_at spans) (length tree) (length tree);
         total = omega (arith, none);
         flat = λ depth. omega (arith, none);
       }
@@ -80,7 +79,7 @@ module _ (tree : List Node) (assigned : List ℕ) (spans : List Span) (is_tree :
     takes = taken (IsAbove tree assigned) (first_of spans assigned) (end_of spans assigned) (length assigned) covers filled n room messages gathered h.holds gathers
 
     is_latest : IsLatestAbove (IsAbove tree assigned) n (n + 1) above
-    is_latest = h.latest (n + 1) (omega arith) room
+    is_latest = let there = h.latest (affinity_of assigned (n + 1)) (known_affinity (n + 1) (omega arith) room) in record { some = there.some; latest = there.latest }
 
     -- the needs of one message more
     pub needs_count : sum_by length lists + length (chosen gathered above) + held (set left (first_of spans assigned (n + 1)) (n + 1)) ≤ 2 * (n + 1)
@@ -116,8 +115,8 @@ module _ (tree : List Node) (assigned : List ℕ) (spans : List Span) (is_tree :
           holds = held_more (IsAbove tree assigned) (first_of spans assigned) (end_of spans assigned) (length assigned) covers filled n room messages
               (omega (arith, h.count)) h.holds;
           noted_count = length-map_in (λ v. max v (n + 1)) noted at (end_of spans assigned (n + 1)) ∙ h.noted_count;
-          latest = latest_next (IsAbove tree assigned) (first_of spans assigned) (end_of spans assigned) (length assigned) covers filled n room noted
-              (omega (arith, h.noted_count)) h.latest;
+          latest = latest_next (IsOver tree assigned) (place_at spans) (length tree) n at (end_of spans assigned (n + 1))
+              (λ a known_a. nested.tells (affinity_of assigned (n + 1)) a within known_a) noted (omega (arith, h.noted_count)) h.latest;
           total = let bound = needs_count in omega (arith, bound, long);
           flat = λ depth. let bound = flat_count depth in omega (arith, bound, long);
         }

@@ -1,5 +1,5 @@
 -- The needs of the first messages, and of one more.
-use Rattle.std.proofs.Common.{◌≡◌, ℕ, ◌+◌, ◌*◌, ◌<◌, ◌≤◌, ◌⊎◌, List, [], ◌∷◌, ◌++◌, length, All, arith, refl, sym, ◌∙◌, subst, inl, inr, zero, suc, ◌-◌}
+use Rattle.std.proofs.Common.{◌≡◌, ℕ, ◌+◌, ◌*◌, ◌<◌, ◌≤◌, ◌⊎◌, List, [], ◌∷◌, ◌++◌, length, All, sum_by, arith, refl, sym, ◌∙◌, subst, inl, inr, zero, suc, ◌-◌}
 use Rattle.std.specs.List.Sorted.{IsStrictlyIncreasing}
 use Rattle.std.proofs.lemmas.List.{length_push}
 use Rattle.std.proofs.lemmas.List.Elements.{All-nil, All-push}
@@ -65,12 +65,13 @@ module _ (tree : List Node) (assigned : List ℕ) where
     paths = λ i j pair. h.closed.paths i j pair.from pair.earlier (omega (arith, pair.to)) pair.excludes;
   }
 
-  pub up_to_lists : (needs : List (List ℕ)) (n : ℕ) → n ≤ MAX_MESSAGES → AreNeedsUpTo tree assigned needs n → AreLists needs
-  up_to_lists needs n few h = record {
+  pub up_to_lists : (needs : List (List ℕ)) (n : ℕ) → n ≤ MAX_MESSAGES → sum_by length needs ≤ 2 * n → AreNeedsUpTo tree assigned needs n → AreLists needs
+  up_to_lists needs n few total h = record {
     from = λ i j need. (h.ordered i j need).from;
     earlier = λ i j need. (h.ordered i j need).earlier;
     rising = h.rising;
     few = omega (arith, h.count);
+    short = omega (arith, few, total);
   }
 
 -- in a tree of no depth there is the root alone

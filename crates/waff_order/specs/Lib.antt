@@ -3,3 +3,4 @@ pub mod Cuts
 pub mod Open
 pub mod Runs
 pub mod Lowests
+pub mod Joined

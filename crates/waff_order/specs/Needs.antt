@@ -1,6 +1,6 @@
 -- The needs of a trace's messages: for each message a list of earlier messages that it must wait
 -- for.
-use Rattle.std.specs.Prelude.{◌≡◌, ℕ, ◌-◌, ◌<◌, ◌≤◌, List, [], length, All, Contains}
+use Rattle.std.specs.Prelude.{◌≡◌, ℕ, ◌-◌, ◌^◌, ◌<◌, ◌≤◌, List, [], length, All, Contains, sum_by}
 use Rattle.std.specs.Prelude.{slice_index_or}
 use Rattle.std.specs.List.Sorted.{IsStrictlyIncreasing}
 use Rattle.waff_model.specs.Tree.{Node, Leads}
@@ -16,12 +16,14 @@ pub record IsNeed (needs : List (List ℕ)) (i j : ℕ) : Type 0 where
   pub from : 1 ≤ j
   pub listed : Contains (needs_of needs j) i
 
--- lists of needs: each need is an earlier message, and the needs of a message stand in rising order
+-- lists of needs: each need is an earlier message, the needs of a message stand in rising order, and
+-- there are fewer than 2 ^ 32 in all
 pub record AreLists (needs : List (List ℕ)) : Type 0 where
   pub from : (i j : ℕ) → IsNeed needs i j → 1 ≤ i
   pub earlier : (i j : ℕ) → IsNeed needs i j → i < j
   pub rising : All IsStrictlyIncreasing needs
   pub few : length needs ≤ MAX_MESSAGES
+  pub short : sum_by length needs < 2 ^ 32
 
 -- the needs of messages with these affinities: each need is an ordered pair, and each ordered pair
 -- is a path through needs, so that the paths through needs are exactly the path pairs

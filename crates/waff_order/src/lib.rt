@@ -4,17 +4,20 @@
 //! them lead to all earlier messages that exclude it: whoever waits for the needs waits for all,
 //! and there are few of them. A message takes the messages that are open at or below its affinity,
 //! or, where there is none, the latest one above it.
-//! - `predecessors`: the needs, found from the `frontier`, which has tables by the spans of affinities
-//!   in preorder; `lists`: lists of lists, as needs are.
+//! - `joining`: messages that join one after another, whose needs are found from the `frontier`, which
+//!   has tables by the spans of affinities in preorder; `predecessors`: the needs of a trace, whose
+//!   messages join in the order of their numbers; `lists`: lists of lists, as needs are.
 //! - `refinement`: whether all pairs that one hierarchy orders are ordered by another one, with
 //!   `lowests`.
 #![tactic(auto)]
 
 mod frontier;
+mod joining;
 mod lists;
 mod lowests;
 pub mod predecessors;
 mod refinement;
 
+pub use joining::Joining;
 pub use lists::{Lists, Needs};
 pub use refinement::refines;

@@ -1,10 +1,10 @@
-//! The needs of each message, found from the messages that are open.
+//! The needs of each message of a trace.
 
 ghost use Rattle.std.specs.Prelude.{◌+◌, ◌*◌, ◌<◌, ◌≤◌, ℕ, length, All, IfOk, sum_by};
 ghost use Rattle.waff_order.specs.Needs.{AreNeeds, IsWithinDepth};
 
-use crate::frontier::Frontier;
-use crate::lists::{Lists, Needs};
+use crate::joining::Joining;
+use crate::lists::Needs;
 use std::alloc::{AllocError, Global};
 use waff_assign::Assigned;
 use waff_model::Tree;
@@ -19,13 +19,9 @@ pub fn needs(alloc: Global, tree: &Tree, assigned: &Assigned) -> Result<Needs, A
     ensures twice { IfOk result (λ needs. sum_by length needs ≤ 2 * length assigned.now) }
 {
     let spans = tree.spans();
-    let mut frontier = Frontier::none(alloc, tree.len() as usize)?;
-    let mut lists = Lists::with_capacity(alloc, assigned.len() as usize)?;
-    let mut needs = Vec::new(alloc);
+    let mut joining = Joining::none(alloc, tree, assigned.len() as usize)?;
     for m in 1..assigned.len() + 1 {
-        let span = spans[assigned.of(m).0 as usize];
-        frontier.add(span, m, &mut needs)?;
-        lists.push(needs.as_slice())?;
+        joining.join(spans, assigned.of(m))?;
     }
-    Ok(Needs::new(lists))
+    Ok(joining.needs())
 }

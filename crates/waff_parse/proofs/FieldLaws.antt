@@ -2,7 +2,7 @@
 use Rattle.std.proofs.Common.{◌≡◌, ℕ, [], ◌∷◌, length, Some, None, arith, zero, suc, ◌<◌}
 use Rattle.csv.specs.Records.{field_at}
 use Rattle.waff_parse.specs.Rows.{Record}
-use Rattle.waff_parse.specs.Fields.{Field, two_of, three_of, four_of, five_of}
+use Rattle.waff_parse.specs.Fields.{Field, two_of, three_of, four_of, five_of, six_of}
 
 pub two-some : (row : Record) (a b : Field) → length row ≡ 2 → field_at row 0 ≡ Some a → field_at row 1 ≡ Some b → two_of row ≡ Some (a, b)
 unfolding field_at
@@ -37,6 +37,17 @@ five-some (v ∷ w ∷ x ∷ []) a b c d e len h0 h1 h2 h3 h4 = absurd (cc h4)
 five-some (v ∷ w ∷ x ∷ y ∷ []) a b c d e len h0 h1 h2 h3 h4 = absurd (cc h4)
 five-some (v ∷ w ∷ x ∷ y ∷ z ∷ []) a b c d e len h0 h1 h2 h3 h4 = cc
 five-some (v ∷ w ∷ x ∷ y ∷ z ∷ other ∷ more) a b c d e len h0 h1 h2 h3 h4 = absurd (omega arith)
+
+pub six-some : (row : Record) (a b c d e f : Field) → length row ≡ 6 → field_at row 0 ≡ Some a → field_at row 1 ≡ Some b → field_at row 2 ≡ Some c → field_at row 3 ≡ Some d → field_at row 4 ≡ Some e → field_at row 5 ≡ Some f → six_of row ≡ Some (a, b, c, d, e, f)
+unfolding field_at
+six-some [] a b c d e f len h0 h1 h2 h3 h4 h5 = absurd (cc h5)
+six-some (v ∷ []) a b c d e f len h0 h1 h2 h3 h4 h5 = absurd (cc h5)
+six-some (v ∷ w ∷ []) a b c d e f len h0 h1 h2 h3 h4 h5 = absurd (cc h5)
+six-some (v ∷ w ∷ x ∷ []) a b c d e f len h0 h1 h2 h3 h4 h5 = absurd (cc h5)
+six-some (v ∷ w ∷ x ∷ y ∷ []) a b c d e f len h0 h1 h2 h3 h4 h5 = absurd (cc h5)
+six-some (v ∷ w ∷ x ∷ y ∷ z ∷ []) a b c d e f len h0 h1 h2 h3 h4 h5 = absurd (cc h5)
+six-some (v ∷ w ∷ x ∷ y ∷ z ∷ u ∷ []) a b c d e f len h0 h1 h2 h3 h4 h5 = cc
+six-some (v ∷ w ∷ x ∷ y ∷ z ∷ u ∷ other ∷ more) a b c d e f len h0 h1 h2 h3 h4 h5 = absurd (omega arith)
 
 -- a place that a record has is not empty
 pub field_at-there : (row : Record) (place : ℕ) → place < length row → None ≡ field_at row place → ⊥

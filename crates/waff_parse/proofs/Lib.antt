@@ -3,3 +3,4 @@ pub mod TextLaws
 pub mod RowLaws
 mod FieldLaws
 pub mod WrittenRows
+pub mod NumberOrder

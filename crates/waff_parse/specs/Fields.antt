@@ -41,6 +41,17 @@ five_of (a ∷ b ∷ c ∷ d ∷ []) = None
 five_of (a ∷ b ∷ c ∷ d ∷ e ∷ []) = Some (a, b, c, d, e)
 five_of (a ∷ b ∷ c ∷ d ∷ e ∷ f ∷ more) = None
 
+-- the six fields of a record of six
+abbrev pub six_of : Record → Option (Field × Field × Field × Field × Field × Field)
+six_of [] = None
+six_of (a ∷ []) = None
+six_of (a ∷ b ∷ []) = None
+six_of (a ∷ b ∷ c ∷ []) = None
+six_of (a ∷ b ∷ c ∷ d ∷ []) = None
+six_of (a ∷ b ∷ c ∷ d ∷ e ∷ []) = None
+six_of (a ∷ b ∷ c ∷ d ∷ e ∷ f ∷ []) = Some (a, b, c, d, e, f)
+six_of (a ∷ b ∷ c ∷ d ∷ e ∷ f ∷ g ∷ more) = None
+
 -- the texts that were borrowed of a record
 abbrev pub two_texts : Bor Field × Bor Field → Field × Field
 two_texts fields = (fields.0.now, fields.1.now)
@@ -55,3 +66,8 @@ four_texts fields = (fields.0.now, fields.1.now, fields.2.now, fields.3.now)
 abbrev pub five_texts : Bor Field × Bor Field × Bor Field × Bor Field × Bor Field
     → Field × Field × Field × Field × Field
 five_texts fields = (fields.0.now, fields.1.now, fields.2.now, fields.3.now, fields.4.now)
+
+abbrev pub six_texts : Bor Field × Bor Field × Bor Field × Bor Field × Bor Field × Bor Field
+    → Field × Field × Field × Field × Field × Field
+six_texts fields =
+    (fields.0.now, fields.1.now, fields.2.now, fields.3.now, fields.4.now, fields.5.now)

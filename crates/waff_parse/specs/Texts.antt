@@ -1,6 +1,6 @@
 -- Parts of texts, and numbers.
 use Rattle.std.specs.Prelude.{ℕ, ◌^◌, List, [], length, slice_index, Bool, not}
-use Rattle.std.specs.Prelude.{◌==◌, ◌&&◌, nat_lt, if◌then◌else◌, Option, Some, None}
+use Rattle.std.specs.Prelude.{◌==◌, ◌&&◌, false, nat_le, nat_lt, if◌then◌else◌, Option, Some, None}
 use Rattle.std.specs.Prelude.{option_and_then}
 use Rattle.std.specs.Char.{is_ascii_digit}
 use Rattle.std.specs.List.{slice_split, list_all}
@@ -15,6 +15,9 @@ colon = 58
 
 abbrev pub semicolon : ℕ
 semicolon = 59
+
+abbrev pub hyphen : ℕ
+hyphen = 45
 
 -- the parts of a text between the bytes c
 abbrev pub parts : ℕ → List ℕ → List (List ℕ)
@@ -49,3 +52,13 @@ within low high n = if nat_lt n low then None else if nat_lt high n then None el
 -- the number from low to high that a text writes, if it does
 abbrev pub number_within : ℕ → ℕ → List ℕ → Option ℕ
 number_within low high text = option_and_then (within low high) (number_of text)
+
+-- two numbers, the first at most the second
+abbrev pub rising : Option ℕ → Option ℕ → Bool
+rising None last = false
+rising (Some first) None = false
+rising (Some first) (Some last) = nat_le first last
+
+-- both texts write numbers, the first at most the second
+abbrev pub are_rising : List ℕ → List ℕ → Bool
+are_rising first last = rising (number_of first) (number_of last)

@@ -62,3 +62,20 @@ pub fn five_fields(row: &StringRecord) -> Option<(&str, &str, &str, &str, &str)>
         field(row, 4),
     ))
 }
+
+/// The fields of a record, if it has six.
+pub fn six_fields(row: &StringRecord) -> Option<(&str, &str, &str, &str, &str, &str)>
+    ensures { option_map fields.six_texts result ≡ fields.six_of (fields_of row.now) }
+{
+    if row.len() != 6 {
+        return None;
+    }
+    Some((
+        field(row, 0),
+        field(row, 1),
+        field(row, 2),
+        field(row, 3),
+        field(row, 4),
+        field(row, 5),
+    ))
+}

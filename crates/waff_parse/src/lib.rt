@@ -18,11 +18,11 @@ mod rows;
 mod stop;
 mod text;
 
-pub use fields::{five_fields, four_fields, three_fields, two_fields};
+pub use fields::{five_fields, four_fields, six_fields, three_fields, two_fields};
 pub use refusals::{Ranked, least, pair};
 pub use rows::{NotText, next_text, text_rows};
 pub use stop::Stop;
-pub use text::{cut, number, number_within};
+pub use text::{are_rising, cut, number, number_within, three_parts, two_parts};
 
 #[cfg(test)]
 mod tests;

@@ -1,4 +1,7 @@
-use crate::{NotText, Ranked, Stop, cut, least, next_text, number, number_within, pair, text_rows};
+use crate::{
+    NotText, Ranked, Stop, are_rising, cut, least, next_text, number, number_within, pair,
+    text_rows,
+};
 use csv::StringRecord;
 
 // A fault that is its own rank.
@@ -47,6 +50,21 @@ fn a_number_has_digits_and_no_leading_zero(rt: HostRuntime) {
     assert_eq!(rt; number_within("0", 1, 9), None);
     assert_eq!(rt; number_within("10", 1, 9), None);
     assert_eq!(rt; number_within("18446744073709551617", 1, 9), None);
+}
+
+#[test]
+fn numbers_of_any_length_are_compared(rt: HostRuntime) {
+    assert!(rt; are_rising("4", "7"));
+    assert!(rt; are_rising("7", "7"));
+    assert!(rt; !are_rising("7", "4"));
+    assert!(rt; !are_rising("04", "7"));
+    assert!(rt; !are_rising("4", ""));
+    assert!(rt; are_rising("9", "99999999999999999999999"));
+    assert!(rt; !are_rising("99999999999999999999999", "9"));
+    assert!(rt; are_rising("99999999999999999999998", "99999999999999999999999"));
+    assert!(rt; !are_rising("99999999999999999999999", "99999999999999999999998"));
+    assert!(rt; are_rising("99999999999999999999999", "100000000000000000000000"));
+    assert!(rt; !are_rising("100000000000000000000000", "99999999999999999999999"));
 }
 
 #[test]

@@ -1,10 +1,11 @@
 //! Parts of a text, and numbers.
 
 ghost use Rattle.std.specs.Prelude.{ℕ, ◌≡◌, ◌==◌, position, ◌<◌, ◌≤◌, ◌∷◌, ◌+◌, ◌*◌, if◌then◌else◌};
-ghost use Rattle.std.specs.Prelude.{option_map, IfSome, Some, None};
+ghost use Rattle.std.specs.Prelude.{option_map, IfSome, IsTrue, Some, None, length, nat_le};
 ghost use Rattle.std.specs.Char.{is_ascii_digit};
 ghost use Rattle.std.specs.List.{list_all};
 ghost use Rattle.std.specs.Str.Parse.{digits_value};
+ghost use Rattle.waff_parse.specs.Fields as fields;
 ghost use Rattle.waff_parse.specs.Texts as texts;
 
 // The first place of a byte.
@@ -24,6 +25,36 @@ pub fn cut(text: &str, at: char) -> (&str, Option<&str>)
     match place_of(text.as_bytes(), at as u8) {
         Some(place) => (&text[..place], Some(&text[place + 1..])),
         None => (text, None),
+    }
+}
+
+/// The parts of a text between `at`, an ASCII character, if there are two.
+pub fn two_parts(text: &str, at: char) -> Option<(&str, &str)>
+    requires { at < 128 }
+    ensures { option_map fields.two_texts result ≡ fields.two_of (texts.parts at text.now) }
+{
+    let (first, others) = cut(text, at);
+    let Some(others) = others else {
+        return None;
+    };
+    match cut(others, at) {
+        (second, None) => Some((first, second)),
+        (_, Some(_)) => None,
+    }
+}
+
+/// The parts of a text between `at`, an ASCII character, if there are three.
+pub fn three_parts(text: &str, at: char) -> Option<(&str, &str, &str)>
+    requires { at < 128 }
+    ensures { option_map fields.three_texts result ≡ fields.three_of (texts.parts at text.now) }
+{
+    let (first, others) = cut(text, at);
+    let Some(others) = others else {
+        return None;
+    };
+    match two_parts(others, at) {
+        Some((second, third)) => Some((first, second, third)),
+        None => None,
     }
 }
 
@@ -102,4 +133,51 @@ pub fn number_within(text: &str, low: u64, high: u64) -> Option<u64>
         return None;
     }
     Some(n)
+}
+
+// Whether digits write a number that is at most that of as many others: the first that differ tell.
+fn digits_at_most(first: &[u8], second: &[u8]) -> bool
+    requires same { length first.now ≡ length second.now }
+    requires first { IsTrue (list_all is_ascii_digit first.now) }
+    requires second { IsTrue (list_all is_ascii_digit second.now) }
+    ensures { result ≡ nat_le (digits_value 10 first.now) (digits_value 10 second.now) }
+{
+    let mut place = 0;
+    while place < first.len() {
+        if first[place] != second[place] {
+            return first[place] < second[place];
+        }
+        place += 1;
+    }
+    true
+}
+
+// Whether a number is at most another: of two that have no leading zero the longer one is greater.
+fn long_at_most(first: &[u8], second: &[u8]) -> bool
+    requires first { IsTrue (texts.is_number first.now) }
+    requires second { IsTrue (texts.is_number second.now) }
+    ensures { result ≡ nat_le (digits_value 10 first.now) (digits_value 10 second.now) }
+{
+    if first.len() != second.len() {
+        return first.len() < second.len();
+    }
+    digits_at_most(first, second)
+}
+
+/// Whether both texts write numbers, of any length, the first at most the second.
+pub fn are_rising(first: &str, last: &str) -> bool
+    ensures { result ≡ texts.are_rising first.now last.now }
+{
+    let Some(least) = number(first) else {
+        return false;
+    };
+    let Some(greatest) = number(last) else {
+        return false;
+    };
+    match (least, greatest) {
+        (Some(least), Some(greatest)) => least <= greatest,
+        (Some(_), None) => true,
+        (None, Some(_)) => false,
+        (None, None) => long_at_most(first.as_bytes(), last.as_bytes()),
+    }
 }

@@ -1,21 +1,32 @@
--- The ordered pairs of a trace go forward.
-use Rattle.std.proofs.Common.{◌≡◌, ℕ, List, length, subst, ◌≤◌, arith}
+-- The ordered pairs of a trace go forward, where a message follows only earlier ones.
+use Rattle.std.proofs.Common.{◌≡◌, ℕ, List, length, inl, inr, subst, ◌<◌, ◌≤◌, arith, refl}
 use Rattle.waff_model.specs.Tree.{Node}
-use Rattle.waff_assign.specs.Order.{IsOrdered, Relation}
+use Rattle.waff_assign.specs.Order.{IsOrdered}
 use Rattle.waff_plan.specs.Work.{Work, IsNumber}
-use Rattle.waff_plan.specs.Obeys.{IsForward}
+use Rattle.waff_plan.specs.Timing.{work_of}
+use Rattle.waff_plan.specs.declared.timing.Timing.{Timing}
+use Rattle.waff_plan.proofs.NoClients.{none_follows_earlier}
+use Rattle.waff_plan.specs.Obeys.{IsLinked, IsForward, FollowsEarlier}
 
-pub IsOrdered_forward : (tree : List Node) (assigned : List ℕ) (work : Work) → length assigned ≡ work.count → IsForward (IsOrdered tree assigned) work
-IsOrdered_forward tree assigned work same = record {
-  from = λ i j h. h.from;
-  earlier = λ i j h. h.earlier;
-  to = λ i j h. subst (λ n. j ≤ n) same h.to;
-}
+pub IsOrdered_forward : (tree : List Node) (assigned : List ℕ) (work : Work) → length assigned ≡ work.count → FollowsEarlier work
+    → IsForward (IsOrdered tree assigned) work
+IsOrdered_forward tree assigned work same follows =
+    let pair = λ (i m : ℕ) (linked : IsLinked (IsOrdered tree assigned) work i m).
+    let is : (1 ≤ i) × ((i < m) × (m ≤ work.count)) = elim linked [
+      | inl h ↦ (h.from, (h.earlier, subst (λ n. m ≤ n) same h.to))
+      | inr h ↦ let earlier = follows i m h in (earlier.from, (earlier.earlier, earlier.to))
+    ] in is in
+    record {
+      place = λ m. m;
+      from = λ m number. number.from;
+      to = λ m number. number.to;
+      first = λ i m linked. let p = pair i m linked in record { from = p.0; to = omega (arith, p.1.0, p.1.1) };
+      second = λ i m linked. let p = pair i m linked in record { from = omega (arith, p.0, p.1.0); to = p.1.1 };
+      earlier = λ i m linked. (pair i m linked).1.0;
+    }
 
--- both of a pair are messages
-module _ (before : Relation) (work : Work) (forward : IsForward before work) (i j : ℕ) (pair : before i j) where
-  pub first_number : IsNumber work i
-  first_number = record { from = forward.from i j pair; to = omega (arith, forward.earlier i j pair, forward.to i j pair) }
-
-  pub second_number : IsNumber work j
-  second_number = record { from = omega (arith, forward.from i j pair, forward.earlier i j pair); to = forward.to i j pair }
+-- so do those of timings, of which none follows another
+pub timings_forward : (tree : List Node) (assigned : List ℕ) (timings : List Timing) → length assigned ≡ length timings
+    → IsForward (IsOrdered tree assigned) (work_of timings)
+timings_forward tree assigned timings same =
+    IsOrdered_forward tree assigned (work_of timings) same (none_follows_earlier (work_of timings) (λ _. refl))

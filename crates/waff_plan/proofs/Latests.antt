@@ -1,7 +1,10 @@
 -- The latest of the messages that one thing or another holds of.
-use Rattle.std.proofs.Common.{◌≡◌, ◌⊎◌, ℕ, ◌+◌, ◌<◌, ◌≤◌, true, false, Option, Some, None, arith, sym, ◌∙◌, ap, subst, inl, inr, ⊎_elim}
+use Rattle.std.proofs.Common.{◌≡◌, ◌⊎◌, ℕ, zero, suc, ◌+◌, ◌<◌, ◌≤◌, true, false, List, [], ◌∷◌, ◌++◌, length, Contains, Option, Some, None, arith, refl, sym, ◌∙◌, ap, subst, inl, inr, ⊎_elim}
 use Rattle.std.proofs.lemmas.Bool.{cond_both, cases_eq}
+use Rattle.std.specs.List.{range_with_len}
 use Rattle.std.proofs.lemmas.Bool.Decides.{nat_tests}
+use Rattle.std.proofs.lemmas.List.Elements.{Contains-append_left, Contains-push, Contains-push_cases}
+use Rattle.waff_plan.proofs.Longest.{range_with_len_more}
 use Rattle.waff_plan.specs.Work.{IsAmongFirst}
 use Rattle.waff_plan.specs.Latest.{is_later, later_of, IsFound}
 use Rattle.waff_plan.specs.declared.latest.Latest.{Latest}
@@ -89,41 +92,73 @@ found_either P Q finish (Some one) (Some other) h g =
     })
 
 -- one message is the latest of itself
-pub found_one : (finish : ℕ → ℕ) (message : Latest) (n : ℕ) → message.number ≡ n → finish n ≡ message.finish
-    → IsFound (λ i. i ≡ n) finish (Some message)
-found_one finish message n number is = record {
+pub found_one : (finish : ℕ → ℕ) (message : Latest) → finish message.number ≡ message.finish
+    → IsFound (λ i. i ≡ message.number) finish (Some message)
+found_one finish message is = record {
   number = record {
-    one = number;
-    latest = λ i same. omega (arith, ap finish (same ∙ sym number));
-    lowest = λ i same equal. omega arith;
+    one = refl;
+    latest = λ i same. omega (arith, ap finish same);
+    lowest = λ i same equal. omega (arith, same);
   };
-  finish_is = sym is ∙ ap finish (sym number);
+  finish_is = sym is;
 }
 
 -- one more message of which P holds
-pub found_noted : (P : ℕ → Type 0) (finish : ℕ → ℕ) (n : ℕ) (latest : Option Latest) (message : Latest) → message.number ≡ n + 1
-    → finish (n + 1) ≡ message.finish → P (n + 1) → IsFound (λ i. IsAmongFirst n i × P i) finish latest
-    → IsFound (λ i. IsAmongFirst (n + 1) i × P i) finish (later_of latest (Some message))
-found_noted P finish n latest message number is holds h =
-    found_same (λ i. (IsAmongFirst n i × P i) ⊎ (i ≡ n + 1)) (λ i. IsAmongFirst (n + 1) i × P i) finish (later_of latest (Some message))
+pub found_noted : (P : ℕ → Type 0) (finish : ℕ → ℕ) (noted : List ℕ) (latest : Option Latest) (message : Latest)
+    → finish message.number ≡ message.finish → P message.number → IsFound (λ i. Contains noted i × P i) finish latest
+    → IsFound (λ i. Contains (noted ++ message.number ∷ []) i × P i) finish (later_of latest (Some message))
+found_noted P finish noted latest message is holds h =
+    let more = noted ++ message.number ∷ [] in
+    found_same (λ i. (Contains noted i × P i) ⊎ (i ≡ message.number)) (λ i. Contains more i × P i) finish (later_of latest (Some message))
     (λ i either. elim either [
-      | inl old ↦ (record { from = old.0.from; to = omega (arith, old.0.to) }, old.1)
-      | inr last ↦ (record { from = omega (arith, last); to = omega (arith, last) }, subst P (sym last) holds)
+      | inl old ↦ (Contains-append_left noted (message.number ∷ []) i old.0, old.1)
+      | inr last ↦ (subst (Contains more) (sym last) (Contains-push noted message.number), subst P (sym last) holds)
     ])
-    (λ i new. elim (cases_eq i (n + 1)) [
-      | inl last ↦ inr last
-      | inr other ↦ inl (record { from = new.0.from; to = omega (arith, new.0.to, other) }, new.1)
+    (λ i new. elim (Contains-push_cases noted message.number i new.0) [
+      | inl old ↦ inl (old, new.1)
+      | inr last ↦ inr (sym last)
     ])
-    (found_either (λ i. IsAmongFirst n i × P i) (λ i. i ≡ n + 1) finish latest (Some message) h (found_one finish message (n + 1) number is))
+    (found_either (λ i. Contains noted i × P i) (λ i. i ≡ message.number) finish latest (Some message) h (found_one finish message is))
 
 -- one more message of which P does not hold
-pub found_passed : (P : ℕ → Type 0) (finish : ℕ → ℕ) (n : ℕ) (latest : Option Latest) → (P (n + 1) → ⊥)
-    → IsFound (λ i. IsAmongFirst n i × P i) finish latest → IsFound (λ i. IsAmongFirst (n + 1) i × P i) finish latest
-found_passed P finish n latest fails h =
-    found_same (λ i. IsAmongFirst n i × P i) (λ i. IsAmongFirst (n + 1) i × P i) finish latest
-    (λ i old. (record { from = old.0.from; to = omega (arith, old.0.to) }, old.1))
-    (λ i new. elim (cases_eq i (n + 1)) [
-      | inl last ↦ absurd (fails (subst P last new.1))
-      | inr other ↦ (record { from = new.0.from; to = omega (arith, new.0.to, other) }, new.1)
+pub found_passed : (P : ℕ → Type 0) (finish : ℕ → ℕ) (noted : List ℕ) (m : ℕ) (latest : Option Latest) → (P m → ⊥)
+    → IsFound (λ i. Contains noted i × P i) finish latest → IsFound (λ i. Contains (noted ++ m ∷ []) i × P i) finish latest
+found_passed P finish noted m latest fails h =
+    found_same (λ i. Contains noted i × P i) (λ i. Contains (noted ++ m ∷ []) i × P i) finish latest
+    (λ i old. (Contains-append_left noted (m ∷ []) i old.0, old.1))
+    (λ i new. elim (Contains-push_cases noted m i new.0) [
+      | inl old ↦ (old, new.1)
+      | inr last ↦ absurd (fails (subst P (sym last) new.1))
     ])
     h
+
+first_more : (n : ℕ) → range_with_len 1 (suc n) ≡ range_with_len 1 n ++ suc n ∷ []
+first_more n = ap (range_with_len 1) (let next : suc n ≡ n + 1 = omega arith in next) ∙ range_with_len_more 1 n (suc n) (omega arith)
+
+-- the first n messages are those with these numbers
+pub first_from : (n i : ℕ) → IsAmongFirst n i → Contains (range_with_len 1 n) i
+first_from zero i up_to = absurd (omega (arith, up_to.from, up_to.to))
+first_from (suc n) i up_to =
+    subst (λ xs. Contains xs i) (sym (first_more n))
+    (elim (cases_eq i (suc n)) [
+      | inl last ↦ subst (Contains (range_with_len 1 n ++ suc n ∷ [])) (sym last) (Contains-push (range_with_len 1 n) (suc n))
+      | inr other ↦
+          Contains-append_left (range_with_len 1 n) (suc n ∷ []) i
+          (first_from n i (record { from = up_to.from; to = omega (arith, up_to.to, other) }))
+    ])
+
+pub first_to : (n i : ℕ) → Contains (range_with_len 1 n) i → IsAmongFirst n i
+first_to zero i there = absurd (omega (arith, there.1))
+first_to (suc n) i there =
+    elim (Contains-push_cases (range_with_len 1 n) (suc n) i
+    (subst (λ xs. Contains xs i) (first_more n) there)) [
+      | inl old ↦ let up_to = first_to n i old in record { from = up_to.from; to = omega (arith, up_to.to) }
+      | inr last ↦ record { from = omega (arith, last); to = omega (arith, last) }
+    ]
+
+-- the latest of the first n messages of which P holds
+pub found_first : (P : ℕ → Type 0) (finish : ℕ → ℕ) (n : ℕ) (latest : Option Latest)
+    → IsFound (λ i. Contains (range_with_len 1 n) i × P i) finish latest → IsFound (λ i. IsAmongFirst n i × P i) finish latest
+found_first P finish n latest h =
+    found_same (λ i. Contains (range_with_len 1 n) i × P i) (λ i. IsAmongFirst n i × P i) finish latest
+    (λ i both. (first_to n i both.0, both.1)) (λ i both. (first_from n i both.0, both.1)) h

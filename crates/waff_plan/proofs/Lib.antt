@@ -1,5 +1,10 @@
 pub mod Longest
+pub mod Holding
+pub mod NoClients
 pub mod Chains
+pub mod Earliest
+pub mod IssueOrder
+pub mod IssuePlans
 pub mod Ticks
 mod Steps
 pub mod Forward

@@ -5,7 +5,7 @@ use Rattle.waff_model.specs.Tree.{Node}
 use Rattle.waff_assign.specs.Order.{affinity_of, IsOrdered}
 use Rattle.waff_plan.specs.Work.{Work, finish_of}
 use Rattle.waff_plan.specs.Obeys.{IsAmong, KeepsOrder}
-use Rattle.waff_plan.specs.Table.{IsLatestExcluding}
+use Rattle.waff_plan.proofs.Tables.{IsLatestOfFirst}
 use Rattle.waff_plan.specs.declared.latest.Latest.{Latest}
 
 -- so many messages are noted before message m, of the first `count`
@@ -19,7 +19,7 @@ module _ (tree : List Node) (assigned : List ℕ) (work : Work) (start : ℕ →
 
   -- message m starts after all noted ones that are before it, where it starts after the latest of them
   pub starts_after : (m : ℕ) (latest : Option Latest)
-      → IsLatestExcluding tree assigned (finish_of work start) (noted_before count m) (affinity_of assigned m) latest
+      → IsLatestOfFirst tree assigned (finish_of work start) (noted_before count m) (affinity_of assigned m) latest
       → IfSome latest (λ l. l.finish ≤ start m) → (i : ℕ) → IsAmong count (IsOrdered tree assigned) i m → finish_of work start i ≤ start m
   starts_after m None none h i o = absurd (none i (record { from = o.ordered.from; to = omega (arith, o.ordered.earlier, o.within) }, o.ordered.excludes))
   starts_after m (Some latest) found h i o =
@@ -28,7 +28,7 @@ module _ (tree : List Node) (assigned : List ℕ) (work : Work) (start : ℕ →
 
   -- where the order is kept, message m starts after the latest of the noted ones that are before it
   pub after_latest : (m : ℕ) (latest : Option Latest) → m ≤ length assigned
-      → IsLatestExcluding tree assigned (finish_of work start) (noted_before count m) (affinity_of assigned m) latest
+      → IsLatestOfFirst tree assigned (finish_of work start) (noted_before count m) (affinity_of assigned m) latest
       → KeepsOrder (IsAmong count (IsOrdered tree assigned)) work start → IfSome latest (λ l. l.finish ≤ start m)
   after_latest m None to none kept = tt
   after_latest m (Some latest) to found kept =

@@ -1,16 +1,17 @@
 -- The least plan is one, and so is the printed chain of a plan.
 use Rattle.std.proofs.Common.{◌≡◌, ℕ, ◌+◌, ◌*◌, ◌≤◌, ◌⊎◌, inl, inr, List, [], ◌∷◌, Option, Some, None, arith, refl, sym, ap, subst, ◌∙◌}
-use Rattle.waff_plan.specs.Work.{Work, IsNumber, finish_of, length_of, total_of}
+use Rattle.waff_assign.specs.Order.{Relation}
+use Rattle.waff_plan.specs.Work.{Work, IsNumber, finish_of, holds_until, length_of, total_of}
 use Rattle.waff_plan.specs.Bound.{right_side}
-use Rattle.waff_plan.specs.Obeys.{IsForward}
+use Rattle.waff_plan.specs.Obeys.{IsLinked, IsForward}
 use Rattle.waff_plan.specs.Chain.{IsLatest, LeadsToEnd, IsPrinted, chain_cost, chain_release}
 use Rattle.waff_plan.specs.Totals.{totals_of}
 use Rattle.waff_plan.specs.declared.totals.Totals.{Totals}
 use Rattle.waff_plan.specs.Unique.{AreSame, LeastIsOne, PrintedIsOne}
-use Rattle.waff_plan.proofs.Forward.{first_number}
+use Rattle.waff_plan.proofs.Holding.{holds-same}
 use Rattle.waff_plan.proofs.Longest.{finish_of-le-length_of, length_of-le}
 
-pub least_is_one : (before : ℕ → ℕ → Type 0) (work : Work) → LeastIsOne before work
+pub least_is_one : (before : Relation) (work : Work) → LeastIsOne before work
 least_is_one before work start other first second m number =
     omega (arith, first.least other second.obeys m number, second.least start first.obeys m number)
 
@@ -62,7 +63,7 @@ whole_is_end : (m : ℕ) (rest : List ℕ) → IsEnd m rest m rest
 whole_is_end m [] = (refl, refl)
 whole_is_end m (next ∷ rest) = inl (refl, refl)
 
-module _ (before : ℕ → ℕ → Type 0) (work : Work) (start : ℕ → ℕ) where
+module _ (before : Relation) (work : Work) (start : ℕ → ℕ) where
   -- the latest of all messages alone is the end of each chain
   last_is_end : (m other : ℕ) (others : List ℕ) → IsLatest (IsNumber work) (finish_of work start) m → LeadsToEnd before work start other others
       → IsEnd m [] other others
@@ -70,7 +71,7 @@ module _ (before : ℕ → ℕ → Type 0) (work : Work) (start : ℕ → ℕ) w
   last_is_end m other (next ∷ others) last leads = inr (last_is_end m next others last leads.2)
 
   -- what stands before an end is the latest message before it
-  longer_end : (m next : ℕ) (rest : List ℕ) (other : ℕ) (others : List ℕ) → IsLatest (λ i. before i next) (finish_of work start) m
+  longer_end : (m next : ℕ) (rest : List ℕ) (other : ℕ) (others : List ℕ) → IsLatest (λ i. IsLinked before work i next) (holds_until work start next) m
       → LeadsToEnd before work start other others → IsEnd next rest other others
       → ((next ≡ other) × (rest ≡ others)) ⊎ IsEnd m (next ∷ rest) other others
   longer_end m next rest other [] latest leads (same, none) = inl (same, none)
@@ -78,8 +79,8 @@ module _ (before : ℕ → ℕ → Type 0) (work : Work) (start : ℕ → ℕ) w
   longer_end m next rest other (after ∷ others) latest leads (inr end) =
       elim (longer_end m next rest after others latest leads.2 end) [
         | inl (same, equal) ↦
-            let first : m ≡ other = latest_is_one (λ i. before i next) (finish_of work start) m other latest
-            (subst (λ x. IsLatest (λ i. before i x) (finish_of work start) other) (sym same) leads.0) in
+            let first : m ≡ other = latest_is_one (λ i. IsLinked before work i next) (holds_until work start next) m other latest
+            (subst (λ x. IsLatest (λ i. IsLinked before work i x) (holds_until work start x) other) (sym same) leads.0) in
             let tail : next ∷ rest ≡ after ∷ others = cc in
             inr (inl (first, tail))
         | inr more ↦ inr (inr more)
@@ -99,17 +100,19 @@ module _ (before : ℕ → ℕ → Type 0) (work : Work) (start : ℕ → ℕ) w
   ]
 
   -- an end that waited for no message is the whole chain
-  whole : (m : ℕ) (rest : List ℕ) (other : ℕ) (others : List ℕ) → ((i : ℕ) → before i m → finish_of work start i ≤ work.release m)
+  whole : (m : ℕ) (rest : List ℕ) (other : ℕ) (others : List ℕ) → ((i : ℕ) → IsLinked before work i m → holds_until work start m i ≤ work.release m)
       → LeadsToEnd before work start other others → IsEnd m rest other others → (m ≡ other) × (rest ≡ others)
   whole m rest other [] free leads end = end
   whole m rest other (next ∷ others) free leads (inl same) = same
   whole m rest other (next ∷ others) free leads (inr end) =
       let shorter = whole m rest next others free leads.2 end in
-      absurd (omega (arith, leads.1, free other (subst (λ x. before other x) (sym shorter.0) leads.0.one), ap work.release shorter.0))
+      let free_here : holds_until work start next other ≤ work.release next
+      = subst (λ x. holds_until work start x other ≤ work.release x) shorter.0 (free other (subst (λ x. IsLinked before work other x) (sym shorter.0) leads.0.one)) in
+      absurd (omega (arith, leads.1, free_here))
 
   number_of_leads : IsForward before work → (m : ℕ) (rest : List ℕ) → LeadsToEnd before work start m rest → IsNumber work m
   number_of_leads forward m [] leads = leads.one
-  number_of_leads forward m (next ∷ rest) leads = first_number before work forward m next leads.0.one
+  number_of_leads forward m (next ∷ rest) leads = forward.first m next leads.0.one
 
   -- a plan has one printed chain
   one_chain : IsForward before work → (chain other : List ℕ) → IsPrinted before work start chain → IsPrinted before work start other → chain ≡ other
@@ -133,18 +136,18 @@ latest_of_same Is finish other m same latest = record {
   lowest = λ i is equal. latest.lowest i is (same i is ∙ equal ∙ sym (same m latest.one));
 }
 
-module _ (before : ℕ → ℕ → Type 0) (work : Work) (start other : ℕ → ℕ) (forward : IsForward before work) (same : AreSame work start other) where
+module _ (before : Relation) (work : Work) (start other : ℕ → ℕ) (forward : IsForward before work) (same : AreSame work start other) where
   same_finish : (i : ℕ) → IsNumber work i → finish_of work start i ≡ finish_of work other i
   same_finish i number = ap (λ s. s + work.cost i) (same i number)
 
-  same_finish_before : (i m : ℕ) → before i m → finish_of work start i ≡ finish_of work other i
-  same_finish_before i m pair = same_finish i (first_number before work forward i m pair)
+  same_hold : (i m : ℕ) → IsLinked before work i m → holds_until work start m i ≡ holds_until work other m i
+  same_hold i m linked = holds-same work start other i m (same i (forward.first i m linked))
 
   leads_of_same : (m : ℕ) (rest : List ℕ) → LeadsToEnd before work start m rest → LeadsToEnd before work other m rest
   leads_of_same m [] leads = latest_of_same (IsNumber work) (finish_of work start) (finish_of work other) m same_finish leads
   leads_of_same m (next ∷ rest) leads =
-      let at : finish_of work start m ≡ finish_of work other m = same_finish_before m next leads.0.one in (
-        latest_of_same (λ i. before i next) (finish_of work start) (finish_of work other) m (λ i pair. same_finish_before i next pair) leads.0,
+      let at : holds_until work start next m ≡ holds_until work other next m = same_hold m next leads.0.one in (
+        latest_of_same (λ i. IsLinked before work i next) (holds_until work start next) (holds_until work other next) m (λ i linked. same_hold i next linked) leads.0,
         omega (arith, at, leads.1),
         leads_of_same next rest leads.2,
       )
@@ -153,8 +156,8 @@ module _ (before : ℕ → ℕ → Type 0) (work : Work) (start other : ℕ → 
   pub printed_of_same : (chain : List ℕ) → IsPrinted before work start chain → IsPrinted before work other chain
   printed_of_same [] none = none
   printed_of_same (m ∷ rest) printed =
-      (λ i pair. omega (arith, same_finish_before i m pair, printed.0 i pair), leads_of_same m rest printed.1)
+      (λ i linked. omega (arith, same_hold i m linked, printed.0 i linked), leads_of_same m rest printed.1)
 
-pub printed_is_one : (before : ℕ → ℕ → Type 0) (work : Work) → IsForward before work → PrintedIsOne before work
+pub printed_is_one : (before : Relation) (work : Work) → IsForward before work → PrintedIsOne before work
 printed_is_one before work forward start other chain other_chain same printed printed_other =
     one_chain before work other forward chain other_chain (printed_of_same before work start other forward same chain printed) printed_other

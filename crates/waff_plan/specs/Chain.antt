@@ -1,16 +1,17 @@
--- Chains of messages, each before the next, and the chain that is printed with a plan.
-use Rattle.std.specs.Prelude.{◌≡◌, ℕ, ◌<◌, ◌≤◌, List, [], ◌∷◌, length, All, sum_by}
+-- Chains of messages, each of which holds back the next, and the chain that is printed with a plan.
+use Rattle.std.specs.Prelude.{◌≡◌, ℕ, ◌+◌, ◌<◌, ◌≤◌, List, [], ◌∷◌, length, All, sum_by}
 use Rattle.waff_assign.specs.Order.{Relation}
 pub use Rattle.waff_plan.specs.Work.{IsAmongFirst}
-use Rattle.waff_plan.specs.Work.{Work, IsNumber, finish_of}
+use Rattle.waff_plan.specs.Work.{Work, IsNumber, finish_of, gap_of, holds_until}
+use Rattle.waff_plan.specs.Obeys.{IsLinked}
 
--- m is before the first message of the list, that one before the second, and so on
+-- m holds back the first message of the list, that one the second, and so on
 abbrev pub LinksOn : Relation → Work → ℕ → List ℕ → Type 0
 LinksOn before work m [] = IsNumber work m
 LinksOn before work m (next ∷ rest) =
-    IsNumber work m × before m next × LinksOn before work next rest
+    IsNumber work m × IsLinked before work m next × LinksOn before work next rest
 
--- a chain: a list of messages in which each neighbouring pair is an ordered pair
+-- a chain: a list of messages each of which holds back the next
 abbrev pub IsChain : Relation → Work → List ℕ → Type 0
 IsChain before work [] = Unit {0}
 IsChain before work (m ∷ rest) = LinksOn before work m rest
@@ -24,31 +25,37 @@ pub record IsListed (messages : ℕ) (chain : List ℕ) : Type 0 where
 abbrev pub chain_cost : Work → List ℕ → ℕ
 chain_cost work chain = sum_by work.cost chain
 
--- the release of a chain: that of its first message, 0 where it is empty
+-- the gaps between m and the first message of the list, between that one and the second, and so on
+abbrev pub gaps_after : Work → ℕ → List ℕ → ℕ
+gaps_after work m [] = 0
+gaps_after work m (next ∷ rest) = gap_of work m next + gaps_after work next rest
+
+-- the release of a chain: that of its first message and its gaps, the ticks in which nothing of it
+-- runs; 0 where it is empty
 abbrev pub chain_release : Work → List ℕ → ℕ
 chain_release work [] = 0
-chain_release work (m ∷ rest) = work.release m
+chain_release work (m ∷ rest) = work.release m + gaps_after work m rest
 
--- m is the latest of those that Is holds of: none of them finishes later, and none that finishes at
--- the same tick has a lower number
+-- m is the latest of those that Is holds of: none of them is done later, and none that is done at the
+-- same tick has a lower number
 pub record IsLatest (Is : ℕ → Type 0) (finish : ℕ → ℕ) (m : ℕ) : Type 0 where
   pub one : Is m
   pub latest : (other : ℕ) → Is other → finish other ≤ finish m
   pub lowest : (other : ℕ) → Is other → finish other ≡ finish m → m ≤ other
 
--- from m, the latest message before each next one, on to the latest of all messages; none that
--- follows m waited for its release instead
+-- from m, of what holds back each next message that which does so longest, on to the latest of all
+-- messages; none behind m waited for its release instead
 abbrev pub LeadsToEnd : Relation → Work → (ℕ → ℕ) → ℕ → List ℕ → Type 0
 LeadsToEnd before work start m [] = IsLatest (IsNumber work) (finish_of work start) m
 LeadsToEnd before work start m (next ∷ rest) =
-    IsLatest (λ i. before i next) (finish_of work start) m
-    × (work.release next < finish_of work start m)
+    IsLatest (λ i. IsLinked before work i next) (holds_until work start next) m
+    × (work.release next < holds_until work start next m)
     × LeadsToEnd before work start next rest
 
--- the printed chain of a plan: it begins with a message whose release is at least the finish of
--- every message before it, and is empty where there is no message
+-- the printed chain of a plan: it begins with a message that nothing holds back longer than its
+-- release, and is empty where there is no message
 abbrev pub IsPrinted : Relation → Work → (ℕ → ℕ) → List ℕ → Type 0
 IsPrinted before work start [] = work.count ≡ 0
 IsPrinted before work start (m ∷ rest) =
-    ((i : ℕ) → before i m → finish_of work start i ≤ work.release m)
+    ((i : ℕ) → IsLinked before work i m → holds_until work start m i ≤ work.release m)
     × LeadsToEnd before work start m rest

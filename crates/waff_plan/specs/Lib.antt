@@ -1,5 +1,7 @@
 pub mod Work
 pub mod Obeys
+pub mod Issues
+pub mod AtOnce
 pub mod Chain
 pub mod Workers
 pub mod Laws
@@ -14,5 +16,6 @@ pub mod CostedChain
 pub mod Bound
 pub mod Totals
 pub mod Unique
+pub mod IssueLaws
 pub mod Planned
 pub mod Instances

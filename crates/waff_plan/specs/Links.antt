@@ -2,17 +2,19 @@
 use Rattle.std.specs.Prelude.{ℕ, ◌-◌, ◌<◌, ◌≤◌, List, Option, Some, None, MatchOption, nat_lt}
 use Rattle.std.specs.Prelude.{slice_index_or, if◌then◌else◌}
 use Rattle.waff_assign.specs.Order.{Relation}
-use Rattle.waff_plan.specs.Work.{Work, finish_of}
+use Rattle.waff_plan.specs.Work.{Work, holds_until}
+use Rattle.waff_plan.specs.Obeys.{IsLinked}
 use Rattle.waff_plan.specs.Chain.{IsLatest}
 use Rattle.waff_plan.specs.declared.latest.Latest.{Latest}
 
--- the message that m waited for: the latest before m, where it finishes after the release of m
+-- the message that m waited for: of those that hold it back the one that does so longest, where that
+-- is longer than the release of m
 abbrev pub IsLink : Relation → Work → (ℕ → ℕ) → ℕ → Option ℕ → Type 0
 IsLink before work start m link =
     MatchOption link
-    ((i : ℕ) → before i m → finish_of work start i ≤ work.release m)
-    (λ i. IsLatest (λ j. before j m) (finish_of work start) i
-    × (work.release m < finish_of work start i))
+    ((i : ℕ) → IsLinked before work i m → holds_until work start m i ≤ work.release m)
+    (λ i. IsLatest (λ j. IsLinked before work j m) (holds_until work start m) i
+    × (work.release m < holds_until work start m i))
 
 -- the links of the first n messages
 abbrev pub AreLinks : Relation → Work → (ℕ → ℕ) → ℕ → List (Option ℕ) → Type 0

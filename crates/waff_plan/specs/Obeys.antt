@@ -1,14 +1,36 @@
 -- Plans that obey an order of the messages, and the least of them. `before i j` says that message j
 -- starts only when message i has finished.
-use Rattle.std.specs.Prelude.{ℕ, ◌<◌, ◌≤◌}
+use Rattle.std.specs.Prelude.{◌≡◌, ℕ, ◌<◌, ◌≤◌, ◌⊎◌, Some, None}
 use Rattle.waff_assign.specs.Order.{Relation}
-use Rattle.waff_plan.specs.Work.{Work, IsNumber, finish_of}
+use Rattle.waff_plan.specs.Work.{Work, IsNumber, finish_of, issue_of}
 
--- each pair of the order is of two messages, the earlier of which comes first
+-- message i holds back message m: it is before m, or m follows it
+abbrev pub IsLinked : Relation → Work → Relation
+IsLinked before work i m = before i m ⊎ (work.follows m ≡ Some i)
+
+-- messages have places in the order in which they are served, from 1 to their number, and what holds
+-- back another is a message that has an earlier place
 pub record IsForward (before : Relation) (work : Work) : Type 0 where
-  pub from : (i j : ℕ) → before i j → 1 ≤ i
-  pub earlier : (i j : ℕ) → before i j → i < j
-  pub to : (i j : ℕ) → before i j → j ≤ work.count
+  pub place : ℕ → ℕ
+  pub from : (m : ℕ) → IsNumber work m → 1 ≤ place m
+  pub to : (m : ℕ) → IsNumber work m → place m ≤ work.count
+  pub first : (i m : ℕ) → IsLinked before work i m → IsNumber work i
+  pub second : (i m : ℕ) → IsLinked before work i m → IsNumber work m
+  pub earlier : (i m : ℕ) → IsLinked before work i m → place i < place m
+
+-- message i comes earlier than message m in the trace
+pub record IsEarlier (work : Work) (i m : ℕ) : Type 0 where
+  pub from : 1 ≤ i
+  pub earlier : i < m
+  pub to : m ≤ work.count
+
+-- each message that follows another follows one that comes earlier in the trace
+abbrev pub FollowsEarlier : Work → Type 0
+FollowsEarlier work = (i m : ℕ) → work.follows m ≡ Some i → IsEarlier work i m
+
+-- no message follows another
+abbrev pub FollowsNone : Work → Type 0
+FollowsNone work = (m : ℕ) → work.follows m ≡ None
 
 -- a pair of the order the first message of which is one of the first n
 pub record IsAmong (n : ℕ) (before : Relation) (i j : ℕ) : Type 0 where
@@ -19,10 +41,10 @@ pub record IsAmong (n : ℕ) (before : Relation) (i j : ℕ) : Type 0 where
 abbrev pub KeepsOrder : Relation → Work → (ℕ → ℕ) → Type 0
 KeepsOrder before work start = (i j : ℕ) → before i j → finish_of work start i ≤ start j
 
--- an obeying plan: no message starts before its release, nor before the finish of one that is
+-- an obeying plan: no message starts before it is issued, nor before the finish of one that is
 -- before it
 pub record Obeys (before : Relation) (work : Work) (start : ℕ → ℕ) : Type 0 where
-  pub released : (m : ℕ) → IsNumber work m → work.release m ≤ start m
+  pub issued : (m : ℕ) → IsNumber work m → issue_of work start m ≤ start m
   pub ordered : KeepsOrder before work start
 
 -- the least obeying plan: in each other one every message starts at the same tick or later

@@ -1,5 +1,6 @@
 -- The timings and the starts of a trace's messages, as lists in the order of arrival.
-use Rattle.std.specs.Prelude.{ℕ, ◌-◌, List, length, slice_index, slice_index_or}
+use Rattle.std.specs.Prelude.{ℕ, ◌-◌, ◌≤◌, List, length, None, slice_index, slice_index_or}
+use Rattle.waff_model.specs.declared.limits.TheConstants.{MAX_COST, MAX_RELEASE}
 use Rattle.waff_plan.specs.Work.{Work}
 use Rattle.waff_plan.specs.declared.timing.Timing.{Timing}
 
@@ -7,16 +8,23 @@ use Rattle.waff_plan.specs.declared.timing.Timing.{Timing}
 abbrev pub no_timing : Timing
 no_timing = record { cost = 0; release = 0 }
 
+-- a timing within the limits of messages
+pub record IsTiming (timing : Timing) : Type 0 where
+  pub cost : timing.cost ≤ MAX_COST
+  pub release : timing.release ≤ MAX_RELEASE
+
 -- the timing of message n, from 1
 abbrev pub timing_of : List Timing → ℕ → Timing
 timing_of timings n = slice_index_or timings (n - 1) no_timing
 
--- the work of messages with these timings
+-- the work of messages with these timings, of which none follows another
 abbrev pub work_of : List Timing → Work
 work_of timings = record {
   count = length timings;
   cost = λ m. (timing_of timings m).cost;
   release = λ m. (timing_of timings m).release;
+  follows = λ m. None;
+  think = λ m. 0;
 }
 
 -- the start of message n, from 1

@@ -1,11 +1,12 @@
 //! What holds of all plans, whoever made them. Each law is a function that does nothing and whose
 //! contract is the law, for the ordered pairs of a tree of affinities and the affinities assigned
-//! to the messages.
+//! to the messages. The lemmas behind them are of any order in which the messages have places.
 
 ghost use Rattle.std.specs.Prelude.{◌≡◌, ℕ, List, length};
 ghost use Rattle.waff_model.specs.Tree.{Node};
 ghost use Rattle.waff_assign.specs.Order.{IsOrdered, Refines};
 ghost use Rattle.waff_plan.specs.Work.{Work};
+ghost use Rattle.waff_plan.specs.Obeys.{FollowsEarlier};
 ghost use Rattle.waff_plan.specs.Laws.{ChainsAreWithinLength, LeastIsShortest, PrintedIsChain};
 ghost use Rattle.waff_plan.specs.Laws.{PrintedIsAsLong, TotalIsWithinWorkers, NoneIsShorter};
 ghost use Rattle.waff_plan.specs.Laws.{LeastIsNoLonger};
@@ -26,13 +27,13 @@ pub fn least_is_shortest()
 /// The printed chain of a plan is a chain.
 pub fn printed_is_chain()
     ensures { (tree : List Node) (assigned : List ℕ) (work : Work) → length assigned ≡ work.count
-        → PrintedIsChain (IsOrdered tree assigned) work }
+        → FollowsEarlier work → PrintedIsChain (IsOrdered tree assigned) work }
 {}
 
 /// The printed chain of the least plan certifies its length.
 pub fn printed_is_as_long()
     ensures { (tree : List Node) (assigned : List ℕ) (work : Work) → length assigned ≡ work.count
-        → PrintedIsAsLong (IsOrdered tree assigned) work }
+        → FollowsEarlier work → PrintedIsAsLong (IsOrdered tree assigned) work }
 {}
 
 /// In every worker plan for k the total is at most k times the length.
@@ -54,7 +55,7 @@ pub fn bound_is_within_twice()
         → BoundIsWithinTwice (IsOrdered tree assigned) work }
 {}
 
-/// Where no message has a release, it is at most 2 - 1/k times as long.
+/// Where no message has a release or a think time, it is at most 2 - 1/k times as long.
 pub fn bound_is_within_ratio()
     ensures { (tree : List Node) (assigned : List ℕ) (work : Work)
         → BoundIsWithinRatio (IsOrdered tree assigned) work }

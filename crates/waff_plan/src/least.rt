@@ -1,9 +1,10 @@
 //! The starts of the least plan.
 
-ghost use Rattle.std.specs.Prelude.{◌≡◌, ◌^◌, ◌<◌, ◌≤◌, max, length, All, IfOk, MatchOption};
+ghost use Rattle.std.specs.Prelude.{◌≡◌, ◌<◌, ◌≤◌, max, length, All, IfOk, MatchOption};
 ghost use Rattle.waff_assign.specs.Order.{IsOrdered};
 ghost use Rattle.waff_plan.specs.Obeys.{IsLeast};
-ghost use Rattle.waff_plan.specs.Timing.{work_of, start_of};
+ghost use Rattle.waff_plan.specs.Timing.{IsTiming, work_of, start_of};
+ghost use Rattle.waff_model.specs.declared.limits.TheConstants.{MAX_MESSAGES};
 
 use crate::Timing;
 use crate::latest::Latest;
@@ -23,6 +24,8 @@ pub(crate) fn least_starts(
 ) -> Result<Vec<u64>, AllocError>
     requires lengths { length timings.now ≡ length assigned.now }
     requires known { All (λ a. a < length tree.now) assigned.now }
+    requires few { length timings.now ≤ MAX_MESSAGES }
+    requires small { All IsTiming timings.now }
     ensures count { IfOk result (λ starts. length starts.items ≡ length timings.now) }
     ensures least { IfOk result (λ starts. IsLeast (IsOrdered tree.now assigned.now)
         (work_of timings.now) (start_of starts.items)) }
@@ -46,11 +49,8 @@ pub(crate) fn least_starts(
 fn start_after(latest: Option<Latest>, timing: Timing) -> u64
     ensures start { MatchOption latest (result ≡ timing.release) (λ l.
         result ≡ max timing.release l.finish) }
-    ensures release { timing.release < 2 ^ 32 }
-    ensures cost { timing.cost < 2 ^ 32 }
 {
     let release = u64::from(timing.release);
-    let _cost = timing.cost;
     match latest {
         Some(latest) => release.max(latest.finish),
         None => release,

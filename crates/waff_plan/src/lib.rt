@@ -15,9 +15,11 @@
 //! - `printed`, over `links` and `linked`: the printed chain; `totals`: what the summary of a plan
 //!   tells.
 //! - `ordered`: whether a plan keeps the order of the messages.
-//! - `laws`: what holds of all plans; `unique`: that the definitions leave no choice.
+//! - `laws`: what holds of all plans; `unique`: that the definitions leave no choice; `issue_laws`: of
+//!   plans in the order in which clients issue messages.
 #![tactic(auto)]
 
+pub mod issue_laws;
 mod last;
 mod latest;
 pub mod laws;

@@ -1,6 +1,6 @@
-//! A table of the latest messages so far, by the spans of their affinities in preorder.
+//! A table of the latest of the messages that are noted, by the spans of their affinities in preorder.
 
-ghost use Rattle.std.specs.Prelude.{◌≡◌, ℕ, ◌+◌, ◌<◌, ◌≤◌, List, length, IfOk};
+ghost use Rattle.std.specs.Prelude.{◌≡◌, ℕ, ◌<◌, ◌≤◌, List, [], ◌∷◌, ◌++◌, length, IfOk};
 ghost use Rattle.waff_model.specs.declared.preorder.Span.{Span};
 ghost use Rattle.waff_plan.specs.Table.{message_span, IsTable, IsLatestMeeting};
 
@@ -12,7 +12,7 @@ use waff_model::Span;
 use waff_model::limits::MAX_MESSAGES;
 use waff_model::spans::{Later, Spread, Standing};
 
-/// The messages so far. One whose affinity is at or above another's is noted at the first place of
+/// The messages that are noted. One whose affinity is at or above another's is noted at the first place of
 /// that one, and one whose affinity is at or below it stands at a place of its span.
 #[derive(Drop)]
 pub(crate) struct Table {
@@ -39,7 +39,7 @@ impl Table {
         ensures count { IfOk result (λ table. length table.own ≡ count) }
         ensures table { IfOk result (λ table.
             (spans : List Span) (assigned : List ℕ) (finish : ℕ → ℕ)
-            → IsTable spans assigned finish 0 table) }
+            → IsTable spans assigned finish [] table) }
     {
         Ok(Table {
             own: Standing::none(alloc, count)?,
@@ -52,9 +52,9 @@ impl Table {
     pub fn latest(&self, span: Span) -> Option<Latest>
         requires forward { span.first < span.end }
         requires within { span.end ≤ length self.now.own }
-        ensures { (spans : List Span) (assigned : List ℕ) (finish : ℕ → ℕ) (n : ℕ)
-            → IsTable spans assigned finish n self.now
-            → IsLatestMeeting spans assigned finish n span result }
+        ensures { (spans : List Span) (assigned : List ℕ) (finish : ℕ → ℕ) (noted : List ℕ)
+            → IsTable spans assigned finish noted self.now
+            → IsLatestMeeting spans assigned finish noted span result }
     {
         match self.last {
             Some(last) if last.meets(span) => Some(last.message),
@@ -66,9 +66,9 @@ impl Table {
     fn latest_by_spans(&self, span: Span) -> Option<Latest>
         requires forward { span.first < span.end }
         requires within { span.end ≤ length self.now.own }
-        ensures { (spans : List Span) (assigned : List ℕ) (finish : ℕ → ℕ) (n : ℕ)
-            → IsTable spans assigned finish n self.now
-            → IsLatestMeeting spans assigned finish n span result }
+        ensures { (spans : List Span) (assigned : List ℕ) (finish : ℕ → ℕ) (noted : List ℕ)
+            → IsTable spans assigned finish noted self.now
+            → IsLatestMeeting spans assigned finish noted span result }
     {
         let (first, end) = (span.first as usize, span.end as usize);
         let above = self.over.at(first);
@@ -76,17 +76,17 @@ impl Table {
         above.later(below).message()
     }
 
-    /// Notes the next message, whose affinity has this span.
+    /// Notes a message, whose affinity has this span.
     pub fn note(&mut self, span: Span, message: Latest)
         requires forward { span.first < span.end }
         requires within { span.end ≤ length self.old.own }
         requires few { message.number ≤ MAX_MESSAGES }
         ensures count { length self.new.own ≡ length self.old.own }
-        ensures table { (spans : List Span) (assigned : List ℕ) (finish : ℕ → ℕ) (n : ℕ)
-            → IsTable spans assigned finish n self.old
-            → message.number ≡ n + 1 → message_span spans assigned (n + 1) ≡ span
-            → finish (n + 1) ≡ message.finish
-            → IsTable spans assigned finish (n + 1) self.new }
+        ensures table { (spans : List Span) (assigned : List ℕ) (finish : ℕ → ℕ) (noted : List ℕ)
+            → IsTable spans assigned finish noted self.old
+            → message_span spans assigned message.number ≡ span
+            → finish message.number ≡ message.finish
+            → IsTable spans assigned finish (noted ++ message.number ∷ []) self.new }
     {
         let (first, end) = (span.first as usize, span.end as usize);
         self.own.put(first, Found::one(message));

@@ -122,7 +122,7 @@ impl Plan {
     /// The sum of all running times.
     pub fn total(&self) -> u64
         ensures total { result ≡ total_of (work_in self.now) }
-        ensures small { result ≤ 2 ^ 48 }
+        ensures small { result ≤ 2 ^ 52 }
     {
         let mut total = 0;
         for n in 1..self.len() + 1 {

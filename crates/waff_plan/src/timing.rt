@@ -1,6 +1,7 @@
 //! The timings of messages.
 
-ghost use Rattle.std.specs.Prelude.{◌≡◌, ◌≤◌, length, IfOk};
+ghost use Rattle.std.specs.Prelude.{◌≡◌, ◌≤◌, length, All, IfOk};
+ghost use Rattle.waff_plan.specs.Timing.{IsTiming};
 ghost use Rattle.waff_plan.specs.Timetable.{timings_of};
 
 use std::alloc::{AllocError, Global};
@@ -19,6 +20,7 @@ pub struct Timing {
 /// The timings of the messages of a trace, in the order of arrival.
 pub(crate) fn timings(alloc: Global, trace: &Trace) -> Result<Vec<Timing>, AllocError>
     ensures each { IfOk result (λ timings. timings.items ≡ timings_of trace.now.messages) }
+    ensures small { IfOk result (λ timings. All IsTiming timings.items) }
     ensures few { length trace.now.messages ≤ MAX_MESSAGES }
 {
     let mut timings = Vec::with_capacity(alloc, trace.len() as usize)?;

@@ -32,7 +32,7 @@ impl Plan {
         requires listed { IsListed (length self.now.timings) chain.now }
         ensures totals { result
             ≡ totals_of workers (work_in self.now) (starts_in self.now) chain.now }
-        ensures small { result.release + result.cost < 2 ^ 49 }
+        ensures small { result.release + result.cost < 2 ^ 53 }
     {
         let total = self.total();
         let length = self.length();
@@ -60,7 +60,7 @@ impl Plan {
 pub(crate) fn cost_of(plan: &Plan, chain: &[u32]) -> u64
     requires { IsListed (length plan.now.timings) chain.now }
     ensures cost { result ≡ chain_cost (work_in plan.now) chain.now }
-    ensures small { result ≤ 2 ^ 48 }
+    ensures small { result ≤ 2 ^ 52 }
 {
     let _messages = plan.len();
     let mut cost = 0;

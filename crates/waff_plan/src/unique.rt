@@ -6,6 +6,7 @@ ghost use Rattle.std.specs.Prelude.{◌≡◌, ℕ, List, length};
 ghost use Rattle.waff_model.specs.Tree.{Node};
 ghost use Rattle.waff_assign.specs.Order.{IsOrdered};
 ghost use Rattle.waff_plan.specs.Work.{Work};
+ghost use Rattle.waff_plan.specs.Obeys.{FollowsEarlier};
 ghost use Rattle.waff_plan.specs.Unique.{LeastIsOne, PrintedIsOne};
 
 /// The least plan is one.
@@ -17,6 +18,6 @@ pub fn least_is_one()
 /// A plan has one printed chain.
 pub fn printed_is_one()
     ensures equal { (tree : List Node) (assigned : List ℕ) (work : Work)
-        → length assigned ≡ work.count
+        → length assigned ≡ work.count → FollowsEarlier work
         → PrintedIsOne (IsOrdered tree assigned) work }
 {}

@@ -5,7 +5,7 @@ use Rattle.std.proofs.lemmas.Bool.{cases_eq, cases_order}
 use Rattle.std.proofs.lemmas.List.{length-take-le}
 use Rattle.std.proofs.lemmas.Option.{slice_get_past}
 use Rattle.waff_model.specs.declared.message.Version.{Version}
-use Rattle.waff_model.specs.declared.message.Version.TheVariants.{V1, V2}
+use Rattle.waff_model.specs.declared.message.Version.TheVariants.{V1, V2, V3}
 use Rattle.waff_parse.specs.Fields.{five_of}
 use Rattle.waff_parse.specs.Refusals.{◌>>=◌, told}
 use Rattle.waff_parse.specs.Rows.{Record, is_text, records_of}
@@ -311,6 +311,7 @@ module _ (version : Version) (messages : ℕ) (rows : List Record) where
   lines_some : (v : Version) → IsSome (slice_get (lines_of v messages) 0)
   lines_some V1 = refl
   lines_some V2 = refl
+  lines_some V3 = refl
 
   end_decides : (k : ℕ) (slots : Slots) → drop k rows ≡ [] → k ≤ length rows → summary_in (take k rows) ≡ [] → Kept messages slots (take k rows) → Clean k
       → Decides (refusal_of (plan_of_end (k + 2) slots))

@@ -1,10 +1,8 @@
 -- The header is accepted, and nothing else.
-use Rattle.std.proofs.Common.{◌≡◌, ◌≢◌, List, [], ◌∷◌, Bool, true, false, Result, Ok, Err, codes, refl, ap, ◌∙◌}
+use Rattle.std.proofs.Common.{◌≡◌, ◌≢◌, List, [], ◌∷◌, Bool, true, false, Result, Ok, Err, refl, ap, ◌∙◌}
 use Rattle.std.specs.Prelude.{if◌then◌else◌}
-use Rattle.std.specs.Str.{bytes_eq}
-use Rattle.std.proofs.lemmas.Bool.{and_parts}
-use Rattle.std.proofs.lemmas.Slice.Eq.{bytes_eq-Decides}
-use Rattle.waff_parse.specs.Fields.{Field, five_of}
+use Rattle.std.proofs.lemmas.Slice.Eq.{bytes_eq-Decides, slice_eq-Decides}
+use Rattle.waff_parse.specs.Fields.{five_of}
 use Rattle.waff_parse.specs.Rows.{Record}
 use Rattle.waff_parse.proofs.WrittenRows.{bare_is_text}
 use Rattle.waff_plan_text.specs.Headers.{HeaderIsExact}
@@ -14,20 +12,8 @@ use Rattle.waff_plan_text.specs.declared.refusal.PlanTextError.{PlanTextError}
 use Rattle.waff_plan_text.specs.declared.refusal.PlanTextError.TheVariants as error
 use Rattle.waff_plan_text.proofs.WrittenPlans.{simple_header}
 
-same_field : (text name : Field) → bytes_eq text name ≡ true → text ≡ name
-same_field text name h = (bytes_eq-Decides text name).0 h
-
 is_the_header : (first : Record) → is_header (five_of first) ≡ true → first ≡ plan_header
-is_the_header (a ∷ b ∷ c ∷ d ∷ e ∷ []) h =
-    let one = and_parts (bytes_eq a (codes "message")) _ h in
-    let two = and_parts (bytes_eq b (codes "affinity")) _ one.1 in
-    let three = and_parts (bytes_eq c (codes "start")) _ two.1 in
-    let four = and_parts (bytes_eq d (codes "finish")) (bytes_eq e (codes "worker")) three.1 in
-    ap (λ x. x ∷ b ∷ c ∷ d ∷ e ∷ []) (same_field a (codes "message") one.0)
-    ∙ ap (λ x. codes "message" ∷ x ∷ c ∷ d ∷ e ∷ []) (same_field b (codes "affinity") two.0)
-    ∙ ap (λ x. codes "message" ∷ codes "affinity" ∷ x ∷ d ∷ e ∷ []) (same_field c (codes "start") three.0)
-    ∙ ap (λ x. codes "message" ∷ codes "affinity" ∷ codes "start" ∷ x ∷ e ∷ []) (same_field d (codes "finish") four.0)
-    ∙ ap (λ x. codes "message" ∷ codes "affinity" ∷ codes "start" ∷ codes "finish" ∷ x ∷ []) (same_field e (codes "worker") four.1)
+is_the_header (a ∷ b ∷ c ∷ d ∷ e ∷ []) h = (slice_eq-Decides bytes_eq-Decides (a ∷ b ∷ c ∷ d ∷ e ∷ []) plan_header _ refl).0 h
 is_the_header _ h = absurd (cc)
 
 -- what the first record leads to

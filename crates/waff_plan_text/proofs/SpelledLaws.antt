@@ -7,7 +7,7 @@ use Rattle.std.proofs.lemmas.List.Elements.{All-cons, All-head, All-nil, All-tai
 use Rattle.std.proofs.lemmas.Slice.Eq.{bytes_eq-Decides}
 use Rattle.waff_model.specs.declared.limits.TheConstants.{MAX_TICK, MAX_WORKERS}
 use Rattle.waff_model.specs.declared.message.Version.{Version}
-use Rattle.waff_model.specs.declared.message.Version.TheVariants.{V1, V2}
+use Rattle.waff_model.specs.declared.message.Version.TheVariants.{V1, V2, V3}
 use Rattle.waff_parse.specs.Fields.{Field, two_of}
 use Rattle.waff_parse.specs.Refusals.{◌>>=◌, told}
 use Rattle.waff_parse.specs.Rows.{Record, is_text}
@@ -17,7 +17,8 @@ use Rattle.waff_plan.specs.Chain.{IsListed, IsAmongFirst}
 use Rattle.waff_plan_text.specs.Fields.{is_dash, number_within_limit}
 use Rattle.waff_plan_text.specs.Given.{SummaryLines}
 use Rattle.waff_plan_text.specs.Refusals.{at_record}
-use Rattle.waff_plan_text.specs.SpelledSummaries.{AreNumbers, AreTexts, IsRelease, IsTick, IsWorkersField, SpellsSummary, SummaryIsExact, release_line}
+use Rattle.waff_plan_text.specs.SpelledSummaries.{AreNumbers, AreTexts, IsRelease, IsTick, IsWorkersField, SpellsSummary, SummaryIsExact}
+use Rattle.waff_plan_text.specs.Spelling.{release_line}
 use Rattle.waff_plan_text.specs.Summaries.{bound_line, chain_line, chain_of, closing_of, ending_of, ends, few, is_bound, link_of, next_line, same, summary_of, tick_line, tick_of, value_of, with_closing, workers_line, workers_of}
 use Rattle.waff_plan_text.specs.declared.closing.Closing.{Closing}
 use Rattle.waff_plan_text.specs.declared.refusal.PlanTextError.{PlanTextError}
@@ -322,6 +323,25 @@ closing_ok V2 at rows closing h =
       left = e.left;
       right = e.right;
     }
+closing_ok V3 at rows closing h =
+    let both = bind_ok (next_line (tick_line (codes "release")) at rows) (λ release. ending_of release (at + 1) (drop 1 rows)) closing h in
+    let first = line_ok (tick_line (codes "release")) at rows both.0 both.1 in
+    let release = tick_ok (codes "release") first.0 both.0 first.2 in
+    let e = ending_ok both.0 (at + 1) (drop 1 rows) closing both.2 in
+    let others : List Record = (codes "cost" ∷ e.cost_text ∷ []) ∷ (codes "bound" ∷ e.left_text ∷ e.right_text ∷ []) ∷ [] in
+    let lines : rows ≡ (codes "release" ∷ release.0 ∷ []) ∷ others =
+    first.1 ∙ ap (λ (rs : List Record). first.0 ∷ rs) e.lines ∙ ap (λ (r : Record). r ∷ others) release.1 in
+    record {
+      release_text = release.0;
+      cost_text = e.cost_text;
+      left_text = e.left_text;
+      right_text = e.right_text;
+      lines = lines;
+      release = subst (IsTick release.0) (sym e.same) release.2;
+      cost = e.cost;
+      left = e.left;
+      right = e.right;
+    }
 
 spelled : (version : Version) (messages at : ℕ) (rows : List Record) (summary : SummaryLines) → summary_of version messages at rows ≡ Ok summary
     → SpellsSummary version messages rows summary
@@ -428,6 +448,15 @@ ok_closing V2 at rows closing texts s =
     let read = ok_ending closing.release (at + 1) closing.cost closing.left closing.right s.cost_text s.left_text s.right_text
     (other_texts (codes "release" ∷ s.release_text ∷ []) others here) s.cost s.left s.right in
     ap (closing_of V2 at) s.lines ∙ ap (λ r. r >>= (λ release. ending_of release (at + 1) others)) release ∙ read
+ok_closing V3 at rows closing texts s =
+    let here : AreTexts ((codes "release" ∷ s.release_text ∷ []) ∷ (codes "cost" ∷ s.cost_text ∷ []) ∷ (codes "bound" ∷ s.left_text ∷ s.right_text ∷ []) ∷ []) =
+    subst AreTexts s.lines texts in
+    let others : List Record = (codes "cost" ∷ s.cost_text ∷ []) ∷ (codes "bound" ∷ s.left_text ∷ s.right_text ∷ []) ∷ [] in
+    let release = ok_line (tick_line (codes "release")) at (codes "release" ∷ s.release_text ∷ []) others closing.release
+    (first_text (codes "release" ∷ s.release_text ∷ []) others here) (ok_tick (codes "release") s.release_text closing.release s.release) in
+    let read = ok_ending closing.release (at + 1) closing.cost closing.left closing.right s.cost_text s.left_text s.right_text
+    (other_texts (codes "release" ∷ s.release_text ∷ []) others here) s.cost s.left s.right in
+    ap (closing_of V3 at) s.lines ∙ ap (λ r. r >>= (λ release. ending_of release (at + 1) others)) release ∙ read
 
 -- five readings in turn, each of which gives a value
 all_read : {w : Result (Option ℕ) PlanTextError} {t l : Result ℕ PlanTextError} {c : Result (List ℕ) PlanTextError} {k : Result Closing PlanTextError}

@@ -4,7 +4,7 @@ use Rattle.std.specs.Prelude.{is_some, nat_le, ok_or, option_map, if◌then◌el
 use Rattle.std.specs.Str.{bytes_eq}
 use Rattle.waff_model.specs.declared.limits.TheConstants.{MAX_TICK, MAX_WORKERS}
 use Rattle.waff_model.specs.declared.message.Version.{Version}
-use Rattle.waff_model.specs.declared.message.Version.TheVariants.{V1, V2}
+use Rattle.waff_model.specs.declared.message.Version.TheVariants.{V1, V2, V3}
 use Rattle.waff_parse.specs.Fields.{Field, two_of, three_of}
 use Rattle.waff_parse.specs.Refusals.{◌>>=◌, told}
 use Rattle.waff_parse.specs.Rows.{Record, is_text}
@@ -67,11 +67,15 @@ ending release at rows =
 abbrev closing_lines : Version → List Line
 closing_lines V1 = tick (codes "cost") ∷ bound ∷ []
 closing_lines V2 = tick (codes "release") ∷ tick (codes "cost") ∷ bound ∷ []
+closing_lines V3 = tick (codes "release") ∷ tick (codes "cost") ∷ bound ∷ []
 
 closing : (version : Version) (at : ℕ) (rows : List Record) → refusal_of (closing_of version at rows) ≡ lines_refusal (closing_lines version) at rows
 unfolding closing_of
 closing V1 at rows = ending 0 at rows
 closing V2 at rows =
+    line_step (tick_line (codes "release")) (tick (codes "cost") ∷ bound ∷ []) at (at + 1) rows (drop 1 rows) _ refl refl
+    (λ release. ending release (at + 1) (drop 1 rows))
+closing V3 at rows =
     line_step (tick_line (codes "release")) (tick (codes "cost") ∷ bound ∷ []) at (at + 1) rows (drop 1 rows) _ refl refl
     (λ release. ending release (at + 1) (drop 1 rows))
 
@@ -92,6 +96,7 @@ pub summary_refused : (version : Version) (messages at : ℕ) (rows : List Recor
     → refusal_of (summary_of version messages at rows) ≡ lines_refusal (lines_of version messages) at rows
 summary_refused V1 messages at rows = front V1 messages at rows
 summary_refused V2 messages at rows = front V2 messages at rows
+summary_refused V3 messages at rows = front V3 messages at rows
 
 -- a line is refused as no line, or for a number above the limit
 abbrev pub LineOnly : Option Refusal → Type 0
@@ -171,6 +176,19 @@ pub lines_only : (version : Version) (messages : ℕ) → LinesOnly (lines_of ve
 lines_only V1 messages =
     (workers_only, (tick_only (codes "total"), (tick_only (codes "length"), (chain_only messages, (tick_only (codes "cost"), (bound_only, tt))))))
 lines_only V2 messages = (
+  workers_only,
+  (
+    tick_only (codes "total"),
+    (
+      tick_only (codes "length"),
+      (
+        chain_only messages,
+        (tick_only (codes "release"), (tick_only (codes "cost"), (bound_only, tt))),
+      ),
+    ),
+  ),
+)
+lines_only V3 messages = (
   workers_only,
   (
     tick_only (codes "total"),

@@ -16,7 +16,7 @@ use Rattle.waff_model.specs.Names.{is_name, is_name_byte}
 use Rattle.waff_model.specs.Tree.{Node, name_of}
 use Rattle.waff_model.specs.declared.limits.TheConstants.{MAX_MESSAGES, MAX_TICK, MAX_WORKERS}
 use Rattle.waff_model.specs.declared.message.Version.{Version}
-use Rattle.waff_model.specs.declared.message.Version.TheVariants.{V1, V2}
+use Rattle.waff_model.specs.declared.message.Version.TheVariants.{V1, V2, V3}
 use Rattle.waff_assign.specs.Order.{affinity_of}
 use Rattle.waff_plan.specs.Bound.{IsWorkers}
 use Rattle.waff_plan.specs.Chain.{IsListed, IsAmongFirst}
@@ -33,7 +33,7 @@ use Rattle.waff_plan_text.specs.Laws.{AreTotals, IsRow, WrittenIsRead, row_told}
 use Rattle.waff_plan_text.specs.Lines.{text_of}
 use Rattle.waff_plan_text.specs.PlanTexts.{next_message, plan_after, plan_of_records, plan_of_rows, plan_of_summary, put, row_in}
 use Rattle.waff_plan_text.specs.Rows.{Slots, numbered_row_of, row_of, row_of_fields, slot_of}
-use Rattle.waff_plan_text.specs.Spelling.{message_row, numbers_field, plan_header, plan_row, release_lines, summary_lines, worker_field}
+use Rattle.waff_plan_text.specs.Spelling.{message_row, numbers_field, plan_header, plan_row, release_line, summary_lines, worker_field}
 use Rattle.waff_plan_text.specs.Summaries.{begins_summary, bound_line, chain_line, chain_of, closing_of, ending_of, link_of, next_line, same, summary_of, tick_line, workers_line}
 use Rattle.waff_plan_text.specs.declared.closing.Closing.{Closing}
 use Rattle.waff_plan_text.specs.declared.refusal.Refusal.{Refusal}
@@ -313,7 +313,7 @@ module _ (totals : Totals) where
       ) refl
 
   closing_read : (version : Version) (at : ℕ) → AreTotals version totals
-      → closing_of version at (release_lines version totals.release ++ last_lines)
+      → closing_of version at (release_line version (decimal totals.release) ++ last_lines)
       ≡ Ok (record { release = totals.release; cost = totals.cost; left = totals.left; right = totals.right })
   unfolding closing_of
   closing_read V1 at within =
@@ -324,6 +324,10 @@ module _ (totals : Totals) where
       let release = summary_line (tick_line (codes "release")) at (codes "release" ∷ decimal totals.release ∷ []) [] totals.release
       (simple_tick (codes "release") totals.release refl within.release) (tick_line_read (codes "release") totals.release within.release) in
       rw release (ending_read V2 totals.release (at + 1) within)
+  closing_read V3 at within =
+      let release = summary_line (tick_line (codes "release")) at (codes "release" ∷ decimal totals.release ∷ []) [] totals.release
+      (simple_tick (codes "release") totals.release refl within.release) (tick_line_read (codes "release") totals.release within.release) in
+      rw release (ending_read V3 totals.release (at + 1) within)
 
   summary_read : (version : Version) (messages at : ℕ) (workers : Option ℕ) (chain : List ℕ) → messages ≤ MAX_MESSAGES → IfSome workers IsWorkers
       → IsListed messages chain → AreTotals version totals
@@ -349,16 +353,19 @@ module _ (totals : Totals) where
       (All-cons IsBare (codes "bound" ∷ decimal totals.left ∷ decimal totals.right ∷ []) []
       (record { some = omega arith; each = simple_bound totals.left totals.right within.left within.right }) (All-nil IsBare))
 
-  bare_closing : (version : Version) → AreTotals version totals → All IsBare (release_lines version totals.release ++ last_lines)
+  bare_closing : (version : Version) → AreTotals version totals → All IsBare (release_line version (decimal totals.release) ++ last_lines)
   bare_closing V1 within = bare_last V1 within
   bare_closing V2 within =
       All-cons IsBare (codes "release" ∷ decimal totals.release ∷ []) last_lines
       (record { some = omega arith; each = simple_tick (codes "release") totals.release refl within.release }) (bare_last V2 within)
+  bare_closing V3 within =
+      All-cons IsBare (codes "release" ∷ decimal totals.release ∷ []) last_lines
+      (record { some = omega arith; each = simple_tick (codes "release") totals.release refl within.release }) (bare_last V3 within)
 
   bare_summary : (version : Version) (messages : ℕ) (workers : Option ℕ) (chain : List ℕ) → messages ≤ MAX_MESSAGES → IfSome workers IsWorkers
       → IsListed messages chain → AreTotals version totals → All IsBare (summary_lines version (worker_field workers) chain totals)
   bare_summary version messages workers chain few_messages is listed within =
-      let closing : List Record = release_lines version totals.release ++ last_lines in
+      let closing : List Record = release_line version (decimal totals.release) ++ last_lines in
       let chain_row : Record = codes "chain" ∷ numbers_field chain ∷ [] in
       let length_row : Record = codes "length" ∷ decimal totals.length ∷ [] in
       let total_row : Record = codes "total" ∷ decimal totals.total ∷ [] in

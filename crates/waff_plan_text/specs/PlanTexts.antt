@@ -1,7 +1,8 @@
 -- Texts of plans.
-use Rattle.std.specs.Prelude.{ℕ, ◌+◌, Bool, false, ◌&&◌, if◌then◌else◌, List, [], ◌∷◌, replicate}
+use Rattle.std.specs.Prelude.{ℕ, ◌+◌, Bool, false, if◌then◌else◌, List, [], ◌∷◌, replicate}
 use Rattle.std.specs.Prelude.{Option, Some, None, ok_or, Result, Ok, Err, slice_set, ◌-◌, ◌≡◌}
-use Rattle.std.specs.Prelude.{codes, drop}
+use Rattle.std.specs.Prelude.{drop}
+use Rattle.std.specs.Cmp.Lexicographic.{pointwise}
 use Rattle.std.specs.Str.{bytes_eq}
 use Rattle.waff_model.specs.declared.message.Version.{Version}
 use Rattle.waff_parse.specs.Fields.{Field, five_of}
@@ -11,6 +12,7 @@ use Rattle.waff_parse.specs.Walks.{walk}
 use Rattle.waff_plan_text.specs.Given.{Given}
 use Rattle.waff_plan_text.specs.Refusals.{at_record}
 use Rattle.waff_plan_text.specs.Rows.{Slots, row_of}
+use Rattle.waff_plan_text.specs.Spelling.{plan_header}
 use Rattle.waff_plan_text.specs.Summaries.{begins_summary, summary_of}
 use Rattle.waff_plan_text.specs.declared.refusal.PlanTextError.{PlanTextError}
 use Rattle.waff_plan_text.specs.declared.refusal.PlanTextError.TheVariants as error
@@ -20,10 +22,7 @@ use Rattle.waff_plan_text.specs.declared.row.Row.{Row}
 -- the header
 abbrev pub is_header : Option (Field × Field × Field × Field × Field) → Bool
 is_header None = false
-is_header (Some f) =
-    bytes_eq f.0 (codes "message")
-    && (bytes_eq f.1 (codes "affinity") && (bytes_eq f.2 (codes "start")
-    && (bytes_eq f.3 (codes "finish") && bytes_eq f.4 (codes "worker"))))
+is_header (Some f) = pointwise bytes_eq (f.0 ∷ f.1 ∷ f.2 ∷ f.3 ∷ f.4 ∷ []) plan_header
 
 -- the first of the records is the header
 abbrev pub header_of : List Record → Result (Unit {0}) PlanTextError

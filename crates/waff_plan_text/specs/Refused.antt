@@ -6,7 +6,7 @@ use Rattle.std.specs.Prelude.{IsSome, Result, Ok, Err, slice_get, codes}
 use Rattle.waff_model.specs.Names.{is_name}
 use Rattle.waff_model.specs.declared.limits.TheConstants.{MAX_TICK}
 use Rattle.waff_model.specs.declared.message.Version.{Version}
-use Rattle.waff_model.specs.declared.message.Version.TheVariants.{V1, V2}
+use Rattle.waff_model.specs.declared.message.Version.TheVariants.{V1, V2, V3}
 use Rattle.waff_parse.specs.Fields.{Field, five_of}
 use Rattle.waff_parse.specs.Rows.{Record, is_text, records_of}
 use Rattle.waff_parse.specs.Texts.{number_of}
@@ -93,6 +93,9 @@ abbrev pub lines_of : Version → ℕ → List Line
 lines_of V1 messages = workers ∷ tick (codes "total")
     ∷ tick (codes "length") ∷ chain messages ∷ tick (codes "cost") ∷ bound ∷ []
 lines_of V2 messages =
+    workers ∷ tick (codes "total") ∷ tick (codes "length")
+    ∷ chain messages ∷ tick (codes "release") ∷ tick (codes "cost") ∷ bound ∷ []
+lines_of V3 messages =
     workers ∷ tick (codes "total") ∷ tick (codes "length")
     ∷ chain messages ∷ tick (codes "release") ∷ tick (codes "cost") ∷ bound ∷ []
 

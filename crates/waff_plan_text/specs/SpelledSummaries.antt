@@ -4,13 +4,14 @@ use Rattle.std.specs.Prelude.{◌≡◌, ◌≢◌, ◌↔◌, ◌⊎◌, ℕ, �
 use Rattle.std.specs.Prelude.{Option, Some, None, Ok, codes}
 use Rattle.waff_model.specs.declared.limits.TheConstants.{MAX_TICK}
 use Rattle.waff_model.specs.declared.message.Version.{Version}
-use Rattle.waff_model.specs.declared.message.Version.TheVariants.{V1, V2}
+use Rattle.waff_model.specs.declared.message.Version.TheVariants.{V1, V2, V3}
 use Rattle.waff_parse.specs.Fields.{Field}
 use Rattle.waff_parse.specs.Rows.{Record, is_text}
 use Rattle.waff_parse.specs.Texts.{number_of, parts}
 use Rattle.waff_plan.specs.Bound.{IsWorkers}
 use Rattle.waff_plan.specs.Chain.{IsListed}
 use Rattle.waff_plan_text.specs.Given.{SummaryLines}
+use Rattle.waff_plan_text.specs.Spelling.{release_line}
 use Rattle.waff_plan_text.specs.Summaries.{summary_of}
 
 -- a field writes a number, which is within the limit
@@ -28,14 +29,11 @@ abbrev pub AreNumbers : Field → List ℕ → Type 0
 AreNumbers text numbers = ((text ≡ []) × (numbers ≡ []))
     ⊎ ((text ≢ []) × (map number_of (parts 32 text) ≡ map Some numbers))
 
--- the line of the release, which the first version does not have
-abbrev pub release_line : Version → Field → List Record
-release_line V1 text = []
-release_line V2 text = (codes "release" ∷ text ∷ []) ∷ []
-
+-- a field writes the release, which is 0 in the first version
 abbrev pub IsRelease : Version → Field → ℕ → Type 0
 IsRelease V1 text release = release ≡ 0
 IsRelease V2 text release = IsTick text release
+IsRelease V3 text release = IsTick text release
 
 -- records are the lines of a summary in their order, which write these values
 pub record SpellsSummary (version : Version)

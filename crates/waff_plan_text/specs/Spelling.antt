@@ -4,7 +4,7 @@ use Rattle.std.specs.Prelude.{ℕ, ◌-◌, List, [], ◌∷◌, ◌++◌, Optio
 use Rattle.std.specs.Prelude.{codes, decimal}
 use Rattle.std.specs.List.{join_by}
 use Rattle.waff_model.specs.declared.message.Version.{Version}
-use Rattle.waff_model.specs.declared.message.Version.TheVariants.{V1, V2}
+use Rattle.waff_model.specs.declared.message.Version.TheVariants.{V1, V2, V3}
 use Rattle.waff_model.specs.Tree.{Node, name_of}
 use Rattle.waff_assign.specs.Order.{affinity_of}
 use Rattle.waff_plan.specs.Totals.{totals_of}
@@ -35,10 +35,11 @@ message_row tree assigned work start worker n =
 abbrev pub numbers_field : List ℕ → List ℕ
 numbers_field numbers = join_by decimal (32 ∷ []) numbers
 
--- the release of the chain, which traces of the first version do not have
-abbrev pub release_lines : Version → ℕ → List (List (List ℕ))
-release_lines V1 release = []
-release_lines V2 release = (codes "release" ∷ decimal release ∷ []) ∷ []
+-- the line of the release of the chain, which the first version does not have
+abbrev pub release_line : Version → List ℕ → List (List (List ℕ))
+release_line V1 release = []
+release_line V2 release = (codes "release" ∷ release ∷ []) ∷ []
+release_line V3 release = (codes "release" ∷ release ∷ []) ∷ []
 
 -- the workers, the total cost, the length, the printed chain, its release and cost, and the two
 -- sides of the bound
@@ -48,7 +49,7 @@ summary_lines version workers chain totals =
     ∷ (codes "total" ∷ decimal totals.total ∷ [])
     ∷ (codes "length" ∷ decimal totals.length ∷ [])
     ∷ (codes "chain" ∷ numbers_field chain ∷ [])
-    ∷ release_lines version totals.release
+    ∷ release_line version (decimal totals.release)
     ++ (codes "cost" ∷ decimal totals.cost ∷ [])
     ∷ (codes "bound" ∷ decimal totals.left ∷ decimal totals.right ∷ [])
     ∷ []
@@ -68,6 +69,11 @@ no_worker n = None
 -- each message has one, in a list by message
 abbrev pub seat_of : List ℕ → ℕ → Option ℕ
 seat_of seats n = Some (slice_index seats (n - 1))
+
+-- either of the two, as there is such a list or not
+abbrev pub workers_of : Option (List ℕ) → ℕ → Option ℕ
+workers_of None = no_worker
+workers_of (Some seats) = seat_of seats
 
 -- the lines of a plan without workers
 abbrev pub unlimited_lines : Version → List Node

@@ -5,7 +5,7 @@ use Rattle.std.specs.Prelude.{Ok, Err, codes}
 use Rattle.std.specs.Borrow.{Bor}
 use Rattle.std.specs.Str.{bytes_eq}
 use Rattle.waff_model.specs.declared.message.Version.{Version}
-use Rattle.waff_model.specs.declared.message.Version.TheVariants.{V1, V2}
+use Rattle.waff_model.specs.declared.message.Version.TheVariants.{V1, V2, V3}
 use Rattle.waff_parse.specs.Fields.{Field, two_of, three_of}
 use Rattle.waff_parse.specs.Refusals.{◌>>=◌, told}
 use Rattle.waff_parse.specs.Rows.{Record, is_text}
@@ -117,6 +117,8 @@ ending_of release at rows = do
 unfoldable pub closing_of : Version → ℕ → List Record → Result Closing PlanTextError
 closing_of V1 at rows = ending_of 0 at rows
 closing_of V2 at rows = next_line (tick_line (codes "release")) at rows >>= (λ release.
+    ending_of release (at + 1) (drop 1 rows))
+closing_of V3 at rows = next_line (tick_line (codes "release")) at rows >>= (λ release.
     ending_of release (at + 1) (drop 1 rows))
 
 -- the summary of these lines

@@ -39,6 +39,6 @@ pub use numbers::{push_field, push_number};
 pub use ratio::{Mean, Ratio, RatioUp};
 pub use reading::read_plan;
 pub use refusal::PlanTextError;
-pub use row::Row;
+pub use row::{COLUMNS, Row};
 pub use summary::Summary;
 pub use writing::{unlimited_text, worker_text};

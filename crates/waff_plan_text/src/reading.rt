@@ -11,6 +11,7 @@ use crate::given::GivenPlan;
 use crate::lines::begins_summary;
 use crate::records::next_record;
 use crate::refusal::PlanTextError;
+use crate::row::COLUMNS;
 use crate::slots::Slots;
 use crate::summary::read_summary;
 use csv::{Reader, StringRecord};
@@ -24,11 +25,7 @@ fn is_header(row: &StringRecord) -> bool
 {
     match five_fields(row) {
         Some((message, affinity, start, finish, worker)) => {
-            message == "message"
-                && affinity == "affinity"
-                && start == "start"
-                && finish == "finish"
-                && worker == "worker"
+            [message, affinity, start, finish, worker] == COLUMNS
         }
         None => false,
     }

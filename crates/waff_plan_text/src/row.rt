@@ -10,6 +10,9 @@ use std::alloc::Global;
 use waff_model::{Text, is_name};
 use waff_parse::Stop;
 
+/// What the header of a plan text says: what stands in each column.
+pub const COLUMNS: [&str; 5] = ["message", "affinity", "start", "finish", "worker"];
+
 /// What a row says of its message: all times are ticks.
 #[derive(Drop)]
 pub struct Row {

@@ -153,7 +153,7 @@ fn read_closing(
 {
     match version {
         Version::V1 => read_ending(0, at, rdr, row),
-        Version::V2 => {
+        Version::V2 | Version::V3 => {
             let release = read_tick("release", at, rdr, row)?;
             read_ending(release, at + 1, rdr, row)
         }

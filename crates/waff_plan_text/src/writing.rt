@@ -1,17 +1,19 @@
 //! The writer of plan texts.
 
-ghost use Rattle.std.specs.Prelude.{◌≡◌, [], ◌∷◌, IfOk, OnOk, codes, decimal, length};
-ghost use Rattle.std.specs.Prelude.{map, string_bytes};
+ghost use Rattle.std.specs.Prelude.{◌≡◌, [], ◌∷◌, IfOk, IfSome, OnOk, codes, decimal, length};
+ghost use Rattle.std.specs.Prelude.{map, option_copied, string_bytes};
 ghost use Rattle.waff_plan.specs.Planned.{planned_starts, planned_work};
 ghost use Rattle.waff_plan.specs.Bound.{IsWorkers};
 ghost use Rattle.waff_plan.specs.Chain.{IsListed};
-ghost use Rattle.waff_plan.specs.Work.{numbers};
+ghost use Rattle.waff_plan.specs.Work.{IsAmongFirst, numbers};
 ghost use Rattle.waff_plan_text.specs.Lines.{Adds, line_text, text_of};
-ghost use Rattle.waff_plan_text.specs.Spelling.{message_row, no_worker, numbers_field, plan_row};
-ghost use Rattle.waff_plan_text.specs.Spelling.{release_lines, seat_of, summary_lines};
+ghost use Rattle.waff_plan_text.specs.Spelling.{message_row, numbers_field, plan_header, plan_lines};
+ghost use Rattle.waff_plan_text.specs.Spelling.{plan_row, release_line, summary_lines};
 ghost use Rattle.waff_plan_text.specs.Spelling.{unlimited_lines, worker_field, worker_lines};
+ghost use Rattle.waff_plan_text.specs.Spelling.{workers_of};
 
 use crate::numbers::{push_field, push_number};
+use crate::row::COLUMNS;
 use std::alloc::{AllocError, Global};
 use waff_model::Version;
 use waff_plan::{Planned, Totals};
@@ -28,13 +30,7 @@ pub fn unlimited_text(
         planned.now.case.tree.now planned.now.case.assigned.now
         (planned_work planned.now) (planned_starts planned.now) chain.now)) }
 {
-    let version = planned.case.trace.version();
-    let mut text = String::new(alloc);
-    text.push_str(HEADER)?;
-    push_unlimited_rows(&mut text, planned)?;
-    let totals = planned.plan.totals(None, chain);
-    push_summary(&mut text, version, None, chain, &totals)?;
-    Ok(text)
+    manned_text(alloc, planned, None, None, chain)
 }
 
 /// The text of a plan for workers, with the worker of each message, and of a chain of its messages.
@@ -53,52 +49,75 @@ pub fn worker_text(
         planned.now.case.tree.now planned.now.case.assigned.now
         (planned_work planned.now) workers (planned_starts planned.now) seats.now chain.now)) }
 {
-    let version = planned.case.trace.version();
-    let workers = Some(workers);
+    manned_text(alloc, planned, Some(workers), Some(seats), chain)
+}
+
+/// The text of a plan and of a chain of its messages; `workers` and `seats` are none in a plan
+/// without workers.
+fn manned_text(
+    alloc: Global,
+    planned: &Planned<'_>,
+    workers: Option<u32>,
+    seats: Option<&[u32]>,
+    chain: &[u32],
+) -> Result<String, AllocError>
+    requires workers { IfSome workers IsWorkers }
+    requires seats { IfSome (option_copied seats)
+        (λ seats. length seats ≡ (planned_work planned.now).count) }
+    requires chain { IsListed (planned_work planned.now).count chain.now }
+    ensures { IfOk result (λ text. string_bytes text
+        ≡ text_of (plan_lines planned.now.case.trace.now.version
+        planned.now.case.tree.now planned.now.case.assigned.now (planned_work planned.now) workers
+        (planned_starts planned.now) (workers_of (option_copied seats.entry)) chain.now)) }
+{
     let mut text = String::new(alloc);
-    text.push_str(HEADER)?;
-    push_worker_rows(&mut text, planned, seats)?;
+    push_header(&mut text)?;
+    push_rows(&mut text, planned, seats)?;
+    let version = planned.case.trace.version();
     let totals = planned.plan.totals(workers, chain);
     push_summary(&mut text, version, workers, chain, &totals)?;
     Ok(text)
 }
 
-const HEADER: &str = "message,affinity,start,finish,worker\n";
+/// Appends the first line.
+fn push_header(text: &mut String) -> Result<(), AllocError>
+    ensures { OnOk result (Adds text.old text.new (line_text plan_header)) }
+{
+    let [message, affinity, start, finish, worker] = COLUMNS;
+    writeln!(text, "{message},{affinity},{start},{finish},{worker}")
+}
 
-/// Appends the lines of all messages of a plan without workers.
-fn push_unlimited_rows(text: &mut String, planned: &Planned<'_>) -> Result<(), AllocError>
+/// Appends the lines of all messages.
+fn push_rows(
+    text: &mut String,
+    planned: &Planned<'_>,
+    seats: Option<&[u32]>,
+) -> Result<(), AllocError>
+    requires seats { IfSome (option_copied seats)
+        (λ seats. length seats ≡ (planned_work planned.now).count) }
     ensures { OnOk result (Adds text.old text.new
         (text_of (map (message_row planned.now.case.tree.now planned.now.case.assigned.now
-        (planned_work planned.now) (planned_starts planned.now) no_worker)
-        (numbers (planned_work planned.now))))) }
+        (planned_work planned.now) (planned_starts planned.now)
+        (workers_of (option_copied seats.entry))) (numbers (planned_work planned.now))))) }
 {
     let plan = planned.plan;
     for n in 1..plan.len() + 1 {
         let affinity = planned.case.affinity_name(n);
-        push_plan_row(text, n, affinity, plan.start(n), plan.finish(n), None)?;
+        let worker = worker_of(seats, n);
+        push_plan_row(text, n, affinity, plan.start(n), plan.finish(n), worker)?;
     }
     Ok(())
 }
 
-/// Appends the lines of all messages of a plan for workers.
-fn push_worker_rows(
-    text: &mut String,
-    planned: &Planned<'_>,
-    seats: &[u32],
-) -> Result<(), AllocError>
-    requires seats { length seats.now ≡ (planned_work planned.now).count }
-    ensures { OnOk result (Adds text.old text.new
-        (text_of (map (message_row planned.now.case.tree.now planned.now.case.assigned.now
-        (planned_work planned.now) (planned_starts planned.now) (seat_of seats.now))
-        (numbers (planned_work planned.now))))) }
+/// The worker of message `n`, where messages have one.
+fn worker_of(seats: Option<&[u32]>, n: u32) -> Option<u32>
+    requires { IfSome (option_copied seats) (λ seats. IsAmongFirst (length seats) n) }
+    ensures { result ≡ workers_of (option_copied seats.entry) n }
 {
-    let plan = planned.plan;
-    for n in 1..plan.len() + 1 {
-        let affinity = planned.case.affinity_name(n);
-        let worker = Some(seats[n as usize - 1]);
-        push_plan_row(text, n, affinity, plan.start(n), plan.finish(n), worker)?;
+    match seats {
+        Some(seats) => Some(seats[n as usize - 1]),
+        None => None,
     }
-    Ok(())
 }
 
 /// Appends the line of one message.
@@ -198,10 +217,10 @@ fn push_numbers(text: &mut String, numbers: &[u32]) -> Result<(), AllocError>
 /// Appends the line of the release, where the version has one.
 fn push_release(text: &mut String, version: Version, release: u64) -> Result<(), AllocError>
     ensures { OnOk result (Adds text.old text.new
-        (text_of (release_lines version release))) }
+        (text_of (release_line version (decimal release)))) }
 {
     match version {
         Version::V1 => Ok(()),
-        Version::V2 => writeln!(text, "release,{release}"),
+        Version::V2 | Version::V3 => writeln!(text, "release,{release}"),
     }
 }

@@ -1,27 +1,33 @@
 -- A message is accepted exactly where no check holds.
-use Rattle.std.proofs.Common.{◌≡◌, ◌≢◌, ℕ, ◌+◌, ◌≤◌, List, [], ◌∷◌, length, map, Bool, true, false, Option, Some, None, Result, Ok, Err, refl, ap, ◌∙◌, arith}
+use Rattle.std.proofs.Common.{◌≡◌, ◌≢◌, ℕ, ◌+◌, ◌≤◌, List, [], ◌∷◌, length, map, Bool, true, false, Option, Some, None, Result, Ok, Err, refl, sym, ap, arith}
 use Rattle.std.specs.Prelude.{ok_or, option_and_then, nat_lt, ◌==◌, if◌then◌else◌}
+use Rattle.std.specs.List.{flat_map}
 use Rattle.std.proofs.lemmas.Bool.{ltb-false, le-ltb, eqb-false, ne_eqb}
 use Rattle.waff_model.specs.Layout.{Space}
 use Rattle.waff_model.specs.Names.{is_name}
-use Rattle.waff_model.specs.declared.limits.TheConstants.{MAX_COST, MAX_MESSAGES, MAX_OPS, MAX_RELEASE}
+use Rattle.waff_model.specs.Versions.{max_messages}
+use Rattle.waff_model.specs.declared.limits.TheConstants.{MAX_COST, MAX_RELEASE, MAX_THINK}
 use Rattle.waff_model.specs.declared.message.Message.{Message}
-use Rattle.waff_model.specs.declared.message.Version.TheVariants.{V1, V2}
+use Rattle.waff_model.specs.declared.message.Version.{Version}
+use Rattle.waff_model.specs.declared.message.Version.TheVariants.{V1, V2, V3}
 use Rattle.waff_model.specs.declared.op.Op.{Op}
 use Rattle.waff_parse.specs.Fields.{Field}
 use Rattle.waff_parse.specs.Refusals.{◌>>=◌, both, one}
 use Rattle.waff_parse.specs.Rows.{Record}
 use Rattle.waff_parse.specs.Texts.{number_of, number_within, parts, within}
 use Rattle.waff_parse.specs.Walks.{gather}
-use Rattle.waff_read.specs.Laws.{IsRelease, Spells, SpellsInThree, SpellsInFour, FirstVersionIsExact, SecondVersionIsExact}
-use Rattle.waff_read.specs.Messages.{cost_of, counted, message_of, message_of_fields, name_of, release_of}
-use Rattle.waff_read.specs.Ops.{op_of, ops_of, pieces_of}
+use Rattle.waff_read.specs.Laws.{IsClient, IsRelease, IsThink, PiecesAreSingle, RecordIsExact, SpellOps, Spells}
+use Rattle.waff_read.specs.Messages.{Columns, client_of, columns_of, cost_of, counted, message_of_columns, message_of_row, name_of, release_of, think_of}
+use Rattle.waff_read.specs.Ops.{op_of}
+use Rattle.waff_read.specs.Pieces.{joined, ops_of, piece_of, pieces_of}
+use Rattle.waff_read.specs.Places.{most_ops}
 use Rattle.waff_read.specs.TraceFaults.{number}
+use Rattle.waff_read.specs.declared.place.Place.{Place}
 use Rattle.waff_read.specs.declared.trace_fault.TraceFault.{TraceFault}
 use Rattle.waff_read.specs.declared.trace_fault.TraceFault.TheVariants as fault
 
 -- a list is gathered exactly where each item is read
-gather-read : {F A B : Type 0} (rank : F → ℕ) (f : A → Result B F) (xs : List A) (ys : List B) → gather rank f xs ≡ Ok ys → map f xs ≡ map Ok ys
+pub gather-read : {F A B : Type 0} (rank : F → ℕ) (f : A → Result B F) (xs : List A) (ys : List B) → gather rank f xs ≡ Ok ys → map f xs ≡ map Ok ys
 unfolding gather
 gather-read rank f [] ys h = let same : [] ≡ ys = cc in rw (← same) refl
 gather-read {F} {A} {B} rank f (a ∷ xs) ys h = by (f a) (gather rank f xs) h (gather-read rank f xs)
@@ -33,7 +39,7 @@ gather-read {F} {A} {B} rank f (a ∷ xs) ys h = by (f a) (gather rank f xs) h (
     by (Err d) (Ok bs) e rest = absurd (cc)
     by (Err c) (Err d) e rest = absurd (cc)
 
-read-gather : {F A B : Type 0} (rank : F → ℕ) (f : A → Result B F) (xs : List A) (ys : List B) → map f xs ≡ map Ok ys → gather rank f xs ≡ Ok ys
+pub read-gather : {F A B : Type 0} (rank : F → ℕ) (f : A → Result B F) (xs : List A) (ys : List B) → map f xs ≡ map Ok ys → gather rank f xs ≡ Ok ys
 unfolding gather
 read-gather rank f [] [] h = refl
 read-gather rank f [] (y ∷ ys) h = absurd (cc)
@@ -73,42 +79,43 @@ read-number_within : (low high : ℕ) (text : Field) (e : TraceFault) (n : ℕ) 
 read-number_within low high text e n is from to = rw (is, le-ltb n low from, le-ltb high n to) refl
 
 -- the operations of a message
-ops_of-read : (spaces : List Space) (text : Field) (list : List Op) → ops_of spaces text ≡ Ok list
-    → (text ≢ []) × (map (op_of spaces) (parts 59 text) ≡ map Ok list) × (length list ≤ MAX_OPS)
+ops_of-read : (version : Version) (spaces : List Space) (most : ℕ) (text : Field) (list : List Op) → ops_of version spaces most text ≡ Ok list
+    → (text ≢ []) × SpellOps version spaces text list × (length list ≤ most)
 unfolding ops_of pieces_of
-ops_of-read spaces text list h =
-    by (length text == 0) (gather number (op_of spaces) (parts 59 text)) refl h (gather-read number (op_of spaces) (parts 59 text))
+ops_of-read version spaces most text list h =
+    by (length text == 0) (gather number (piece_of version spaces) (parts 59 text)) refl h (gather-read number (piece_of version spaces) (parts 59 text))
   where
-    few : (read : List Op) (t : Bool) → nat_lt MAX_OPS (length read) ≡ t → (if t then Err fault.TooManyOps else Ok read) ≡ Ok list
-        → (read ≡ list) × (length read ≤ MAX_OPS)
+    few : (read : List Op) (t : Bool) → nat_lt most (length read) ≡ t → (if t then Err fault.TooManyOps else Ok read) ≡ Ok list
+        → (read ≡ list) × (length read ≤ most)
     few read true p e = absurd (cc)
     few read false p e = (cc, ltb-false _ _ p)
 
-    by : (t : Bool) (r : Result (List Op) TraceFault) → (length text == 0) ≡ t
-        → (if t then Err fault.NoOps else (r >>= (λ read. if nat_lt MAX_OPS (length read) then Err fault.TooManyOps else Ok read))) ≡ Ok list
-        → ((read : List Op) → r ≡ Ok read → map (op_of spaces) (parts 59 text) ≡ map Ok read)
-        → (text ≢ []) × (map (op_of spaces) (parts 59 text) ≡ map Ok list) × (length list ≤ MAX_OPS)
+    by : (t : Bool) (r : Result (List (List Op)) TraceFault) → (length text == 0) ≡ t
+        → (if t then Err fault.NoOps else (joined r >>= (λ read. if nat_lt most (length read) then Err fault.TooManyOps else Ok read))) ≡ Ok list
+        → ((lists : List (List Op)) → r ≡ Ok lists → map (piece_of version spaces) (parts 59 text) ≡ map Ok lists)
+        → (text ≢ []) × SpellOps version spaces text list × (length list ≤ most)
     by true r p e each = absurd (cc)
-    by false (Ok read) p e each =
-        let is = few read (nat_lt MAX_OPS (length read)) refl e in
-        (λ none. eqb-false (length text) 0 p (ap length none), each read refl ∙ ap (λ (l : List Op). map Ok l) is.0, rw is.0 at is.1)
+    by false (Ok lists) p e each =
+        let read : List Op = flat_map (λ list. list) lists in
+        let is = few read (nat_lt most (length read)) refl e in
+        (λ none. eqb-false (length text) 0 p (ap length none), (lists, each lists refl, sym is.0), rw is.0 at is.1)
     by false (Err d) p e each = absurd (cc)
 
 some_bytes : (text : Field) → text ≢ [] → (length text == 0) ≡ false
 some_bytes [] filled = absurd (filled refl)
 some_bytes (b ∷ bs) filled = ne_eqb (length (b ∷ bs)) 0 (λ none. absurd (omega arith))
 
-read-ops_of : (spaces : List Space) (text : Field) (list : List Op) → text ≢ [] → map (op_of spaces) (parts 59 text) ≡ map Ok list → length list ≤ MAX_OPS
-    → ops_of spaces text ≡ Ok list
+read-ops_of : (version : Version) (spaces : List Space) (most : ℕ) (text : Field) (list : List Op) → text ≢ [] → SpellOps version spaces text list → length list ≤ most
+    → ops_of version spaces most text ≡ Ok list
 unfolding ops_of pieces_of
-read-ops_of spaces text list filled each few =
-    rw (some_bytes text filled, read-gather number (op_of spaces) (parts 59 text) list each, le-ltb MAX_OPS (length list) few) refl
+read-ops_of version spaces most text list filled (lists, each, is) few =
+    rw (some_bytes text filled, read-gather number (piece_of version spaces) (parts 59 text) lists each, ← is, le-ltb most (length list) few) refl
 
 -- the number of a record
-pub counted-read : (at n : ℕ) → counted at ≡ Ok n → at ≤ MAX_MESSAGES + 1
-counted-read at n h = by (nat_lt (MAX_MESSAGES + 1) at) refl h
+pub counted-read : (version : Version) (at n : ℕ) → counted version at ≡ Ok n → at ≤ max_messages version + 1
+counted-read version at n h = by (nat_lt (max_messages version + 1) at) refl h
   where
-    by : (b : Bool) → nat_lt (MAX_MESSAGES + 1) at ≡ b → (if b then Err fault.TooManyMessages else Ok at) ≡ Ok n → at ≤ MAX_MESSAGES + 1
+    by : (b : Bool) → nat_lt (max_messages version + 1) at ≡ b → (if b then Err fault.TooManyMessages else Ok at) ≡ Ok n → at ≤ max_messages version + 1
     by true p e = absurd (cc)
     by false p e = ltb-false _ _ p
 
@@ -123,29 +130,60 @@ read-release_of : (text : Option Field) (release : ℕ) → IsRelease text relea
 read-release_of None release h = rw h refl
 read-release_of (Some text) release h = read-number_within 0 MAX_RELEASE text fault.Release release h.0 (omega arith) h.1
 
-module _ (spaces : List Space) (at : ℕ) (name_text cost_text : Field) (release_text : Option Field) (ops_text : Field) (message : Message) where
-  fields-read : message_of_fields spaces at name_text cost_text release_text ops_text ≡ Ok message → Spells spaces at name_text cost_text release_text ops_text message
-  unfolding message_of_fields
-  fields-read h =
-      by (name_of name_text) (cost_of cost_text) (ops_of spaces ops_text) (counted at) (release_of release_text)
-      (name_of-read name_text) (number_within-read 1 MAX_COST cost_text fault.Cost) (ops_of-read spaces ops_text) (counted-read at) (release_of-read release_text) h
+-- a client
+client_of-read : (text : Option Field) (client : Field) → client_of text ≡ Ok client → IsClient text client
+client_of-read None client h = cc
+client_of-read (Some text) client h = by (is_name text) h
+  where
+    by : (b : Bool) → (if b then Ok text else Err fault.Client) ≡ Ok client → (b ≡ true) × (client ≡ text)
+    by true e = (refl, cc)
+    by false e = absurd (cc)
+
+read-client_of : (text : Option Field) (client : Field) → IsClient text client → client_of text ≡ Ok client
+read-client_of None client h = rw h refl
+read-client_of (Some text) client h = rw (h.0, h.1) refl
+
+-- a think time
+think_of-read : (text : Option Field) (think : ℕ) → think_of text ≡ Ok think → IsThink text think
+think_of-read None think h = cc
+think_of-read (Some text) think h =
+    let is = number_within-read 0 MAX_THINK text fault.Think think h in
+    (is.0, is.2)
+
+read-think_of : (text : Option Field) (think : ℕ) → IsThink text think → think_of text ≡ Ok think
+read-think_of None think h = rw h refl
+read-think_of (Some text) think h = read-number_within 0 MAX_THINK text fault.Think think h.0 (omega arith) h.1
+
+module _ (version : Version) (spaces : List Space) (place : Place) (columns : Columns) (message : Message) where
+  pub columns-read : message_of_columns version spaces place columns ≡ Ok message → Spells version spaces place columns message
+  unfolding message_of_columns
+  columns-read h =
+      by (name_of columns.name) (cost_of columns.cost) (ops_of version spaces (most_ops version place) columns.ops) (counted version place.at) (release_of columns.release)
+      (client_of columns.client) (think_of columns.think)
+      (name_of-read columns.name) (number_within-read 1 MAX_COST columns.cost fault.Cost) (ops_of-read version spaces (most_ops version place) columns.ops)
+      (counted-read version place.at) (release_of-read columns.release) (client_of-read columns.client) (think_of-read columns.think) h
     where
       by : (n : Result Field TraceFault) (c : Result ℕ TraceFault) (o : Result (List Op) TraceFault) (a : Result ℕ TraceFault) (r : Result ℕ TraceFault)
-          → ((name : Field) → n ≡ Ok name → (is_name name_text ≡ true) × (name ≡ name_text))
-          → ((cost : ℕ) → c ≡ Ok cost → (number_of cost_text ≡ Some cost) × (1 ≤ cost) × (cost ≤ MAX_COST))
-          → ((list : List Op) → o ≡ Ok list → (ops_text ≢ []) × (map (op_of spaces) (parts 59 ops_text) ≡ map Ok list) × (length list ≤ MAX_OPS))
-          → ((k : ℕ) → a ≡ Ok k → at ≤ MAX_MESSAGES + 1)
-          → ((release : ℕ) → r ≡ Ok release → IsRelease release_text release)
+          (k : Result Field TraceFault) (t : Result ℕ TraceFault)
+          → ((name : Field) → n ≡ Ok name → (is_name columns.name ≡ true) × (name ≡ columns.name))
+          → ((cost : ℕ) → c ≡ Ok cost → (number_of columns.cost ≡ Some cost) × (1 ≤ cost) × (cost ≤ MAX_COST))
+          → ((list : List Op) → o ≡ Ok list → (columns.ops ≢ []) × SpellOps version spaces columns.ops list × (length list ≤ most_ops version place))
+          → ((k : ℕ) → a ≡ Ok k → place.at ≤ max_messages version + 1)
+          → ((release : ℕ) → r ≡ Ok release → IsRelease columns.release release)
+          → ((client : Field) → k ≡ Ok client → IsClient columns.client client)
+          → ((think : ℕ) → t ≡ Ok think → IsThink columns.think think)
           → (do
             name ← n
             cost ← c
             ops ← o
             _ ← a
             release ← r
-            Ok (record { name = name; cost = cost; release = release; ops = ops })) ≡ Ok message
-          → Spells spaces at name_text cost_text release_text ops_text message
-      by (Ok n) (Ok c) (Ok o) (Ok a) (Ok r) hn hc ho ha hr e =
-          let same : ◌≡◌ {A = Message} (record { name = n; cost = c; release = r; ops = o }) message = cc in
+            client ← k
+            think ← t
+            Ok (record { name = name; cost = cost; release = release; client = client; think = think; ops = ops })) ≡ Ok message
+          → Spells version spaces place columns message
+      by (Ok n) (Ok c) (Ok o) (Ok a) (Ok r) (Ok k) (Ok t) hn hc ho ha hr hk ht e =
+          let same : ◌≡◌ {A = Message} (record { name = n; cost = c; release = r; client = k; think = t; ops = o }) message = cc in
           let is_cost = hc c refl in
           let are_ops = ho o refl in
           rw (← same)
@@ -160,27 +198,32 @@ module _ (spaces : List Space) (at : ℕ) (name_text cost_text : Field) (release
             within_ops = are_ops.2;
             counted = ha a refl;
             release = hr r refl;
+            client = hk k refl;
+            think = ht t refl;
           })
-      by _ _ _ _ _ hn hc ho ha hr e = absurd (cc)
+      by _ _ _ _ _ _ _ hn hc ho ha hr hk ht e = absurd (cc)
 
-  read-fields : Spells spaces at name_text cost_text release_text ops_text message → message_of_fields spaces at name_text cost_text release_text ops_text ≡ Ok message
-  unfolding message_of_fields
-  read-fields s =
-      let are_ops : ops_of spaces ops_text ≡ Ok message.ops = read-ops_of spaces ops_text message.ops s.filled s.ops s.within_ops in
-      let is_cost : cost_of cost_text ≡ Ok message.cost = read-number_within 1 MAX_COST cost_text fault.Cost message.cost s.cost s.some_cost s.within_cost in
-      let is_release : release_of release_text ≡ Ok message.release = read-release_of release_text message.release s.release in
-      rw (s.named, is_cost, are_ops, le-ltb (MAX_MESSAGES + 1) at s.counted, is_release, ← s.name) refl
+  pub read-columns : Spells version spaces place columns message → message_of_columns version spaces place columns ≡ Ok message
+  unfolding message_of_columns
+  read-columns s =
+      let are_ops : ops_of version spaces (most_ops version place) columns.ops ≡ Ok message.ops = read-ops_of version spaces (most_ops version place) columns.ops message.ops s.filled s.ops s.within_ops in
+      let is_cost : cost_of columns.cost ≡ Ok message.cost = read-number_within 1 MAX_COST columns.cost fault.Cost message.cost s.cost s.some_cost s.within_cost in
+      let is_release : release_of columns.release ≡ Ok message.release = read-release_of columns.release message.release s.release in
+      let is_client : client_of columns.client ≡ Ok message.client = read-client_of columns.client message.client s.client in
+      let is_think : think_of columns.think ≡ Ok message.think = read-think_of columns.think message.think s.think in
+      rw (s.named, is_cost, are_ops, le-ltb (max_messages version + 1) place.at s.counted, is_release, is_client, is_think, ← s.name) refl
 
-pub first_version_is_exact : (spaces : List Space) (at : ℕ) (row : Record) → FirstVersionIsExact spaces at row
-first_version_is_exact spaces at row message = (forward row, λ (n, c, o, is, s). rw is (read-fields spaces at n c None o message s))
+pub record_is_exact : (version : Version) (spaces : List Space) (place : Place) (row : Record) → RecordIsExact version spaces place row
+record_is_exact version spaces place row message =
+    (forward (columns_of version row) refl, λ (columns, is, s). rw is (read-columns version spaces place columns message s))
   where
-    forward : (row : Record) → message_of V1 spaces at row ≡ Ok message → SpellsInThree spaces at row message
-    forward (a ∷ b ∷ c ∷ []) h = (a, b, c, refl, fields-read spaces at a b None c message h)
-    forward _ h = absurd (cc)
+    forward : (o : Option Columns) → columns_of version row ≡ o → message_of_row version spaces place o ≡ Ok message
+        → (columns : Columns) × (columns_of version row ≡ Some columns) × Spells version spaces place columns message
+    forward (Some columns) is h = (columns, is, columns-read version spaces place columns message h)
+    forward None is h = absurd (cc)
 
-pub second_version_is_exact : (spaces : List Space) (at : ℕ) (row : Record) → SecondVersionIsExact spaces at row
-second_version_is_exact spaces at row message = (forward row, λ (n, c, r, o, is, s). rw is (read-fields spaces at n c (Some r) o message s))
-  where
-    forward : (row : Record) → message_of V2 spaces at row ≡ Ok message → SpellsInFour spaces at row message
-    forward (a ∷ b ∷ c ∷ d ∷ []) h = (a, b, c, d, refl, fields-read spaces at a b (Some c) d message h)
-    forward _ h = absurd (cc)
+pub pieces_are_single : (version : Version) (spaces : List Space) (piece : List ℕ) → PiecesAreSingle version spaces piece
+unfolding piece_of
+pieces_are_single V1 spaces piece earlier = refl
+pieces_are_single V2 spaces piece earlier = refl
+pieces_are_single V3 spaces piece earlier = absurd (earlier refl)

@@ -1,140 +1,111 @@
 -- The first faulty record decides, and where none is faulty each is a message.
-use Rattle.std.proofs.Common.{◌≡◌, ℕ, zero, suc, ◌+◌, ◌<◌, List, [], ◌∷◌, length, drop, Some, Result, Ok, Err, IsOk, slice_get, refl, ap, ◌∙◌, arith, inl, inr}
+use Rattle.std.proofs.Common.{◌≡◌, ℕ, zero, suc, List, [], ◌∷◌, length, take, drop, Some, Result, Ok, Err, slice_get, refl, ap, ◌∙◌, arith, inl, inr}
 use Rattle.waff_model.specs.Layout.{Space}
 use Rattle.waff_model.specs.Messages.{Arrivals, sizes_of}
 use Rattle.waff_model.specs.declared.message.Message.{Message}
 use Rattle.waff_model.specs.declared.message.Version.{Version}
 use Rattle.waff_parse.specs.Refusals.{◌>>=◌}
 use Rattle.waff_parse.specs.Rows.{Record, records_of}
-use Rattle.waff_parse.specs.Walks.{walk}
 use Rattle.waff_read.specs.Laws.{IsFirstFault, IsRefusedTrace, FirstFaultDecides, IsReadAs, TraceIsExact}
+use Rattle.waff_read.specs.Places.{behind, first_place, next_place}
 use Rattle.waff_read.specs.Traces.{header_of, message_at, messages_at, trace_of_records, trace_of_rows}
+use Rattle.waff_read.specs.declared.place.Place.{Place}
 use Rattle.waff_read.specs.declared.trace_fault.TraceError.{TraceError}
+use Rattle.waff_read.proofs.TraceLaws.{parts_of, none_read}
 
-module _ {F A B : Type 0} (f : ℕ → A → Result B F) where
-  -- the item at this place is refused with this fault, and each before it is read
-  record StopsAt (at : ℕ) (items : List A) (place : ℕ) (item : A) (e : F) : Type 0 where
-    there : slice_get items place ≡ Some item
-    refused : f (place + at) item ≡ Err e
-    before : (k : ℕ) (earlier : A) → k < place → slice_get items k ≡ Some earlier → IsOk (f (k + at) earlier)
+module _ (version : Version) (spaces : List Space) where
+  -- of the records from a place on each is read as the message at its place, where there is one
+  abbrev ReadsFrom : Place → List Record → List Message → Type 0
+  ReadsFrom place rows messages =
+      (k : ℕ) (row : Record) (message : Message) → slice_get rows k ≡ Some row → slice_get messages k ≡ Some message
+      → message_at version spaces (behind place (take k messages)) row ≡ Ok message
 
-  walk_stopped : (at : ℕ) (items : List A) (e : F) → walk f (λ n _. n + 1) at items ≡ Err e → (place : ℕ) × (item : A) × StopsAt at items place item e
-  unfolding walk
-  walk_stopped at [] e h = absurd (cc)
-  walk_stopped at (a ∷ items) e h = by (f at a) (walk f (λ n _. n + 1) (at + 1) items) refl h (walk_stopped (at + 1) items e)
+  reads_more : (place : Place) (first : Record) (rows : List Record) (m : Message) (ms : List Message) → message_at version spaces place first ≡ Ok m
+      → ReadsFrom (next_place place m) rows ms → ReadsFrom place (first ∷ rows) (m ∷ ms)
+  unfolding behind
+  reads_more place first rows m ms is rest zero row message there here =
+      let one : first ≡ row = cc in
+      let other : m ≡ message = cc in
+      rw (← one, ← other) is
+  reads_more place first rows m ms is rest (suc k) row message there here = rest k row message there here
+
+  reads_rest : (place : Place) (first : Record) (rows : List Record) (m : Message) (ms : List Message) → ReadsFrom place (first ∷ rows) (m ∷ ms)
+      → (message_at version spaces place first ≡ Ok m) × ReadsFrom (next_place place m) rows ms
+  unfolding behind
+  reads_rest place first rows m ms all = (all 0 first m refl refl, λ k row message there here. all (suc k) row message there here)
+
+  -- the first records are read as these messages, and the one behind them is refused with this error
+  record StopsAt (place : Place) (rows : List Record) (messages : List Message) (row : Record) (e : TraceError) : Type 0 where
+    there : slice_get rows (length messages) ≡ Some row
+    refused : message_at version spaces (behind place messages) row ≡ Err e
+    before : ReadsFrom place rows messages
+
+  stopped : (place : Place) (rows : List Record) (e : TraceError) → messages_at version spaces place rows ≡ Err e
+      → (messages : List Message) × (row : Record) × StopsAt place rows messages row e
+  unfolding messages_at behind
+  stopped place [] e h = absurd (cc)
+  stopped place (first ∷ rows) e h = by (message_at version spaces place first) refl (λ p again. stopped p rows e again)
     where
-      by : (r : Result B F) (rs : Result (List B) F) → f at a ≡ r → (r >>= (λ b. rs >>= (λ bs. Ok (b ∷ bs)))) ≡ Err e
-          → (rs ≡ Err e → (place : ℕ) × (item : A) × StopsAt (at + 1) items place item e)
-          → (place : ℕ) × (item : A) × StopsAt at (a ∷ items) place item e
-      by (Err d) rs is same rest = (
-        0,
-        a,
-        record {
-          there = refl;
-          refused = let here : 0 + at ≡ at = omega arith in let fault : d ≡ e = cc in rw here (is ∙ ap Err fault);
-          before = λ k earlier below. absurd (omega arith);
-        },
-      )
-      by (Ok b) (Ok bs) is same rest = absurd (cc)
-      by (Ok b) (Err d) is same rest =
-          let found = rest same in
-          let place = found.0 in
+      Found : Type 0
+      Found = (p : Place) → messages_at version spaces p rows ≡ Err e → (messages : List Message) × (row : Record) × StopsAt p rows messages row e
+
+      later : Found → (m : Message) (rs : Result (List Message) TraceError) → message_at version spaces place first ≡ Ok m
+          → messages_at version spaces (next_place place m) rows ≡ rs → (messages : List Message) × (row : Record) × StopsAt place (first ∷ rows) messages row e
+      later find m (Ok ms) p q = absurd (cc (rw (p, q) at h))
+      later find m (Err d) p q =
+          let same : d ≡ e = cc (rw (p, q) at h) in
+          let found = find (next_place place m) (q ∙ ap Err same) in
           let stops = found.2 in (
-            suc place,
+            m ∷ found.0,
             found.1,
-            record {
-              there = stops.there;
-              refused = let here : suc place + at ≡ place + (at + 1) = omega arith in rw here stops.refused;
-              before = λ k earlier below there. earlier_read k earlier place below there is stops.before;
-            },
+            record { there = stops.there; refused = stops.refused; before = reads_more place first rows m found.0 p stops.before },
           )
-        where
-          earlier_read : (k : ℕ) (earlier : A) (place : ℕ) → k < suc place → slice_get (a ∷ items) k ≡ Some earlier → f at a ≡ Ok b
-              → ((k : ℕ) (earlier : A) → k < place → slice_get items k ≡ Some earlier → IsOk (f (k + (at + 1)) earlier))
-              → IsOk (f (k + at) earlier)
-          earlier_read zero earlier place below there is before =
-              let same : a ≡ earlier = cc in
-              let here : 0 + at ≡ at = omega arith in
-              rw (here, ← same, is) refl
-          earlier_read (suc k) earlier place below there is before =
-              let here : suc k + at ≡ k + (at + 1) = omega arith in
-              rw here (before k earlier (omega arith) there)
 
-  stopped_walk : (at : ℕ) (items : List A) (place : ℕ) (item : A) (e : F) → StopsAt at items place item e → walk f (λ n _. n + 1) at items ≡ Err e
-  unfolding walk
-  stopped_walk at [] place item e stops = absurd (let none = stops.there in cc)
-  stopped_walk at (a ∷ items) zero item e stops =
-      let same : a ≡ item = let there = stops.there in cc in
-      let here : 0 + at ≡ at = omega arith in
-      let refused : f at a ≡ Err e = rw (here, ← same) at stops.refused in
-      rw refused refl
-  stopped_walk at (a ∷ items) (suc place) item e stops =
-      let here : 0 + at ≡ at = omega arith in
-      by (f at a) (rw here at (stops.before 0 a (omega arith) refl)) (stopped_walk (at + 1) items place item e (record {
-        there = stops.there;
-        refused = let here : suc place + at ≡ place + (at + 1) = omega arith in rw here at stops.refused;
-        before = λ k earlier below there.
-            let here : suc k + at ≡ k + (at + 1) = omega arith in
-            rw here at (stops.before (suc k) earlier (omega arith) there);
-      }))
-    where
-      by : (r : Result B F) → IsOk r → walk f (λ n _. n + 1) (at + 1) items ≡ Err e
-          → (r >>= (λ b. walk f (λ n _. n + 1) (at + 1) items >>= (λ bs. Ok (b ∷ bs)))) ≡ Err e
-      by (Ok b) is next = rw next refl
-      by (Err d) is next = absurd (cc)
+      by : (r : Result Message TraceError) → message_at version spaces place first ≡ r → Found
+          → (messages : List Message) × (row : Record) × StopsAt place (first ∷ rows) messages row e
+      by (Ok m) p find = later find m (messages_at version spaces (next_place place m) rows) p refl
+      by (Err d) p find =
+          let same : d ≡ e = cc (rw p at h) in (
+            [],
+            first,
+            record { there = refl; refused = p ∙ ap Err same; before = λ k row message there here. absurd (cc here) },
+          )
 
-  -- each item is read as the value at its place
-  record ReadsEach (at : ℕ) (items : List A) (values : List B) : Type 0 where
-    count : length values ≡ length items
-    each : (k : ℕ) (item : A) (value : B) → slice_get items k ≡ Some item → slice_get values k ≡ Some value → f (k + at) item ≡ Ok value
+  stops : (place : Place) (rows : List Record) (messages : List Message) (row : Record) (e : TraceError) → StopsAt place rows messages row e
+      → messages_at version spaces place rows ≡ Err e
+  unfolding messages_at behind
+  stops place [] messages row e at = absurd (let none = at.there in cc none)
+  stops place (first ∷ rows) [] row e at =
+      let one : first ≡ row = let there = at.there in cc in
+      rw (one, at.refused) refl
+  stops place (first ∷ rows) (m ∷ ms) row e at =
+      let both = reads_rest place first rows m ms at.before in
+      rw (both.0, stops (next_place place m) rows ms row e (record { there = at.there; refused = at.refused; before = both.1 })) refl
 
-  walk_each : (at : ℕ) (items : List A) (values : List B) → walk f (λ n _. n + 1) at items ≡ Ok values → ReadsEach at items values
-  unfolding walk
-  walk_each at [] values h =
-      let same : [] ≡ values = cc in
-      rw (← same) (record { count = refl; each = λ k item value there here. absurd (cc there) })
-  walk_each at (a ∷ items) values h = by (f at a) (walk f (λ n _. n + 1) (at + 1) items) refl h (walk_each (at + 1) items)
-    where
-      at_place : (b : B) (bs : List B) → f at a ≡ Ok b → ReadsEach (at + 1) items bs → (k : ℕ) (item : A) (value : B) → slice_get (a ∷ items) k ≡ Some item
-          → slice_get (b ∷ bs) k ≡ Some value → f (k + at) item ≡ Ok value
-      at_place b bs is rest zero item value there here =
-          let first : a ≡ item = cc in
-          let one : b ≡ value = cc in
-          let place : 0 + at ≡ at = omega arith in
-          rw (place, ← first, is) (ap Ok one)
-      at_place b bs is rest (suc k) item value there here =
-          let place : suc k + at ≡ k + (at + 1) = omega arith in
-          rw place (rest.each k item value there here)
+  -- as many messages as records, each read at its place
+  read_each : (place : Place) (rows : List Record) (messages : List Message) → messages_at version spaces place rows ≡ Ok messages
+      → (length messages ≡ length rows) × ReadsFrom place rows messages
+  read_each place [] messages h = rw (← (none_read version spaces place messages h)) (refl, λ k row message there here. absurd (cc there))
+  read_each place (first ∷ rows) messages h =
+      let p = parts_of version spaces place first rows messages h in
+      let rest = read_each (next_place place p.first) rows p.others p.more in
+      rw (← p.is) (ap suc rest.0, reads_more place first rows p.first p.others p.read rest.1)
 
-      by : (r : Result B F) (rs : Result (List B) F) → f at a ≡ r → (r >>= (λ b. rs >>= (λ bs. Ok (b ∷ bs)))) ≡ Ok values
-          → ((bs : List B) → rs ≡ Ok bs → ReadsEach (at + 1) items bs) → ReadsEach at (a ∷ items) values
-      by (Ok b) (Ok bs) is e rest =
-          let same : b ∷ bs ≡ values = cc in
-          rw (← same) (record { count = ap suc (rest bs refl).count; each = at_place b bs is (rest bs refl) })
-      by (Ok b) (Err d) is e rest = absurd (cc)
-      by (Err d) rs is e rest = absurd (cc)
+  each_read : (place : Place) (rows : List Record) (messages : List Message) → length messages ≡ length rows → ReadsFrom place rows messages
+      → messages_at version spaces place rows ≡ Ok messages
+  unfolding messages_at
+  each_read place [] [] count reads = refl
+  each_read place [] (m ∷ ms) count reads = absurd (omega (arith, count))
+  each_read place (first ∷ rows) [] count reads = absurd (omega (arith, count))
+  each_read place (first ∷ rows) (m ∷ ms) count reads =
+      let both = reads_rest place first rows m ms reads in
+      rw (both.0, each_read (next_place place m) rows ms (omega (arith, count)) both.1) refl
 
-  each_walk : (at : ℕ) (items : List A) (values : List B) → ReadsEach at items values → walk f (λ n _. n + 1) at items ≡ Ok values
-  unfolding walk
-  each_walk at [] [] reads = refl
-  each_walk at [] (b ∷ bs) reads = absurd (omega (arith, reads.count))
-  each_walk at (a ∷ items) [] reads = absurd (omega (arith, reads.count))
-  each_walk at (a ∷ items) (b ∷ bs) reads =
-      let place : 0 + at ≡ at = omega arith in
-      let first : f at a ≡ Ok b = rw place at (reads.each 0 a b refl refl) in
-      let others = each_walk (at + 1) items bs (record {
-        count = omega (arith, reads.count);
-        each = λ k item value there here.
-            let place : suc k + at ≡ k + (at + 1) = omega arith in
-            rw place at (reads.each (suc k) item value there here);
-      }) in
-      rw (first, others) refl
-
-module _ (spaces : List Space) (rows : List Record) (e : TraceError) where
+module _ (newest : Version) (spaces : List Space) (rows : List Record) (e : TraceError) where
   -- the first fault of the records after the header
-  rows-stopped : (version : Version) → header_of rows ≡ Ok version → trace_of_rows version spaces (drop 1 rows) ≡ Err e → IsRefusedTrace spaces rows e
+  rows-stopped : (version : Version) → header_of newest rows ≡ Ok version → trace_of_rows version spaces (drop 1 rows) ≡ Err e → IsRefusedTrace newest spaces rows e
   rows-stopped version is h =
-      let found = walk_stopped (message_at version spaces) 2 (drop 1 rows) e (by (messages_at version spaces 2 (drop 1 rows)) h) in
+      let found = stopped version spaces first_place (drop 1 rows) e (by (messages_at version spaces first_place (drop 1 rows)) h) in
       let stops = found.2 in
       inr (version, found.0, found.1, is, record { there = stops.there; refused = stops.refused; before = stops.before })
     where
@@ -144,52 +115,52 @@ module _ (spaces : List Space) (rows : List Record) (e : TraceError) where
       by (Ok ms) same = absurd (cc)
       by (Err d) same = cc
 
-  stopped-rows : (version : Version) (place : ℕ) (row : Record) → IsFirstFault version spaces (drop 1 rows) place row e
+  stopped-rows : (version : Version) (messages : List Message) (row : Record) → IsFirstFault version spaces (drop 1 rows) messages row e
       → trace_of_rows version spaces (drop 1 rows) ≡ Err e
-  stopped-rows version place row fault =
-      let stopped = stopped_walk (message_at version spaces) 2 (drop 1 rows) place row e
+  stopped-rows version messages row fault =
+      let stopped = stops version spaces first_place (drop 1 rows) messages row e
       (record { there = fault.there; refused = fault.refused; before = fault.before }) in
       rw stopped refl
 
-  refused-read : trace_of_records spaces rows ≡ Err e → IsRefusedTrace spaces rows e
+  refused-read : trace_of_records newest spaces rows ≡ Err e → IsRefusedTrace newest spaces rows e
   unfolding trace_of_records
-  refused-read h = by (header_of rows) refl h
+  refused-read h = by (header_of newest rows) refl h
     where
-      by : (r : Result Version TraceError) → header_of rows ≡ r → (r >>= (λ version. trace_of_rows version spaces (drop 1 rows))) ≡ Err e → IsRefusedTrace spaces rows e
+      by : (r : Result Version TraceError) → header_of newest rows ≡ r → (r >>= (λ version. trace_of_rows version spaces (drop 1 rows))) ≡ Err e → IsRefusedTrace newest spaces rows e
       by (Ok version) is same = rows-stopped version is same
       by (Err d) is same = inl (is ∙ cc)
 
-  read-refused : IsRefusedTrace spaces rows e → trace_of_records spaces rows ≡ Err e
+  read-refused : IsRefusedTrace newest spaces rows e → trace_of_records newest spaces rows ≡ Err e
   unfolding trace_of_records
   read-refused (inl none) = rw none refl
-  read-refused (inr (version, place, row, is, fault)) = rw is (stopped-rows version place row fault)
+  read-refused (inr (version, messages, row, is, fault)) = rw is (stopped-rows version messages row fault)
 
-pub first_fault_decides : (spaces : List Space) (bytes : List ℕ) → FirstFaultDecides spaces bytes
-first_fault_decides spaces bytes e = (refused-read spaces (records_of bytes) e, read-refused spaces (records_of bytes) e)
+pub first_fault_decides : (newest : Version) (spaces : List Space) (bytes : List ℕ) → FirstFaultDecides newest spaces bytes
+first_fault_decides newest spaces bytes e = (refused-read newest spaces (records_of bytes) e, read-refused newest spaces (records_of bytes) e)
 
-module _ (spaces : List Space) (rows : List Record) (trace : Arrivals) where
-  read_as : trace_of_records spaces rows ≡ Ok trace → IsReadAs spaces rows trace
+module _ (newest : Version) (spaces : List Space) (rows : List Record) (trace : Arrivals) where
+  read_as : trace_of_records newest spaces rows ≡ Ok trace → IsReadAs newest spaces rows trace
   unfolding trace_of_records
-  read_as h = by (header_of rows) refl h
+  read_as h = by (header_of newest rows) refl h
     where
-      messages : (version : Version) (r : Result (List Message) TraceError) → header_of rows ≡ Ok version → messages_at version spaces 2 (drop 1 rows) ≡ r
+      messages : (version : Version) (r : Result (List Message) TraceError) → header_of newest rows ≡ Ok version → messages_at version spaces first_place (drop 1 rows) ≡ r
           → ◌≡◌ {A = Result Arrivals TraceError} (r >>= (λ ms. Ok (record { version = version; sizes = sizes_of spaces; messages = ms }))) (Ok trace)
-          → IsReadAs spaces rows trace
+          → IsReadAs newest spaces rows trace
       messages version (Ok ms) is read same =
           let whole : ◌≡◌ {A = Arrivals} (record { version = version; sizes = sizes_of spaces; messages = ms }) trace = cc in
-          let each = walk_each (message_at version spaces) 2 (drop 1 rows) ms read in
-          rw (← whole) (record { version = is; sizes = refl; count = each.count; messages = each.each })
+          let each = read_each version spaces first_place (drop 1 rows) ms read in
+          rw (← whole) (record { version = is; sizes = refl; count = each.0; messages = each.1 })
       messages version (Err d) is read same = absurd (cc)
 
-      by : (r : Result Version TraceError) → header_of rows ≡ r → (r >>= (λ version. trace_of_rows version spaces (drop 1 rows))) ≡ Ok trace → IsReadAs spaces rows trace
-      by (Ok version) is same = messages version (messages_at version spaces 2 (drop 1 rows)) is refl same
+      by : (r : Result Version TraceError) → header_of newest rows ≡ r → (r >>= (λ version. trace_of_rows version spaces (drop 1 rows))) ≡ Ok trace → IsReadAs newest spaces rows trace
+      by (Ok version) is same = messages version (messages_at version spaces first_place (drop 1 rows)) is refl same
       by (Err d) is same = absurd (cc)
 
-  as_read : IsReadAs spaces rows trace → trace_of_records spaces rows ≡ Ok trace
+  as_read : IsReadAs newest spaces rows trace → trace_of_records newest spaces rows ≡ Ok trace
   unfolding trace_of_records
   as_read reads =
-      let messages = each_walk (message_at trace.version spaces) 2 (drop 1 rows) trace.messages (record { count = reads.count; each = reads.messages }) in
+      let messages = each_read trace.version spaces first_place (drop 1 rows) trace.messages reads.count reads.messages in
       rw (reads.version, messages, ← reads.sizes) refl
 
-pub trace_is_exact : (spaces : List Space) (bytes : List ℕ) (trace : Arrivals) → TraceIsExact spaces bytes trace
-trace_is_exact spaces bytes trace = (read_as spaces (records_of bytes) trace, as_read spaces (records_of bytes) trace)
+pub trace_is_exact : (newest : Version) (spaces : List Space) (bytes : List ℕ) (trace : Arrivals) → TraceIsExact newest spaces bytes trace
+trace_is_exact newest spaces bytes trace = (read_as newest spaces (records_of bytes) trace, as_read newest spaces (records_of bytes) trace)

@@ -9,6 +9,7 @@ use Rattle.waff_model.specs.TreeRefusal.{refusal_of}
 use Rattle.waff_model.specs.Layout.{Hierarchy}
 use Rattle.waff_model.specs.LayoutOf as model
 use Rattle.waff_model.specs.LayoutRefusal.{layout_refusal}
+use Rattle.waff_model.specs.declared.format.Format.{Format}
 use Rattle.waff_model.specs.declared.kind.Kind.{Kind}
 use Rattle.waff_model.specs.declared.kind.Kind.TheVariants.{Classical}
 use Rattle.waff_model.specs.declared.layout_rows.SpaceSpec.{SpaceSpec}
@@ -21,7 +22,7 @@ use Rattle.waff_read.specs.Affinities.{node_in, tree_from, tree_of}
 use Rattle.waff_read.specs.Checks.{passed}
 use Rattle.waff_read.specs.Documents.{document_of, rows_at}
 use Rattle.waff_read.specs.HierRefusals.{shape_error, tree_error, layout_error, level_error}
-use Rattle.waff_read.specs.Hierarchies.{hierarchy_of, kind_of, kind_refusal, layout_at, layout_in, third_level_of}
+use Rattle.waff_read.specs.Hierarchies.{hierarchy_of, format_of, kind_of, kind_refusal, layout_at, layout_in, third_level_of}
 use Rattle.waff_read.specs.Laws.{Describes, HierarchyIsExact, ClassicalHasTwoLevels}
 use Rattle.waff_read.specs.Shapes.{shape_refusal}
 use Rattle.waff_read.specs.Spaces.{space_of, map_of}
@@ -102,14 +103,14 @@ rooted-tree_of [] read done = absurd (cc)
 rooted-tree_of (row ∷ more) read done = rooted-tree_from [] (row ∷ more) read rooted-none done
 
 -- a layout is of the kind and over the tree that it is made of
-pub layout_of-over : (kind : Kind) (tree : List Node) (spaces : List SpaceSpec) (maps : List MapSpec) (layout : Hierarchy)
-    → model.layout_of kind tree spaces maps ≡ Ok layout → (layout.kind ≡ kind) × (layout.tree ≡ tree)
-layout_of-over kind tree spaces maps layout h = by (layout_refusal tree spaces maps) refl
+pub layout_of-over : (format : Format) (kind : Kind) (tree : List Node) (spaces : List SpaceSpec) (maps : List MapSpec) (layout : Hierarchy)
+    → model.layout_of format kind tree spaces maps ≡ Ok layout → (layout.kind ≡ kind) × (layout.tree ≡ tree)
+layout_of-over format kind tree spaces maps layout h = by (layout_refusal format tree spaces maps) refl
   where
-    by : (o : Option LayoutError) → layout_refusal tree spaces maps ≡ o → (layout.kind ≡ kind) × (layout.tree ≡ tree)
+    by : (o : Option LayoutError) → layout_refusal format tree spaces maps ≡ o → (layout.kind ≡ kind) × (layout.tree ≡ tree)
     by None is =
         let made = rw is at h in
-        let same : layout ≡ model.hierarchy_of kind tree spaces maps = cc in
+        let same : layout ≡ model.hierarchy_of format kind tree spaces maps = cc in
         (ap (λ (l : Hierarchy). l.kind) same, ap (λ (l : Hierarchy). l.tree) same)
     by (Some e) is = let made = rw is at h in absurd (cc)
 
@@ -124,7 +125,7 @@ root_parent (Some p) some below =
 pub classical_has_two_levels : (bytes : List ℕ) (layout : Hierarchy) → ClassicalHasTwoLevels bytes layout
 classical_has_two_levels bytes layout read classical affinity above inside =
     let d = read-describes bytes layout read in
-    let over = layout_of-over d.kind d.tree (map space_of (rows_at (codes "space") d.document)) (map map_of (rows_at (codes "map") d.document)) layout d.is_layout in
+    let over = layout_of-over (format_of d.document) d.kind d.tree (map space_of (rows_at (codes "space") d.document)) (map map_of (rows_at (codes "map") d.document)) layout d.is_layout in
     let kind : d.kind ≡ Classical = sym over.0 ∙ classical in
     let fits : kind_refusal Classical d.tree ≡ None = rw kind at d.fits in
     let none = map-none level_error (third_level_of d.tree) fits in

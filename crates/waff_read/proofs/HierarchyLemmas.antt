@@ -13,6 +13,7 @@ use Rattle.waff_model.specs.declared.layout_rows.SpaceSpec.{SpaceSpec}
 use Rattle.waff_model.specs.declared.layout_rows.MapSpec.{MapSpec}
 use Rattle.waff_model.specs.declared.layout_rows.LayoutError.{LayoutError}
 use Rattle.waff_model.specs.declared.layout_rows.LayoutError.TheVariants.{Memory}
+use Rattle.waff_model.specs.declared.format.Format.{Format}
 use Rattle.waff_model.specs.declared.kind.Kind.{Kind}
 use Rattle.waff_read.specs.declared.hier_error.HierError.{HierError}
 use Rattle.waff_read.specs.declared.hier_error.HierError.TheVariants as error
@@ -86,15 +87,15 @@ refused_some : (refusal : Option LayoutError) (e : LayoutError) → e ≡ unwrap
 refused_some None e same other = absurd (other same)
 refused_some (Some refusal) e same other = ap Some (sym same)
 
-module _ (kind : Kind) (tree : List Node) (spaces : List SpaceSpec) (maps : List MapSpec) where
+module _ (format : Format) (kind : Kind) (tree : List Node) (spaces : List SpaceSpec) (maps : List MapSpec) where
   -- rows that are not refused are read as their layout
-  pub layout_read : layout_refusal tree spaces maps ≡ None → told layout_error (model.layout_of kind tree spaces maps) ≡ Ok (model.hierarchy_of kind tree spaces maps)
+  pub layout_read : layout_refusal format tree spaces maps ≡ None → told layout_error (model.layout_of format kind tree spaces maps) ≡ Ok (model.hierarchy_of format kind tree spaces maps)
   layout_read accepted = rw accepted refl
 
   -- rows that are refused are read as that refusal
-  pub layout_refused : (e : LayoutError) → e ≡ unwrap_or (layout_refusal tree spaces maps) Memory → e ≢ Memory → told layout_error (model.layout_of kind tree spaces maps) ≡ Err (error.Layout e)
+  pub layout_refused : (e : LayoutError) → e ≡ unwrap_or (layout_refusal format tree spaces maps) Memory → e ≢ Memory → told layout_error (model.layout_of format kind tree spaces maps) ≡ Err (error.Layout e)
   layout_refused e refused other =
-      let refusal : layout_refusal tree spaces maps ≡ Some e = refused_some (layout_refusal tree spaces maps) e refused other in
+      let refusal : layout_refusal format tree spaces maps ≡ Some e = refused_some (layout_refusal format tree spaces maps) e refused other in
       rw refusal refl
 
 -- the rows of a document as spaces and as maps

@@ -5,9 +5,11 @@ mod LevelLemmas
 mod NameLemmas
 mod SpaceLemmas
 mod PartLemmas
+mod OpLaws
+mod OpsLaws
+mod RangeLaws
 mod MessageLaws
 mod TraceLaws
-mod OpsLaws
 mod ExactLaws
 pub mod FaultLaws
 mod HierarchyLaws

@@ -1,159 +1,126 @@
 -- A message that was read is within the limits, and its cells lie in the spaces.
-use Rattle.std.proofs.Common.{◌≡◌, ℕ, ◌+◌, ◌≤◌, List, [], ◌∷◌, length, Bool, true, false, Option, Some, None, Result, Ok, Err, refl, ap, arith}
-use Rattle.std.specs.Prelude.{All, IfOk, IfSome, ok_or, option_and_then, nat_lt, ◌==◌, if◌then◌else◌}
-use Rattle.std.proofs.lemmas.Bool.{ltb-true, ltb-false}
-use Rattle.std.proofs.lemmas.List.Elements.{All-append, All-cons, All-nil}
-use Rattle.waff_model.specs.Cells.{LiesIn, cells_of, cells_of_op}
-use Rattle.waff_model.specs.Layout.{Space, size_at, space_named}
-use Rattle.waff_model.specs.Messages.{IsMessage, sizes_of}
+use Rattle.std.proofs.Common.{◌≡◌, ◌≢◌, ℕ, ◌+◌, ◌-◌, ◌≤◌, List, [], ◌∷◌, length, Bool, true, false, Option, Some, None, Result, Ok, Err, refl, ap, arith}
+use Rattle.std.specs.Prelude.{IfOk, IfSome, ok_or, option_and_then, option_map, nat_le, nat_lt, ◌==◌, if◌then◌else◌}
+use Rattle.std.specs.List.{flat_map}
+use Rattle.std.proofs.lemmas.Bool.{leb-true, leb-false, ltb-false}
+use Rattle.std.proofs.lemmas.Grind.{flat_map-append}
+use Rattle.std.proofs.lemmas.List.{length-append}
+use Rattle.std.proofs.lemmas.List.Elements.{All-append, All-nil}
+use Rattle.waff_model.specs.Cells.{cells_of, cells_of_op}
+use Rattle.waff_model.specs.Layout.{Space}
+use Rattle.waff_model.specs.Messages.{IsMessage, no_client, sizes_of}
 use Rattle.waff_model.specs.Names.{is_name}
-use Rattle.waff_model.specs.declared.limits.TheConstants.{MAX_COST, MAX_MESSAGES, MAX_OPS, MAX_RELEASE}
-use Rattle.waff_model.specs.declared.cell.Cell.{Cell}
+use Rattle.waff_model.specs.Versions.{max_messages, max_ops}
+use Rattle.waff_model.specs.declared.limits.TheConstants.{MAX_ALL_OPS, MAX_COST, MAX_RELEASE, MAX_THINK}
 use Rattle.waff_model.specs.declared.message.Message.{Message}
 use Rattle.waff_model.specs.declared.message.Version.{Version}
-use Rattle.waff_model.specs.declared.message.Version.TheVariants.{V1, V2}
+use Rattle.waff_model.specs.declared.message.Version.TheVariants.{V1, V2, V3}
 use Rattle.waff_model.specs.declared.op.Op.{Op}
-use Rattle.waff_model.specs.declared.op.Op.TheVariants as op
-use Rattle.waff_model.specs.declared.op.Verb.{Verb}
-use Rattle.waff_model.specs.declared.op.Verb.TheVariants as verb
-use Rattle.waff_model.proofs.TraceLemmas.{slice_index-sizes_of}
-use Rattle.waff_parse.specs.Fields.{Field, three_of, four_of}
-use Rattle.waff_parse.specs.Refusals.{◌>>=◌}
+use Rattle.waff_parse.specs.Fields.{Field, three_of, four_of, six_of}
+use Rattle.waff_parse.specs.Refusals.{◌>>=◌, one}
 use Rattle.waff_parse.specs.Rows.{Record}
 use Rattle.waff_parse.specs.Texts.{number_of, number_within, parts, within}
 use Rattle.waff_parse.specs.Walks.{gather}
-use Rattle.waff_parse.proofs.Laws.{bind-if, gather-if, gather-length, pair-if}
+use Rattle.waff_parse.proofs.Laws.{gather-if, gather-length}
 use Rattle.waff_parse.proofs.TextLaws.{parts-cons}
-use Rattle.waff_read.specs.Ops.{cell_and, cell_in, cell_of, cell_of_name, cell_of_parts, one_cell, op_of, op_of_verb, op_of_words, ops_of, pieces_of, value_of, verb_named}
-use Rattle.waff_read.specs.Messages.{cost_of, counted, message_of, message_of_fields, message_of_four, message_of_three, name_of, release_of}
+use Rattle.waff_read.specs.Messages.{Columns, client_of, cost_of, counted, four_columns, message_of, message_of_columns, message_of_row, name_of, release_of, six_columns, think_of, three_columns}
+use Rattle.waff_read.specs.Ops.{op_of}
+use Rattle.waff_read.specs.Pieces.{joined, ops_of, or_range, piece_of, pieces_of}
+use Rattle.waff_read.specs.Places.{lesser, most_ops}
+use Rattle.waff_read.specs.Ranges.{ops_of_range, range_of}
 use Rattle.waff_read.specs.TraceFaults.{number}
+use Rattle.waff_read.specs.declared.place.Place.{Place}
+use Rattle.waff_read.specs.declared.range.Range.{Range}
 use Rattle.waff_read.specs.declared.trace_fault.TraceFault.{TraceFault}
 use Rattle.waff_read.specs.declared.trace_fault.TraceFault.TheVariants as fault
+use Rattle.waff_read.proofs.OpLaws.{AllLie, Lies, OpLies, op_of-lies}
+use Rattle.waff_read.proofs.RangeLaws.{IsRange, ops_on-lie, ops_on-some, range_of-is}
 
--- a cell that is read lies in the spaces
-abbrev Lies : List Space → Cell → Type 0
-Lies spaces cell = LiesIn (sizes_of spaces) cell
+-- the operations for which a piece stands lie in the spaces, and there is one at least
+record AreSome (spaces : List Space) (list : List Op) : Type 0 where
+  some : 1 ≤ length list
+  lie : AllLie spaces (cells_of list)
 
-cell_in-lies : (spaces : List Space) (space index : ℕ) → IfOk (cell_in spaces space index) (Lies spaces)
-cell_in-lies spaces space index = by (nat_lt index (size_at spaces space)) refl
-  where
-    by : (b : Bool) → nat_lt index (size_at spaces space) ≡ b
-        → IfOk (if b then Ok (record { space = space; index = index }) else Err fault.IndexTooLarge) (Lies spaces)
-    by true h = rw slice_index-sizes_of (ltb-true _ _ h)
-    by false h = tt
+one-are : (spaces : List Space) (r : Result Op TraceFault) → IfOk r (OpLies spaces) → IfOk (one r) (AreSome spaces)
+one-are spaces (Ok op) h = record { some = omega arith; lie = All-append (Lies spaces) (cells_of_op op) [] h (All-nil (Lies spaces)) }
+one-are spaces (Err e) h = tt
 
-cell_of_name-lies : (spaces : List Space) (name index : List ℕ) → IfOk (cell_of_name spaces name index) (Lies spaces)
-cell_of_name-lies spaces name index = by (is_name name) (number_of index) (space_named spaces name)
-  where
-    by : (b : Bool) (i s : Option ℕ)
-        → IfOk (if b then (do
-          n ← ok_or i fault.Op
-          space ← ok_or s fault.SpaceUnknown
-          cell_in spaces space n) else Err fault.Op) (Lies spaces)
-    by false i s = tt
-    by true None s = tt
-    by true (Some n) None = tt
-    by true (Some n) (Some space) = cell_in-lies spaces space n
+range-are : (spaces : List Space) (r : Result Range TraceFault) → IfOk r (IsRange spaces) → IfOk (ops_of_range r) (AreSome spaces)
+range-are spaces (Ok range) h = record { some = ops_on-some spaces range h; lie = ops_on-lie spaces range h }
+range-are spaces (Err e) h = tt
 
-cell_of-lies : (spaces : List Space) (text : List ℕ) → IfOk (cell_of spaces text) (Lies spaces)
-unfolding cell_of
-cell_of-lies spaces text = by (parts 58 text)
-  where
-    by : (words : List (List ℕ)) → IfOk (cell_of_parts spaces words) (Lies spaces)
-    by [] = tt
-    by (name ∷ []) = tt
-    by (name ∷ index ∷ []) = cell_of_name-lies spaces name index
-    by (name ∷ index ∷ more ∷ others) = tt
+either-are : (spaces : List Space) (range one : Result (List Op) TraceFault) → IfOk range (AreSome spaces) → IfOk one (AreSome spaces) → IfOk (or_range range one) (AreSome spaces)
+either-are spaces range (Ok list) p q = q
+either-are spaces range (Err fault.Op) p q = p
+either-are spaces range (Err fault.Csv) p q = tt
+either-are spaces range (Err fault.Header) p q = tt
+either-are spaces range (Err fault.Fields) p q = tt
+either-are spaces range (Err fault.Name) p q = tt
+either-are spaces range (Err fault.Cost) p q = tt
+either-are spaces range (Err fault.NoOps) p q = tt
+either-are spaces range (Err fault.SpaceUnknown) p q = tt
+either-are spaces range (Err fault.IndexTooLarge) p q = tt
+either-are spaces range (Err fault.TooManyOps) p q = tt
+either-are spaces range (Err fault.TooManyMessages) p q = tt
+either-are spaces range (Err fault.Release) p q = tt
+either-are spaces range (Err fault.Client) p q = tt
+either-are spaces range (Err fault.Think) p q = tt
 
--- the cells of an operation that is read lie in the spaces
-abbrev AllLie : List Space → List Cell → Type 0
-AllLie spaces cells = All (Lies spaces) cells
+piece_of-are : (version : Version) (spaces : List Space) (piece : List ℕ) → IfOk (piece_of version spaces piece) (AreSome spaces)
+unfolding piece_of
+piece_of-are V1 spaces piece = one-are spaces (op_of spaces piece) (op_of-lies spaces piece)
+piece_of-are V2 spaces piece = one-are spaces (op_of spaces piece) (op_of-lies spaces piece)
+piece_of-are V3 spaces piece =
+    either-are spaces (ops_of_range (range_of spaces piece)) (one (op_of spaces piece))
+    (range-are spaces (range_of spaces piece) (range_of-is spaces piece)) (one-are spaces (op_of spaces piece) (op_of-lies spaces piece))
 
-one-lies : (spaces : List Space) (cell : Cell) → Lies spaces cell → AllLie spaces (cell ∷ [])
-one-lies spaces cell h = All-cons (Lies spaces) cell [] h (All-nil (Lies spaces))
+abbrev flat : List (List Op) → List Op
+flat lists = flat_map (λ list. list) lists
 
-two-lie : (spaces : List Space) (cell other : Cell) → Lies spaces cell → Lies spaces other → AllLie spaces (cell ∷ other ∷ [])
-two-lie spaces cell other h k = All-cons (Lies spaces) cell (other ∷ []) h (one-lies spaces other k)
-
-abbrev OpLies : List Space → Op → Type 0
-OpLies spaces o = AllLie spaces (cells_of_op o)
-
--- anything that is read
-any_ok : {A : Type 0} (r : Result A TraceFault) → IfOk r (λ x. Unit {0})
-any_ok (Ok x) = tt
-any_ok (Err e) = tt
-
-cell_and-lies : {A : Type 0} (Q : A → Type 0) (spaces : List Space) (read : List ℕ → Result A TraceFault) → ((text : List ℕ) → IfOk (read text) Q)
-    → (words : List (List ℕ)) → IfOk (cell_and spaces read words) (λ p. Lies spaces p.0 × Q p.1)
-cell_and-lies Q spaces read each [] = tt
-cell_and-lies Q spaces read each (cell ∷ []) = tt
-cell_and-lies Q spaces read each (cell ∷ second ∷ []) = pair-if number (Lies spaces) Q (cell_of spaces cell) (read second) (cell_of-lies spaces cell) (each second)
-cell_and-lies Q spaces read each (cell ∷ second ∷ third ∷ others) = tt
-
-one_cell-lies : (spaces : List Space) (words : List (List ℕ)) → IfOk (one_cell spaces words) (Lies spaces)
-one_cell-lies spaces [] = tt
-one_cell-lies spaces (cell ∷ []) = cell_of-lies spaces cell
-one_cell-lies spaces (cell ∷ more ∷ others) = tt
-
-op_of_verb-lies : (spaces : List Space) (v : Verb) (words : List (List ℕ)) → IfOk (op_of_verb spaces v words) (OpLies spaces)
-unfolding op_of_verb
-op_of_verb-lies spaces verb.Set words =
-    bind-if _ (OpLies spaces) _ (λ p. Ok (op.Set p.0 p.1)) (cell_and-lies _ spaces value_of (λ text. any_ok (value_of text)) words) (λ p h. one-lies spaces p.0 h.0)
-op_of_verb-lies spaces verb.Add words =
-    bind-if _ (OpLies spaces) _ (λ p. Ok (op.Add p.0 p.1)) (cell_and-lies _ spaces value_of (λ text. any_ok (value_of text)) words) (λ p h. one-lies spaces p.0 h.0)
-op_of_verb-lies spaces verb.Copy words =
-    bind-if _ (OpLies spaces) _ (λ p. Ok (op.Copy p.0 p.1)) (cell_and-lies (Lies spaces) spaces (cell_of spaces) (cell_of-lies spaces) words) (λ p h. two-lie spaces p.0 p.1 h.0 h.1)
-op_of_verb-lies spaces verb.Swap words =
-    bind-if _ (OpLies spaces) _ (λ p. Ok (op.Swap p.0 p.1)) (cell_and-lies (Lies spaces) spaces (cell_of spaces) (cell_of-lies spaces) words) (λ p h. two-lie spaces p.0 p.1 h.0 h.1)
-op_of_verb-lies spaces verb.Read words =
-    bind-if (Lies spaces) (OpLies spaces) (one_cell spaces words) (λ cell. Ok (op.Read cell)) (one_cell-lies spaces words) (λ cell h. one-lies spaces cell h)
-
-op_of-lies : (spaces : List Space) (piece : List ℕ) → IfOk (op_of spaces piece) (OpLies spaces)
-unfolding op_of
-op_of-lies spaces piece = by (parts 32 piece)
-  where
-    of_found : (found : Option Verb) (words : List (List ℕ)) → IfOk (ok_or found fault.Op >>= (λ v. op_of_verb spaces v words)) (OpLies spaces)
-    of_found None words = tt
-    of_found (Some v) words = op_of_verb-lies spaces v words
-
-    by : (words : List (List ℕ)) → IfOk (op_of_words spaces words) (OpLies spaces)
-    by [] = tt
-    by (name ∷ words) = of_found (verb_named name) words
-
-pieces_of-lie : (spaces : List Space) (text : List ℕ) → IfOk (pieces_of spaces text) (λ list. AllLie spaces (cells_of list))
+pieces_of-lie : (version : Version) (spaces : List Space) (text : List ℕ) → IfOk (pieces_of version spaces text) (λ list. AllLie spaces (cells_of list))
 unfolding pieces_of
-pieces_of-lie spaces text =
-    gather-if number (op_of spaces) (OpLies spaces) (λ list. AllLie spaces (cells_of list)) (All-nil (Lies spaces))
-    (λ o list h hs. All-append (Lies spaces) (cells_of_op o) (cells_of list) h hs)
-    (op_of-lies spaces) (parts 59 text)
-
-pieces_of-some : (spaces : List Space) (text : List ℕ) → IfOk (pieces_of spaces text) (λ list. 1 ≤ length list)
-unfolding pieces_of
-pieces_of-some spaces text = by (gather number (op_of spaces) (parts 59 text)) (gather-length number (op_of spaces) (parts 59 text))
+pieces_of-lie version spaces text =
+    by (gather number (piece_of version spaces) (parts 59 text))
+    (gather-if number (piece_of version spaces) (AreSome spaces) (λ lists. AllLie spaces (cells_of (flat lists))) (All-nil (Lies spaces))
+    (λ list lists h hs. rw (flat_map-append cells_of_op list (flat lists)) (All-append (Lies spaces) (cells_of list) (cells_of (flat lists)) h.lie hs))
+    (piece_of-are version spaces) (parts 59 text))
   where
-    by : (r : Result (List Op) TraceFault) → IfOk r (λ list. length list ≡ length (parts 59 text)) → IfOk r (λ list. 1 ≤ length list)
-    by (Ok list) h = rw h (omega (arith, ap length (parts-cons 59 text).2))
+    by : (r : Result (List (List Op)) TraceFault) → IfOk r (λ lists. AllLie spaces (cells_of (flat lists))) → IfOk (joined r) (λ list. AllLie spaces (cells_of list))
+    by (Ok lists) h = h
     by (Err e) h = tt
 
+pieces_of-some : (version : Version) (spaces : List Space) (text : List ℕ) → IfOk (pieces_of version spaces text) (λ list. 1 ≤ length list)
+unfolding pieces_of
+pieces_of-some version spaces text =
+    by (gather number (piece_of version spaces) (parts 59 text)) (gather-length number (piece_of version spaces) (parts 59 text))
+    (gather-if number (piece_of version spaces) (AreSome spaces) (λ lists. length lists ≤ length (flat lists)) (omega arith)
+    (λ list lists h hs. omega (arith, h.some, hs, length-append list (flat lists)))
+    (piece_of-are version spaces) (parts 59 text))
+  where
+    by : (r : Result (List (List Op)) TraceFault) → IfOk r (λ lists. length lists ≡ length (parts 59 text)) → IfOk r (λ lists. length lists ≤ length (flat lists))
+        → IfOk (joined r) (λ list. 1 ≤ length list)
+    by (Ok lists) h k = omega (arith, h, k, ap length (parts-cons 59 text).2)
+    by (Err e) h k = tt
+
 -- the operations of a message: some, not too many, on cells of the spaces
-pub record AreOps (spaces : List Space) (list : List Op) : Type 0 where
+pub record AreOps (spaces : List Space) (most : ℕ) (list : List Op) : Type 0 where
   pub some : 1 ≤ length list
-  pub few : length list ≤ MAX_OPS
+  pub few : length list ≤ most
   pub lie : AllLie spaces (cells_of list)
 
-ops_of-within : (spaces : List Space) (text : List ℕ) → IfOk (ops_of spaces text) (AreOps spaces)
+ops_of-within : (version : Version) (spaces : List Space) (most : ℕ) (text : List ℕ) → IfOk (ops_of version spaces most text) (AreOps spaces most)
 unfolding ops_of
-ops_of-within spaces text = by (length text == 0) (pieces_of spaces text) (pieces_of-some spaces text) (pieces_of-lie spaces text)
+ops_of-within version spaces most text = by (length text == 0) (pieces_of version spaces text) (pieces_of-some version spaces text) (pieces_of-lie version spaces text)
   where
-    few : (list : List Op) (b : Bool) → nat_lt MAX_OPS (length list) ≡ b → 1 ≤ length list → AllLie spaces (cells_of list)
-        → IfOk (if b then Err fault.TooManyOps else Ok list) (AreOps spaces)
+    few : (list : List Op) (b : Bool) → nat_lt most (length list) ≡ b → 1 ≤ length list → AllLie spaces (cells_of list)
+        → IfOk (if b then Err fault.TooManyOps else Ok list) (AreOps spaces most)
     few list true e some lie = tt
     few list false e some lie = record { some = some; few = ltb-false _ _ e; lie = lie }
 
     by : (b : Bool) (r : Result (List Op) TraceFault) → IfOk r (λ list. 1 ≤ length list) → IfOk r (λ list. AllLie spaces (cells_of list))
-        → IfOk (if b then Err fault.NoOps else (r >>= (λ list. if nat_lt MAX_OPS (length list) then Err fault.TooManyOps else Ok list))) (AreOps spaces)
+        → IfOk (if b then Err fault.NoOps else (r >>= (λ list. if nat_lt most (length list) then Err fault.TooManyOps else Ok list))) (AreOps spaces most)
     by true r some lie = tt
-    by false (Ok list) some lie = few list (nat_lt MAX_OPS (length list)) refl some lie
+    by false (Ok list) some lie = few list (nat_lt most (length list)) refl some lie
     by false (Err e) some lie = tt
 
 -- a number within limits
@@ -180,72 +147,131 @@ name_of-named text = by (is_name text) refl
     by true h = h
     by false h = tt
 
-counted-few : (at : ℕ) → IfOk (counted at) (λ _. at ≤ MAX_MESSAGES + 1)
-counted-few at = by (nat_lt (MAX_MESSAGES + 1) at) refl
+counted-few : (version : Version) (at : ℕ) → IfOk (counted version at) (λ _. at ≤ max_messages version + 1)
+counted-few version at = by (nat_lt (max_messages version + 1) at) refl
   where
-    by : (b : Bool) → nat_lt (MAX_MESSAGES + 1) at ≡ b → IfOk (if b then Err fault.TooManyMessages else Ok at) (λ _. at ≤ MAX_MESSAGES + 1)
+    by : (b : Bool) → nat_lt (max_messages version + 1) at ≡ b → IfOk (if b then Err fault.TooManyMessages else Ok at) (λ _. at ≤ max_messages version + 1)
     by true h = tt
     by false h = ltb-false _ _ h
 
--- a message that is read is within the limits, and is not one too many
-abbrev pub Fits : Version → List Space → ℕ → Message → Type 0
-Fits version spaces at message = IsMessage version (sizes_of spaces) message × (at ≤ MAX_MESSAGES + 1)
-
-abbrev IsRelease : Version → ℕ → Type 0
-IsRelease version release = (release ≤ MAX_RELEASE) × (version ≡ V1 → release ≡ 0)
-
-second-release : (text : Field) → IfOk (release_of (Some text)) (IsRelease V2)
-second-release text = by (number_within 0 MAX_RELEASE text) (number_within-within 0 MAX_RELEASE text)
+-- the lesser of two numbers is at most both
+lesser-both : (a b : ℕ) → (lesser a b ≤ a) × (lesser a b ≤ b)
+lesser-both a b = by (nat_le a b) refl
   where
-    by : (o : Option ℕ) → IfSome o (λ n. (0 ≤ n) × (n ≤ MAX_RELEASE)) → IfOk (ok_or o fault.Release) (IsRelease V2)
-    by None h = tt
-    by (Some n) h = (h.1, λ same. absurd (cc same))
+    by : (t : Bool) → nat_le a b ≡ t → ((if t then a else b) ≤ a) × ((if t then a else b) ≤ b)
+    by true h = (omega arith, leb-true a b h)
+    by false h = (omega (arith, leb-false a b h), omega arith)
 
-message_of_fields-fits : (version : Version) (spaces : List Space) (at : ℕ) (name cost : Field) (release : Option Field) (ops : Field)
-    → IfOk (release_of release) (IsRelease version)
-    → IfOk (message_of_fields spaces at name cost release ops) (Fits version spaces at)
-unfolding message_of_fields
-message_of_fields-fits version spaces at name cost release ops released =
-    by (name_of name) (cost_of cost) (ops_of spaces ops) (counted at) (release_of release)
-    (name_of-named name) (ok_or-if (λ c. (1 ≤ c) × (c ≤ MAX_COST)) (number_within 1 MAX_COST cost) fault.Cost (number_within-within 1 MAX_COST cost)) (ops_of-within spaces ops) (counted-few at) released
+-- as many operations fit as are within both limits
+pub fits-most : (version : Version) (place : Place) (n : ℕ) → n ≤ max_ops version → place.ops + n ≤ MAX_ALL_OPS → n ≤ most_ops version place
+fits-most version place n few room = by (nat_le (max_ops version) (MAX_ALL_OPS - place.ops))
+  where
+    by : (t : Bool) → n ≤ (if t then max_ops version else MAX_ALL_OPS - place.ops)
+    by true = few
+    by false = omega (arith, room)
+
+-- a message that is read is within the limits, and neither it nor its operations are too many
+pub record Fits (version : Version) (spaces : List Space) (place : Place) (message : Message) : Type 0 where
+  pub within : IsMessage version (sizes_of spaces) message
+  pub counted : place.at ≤ max_messages version + 1
+  pub room : place.ops + length message.ops ≤ MAX_ALL_OPS
+
+abbrev IsReleaseOf : Version → ℕ → Type 0
+IsReleaseOf version release = (release ≤ MAX_RELEASE) × (version ≡ V1 → release ≡ 0)
+
+abbrev IsClientOf : Version → Field → Type 0
+IsClientOf version client = (is_name client ≡ true) × (version ≢ V3 → client ≡ no_client)
+
+abbrev IsThinkOf : Version → ℕ → Type 0
+IsThinkOf version think = (think ≤ MAX_THINK) × (version ≢ V3 → think ≡ 0)
+
+told-release : (version : Version) → (version ≡ V1 → ⊥) → (text : Field) → IfOk (release_of (Some text)) (IsReleaseOf version)
+told-release version later text = by (number_within 0 MAX_RELEASE text) (number_within-within 0 MAX_RELEASE text)
+  where
+    by : (o : Option ℕ) → IfSome o (λ n. (0 ≤ n) × (n ≤ MAX_RELEASE)) → IfOk (ok_or o fault.Release) (IsReleaseOf version)
+    by None h = tt
+    by (Some n) h = (h.1, λ same. absurd (later same))
+
+told-client : (text : Field) → IfOk (client_of (Some text)) (IsClientOf V3)
+told-client text = by (is_name text) refl
+  where
+    by : (b : Bool) → is_name text ≡ b → IfOk (if b then Ok text else Err fault.Client) (IsClientOf V3)
+    by true h = (h, λ other. absurd (other refl))
+    by false h = tt
+
+told-think : (text : Field) → IfOk (think_of (Some text)) (IsThinkOf V3)
+told-think text = by (number_within 0 MAX_THINK text) (number_within-within 0 MAX_THINK text)
+  where
+    by : (o : Option ℕ) → IfSome o (λ n. (0 ≤ n) × (n ≤ MAX_THINK)) → IfOk (ok_or o fault.Think) (IsThinkOf V3)
+    by None h = tt
+    by (Some n) h = (h.1, λ other. absurd (other refl))
+
+message_of_columns-fits : (version : Version) (spaces : List Space) (place : Place) (columns : Columns)
+    → IfOk (release_of columns.release) (IsReleaseOf version) → IfOk (client_of columns.client) (IsClientOf version) → IfOk (think_of columns.think) (IsThinkOf version)
+    → IfOk (message_of_columns version spaces place columns) (Fits version spaces place)
+unfolding message_of_columns
+message_of_columns-fits version spaces place columns released named_client thought =
+    by (name_of columns.name) (cost_of columns.cost) (ops_of version spaces (most_ops version place) columns.ops) (counted version place.at) (release_of columns.release)
+    (client_of columns.client) (think_of columns.think)
+    (name_of-named columns.name) (ok_or-if (λ c. (1 ≤ c) × (c ≤ MAX_COST)) (number_within 1 MAX_COST columns.cost) fault.Cost (number_within-within 1 MAX_COST columns.cost))
+    (ops_of-within version spaces (most_ops version place) columns.ops) (counted-few version place.at) released named_client thought
   where
     by : (n : Result Field TraceFault) (c : Result ℕ TraceFault) (o : Result (List Op) TraceFault) (a : Result ℕ TraceFault) (r : Result ℕ TraceFault)
-        → IfOk n (λ name. is_name name ≡ true) → IfOk c (λ cost. (1 ≤ cost) × (cost ≤ MAX_COST)) → IfOk o (AreOps spaces)
-        → IfOk a (λ _. at ≤ MAX_MESSAGES + 1) → IfOk r (IsRelease version)
+        (k : Result Field TraceFault) (t : Result ℕ TraceFault)
+        → IfOk n (λ name. is_name name ≡ true) → IfOk c (λ cost. (1 ≤ cost) × (cost ≤ MAX_COST)) → IfOk o (AreOps spaces (most_ops version place))
+        → IfOk a (λ _. place.at ≤ max_messages version + 1) → IfOk r (IsReleaseOf version) → IfOk k (IsClientOf version) → IfOk t (IsThinkOf version)
         → IfOk (do
           name ← n
           cost ← c
           ops ← o
           _ ← a
           release ← r
-          Ok (record { name = name; cost = cost; release = release; ops = ops })) (Fits version spaces at)
-    by (Err e) c o a r hn hc ho ha hr = tt
-    by (Ok n) (Err e) o a r hn hc ho ha hr = tt
-    by (Ok n) (Ok c) (Err e) a r hn hc ho ha hr = tt
-    by (Ok n) (Ok c) (Ok o) (Err e) r hn hc ho ha hr = tt
-    by (Ok n) (Ok c) (Ok o) (Ok a) (Err e) hn hc ho ha hr = tt
-    by (Ok n) (Ok c) (Ok o) (Ok a) (Ok r) hn hc ho ha hr = (
-      record {
-        named = hn;
-        some_cost = hc.0;
-        within_cost = hc.1;
-        within_release = hr.0;
-        no_release = hr.1;
-        some_ops = ho.some;
-        within_ops = ho.few;
-        cells = ho.lie;
-      },
-      ha,
-    )
+          client ← k
+          think ← t
+          Ok (record { name = name; cost = cost; release = release; client = client; think = think; ops = ops })) (Fits version spaces place)
+    by (Err e) c o a r k t hn hc ho ha hr hk ht = tt
+    by (Ok n) (Err e) o a r k t hn hc ho ha hr hk ht = tt
+    by (Ok n) (Ok c) (Err e) a r k t hn hc ho ha hr hk ht = tt
+    by (Ok n) (Ok c) (Ok o) (Err e) r k t hn hc ho ha hr hk ht = tt
+    by (Ok n) (Ok c) (Ok o) (Ok a) (Err e) k t hn hc ho ha hr hk ht = tt
+    by (Ok n) (Ok c) (Ok o) (Ok a) (Ok r) (Err e) t hn hc ho ha hr hk ht = tt
+    by (Ok n) (Ok c) (Ok o) (Ok a) (Ok r) (Ok k) (Err e) hn hc ho ha hr hk ht = tt
+    by (Ok n) (Ok c) (Ok o) (Ok a) (Ok r) (Ok k) (Ok t) hn hc ho ha hr hk ht =
+        let least = lesser-both (max_ops version) (MAX_ALL_OPS - place.ops) in
+        let some = ho.some in
+        let few = ho.few in
+        record {
+          within = record {
+            named = hn;
+            some_cost = hc.0;
+            within_cost = hc.1;
+            within_release = hr.0;
+            no_release = hr.1;
+            named_client = hk.0;
+            no_client = hk.1;
+            within_think = ht.0;
+            no_think = ht.1;
+            some_ops = ho.some;
+            within_ops = omega (arith, few, least.0);
+            cells = ho.lie;
+          };
+          counted = ha;
+          room = omega (arith, some, few, least.1);
+        }
 
-pub message_of-fits : (version : Version) (spaces : List Space) (at : ℕ) (row : Record) → IfOk (message_of version spaces at row) (Fits version spaces at)
-message_of-fits V1 spaces at row = by (three_of row)
+pub message_of-fits : (version : Version) (spaces : List Space) (place : Place) (row : Record) → IfOk (message_of version spaces place row) (Fits version spaces place)
+message_of-fits V1 spaces place row = by (three_of row)
   where
-    by : (f : Option (Field × Field × Field)) → IfOk (message_of_three spaces at f) (Fits V1 spaces at)
+    by : (f : Option (Field × Field × Field)) → IfOk (message_of_row V1 spaces place (option_map three_columns f)) (Fits V1 spaces place)
     by None = tt
-    by (Some f) = message_of_fields-fits V1 spaces at f.0 f.1 None f.2 (omega arith, λ _. refl)
-message_of-fits V2 spaces at row = by (four_of row)
+    by (Some f) = message_of_columns-fits V1 spaces place (three_columns f) (omega arith, λ _. refl) (refl, λ _. refl) (omega arith, λ _. refl)
+message_of-fits V2 spaces place row = by (four_of row)
   where
-    by : (f : Option (Field × Field × Field × Field)) → IfOk (message_of_four spaces at f) (Fits V2 spaces at)
+    by : (f : Option (Field × Field × Field × Field)) → IfOk (message_of_row V2 spaces place (option_map four_columns f)) (Fits V2 spaces place)
     by None = tt
-    by (Some f) = message_of_fields-fits V2 spaces at f.0 f.1 (Some f.2) f.3 (second-release f.2)
+    by (Some f) = message_of_columns-fits V2 spaces place (four_columns f) (told-release V2 (λ same. cc same) f.2) (refl, λ _. refl) (omega arith, λ _. refl)
+message_of-fits V3 spaces place row = by (six_of row)
+  where
+    by : (f : Option (Field × Field × Field × Field × Field × Field)) → IfOk (message_of_row V3 spaces place (option_map six_columns f)) (Fits V3 spaces place)
+    by None = tt
+    by (Some f) = message_of_columns-fits V3 spaces place (six_columns f) (told-release V3 (λ same. cc same) f.2) (told-client f.3) (told-think f.4)

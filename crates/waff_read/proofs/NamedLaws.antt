@@ -13,7 +13,7 @@ use Rattle.waff_model.proofs.RefusalLemmas.{none_holds}
 use Rattle.waff_read.specs.Affinities.{node_in, tree_from, tree_of}
 use Rattle.waff_read.specs.Checks.{passed}
 use Rattle.waff_read.specs.Documents.{rows_at}
-use Rattle.waff_read.specs.Hierarchies.{hierarchy_of}
+use Rattle.waff_read.specs.Hierarchies.{format_of, hierarchy_of}
 use Rattle.waff_read.specs.Spaces.{space_of, map_of}
 use Rattle.waff_read.proofs.HierarchyLaws.{hierarchy_is_exact, layout_of-over}
 
@@ -50,5 +50,5 @@ named-tree_of (row ∷ more) read done = named-tree_from [] (row ∷ more) read 
 pub affinities_are_named : (bytes : List ℕ) (layout : Hierarchy) → hierarchy_of bytes ≡ Ok layout → All IsNamed layout.tree
 affinities_are_named bytes layout read =
     let d = (hierarchy_is_exact bytes layout).0 read in
-    let over = layout_of-over d.kind d.tree (map space_of (rows_at (codes "space") d.document)) (map map_of (rows_at (codes "map") d.document)) layout d.is_layout in
+    let over = layout_of-over (format_of d.document) d.kind d.tree (map space_of (rows_at (codes "space") d.document)) (map map_of (rows_at (codes "map") d.document)) layout d.is_layout in
     subst (All IsNamed) (sym over.1) (named-tree_of (rows_at (codes "affinity") d.document) d.tree d.is_tree)

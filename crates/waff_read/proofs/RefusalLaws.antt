@@ -1,27 +1,38 @@
 -- Of the checks that hold of a record, the one of least number is told.
 use Rattle.std.proofs.Common.{◌≡◌, ◌≢◌, ℕ, zero, suc, ◌+◌, ◌<◌, ◌≤◌, List, [], ◌∷◌, length, Bool, true, false, Option, Some, None, Result, Ok, Err, refl, sym, ap, ◌∙◌, arith, inl, inr, ◌⊎◌}
-use Rattle.std.specs.Prelude.{Contains, IfErr, ok_or, option_and_then, nat_le, nat_lt, ◌==◌, if◌then◌else◌}
+use Rattle.std.specs.Prelude.{Contains, IfErr, codes, ok_or, option_and_then, nat_le, nat_lt, ◌==◌, if◌then◌else◌}
+use Rattle.std.specs.List.{flat_map}
+use Rattle.std.specs.Str.{bytes_eq}
 use Rattle.std.proofs.lemmas.Bool.{cases_lt, leb-true, leb-false, ltb-true, ltb-false, eqb-true, eqb-false}
 use Rattle.waff_model.specs.Layout.{Space, size_at, space_named}
 use Rattle.waff_model.specs.Names.{is_name}
-use Rattle.waff_model.specs.declared.limits.TheConstants.{MAX_COST, MAX_MESSAGES, MAX_OPS, MAX_RELEASE}
+use Rattle.waff_model.specs.Versions.{max_messages}
+use Rattle.waff_model.specs.declared.cell.Cell.{Cell}
+use Rattle.waff_model.specs.declared.limits.TheConstants.{MAX_COST, MAX_RELEASE, MAX_THINK}
 use Rattle.waff_model.specs.declared.message.Message.{Message}
+use Rattle.waff_model.specs.declared.message.Version.{Version}
+use Rattle.waff_model.specs.declared.message.Version.TheVariants.{V1, V2, V3}
 use Rattle.waff_model.specs.declared.op.Op.{Op}
 use Rattle.waff_model.specs.declared.op.Op.TheVariants as op
 use Rattle.waff_model.specs.declared.op.Verb.{Verb}
 use Rattle.waff_model.specs.declared.op.Verb.TheVariants as verb
-use Rattle.waff_parse.specs.Fields.{Field}
+use Rattle.waff_parse.specs.Fields.{Field, three_of, two_of}
 use Rattle.waff_parse.specs.Refusals.{◌>>=◌, both, one, pair}
-use Rattle.waff_parse.specs.Texts.{number_of, number_within, parts, small}
+use Rattle.waff_parse.specs.Texts.{are_rising, number_of, number_within, parts, small}
 use Rattle.waff_parse.specs.Walks.{gather}
-use Rattle.waff_parse.proofs.Laws.{gather-length}
-use Rattle.waff_read.specs.Laws.{HasPiece, HasTraceFault, IsLeastCheck, LeastCheckDecides}
-use Rattle.waff_read.specs.Messages.{cost_of, counted, message_of_fields, name_of, release_of}
-use Rattle.waff_read.specs.Ops.{cell_and, cell_in, cell_of, cell_of_parts, one_cell, op_of, op_of_verb, op_of_words, ops_of, pieces_of, value_of, verb_named}
+use Rattle.waff_read.specs.Laws.{HasPiece, HasTraceFault, IsLeastCheck, LeastCheckDecides, SpellOps}
+use Rattle.waff_read.specs.Messages.{Columns, client_of, cost_of, counted, message_of_columns, name_of, release_of, think_of}
+use Rattle.waff_read.specs.Ops.{cell_and, cell_of, cell_of_name, cell_of_parts, one_cell, op_of, op_of_verb, op_of_words, value_of, verb_named}
+use Rattle.waff_read.specs.Pieces.{joined, ops_of, or_range, piece_of, pieces_of}
+use Rattle.waff_read.specs.Places.{most_ops}
+use Rattle.waff_read.specs.Ranges.{ends_of, ops_of_range, range_of, range_of_words, range_to}
 use Rattle.waff_read.specs.TraceFaults.{number}
+use Rattle.waff_read.specs.declared.place.Place.{Place}
+use Rattle.waff_read.specs.declared.range.Deed.TheVariants as deed
+use Rattle.waff_read.specs.declared.range.Range.{Range}
 use Rattle.waff_read.specs.declared.trace_fault.TraceFault.{TraceFault}
 use Rattle.waff_read.specs.declared.trace_fault.TraceFault.TheVariants as fault
-use Rattle.waff_read.proofs.ExactLaws.{counted-read, name_of-read}
+use Rattle.waff_read.proofs.ExactLaws.{counted-read, gather-read, name_of-read, read-gather}
 
 -- an element of a list with a head is the head, or one of the others
 contains_cases : {A : Type 0} (a : A) (xs : List A) (x : A) → Contains (a ∷ xs) x → (a ≡ x) ⊎ Contains xs x
@@ -148,22 +159,22 @@ of_pair (Err d) (Err e) h k = by (nat_le (number d) (number e))
     by true = h
     by false = k
 
+cell_of_name-fault : (spaces : List Space) (name index : List ℕ) → OfPiece (cell_of_name spaces name index)
+cell_of_name-fault spaces name index =
+    of_test (is_name name) _ (Err fault.Op)
+    (of_bind (ok_or (number_of index) fault.Op) _ (of_option (number_of index) fault.Op (inl refl))
+    (λ i. of_bind (ok_or (space_named spaces name) fault.SpaceUnknown) _ (of_option (space_named spaces name) fault.SpaceUnknown (inr (inl refl)))
+    (λ space. of_test (nat_lt i (size_at spaces space)) (Ok (record { space = space; index = i })) (Err fault.IndexTooLarge) tt (inr (inr refl)))))
+    (inl refl)
+
 cell_of-fault : (spaces : List Space) (text : List ℕ) → OfPiece (cell_of spaces text)
 unfolding cell_of
 cell_of-fault spaces text = by (parts 58 text)
   where
-    inside : (space index : ℕ) → OfPiece (cell_in spaces space index)
-    inside space index = of_test (nat_lt index (size_at spaces space)) (Ok (record { space = space; index = index })) (Err fault.IndexTooLarge) tt (inr (inr refl))
-
     by : (words : List (List ℕ)) → OfPiece (cell_of_parts spaces words)
     by [] = inl refl
     by (name ∷ []) = inl refl
-    by (name ∷ index ∷ []) =
-        of_test (is_name name) _ (Err fault.Op)
-        (of_bind (ok_or (number_of index) fault.Op) _ (of_option (number_of index) fault.Op (inl refl))
-        (λ i. of_bind (ok_or (space_named spaces name) fault.SpaceUnknown) _ (of_option (space_named spaces name) fault.SpaceUnknown (inr (inl refl)))
-        (λ space. inside space i)))
-        (inl refl)
+    by (name ∷ index ∷ []) = cell_of_name-fault spaces name index
     by (name ∷ index ∷ more ∷ others) = inl refl
 
 value_of-fault : (text : List ℕ) → OfPiece (value_of text)
@@ -199,15 +210,72 @@ op_of-fault spaces piece = by (parts 32 piece)
     by (name ∷ words) =
         of_bind (ok_or (verb_named name) fault.Op) _ (of_option (verb_named name) fault.Op (inl refl)) (λ v. op_of_verb-fault spaces v words)
 
+-- what a range is refused for
+ends_of-fault : (spaces : List Space) (text : List ℕ) → OfPiece (ends_of spaces text)
+unfolding ends_of
+ends_of-fault spaces text =
+    of_bind (ok_or (two_of (parts 58 text)) fault.Op) _ (of_option (two_of (parts 58 text)) fault.Op (inl refl))
+    (λ words. of_bind (ok_or (two_of (parts 45 words.1)) fault.Op) _ (of_option (two_of (parts 45 words.1)) fault.Op (inl refl))
+    (λ ends. of_test (are_rising ends.0 ends.1) _ (Err fault.Op)
+    (of_pair (cell_of_name spaces words.0 ends.0) (cell_of_name spaces words.0 ends.1) (cell_of_name-fault spaces words.0 ends.0) (cell_of_name-fault spaces words.0 ends.1))
+    (inl refl)))
+
+range_of-fault : (spaces : List Space) (piece : List ℕ) → OfPiece (range_of spaces piece)
+unfolding range_of
+range_of-fault spaces piece = by (three_of (parts 32 piece)) (two_of (parts 32 piece))
+  where
+    valued : (words : Field × Field × Field) (to : (Cell × Cell) × ℕ → Range) → OfPiece (pair number (ends_of spaces words.1) (value_of words.2) >>= (λ p. Ok (to p)))
+    valued words to = of_bind _ (λ p. Ok (to p)) (of_pair (ends_of spaces words.1) (value_of words.2) (ends_of-fault spaces words.1) (value_of-fault words.2)) (λ p. tt)
+
+    by : (a : Option (Field × Field × Field)) (b : Option (Field × Field)) → OfPiece (range_of_words spaces a b)
+    by (Some words) b =
+        of_test (bytes_eq words.0 (codes "set")) _ _ (valued words (λ p. range_to (deed.Set p.1) p.0))
+        (of_test (bytes_eq words.0 (codes "add")) _ (Err fault.Op) (valued words (λ p. range_to (deed.Add p.1) p.0)) (inl refl))
+    by None (Some words) =
+        of_test (bytes_eq words.0 (codes "read")) _ (Err fault.Op)
+        (of_bind (ends_of spaces words.1) (λ ends. Ok (range_to deed.Read ends)) (ends_of-fault spaces words.1) (λ ends. tt)) (inl refl)
+    by None None = inl refl
+
+-- what a piece is refused for
+of_one : (r : Result Op TraceFault) → OfPiece r → OfPiece (one r)
+of_one (Ok op) h = tt
+of_one (Err e) h = h
+
+of_range : (r : Result Range TraceFault) → OfPiece r → OfPiece (ops_of_range r)
+of_range (Ok range) h = tt
+of_range (Err e) h = h
+
+of_either : (range one : Result (List Op) TraceFault) → OfPiece range → OfPiece one → OfPiece (or_range range one)
+of_either range (Ok list) p q = tt
+of_either range (Err fault.Op) p q = p
+of_either range (Err fault.Csv) p q = q
+of_either range (Err fault.Header) p q = q
+of_either range (Err fault.Fields) p q = q
+of_either range (Err fault.Name) p q = q
+of_either range (Err fault.Cost) p q = q
+of_either range (Err fault.NoOps) p q = q
+of_either range (Err fault.SpaceUnknown) p q = q
+of_either range (Err fault.IndexTooLarge) p q = q
+of_either range (Err fault.TooManyOps) p q = q
+of_either range (Err fault.TooManyMessages) p q = q
+of_either range (Err fault.Release) p q = q
+of_either range (Err fault.Client) p q = q
+of_either range (Err fault.Think) p q = q
+
+piece_of-fault : (version : Version) (spaces : List Space) (piece : List ℕ) → OfPiece (piece_of version spaces piece)
+unfolding piece_of
+piece_of-fault V1 spaces piece = of_one (op_of spaces piece) (op_of-fault spaces piece)
+piece_of-fault V2 spaces piece = of_one (op_of spaces piece) (op_of-fault spaces piece)
+piece_of-fault V3 spaces piece =
+    of_either (ops_of_range (range_of spaces piece)) (one (op_of spaces piece))
+    (of_range (range_of spaces piece) (range_of-fault spaces piece)) (of_one (op_of spaces piece) (op_of-fault spaces piece))
+
 piece_number : (d : TraceFault) → IsOfPiece d → (7 ≤ number d) × (number d ≤ 9)
 piece_number d (inl same) = rw same (omega arith, omega arith)
 piece_number d (inr (inl same)) = rw same (omega arith, omega arith)
 piece_number d (inr (inr same)) = rw same (omega arith, omega arith)
 
-refused_piece : (spaces : List Space) (piece : List ℕ) (d : TraceFault) → op_of spaces piece ≡ Err d → IsOfPiece d
-refused_piece spaces piece d refused = rw refused at (op_of-fault spaces piece)
-
--- what a name, a cost, a number of a record and a release are refused for
+-- what a name, a cost, a number of a record a release, a client and a think time are refused for
 name_of-refused : (name : Field) (d : TraceFault) → name_of name ≡ Err d → (d ≡ fault.Name) × (is_name name ≡ false)
 name_of-refused name d h = by (is_name name) h
   where
@@ -223,206 +291,315 @@ option-read : (o : Option ℕ) (e : TraceFault) (n : ℕ) → ok_or o e ≡ Ok n
 option-read None e n h none = cc
 option-read (Some m) e n h none = cc
 
-counted-refused : (at : ℕ) (d : TraceFault) → counted at ≡ Err d → (d ≡ fault.TooManyMessages) × (MAX_MESSAGES + 1 < at)
-counted-refused at d h = by (nat_lt (MAX_MESSAGES + 1) at) refl h
+counted-refused : (version : Version) (at : ℕ) (d : TraceFault) → counted version at ≡ Err d → (d ≡ fault.TooManyMessages) × (max_messages version + 1 < at)
+counted-refused version at d h = by (nat_lt (max_messages version + 1) at) refl h
   where
-    by : (b : Bool) → nat_lt (MAX_MESSAGES + 1) at ≡ b → (if b then Err fault.TooManyMessages else Ok at) ≡ Err d → (d ≡ fault.TooManyMessages) × (MAX_MESSAGES + 1 < at)
+    by : (b : Bool) → nat_lt (max_messages version + 1) at ≡ b → (if b then Err fault.TooManyMessages else Ok at) ≡ Err d → (d ≡ fault.TooManyMessages) × (max_messages version + 1 < at)
     by true p e = (cc, ltb-true _ _ p)
     by false p e = absurd (cc)
 
+-- a field that is there and is not read
+abbrev IsField : Option Field → (Field → Type 0) → Type 0
+IsField field P = (text : Field) × (field ≡ Some text) × P text
+
 release_of-refused : (release : Option Field) (d : TraceFault) → release_of release ≡ Err d
-    → (d ≡ fault.Release) × ((text : Field) × (release ≡ Some text) × (number_within 0 MAX_RELEASE text ≡ None))
+    → (d ≡ fault.Release) × IsField release (λ text. number_within 0 MAX_RELEASE text ≡ None)
 release_of-refused None d h = absurd (cc)
 release_of-refused (Some text) d h =
     let why = option-refused (number_within 0 MAX_RELEASE text) fault.Release d h in
     (why.0, (text, refl, why.1))
 
+client_of-refused : (client : Option Field) (d : TraceFault) → client_of client ≡ Err d → (d ≡ fault.Client) × IsField client (λ text. is_name text ≡ false)
+client_of-refused None d h = absurd (cc)
+client_of-refused (Some text) d h = by (is_name text) refl h
+  where
+    by : (b : Bool) → is_name text ≡ b → (if b then Ok text else Err fault.Client) ≡ Err d → (d ≡ fault.Client) × IsField (Some text) (λ text. is_name text ≡ false)
+    by true p e = absurd (cc)
+    by false p e = (cc, (text, refl, p))
+
+think_of-refused : (think : Option Field) (d : TraceFault) → think_of think ≡ Err d
+    → (d ≡ fault.Think) × IsField think (λ text. number_within 0 MAX_THINK text ≡ None)
+think_of-refused None d h = absurd (cc)
+think_of-refused (Some text) d h =
+    let why = option-refused (number_within 0 MAX_THINK text) fault.Think d h in
+    (why.0, (text, refl, why.1))
+
+-- what is read is not refused
+released : (release : Option Field) (n : ℕ) → release_of release ≡ Ok n → IsField release (λ text. number_within 0 MAX_RELEASE text ≡ None) → ⊥
+released release n h (text, is, none) = option-read (number_within 0 MAX_RELEASE text) fault.Release n (rw is at h) none
+
+told_client : (client : Option Field) (name : Field) → client_of client ≡ Ok name → IsField client (λ text. is_name text ≡ false) → ⊥
+told_client client name h (text, is, none) = let read = rw (is, none) at h in cc
+
 -- no piece is refused
-abbrev NoPiece : List Space → Field → Type 0
-NoPiece spaces ops = (piece : List ℕ) (d : TraceFault) → Contains (parts 59 ops) piece → op_of spaces piece ≡ Err d → ⊥
+abbrev NoPiece : Version → List Space → Field → Type 0
+NoPiece version spaces ops = (piece : List ℕ) (d : TraceFault) → Contains (parts 59 ops) piece → piece_of version spaces piece ≡ Err d → ⊥
+
+-- the pieces do not stand for more operations
+abbrev NotMany : Version → List Space → ℕ → Field → Type 0
+NotMany version spaces most text = (ops : List Op) → SpellOps version spaces text ops → length ops ≤ most
 
 -- the operations that are read
-record ReadsOps (spaces : List Space) (ops : Field) : Type 0 where
+record ReadsOps (version : Version) (spaces : List Space) (most : ℕ) (ops : Field) : Type 0 where
   some : ops ≢ []
-  none : NoPiece spaces ops
-  few : length (parts 59 ops) ≤ MAX_OPS
+  none : NoPiece version spaces ops
+  few : NotMany version spaces most ops
 
 -- what operations are refused for
-data OpsRefused (spaces : List Space) (ops : Field) : TraceFault → Type 0 where
-  no_ops : ops ≡ [] → OpsRefused spaces ops fault.NoOps
-  bad_piece : {d : TraceFault} → ops ≢ [] → IsLeastOf number (op_of spaces) (parts 59 ops) d → OpsRefused spaces ops d
-  many : ops ≢ [] → NoPiece spaces ops → MAX_OPS < length (parts 59 ops) → OpsRefused spaces ops fault.TooManyOps
+data OpsRefused (version : Version) (spaces : List Space) (most : ℕ) (ops : Field) : TraceFault → Type 0 where
+  no_ops : ops ≡ [] → OpsRefused version spaces most ops fault.NoOps
+  bad_piece : {d : TraceFault} → ops ≢ [] → IsLeastOf number (piece_of version spaces) (parts 59 ops) d → OpsRefused version spaces most ops d
+  many : ops ≢ [] → NoPiece version spaces ops → (list : List Op) → SpellOps version spaces ops list → most < length list → OpsRefused version spaces most ops fault.TooManyOps
 
 no_bytes : (text : Field) → (length text == 0) ≡ true → text ≡ []
 no_bytes [] h = refl
 no_bytes (b ∷ bs) h = absurd (let none : length (b ∷ bs) ≡ 0 = eqb-true (length (b ∷ bs)) 0 h in omega arith)
 
-module _ (spaces : List Space) (ops : Field) where
-  read_length : (list : List Op) → gather number (op_of spaces) (parts 59 ops) ≡ Ok list → length list ≡ length (parts 59 ops)
-  read_length list read = rw read at (gather-length number (op_of spaces) (parts 59 ops))
-
-  ops_of-reads : (list : List Op) → ops_of spaces ops ≡ Ok list → ReadsOps spaces ops
+module _ (version : Version) (spaces : List Space) (most : ℕ) (ops : Field) where
+  ops_of-reads : (list : List Op) → ops_of version spaces most ops ≡ Ok list → ReadsOps version spaces most ops
   unfolding ops_of pieces_of
-  ops_of-reads list h = by (length ops == 0) (gather number (op_of spaces) (parts 59 ops)) refl refl h
+  ops_of-reads list h = by (length ops == 0) (gather number (piece_of version spaces) (parts 59 ops)) refl refl h
     where
-      few : (read : List Op) (t : Bool) → nat_lt MAX_OPS (length read) ≡ t → (if t then Err fault.TooManyOps else Ok read) ≡ Ok list → length read ≤ MAX_OPS
+      few : (read : List Op) (t : Bool) → nat_lt most (length read) ≡ t → (if t then Err fault.TooManyOps else Ok read) ≡ Ok list → length read ≤ most
       few read true p e = absurd (cc)
       few read false p e = ltb-false _ _ p
 
-      by : (t : Bool) (r : Result (List Op) TraceFault) → (length ops == 0) ≡ t → gather number (op_of spaces) (parts 59 ops) ≡ r
-          → (if t then Err fault.NoOps else (r >>= (λ read. if nat_lt MAX_OPS (length read) then Err fault.TooManyOps else Ok read))) ≡ Ok list
-          → ReadsOps spaces ops
+      by : (t : Bool) (r : Result (List (List Op)) TraceFault) → (length ops == 0) ≡ t → gather number (piece_of version spaces) (parts 59 ops) ≡ r
+          → (if t then Err fault.NoOps else (joined r >>= (λ read. if nat_lt most (length read) then Err fault.TooManyOps else Ok read))) ≡ Ok list
+          → ReadsOps version spaces most ops
       by true r p all e = absurd (cc)
-      by false (Ok read) p all e =
+      by false (Ok lists) p all e =
           record {
             some = λ none. eqb-false (length ops) 0 p (ap length none);
-            none = gather-none number (op_of spaces) (parts 59 ops) read all;
-            few = rw (← read_length read all) (few read (nat_lt MAX_OPS (length read)) refl e);
+            none = gather-none number (piece_of version spaces) (parts 59 ops) lists all;
+            few = λ other (others, each, is).
+                let again = read-gather number (piece_of version spaces) (parts 59 ops) others each in
+                let same : others ≡ lists = cc (sym again ∙ all) in
+                rw (is, same) (few (flat_map (λ list. list) lists) (nat_lt most (length (flat_map (λ list. list) lists))) refl e);
           }
       by false (Err c) p all e = absurd (cc)
 
-  ops_of-refused : (d : TraceFault) → ops_of spaces ops ≡ Err d → OpsRefused spaces ops d
+  ops_of-refused : (d : TraceFault) → ops_of version spaces most ops ≡ Err d → OpsRefused version spaces most ops d
   unfolding ops_of pieces_of
-  ops_of-refused d h = by (length ops == 0) (gather number (op_of spaces) (parts 59 ops)) refl refl h
+  ops_of-refused d h = by (length ops == 0) (gather number (piece_of version spaces) (parts 59 ops)) refl refl h
     where
-      too_many : (read : List Op) (t : Bool) → gather number (op_of spaces) (parts 59 ops) ≡ Ok read → (length ops == 0) ≡ false → nat_lt MAX_OPS (length read) ≡ t
-          → (if t then Err fault.TooManyOps else Ok read) ≡ Err d → OpsRefused spaces ops d
-      too_many read true all p over e =
+      too_many : (lists : List (List Op)) (t : Bool) → gather number (piece_of version spaces) (parts 59 ops) ≡ Ok lists → (length ops == 0) ≡ false
+          → nat_lt most (length (flat_map (λ list. list) lists)) ≡ t
+          → (if t then Err fault.TooManyOps else Ok (flat_map (λ list. list) lists)) ≡ Err d → OpsRefused version spaces most ops d
+      too_many lists true all p over e =
           let same : fault.TooManyOps ≡ d = cc in
           rw (← same)
           (many (λ none. eqb-false (length ops) 0 p (ap length none))
-          (gather-none number (op_of spaces) (parts 59 ops) read all)
-          (rw (← read_length read all) (ltb-true MAX_OPS (length read) over)))
-      too_many read false all p over e = absurd (cc)
+          (gather-none number (piece_of version spaces) (parts 59 ops) lists all)
+          (flat_map (λ list. list) lists) (lists, gather-read number (piece_of version spaces) (parts 59 ops) lists all, refl)
+          (ltb-true most (length (flat_map (λ list. list) lists)) over))
+      too_many lists false all p over e = absurd (cc)
 
-      by : (t : Bool) (r : Result (List Op) TraceFault) → (length ops == 0) ≡ t → gather number (op_of spaces) (parts 59 ops) ≡ r
-          → (if t then Err fault.NoOps else (r >>= (λ read. if nat_lt MAX_OPS (length read) then Err fault.TooManyOps else Ok read))) ≡ Err d
-          → OpsRefused spaces ops d
+      by : (t : Bool) (r : Result (List (List Op)) TraceFault) → (length ops == 0) ≡ t → gather number (piece_of version spaces) (parts 59 ops) ≡ r
+          → (if t then Err fault.NoOps else (joined r >>= (λ read. if nat_lt most (length read) then Err fault.TooManyOps else Ok read))) ≡ Err d
+          → OpsRefused version spaces most ops d
       by true r p all e =
           let same : fault.NoOps ≡ d = cc in
           rw (← same) (no_ops (no_bytes ops p))
-      by false (Ok read) p all e = too_many read (nat_lt MAX_OPS (length read)) all p refl e
+      by false (Ok lists) p all e = too_many lists (nat_lt most (length (flat_map (λ list. list) lists))) all p refl e
       by false (Err c) p all e =
           let same : c ≡ d = cc in
-          rw (← same) (bad_piece (λ none. eqb-false (length ops) 0 p (ap length none)) (gather-least number (op_of spaces) (parts 59 ops) c all))
+          rw (← same) (bad_piece (λ none. eqb-false (length ops) 0 p (ap length none)) (gather-least number (piece_of version spaces) (parts 59 ops) c all))
 
-module _ (spaces : List Space) (at : ℕ) (name cost : Field) (release : Option Field) (ops : Field) where
-  -- where the checks below a number fail, each check that holds has this number or a higher one
-  at_least : (n : ℕ) → (4 < n → is_name name ≡ true) → (5 < n → number_within 1 MAX_COST cost ≢ None) → (6 < n → ops ≢ [])
-      → ((piece : List ℕ) (d : TraceFault) → Contains (parts 59 ops) piece → op_of spaces piece ≡ Err d → n ≤ number d)
-      → (10 < n → length (parts 59 ops) ≤ MAX_OPS) → (11 < n → at ≤ MAX_MESSAGES + 1) → n ≤ 13
-      → (other : TraceFault) → HasTraceFault spaces at name cost release ops other → n ≤ number other
-  at_least n named costs some pieces few counts top fault.Csv h = absurd h
-  at_least n named costs some pieces few counts top fault.Header h = absurd h
-  at_least n named costs some pieces few counts top fault.Fields h = absurd h
-  at_least n named costs some pieces few counts top fault.Name h = elim (cases_lt 4 n) [ inl over ↦ let is = named over in absurd (cc) | inr upto ↦ upto ]
-  at_least n named costs some pieces few counts top fault.Cost h = elim (cases_lt 5 n) [ inl over ↦ absurd (costs over h) | inr upto ↦ upto ]
-  at_least n named costs some pieces few counts top fault.NoOps h = elim (cases_lt 6 n) [ inl over ↦ absurd (some over h) | inr upto ↦ upto ]
-  at_least n named costs some pieces few counts top fault.Op h = pieces h.0 fault.Op h.1 h.2
-  at_least n named costs some pieces few counts top fault.SpaceUnknown h = pieces h.0 fault.SpaceUnknown h.1 h.2
-  at_least n named costs some pieces few counts top fault.IndexTooLarge h = pieces h.0 fault.IndexTooLarge h.1 h.2
-  at_least n named costs some pieces few counts top fault.TooManyOps h = elim (cases_lt 10 n) [ inl over ↦ let is = few over in absurd (omega arith) | inr upto ↦ upto ]
-  at_least n named costs some pieces few counts top fault.TooManyMessages h = elim (cases_lt 11 n) [ inl over ↦ let is = counts over in absurd (omega arith) | inr upto ↦ upto ]
-  at_least n named costs some pieces few counts top fault.Release h = top
+refused_piece : (version : Version) (spaces : List Space) (piece : List ℕ) (d : TraceFault) → piece_of version spaces piece ≡ Err d → IsOfPiece d
+refused_piece version spaces piece d refused = rw refused at (piece_of-fault version spaces piece)
+
+module _ (version : Version) (spaces : List Space) (place : Place) (columns : Columns) where
+  abbrev Read : Type 0
+  Read = ReadsOps version spaces (most_ops version place) columns.ops
+
+  -- the checks below a number fail
+  record Below (n : ℕ) : Type 0 where
+    named : 4 < n → is_name columns.name ≡ true
+    costs : 5 < n → number_within 1 MAX_COST columns.cost ≢ None
+    some : 6 < n → columns.ops ≢ []
+    pieces : (piece : List ℕ) (d : TraceFault) → Contains (parts 59 columns.ops) piece → piece_of version spaces piece ≡ Err d → n ≤ number d
+    few : 10 < n → NotMany version spaces (most_ops version place) columns.ops
+    counts : 11 < n → place.at ≤ max_messages version + 1
+    released : 13 < n → HasTraceFault version spaces place columns fault.Release → ⊥
+    told : 14 < n → HasTraceFault version spaces place columns fault.Client → ⊥
+    top : n ≤ 15
+
+  -- so each check that holds has this number or a higher one
+  at_least : (n : ℕ) → Below n → (other : TraceFault) → HasTraceFault version spaces place columns other → n ≤ number other
+  at_least n below fault.Csv h = absurd h
+  at_least n below fault.Header h = absurd h
+  at_least n below fault.Fields h = absurd h
+  at_least n below fault.Name h = elim (cases_lt 4 n) [ inl over ↦ let is = below.named over in absurd (cc) | inr upto ↦ upto ]
+  at_least n below fault.Cost h = elim (cases_lt 5 n) [ inl over ↦ absurd (below.costs over h) | inr upto ↦ upto ]
+  at_least n below fault.NoOps h = elim (cases_lt 6 n) [ inl over ↦ absurd (below.some over h) | inr upto ↦ upto ]
+  at_least n below fault.Op h = below.pieces h.0 fault.Op h.1 h.2
+  at_least n below fault.SpaceUnknown h = below.pieces h.0 fault.SpaceUnknown h.1 h.2
+  at_least n below fault.IndexTooLarge h = below.pieces h.0 fault.IndexTooLarge h.1 h.2
+  at_least n below fault.TooManyOps (ops, spelled, over) = elim (cases_lt 10 n) [ inl past ↦ let is = below.few past ops spelled in absurd (omega (arith, is, over)) | inr upto ↦ upto ]
+  at_least n below fault.TooManyMessages h = elim (cases_lt 11 n) [ inl over ↦ let is = below.counts over in absurd (omega arith) | inr upto ↦ upto ]
+  at_least n below fault.Release h = elim (cases_lt 13 n) [ inl over ↦ absurd (below.released over h) | inr upto ↦ upto ]
+  at_least n below fault.Client h = elim (cases_lt 14 n) [ inl over ↦ absurd (below.told over h) | inr upto ↦ upto ]
+  at_least n below fault.Think h = below.top
 
   -- a fault of a piece has number 7 at least
-  pieces_late : (n : ℕ) → n ≤ 7 → (piece : List ℕ) (d : TraceFault) → Contains (parts 59 ops) piece → op_of spaces piece ≡ Err d → n ≤ number d
-  pieces_late n early piece d there refused = omega (arith, (piece_number d (refused_piece spaces piece d refused)).0)
+  pieces_late : (n : ℕ) → n ≤ 7 → (piece : List ℕ) (d : TraceFault) → Contains (parts 59 columns.ops) piece → piece_of version spaces piece ≡ Err d → n ≤ number d
+  pieces_late n early piece d there refused = omega (arith, (piece_number d (refused_piece version spaces piece d refused)).0)
 
-  piece_holds : (d : TraceFault) → IsOfPiece d → HasPiece spaces ops d → HasTraceFault spaces at name cost release ops d
+  piece_holds : (d : TraceFault) → IsOfPiece d → HasPiece version spaces columns.ops d → HasTraceFault version spaces place columns d
   piece_holds d (inl same) h = rw same (rw same at h)
   piece_holds d (inr (inl same)) h = rw same (rw same at h)
   piece_holds d (inr (inr same)) h = rw same (rw same at h)
 
-  ops_refused : (d : TraceFault) → is_name name ≡ true → number_within 1 MAX_COST cost ≢ None → OpsRefused spaces ops d → IsLeastCheck spaces at name cost release ops d
-  ops_refused d named costs (no_ops none) =
-      record {
-        holds = none;
-        least = at_least 6 (λ _. named) (λ _. costs) (λ over. absurd (omega arith)) (pieces_late 6 (omega arith)) (λ over. absurd (omega arith)) (λ over. absurd (omega arith)) (omega arith);
-      }
+  -- where the pieces are not looked at
+  early : (n : ℕ) → n ≤ 6 → (4 < n → is_name columns.name ≡ true) → (5 < n → number_within 1 MAX_COST columns.cost ≢ None) → Below n
+  early n low named costs = record {
+    named = named;
+    costs = costs;
+    some = λ over. absurd (omega (arith, low, over));
+    pieces = pieces_late n (omega (arith, low));
+    few = λ over. absurd (omega (arith, low, over));
+    counts = λ over. absurd (omega (arith, low, over));
+    released = λ over. absurd (omega (arith, low, over));
+    told = λ over. absurd (omega (arith, low, over));
+    top = omega (arith, low);
+  }
+
+  ops_refused : (d : TraceFault) → is_name columns.name ≡ true → number_within 1 MAX_COST columns.cost ≢ None
+      → OpsRefused version spaces (most_ops version place) columns.ops d → IsLeastCheck version spaces place columns d
+  ops_refused d named costs (no_ops none) = record { holds = none; least = at_least 6 (early 6 (omega arith) (λ _. named) (λ _. costs)) }
   ops_refused d named costs (bad_piece some one) =
-      let of_piece = refused_piece spaces one.item d one.refused in
+      let of_piece = refused_piece version spaces one.item d one.refused in
       let upto = (piece_number d of_piece).1 in
       record {
         holds = piece_holds d of_piece (one.item, one.there, one.refused);
-        least = at_least (number d) (λ _. named) (λ _. costs) (λ _. some) one.least (λ over. absurd (omega arith)) (λ over. absurd (omega arith)) (omega arith);
+        least = at_least (number d) (record {
+          named = λ _. named;
+          costs = λ _. costs;
+          some = λ _. some;
+          pieces = one.least;
+          few = λ over. absurd (omega (arith, upto, over));
+          counts = λ over. absurd (omega (arith, upto, over));
+          released = λ over. absurd (omega (arith, upto, over));
+          told = λ over. absurd (omega (arith, upto, over));
+          top = omega (arith, upto);
+        });
       }
-  ops_refused d named costs (many some none over) =
+  ops_refused d named costs (many some none list spelled over) =
       record {
-        holds = over;
-        least = at_least 10 (λ _. named) (λ _. costs) (λ _. some) (λ text e there refused. absurd (none text e there refused)) (λ late. absurd (omega arith)) (λ late. absurd (omega arith)) (omega arith);
+        holds = (list, spelled, over);
+        least = at_least 10 (record {
+          named = λ _. named;
+          costs = λ _. costs;
+          some = λ _. some;
+          pieces = λ text e there refused. absurd (none text e there refused);
+          few = λ late. absurd (omega (arith, late));
+          counts = λ late. absurd (omega (arith, late));
+          released = λ late. absurd (omega (arith, late));
+          told = λ late. absurd (omega (arith, late));
+          top = omega arith;
+        });
       }
 
-  fields-refused : (e : TraceFault) → message_of_fields spaces at name cost release ops ≡ Err e → IsLeastCheck spaces at name cost release ops e
-  unfolding message_of_fields
-  fields-refused e h =
-      by (name_of name) (cost_of cost) (ops_of spaces ops) (counted at) (release_of release)
-      (name_of-read name) (name_of-refused name)
-      (option-read (number_within 1 MAX_COST cost) fault.Cost) (option-refused (number_within 1 MAX_COST cost) fault.Cost)
-      (ops_of-reads spaces ops) (ops_of-refused spaces ops)
-      (counted-read at) (counted-refused at) (release_of-refused release) h
+  -- where the operations are read
+  late : (n : ℕ) → n ≤ 15 → is_name columns.name ≡ true → number_within 1 MAX_COST columns.cost ≢ None → Read
+      → (11 < n → place.at ≤ max_messages version + 1) → (13 < n → HasTraceFault version spaces place columns fault.Release → ⊥)
+      → (14 < n → HasTraceFault version spaces place columns fault.Client → ⊥) → Below n
+  late n top named costs reads counts released told = record {
+    named = λ _. named;
+    costs = λ _. costs;
+    some = λ _. reads.some;
+    pieces = λ text f there refused. absurd (reads.none text f there refused);
+    few = λ _. reads.few;
+    counts = counts;
+    released = released;
+    told = told;
+    top = top;
+  }
+
+  columns-refused : (e : TraceFault) → message_of_columns version spaces place columns ≡ Err e → IsLeastCheck version spaces place columns e
+  unfolding message_of_columns
+  columns-refused e h =
+      by (name_of columns.name) (cost_of columns.cost) (ops_of version spaces (most_ops version place) columns.ops) (counted version place.at) (release_of columns.release)
+      (client_of columns.client) (think_of columns.think)
+      (name_of-read columns.name) (name_of-refused columns.name)
+      (option-read (number_within 1 MAX_COST columns.cost) fault.Cost) (option-refused (number_within 1 MAX_COST columns.cost) fault.Cost)
+      (ops_of-reads version spaces (most_ops version place) columns.ops) (ops_of-refused version spaces (most_ops version place) columns.ops)
+      (counted-read version place.at) (counted-refused version place.at) (released columns.release) (release_of-refused columns.release)
+      (told_client columns.client) (client_of-refused columns.client) (think_of-refused columns.think) h
     where
       by : (n : Result Field TraceFault) (c : Result ℕ TraceFault) (o : Result (List Op) TraceFault) (a : Result ℕ TraceFault) (r : Result ℕ TraceFault)
-          → ((text : Field) → n ≡ Ok text → (is_name name ≡ true) × (text ≡ name))
-          → ((d : TraceFault) → n ≡ Err d → (d ≡ fault.Name) × (is_name name ≡ false))
-          → ((k : ℕ) → c ≡ Ok k → number_within 1 MAX_COST cost ≢ None)
-          → ((d : TraceFault) → c ≡ Err d → (d ≡ fault.Cost) × (number_within 1 MAX_COST cost ≡ None))
-          → ((list : List Op) → o ≡ Ok list → ReadsOps spaces ops)
-          → ((d : TraceFault) → o ≡ Err d → OpsRefused spaces ops d)
-          → ((k : ℕ) → a ≡ Ok k → at ≤ MAX_MESSAGES + 1)
-          → ((d : TraceFault) → a ≡ Err d → (d ≡ fault.TooManyMessages) × (MAX_MESSAGES + 1 < at))
-          → ((d : TraceFault) → r ≡ Err d → (d ≡ fault.Release) × ((text : Field) × (release ≡ Some text) × (number_within 0 MAX_RELEASE text ≡ None)))
+          (k : Result Field TraceFault) (t : Result ℕ TraceFault)
+          → ((text : Field) → n ≡ Ok text → (is_name columns.name ≡ true) × (text ≡ columns.name))
+          → ((d : TraceFault) → n ≡ Err d → (d ≡ fault.Name) × (is_name columns.name ≡ false))
+          → ((k : ℕ) → c ≡ Ok k → number_within 1 MAX_COST columns.cost ≢ None)
+          → ((d : TraceFault) → c ≡ Err d → (d ≡ fault.Cost) × (number_within 1 MAX_COST columns.cost ≡ None))
+          → ((list : List Op) → o ≡ Ok list → Read)
+          → ((d : TraceFault) → o ≡ Err d → OpsRefused version spaces (most_ops version place) columns.ops d)
+          → ((k : ℕ) → a ≡ Ok k → place.at ≤ max_messages version + 1)
+          → ((d : TraceFault) → a ≡ Err d → (d ≡ fault.TooManyMessages) × (max_messages version + 1 < place.at))
+          → ((m : ℕ) → r ≡ Ok m → HasTraceFault version spaces place columns fault.Release → ⊥)
+          → ((d : TraceFault) → r ≡ Err d → (d ≡ fault.Release) × HasTraceFault version spaces place columns fault.Release)
+          → ((name : Field) → k ≡ Ok name → HasTraceFault version spaces place columns fault.Client → ⊥)
+          → ((d : TraceFault) → k ≡ Err d → (d ≡ fault.Client) × HasTraceFault version spaces place columns fault.Client)
+          → ((d : TraceFault) → t ≡ Err d → (d ≡ fault.Think) × HasTraceFault version spaces place columns fault.Think)
           → ◌≡◌ {A = Result Message TraceFault} (do
             text ← n
-            k ← c
+            cost ← c
             list ← o
             _ ← a
             ticks ← r
-            Ok (record { name = text; cost = k; release = ticks; ops = list })) (Err e)
-          → IsLeastCheck spaces at name cost release ops e
-      by (Err d) c o a r hn en hc ec ho eo ha ea er same =
+            client ← k
+            think ← t
+            Ok (record { name = text; cost = cost; release = ticks; client = client; think = think; ops = list })) (Err e)
+          → IsLeastCheck version spaces place columns e
+      by (Err d) c o a r k t hn en hc ec ho eo ha ea hr er hk ek et same =
           let why = en d refl in
           let is : e ≡ fault.Name = sym (let one : d ≡ e = cc in one) ∙ why.0 in
-          rw is
-          (record {
-            holds = why.1;
-            least = at_least 4 (λ over. absurd (omega arith)) (λ over. absurd (omega arith)) (λ over. absurd (omega arith)) (pieces_late 4 (omega arith))
-                (λ over. absurd (omega arith)) (λ over. absurd (omega arith)) (omega arith);
-          })
-      by (Ok n) (Err d) o a r hn en hc ec ho eo ha ea er same =
+          rw is (record { holds = why.1; least = at_least 4 (early 4 (omega arith) (λ over. absurd (omega (arith, over))) (λ over. absurd (omega (arith, over)))) })
+      by (Ok n) (Err d) o a r k t hn en hc ec ho eo ha ea hr er hk ek et same =
           let why = ec d refl in
           let is : e ≡ fault.Cost = sym (let one : d ≡ e = cc in one) ∙ why.0 in
-          rw is
-          (record {
-            holds = why.1;
-            least = at_least 5 (λ _. (hn n refl).0) (λ over. absurd (omega arith)) (λ over. absurd (omega arith)) (pieces_late 5 (omega arith))
-                (λ over. absurd (omega arith)) (λ over. absurd (omega arith)) (omega arith);
-          })
-      by (Ok n) (Ok c) (Err d) a r hn en hc ec ho eo ha ea er same =
+          rw is (record { holds = why.1; least = at_least 5 (early 5 (omega arith) (λ _. (hn n refl).0) (λ over. absurd (omega (arith, over)))) })
+      by (Ok n) (Ok c) (Err d) a r k t hn en hc ec ho eo ha ea hr er hk ek et same =
           let is : d ≡ e = cc in
           ops_refused e (hn n refl).0 (hc c refl) (rw is at (eo d refl))
-      by (Ok n) (Ok c) (Ok o) (Err d) r hn en hc ec ho eo ha ea er same =
+      by (Ok n) (Ok c) (Ok o) (Err d) r k t hn en hc ec ho eo ha ea hr er hk ek et same =
           let why = ea d refl in
-          let reads = ho o refl in
           let is : e ≡ fault.TooManyMessages = sym (let one : d ≡ e = cc in one) ∙ why.0 in
           rw is
           (record {
             holds = why.1;
-            least = at_least 11 (λ _. (hn n refl).0) (λ _. hc c refl) (λ _. reads.some)
-                (λ text f there refused. absurd (reads.none text f there refused)) (λ _. reads.few) (λ over. absurd (omega arith)) (omega arith);
+            least = at_least 11 (late 11 (omega arith) (hn n refl).0 (hc c refl) (ho o refl)
+                (λ over. absurd (omega (arith, over))) (λ over. absurd (omega (arith, over))) (λ over. absurd (omega (arith, over))));
           })
-      by (Ok n) (Ok c) (Ok o) (Ok a) (Err d) hn en hc ec ho eo ha ea er same =
+      by (Ok n) (Ok c) (Ok o) (Ok a) (Err d) k t hn en hc ec ho eo ha ea hr er hk ek et same =
           let why = er d refl in
-          let reads = ho o refl in
           let is : e ≡ fault.Release = sym (let one : d ≡ e = cc in one) ∙ why.0 in
           rw is
           (record {
             holds = why.1;
-            least = at_least 13 (λ _. (hn n refl).0) (λ _. hc c refl) (λ _. reads.some)
-                (λ text f there refused. absurd (reads.none text f there refused)) (λ _. reads.few) (λ _. ha a refl) (omega arith);
+            least = at_least 13 (late 13 (omega arith) (hn n refl).0 (hc c refl) (ho o refl) (λ _. ha a refl)
+                (λ over. absurd (omega (arith, over))) (λ over. absurd (omega (arith, over))));
           })
-      by (Ok n) (Ok c) (Ok o) (Ok a) (Ok r) hn en hc ec ho eo ha ea er same = absurd (cc)
+      by (Ok n) (Ok c) (Ok o) (Ok a) (Ok r) (Err d) t hn en hc ec ho eo ha ea hr er hk ek et same =
+          let why = ek d refl in
+          let is : e ≡ fault.Client = sym (let one : d ≡ e = cc in one) ∙ why.0 in
+          rw is
+          (record {
+            holds = why.1;
+            least = at_least 14 (late 14 (omega arith) (hn n refl).0 (hc c refl) (ho o refl) (λ _. ha a refl) (λ _. hr r refl)
+                (λ over. absurd (omega (arith, over))));
+          })
+      by (Ok n) (Ok c) (Ok o) (Ok a) (Ok r) (Ok k) (Err d) hn en hc ec ho eo ha ea hr er hk ek et same =
+          let why = et d refl in
+          let is : e ≡ fault.Think = sym (let one : d ≡ e = cc in one) ∙ why.0 in
+          rw is
+          (record {
+            holds = why.1;
+            least = at_least 15 (late 15 (omega arith) (hn n refl).0 (hc c refl) (ho o refl) (λ _. ha a refl) (λ _. hr r refl) (λ _. hk k refl));
+          })
+      by (Ok n) (Ok c) (Ok o) (Ok a) (Ok r) (Ok k) (Ok t) hn en hc ec ho eo ha ea hr er hk ek et same = absurd (cc)
 
-pub least_check_decides : (spaces : List Space) (at : ℕ) (name cost ops : Field) → LeastCheckDecides spaces at name cost ops
-least_check_decides spaces at name cost ops =
-    (λ e h. fields-refused spaces at name cost None ops e h, λ e release h. fields-refused spaces at name cost (Some release) ops e h)
+pub least_check_decides : (version : Version) (spaces : List Space) (place : Place) (columns : Columns) → LeastCheckDecides version spaces place columns
+least_check_decides version spaces place columns e h = columns-refused version spaces place columns e h

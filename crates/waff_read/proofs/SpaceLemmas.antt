@@ -61,4 +61,4 @@ found_by_name layout is name s inside named =
 pub called_is_name : (layout : Hierarchy) → IsLayout layout → (name : List ℕ) (s : ℕ) → space_named layout.spaces name ≡ Some s → is_name name ≡ true
 called_is_name layout is name s found =
     let p = position-Some (λ (space : Space). bytes_eq name space.name) layout.spaces s no_space found in
-    rw (← (bytes_eq-Decides name (get_or layout.spaces s no_space).name).0 p.1) at (All-get_or (IsSpace layout.tree) layout.spaces s no_space p.0 is.each).named
+    rw (← (bytes_eq-Decides name (get_or layout.spaces s no_space).name).0 p.1) at (All-get_or (IsSpace layout.format layout.tree) layout.spaces s no_space p.0 is.each).named

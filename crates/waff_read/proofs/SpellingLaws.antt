@@ -1,9 +1,9 @@
 -- A message is read from the record that spells it.
-use Rattle.std.proofs.Common.{◌≡◌, ◌≢◌, ℕ, ◌+◌, ◌<◌, ◌≤◌, ◌^◌, List, [], ◌∷◌, ◌++◌, length, map, get_or, true, false, Option, Some, None, Result, Ok, slice_get, refl, sym, ap, ◌∙◌, arith, inl, inr}
+use Rattle.std.proofs.Common.{◌≡◌, ◌≢◌, ℕ, ◌+◌, ◌<◌, ◌≤◌, ◌^◌, List, [], ◌∷◌, ◌++◌, length, map, get_or, true, false, Option, Some, None, Result, Ok, Err, slice_get, refl, sym, ap, ◌∙◌, arith, inl, inr}
 use Rattle.std.specs.Prelude.{All, codes, unwrap_or, ◌==◌}
 use Rattle.std.specs.Char.{is_ascii_digit}
 use Rattle.std.specs.Fmt.{decimal}
-use Rattle.std.specs.List.{join_with_byte, list_all, position_or_len}
+use Rattle.std.specs.List.{flat_map, join_with_byte, list_all, position_or_len}
 use Rattle.std.specs.Str.{bytes_eq}
 use Rattle.std.proofs.lemmas.Bool.{and_parts, both_ways, cases_lt, eq-eqb, eqb-true, false_from_ne_true, lt-ltb}
 use Rattle.std.proofs.lemmas.Bool.Decides.{nat_tests}
@@ -15,25 +15,34 @@ use Rattle.std.proofs.lemmas.List.Sums.{position_or_len_is}
 use Rattle.std.proofs.lemmas.Option.{slice_get-get_or, slice_get_past}
 use Rattle.std.proofs.lemmas.Slice.Eq.{bytes_eq-Decides}
 use Rattle.waff_model.specs.Cells.{LiesIn, cells_of, cells_of_op}
+use Rattle.waff_model.proofs.LayoutLemmas.{size_below}
 use Rattle.waff_model.specs.Layout.{Hierarchy, IsCell, IsLayout, IsSpace, Space, name_at, size_at, space_named}
 use Rattle.waff_model.specs.Messages.{IsMessage, sizes_of}
 use Rattle.waff_model.specs.Names.{is_name, is_name_byte}
 use Rattle.waff_model.specs.declared.cell.Cell.{Cell}
-use Rattle.waff_model.specs.declared.limits.TheConstants.{MAX_MESSAGES}
+use Rattle.waff_model.specs.Versions.{max_messages}
+use Rattle.waff_model.specs.declared.limits.TheConstants.{MAX_ALL_OPS}
 use Rattle.waff_model.specs.declared.message.Message.{Message}
 use Rattle.waff_model.specs.declared.message.Version.{Version}
-use Rattle.waff_model.specs.declared.message.Version.TheVariants.{V1, V2}
+use Rattle.waff_model.specs.declared.message.Version.TheVariants.{V1, V2, V3}
 use Rattle.waff_model.specs.declared.op.Op.{Op}
 use Rattle.waff_model.specs.declared.op.Op.TheVariants as op
 use Rattle.waff_model.proofs.TraceLemmas.{lies_in-sizes_of}
 use Rattle.waff_parse.specs.Fields.{Field}
 use Rattle.waff_parse.specs.Texts.{parts}
 use Rattle.waff_parse.proofs.WrittenRows.{all_if, digits_model, number_of-decimal}
-use Rattle.waff_read.specs.Laws.{IsRelease, Spells, SpelledIsRead}
+use Rattle.waff_read.specs.Laws.{IsClient, IsRelease, IsThink, Spells, SpelledIsRead}
+use Rattle.waff_read.specs.Messages.{Columns, columns_of, four_columns, six_columns, three_columns}
 use Rattle.waff_read.specs.Ops.{cell_of, op_of, op_of_verb, op_of_words, value_of}
+use Rattle.waff_read.specs.Pieces.{piece_of}
+use Rattle.waff_read.specs.Ranges.{range_of}
 use Rattle.waff_read.specs.Spellings.{HasSmallNumber, cell_spelled, op_spelled, ops_spelled, record_of, words_of}
+use Rattle.waff_read.specs.declared.place.Place.{Place}
 use Rattle.waff_read.specs.declared.trace_fault.TraceFault.{TraceFault}
-use Rattle.waff_read.proofs.ExactLaws.{first_version_is_exact, second_version_is_exact}
+use Rattle.waff_read.specs.declared.trace_fault.TraceFault.TheVariants as fault
+use Rattle.waff_read.proofs.ExactLaws.{record_is_exact}
+use Rattle.waff_read.proofs.MessageLaws.{fits-most}
+use Rattle.waff_read.proofs.OpsLaws.{piece-op}
 
 -- what holds of the bytes of texts, and of the byte that joins them, holds of the bytes of the whole
 pub All-join : (P : ℕ → Type 0) (d : ℕ) (p : List ℕ) (ps : List (List ℕ)) → P d → All P p → All (All P) ps → All P (join_with_byte d (p ∷ ps))
@@ -125,8 +134,8 @@ module _ (layout : Hierarchy) (is : IsLayout layout) where
   name_is : (s : ℕ) → s < length layout.spaces → name_in layout.spaces s ≡ (get_or layout.spaces s no_space).name
   name_is s inside = rw (space_is s inside) refl
 
-  space_at : (s : ℕ) → s < length layout.spaces → IsSpace layout.tree (get_or layout.spaces s no_space)
-  space_at s inside = All-get_or (IsSpace layout.tree) layout.spaces s no_space inside is.each
+  space_at : (s : ℕ) → s < length layout.spaces → IsSpace layout.format layout.tree (get_or layout.spaces s no_space)
+  space_at s inside = All-get_or (IsSpace layout.format layout.tree) layout.spaces s no_space inside is.each
 
   pub space_has_name : (s : ℕ) → s < length layout.spaces → is_name (name_in layout.spaces s) ≡ true
   space_has_name s inside = rw (name_is s inside) (space_at s inside).named
@@ -135,7 +144,7 @@ module _ (layout : Hierarchy) (is : IsLayout layout) where
   small_index s index lies =
       let inside = space_inside s index lies in
       let below : index < (get_or layout.spaces s no_space).size = rw (space_is s inside) at lies in
-      omega (arith, (space_at s inside).size)
+      omega (arith, (space_at s inside).size, size_below layout.format)
 
   -- a space is found by its name
   pub space_found : (s : ℕ) → s < length layout.spaces → space_named layout.spaces (name_in layout.spaces s) ≡ Some s
@@ -240,60 +249,102 @@ module _ (layout : Hierarchy) (is : IsLayout layout) where
       parts-joined 59 (map (op_spelled layout.spaces) list) (rw length-map some)
       (ops_all (IsOther 59) (names_other 59 refl) refl refl list lie small)
 
-  each_is_read : (list : List Op) → All (LiesIn (sizes_of layout.spaces)) (cells_of list) → All HasSmallNumber list
-      → map (op_of layout.spaces) (map (op_spelled layout.spaces) list) ≡ map Ok list
-  each_is_read [] lie small = refl
-  each_is_read (o ∷ list) lie small =
+  piece_is_read : (version : Version) (o : Op) → All (LiesIn (sizes_of layout.spaces)) (cells_of_op o) → HasSmallNumber o
+      → piece_of version layout.spaces (op_spelled layout.spaces o) ≡ Ok (o ∷ [])
+  piece_is_read version o lie small = sym (piece-op version layout.spaces (op_spelled layout.spaces o) o (sym (op_is_read o lie small)))
+
+  -- each operation in a list of its own
+  abbrev lone : Op → List Op
+  lone o = o ∷ []
+
+  each_is_read : (version : Version) (list : List Op) → All (LiesIn (sizes_of layout.spaces)) (cells_of list) → All HasSmallNumber list
+      → map (piece_of version layout.spaces) (map (op_spelled layout.spaces) list) ≡ map Ok (map lone list)
+  each_is_read version [] lie small = refl
+  each_is_read version (o ∷ list) lie small =
       let both = All-both (LiesIn (sizes_of layout.spaces)) (cells_of_op o) (cells_of list) lie in
-      let first = op_is_read o both.0 (All-head HasSmallNumber o list small) in
-      let others = each_is_read list both.1 (All-tail HasSmallNumber o list small) in
-      ap (λ (r : Result Op TraceFault). r ∷ map (op_of layout.spaces) (map (op_spelled layout.spaces) list)) first
-      ∙ ap (λ (l : List (Result Op TraceFault)). Ok o ∷ l) others
+      let first = piece_is_read version o both.0 (All-head HasSmallNumber o list small) in
+      let others = each_is_read version list both.1 (All-tail HasSmallNumber o list small) in
+      ap (λ (r : Result (List Op) TraceFault). r ∷ map (piece_of version layout.spaces) (map (op_spelled layout.spaces) list)) first
+      ∙ ap (λ (l : List (Result (List Op) TraceFault)). Ok (o ∷ []) ∷ l) others
 
-  -- no operation is spelled by the empty text
-  filled_text : (list : List Op) (text : Field) → map (op_of layout.spaces) (parts 59 text) ≡ map Ok list → text ≢ []
+  lone_joined : (list : List Op) → list ≡ flat_map (λ list. list) (map lone list)
+  lone_joined [] = refl
+  lone_joined (o ∷ list) = ap (λ (l : List Op). o ∷ l) (lone_joined list)
+
+  -- the empty text spells no operation
+  empty_piece : op_of layout.spaces [] ≡ Err fault.Op
   unfolding op_of
-  filled_text [] text each none = let read = rw none at each in absurd (cc)
-  filled_text (o ∷ list) text each none = let read = rw none at each in absurd (cc)
+  empty_piece = refl
 
-  spells : (version : Version) (at : ℕ) (message : Message) (release : Option Field) → IsMessage version (sizes_of layout.spaces) message → All HasSmallNumber message.ops
-      → at ≤ MAX_MESSAGES + 1 → IsRelease release message.release
-      → Spells layout.spaces at message.name (decimal message.cost) release (ops_spelled layout.spaces message.ops) message
-  spells version at message release within small counted released =
-      let read : map (op_of layout.spaces) (parts 59 (ops_spelled layout.spaces message.ops)) ≡ map Ok message.ops =
-      ap (map (op_of layout.spaces)) (ops_parts message.ops within.some_ops within.cells small)
-      ∙ each_is_read message.ops within.cells small in
+  empty_range : range_of layout.spaces [] ≡ Err fault.Op
+  unfolding range_of
+  empty_range = refl
+
+  empty_fault : (version : Version) → piece_of version layout.spaces [] ≡ Err fault.Op
+  unfolding piece_of
+  empty_fault V1 = rw empty_piece refl
+  empty_fault V2 = rw empty_piece refl
+  empty_fault V3 = rw (empty_piece, empty_range) refl
+
+  filled_text : (version : Version) (lists : List (List Op)) (text : Field) → map (piece_of version layout.spaces) (parts 59 text) ≡ map Ok lists → text ≢ []
+  filled_text version [] text each none = let read = rw none at each in absurd (cc)
+  filled_text version (list ∷ lists) text each none =
+      let read = rw (none, empty_fault version) at each in absurd (cc)
+
+  spells : (version : Version) (place : Place) (message : Message) (columns : Columns) → IsMessage version (sizes_of layout.spaces) message → All HasSmallNumber message.ops
+      → place.at ≤ max_messages version + 1 → place.ops + length message.ops ≤ MAX_ALL_OPS
+      → columns.name ≡ message.name → columns.cost ≡ decimal message.cost → columns.ops ≡ ops_spelled layout.spaces message.ops
+      → IsRelease columns.release message.release → IsClient columns.client message.client → IsThink columns.think message.think
+      → Spells version layout.spaces place columns message
+  spells version place message columns within small counted room is_name is_cost are_ops released named_client thought =
+      let read : map (piece_of version layout.spaces) (parts 59 (ops_spelled layout.spaces message.ops)) ≡ map Ok (map lone message.ops) =
+      ap (map (piece_of version layout.spaces)) (ops_parts message.ops within.some_ops within.cells small)
+      ∙ each_is_read version message.ops within.cells small in
       let cost : message.cost < 2 ^ 64 = omega (arith, within.within_cost) in
       record {
-        named = within.named;
-        name = refl;
-        cost = number_of-decimal message.cost cost;
+        named = rw is_name within.named;
+        name = sym is_name;
+        cost = rw is_cost (number_of-decimal message.cost cost);
         some_cost = within.some_cost;
         within_cost = within.within_cost;
-        filled = filled_text message.ops (ops_spelled layout.spaces message.ops) read;
-        ops = read;
-        within_ops = within.within_ops;
+        filled = rw are_ops (filled_text version (map lone message.ops) (ops_spelled layout.spaces message.ops) read);
+        ops = rw are_ops (map lone message.ops, read, lone_joined message.ops);
+        within_ops = fits-most version place (length message.ops) within.within_ops room;
         counted = counted;
         release = released;
+        client = named_client;
+        think = thought;
       }
 
-pub spelled_is_read : (layout : Hierarchy) (version : Version) (at : ℕ) (message : Message) → SpelledIsRead layout version at message
-spelled_is_read layout V1 at message is within small counted =
-    (first_version_is_exact layout.spaces at (record_of V1 layout.spaces message) message).1 (
-      message.name,
-      decimal message.cost,
-      ops_spelled layout.spaces message.ops,
-      refl,
-      spells layout is V1 at message None within small counted (within.no_release refl),
-    )
-spelled_is_read layout V2 at message is within small counted =
+-- the columns of a record that spells a message
+abbrev columns_spelled : Version → List Space → Message → Columns
+columns_spelled V1 spaces message = three_columns (message.name, decimal message.cost, ops_spelled spaces message.ops)
+columns_spelled V2 spaces message = four_columns (message.name, decimal message.cost, decimal message.release, ops_spelled spaces message.ops)
+columns_spelled V3 spaces message =
+    six_columns (message.name, decimal message.cost, decimal message.release, message.client, decimal message.think, ops_spelled spaces message.ops)
+
+columns_there : (version : Version) (spaces : List Space) (message : Message) → columns_of version (record_of version spaces message) ≡ Some (columns_spelled version spaces message)
+columns_there V1 spaces message = refl
+columns_there V2 spaces message = refl
+columns_there V3 spaces message = refl
+
+columns_spell : (layout : Hierarchy) (is : IsLayout layout) (version : Version) (place : Place) (message : Message) → IsMessage version (sizes_of layout.spaces) message
+    → All HasSmallNumber message.ops → place.at ≤ max_messages version + 1 → place.ops + length message.ops ≤ MAX_ALL_OPS
+    → Spells version layout.spaces place (columns_spelled version layout.spaces message) message
+columns_spell layout is V1 place message within small counted room =
+    spells layout is V1 place message (columns_spelled V1 layout.spaces message) within small counted room refl refl refl
+    (within.no_release refl) (within.no_client (λ same. cc same)) (within.no_think (λ same. cc same))
+columns_spell layout is V2 place message within small counted room =
     let release : message.release < 2 ^ 64 = omega (arith, within.within_release) in
-    (second_version_is_exact layout.spaces at (record_of V2 layout.spaces message) message).1 (
-      message.name,
-      decimal message.cost,
-      decimal message.release,
-      ops_spelled layout.spaces message.ops,
-      refl,
-      spells layout is V2 at message (Some (decimal message.release)) within small counted
-          (number_of-decimal message.release release, within.within_release),
-    )
+    spells layout is V2 place message (columns_spelled V2 layout.spaces message) within small counted room refl refl refl
+    (number_of-decimal message.release release, within.within_release) (within.no_client (λ same. cc same)) (within.no_think (λ same. cc same))
+columns_spell layout is V3 place message within small counted room =
+    let release : message.release < 2 ^ 64 = omega (arith, within.within_release) in
+    let think : message.think < 2 ^ 64 = omega (arith, within.within_think) in
+    spells layout is V3 place message (columns_spelled V3 layout.spaces message) within small counted room refl refl refl
+    (number_of-decimal message.release release, within.within_release) (within.named_client, refl) (number_of-decimal message.think think, within.within_think)
+
+pub spelled_is_read : (layout : Hierarchy) (version : Version) (place : Place) (message : Message) → SpelledIsRead layout version place message
+spelled_is_read layout version place message is within small counted room =
+    (record_is_exact version layout.spaces place (record_of version layout.spaces message) message).1
+    (columns_spelled version layout.spaces message, columns_there version layout.spaces message, columns_spell layout is version place message within small counted room)

@@ -4,7 +4,7 @@ use Rattle.std.specs.Prelude.{All, codes, nat_lt}
 use Rattle.std.specs.Fmt.{decimal}
 use Rattle.std.specs.List.{flat_map, list_all}
 use Rattle.std.specs.Str.{is_utf8}
-use Rattle.std.proofs.lemmas.Bool.{ltb-true}
+use Rattle.std.proofs.lemmas.Bool.{le-leb, ltb-true}
 use Rattle.std.proofs.lemmas.Bool.Decides.{nat_tests}
 use Rattle.std.proofs.lemmas.List.Elements.{All-cons, All-head, All-nil, All-tail}
 use Rattle.std.proofs.lemmas.Str.{IsUtf8-from_ascii, is_utf8-from_IsUtf8}
@@ -15,23 +15,27 @@ use Rattle.csv.specs.Writing.{default_writer, fields_text, is_blank, read_back, 
 use Rattle.csv.specs.declared.parser.State.TheVariants as state
 use Rattle.csv.proofs.RoundTrip.{read-write}
 use Rattle.waff_model.specs.Layout.{Hierarchy, IsLayout, Space}
-use Rattle.waff_model.specs.Messages.{Arrivals, IsMessage, IsTrace, sizes_of}
+use Rattle.waff_model.specs.Messages.{Arrivals, IsMessage, IsTrace, ops_in, sizes_of}
 use Rattle.waff_model.specs.Names.{is_name_byte}
-use Rattle.waff_model.specs.declared.limits.TheConstants.{MAX_MESSAGES}
+use Rattle.waff_model.specs.Versions as versions
+use Rattle.waff_model.specs.Versions.{max_messages}
+use Rattle.waff_model.specs.declared.limits.TheConstants.{MAX_ALL_OPS}
 use Rattle.waff_model.specs.declared.message.Message.{Message}
 use Rattle.waff_model.specs.declared.message.Version.{Version}
-use Rattle.waff_model.specs.declared.message.Version.TheVariants.{V1, V2}
+use Rattle.waff_model.specs.declared.message.Version.TheVariants.{V1, V2, V3}
 use Rattle.waff_parse.specs.Refusals.{told}
 use Rattle.waff_parse.specs.Rows.{Record, is_text, records_after, records_of}
-use Rattle.waff_parse.specs.Walks.{walk}
 use Rattle.waff_parse.proofs.RowLaws.{records_after-end, records_after-step}
 use Rattle.waff_read.specs.Laws.{SpelledTraceIsRead}
+use Rattle.waff_read.specs.Messages.{told_version}
+use Rattle.waff_read.specs.Places.{first_place, next_place}
 use Rattle.waff_read.specs.Spellings.{HasSmallNumber, header_row, op_spelled, ops_spelled, record_of, text_of}
 use Rattle.waff_read.specs.TraceFaults.{at_record}
+use Rattle.waff_read.specs.declared.place.Place.{Place}
 use Rattle.waff_read.specs.Traces.{header_of, message_at, messages_at, trace_of_records}
 use Rattle.waff_parse.proofs.WrittenRows.{all_if}
 use Rattle.waff_read.proofs.SpellingLaws.{All-joined, decimal_all, name_all, ops_all, spelled_is_read}
-use Rattle.waff_read.proofs.TraceLaws.{message_at-text}
+use Rattle.waff_read.proofs.TraceLaws.{message_at-text, ops_in-cons}
 
 -- records that are written are read, where each has a field
 rows_read : (rows : List Record) → All (λ row. read_back row ≡ row) rows → records_after state.StartRecord (Some (flat_map (row_text default_writer) rows)) ≡ rows
@@ -48,6 +52,7 @@ no_mark : (version : Version) (rest : List ℕ) → strip_bom (row_text default_
 unfolding strip_bom is_blank fields_text
 no_mark V1 rest = refl
 no_mark V2 rest = refl
+no_mark V3 rest = refl
 
 records_of-unmarked : (text : List ℕ) → strip_bom text ≡ text → records_of text ≡ records_after state.StartRecord (Some text)
 unfolding records_after
@@ -56,10 +61,12 @@ records_of-unmarked text unmarked = rw unmarked refl
 header_back : (version : Version) → read_back (header_row version) ≡ header_row version
 header_back V1 = refl
 header_back V2 = refl
+header_back V3 = refl
 
 record_back : (version : Version) (spaces : List Space) (message : Message) → read_back (record_of version spaces message) ≡ record_of version spaces message
 record_back V1 spaces message = refl
 record_back V2 spaces message = refl
+record_back V3 spaces message = refl
 
 records_back : (version : Version) (spaces : List Space) (messages : List Message) → All (λ row. read_back row ≡ row) (map (record_of version spaces) messages)
 records_back version spaces [] = All-nil (λ (row : Record). read_back row ≡ row)
@@ -84,10 +91,21 @@ ascii_is_text text each = is_utf8-from_IsUtf8 text (IsUtf8-from_ascii text (IsAs
 literal_is_text : (text : List ℕ) → list_all (λ b. nat_lt b 128) text ≡ true → is_utf8 text ≡ true
 literal_is_text text small = ascii_is_text text (all_if (λ b. b < 128) (λ b. nat_lt b 128) (λ b below. ltb-true b 128 below) text small)
 
-header_is_read : (version : Version) (rows : List Record) → header_of (header_row version ∷ rows) ≡ Ok version
-header_is_read V1 rows = rw (literal_is_text (codes "message") refl, literal_is_text (codes "cost") refl, literal_is_text (codes "ops") refl) refl
-header_is_read V2 rows =
+header_text : (version : Version) → is_text (header_row version) ≡ true
+header_text V1 = rw (literal_is_text (codes "message") refl, literal_is_text (codes "cost") refl, literal_is_text (codes "ops") refl) refl
+header_text V2 =
     rw (literal_is_text (codes "message") refl, literal_is_text (codes "cost") refl, literal_is_text (codes "release") refl, literal_is_text (codes "ops") refl) refl
+header_text V3 =
+    rw (literal_is_text (codes "message") refl, literal_is_text (codes "cost") refl, literal_is_text (codes "release") refl, literal_is_text (codes "client") refl, literal_is_text (codes "think") refl, literal_is_text (codes "ops") refl) refl
+
+header_told : (version : Version) → told_version (header_row version) ≡ Ok version
+header_told V1 = refl
+header_told V2 = refl
+header_told V3 = refl
+
+header_is_read : (newest version : Version) (rows : List Record) → versions.number version ≤ versions.number newest → header_of newest (header_row version ∷ rows) ≡ Ok version
+header_is_read newest version rows known =
+    rw (header_text version, header_told version, le-leb (versions.number version) (versions.number newest) known) refl
 
 module _ (layout : Hierarchy) (is : IsLayout layout) where
   number_is_text : (n : ℕ) → n < 2 ^ 64 → is_utf8 (decimal n) ≡ true
@@ -110,32 +128,46 @@ module _ (layout : Hierarchy) (is : IsLayout layout) where
       let cost : message.cost < 2 ^ 64 = omega (arith, within.within_cost) in
       let release : message.release < 2 ^ 64 = omega (arith, within.within_release) in
       rw (ascii_is_text message.name (name_all (λ b. b < 128) name_is_ascii message.name within.named), number_is_text message.cost cost, number_is_text message.release release, ops_are_text V2 message within small) refl
+  record_is_text V3 message within small =
+      let cost : message.cost < 2 ^ 64 = omega (arith, within.within_cost) in
+      let release : message.release < 2 ^ 64 = omega (arith, within.within_release) in
+      let think : message.think < 2 ^ 64 = omega (arith, within.within_think) in
+      rw (
+        ascii_is_text message.name (name_all (λ b. b < 128) name_is_ascii message.name within.named),
+        number_is_text message.cost cost,
+        number_is_text message.release release,
+        ascii_is_text message.client (name_all (λ b. b < 128) name_is_ascii message.client within.named_client),
+        number_is_text message.think think,
+        ops_are_text V3 message within small,
+      ) refl
 
   -- messages are read from their records
-  messages_read : (version : Version) (at : ℕ) (messages : List Message) → All (IsMessage version (sizes_of layout.spaces)) messages
-      → All (λ message. All HasSmallNumber message.ops) messages → at + length messages ≤ MAX_MESSAGES + 2
-      → messages_at version layout.spaces at (map (record_of version layout.spaces) messages) ≡ Ok messages
-  unfolding walk
-  messages_read version at [] within small few = refl
-  messages_read version at (message ∷ more) within small few =
+  messages_read : (version : Version) (place : Place) (messages : List Message) → All (IsMessage version (sizes_of layout.spaces)) messages
+      → All (λ message. All HasSmallNumber message.ops) messages → place.at + length messages ≤ max_messages version + 2 → place.ops + ops_in messages ≤ MAX_ALL_OPS
+      → messages_at version layout.spaces place (map (record_of version layout.spaces) messages) ≡ Ok messages
+  unfolding messages_at
+  messages_read version place [] within small few room = refl
+  messages_read version place (message ∷ more) within small few room =
+      let sum = ops_in-cons message more in
       let message_within = All-head (IsMessage version (sizes_of layout.spaces)) message more within in
       let message_small = All-head (λ message. All HasSmallNumber message.ops) message more small in
-      let first : message_at version layout.spaces at (record_of version layout.spaces message) ≡ Ok message =
-      message_at-text version layout.spaces at (record_of version layout.spaces message) (record_is_text version message message_within message_small)
-      ∙ ap (told (at_record at)) (spelled_is_read layout version at message is message_within message_small (omega arith)) in
-      let others = messages_read version (at + 1) more
+      let first : message_at version layout.spaces place (record_of version layout.spaces message) ≡ Ok message =
+      message_at-text version layout.spaces place (record_of version layout.spaces message) (record_is_text version message message_within message_small)
+      ∙ ap (told (at_record place.at)) (spelled_is_read layout version place message is message_within message_small (omega (arith, few)) (omega (arith, room, sum))) in
+      let others = messages_read version (next_place place message) more
       (All-tail (IsMessage version (sizes_of layout.spaces)) message more within)
       (All-tail (λ message. All HasSmallNumber message.ops) message more small)
-      (omega arith) in
+      (omega (arith, few)) (omega (arith, room, sum)) in
       rw (first, others) refl
 
-  records_are_read : (trace : Arrivals) → IsTrace trace → trace.sizes ≡ sizes_of layout.spaces → All (λ message. All HasSmallNumber message.ops) trace.messages
-      → trace_of_records layout.spaces (header_row trace.version ∷ map (record_of trace.version layout.spaces) trace.messages) ≡ Ok trace
+  records_are_read : (newest : Version) (trace : Arrivals) → IsTrace trace → trace.sizes ≡ sizes_of layout.spaces → versions.number trace.version ≤ versions.number newest
+      → All (λ message. All HasSmallNumber message.ops) trace.messages
+      → trace_of_records newest layout.spaces (header_row trace.version ∷ map (record_of trace.version layout.spaces) trace.messages) ≡ Ok trace
   unfolding trace_of_records
-  records_are_read trace within same small =
-      let messages = messages_read trace.version 2 trace.messages (rw same at within.messages) small (omega (arith, within.few)) in
-      rw (header_is_read trace.version (map (record_of trace.version layout.spaces) trace.messages), messages, ← same) refl
+  records_are_read newest trace within same known small =
+      let messages = messages_read trace.version first_place trace.messages (rw same at within.messages) small (omega (arith, within.few)) (omega (arith, within.few_ops)) in
+      rw (header_is_read newest trace.version (map (record_of trace.version layout.spaces) trace.messages) known, messages, ← same) refl
 
-pub spelled_trace_is_read : (layout : Hierarchy) (trace : Arrivals) → SpelledTraceIsRead layout trace
-spelled_trace_is_read layout trace is within same small =
-    ap (trace_of_records layout.spaces) (records_of-text layout.spaces trace) ∙ records_are_read layout is trace within same small
+pub spelled_trace_is_read : (newest : Version) (layout : Hierarchy) (trace : Arrivals) → SpelledTraceIsRead newest layout trace
+spelled_trace_is_read newest layout trace is within same known small =
+    ap (trace_of_records newest layout.spaces) (records_of-text layout.spaces trace) ∙ records_are_read layout is newest trace within same known small

@@ -7,6 +7,9 @@ pub mod HierRefusals
 pub mod Hierarchies
 pub mod TraceFaults
 pub mod Ops
+pub mod Ranges
+pub mod Pieces
+pub mod Places
 pub mod Messages
 pub mod Traces
 pub mod Spellings

@@ -2,6 +2,7 @@
 use Rattle.std.specs.Prelude.{◌≡◌, ℕ, List, Ok}
 use Rattle.waff_model.specs.Layout.{Space, Hierarchy, IsLayout}
 use Rattle.waff_model.specs.Messages.{Arrivals, IsTrace}
+use Rattle.waff_model.specs.declared.message.Version.{Version}
 use Rattle.waff_read.specs.Hierarchies.{hierarchy_of}
 use Rattle.waff_read.specs.Traces.{trace_of}
 
@@ -10,5 +11,6 @@ abbrev pub LayoutIsWithinLimits : List ℕ → Hierarchy → Type 0
 LayoutIsWithinLimits bytes layout = hierarchy_of bytes ≡ Ok layout → IsLayout layout
 
 -- bytes that are read as a trace are read as one within the limits, each message of which runs
-abbrev pub TraceIsWithinLimits : List Space → List ℕ → Arrivals → Type 0
-TraceIsWithinLimits spaces bytes trace = trace_of spaces bytes ≡ Ok trace → IsTrace trace
+abbrev pub TraceIsWithinLimits : Version → List Space → List ℕ → Arrivals → Type 0
+TraceIsWithinLimits newest spaces bytes trace =
+    trace_of newest spaces bytes ≡ Ok trace → IsTrace trace

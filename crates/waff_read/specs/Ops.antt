@@ -1,18 +1,16 @@
 -- Operations as a trace spells them.
-use Rattle.std.specs.Prelude.{ℕ, List, [], ◌∷◌, Option, Some, None, Result, Ok, Err, codes, length}
-use Rattle.std.specs.Prelude.{take, ◌+◌, ◌==◌, nat_lt, if◌then◌else◌, ok_or, option_and_then}
+use Rattle.std.specs.Prelude.{ℕ, List, [], ◌∷◌, Option, Some, None, Result, Ok, Err, codes}
+use Rattle.std.specs.Prelude.{nat_lt, if◌then◌else◌, ok_or, option_and_then}
 use Rattle.std.specs.Str.{bytes_eq}
 use Rattle.waff_model.specs.Layout.{Space, size_at, space_named}
 use Rattle.waff_model.specs.Names.{is_name}
-use Rattle.waff_model.specs.declared.limits.TheConstants.{MAX_OPS}
 use Rattle.waff_model.specs.declared.cell.Cell.{Cell}
 use Rattle.waff_model.specs.declared.op.Op.{Op}
 use Rattle.waff_model.specs.declared.op.Op.TheVariants as op
 use Rattle.waff_model.specs.declared.op.Verb.{Verb}
 use Rattle.waff_model.specs.declared.op.Verb.TheVariants as verb
-use Rattle.waff_parse.specs.Refusals.{◌>>=◌, least, pair}
-use Rattle.waff_parse.specs.Texts.{blank, colon, number_of, parts, semicolon, small}
-use Rattle.waff_parse.specs.Walks.{gather}
+use Rattle.waff_parse.specs.Refusals.{◌>>=◌, pair}
+use Rattle.waff_parse.specs.Texts.{blank, colon, number_of, parts, small}
 use Rattle.waff_read.specs.declared.trace_fault.TraceFault.{TraceFault}
 use Rattle.waff_read.specs.declared.trace_fault.TraceFault.TheVariants as fault
 use Rattle.waff_read.specs.TraceFaults.{number}
@@ -98,24 +96,3 @@ op_of_words spaces (name ∷ words) = do
 -- the operation that a piece spells, in words joined by one space
 unfoldable pub op_of : List Space → List ℕ → Result Op TraceFault
 op_of spaces piece = op_of_words spaces (parts blank piece)
-
--- the operations of pieces joined by `;`
-unfoldable pub pieces_of : List Space → List ℕ → Result (List Op) TraceFault
-pieces_of spaces text = gather number (op_of spaces) (parts semicolon text)
-
--- operations, of which only one more than the limit is kept
-abbrev pub first_ops : Result (List Op) TraceFault → Result (List Op) TraceFault
-first_ops (Ok list) = Ok (take (MAX_OPS + 1) list)
-first_ops (Err e) = Err e
-
--- the least of the faults so far and one more
-abbrev pub least_of : Option TraceFault → TraceFault → TraceFault
-least_of None fault = fault
-least_of (Some first) fault = least number first fault
-
--- the operations of a message: one at least, and not more than the limit
-unfoldable pub ops_of : List Space → List ℕ → Result (List Op) TraceFault
-ops_of spaces text =
-    if length text == 0 then Err fault.NoOps else (do
-      list ← pieces_of spaces text
-      if nat_lt MAX_OPS (length list) then Err fault.TooManyOps else Ok list)

@@ -19,6 +19,8 @@ number fault.IndexTooLarge = 9
 number fault.TooManyOps = 10
 number fault.TooManyMessages = 11
 number fault.Release = 13
+number fault.Client = 14
+number fault.Think = 15
 
 -- the error that tells a fault and its record
 abbrev pub at_record : ℕ → TraceFault → TraceError
@@ -34,3 +36,5 @@ at_record at fault.IndexTooLarge = error.IndexTooLarge at
 at_record at fault.TooManyOps = error.TooManyOps at
 at_record at fault.TooManyMessages = error.TooManyMessages at
 at_record at fault.Release = error.Release at
+at_record at fault.Client = error.Client at
+at_record at fault.Think = error.Think at

@@ -3,20 +3,21 @@
 
 ghost use Rattle.std.specs.Prelude.{◌≡◌, ◌≤◌, ◌++◌, Ok, length, IfOk, IfSome};
 ghost use Rattle.std.specs.Thread.{IsSync};
-ghost use Rattle.waff_model.specs.Messages.{sizes_of};
-ghost use Rattle.waff_model.specs.declared.limits.TheConstants.{MAX_MESSAGES};
+ghost use Rattle.waff_model.specs.Messages.{ops_in, sizes_of};
+ghost use Rattle.waff_model.specs.Versions.{max_messages};
+ghost use Rattle.waff_model.specs.declared.limits.TheConstants.{MAX_ALL_OPS};
 ghost use Rattle.waff_read.specs.Traces as traces;
 
 use crate::lines::cut_lines;
 use crate::space_table::SpaceTable;
-use crate::trace::{read_bytes, read_messages, read_trace};
+use crate::trace::{Messages, read_bytes, read_messages, read_trace};
 use crate::trace_fault::TraceError;
 use csv::StringRecord;
 use std::alloc::Global;
 use std::thread;
 use std::thread::Threads;
-use waff_model::limits::MAX_MESSAGES;
-use waff_model::{Layout, Message, Trace, Version};
+use waff_model::limits::MAX_ALL_OPS;
+use waff_model::{Layout, Trace, Version};
 use waff_parse::text_rows;
 
 /// A text of fewer bytes is read by one thread.
@@ -31,25 +32,35 @@ fn read_part(
     spaces: &SpaceTable<'_>,
     version: Version,
     text: &[u8],
-) -> Option<Vec<Message>>
-    ensures { IfSome result (λ messages.
-        traces.Spells version spaces.now text.now messages.items) }
+) -> Option<Messages>
+    ensures messages { IfSome result (λ read.
+        traces.Spells version spaces.now text.now read.list.items) }
+    ensures ops { IfSome result (λ read. read.ops ≡ ops_in read.list.items) }
 {
     let mut rdr = text_rows(alloc, text);
     let mut row = StringRecord::new(alloc);
     read_messages(alloc, spaces, version, &mut rdr, &mut row).ok()
 }
 
-// The messages of two parts, one behind the other; none where there are too many.
-fn joined(mut first: Vec<Message>, mut second: Vec<Message>) -> Option<Vec<Message>>
-    ensures both { IfSome result (λ all. all.items ≡ first.items ++ second.items) }
-    ensures few { IfSome result (λ all. length all.items ≤ MAX_MESSAGES) }
+// The messages of two parts, one behind the other; none where they or their operations are too many.
+fn joined(version: Version, mut first: Messages, mut second: Messages) -> Option<Messages>
+    requires first { first.ops ≡ ops_in first.list.items }
+    requires second { second.ops ≡ ops_in second.list.items }
+    ensures both { IfSome result (λ all. all.list.items ≡ first.list.items ++ second.list.items) }
+    ensures few { IfSome result (λ all. length all.list.items ≤ max_messages version) }
+    ensures few_ops { IfSome result (λ all. ops_in all.list.items ≤ MAX_ALL_OPS) }
+    ensures ops { IfSome result (λ all. all.ops ≡ ops_in all.list.items) }
 {
-    if MAX_MESSAGES < first.len().saturating_add(second.len()) {
+    if version.max_messages() < first.list.len().saturating_add(second.list.len()) {
         return None;
     }
-    first.append(&mut second).ok()?;
-    Some(first)
+    let ops = first.ops.checked_add(second.ops)?;
+    if MAX_ALL_OPS < ops {
+        return None;
+    }
+    let mut list = first.list;
+    list.append(&mut second.list).ok()?;
+    Some(Messages { list, ops })
 }
 
 // The same, read by a thread for each part of a text that is halved so often.
@@ -61,26 +72,29 @@ fn read_halves<R: Threads + Sync>(
     version: Version,
     text: &[u8],
     halvings: u32,
-) -> Option<Vec<Message>>
-    ensures { IfSome result (λ messages.
-        traces.Spells version spaces.now text.now messages.items) }
+) -> Option<Messages>
+    ensures messages { IfSome result (λ read.
+        traces.Spells version spaces.now text.now read.list.items) }
+    ensures ops { IfSome result (λ read. read.ops ≡ ops_in read.list.items) }
 {
     if halvings == 0 {
         return read_part(alloc, spaces, version, text);
     }
     let (first, second) = cut_lines(text, text.len() / 2)?;
-    let front = move || -> Option<Vec<Message>>
+    let front = move || -> Option<Messages>
         requires { IsSync R.row × (1 ≤ halvings) }
-        ensures { IfSome result (λ messages.
-            traces.Spells version spaces.entry.now first.entry.now messages.items) }
+        ensures messages { IfSome result (λ read.
+            traces.Spells version spaces.entry.now first.entry.now read.list.items) }
+        ensures ops { IfSome result (λ read. read.ops ≡ ops_in read.list.items) }
     { read_halves(rt, alloc, spaces, version, first, halvings - 1) };
-    let back = move || -> Option<Vec<Message>>
+    let back = move || -> Option<Messages>
         requires { IsSync R.row × (1 ≤ halvings) }
-        ensures { IfSome result (λ messages.
-            traces.Spells version spaces.entry.now second.entry.now messages.items) }
+        ensures messages { IfSome result (λ read.
+            traces.Spells version spaces.entry.now second.entry.now read.list.items) }
+        ensures ops { IfSome result (λ read. read.ops ≡ ops_in read.list.items) }
     { read_halves(rt, alloc, spaces, version, second, halvings - 1) };
     let (first, second) = thread::join(rt, front, back);
-    joined(first?, second?)
+    joined(version, first?, second?)
 }
 
 // The trace that a text spells; none where it has a fault, or can't be cut.
@@ -88,19 +102,21 @@ fn read_long<R: Threads + Sync>(
     rt: &R,
     alloc: Global,
     layout: &Layout,
+    newest: Version,
     text: &[u8],
 ) -> Option<Trace>
-    ensures { IfSome result (λ trace. traces.trace_of layout.now.spaces text.now ≡ Ok trace) }
+    ensures { IfSome result (λ trace.
+        traces.trace_of newest layout.now.spaces text.now ≡ Ok trace) }
 {
     let spaces = SpaceTable::new(alloc, layout).ok()?;
     let (first, rows) = cut_lines(text, 0)?;
-    let header = read_bytes(alloc, &spaces, first).ok()?;
+    let header = read_bytes(alloc, &spaces, newest, first).ok()?;
     if header.len() > 0 {
         return None;
     }
     let version = header.version();
     let messages = read_halves(rt, alloc, &spaces, version, rows, HALVINGS)?;
-    Trace::of_messages(alloc, layout, version, messages).ok()
+    Trace::of_messages(alloc, layout, version, messages.list).ok()
 }
 
 /// The trace that the bytes spell, as `read_trace` reads it, but read by several threads where the
@@ -109,15 +125,16 @@ pub fn read_trace_by_threads<R: Threads + Sync>(
     rt: &R,
     alloc: Global,
     layout: &Layout,
+    newest: Version,
     bytes: &[u8],
 ) -> Result<Trace, TraceError>
-    ensures exact { traces.GivesTrace result (traces.trace_of layout.now.spaces bytes.now) }
+    ensures exact { traces.GivesTrace result (traces.trace_of newest layout.now.spaces bytes.now) }
     ensures fits { IfOk result (λ trace. trace.sizes ≡ sizes_of layout.now.spaces) }
 {
     if LONG <= bytes.len() {
-        if let Some(trace) = read_long(rt, alloc, layout, bytes) {
+        if let Some(trace) = read_long(rt, alloc, layout, newest, bytes) {
             return Ok(trace);
         }
     }
-    read_trace(alloc, layout, bytes)
+    read_trace(alloc, layout, newest, bytes)
 }

@@ -11,18 +11,19 @@ ghost use Rattle.waff_read.specs.Affinities.{tree_of};
 ghost use Rattle.waff_read.specs.Documents.{document_of, rows_at};
 ghost use Rattle.waff_read.specs.Shapes.{shape_refusal};
 ghost use Rattle.waff_read.specs.HierRefusals.{Reads, shape_error, tree_error, layout_error};
-ghost use Rattle.waff_read.specs.Hierarchies.{kind_of, kind_named, kind_refusal, third_level_of};
+ghost use Rattle.waff_read.specs.Hierarchies.{format_of, format_numbered, kind_of, kind_named};
+ghost use Rattle.waff_read.specs.Hierarchies.{kind_refusal, third_level_of};
 ghost use Rattle.waff_read.specs.Hierarchies.{layout_at, layout_in, hierarchy_of};
 ghost use Rattle.waff_read.specs.Spaces.{spaces_in, maps_in};
 
 use crate::affinities::read_tree;
-use crate::document::{rows, text};
+use crate::document::{integer, rows, text};
 use crate::hier_error::HierError;
 use crate::shape::shape_refusal;
 use crate::spaces::{read_maps, read_spaces};
 use std::alloc::{AllocError, Global};
 use toml::Value;
-use waff_model::{AffinityId, Kind, Layout, LayoutError, MapSpec, SpaceSpec, Tree};
+use waff_model::{AffinityId, Format, Kind, Layout, LayoutError, MapSpec, SpaceSpec, Tree};
 use waff_parse::Stop;
 
 /// Reads a hierarchy file: the layout that it describes, or the first check that fails.
@@ -58,6 +59,23 @@ fn read_layout(alloc: Global, document: &Value) -> Result<Layout, HierError>
     let tree = read_affinities(alloc, document)?;
     check_kind(kind, &tree)?;
     lay_out(alloc, kind, tree, document)
+}
+
+/// The format of the document, the first where it names none.
+pub fn read_format(document: &Value) -> Format
+    ensures { result ≡ format_of (view document.now) }
+{
+    match integer(document, "format") {
+        Some(number) => format_numbered(number),
+        None => Format::F1,
+    }
+}
+
+/// The format of this number.
+fn format_numbered(number: i64) -> Format
+    ensures { result ≡ format_numbered number }
+{
+    if number == 2 { Format::F2 } else { Format::F1 }
 }
 
 /// The kind that the document names as its model.
@@ -141,13 +159,16 @@ fn is_below_child(tree: &Tree, affinity: AffinityId) -> bool
     }
 }
 
-/// The layout of the document's spaces and maps over the tree.
+/// The layout of the document's spaces and maps over the tree, in its format.
 fn lay_out(alloc: Global, kind: Kind, tree: Tree, document: &Value) -> Result<Layout, HierError>
     ensures { Reads (λ layout.
         layout) result (told layout_error (layout_at kind tree (view document.now))) }
 {
     match read_rows(alloc, document) {
-        Ok((spaces, maps)) => layout_of(alloc, kind, tree, &spaces, &maps),
+        Ok((spaces, maps)) => {
+            let format = read_format(document);
+            layout_of(alloc, format, kind, tree, &spaces, &maps)
+        }
         Err(_) => Err(HierError::Memory),
     }
 }
@@ -167,15 +188,16 @@ fn read_rows(alloc: Global, document: &Value) -> Result<(Vec<SpaceSpec>, Vec<Map
 /// The layout of these spaces and maps over the tree.
 fn layout_of(
     alloc: Global,
+    format: Format,
     kind: Kind,
     tree: Tree,
     spaces: &[SpaceSpec],
     maps: &[MapSpec],
 ) -> Result<Layout, HierError>
     ensures { Reads (λ layout.
-        layout) result (told layout_error (layout_of kind tree spaces.now maps.now)) }
+        layout) result (told layout_error (layout_of format kind tree spaces.now maps.now)) }
 {
-    match Layout::new(alloc, kind, tree, spaces, maps) {
+    match Layout::new(alloc, format, kind, tree, spaces, maps) {
         Ok(layout) => Ok(layout),
         Err(e) => match e {
             LayoutError::Memory => Err(HierError::Memory),

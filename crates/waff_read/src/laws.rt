@@ -7,53 +7,57 @@ ghost use Rattle.waff_model.specs.Layout.{Space, Hierarchy};
 ghost use Rattle.waff_model.specs.Messages.{Arrivals};
 ghost use Rattle.waff_model.specs.declared.message.Message.{Message};
 ghost use Rattle.waff_model.specs.declared.message.Version.{Version};
-ghost use Rattle.waff_parse.specs.Fields.{Field};
 ghost use Rattle.waff_parse.specs.Rows.{Record};
-ghost use Rattle.waff_read.specs.Laws.{FirstVersionIsExact, SecondVersionIsExact, SpelledIsRead};
+ghost use Rattle.waff_read.specs.Laws.{RecordIsExact, PiecesAreSingle, SpelledIsRead};
 ghost use Rattle.waff_read.specs.Laws.{SpelledTraceIsRead, LeastCheckDecides, TraceIsExact};
 ghost use Rattle.waff_read.specs.Laws.{FirstFaultDecides, HierarchyIsExact, ClassicalHasTwoLevels};
+ghost use Rattle.waff_read.specs.Messages.{Columns};
 ghost use Rattle.waff_read.specs.Refused.{TreeIsExact, FirstAffinityDecides, FirstCheckDecides};
+ghost use Rattle.waff_read.specs.declared.place.Place.{Place};
 
-/// A message of three fields is accepted exactly where no check holds, and has the values that they
-/// write.
-pub fn first_version_is_exact()
-    ensures { (spaces : List Space) (at : ℕ) (row : Record) → FirstVersionIsExact spaces at row }
-{}
-
-/// A message of four fields is accepted exactly where no check holds, and has the values that they
-/// write.
-pub fn second_version_is_exact()
-    ensures { (spaces : List Space) (at : ℕ) (row : Record) → SecondVersionIsExact spaces at row }
+/// A record is accepted as a message exactly where it has the fields of its version and no check
+/// holds, and the message has the values that they write.
+pub fn record_is_exact()
+    ensures { (version : Version) (spaces : List Space) (place : Place) (row : Record)
+        → RecordIsExact version spaces place row }
 {}
 
 /// Of the checks that hold of a record, the one of least number is told.
 pub fn least_check_decides()
-    ensures { (spaces : List Space) (at : ℕ) (name cost ops : Field)
-        → LeastCheckDecides spaces at name cost ops }
+    ensures { (version : Version) (spaces : List Space) (place : Place) (columns : Columns)
+        → LeastCheckDecides version spaces place columns }
+{}
+
+/// Before the third version no piece is a range.
+pub fn pieces_are_single()
+    ensures { (version : Version) (spaces : List Space) (piece : List ℕ)
+        → PiecesAreSingle version spaces piece }
 {}
 
 /// A message is read from the record that spells it.
 pub fn spelled_is_read()
-    ensures { (layout : Hierarchy) (version : Version) (at : ℕ) (message : Message)
-        → SpelledIsRead layout version at message }
+    ensures { (layout : Hierarchy) (version : Version) (place : Place) (message : Message)
+        → SpelledIsRead layout version place message }
 {}
 
 /// A trace is read from the text that spells it: what is written as a trace is read as the same
 /// trace.
 pub fn spelled_trace_is_read()
-    ensures { (layout : Hierarchy) (trace : Arrivals) → SpelledTraceIsRead layout trace }
+    ensures { (newest : Version) (layout : Hierarchy) (trace : Arrivals)
+        → SpelledTraceIsRead newest layout trace }
 {}
 
 /// A trace is accepted exactly where its header and each record after it is, and has their messages
 /// in order.
 pub fn trace_is_exact()
-    ensures { (spaces : List Space) (bytes : List ℕ) (trace : Arrivals)
-        → TraceIsExact spaces bytes trace }
+    ensures { (newest : Version) (spaces : List Space) (bytes : List ℕ) (trace : Arrivals)
+        → TraceIsExact newest spaces bytes trace }
 {}
 
 /// The first faulty record decides.
 pub fn first_fault_decides()
-    ensures { (spaces : List Space) (bytes : List ℕ) → FirstFaultDecides spaces bytes }
+    ensures { (newest : Version) (spaces : List Space) (bytes : List ℕ)
+        → FirstFaultDecides newest spaces bytes }
 {}
 
 /// A hierarchy is accepted exactly where no check holds.

@@ -3,17 +3,17 @@
 //! - `hierarchy`: the reader of hierarchies, over `document` (the values of a TOML document),
 //!   `shape` (the keys and their types), `affinities` (the tree), `spaces` (the rows of a layout)
 //!   and `names` (affinities and spaces by name); `hier_error` has what it refuses.
-//! - `trace`: the reader of traces, over `message` (one record), `ops` (the operations of a
-//!   message), `op` (one operation) and `space_table` (the spaces by name); `trace_fault` has what
-//!   it refuses. `halves`, over `lines` (a text cut between its records): the same for long traces,
-//!   by several threads.
+//! - `trace`: the reader of traces, over `message` (one record), `place` (where it stands), `ops`
+//!   (the operations of a message), `op` (one operation), `range` (an operation on cells in a row)
+//!   and `space_table` (the spaces by name); `trace_fault` has what it refuses. `halves`, over
+//!   `lines` (a text cut between its records): the same for long traces, by several threads.
 //! - `laws`: what holds of all files that are accepted or refused; `limit_laws`: that what is read
 //!   is within the limits.
 //!
 //! What the files stand for is defined in `specs/`. Of a hierarchy: `Hierarchies` (whole files),
 //! over `Documents`, `Shapes`, `Affinities` and `Spaces`. Of a trace: `Traces` (whole texts), over
-//! `Messages` (records) and `Ops` (operations as they are spelled), with `TraceFaults` (the order
-//! of the refusals).
+//! `Messages` (records at their `Places`) and `Pieces`, which are operations (`Ops`) or `Ranges` as
+//! they are spelled, with `TraceFaults` (the order of the refusals).
 #![tactic(auto)]
 
 mod affinities;
@@ -28,6 +28,8 @@ mod message;
 mod names;
 mod op;
 mod ops;
+mod place;
+mod range;
 mod shape;
 mod space_table;
 mod spaces;
@@ -36,6 +38,6 @@ mod trace_fault;
 
 pub use halves::read_trace_by_threads;
 pub use hier_error::{HierError, Key};
-pub use hierarchy::read_hierarchy;
+pub use hierarchy::{read_format, read_hierarchy};
 pub use trace::read_trace;
 pub use trace_fault::TraceError;

@@ -4,6 +4,7 @@
 ghost use Rattle.std.specs.Prelude.{ℕ, List};
 ghost use Rattle.waff_model.specs.Layout.{Space, Hierarchy};
 ghost use Rattle.waff_model.specs.Messages.{Arrivals};
+ghost use Rattle.waff_model.specs.declared.message.Version.{Version};
 ghost use Rattle.waff_read.specs.Limits.{LayoutIsWithinLimits, TraceIsWithinLimits};
 
 /// A layout that is read is within the limits.
@@ -13,6 +14,6 @@ pub fn layout_is_within_limits()
 
 /// A trace that is read is within the limits.
 pub fn trace_is_within_limits()
-    ensures limits { (spaces : List Space) (bytes : List ℕ) (trace : Arrivals)
-        → TraceIsWithinLimits spaces bytes trace }
+    ensures limits { (newest : Version) (spaces : List Space) (bytes : List ℕ) (trace : Arrivals)
+        → TraceIsWithinLimits newest spaces bytes trace }
 {}

@@ -2,18 +2,20 @@
 
 ghost use Rattle.std.specs.Prelude.{◌≡◌, option_map};
 ghost use Rattle.csv.specs.Records.{fields_of};
-ghost use Rattle.waff_parse.specs.Fields.{three_of, four_of};
+ghost use Rattle.waff_parse.specs.Fields.{three_of, four_of, six_of};
 ghost use Rattle.waff_parse.specs.Stopping.{Gives};
 ghost use Rattle.waff_read.specs.Messages as messages;
 
 use crate::ops::read_ops;
+use crate::place::Place;
 use crate::space_table::SpaceTable;
 use crate::trace_fault::TraceFault;
 use csv::StringRecord;
 use std::alloc::Global;
-use waff_model::limits::{MAX_COST, MAX_MESSAGES, MAX_RELEASE};
+use std::marker::Model;
+use waff_model::limits::{MAX_COST, MAX_RELEASE, MAX_THINK};
 use waff_model::{Message, Text, Version, is_name};
-use waff_parse::{Stop, four_fields, number_within, three_fields};
+use waff_parse::{Stop, four_fields, number_within, six_fields, three_fields};
 
 // Whether a record is the header of the first version.
 fn is_first_header(row: &StringRecord) -> bool
@@ -37,9 +39,26 @@ fn is_second_header(row: &StringRecord) -> bool
     }
 }
 
-/// The version that a header tells.
-pub(crate) fn read_version(row: &StringRecord) -> Result<Version, TraceFault>
-    ensures { result ≡ messages.version_of (fields_of row.now) }
+// Whether a record is the header of the third version.
+fn is_third_header(row: &StringRecord) -> bool
+    ensures { result ≡ messages.is_third_header (six_of (fields_of row.now)) }
+{
+    match six_fields(row) {
+        Some((name, cost, release, client, think, ops)) => {
+            name == "message"
+                && cost == "cost"
+                && release == "release"
+                && client == "client"
+                && think == "think"
+                && ops == "ops"
+        }
+        None => false,
+    }
+}
+
+// The version that a header tells.
+fn told_version(row: &StringRecord) -> Result<Version, TraceFault>
+    ensures { result ≡ messages.told_version (fields_of row.now) }
 {
     if is_first_header(row) {
         return Ok(Version::V1);
@@ -47,7 +66,90 @@ pub(crate) fn read_version(row: &StringRecord) -> Result<Version, TraceFault>
     if is_second_header(row) {
         return Ok(Version::V2);
     }
+    if is_third_header(row) {
+        return Ok(Version::V3);
+    }
     Err(TraceFault::Header)
+}
+
+/// The version that a header tells, up to the newest that is known.
+pub(crate) fn read_version(newest: Version, row: &StringRecord) -> Result<Version, TraceFault>
+    ensures { result ≡ messages.version_of newest (fields_of row.now) }
+{
+    let version = told_version(row)?;
+    if version.number() <= newest.number() {
+        Ok(version)
+    } else {
+        Err(TraceFault::Header)
+    }
+}
+
+// The fields of a message: none is the field of a column that the version has not.
+#[derive(Drop)]
+struct Columns<'a> {
+    name: &'a str,
+    cost: &'a str,
+    release: Option<&'a str>,
+    client: Option<&'a str>,
+    think: Option<&'a str>,
+    ops: &'a str,
+}
+
+impl<'a> Model for Columns<'a> {
+    ghost use Rattle.std.specs.Prelude.{option_map};
+    ghost use Rattle.waff_read.specs.Messages.{Columns as Fields};
+
+    ghost Value = { Fields };
+
+    ghost view = { λ c. record {
+      name = c.name.now;
+      cost = c.cost.now;
+      release = option_map (λ s. s.now) c.release;
+      client = option_map (λ s. s.now) c.client;
+      think = option_map (λ s. s.now) c.think;
+      ops = c.ops.now;
+    } };
+}
+
+// The fields of a record, if there are as many as its version wants.
+fn read_columns(version: Version, row: &StringRecord) -> Option<Columns<'_>>
+    ensures { result ≡ messages.columns_of version (fields_of row.now) }
+{
+    match version {
+        Version::V1 => {
+            let (name, cost, ops) = three_fields(row)?;
+            Some(Columns {
+                name,
+                cost,
+                release: None,
+                client: None,
+                think: None,
+                ops,
+            })
+        }
+        Version::V2 => {
+            let (name, cost, release, ops) = four_fields(row)?;
+            Some(Columns {
+                name,
+                cost,
+                release: Some(release),
+                client: None,
+                think: None,
+                ops,
+            })
+        }
+        Version::V3 => {
+            let (name, cost, release, client, think, ops) = six_fields(row)?;
+            Some(Columns {
+                name,
+                cost,
+                release: Some(release),
+                client: Some(client),
+                think: Some(think),
+                ops,
+            })
+        }
+    }
 }
 
 // A cost in ticks.
@@ -73,68 +175,104 @@ fn read_release(text: Option<&str>) -> Result<u32, TraceFault>
     }
 }
 
-// The message that fields spell in the record with this number.
-#[tactic(auto, unfolding(crate::specs::Messages::message_of_fields))]
-fn message_of_fields(
+// The name of a client, `-` where there is no field for it.
+fn read_client<'a>(text: Option<&'a str>) -> Result<&'a str, TraceFault>
+    ensures { messages.borrowed result ≡ messages.client_of (option_map (λ s. s.now) text.entry) }
+{
+    match text {
+        None => Ok("-"),
+        Some(text) => {
+            if is_name(text) {
+                Ok(text)
+            } else {
+                Err(TraceFault::Client)
+            }
+        }
+    }
+}
+
+// A think time in ticks, 0 where there is no field for it.
+fn read_think(text: Option<&str>) -> Result<u32, TraceFault>
+    ensures { result ≡ messages.think_of (option_map (λ s. s.now) text.entry) }
+{
+    match text {
+        None => Ok(0),
+        Some(text) => match number_within(text, 0, u64::from(MAX_THINK)) {
+            Some(think) => Ok(think as u32),
+            None => Err(TraceFault::Think),
+        },
+    }
+}
+
+// The number of a record whose message is not one too many.
+fn read_number(version: Version, at: u64) -> Result<u64, TraceFault>
+    ensures { result ≡ messages.counted version at }
+{
+    if version.max_messages() as u64 + 1 < at {
+        Err(TraceFault::TooManyMessages)
+    } else {
+        Ok(at)
+    }
+}
+
+// The message that fields spell in the record at this place.
+#[tactic(auto, unfolding(crate::specs::Messages::message_of_columns))]
+fn message_of_columns(
     alloc: Global,
     spaces: &SpaceTable<'_>,
-    at: u64,
-    name: &str,
-    cost: &str,
-    release: Option<&str>,
-    ops: &str,
+    version: Version,
+    place: Place,
+    columns: &Columns<'_>,
 ) -> Result<Message, Stop<TraceFault>>
-    ensures { Gives (λ m. m) result (messages.message_of_fields spaces.now at name.now cost.now
-        (option_map (λ s. s.now) release.entry) ops.now) }
+    ensures { Gives (λ m.
+        m) result (messages.message_of_columns version spaces.now place columns.now) }
 {
-    if !is_name(name) {
+    if !is_name(columns.name) {
         return Err(Stop::Fault(TraceFault::Name));
     }
-    let cost = match read_cost(cost) {
+    let cost = match read_cost(columns.cost) {
         Ok(cost) => cost,
         Err(fault) => return Err(Stop::Fault(fault)),
     };
-    let ops = read_ops(alloc, spaces, ops)?;
-    if MAX_MESSAGES as u64 + 1 < at {
-        return Err(Stop::Fault(TraceFault::TooManyMessages));
+    let ops = read_ops(alloc, spaces, version, place.most_ops(version), columns.ops)?;
+    if let Err(fault) = read_number(version, place.at) {
+        return Err(Stop::Fault(fault));
     }
-    let release = match read_release(release) {
+    let release = match read_release(columns.release) {
         Ok(release) => release,
         Err(fault) => return Err(Stop::Fault(fault)),
     };
+    let client = match read_client(columns.client) {
+        Ok(client) => client,
+        Err(fault) => return Err(Stop::Fault(fault)),
+    };
+    let think = match read_think(columns.think) {
+        Ok(think) => think,
+        Err(fault) => return Err(Stop::Fault(fault)),
+    };
     Ok(Message {
-        name: Text::of(alloc, name)?,
+        name: Text::of(alloc, columns.name)?,
         cost,
         release,
+        client: Text::of(alloc, client)?,
+        think,
         ops,
     })
 }
 
-/// The message of the record with this number.
+/// The message of the record at this place.
 pub(crate) fn read_message(
     alloc: Global,
     spaces: &SpaceTable<'_>,
     version: Version,
-    at: u64,
+    place: Place,
     row: &StringRecord,
 ) -> Result<Message, Stop<TraceFault>>
     ensures { Gives (λ m.
-        m) result (messages.message_of version spaces.now at (fields_of row.now)) }
+        m) result (messages.message_of version spaces.now place (fields_of row.now)) }
 {
-    let fields = match version {
-        Version::V1 => match three_fields(row) {
-            Some((name, cost, ops)) => Some((name, cost, None, ops)),
-            None => None,
-        },
-        Version::V2 => match four_fields(row) {
-            Some((name, cost, release, ops)) => Some((name, cost, Some(release), ops)),
-            None => None,
-        },
-    };
-    match fields {
-        Some((name, cost, release, ops)) => {
-            message_of_fields(alloc, spaces, at, name, cost, release, ops)
-        }
+    match read_columns(version, row) {
+        Some(columns) => message_of_columns(alloc, spaces, version, place, &columns),
         None => Err(Stop::Fault(TraceFault::Fields)),
     }
 }

@@ -28,8 +28,12 @@ fn cell_in(spaces: &SpaceTable<'_>, space: u32, index: Option<u64>) -> Result<Ce
     }
 }
 
-// The cell of a name and an index. What a space is called is a name.
-fn named_cell(spaces: &SpaceTable<'_>, name: &str, index: &str) -> Result<Cell, TraceFault>
+/// The cell of a name and an index. What a space is called is a name.
+pub(crate) fn named_cell(
+    spaces: &SpaceTable<'_>,
+    name: &str,
+    index: &str,
+) -> Result<Cell, TraceFault>
     ensures { result ≡ ops.cell_of_name spaces.now name.now index.now }
 {
     let Some(space) = spaces.find(name) else {
@@ -59,9 +63,9 @@ fn read_cell(spaces: &SpaceTable<'_>, text: &str) -> Result<Cell, TraceFault>
     }
 }
 
-// The number below 2^64 that a text spells.
+/// The number below 2^64 that a text spells.
 #[tactic(auto, unfolding(crate::specs::Ops::value_of))]
-fn read_value(text: &str) -> Result<u64, TraceFault>
+pub(crate) fn read_value(text: &str) -> Result<u64, TraceFault>
     ensures { result ≡ ops.value_of text.now }
 {
     match number(text) {

@@ -32,6 +32,10 @@ pub enum TraceFault {
     TooManyMessages,
     /// Its third field is not a release.
     Release,
+    /// Its fourth field is not the name of a client.
+    Client,
+    /// Its fifth field is not a think time.
+    Think,
 }
 
 impl Ranked for TraceFault {
@@ -51,6 +55,8 @@ impl Ranked for TraceFault {
             TraceFault::TooManyOps => 10,
             TraceFault::TooManyMessages => 11,
             TraceFault::Release => 13,
+            TraceFault::Client => 14,
+            TraceFault::Think => 15,
         }
     }
 }
@@ -84,6 +90,10 @@ pub enum TraceError {
     Memory,
     /// The third field is not a release within the limit.
     Release { at: u64 },
+    /// The fourth field is not a name.
+    Client { at: u64 },
+    /// The fifth field is not a think time within the limit.
+    Think { at: u64 },
 }
 
 impl TraceFault {
@@ -104,6 +114,8 @@ impl TraceFault {
             TraceFault::TooManyOps => TraceError::TooManyOps { at },
             TraceFault::TooManyMessages => TraceError::TooManyMessages { at },
             TraceFault::Release => TraceError::Release { at },
+            TraceFault::Client => TraceError::Client { at },
+            TraceFault::Think => TraceError::Think { at },
         }
     }
 }

@@ -12,7 +12,7 @@ ghost use Rattle.waff_core.specs.Seats.{IsSeats};
 
 use crate::gate::Gate;
 use crate::sleepers::Sleepers;
-use crate::work::work;
+use crate::work::Worker;
 use std::alloc::{AllocError, Global};
 use std::sync::Wait;
 use std::thread;
@@ -65,12 +65,27 @@ fn team<R: Threads + Wait + Sync, G: Gate>(
     ensures { IsOf board.now result }
 {
     let Some(other) = others.pop() else {
-        return work(rt, board, sleepers, 0, mine, gate);
+        let number = 0;
+        let worker = Worker {
+            rt,
+            board,
+            sleepers,
+            number,
+        };
+        return worker.work(mine, gate);
     };
     let number = others.len() + 1;
     let theirs = move || -> EndSeat
         requires { IsSync R.row × IsSync G.row × IsOf board.now other }
-    { work(rt, board, sleepers, number, other, gate) };
+    {
+        let worker = Worker {
+            rt,
+            board,
+            sleepers,
+            number,
+        };
+        worker.work(other, gate)
+    };
     let ours = move || -> EndSeat
         requires { IsSync R.row × IsSync G.row × IsOf board.now mine
             × All (IsOf board.now) others.items }

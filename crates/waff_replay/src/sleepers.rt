@@ -1,4 +1,11 @@
 //! Workers that sleep, and who wakes them.
+//!
+//! A worker waits for one of two things. It has drawn a message, and waits until the needs of that one
+//! are done; or it had to wait for its last message, and waits until the next one can run before it
+//! draws. It looks many times in a row, which is enough where messages are short, and then it sleeps.
+//! Who ends a message wakes the workers that sleep for that one. Who draws a message wakes one that
+//! sleeps for want of any, if the message behind can run too; so each that is woken wakes the next. Who
+//! draws past the end of the order wakes all.
 
 use std::alloc::{AllocError, Global};
 use std::sync::Wait;
@@ -29,11 +36,11 @@ impl Sleepers {
     /// Nobody sleeps; places for this many workers.
     pub(crate) fn new(alloc: Global, workers: u32) -> Result<Self, AllocError> {
         let mut places = Vec::with_capacity(alloc, workers as usize)?;
-        for _ in 0..workers {
-            places.push(Place {
+        for _made in 0..workers {
+            places.push_reserved(Place {
                 parker: Parker::new(),
                 on: AtomicU32::new(0),
-            })?;
+            });
         }
         Ok(Sleepers {
             idle: AtomicU64::new(0),

@@ -10,7 +10,7 @@ use std::alloc::{AllocError, Global};
 use std::process::Abort;
 use waff_assign::assign;
 use waff_list::{Rule, WorkerPlan, list_chain, list_plan_by};
-use waff_model::Tree;
+use waff_model::{Tree, Version};
 use waff_order::predecessors::needs;
 use waff_plan::printed::chain;
 use waff_plan::unlimited::plan;
@@ -148,7 +148,7 @@ fn lead_as_far(rt: &impl Abort, alloc: Global, work: &Work, needed: &[u64], tree
 /// All plans of the trace have to be those of the slow programs.
 fn agree(rt: &impl Abort, alloc: Global, number: u32, hierarchy: &str, trace: &str) {
     let layout = read_hierarchy(alloc, hierarchy.as_bytes()).expect(rt, "a hierarchy");
-    let trace = read_trace(alloc, &layout, trace.as_bytes()).expect(rt, "a trace");
+    let trace = read_trace(alloc, &layout, Version::V3, trace.as_bytes()).expect(rt, "a trace");
     let assigned = assign(alloc, &layout, &trace).expect(rt, "affinities");
     let needs = needs(alloc, layout.tree(), &assigned).expect(rt, "needs");
     let pairs = ordered(alloc, layout.tree(), &assigned).expect(rt, "pairs");

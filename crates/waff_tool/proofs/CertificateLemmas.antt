@@ -10,12 +10,12 @@ use Rattle.waff_plan.specs.Timetable.{timings_of}
 use Rattle.waff_plan.specs.Timing.{work_of}
 use Rattle.waff_plan.specs.declared.timing.Timing.{Timing}
 use Rattle.waff_plan.proofs.Chains.{chains_are_within_length, least_is_shortest, printed_is_as_long, printed_is_chain}
-use Rattle.waff_plan.proofs.Forward.{IsOrdered_forward}
+use Rattle.waff_plan.proofs.Forward.{timings_forward}
 use Rattle.waff_plan.proofs.Ratios.{bound_is_within_ratio, bound_is_within_twice}
 use Rattle.waff_list.specs.Rules.{IsPlanBy}
 use Rattle.waff_list.specs.declared.rule.Rule.{Rule}
 use Rattle.waff_list.proofs.Graham.{list_plans_are_within_bound}
-use Rattle.waff_list.proofs.RuleLemmas.{plan_by_priority}
+use Rattle.waff_list.proofs.RuleLemmas.{busy_by_rule, plan_by_priority}
 use Rattle.waff_list.proofs.TraceWork.{count_is}
 use Rattle.waff_tool.specs.Certificates.{IsBounded, IsCertified}
 
@@ -23,7 +23,7 @@ use Rattle.waff_tool.specs.Certificates.{IsBounded, IsCertified}
 pub pairs_forward : (tree : List Node) (assigned : List ℕ) (messages : List Message) → length assigned ≡ length messages
     → IsForward (IsOrdered tree assigned) (work_of (timings_of messages))
 pairs_forward tree assigned messages same =
-    IsOrdered_forward tree assigned (work_of (timings_of messages)) (same ∙ sym (count_is messages))
+    timings_forward tree assigned (timings_of messages) (same ∙ sym (count_is messages))
 
 -- a plan of the messages has as many of them as have affinities
 pub as_many : (messages : List Message) (timings : List Timing) (assigned : List ℕ) → timings ≡ timings_of messages
@@ -47,7 +47,7 @@ bounded rule before work k start chain some forward planned printed =
     let by = plan_by_priority rule before work k start planned in
     let list = by.1 in
     let is_chain = printed_is_chain before work forward start chain printed in
-    let bound = list_plans_are_within_bound before work forward by.0 k start chain some list printed in
+    let bound = list_plans_are_within_bound before work forward k start chain some (busy_by_rule rule before work k start planned) printed in
     record {
       list = planned;
       obeys = list.within.obeys;

@@ -3,7 +3,7 @@ use Rattle.std.proofs.Common.{◌≡◌, ℕ, List, Option, Some, None, Result, 
 use Rattle.waff_model.specs.Layout.{Hierarchy}
 use Rattle.waff_model.specs.Messages.{Arrivals}
 use Rattle.waff_read.specs.Hierarchies.{hierarchy_of}
-use Rattle.waff_read.specs.Traces.{trace_of}
+use Rattle.waff_inputs.specs.Known.{trace_of}
 use Rattle.waff_read.specs.declared.hier_error.HierError.{HierError}
 use Rattle.waff_read.specs.declared.trace_fault.TraceError.{TraceError}
 use Rattle.waff_plan_text.specs.Given.{Given}
@@ -37,10 +37,9 @@ refused_is hierarchy_file trace_file plan_file (tool.Trace fault) tells refused 
     ap (of_files trace_file plan_file) refused.1 ∙ ap (of_trace plan_file) refused.2
 refused_is hierarchy_file trace_file plan_file (tool.PlanText fault) tells refused =
     ap (of_files trace_file plan_file) refused.is_layout ∙ ap (of_trace plan_file) refused.is_trace ∙ ap of_plan refused.refused
-refused_is hierarchy_file trace_file plan_file tool.SpacesDiffer tells refused = absurd refused
-refused_is hierarchy_file trace_file plan_file tool.ModelsSame tells refused = absurd refused
 refused_is hierarchy_file trace_file plan_file tool.Write tells refused = absurd tells
 refused_is hierarchy_file trace_file plan_file tool.Memory tells refused = absurd tells
+refused_is hierarchy_file trace_file plan_file error tells refused = absurd refused
 
 pub check_refusal_is_one : (hierarchy_file trace_file plan_file : List ℕ) → CheckRefusalIsOne hierarchy_file trace_file plan_file
 check_refusal_is_one hierarchy_file trace_file plan_file one other tells also refused too =

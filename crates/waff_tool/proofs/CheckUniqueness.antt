@@ -8,12 +8,12 @@ use Rattle.waff_plan_text.specs.Given.{Given}
 use Rattle.waff_plan_text.specs.Lines.{text_of}
 use Rattle.waff_plan_text.specs.PlanTexts.{plan_of}
 use Rattle.waff_plan_text.specs.declared.refusal.PlanTextError.{PlanTextError}
-use Rattle.waff_check.specs.Verdicts.{IsVerdict}
+use Rattle.waff_check.specs.Verdicts.{IsVerdict, claim_of}
 use Rattle.waff_check.proofs.Uniqueness.{verdict_is_one}
 use Rattle.waff_draw.specs.Scene.{scene_of}
 use Rattle.waff_draw.specs.declared.parts.Part.{Part}
 use Rattle.waff_inputs.proofs.SameInput.{same_input, same_ok, same_trace}
-use Rattle.waff_tool.specs.CheckText.{AcceptsPlan, claim_on}
+use Rattle.waff_tool.specs.CheckText.{AcceptsPlan}
 use Rattle.waff_tool.specs.DrawText.{DrawTextIsOne, picture_of}
 use Rattle.waff_tool.specs.ReplayText.{state_after, state_lines}
 use Rattle.waff_tool.specs.Unique.{CheckTextIsOne, ReplayTextIsOne}
@@ -31,15 +31,15 @@ same_given P hierarchy_file trace_file plan_file instance other given more p q h
 -- the verdict
 pub check_text_is_one : (hierarchy_file trace_file plan_file : List ℕ) → CheckTextIsOne hierarchy_file trace_file plan_file
 check_text_is_one hierarchy_file trace_file plan_file one other p q =
-    verdict_is_one (claim_on p.instance p.given) one other p.verdict
-    (same_given (λ i g. IsVerdict (claim_on i g) other) hierarchy_file trace_file plan_file p.instance q.instance p.given q.given p.accepts q.accepts q.verdict)
+    verdict_is_one (claim_of p.instance p.given) one other p.verdict
+    (same_given (λ i g. IsVerdict (claim_of i g) other) hierarchy_file trace_file plan_file p.instance q.instance p.given q.given p.accepts q.accepts q.verdict)
 
 -- the picture
 pub draw_text_is_one : (hierarchy_file trace_file plan_file : List ℕ) (picture : Picture) (part : Part)
     → DrawTextIsOne hierarchy_file trace_file plan_file picture part
 draw_text_is_one hierarchy_file trace_file plan_file picture part text other p q =
     p.drawn
-    ∙ sym (same_given (λ i g. other ≡ picture_of picture (scene_of i.tree i.assigned i.trace.messages g part)) hierarchy_file trace_file plan_file
+    ∙ sym (same_given (λ i g. other ≡ picture_of picture (scene_of i g part)) hierarchy_file trace_file plan_file
     p.instance q.instance p.given q.given p.accepts q.accepts q.drawn)
 
 -- the state

@@ -5,14 +5,15 @@ use Rattle.waff_model.specs.Layout.{Hierarchy}
 use Rattle.waff_model.specs.Tree.{Node}
 use Rattle.waff_model.specs.declared.kind.Kind.{Kind}
 use Rattle.waff_model.specs.declared.message.Version.{Version}
-use Rattle.waff_model.specs.declared.message.Version.TheVariants.{V1, V2}
+use Rattle.waff_model.specs.declared.message.Version.TheVariants.{V1, V2, V3}
 use Rattle.waff_assign.specs.Order.{IsOrdered}
 use Rattle.waff_plan.specs.Timing.{start_of}
 use Rattle.waff_plan.specs.Laws.{LeastIsNoLonger}
 use Rattle.waff_plan.specs.Work.{Work}
 use Rattle.waff_plan.specs.declared.totals.Totals.{Totals}
 use Rattle.waff_plan_text.specs.Lines.{line_text}
-use Rattle.waff_read.specs.Traces.{Tells, trace_of}
+use Rattle.waff_inputs.specs.Known.{trace_of}
+use Rattle.waff_read.specs.Traces.{Tells}
 use Rattle.waff_read.specs.declared.trace_fault.TraceError.{TraceError}
 use Rattle.waff_read.specs.declared.trace_fault.TraceError.TheVariants as trace
 use Rattle.waff_tool.specs.Comparison.{AreCertifiedTotals, AreListTotals, AreModels, IsMeasured, RefusesComparison, plan_fields}
@@ -58,3 +59,4 @@ pub measured_further : (version : Version) (kind : List ℕ) (plan list : Totals
     → now ≡ old ++ line_text (kind ∷ plan_fields version plan ++ plan_fields version list ++ decimal list.left ∷ decimal list.right ∷ [])
 measured_further V1 kind plan list old named planned listed now one two three four = rw (four, three, two, one) (search (rules, append_assoc))
 measured_further V2 kind plan list old named planned listed now one two three four = rw (four, three, two, one) (search (rules, append_assoc))
+measured_further V3 kind plan list old named planned listed now one two three four = rw (four, three, two, one) (search (rules, append_assoc))

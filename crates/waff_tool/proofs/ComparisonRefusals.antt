@@ -2,7 +2,7 @@
 use Rattle.std.proofs.Common.{◌≡◌, ℕ, ◌⊎◌, inl, inr, List, Option, Some, None, Result, Ok, Err, refl, sym, ◌∙◌, ap, subst}
 use Rattle.waff_model.specs.Layout.{Hierarchy, SameSpaces}
 use Rattle.waff_read.specs.Hierarchies.{hierarchy_of}
-use Rattle.waff_read.specs.Traces.{trace_of}
+use Rattle.waff_inputs.specs.Known.{trace_of}
 use Rattle.waff_read.specs.declared.hier_error.HierError.{HierError}
 use Rattle.waff_inputs.specs.Inputs.{TellsOfFiles}
 use Rattle.waff_inputs.specs.declared.fault.ToolError.{ToolError}
@@ -52,6 +52,10 @@ either first second trace_file tool.SpacesDiffer tells refused = inr refused
 either first second trace_file tool.ModelsSame tells refused = inr refused
 either first second trace_file tool.Write tells refused = absurd tells
 either first second trace_file tool.Memory tells refused = absurd tells
+either first second trace_file tool.TooManyCells tells refused = elim refused [
+  | inl one ↦ absurd one
+  | inr (layout, read, two) ↦ absurd two
+]
 
 -- two hierarchies that are read have no error of their own
 both_read : (first second : List ℕ) (layout other : Hierarchy) → AreHierarchies first second layout other
@@ -67,13 +71,10 @@ models_read first second classical hierarchical p = elim p.files [
 
 later_read : (first second trace_file : List ℕ) (error : ToolError) → IsLater first second trace_file error
     → of_hierarchies (hierarchy_of first) (hierarchy_of second) ≡ None
-later_read first second trace_file (tool.Hier file fault) later = absurd later
 later_read first second trace_file (tool.Trace fault) later = models_read first second later.0 later.1 later.2
-later_read first second trace_file (tool.PlanText fault) later = absurd later
 later_read first second trace_file tool.SpacesDiffer later = both_read first second later.0 later.1 later.2
 later_read first second trace_file tool.ModelsSame later = both_read first second later.0 later.1 later.2
-later_read first second trace_file tool.Write later = absurd later
-later_read first second trace_file tool.Memory later = absurd later
+later_read first second trace_file error later = absurd later
 
 same_read : (first second : List ℕ) (layout other one two : Hierarchy) → AreHierarchies first second layout other
     → AreHierarchies first second one two → (layout ≡ one) × (other ≡ two)
@@ -113,22 +114,6 @@ models_differ first second layout other classical hierarchical read p kinds = el
 -- of the later errors one holds
 later_is_one : (first second trace_file : List ℕ) (one other : ToolError) → IsLater first second trace_file one → IsLater first second trace_file other
     → one ≡ other
-later_is_one first second trace_file (tool.Hier file fault) other p q = absurd p
-later_is_one first second trace_file (tool.PlanText fault) other p q = absurd p
-later_is_one first second trace_file tool.Write other p q = absurd p
-later_is_one first second trace_file tool.Memory other p q = absurd p
-later_is_one first second trace_file tool.SpacesDiffer (tool.Hier file fault) p q = absurd q
-later_is_one first second trace_file tool.SpacesDiffer (tool.PlanText fault) p q = absurd q
-later_is_one first second trace_file tool.SpacesDiffer tool.Write p q = absurd q
-later_is_one first second trace_file tool.SpacesDiffer tool.Memory p q = absurd q
-later_is_one first second trace_file tool.ModelsSame (tool.Hier file fault) p q = absurd q
-later_is_one first second trace_file tool.ModelsSame (tool.PlanText fault) p q = absurd q
-later_is_one first second trace_file tool.ModelsSame tool.Write p q = absurd q
-later_is_one first second trace_file tool.ModelsSame tool.Memory p q = absurd q
-later_is_one first second trace_file (tool.Trace fault) (tool.Hier file more) p q = absurd q
-later_is_one first second trace_file (tool.Trace fault) (tool.PlanText more) p q = absurd q
-later_is_one first second trace_file (tool.Trace fault) tool.Write p q = absurd q
-later_is_one first second trace_file (tool.Trace fault) tool.Memory p q = absurd q
 later_is_one first second trace_file tool.SpacesDiffer tool.SpacesDiffer p q = refl
 later_is_one first second trace_file tool.ModelsSame tool.ModelsSame p q = refl
 later_is_one first second trace_file tool.SpacesDiffer tool.ModelsSame p q =
@@ -149,6 +134,10 @@ later_is_one first second trace_file (tool.Trace fault) (tool.Trace more) p q =
     subst (λ (l : Hierarchy). trace_of l.spaces trace_file ≡ Err more) (sym same.0) q.3 in
     let is : trace_of p.0.spaces trace_file ≡ Err fault = p.3 in
     cc
+later_is_one first second trace_file tool.SpacesDiffer other p q = absurd q
+later_is_one first second trace_file tool.ModelsSame other p q = absurd q
+later_is_one first second trace_file (tool.Trace fault) other p q = absurd q
+later_is_one first second trace_file one other p q = absurd p
 
 pub comparison_refusal_is_one : (first second trace_file : List ℕ) → ComparisonRefusalIsOne first second trace_file
 comparison_refusal_is_one first second trace_file one other tells also refused too =
@@ -166,10 +155,6 @@ comparison_refusal_is_one first second trace_file one other tells also refused t
 -- what is compared has no such error
 compared_later : (first second trace_file : List ℕ) (k : ℕ) (text : List ℕ) (error : ToolError) → IsCompareText first second trace_file k text
     → IsLater first second trace_file error → ⊥
-compared_later first second trace_file k text (tool.Hier file fault) p later = absurd later
-compared_later first second trace_file k text (tool.PlanText fault) p later = absurd later
-compared_later first second trace_file k text tool.Write p later = absurd later
-compared_later first second trace_file k text tool.Memory p later = absurd later
 compared_later first second trace_file k text tool.SpacesDiffer p later =
     later.3 (models_same_spaces first second later.0 later.1 p.classical p.hierarchical later.2 p.models)
 compared_later first second trace_file k text tool.ModelsSame p later =
@@ -180,6 +165,7 @@ compared_later first second trace_file k text (tool.Trace fault) p later =
     subst (λ (l : Hierarchy). trace_of l.spaces trace_file ≡ Err fault) (sym same.0) later.3 in
     let is = p.is_trace in
     cc
+compared_later first second trace_file k text error p later = absurd later
 
 pub compared_is_not_refused : (first second trace_file : List ℕ) → ComparedIsNotRefused first second trace_file
 compared_is_not_refused first second trace_file k text error p tells refused = elim (either first second trace_file error tells refused) [

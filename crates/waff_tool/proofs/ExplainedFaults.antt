@@ -4,6 +4,7 @@ use Rattle.waff_model.specs.Layout.{Hierarchy}
 use Rattle.waff_model.specs.Messages.{Arrivals}
 use Rattle.waff_read.specs.HierRefusals.{Tells}
 use Rattle.waff_read.specs.Hierarchies.{hierarchy_of}
+use Rattle.waff_inputs.specs.Known as known
 use Rattle.waff_read.specs.Traces as traces
 use Rattle.waff_read.specs.declared.hier_error.HierError.{HierError}
 use Rattle.waff_read.specs.declared.hier_error.HierError.TheVariants as hier
@@ -42,6 +43,8 @@ of_trace read (trace.IndexTooLarge at) other told = told
 of_trace read (trace.TooManyOps at) other told = told
 of_trace read (trace.TooManyMessages at) other told = told
 of_trace read (trace.Release at) other told = told
+of_trace read (trace.Client at) other told = told
+of_trace read (trace.Think at) other told = told
 of_trace read trace.Memory other told = absurd (other refl)
 
 of_plan : (read : Result Given PlanTextError) (fault : PlanTextError) → fault ≢ text.Memory
@@ -70,7 +73,7 @@ hierarchy_is_refused hierarchy_file trace_file plan_file fault other told =
     hierarchy_fault hierarchy_file trace_file plan_file fault (of_hierarchy (hierarchy_of hierarchy_file) fault other told)
 
 trace_fault : (hierarchy_file trace_file : List ℕ) (plan_file : Option (List ℕ)) (layout : Hierarchy) (fault : TraceError)
-    → hierarchy_of hierarchy_file ≡ Ok layout → traces.trace_of layout.spaces trace_file ≡ Err fault
+    → hierarchy_of hierarchy_file ≡ Ok layout → known.trace_of layout.spaces trace_file ≡ Err fault
     → IsExplained hierarchy_file (Some trace_file) plan_file (explained.Fault (tool.Trace fault))
 trace_fault hierarchy_file trace_file None layout fault is_layout refused = (tt, (layout, is_layout, refused))
 trace_fault hierarchy_file trace_file (Some plan_file) layout fault is_layout refused = (tt, (layout, is_layout, refused))
@@ -78,16 +81,16 @@ trace_fault hierarchy_file trace_file (Some plan_file) layout fault is_layout re
 -- where the hierarchy is accepted and the trace is refused, the fault of the trace is explained
 pub trace_is_refused : (hierarchy_file trace_file : List ℕ) (plan_file : Option (List ℕ)) (layout : Hierarchy)
     (fault : TraceError) → fault ≢ trace.Memory → hierarchy_of hierarchy_file ≡ Ok layout
-    → traces.Tells fault (traces.trace_of layout.spaces trace_file)
+    → traces.Tells fault (known.trace_of layout.spaces trace_file)
     → IsExplained hierarchy_file (Some trace_file) plan_file (explained.Fault (tool.Trace fault))
 trace_is_refused hierarchy_file trace_file plan_file layout fault other is_layout told =
     trace_fault hierarchy_file trace_file plan_file layout fault is_layout
-    (of_trace (traces.trace_of layout.spaces trace_file) fault other told)
+    (of_trace (known.trace_of layout.spaces trace_file) fault other told)
 
 -- where both are accepted and the plan is refused, the fault of the plan is explained
 pub plan_is_refused : (hierarchy_file trace_file plan_file : List ℕ) (layout : Hierarchy) (trace : Arrivals)
     (fault : PlanTextError) → fault ≢ text.Memory → hierarchy_of hierarchy_file ≡ Ok layout
-    → traces.trace_of layout.spaces trace_file ≡ Ok trace
+    → known.trace_of layout.spaces trace_file ≡ Ok trace
     → texts.Tells fault (texts.plan_of trace.version (length trace.messages) plan_file)
     → IsExplained hierarchy_file (Some trace_file) (Some plan_file) (explained.Fault (tool.PlanText fault))
 plan_is_refused hierarchy_file trace_file plan_file layout trace fault other is_layout is_trace told =

@@ -3,7 +3,7 @@ use Rattle.std.proofs.Common.{◌≡◌, ℕ, List, Option, Some, None, Result, 
 use Rattle.waff_model.specs.Layout.{Hierarchy}
 use Rattle.waff_model.specs.Messages.{Arrivals}
 use Rattle.waff_read.specs.Hierarchies.{hierarchy_of}
-use Rattle.waff_read.specs.Traces.{trace_of}
+use Rattle.waff_inputs.specs.Known.{trace_of}
 use Rattle.waff_read.specs.declared.hier_error.HierError.{HierError}
 use Rattle.waff_read.specs.declared.trace_fault.TraceError.{TraceError}
 use Rattle.waff_inputs.specs.declared.fault.ToolError.TheVariants as tool
@@ -31,12 +31,9 @@ hierarchy_is : (hierarchy_file : List ℕ) (e : Explained) → OfHierarchy hiera
 hierarchy_is hierarchy_file explained.Well p = ap of_hierarchy p.1
 hierarchy_is hierarchy_file (explained.Fault (tool.Hier file fault)) p =
     ap of_hierarchy p.1.1 ∙ ap (λ f. explained.Fault (tool.Hier f fault)) (sym p.1.0)
-hierarchy_is hierarchy_file (explained.Fault (tool.Trace fault)) p = absurd p.1
-hierarchy_is hierarchy_file (explained.Fault (tool.PlanText fault)) p = absurd p.1
-hierarchy_is hierarchy_file (explained.Fault tool.SpacesDiffer) p = absurd p.1
-hierarchy_is hierarchy_file (explained.Fault tool.ModelsSame) p = absurd p.1
 hierarchy_is hierarchy_file (explained.Fault tool.Write) p = absurd p.0
 hierarchy_is hierarchy_file (explained.Fault tool.Memory) p = absurd p.0
+hierarchy_is hierarchy_file (explained.Fault error) p = absurd p.1
 hierarchy_is hierarchy_file (explained.Verdict v) p = absurd p
 
 trace_is : (hierarchy_file trace_file : List ℕ) (e : Explained) → OfTrace hierarchy_file trace_file e
@@ -45,11 +42,9 @@ trace_is hierarchy_file trace_file explained.Well p = ap (of_both trace_file) p.
 trace_is hierarchy_file trace_file (explained.Fault (tool.Hier file fault)) p =
     ap (of_both trace_file) p.1.1 ∙ ap (λ f. explained.Fault (tool.Hier f fault)) (sym p.1.0)
 trace_is hierarchy_file trace_file (explained.Fault (tool.Trace fault)) p = ap (of_both trace_file) p.1.1 ∙ ap of_trace p.1.2
-trace_is hierarchy_file trace_file (explained.Fault (tool.PlanText fault)) p = absurd p.1
-trace_is hierarchy_file trace_file (explained.Fault tool.SpacesDiffer) p = absurd p.1
-trace_is hierarchy_file trace_file (explained.Fault tool.ModelsSame) p = absurd p.1
 trace_is hierarchy_file trace_file (explained.Fault tool.Write) p = absurd p.0
 trace_is hierarchy_file trace_file (explained.Fault tool.Memory) p = absurd p.0
+trace_is hierarchy_file trace_file (explained.Fault error) p = absurd p.1
 trace_is hierarchy_file trace_file (explained.Verdict v) p = absurd p
 
 plan_is_one : (hierarchy_file trace_file plan_file : List ℕ) (one other : Explained) → OfPlan hierarchy_file trace_file plan_file one

@@ -41,6 +41,7 @@ first_begins (explained.Fault tool.SpacesDiffer) = refl
 first_begins (explained.Fault tool.ModelsSame) = refl
 first_begins (explained.Fault tool.Write) = refl
 first_begins (explained.Fault tool.Memory) = refl
+first_begins (explained.Fault tool.TooManyCells) = refl
 first_begins (explained.Verdict (verdict.Overlap first second)) = refl
 first_begins (explained.Verdict (verdict.TooManyAt tick)) = refl
 first_begins (explained.Verdict (verdict.Worker message)) = refl

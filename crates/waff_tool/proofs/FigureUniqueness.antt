@@ -1,5 +1,5 @@
 -- Of the same bytes there is one sweep, and one text of where the time goes.
-use Rattle.std.proofs.Common.{◌≡◌, ℕ, ◌<◌, Bool, true, false, List, ◌∷◌, map, length, get_or, Some, None, arith, sym, ◌∙◌, ap, subst}
+use Rattle.std.proofs.Common.{◌≡◌, ℕ, ◌<◌, List, ◌∷◌, map, length, get_or, Some, None, arith, sym, ◌∙◌, ap, subst}
 use Rattle.std.proofs.lemmas.List.{same_lists, get_or-map, length-map}
 use Rattle.std.proofs.lemmas.Option.{same_Some}
 use Rattle.waff_assign.specs.Instance.{Instance, before_in}
@@ -21,6 +21,8 @@ use Rattle.waff_figures.specs.ByName.{message_names, names_lines}
 use Rattle.waff_figures.specs.Figures.{AreFigures}
 use Rattle.waff_figures.specs.Sweep.{AreListed, IsListed, sweep_lines}
 use Rattle.waff_figures.specs.declared.figures.Figures.{Figures}
+use Rattle.waff_figures.specs.declared.grouping.Grouping.{Grouping}
+use Rattle.waff_figures.specs.declared.grouping.Grouping.TheVariants.{Affinity, Name}
 use Rattle.waff_figures.proofs.FigureLaws.{figures_are_one}
 use Rattle.waff_figures.proofs.AddingUp.{cost_below_is_one}
 use Rattle.waff_figures.proofs.RowLemmas.{map_range_same}
@@ -121,10 +123,10 @@ module _ (instance : Instance) (forward : IsForward (before_in instance) (work_o
       let chains = printed_is_one (before_in instance) work forward (start_of p.starts) (start_of q.starts) p.chain q.chain same p.certified.printed q.certified.printed in
       p.lines ∙ ap (λ c. text_of (names_lines (message_names instance.trace.messages) work c)) chains ∙ sym q.lines
 
-  where_is_one : (by_name : Bool) (text other : List ℕ) → TellsWhere by_name instance text → TellsWhere by_name instance other → text ≡ other
-  where_is_one false text other p q = affinities_are_one text other p q
-  where_is_one true text other p q = names_are_one text other p q
+  where_is_one : (grouping : Grouping) (text other : List ℕ) → TellsWhere grouping instance text → TellsWhere grouping instance other → text ≡ other
+  where_is_one Affinity text other p q = affinities_are_one text other p q
+  where_is_one Name text other p q = names_are_one text other p q
 
-pub where_text_is_one : (hierarchy_file trace_file : List ℕ) (by_name : Bool) → WhereTextIsOne hierarchy_file trace_file by_name
-where_text_is_one hierarchy_file trace_file by_name = told_is_one (TellsWhere by_name) hierarchy_file trace_file
-    (λ i accepts. where_is_one i (goes_forward hierarchy_file trace_file i accepts) by_name)
+pub where_text_is_one : (hierarchy_file trace_file : List ℕ) (grouping : Grouping) → WhereTextIsOne hierarchy_file trace_file grouping
+where_text_is_one hierarchy_file trace_file grouping = told_is_one (TellsWhere grouping) hierarchy_file trace_file
+    (λ i accepts. where_is_one i (goes_forward hierarchy_file trace_file i accepts) grouping)

@@ -13,6 +13,7 @@ mod OwnPlanLaws
 mod RankLaws
 mod RankLemmas
 mod RateLaws
+mod ReplayRefusals
 mod ResultLemmas
 mod StateLines
 mod TextUniqueness

@@ -10,6 +10,7 @@ use Rattle.std.proofs.lemmas.List.Sums.{sum_by-cons}
 use Rattle.std.proofs.lemmas.Option.{slice_get-get_or}
 use Rattle.std.proofs.Math.Nat.{mul-le-mul}
 use Rattle.waff_model.specs.Messages.{Arrivals, IsMessage, IsTrace}
+use Rattle.waff_model.proofs.TraceLemmas.{few_messages}
 use Rattle.waff_model.specs.Names.{is_name}
 use Rattle.waff_model.specs.Tree.{Node, name_of}
 use Rattle.waff_model.specs.declared.limits.TheConstants.{MAX_COST, MAX_MESSAGES, MAX_RELEASE, MAX_TICK, MAX_WORKERS}
@@ -25,7 +26,7 @@ use Rattle.waff_assign.proofs.Knowing.{affinity_known}
 use Rattle.waff_plan.specs.Bound.{IsWorkers, left_side, right_side}
 use Rattle.waff_plan.specs.Chain.{IsChain, IsListed, chain_cost, chain_release}
 use Rattle.waff_plan.specs.Instances.{work_of_instance}
-use Rattle.waff_plan.specs.Obeys.{IsForward}
+use Rattle.waff_plan.specs.Obeys.{FollowsNone, IsForward}
 use Rattle.waff_plan.specs.Timetable.{timings_of, work_of_messages}
 use Rattle.waff_plan.specs.Timing.{no_timing, start_of, timing_of}
 use Rattle.waff_plan.specs.Totals.{totals_of}
@@ -35,6 +36,7 @@ use Rattle.waff_plan.specs.declared.timing.Timing.{Timing}
 use Rattle.waff_plan.proofs.Chains.{chains_are_within_length}
 use Rattle.waff_plan.proofs.Linkings.{chain_is_few, chain_is_numbers}
 use Rattle.waff_plan.proofs.Longest.{finish_of-le-length_of}
+use Rattle.waff_plan.proofs.NoClients.{chain_release_is_first}
 use Rattle.waff_plan.proofs.Ratios.{bound_is_within_ratio, bound_is_within_twice}
 use Rattle.waff_plan.proofs.Ticks.{sum_by-numbers-le}
 use Rattle.waff_list.specs.Seating.{worker_of}
@@ -50,13 +52,14 @@ use Rattle.waff_plan_text.specs.Lines.{text_of}
 use Rattle.waff_plan_text.specs.Spelling.{no_worker, plan_lines, seat_of}
 use Rattle.waff_plan_text.proofs.WrittenPlans.{written_is_read}
 use Rattle.waff_check.specs.Promises.{AreOneAtATime}
-use Rattle.waff_check.specs.Verdicts.{IsVerdict}
+use Rattle.waff_check.specs.Verdicts.{IsVerdict, claim_of}
 use Rattle.waff_check.specs.declared.verdict.Verdict.{Verdict}
 use Rattle.waff_check.specs.declared.verdict.Verdict.TheVariants as verdict
 use Rattle.waff_check.proofs.OwnLaws.{own_plan_is_shortest, own_plan_is_within_bound}
 use Rattle.waff_check.proofs.PromiseLaws.{promises}
-use Rattle.waff_tool.specs.CheckText.{AcceptsPlan, IsCheckText, claim_on}
+use Rattle.waff_tool.specs.CheckText.{AcceptsPlan, IsCheckText}
 use Rattle.waff_inputs.specs.Inputs as inputs
+use Rattle.waff_inputs.specs.Known.{newest}
 use Rattle.waff_tool.specs.PlanText.{TellsLeastPlan, TellsWorkerPlan}
 use Rattle.waff_tool.specs.OwnPlans.{OwnPlanPasses, OwnWorkerPlanPasses}
 use Rattle.waff_tool.proofs.TextUniqueness.{goes_forward}
@@ -67,10 +70,11 @@ record IsModest (version : Version) (work : Work) : Type 0 where
   some_cost : (m : ℕ) → IsNumber work m → 1 ≤ work.cost m
   cost : (m : ℕ) → IsNumber work m → work.cost m ≤ MAX_COST
   release : (m : ℕ) → IsNumber work m → work.release m ≤ MAX_RELEASE
+  alone : FollowsNone work
   no_release : version ≡ V1 → (m : ℕ) → IsNumber work m → work.release m ≡ 0
 
 nobody : Message
-nobody = record { name = []; cost = 0; release = 0; ops = [] }
+nobody = record { name = []; cost = 0; release = 0; client = []; think = 0; ops = [] }
 
 timing_told : Message → Timing
 timing_told message = record { cost = message.cost; release = message.release }
@@ -96,10 +100,11 @@ module _ (trace : Arrivals) (within : IsTrace trace) where
   modest : IsModest trace.version (work_of_messages trace.messages)
   unfolding timing_told
   modest = record {
-    few = omega (arith, count_is, within.few);
+    few = omega (arith, count_is, few_messages trace within);
     some_cost = λ m number. let h = message_at m number in subst (λ (t : Timing). 1 ≤ t.cost) (sym (timing_at m number)) h.some_cost;
     cost = λ m number. let h = message_at m number in subst (λ (t : Timing). t.cost ≤ MAX_COST) (sym (timing_at m number)) h.within_cost;
     release = λ m number. let h = message_at m number in subst (λ (t : Timing). t.release ≤ MAX_RELEASE) (sym (timing_at m number)) h.within_release;
+    alone = λ m. refl;
     no_release = λ first m number. let h = message_at m number in subst (λ (t : Timing). t.release ≡ 0) (sym (timing_at m number)) (h.no_release first);
   }
 
@@ -128,11 +133,12 @@ module _ (version : Version) (before : Relation) (work : Work) (modest : IsModes
 
   release_of : (chain : List ℕ) → All (IsNumber work) chain → chain_release work chain ≤ MAX_RELEASE
   release_of [] numbers = omega arith
-  release_of (m ∷ rest) numbers = modest.release m (All-head (IsNumber work) m rest numbers)
+  release_of (m ∷ rest) numbers = omega (arith, chain_release_is_first work modest.alone m rest, modest.release m (All-head (IsNumber work) m rest numbers))
 
   no_release_of : version ≡ V1 → (chain : List ℕ) → All (IsNumber work) chain → chain_release work chain ≡ 0
   no_release_of first [] numbers = refl
-  no_release_of first (m ∷ rest) numbers = modest.no_release first m (All-head (IsNumber work) m rest numbers)
+  no_release_of first (m ∷ rest) numbers =
+      chain_release_is_first work modest.alone m rest ∙ modest.no_release first m (All-head (IsNumber work) m rest numbers)
 
   chain_release_within : chain_release work chain ≤ MAX_RELEASE
   chain_release_within = release_of chain (chain_is_numbers before work chain is_chain)
@@ -309,7 +315,7 @@ lines_in instance workers start worker chain =
 -- what was accepted
 module _ (hierarchy_file trace_file : List ℕ) (instance : Instance) (accepts : inputs.Accepts hierarchy_file trace_file instance) where
   is_trace : IsTrace instance.trace
-  is_trace = trace_is_within_limits accepts.layout.spaces trace_file instance.trace accepts.is_trace
+  is_trace = trace_is_within_limits newest accepts.layout.spaces trace_file instance.trace accepts.is_trace
 
   within_limits : IsModest instance.trace.version (work_of_instance instance)
   within_limits = modest instance.trace is_trace
@@ -323,7 +329,7 @@ module _ (hierarchy_file trace_file : List ℕ) (instance : Instance) (accepts :
       let from : 1 ≤ n = number.from in
       let to : n ≤ (work_of_instance instance).count = number.to in
       let layout = accepts.layout in
-      let reads = (trace_is_exact layout.spaces trace_file instance.trace).0 accepts.is_trace in
+      let reads = (trace_is_exact newest layout.spaces trace_file instance.trace).0 accepts.is_trace in
       let a = affinity_of instance.assigned n in
       let no_node : Node = record { name = []; parent = None } in
       let known = affinity_known layout (layout_is_within_limits hierarchy_file layout accepts.is_layout) instance.trace instance.assigned is_trace reads.sizes accepts.assignment n from
@@ -348,12 +354,12 @@ module _ (hierarchy_file trace_file : List ℕ) (instance : Instance) (accepts :
   -- and a verdict on it is what the check prints
   checked : (text : List ℕ) (workers : Option ℕ) (start : ℕ → ℕ) (worker : ℕ → Option ℕ) (chain : List ℕ) → IsChain (before_in instance) (work_of_instance instance) chain
       → IsFit instance workers start worker chain → AcceptsPlan hierarchy_file trace_file text instance (plan_in instance workers start worker chain)
-      → (v : Verdict) → IsVerdict (claim_on instance (plan_in instance workers start worker chain)) v → IsCheckText hierarchy_file trace_file text v
+      → (v : Verdict) → IsVerdict (claim_of instance (plan_in instance workers start worker chain)) v → IsCheckText hierarchy_file trace_file text v
   checked text workers start worker chain is_chain can read v is =
       let before = before_in instance in
       let work = work_of_instance instance in
       let plan = plan_in instance workers start worker chain in
-      let claim = claim_on instance plan in
+      let claim = claim_of instance plan in
       let given = given_of instance.trace.version before work within_limits forward chain is_chain instance.tree instance.assigned workers start worker can in
       let rows = length-map-range_with_len (row_told instance.tree instance.assigned work start worker) 1 work.count ∙ count_is instance.trace is_trace in
       record {
@@ -426,7 +432,7 @@ own_plan_passes hierarchy_file trace_file text p =
     let is_chain = told.certified.is_chain in
     checked hierarchy_file trace_file i p.accepts text None (start_of told.starts) no_worker told.chain is_chain
     (own_plan_fits hierarchy_file trace_file i p.accepts text told) (own_plan_read hierarchy_file trace_file i p.accepts text told) verdict.Shortest
-    (own_plan_is_shortest i.tree i.assigned i.trace.messages i.trace.version (start_of told.starts) told.chain p.accepts.assignment.count
+    (own_plan_is_shortest i (start_of told.starts) told.chain p.accepts.assignment.count
     told.certified.least.obeys is_chain told.certified.as_long)
 
 pub own_worker_plan_passes : (rule : Rule) (hierarchy_file trace_file : List ℕ) (k : ℕ) (text : List ℕ) → OwnWorkerPlanPasses rule hierarchy_file trace_file k text
@@ -438,7 +444,7 @@ own_worker_plan_passes rule hierarchy_file trace_file k text workers p =
     let list = by.1 in
     let passes = checked hierarchy_file trace_file i p.accepts text (Some k) (start_of told.starts) (seat_of told.workers) told.chain is_chain
     (own_worker_plan_fits hierarchy_file trace_file i p.accepts rule k text workers told) (own_worker_plan_read hierarchy_file trace_file i p.accepts rule k text workers told) in
-    elim (own_plan_is_within_bound i.tree i.assigned i.trace.messages i.trace.version k (start_of told.starts) (seat_of told.workers) told.chain
+    elim (own_plan_is_within_bound i k (start_of told.starts) (seat_of told.workers) told.chain
     p.accepts.assignment.count list.within (crew_of hierarchy_file trace_file i p.accepts rule k text told) is_chain told.bounded.bound) [
       | inl shortest ↦ inl (passes verdict.Shortest shortest)
       | inr within ↦ inr (passes verdict.WithinBound within)

@@ -124,23 +124,15 @@ no_hierarchy files number fault p are = not_both (file_at files p.at) fault (are
 pub rank_refusal_is_one : (files : List (List ℕ)) (trace_file : List ℕ) → RankRefusalIsOne files trace_file
 rank_refusal_is_one files trace_file (tool.Hier number fault) (tool.Hier other more) tells also p q = refused_is_one files number other fault more p q
 rank_refusal_is_one files trace_file (tool.Hier number fault) (tool.Trace more) tells also p q = absurd (no_hierarchy files number fault p q.hierarchies)
-rank_refusal_is_one files trace_file (tool.Hier number fault) (tool.PlanText more) tells also p q = absurd q
-rank_refusal_is_one files trace_file (tool.Hier number fault) tool.SpacesDiffer tells also p q = absurd q
-rank_refusal_is_one files trace_file (tool.Hier number fault) tool.ModelsSame tells also p q = absurd q
-rank_refusal_is_one files trace_file (tool.Hier number fault) tool.Write tells also p q = absurd also
-rank_refusal_is_one files trace_file (tool.Hier number fault) tool.Memory tells also p q = absurd also
 rank_refusal_is_one files trace_file (tool.Trace fault) (tool.Hier other more) tells also p q = absurd (no_hierarchy files other more q p.hierarchies)
 rank_refusal_is_one files trace_file (tool.Trace fault) (tool.Trace more) tells also p q = refuted_is_one files trace_file fault more p q
-rank_refusal_is_one files trace_file (tool.Trace fault) (tool.PlanText more) tells also p q = absurd q
-rank_refusal_is_one files trace_file (tool.Trace fault) tool.SpacesDiffer tells also p q = absurd q
-rank_refusal_is_one files trace_file (tool.Trace fault) tool.ModelsSame tells also p q = absurd q
-rank_refusal_is_one files trace_file (tool.Trace fault) tool.Write tells also p q = absurd also
-rank_refusal_is_one files trace_file (tool.Trace fault) tool.Memory tells also p q = absurd also
-rank_refusal_is_one files trace_file (tool.PlanText fault) other tells also p q = absurd p
-rank_refusal_is_one files trace_file tool.SpacesDiffer other tells also p q = absurd p
-rank_refusal_is_one files trace_file tool.ModelsSame other tells also p q = absurd p
+rank_refusal_is_one files trace_file one tool.Write tells also p q = absurd also
+rank_refusal_is_one files trace_file one tool.Memory tells also p q = absurd also
 rank_refusal_is_one files trace_file tool.Write other tells also p q = absurd tells
 rank_refusal_is_one files trace_file tool.Memory other tells also p q = absurd tells
+rank_refusal_is_one files trace_file (tool.Hier number fault) other tells also p q = absurd q
+rank_refusal_is_one files trace_file (tool.Trace fault) other tells also p q = absurd q
+rank_refusal_is_one files trace_file one other tells also p q = absurd p
 
 -- files that admit the trace are refused for nothing
 none_refused : (files : List (List ℕ)) (trace_file : List ℕ) (error : ToolError) → TellsOfFiles error → All (Admits trace_file) files
@@ -149,11 +141,9 @@ none_refused files trace_file (tool.Hier number fault) tells admit p =
     let (layout, trace, read, is) = admit p.at [] p.within in
     not_both (file_at files p.at) fault (layout, read) p.refused
 none_refused files trace_file (tool.Trace fault) tells admit p = not_either trace_file fault (file_at files p.at) (admit p.at [] p.within) p.refuted
-none_refused files trace_file (tool.PlanText fault) tells admit p = p
-none_refused files trace_file tool.SpacesDiffer tells admit p = p
-none_refused files trace_file tool.ModelsSame tells admit p = p
 none_refused files trace_file tool.Write tells admit p = absurd tells
 none_refused files trace_file tool.Memory tells admit p = absurd tells
+none_refused files trace_file error tells admit p = p
 
 pub ranked_is_not_refused : (rule : Rule) (files : List (List ℕ)) (trace_file : List ℕ) → RankedIsNotRefused rule files trace_file
 ranked_is_not_refused rule files trace_file k text error ranked tells refused =

@@ -72,12 +72,8 @@ first_refused files trace_file i number (tool.Hier file fault) is inside before 
   before = before;
   refused = refused.1;
 }
-first_refused files trace_file i number (tool.Trace fault) is inside before refused = absurd refused
-first_refused files trace_file i number (tool.PlanText fault) is inside before refused = absurd refused
-first_refused files trace_file i number tool.SpacesDiffer is inside before refused = absurd refused
-first_refused files trace_file i number tool.ModelsSame is inside before refused = absurd refused
-first_refused files trace_file i number tool.Write is inside before refused = absurd refused
 first_refused files trace_file i number tool.Memory is inside before refused = tt
+first_refused files trace_file i number error is inside before refused = absurd refused
 
 -- the first of hierarchies under which the trace is refused
 pub first_refuted : (files : List (List ℕ)) (trace_file : List ℕ) (i : ℕ) (layout : Hierarchy) (error : ToolError) → All IsHierarchy files → i < length files
@@ -91,11 +87,9 @@ first_refuted files trace_file i layout (tool.Trace fault) are inside before rea
   before = before;
   refuted = refused;
 }
-first_refuted files trace_file i layout (tool.PlanText fault) are inside before read refused = absurd refused
-first_refuted files trace_file i layout tool.SpacesDiffer are inside before read refused = absurd refused
-first_refuted files trace_file i layout tool.ModelsSame are inside before read refused = absurd refused
 first_refuted files trace_file i layout tool.Write are inside before read refused = tt
 first_refuted files trace_file i layout tool.Memory are inside before read refused = tt
+first_refuted files trace_file i layout error are inside before read refused = absurd refused
 
 -- one line more
 rows_push : (n : ℕ) (ranks : List Ranked) (ranked : Ranked) → rank_rows n (ranks ++ ranked ∷ []) ≡ rank_rows n ranks ++ rank_row (n + length ranks) ranked ∷ []

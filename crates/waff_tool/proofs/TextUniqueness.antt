@@ -7,7 +7,7 @@ use Rattle.waff_model.specs.Tree.{IsTree}
 use Rattle.waff_model.specs.declared.kind.Kind.{Kind}
 use Rattle.waff_model.specs.declared.kind.Kind.TheVariants as kind
 use Rattle.waff_read.specs.Hierarchies.{hierarchy_of}
-use Rattle.waff_read.specs.Traces.{trace_of}
+use Rattle.waff_inputs.specs.Known.{newest, trace_of}
 use Rattle.waff_read.proofs.LimitLaws.{trace_is_within_limits}
 use Rattle.waff_assign.specs.Instance.{Instance, before_in}
 use Rattle.waff_assign.specs.Order.{IsOrdered, Refines}
@@ -43,7 +43,7 @@ use Rattle.waff_tool.proofs.LineLaws.{lines_same}
 -- each message of a trace that is read runs
 pub trace_runs : (layout : Hierarchy) (file : List ℕ) (trace : Arrivals) → trace_of layout.spaces file ≡ Ok trace → EachRuns (work_of_messages trace.messages)
 trace_runs layout file trace read =
-    let small = trace_is_small trace (trace_is_within_limits layout.spaces file trace read) in
+    let small = trace_is_small trace (trace_is_within_limits newest layout.spaces file trace read) in
     small.some_cost
 
 -- an instance that is accepted

@@ -3,12 +3,12 @@ use Rattle.std.specs.Prelude.{◌≡◌, ℕ, List, [], ◌∷◌, length, Ok, E
 use Rattle.waff_model.specs.Layout.{Hierarchy}
 use Rattle.waff_model.specs.Messages.{Arrivals}
 use Rattle.waff_read.specs.Hierarchies.{hierarchy_of}
-use Rattle.waff_read.specs.Traces.{trace_of}
+use Rattle.waff_inputs.specs.Known.{trace_of}
 use Rattle.waff_assign.specs.Instance.{Instance}
 use Rattle.waff_plan_text.specs.Given.{Given}
 use Rattle.waff_plan_text.specs.PlanTexts.{plan_of}
 use Rattle.waff_check.specs.Promises.{Promises}
-use Rattle.waff_check.specs.Verdicts.{Claim, IsVerdict, claim_of}
+use Rattle.waff_check.specs.Verdicts.{IsVerdict, claim_of}
 use Rattle.waff_plan_text.specs.declared.refusal.PlanTextError.{PlanTextError}
 use Rattle.waff_check.specs.declared.verdict.Verdict.{Verdict}
 use Rattle.waff_check.specs.declared.verdict.Verdict.TheVariants as verdict
@@ -50,18 +50,13 @@ pub record AcceptsPlan (hierarchy_file trace_file plan_file : List ℕ) (instanc
   pub is_plan : plan_of instance.trace.version (length instance.trace.messages) plan_file
       ≡ Ok given
 
--- the claim that is made by handing in a plan for an instance
-abbrev pub claim_on : Instance → Given → Claim
-claim_on instance given =
-    claim_of instance.tree instance.assigned instance.trace.messages given
-
 -- the verdict on the plan of a text, and what the verdict implies
 pub record IsCheckText (hierarchy_file trace_file plan_file : List ℕ) (v : Verdict) : Type 0 where
   pub instance : Instance
   pub given : Given
   pub accepts : AcceptsPlan hierarchy_file trace_file plan_file instance given
-  pub verdict : IsVerdict (claim_on instance given) v
-  pub promises : Promises (claim_on instance given) v
+  pub verdict : IsVerdict (claim_of instance given) v
+  pub promises : Promises (claim_of instance given) v
 
 -- the hierarchy and the trace are accepted, and the text of the plan is refused
 pub record RefusesPlan (hierarchy_file trace_file plan_file : List ℕ)

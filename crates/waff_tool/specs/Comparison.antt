@@ -6,9 +6,9 @@ use Rattle.waff_model.specs.Messages.{Arrivals}
 use Rattle.waff_model.specs.declared.kind.Kind.{Kind}
 use Rattle.waff_model.specs.declared.kind.Kind.TheVariants as kind
 use Rattle.waff_model.specs.declared.message.Version.{Version}
-use Rattle.waff_model.specs.declared.message.Version.TheVariants.{V1, V2}
+use Rattle.waff_model.specs.declared.message.Version.TheVariants.{V1, V2, V3}
 use Rattle.waff_read.specs.Hierarchies.{hierarchy_of}
-use Rattle.waff_read.specs.Traces.{trace_of}
+use Rattle.waff_inputs.specs.Known.{trace_of}
 use Rattle.waff_assign.specs.Lowest.{IsAssignment}
 use Rattle.waff_assign.specs.Order.{IsOrdered, Refines, Relation}
 use Rattle.waff_plan.specs.Timetable.{work_of_messages}
@@ -59,12 +59,17 @@ measures_header V2 =
     codes "model" ∷ codes "length" ∷ codes "release"
     ∷ codes "chain" ∷ codes "list" ∷ codes "listrelease" ∷ codes "listchain"
     ∷ codes "left" ∷ codes "right" ∷ []
+measures_header V3 =
+    codes "model" ∷ codes "length" ∷ codes "release"
+    ∷ codes "chain" ∷ codes "list" ∷ codes "listrelease" ∷ codes "listchain"
+    ∷ codes "left" ∷ codes "right" ∷ []
 
 -- what is told of a plan: its length, and the release and the cost of its printed chain; a trace of
 -- the first version has no releases
 abbrev pub plan_fields : Version → Totals → List (List ℕ)
 plan_fields V1 plan = decimal plan.length ∷ decimal plan.cost ∷ []
 plan_fields V2 plan = decimal plan.length ∷ decimal plan.release ∷ decimal plan.cost ∷ []
+plan_fields V3 plan = decimal plan.length ∷ decimal plan.release ∷ decimal plan.cost ∷ []
 
 -- the line of a hierarchy
 abbrev pub measured_line : Version → Measured → List (List ℕ)

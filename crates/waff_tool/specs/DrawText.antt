@@ -21,8 +21,7 @@ pub record IsDrawText (hierarchy_file trace_file plan_file : List ℕ)
   pub instance : Instance
   pub given : Given
   pub accepts : AcceptsPlan hierarchy_file trace_file plan_file instance given
-  pub drawn : text ≡ picture_of picture
-      (scene_of instance.tree instance.assigned instance.trace.messages given part)
+  pub drawn : text ≡ picture_of picture (scene_of instance given part)
 
 -- two pictures of a part of a plan text of a hierarchy and a trace are equal
 abbrev pub DrawTextIsOne : List ℕ → List ℕ → List ℕ → Picture → Part → Type 0

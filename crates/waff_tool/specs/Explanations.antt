@@ -4,7 +4,7 @@ use Rattle.std.specs.Prelude.{◌≡◌, ◌≢◌, ℕ, List, [], ◌∷◌, �
 use Rattle.waff_model.specs.Layout.{Hierarchy}
 use Rattle.waff_model.specs.Messages.{Arrivals}
 use Rattle.waff_read.specs.Hierarchies.{hierarchy_of}
-use Rattle.waff_read.specs.Traces.{trace_of}
+use Rattle.waff_inputs.specs.Known.{trace_of}
 use Rattle.waff_tool.specs.CheckText.{IsCheckText, RefusesCheck, status_after, verdict_text}
 use Rattle.waff_inputs.specs.Inputs.{Refuses, RefusesHierarchy, TellsOfFiles}
 use Rattle.waff_inputs.specs.Fault.{fault_line, status_of}

@@ -1,6 +1,6 @@
 -- What the sweep over numbers of workers prints for the bytes of its files, and what tells where
 -- the time goes.
-use Rattle.std.specs.Prelude.{◌≡◌, ℕ, Bool, true, false, List, None}
+use Rattle.std.specs.Prelude.{◌≡◌, ℕ, List, None}
 use Rattle.waff_assign.specs.Instance.{Instance, before_in}
 use Rattle.waff_plan.specs.Obeys.{IsLeast}
 use Rattle.waff_plan.specs.Instances.{work_of_instance}
@@ -15,6 +15,8 @@ use Rattle.waff_figures.specs.Least.{IsLowerBound}
 use Rattle.waff_figures.specs.Laws.{ChainAddsUp, CostsAddUp, NamesAddUp}
 use Rattle.waff_figures.specs.Sweep.{AreListed, sweep_lines}
 use Rattle.waff_figures.specs.declared.figures.Figures.{Figures}
+use Rattle.waff_figures.specs.declared.grouping.Grouping.{Grouping}
+use Rattle.waff_figures.specs.declared.grouping.Grouping.TheVariants.{Affinity, Name}
 use Rattle.waff_inputs.specs.Inputs.{IsToldOf}
 use Rattle.waff_tool.specs.Certificates.{IsCertified}
 
@@ -65,14 +67,14 @@ pub record TellsNames (instance : Instance) (text : List ℕ) : Type 0 where
       (work_of_instance instance) chain)
 
 -- the text of where the time goes, by affinity or by name
-abbrev pub TellsWhere : Bool → Instance → List ℕ → Type 0
-TellsWhere false instance text = TellsAffinities instance text
-TellsWhere true instance text = TellsNames instance text
+abbrev pub TellsWhere : Grouping → Instance → List ℕ → Type 0
+TellsWhere Affinity instance text = TellsAffinities instance text
+TellsWhere Name instance text = TellsNames instance text
 
 -- that of a hierarchy and a trace
-abbrev pub IsWhereText : List ℕ → List ℕ → Bool → List ℕ → Type 0
-IsWhereText hierarchy_file trace_file by_name text =
-    IsToldOf (TellsWhere by_name) hierarchy_file trace_file text
+abbrev pub IsWhereText : List ℕ → List ℕ → Grouping → List ℕ → Type 0
+IsWhereText hierarchy_file trace_file grouping text =
+    IsToldOf (TellsWhere grouping) hierarchy_file trace_file text
 
 -- two texts of a sweep of a hierarchy and a trace by the same rule for the same numbers of workers
 -- are equal
@@ -83,7 +85,7 @@ SweepTextIsOne rule hierarchy_file trace_file workers =
     → text ≡ other
 
 -- two texts of where the time of a hierarchy and a trace goes are equal
-abbrev pub WhereTextIsOne : List ℕ → List ℕ → Bool → Type 0
-WhereTextIsOne hierarchy_file trace_file by_name =
-    (text other : List ℕ) → IsWhereText hierarchy_file trace_file by_name text
-    → IsWhereText hierarchy_file trace_file by_name other → text ≡ other
+abbrev pub WhereTextIsOne : List ℕ → List ℕ → Grouping → Type 0
+WhereTextIsOne hierarchy_file trace_file grouping =
+    (text other : List ℕ) → IsWhereText hierarchy_file trace_file grouping text
+    → IsWhereText hierarchy_file trace_file grouping other → text ≡ other

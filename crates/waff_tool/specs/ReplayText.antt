@@ -1,17 +1,20 @@
 -- What a replay prints: a header, and a line for each cell whose number is not 0.
-use Rattle.std.specs.Prelude.{◌≡◌, ℕ, ◌==◌, Bool, not, List, [], ◌∷◌, Ok, length, map, codes}
+use Rattle.std.specs.Prelude.{◌≡◌, ℕ, ◌==◌, Bool, not, List, [], ◌∷◌, Ok, Err, length, map, codes}
 use Rattle.std.specs.Prelude.{decimal}
 use Rattle.std.specs.List.{filter}
-use Rattle.waff_model.specs.Layout.{Hierarchy, Space}
+use Rattle.waff_model.specs.Layout.{Hierarchy, HasFewCells, Space}
 use Rattle.waff_model.specs.Messages.{Arrivals}
 use Rattle.waff_model.specs.declared.cell.Cell.{Cell}
 use Rattle.waff_read.specs.Hierarchies.{hierarchy_of}
 use Rattle.waff_read.specs.Spellings.{cell_spelled}
-use Rattle.waff_read.specs.Traces.{trace_of}
+use Rattle.waff_inputs.specs.Known.{trace_of}
 use Rattle.waff_cells.specs.InOrder.{all_cells}
 use Rattle.waff_cells.specs.Meaning.{Cells}
 use Rattle.waff_cells.specs.Serial.{operations, serial}
 use Rattle.waff_plan_text.specs.Lines.{text_of}
+use Rattle.waff_inputs.specs.Inputs.{Refuses}
+use Rattle.waff_inputs.specs.declared.fault.ToolError.{ToolError}
+use Rattle.waff_inputs.specs.declared.fault.ToolError.TheVariants as tool
 
 -- the header
 abbrev pub state_header : List (List ℕ)
@@ -37,11 +40,22 @@ state_lines spaces cells = state_header ∷ cell_lines spaces cells (all_cells s
 abbrev pub state_after : Arrivals → Cells
 state_after trace = serial (operations trace.messages) (length trace.messages)
 
--- the text of the state that a trace leaves under a hierarchy: that of arrival order, after all
--- messages
+-- the text of the state that a trace leaves under a hierarchy of few cells: that of arrival order,
+-- after all messages
 pub record IsReplayText (hierarchy_file trace_file text : List ℕ) : Type 0 where
   pub layout : Hierarchy
   pub trace : Arrivals
   pub is_layout : hierarchy_of hierarchy_file ≡ Ok layout
+  pub few : HasFewCells layout.spaces
   pub is_trace : trace_of layout.spaces trace_file ≡ Ok trace
   pub lines : text ≡ text_of (state_lines layout.spaces (state_after trace))
+
+-- an error tells why a replay refuses the files: where every command does, but a hierarchy of more
+-- cells than a replay keeps before the trace is read
+abbrev pub RefusesReplay : List ℕ → List ℕ → ToolError → Type 0
+RefusesReplay hierarchy_file trace_file (tool.Trace fault) =
+    (layout : Hierarchy) × (hierarchy_of hierarchy_file ≡ Ok layout) × HasFewCells layout.spaces
+    × (trace_of layout.spaces trace_file ≡ Err fault)
+RefusesReplay hierarchy_file trace_file tool.TooManyCells =
+    (layout : Hierarchy) × (hierarchy_of hierarchy_file ≡ Ok layout) × ¬ HasFewCells layout.spaces
+RefusesReplay hierarchy_file trace_file error = Refuses hierarchy_file trace_file error

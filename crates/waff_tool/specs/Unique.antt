@@ -9,7 +9,7 @@ use Rattle.waff_tool.specs.PlanText.{IsPlanTextFor}
 use Rattle.waff_tool.specs.Comparison.{IsCompareText, RefusesComparison}
 use Rattle.waff_check.specs.declared.verdict.Verdict.{Verdict}
 use Rattle.waff_tool.specs.CheckText.{IsCheckText, RefusesCheck}
-use Rattle.waff_tool.specs.ReplayText.{IsReplayText}
+use Rattle.waff_tool.specs.ReplayText.{IsReplayText, RefusesReplay}
 use Rattle.waff_tool.specs.Explanations.{IsExplained}
 use Rattle.waff_tool.specs.declared.explains.Explained.{Explained}
 
@@ -74,6 +74,20 @@ ReplayTextIsOne hierarchy_file trace_file =
     (text other : List ℕ) → IsReplayText hierarchy_file trace_file text
     → IsReplayText hierarchy_file trace_file other
     → text ≡ other
+
+-- two errors that tell why a replay refuses a hierarchy and a trace are equal
+abbrev pub ReplayRefusalIsOne : List ℕ → List ℕ → Type 0
+ReplayRefusalIsOne hierarchy_file trace_file =
+    (one other : ToolError) → TellsOfFiles one → TellsOfFiles other
+    → RefusesReplay hierarchy_file trace_file one
+    → RefusesReplay hierarchy_file trace_file other
+    → one ≡ other
+
+-- files that are replayed are refused for no error that tells of them
+abbrev pub ReplayedIsNotRefused : List ℕ → List ℕ → Type 0
+ReplayedIsNotRefused hierarchy_file trace_file =
+    (text : List ℕ) (error : ToolError) → IsReplayText hierarchy_file trace_file text
+    → TellsOfFiles error → ¬ RefusesReplay hierarchy_file trace_file error
 
 -- two faults or verdicts that are explained of one to three files are equal
 abbrev pub ExplainedIsOne : List ℕ → Option (List ℕ) → Option (List ℕ) → Type 0

@@ -1,5 +1,5 @@
 -- What `waits` prints for the bytes of its files.
-use Rattle.std.specs.Prelude.{◌≡◌, ℕ, Bool, List, [], ◌∷◌, ◌++◌, Option, Some, None, Contains, sum_by}
+use Rattle.std.specs.Prelude.{◌≡◌, ℕ, List, [], ◌∷◌, ◌++◌, Option, Some, None, Contains, sum_by}
 use Rattle.waff_assign.specs.Instance.{Instance, before_in}
 use Rattle.waff_assign.specs.Order.{Relation}
 use Rattle.waff_plan.specs.Obeys.{IsLeast}
@@ -15,6 +15,7 @@ use Rattle.waff_figures.specs.Waits.{AreWaits}
 use Rattle.waff_figures.specs.WaitRows.{AreRows}
 use Rattle.waff_figures.specs.WaitText.{are_alike, waits_lines}
 use Rattle.waff_figures.specs.declared.figures.Figures.{Figures}
+use Rattle.waff_figures.specs.declared.grouping.Grouping.{Grouping}
 use Rattle.waff_figures.specs.declared.wait_rows.Row.{Row}
 use Rattle.waff_figures.specs.declared.waits.Wait.{Wait}
 use Rattle.waff_inputs.specs.Inputs.{IsToldOf}
@@ -29,7 +30,7 @@ IsPlanFor rule before work (Some k) start = IsPlanBy rule before work k start
 -- the text of who waits for whom in the plan by this rule for this number of workers or without: a
 -- line for each kind of wait, by affinity or by name, whose ticks add up to how long all messages
 -- wait
-pub record TellsWaits (rule : Rule) (workers : Option ℕ) (by_name : Bool) (instance : Instance)
+pub record TellsWaits (rule : Rule) (workers : Option ℕ) (grouping : Grouping) (instance : Instance)
     (text : List ℕ) : Type 0 where
   pub starts : List ℕ
   pub waits : List Wait
@@ -39,29 +40,29 @@ pub record TellsWaits (rule : Rule) (workers : Option ℕ) (by_name : Bool) (ins
   pub are_waits : AreWaits (before_in instance)
       (work_of_instance instance) (start_of starts) waits
   pub are_rows : AreRows
-      (are_alike by_name instance.assigned (message_names instance.trace.messages)) waits rows
+      (are_alike grouping instance.assigned (message_names instance.trace.messages)) waits rows
   pub adds_up : sum_by (λ row. row.ticks) rows
       ≡ waits_of (work_of_instance instance) (start_of starts)
-  pub lines : text ≡ text_of (waits_lines by_name instance.tree instance.assigned
+  pub lines : text ≡ text_of (waits_lines grouping instance.tree instance.assigned
       (message_names instance.trace.messages) rows)
 
 -- that of a hierarchy and a trace
-abbrev pub IsWaitsText : Rule → List ℕ → List ℕ → Option ℕ → Bool → List ℕ → Type 0
-IsWaitsText rule hierarchy_file trace_file workers by_name text =
-    IsToldOf (TellsWaits rule workers by_name) hierarchy_file trace_file text
+abbrev pub IsWaitsText : Rule → List ℕ → List ℕ → Option ℕ → Grouping → List ℕ → Type 0
+IsWaitsText rule hierarchy_file trace_file workers grouping text =
+    IsToldOf (TellsWaits rule workers grouping) hierarchy_file trace_file text
 
 -- two texts of who waits for whom are equal
-abbrev pub WaitsTextIsOne : Rule → List ℕ → List ℕ → Option ℕ → Bool → Type 0
-WaitsTextIsOne rule hierarchy_file trace_file workers by_name =
-    (text other : List ℕ) → IsWaitsText rule hierarchy_file trace_file workers by_name text
-    → IsWaitsText rule hierarchy_file trace_file workers by_name other → text ≡ other
+abbrev pub WaitsTextIsOne : Rule → List ℕ → List ℕ → Option ℕ → Grouping → Type 0
+WaitsTextIsOne rule hierarchy_file trace_file workers grouping =
+    (text other : List ℕ) → IsWaitsText rule hierarchy_file trace_file workers grouping text
+    → IsWaitsText rule hierarchy_file trace_file workers grouping other → text ≡ other
 
 -- the ticks of all rows add up to the `waits` of each line of a sweep by the same rule that is for as
 -- many workers, or without
-abbrev pub WaitsAreSwept : Rule → List ℕ → List ℕ → Option ℕ → Bool → Type 0
-WaitsAreSwept rule hierarchy_file trace_file limit by_name =
+abbrev pub WaitsAreSwept : Rule → List ℕ → List ℕ → Option ℕ → Grouping → Type 0
+WaitsAreSwept rule hierarchy_file trace_file limit grouping =
     (workers text sweep : List ℕ) (line : Figures)
-    → (told : IsWaitsText rule hierarchy_file trace_file limit by_name text)
+    → (told : IsWaitsText rule hierarchy_file trace_file limit grouping text)
     → (swept : IsSweepText rule hierarchy_file trace_file workers sweep)
     → Contains (swept.told.listed ++ swept.told.unlimited ∷ []) line → line.workers ≡ limit
     → sum_by (λ row. row.ticks) told.told.rows ≡ line.waits

@@ -87,7 +87,7 @@ fn likely_messages(version: Version, plan: &[u8]) -> u32
     let lines = plan.iter().filter(|byte| **byte == b'\n').count();
     let others = match version {
         Version::V1 => 7,
-        Version::V2 => 8,
+        Version::V2 | Version::V3 => 8,
     };
     lines.saturating_sub(others).min(MAX_MESSAGES as usize) as u32
 }

@@ -3,11 +3,11 @@ ghost use Rattle.std.specs.Prelude.{◌≡◌, ◌≢◌, Ok, ℕ, List, IfOk, I
 ghost use Rattle.std.specs.Prelude.{string_bytes};
 ghost use Rattle.waff_assign.specs.Case.{instance_of};
 ghost use Rattle.waff_check.specs.Promises.{Promises};
-ghost use Rattle.waff_check.specs.Verdicts.{IsVerdict};
+ghost use Rattle.waff_check.specs.Verdicts.{IsVerdict, claim_of};
 ghost use Rattle.waff_inputs.specs.Deliveries.{Delivers, Makes};
 ghost use Rattle.waff_inputs.specs.Inputs.{Accepts};
 ghost use Rattle.waff_tool.specs.Ahead.{IsReadOf};
-ghost use Rattle.waff_tool.specs.CheckText.{IsCheckText, RefusesCheck, claim_on};
+ghost use Rattle.waff_tool.specs.CheckText.{IsCheckText, RefusesCheck};
 ghost use Rattle.waff_tool.specs.CheckText.{status_after, verdict_text};
 
 use crate::ahead::{ReadAhead, accept_beside, plan_read};
@@ -90,8 +90,8 @@ pub fn verdict_of<R: Threads + Sync>(
 ) -> Result<Verdict, AllocError>
     requires rows { length given.now.rows ≡ length case.now.trace.now.messages }
     requires version { given.now.version ≡ case.now.trace.now.version }
-    ensures verdict { IfOk result (IsVerdict (claim_on (instance_of case.now) given.now)) }
-    ensures promises { IfOk result (Promises (claim_on (instance_of case.now) given.now)) }
+    ensures verdict { IfOk result (IsVerdict (claim_of (instance_of case.now) given.now)) }
+    ensures promises { IfOk result (Promises (claim_of (instance_of case.now) given.now)) }
 {
     let verdict = check(rt, alloc, case.tree, case.assigned, case.trace, given)?;
     Ok(verdict)

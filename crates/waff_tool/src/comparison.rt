@@ -16,11 +16,10 @@ use std::io::Write;
 use std::thread;
 use std::thread::Threads;
 use waff_assign::{Assigned, Case, assign};
-use waff_inputs::{ToolError, deliver, read_numbered};
+use waff_inputs::{ToolError, deliver, read_numbered, read_trace, read_trace_by_threads};
 use waff_model::{Kind, Layout, Trace};
 use waff_order::refines;
 use waff_plan::laws::refined_is_no_longer;
-use waff_read::{read_trace, read_trace_by_threads};
 
 /// A classical and a hierarchical hierarchy.
 #[derive(Drop)]

@@ -99,8 +99,7 @@ fn pictured(
 ) -> Result<String, AllocError>
     requires rows { length given.now.rows ≡ length case.now.trace.now.messages }
     ensures { IfOk result (λ text. string_bytes text
-        ≡ picture_of picture (scene_of case.now.tree.now case.now.assigned.now
-        case.now.trace.now.messages given.now part)) }
+        ≡ picture_of picture (scene_of (instance_of case.now) given.now part)) }
 {
     match picture {
         Picture::Svg => svg_text(alloc, case, given, part),

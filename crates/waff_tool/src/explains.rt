@@ -11,6 +11,7 @@ ghost use Rattle.waff_plan_text.specs.PlanTexts as texts;
 ghost use Rattle.waff_explain.specs.Lines.{AreHeadedLines};
 ghost use Rattle.waff_inputs.specs.Deliveries.{Delivers};
 ghost use Rattle.waff_inputs.specs.Inputs.{Accepts};
+ghost use Rattle.waff_inputs.specs.Known as known;
 ghost use Rattle.waff_tool.specs.Explanations.{IsExplained, IsExplanation, LinesAreNoFirstLines};
 ghost use Rattle.waff_tool.specs.Explanations.{RefusesWork};
 ghost use Rattle.waff_tool.specs.Explanations.{first_line, status_explained};
@@ -22,9 +23,9 @@ use std::thread::Threads;
 use waff_assign::{Case, assign};
 use waff_check::{GivenPlan, PlanTextError, Verdict, read_plan};
 use waff_explain::{hierarchy_words, plan_text_words, sizes_words, trace_words, verdict_words};
-use waff_inputs::{ToolError, deliver, fault_status, fault_text};
+use waff_inputs::{ToolError, deliver, fault_status, fault_text, newest, read_trace};
 use waff_model::{Layout, Trace};
-use waff_read::{HierError, TraceError, read_hierarchy, read_trace};
+use waff_read::{HierError, TraceError, read_hierarchy};
 
 /// What was explained.
 #[derive(Clone, Copy)]
@@ -165,7 +166,7 @@ fn refuse_trace(
     trace: &[u8],
     fault: TraceError,
 ) -> Result<Explanation, AllocError>
-    requires { traces.Tells fault (traces.trace_of layout.now.spaces trace.now) }
+    requires { traces.Tells fault (known.trace_of layout.now.spaces trace.now) }
     ensures { IfOk result (λ made. (hierarchy : List ℕ) (plan : Option (List ℕ))
         → hierarchy_of hierarchy ≡ Ok layout.now
         → IsExplanation hierarchy (Some trace.now) plan
@@ -175,7 +176,7 @@ fn refuse_trace(
         TraceError::Memory => return Err(AllocError),
         _ => ToolError::Trace(fault),
     };
-    let words = trace_words(alloc, layout, trace, fault);
+    let words = trace_words(alloc, layout, newest(), trace, fault);
     tell(alloc, Explained::Fault(error), words)
 }
 
@@ -190,7 +191,7 @@ fn explain_read<R: Threads + Sync>(
     requires fits { trace.now.sizes ≡ sizes_of layout.now.spaces }
     ensures { IfOk result (λ made. (hierarchy trace_file : List ℕ)
         → hierarchy_of hierarchy ≡ Ok layout.now
-        → traces.trace_of layout.now.spaces trace_file ≡ Ok trace.now
+        → known.trace_of layout.now.spaces trace_file ≡ Ok trace.now
         → IsExplanation hierarchy (Some trace_file) (option_copied plan.entry)
         made.explained (string_bytes made.text)) }
 {
@@ -215,7 +216,7 @@ fn explain_plan<R: Threads + Sync>(
     requires fits { trace.now.sizes ≡ sizes_of layout.now.spaces }
     ensures { IfOk result (λ made. (hierarchy trace_file : List ℕ)
         → hierarchy_of hierarchy ≡ Ok layout.now
-        → traces.trace_of layout.now.spaces trace_file ≡ Ok trace.now
+        → known.trace_of layout.now.spaces trace_file ≡ Ok trace.now
         → IsExplanation hierarchy (Some trace_file) (Some plan.now)
         made.explained (string_bytes made.text)) }
 {
@@ -265,7 +266,7 @@ fn refuse_plan(
         (texts.plan_of trace.now.version (length trace.now.messages) plan.now) }
     ensures { IfOk result (λ made. (hierarchy trace_file : List ℕ) (layout : Hierarchy)
         → hierarchy_of hierarchy ≡ Ok layout
-        → traces.trace_of layout.spaces trace_file ≡ Ok trace.now
+        → known.trace_of layout.spaces trace_file ≡ Ok trace.now
         → IsExplanation hierarchy (Some trace_file) (Some plan.now)
         made.explained (string_bytes made.text)) }
 {

@@ -48,7 +48,7 @@ pub use rates::rate_text;
 pub use replays::replay_text;
 pub use sweeps::sweep_text;
 pub use waff_draw::Part;
-pub use waff_figures::sweep_workers;
+pub use waff_figures::{Grouping, sweep_workers};
 pub use waff_inputs::{MAX_RANKED, ToolError, fault_status, fault_text};
 pub use waff_io::{ReadFault, read_whole, split_input};
 pub use waff_list::Rule;

@@ -130,7 +130,8 @@ fn push_header(text: &mut String, version: Version) -> Result<(), AllocError>
 {
     text.push_str(match version {
         Version::V1 => "model,length,chain,list,listchain,left,right\n",
-        Version::V2 => "model,length,release,chain,list,listrelease,listchain,left,right\n",
+        Version::V2 | Version::V3 =>
+            "model,length,release,chain,list,listrelease,listchain,left,right\n",
     })
 }
 
@@ -152,7 +153,11 @@ fn push_plan(text: &mut String, version: Version, plan: &Totals) -> Result<(), A
 {
     match version {
         Version::V1 => write!(text, ",{},{}", plan.length, plan.cost),
-        Version::V2 => write!(text, ",{},{},{}", plan.length, plan.release, plan.cost),
+        Version::V2 | Version::V3 => write!(
+            text,
+            ",{},{},{}",
+            plan.length, plan.release, plan.cost
+        ),
     }
 }
 

@@ -4,7 +4,7 @@ ghost use Rattle.std.specs.Prelude.{[], OnOk, length, map, string_bytes};
 ghost use Rattle.std.specs.List.{AllZip};
 ghost use Rattle.waff_model.specs.Messages.{sizes_of};
 ghost use Rattle.waff_read.specs.Hierarchies.{hierarchy_of};
-ghost use Rattle.waff_read.specs.Traces.{trace_of};
+ghost use Rattle.waff_inputs.specs.Known.{trace_of};
 ghost use Rattle.waff_assign.specs.Case.{instance_of};
 ghost use Rattle.waff_plan.specs.Bound.{IsWorkers};
 ghost use Rattle.waff_plan_text.specs.Lines.{Adds, line_text, text_of};
@@ -21,12 +21,11 @@ use std::io::Write;
 use std::thread::Threads;
 use waff_assign::{Case, assign};
 use waff_figures::{Figures, QualityFields, list_figures_for};
-use waff_inputs::{MAX_RANKED, ToolError, deliver, read_numbered};
+use waff_inputs::{MAX_RANKED, ToolError, deliver, read_numbered, read_trace_by_threads};
 use waff_list::Rule;
 use waff_model::{Kind, Layout, Trace};
 use waff_plan::Planned;
 use waff_plan::unlimited::plan;
-use waff_read::read_trace_by_threads;
 
 /// What is told of a trace under one of several hierarchies.
 #[derive(Clone, Copy)]

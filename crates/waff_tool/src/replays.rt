@@ -1,7 +1,8 @@
 //! The replay of a trace.
 
-ghost use Rattle.std.specs.Prelude.{◌≡◌, ◌<◌, ◌≤◌, IfOk};
+ghost use Rattle.std.specs.Prelude.{◌≡◌, ◌≢◌, ◌<◌, ◌≤◌, IfErr, IfOk, Ok};
 ghost use Rattle.std.specs.Prelude.{length, string_bytes};
+ghost use Rattle.waff_model.specs.Layout.{HasFewCells};
 ghost use Rattle.waff_model.specs.Messages.{IsTrace, sizes_of};
 ghost use Rattle.waff_model.specs.declared.cell.Cell.{Cell};
 ghost use Rattle.waff_assign.specs.Lowest.{IsAssignment};
@@ -12,10 +13,11 @@ ghost use Rattle.waff_core.specs.Seats.{IsSeats};
 ghost use Rattle.waff_order.specs.Needs.{AreNeeds};
 ghost use Rattle.waff_plan_text.specs.Lines.{text_of};
 ghost use Rattle.waff_inputs.specs.Deliveries.{Delivers, Makes};
-ghost use Rattle.waff_inputs.specs.Inputs.{Refuses};
+ghost use Rattle.waff_inputs.specs.Inputs.{Accepts, instance_under};
+ghost use Rattle.waff_read.specs.Hierarchies.{hierarchy_of};
 ghost use Rattle.waff_tool.specs.ListOrder.{IsListOrder};
 ghost use Rattle.waff_tool.specs.PrintedSpaces.{AreAllPrinted};
-ghost use Rattle.waff_tool.specs.ReplayText.{IsReplayText, state_after, state_lines};
+ghost use Rattle.waff_tool.specs.ReplayText.{IsReplayText, RefusesReplay, state_after, state_lines};
 
 use crate::state_text::{PrintedSpace, printed_spaces, state_text};
 use std::alloc::{AllocError, Global};
@@ -24,7 +26,7 @@ use std::sync::Wait;
 use std::thread::Threads;
 use waff_cells::State;
 use waff_core::{Job, JobError};
-use waff_inputs::{Accepted, ToolError, accept_by_threads, deliver};
+use waff_inputs::{Accepted, ToolError, accept_over_layout, deliver, read_numbered};
 use waff_list::laws::needs_make_the_same_plans;
 use waff_list::{WorkerPlan, list_plan};
 use waff_model::Version;
@@ -33,7 +35,7 @@ use waff_order::Needs;
 use waff_order::predecessors::needs;
 use waff_replay::{Open, replay, serial};
 
-/// Writes the state that the messages of the trace leave under the hierarchy. They are replayed by
+/// Writes the state that the messages of the trace leave under the hierarchy, which has few cells. They are replayed by
 /// this many workers, of which the calling thread is one, in the order of the list plan for as many:
 /// for one worker that of arrival, if no message has a release. Releases are not waited for. Nothing
 /// is written before the whole text is made.
@@ -47,7 +49,7 @@ pub fn replay_text<R: Threads + Wait + Sync, W: Write>(
 ) -> Result<(), ToolError>
     requires seats { IsSeats workers }
     ensures { Delivers (λ _ text. IsReplayText hierarchy.now trace.now text)
-        (Refuses hierarchy.now trace.now) (W.contents writer.old) (W.contents writer.new) result }
+        (RefusesReplay hierarchy.now trace.now) (W.contents writer.old) (W.contents writer.new) result }
 {
     deliver(
         writer,
@@ -64,9 +66,9 @@ fn made_replay_text<R: Threads + Wait + Sync>(
 ) -> Result<String, ToolError>
     requires seats { IsSeats workers }
     ensures { Makes (λ text. IsReplayText hierarchy.now trace.now (string_bytes text))
-        (Refuses hierarchy.now trace.now) result }
+        (RefusesReplay hierarchy.now trace.now) result }
 {
-    let accepted = accept_by_threads(rt, alloc, hierarchy, trace)?;
+    let accepted = accept_few(rt, alloc, hierarchy, trace)?;
     match printed_spaces(alloc, &accepted.layout) {
         Ok(printed) => {
             let text = replayed_text(rt, alloc, accepted, &printed, workers);
@@ -80,6 +82,35 @@ fn made_replay_text<R: Threads + Wait + Sync>(
     }
 }
 
+/// Reads the files, the trace only where there are few enough cells for a replay.
+#[tactic(auto, using(crate::proofs::ReplayRefusals::refuses_hierarchy, crate::proofs::ReplayRefusals::refuses_trace))]
+fn accept_few<R: Threads + Sync>(
+    rt: &R,
+    alloc: Global,
+    hierarchy: &[u8],
+    trace: &[u8],
+) -> Result<Accepted, ToolError>
+    ensures accepted { IfOk result (λ a.
+        Accepts hierarchy.now trace.now (instance_under a.layout a.assigned a.trace)) }
+    ensures layout { IfOk result (λ a. hierarchy_of hierarchy.now ≡ Ok a.layout) }
+    ensures few { IfOk result (λ a. HasFewCells a.layout.spaces) }
+    ensures refused { IfErr result (RefusesReplay hierarchy.now trace.now) }
+    ensures nothing { IfErr result (λ e. e ≢ ToolError.Write) }
+{
+    let layout = match read_numbered(alloc, 1, hierarchy) {
+        Ok(layout) => layout,
+        Err(error) => return Err(error),
+    };
+    if !layout.has_few_cells() {
+        drop(layout);
+        return Err(ToolError::TooManyCells);
+    }
+    match accept_over_layout(rt, alloc, layout, trace) {
+        Ok(accepted) => Ok(accepted),
+        Err(error) => Err(error),
+    }
+}
+
 /// The text of the state that a replay leaves, over the spaces of the layout as they are printed.
 fn replayed_text<R: Threads + Wait + Sync>(
     rt: &R,
@@ -88,6 +119,7 @@ fn replayed_text<R: Threads + Wait + Sync>(
     printed: &[PrintedSpace],
     workers: u32,
 ) -> Result<String, AllocError>
+    requires few { HasFewCells accepted.layout.spaces }
     requires trace { IsTrace accepted.trace }
     requires assignment { IsAssignment accepted.layout accepted.trace.messages accepted.assigned }
     requires printed { AreAllPrinted accepted.layout.spaces printed.now }
@@ -110,6 +142,7 @@ fn replayed<R: Threads + Wait + Sync>(
     accepted: Accepted,
     workers: u32,
 ) -> Result<State, AllocError>
+    requires few { HasFewCells accepted.layout.spaces }
     requires trace { IsTrace accepted.trace }
     requires assignment { IsAssignment accepted.layout accepted.trace.messages accepted.assigned }
     requires seats { IsSeats workers }
@@ -128,6 +161,7 @@ fn replayed<R: Threads + Wait + Sync>(
 
 /// The job of what was accepted, in the order of the list plan for k workers.
 fn job_in_list_order(alloc: Global, accepted: Accepted, k: u32) -> Result<Job, AllocError>
+    requires few { HasFewCells accepted.layout.spaces }
     requires trace { IsTrace accepted.trace }
     requires assignment { IsAssignment accepted.layout accepted.trace.messages accepted.assigned }
     requires seats { IsSeats k }
@@ -156,6 +190,7 @@ fn job_in_order(
     needs: Needs,
     order: &[u32],
 ) -> Result<Job, AllocError>
+    requires few { HasFewCells accepted.layout.spaces }
     requires trace { IsTrace accepted.trace }
     requires assignment { IsAssignment accepted.layout accepted.trace.messages accepted.assigned }
     requires needs { AreNeeds accepted.layout.tree accepted.assigned needs }

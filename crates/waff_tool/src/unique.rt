@@ -6,7 +6,8 @@ ghost use Rattle.waff_list.specs.declared.rule.Rule.{Rule};
 ghost use Rattle.waff_tool.specs.Unique.{AssignTextIsOne, CompareTextIsOne, ComparedIsNotRefused};
 ghost use Rattle.waff_tool.specs.Unique.{ComparisonRefusalIsOne, PlanTextIsOne};
 ghost use Rattle.waff_tool.specs.Unique.{CheckRefusalIsOne, CheckTextIsOne, CheckedIsNotRefused};
-ghost use Rattle.waff_tool.specs.Unique.{ReplayTextIsOne, ExplainedIsOne};
+ghost use Rattle.waff_tool.specs.Unique.{ReplayTextIsOne, ReplayRefusalIsOne, ReplayedIsNotRefused};
+ghost use Rattle.waff_tool.specs.Unique.{ExplainedIsOne};
 
 pub use waff_inputs::unique::{accepted_is_not_refused, refusal_is_one};
 
@@ -63,6 +64,18 @@ pub fn checked_is_not_refused()
 pub fn replay_text_is_one()
     ensures equal { (hierarchy_file trace_file : List ℕ)
         → ReplayTextIsOne hierarchy_file trace_file }
+{}
+
+/// The error that tells why a replay refuses a hierarchy and a trace is one.
+pub fn replay_refusal_is_one()
+    ensures equal { (hierarchy_file trace_file : List ℕ)
+        → ReplayRefusalIsOne hierarchy_file trace_file }
+{}
+
+/// Files that are replayed are not refused, but for an allocation failure or a writer's fault.
+pub fn replayed_is_not_refused()
+    ensures none { (hierarchy_file trace_file : List ℕ)
+        → ReplayedIsNotRefused hierarchy_file trace_file }
 {}
 
 /// The fault or the verdict that is explained is one: a function that does nothing and whose

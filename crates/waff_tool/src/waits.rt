@@ -1,5 +1,5 @@
 //! Who waits for whom.
-ghost use Rattle.std.specs.Prelude.{◌<◌, ℕ, Bool, List, Option, IfOk};
+ghost use Rattle.std.specs.Prelude.{◌<◌, ℕ, List, Option, IfOk};
 ghost use Rattle.std.specs.Prelude.{None, Some, IfSome, length, string_bytes};
 ghost use Rattle.waff_assign.specs.Case.{instance_of};
 ghost use Rattle.waff_plan.specs.Bound.{IsWorkers};
@@ -12,7 +12,7 @@ use std::io::Write;
 use std::thread::Threads;
 use waff_assign::Case;
 use waff_figures::wait_laws::ticks_add_up;
-use waff_figures::waiting_text;
+use waff_figures::{Grouping, waiting_text};
 use waff_inputs::{ToolError, accept_by_threads, deliver};
 use waff_list::laws::needs_make_the_same_plans;
 use waff_list::{Rule, list_plan_by};
@@ -32,16 +32,16 @@ pub fn waits_text<R: Threads + Sync, W: Write>(
     trace: &[u8],
     workers: Option<u32>,
     rule: Rule,
-    by_name: bool,
+    grouping: Grouping,
     writer: &mut W,
 ) -> Result<(), ToolError>
     requires { IfSome workers IsWorkers }
-    ensures { Delivers (λ _ text. IsWaitsText rule hierarchy.now trace.now workers by_name text)
+    ensures { Delivers (λ _ text. IsWaitsText rule hierarchy.now trace.now workers grouping text)
         (Refuses hierarchy.now trace.now) (W.contents writer.old) (W.contents writer.new) result }
 {
     deliver(
         writer,
-        made_waits_text(rt, alloc, hierarchy, trace, workers, rule, by_name),
+        made_waits_text(rt, alloc, hierarchy, trace, workers, rule, grouping),
     )
 }
 
@@ -52,15 +52,15 @@ fn made_waits_text<R: Threads + Sync>(
     trace: &[u8],
     workers: Option<u32>,
     rule: Rule,
-    by_name: bool,
+    grouping: Grouping,
 ) -> Result<String, ToolError>
     requires { IfSome workers IsWorkers }
     ensures { Makes
-        (λ text. IsWaitsText rule hierarchy.now trace.now workers by_name (string_bytes text))
+        (λ text. IsWaitsText rule hierarchy.now trace.now workers grouping (string_bytes text))
         (Refuses hierarchy.now trace.now) result }
 {
     let accepted = accept_by_threads(rt, alloc, hierarchy, trace)?;
-    let text = waited_text(alloc, &accepted.case(), workers, rule, by_name).map_err(
+    let text = waited_text(alloc, &accepted.case(), workers, rule, grouping).map_err(
         ToolError::from,
     );
     drop(accepted);
@@ -73,22 +73,22 @@ fn waited_text(
     case: &Case<'_>,
     workers: Option<u32>,
     rule: Rule,
-    by_name: bool,
+    grouping: Grouping,
 ) -> Result<String, AllocError>
     requires { IfSome workers IsWorkers }
     ensures { IfOk result (λ text.
-        TellsWaits rule workers by_name (instance_of case.now) (string_bytes text)) }
+        TellsWaits rule workers grouping (instance_of case.now) (string_bytes text)) }
 {
     match workers {
-        None => unlimited_waits(alloc, case, by_name),
-        Some(k) => worker_waits(alloc, case, k, rule, by_name),
+        None => unlimited_waits(alloc, case, grouping),
+        Some(k) => worker_waits(alloc, case, k, rule, grouping),
     }
 }
 
 /// The text of the unlimited plan.
-fn unlimited_waits(alloc: Global, case: &Case<'_>, by_name: bool) -> Result<String, AllocError>
+fn unlimited_waits(alloc: Global, case: &Case<'_>, grouping: Grouping) -> Result<String, AllocError>
     ensures { IfOk result (λ text. (rule : Rule)
-        → TellsWaits rule None by_name (instance_of case.now) (string_bytes text)) }
+        → TellsWaits rule None grouping (instance_of case.now) (string_bytes text)) }
 {
     let plan = plan(alloc, case.tree, case.assigned, case.trace)?;
     ticks_add_up();
@@ -96,7 +96,7 @@ fn unlimited_waits(alloc: Global, case: &Case<'_>, by_name: bool) -> Result<Stri
         case: *case,
         plan: &plan,
     };
-    let text = waiting_text(alloc, &planned, by_name);
+    let text = waiting_text(alloc, &planned, grouping);
     drop(plan);
     text
 }
@@ -107,11 +107,11 @@ fn worker_waits(
     case: &Case<'_>,
     k: u32,
     rule: Rule,
-    by_name: bool,
+    grouping: Grouping,
 ) -> Result<String, AllocError>
     requires { IsWorkers k }
     ensures { IfOk result (λ text.
-        TellsWaits rule (Some k) by_name (instance_of case.now) (string_bytes text)) }
+        TellsWaits rule (Some k) grouping (instance_of case.now) (string_bytes text)) }
 {
     let needs = needs(alloc, case.tree, case.assigned)?;
     let made = list_plan_by(alloc, &needs, case.trace, rule, k)?;
@@ -120,7 +120,7 @@ fn worker_waits(
     ticks_add_up();
     let plan = made.plan();
     let planned = Planned { case: *case, plan };
-    let text = waiting_text(alloc, &planned, by_name);
+    let text = waiting_text(alloc, &planned, grouping);
     drop(made);
     text
 }
@@ -128,12 +128,12 @@ fn worker_waits(
 /// The text of who waits for whom is one.
 pub fn waits_text_is_one()
     ensures equal { (rule : Rule) (hierarchy_file trace_file : List ℕ) (workers : Option ℕ)
-        (by_name : Bool) → WaitsTextIsOne rule hierarchy_file trace_file workers by_name }
+        (grouping : Grouping) → WaitsTextIsOne rule hierarchy_file trace_file workers grouping }
 {}
 
 /// The ticks that it tells add up to the `waits` of each line of a sweep by the same rule for as many
 /// workers.
 pub fn waits_are_swept()
     ensures equal { (rule : Rule) (hierarchy_file trace_file : List ℕ) (workers : Option ℕ)
-        (by_name : Bool) → WaitsAreSwept rule hierarchy_file trace_file workers by_name }
+        (grouping : Grouping) → WaitsAreSwept rule hierarchy_file trace_file workers grouping }
 {}

@@ -1,5 +1,5 @@
 //! Where the time goes.
-ghost use Rattle.std.specs.Prelude.{◌<◌, ℕ, Bool, List, IfOk};
+ghost use Rattle.std.specs.Prelude.{◌<◌, ℕ, List, IfOk};
 ghost use Rattle.std.specs.Prelude.{length, string_bytes};
 ghost use Rattle.waff_assign.specs.Case.{instance_of};
 ghost use Rattle.waff_inputs.specs.Deliveries.{Delivers, Makes};
@@ -13,7 +13,7 @@ use std::io::Write;
 use std::thread::Threads;
 use waff_assign::Case;
 use waff_figures::laws::{chain_adds_up, costs_add_up, names_add_up};
-use waff_figures::{affinities_text, names_text};
+use waff_figures::{Grouping, affinities_text, names_text};
 use waff_inputs::{ToolError, accept_by_threads, deliver};
 use waff_plan::Planned;
 
@@ -25,15 +25,15 @@ pub fn where_text<R: Threads + Sync, W: Write>(
     alloc: Global,
     hierarchy: &[u8],
     trace: &[u8],
-    by_name: bool,
+    grouping: Grouping,
     writer: &mut W,
 ) -> Result<(), ToolError>
-    ensures { Delivers (λ _ text. IsWhereText hierarchy.now trace.now by_name text)
+    ensures { Delivers (λ _ text. IsWhereText hierarchy.now trace.now grouping text)
         (Refuses hierarchy.now trace.now) (W.contents writer.old) (W.contents writer.new) result }
 {
     deliver(
         writer,
-        made_where_text(rt, alloc, hierarchy, trace, by_name),
+        made_where_text(rt, alloc, hierarchy, trace, grouping),
     )
 }
 
@@ -42,25 +42,24 @@ fn made_where_text<R: Threads + Sync>(
     alloc: Global,
     hierarchy: &[u8],
     trace: &[u8],
-    by_name: bool,
+    grouping: Grouping,
 ) -> Result<String, ToolError>
-    ensures { Makes (λ text. IsWhereText hierarchy.now trace.now by_name (string_bytes text))
+    ensures { Makes (λ text. IsWhereText hierarchy.now trace.now grouping (string_bytes text))
         (Refuses hierarchy.now trace.now) result }
 {
     let accepted = accept_by_threads(rt, alloc, hierarchy, trace)?;
-    let text = spent_text(alloc, &accepted.case(), by_name).map_err(ToolError::from);
+    let text = spent_text(alloc, &accepted.case(), grouping).map_err(ToolError::from);
     drop(accepted);
     text
 }
 
 /// The text of where the time of a case goes.
-fn spent_text(alloc: Global, case: &Case<'_>, by_name: bool) -> Result<String, AllocError>
-    ensures { IfOk result (λ text. TellsWhere by_name (instance_of case.now) (string_bytes text)) }
+fn spent_text(alloc: Global, case: &Case<'_>, grouping: Grouping) -> Result<String, AllocError>
+    ensures { IfOk result (λ text. TellsWhere grouping (instance_of case.now) (string_bytes text)) }
 {
-    if by_name {
-        spent_by_name(alloc, case)
-    } else {
-        spent_by_affinity(alloc, case)
+    match grouping {
+        Grouping::Affinity => spent_by_affinity(alloc, case),
+        Grouping::Name => spent_by_name(alloc, case),
     }
 }
 
@@ -98,6 +97,6 @@ fn spent_by_name(alloc: Global, case: &Case<'_>) -> Result<String, AllocError>
 
 /// The text of where the time of a hierarchy and a trace goes is one.
 pub fn where_text_is_one()
-    ensures equal { (hierarchy_file trace_file : List ℕ) (by_name : Bool)
-        → WhereTextIsOne hierarchy_file trace_file by_name }
+    ensures equal { (hierarchy_file trace_file : List ℕ) (grouping : Grouping)
+        → WhereTextIsOne hierarchy_file trace_file grouping }
 {}

@@ -53,6 +53,7 @@ const FAULTS: &[(ToolError, &str, u8)] = &[
     (ToolError::ModelsSame, "waff: ModelsSame", 3),
     (ToolError::Write, "waff: Write", 4),
     (ToolError::Memory, "waff: Memory", 4),
+    (ToolError::TooManyCells, "waff: TooManyCells", 3),
 ];
 
 #[test]

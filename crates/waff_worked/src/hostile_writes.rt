@@ -13,7 +13,7 @@ use waff_samples::{
     STATE_H1_X1, X1,
 };
 use waff_tool::{
-    Part, Picture, ReadFault, ToolError, assign_text, assign_text_by_threads, check_text,
+    Grouping, Part, Picture, ReadFault, ToolError, assign_text, assign_text_by_threads, check_text,
     compare_text, compare_text_by_threads, draw_text, explain_text, plan_text, plan_text_by,
     rank_text, rate_text, read_whole, replay_text, sweep_text, sweep_workers, waits_text,
     where_text,
@@ -105,11 +105,11 @@ fn write_text<R: Threads + Wait + Sync>(
                 writer,
             )
         }
-        Call::Affinities => where_text(rt, alloc, hierarchy, trace, false, writer),
-        Call::Names => where_text(rt, alloc, hierarchy, trace, true, writer),
+        Call::Affinities => where_text(rt, alloc, hierarchy, trace, Grouping::Affinity, writer),
+        Call::Names => where_text(rt, alloc, hierarchy, trace, Grouping::Name, writer),
         Call::Waits => {
-            let (workers, rule) = (Some(2), Rule::Arrival);
-            waits_text(rt, alloc, hierarchy, trace, workers, rule, true, writer)
+            let (workers, rule, grouping) = (Some(2), Rule::Arrival, Grouping::Name);
+            waits_text(rt, alloc, hierarchy, trace, workers, rule, grouping, writer)
         }
         Call::Rank => {
             let trees = [H1.as_bytes().to_vec(alloc)?, C1.as_bytes().to_vec(alloc)?];

@@ -3,7 +3,7 @@
 use std::alloc::{AllocError, Global};
 use std::process::Abort;
 use std::thread::Threads;
-use waff_model::{Cell, Layout, Op, Trace};
+use waff_model::{Cell, Layout, Op, Trace, Version};
 use waff_read::{TraceError, read_hierarchy, read_trace_by_threads};
 use waff_samples::H1;
 
@@ -35,7 +35,7 @@ fn is_reader(rt: &impl Abort, trace: &Trace, n: u32) {
 fn have_their_messages_in_order(rt: HostRuntime) {
     let layout = read_hierarchy(rt.alloc(), H1.as_bytes()).expect(&rt, "a hierarchy");
     let text = readers(rt.alloc(), 65536).expect(&rt, "a text");
-    let trace = read_trace_by_threads(&rt, rt.alloc(), &layout, text.as_bytes());
+    let trace = read_trace_by_threads(&rt, rt.alloc(), &layout, Version::V3, text.as_bytes());
     let trace = trace.expect(&rt, "a trace");
     assert!(rt; trace.len() == 65536);
     for n in 1..65537 {
@@ -53,7 +53,7 @@ fn is_refused<R: Abort + Threads + Sync>(
     text: &str,
     error: TraceError,
 ) {
-    let refused = read_trace_by_threads(rt, alloc, layout, text.as_bytes()).err();
+    let refused = read_trace_by_threads(rt, alloc, layout, Version::V3, text.as_bytes()).err();
     assert!(rt; refused == Some(error), "{error:?}: {refused:?}");
 }
 
@@ -77,7 +77,7 @@ fn may_have_quotes(rt: HostRuntime) {
     let mut text = readers(rt.alloc(), 40000).expect(&rt, "a text");
     text.push_str("m,40001,\"read f:1\"\n")
         .expect(&rt, "a text");
-    let trace = read_trace_by_threads(&rt, rt.alloc(), &layout, text.as_bytes());
+    let trace = read_trace_by_threads(&rt, rt.alloc(), &layout, Version::V3, text.as_bytes());
     let trace = trace.expect(&rt, "a trace");
     assert!(rt; trace.len() == 40001);
     is_reader(&rt, &trace, 40001);

@@ -9,7 +9,7 @@ use std::process::Abort;
 use std::thread::Threads;
 use waff_list::Rule;
 use waff_samples::{H1, X1, X2};
-use waff_tool::{sweep_text, sweep_workers, where_text};
+use waff_tool::{Grouping, sweep_text, sweep_workers, where_text};
 
 /// The sweep of the first trace under the hierarchical sample.
 pub const SWEEP_H1_X1: &str = "workers,length,speedup,busy,least,over,waits,mean,p50,p99,latency\n\
@@ -147,9 +147,12 @@ fn by_the_longest_tails(rt: HostRuntime) {
 #[test]
 fn of_places(rt: HostRuntime) {
     let (hierarchy, trace) = (H1.as_bytes(), X1.as_bytes());
-    for (by_name, text) in [(false, WHERE_H1_X1), (true, WHERE_H1_X1_NAMES)] {
+    for (grouping, text) in [
+        (Grouping::Affinity, WHERE_H1_X1),
+        (Grouping::Name, WHERE_H1_X1_NAMES),
+    ] {
         let mut written = Vec::new(rt.alloc());
-        where_text(&rt, rt.alloc(), hierarchy, trace, by_name, &mut written).expect(&rt, "a text");
+        where_text(&rt, rt.alloc(), hierarchy, trace, grouping, &mut written).expect(&rt, "a text");
         are_same(&rt, written.as_slice(), text.as_bytes());
     }
 }

@@ -9,7 +9,7 @@ use std::process::Abort;
 use std::thread::Threads;
 use waff_list::Rule;
 use waff_samples::{H1, X1, X2};
-use waff_tool::waits_text;
+use waff_tool::{Grouping, waits_text};
 
 /// Who waits for whom in the unlimited plan of the first trace, by names.
 pub const WAITS_H1_X1_NAMES: &str = "name,affinity,forname,foraffinity,messages,ticks,longest\n\
@@ -88,18 +88,22 @@ const WAITS_SHARED: &str = "affinity,for,messages,ticks,longest\n\
     VolA,A0,2,11,7\n\
     A0,VolA,1,6,6\n";
 
+const AFFINITY: Grouping = Grouping::Affinity;
+
+const NAME: Grouping = Grouping::Name;
+
 /// The text of who waits for whom, by arrival, has to be this.
 fn is_waited<R: Threads + Sync + Abort>(
     rt: &R,
     alloc: Global,
     files: (&str, &str),
     workers: Option<u32>,
-    by_name: bool,
+    grouping: Grouping,
     text: &str,
 )
     requires { IfSome workers IsWorkers }
 {
-    is_waited_by(rt, alloc, files, workers, Rule::Arrival, by_name, text);
+    is_waited_by(rt, alloc, files, workers, Rule::Arrival, grouping, text);
 }
 
 /// The text of who waits for whom, by this rule, has to be this.
@@ -109,7 +113,7 @@ fn is_waited_by<R: Threads + Sync + Abort>(
     files: (&str, &str),
     workers: Option<u32>,
     rule: Rule,
-    by_name: bool,
+    grouping: Grouping,
     text: &str,
 )
     requires { IfSome workers IsWorkers }
@@ -123,7 +127,7 @@ fn is_waited_by<R: Threads + Sync + Abort>(
         trace.as_bytes(),
         workers,
         rule,
-        by_name,
+        grouping,
         &mut written,
     )
     .expect(rt, "a text");
@@ -133,28 +137,43 @@ fn is_waited_by<R: Threads + Sync + Abort>(
 #[test]
 fn of_the_samples(rt: HostRuntime) {
     let alloc = rt.alloc();
-    is_waited(&rt, alloc, (H1, X1), None, true, WAITS_H1_X1_NAMES);
-    is_waited(&rt, alloc, (H1, X1), Some(2), false, WAITS_H1_X1_WORKERS2);
-    is_waited(&rt, alloc, (H1, X2), None, false, WAITS_H1_X2);
+    is_waited(&rt, alloc, (H1, X1), None, NAME, WAITS_H1_X1_NAMES);
+    is_waited(
+        &rt,
+        alloc,
+        (H1, X1),
+        Some(2),
+        AFFINITY,
+        WAITS_H1_X1_WORKERS2,
+    );
+    is_waited(&rt, alloc, (H1, X2), None, AFFINITY, WAITS_H1_X2);
     let empty = "message,cost,ops\n";
-    is_waited(&rt, alloc, (H1, empty), None, false, WAITS_OF_NONE);
+    is_waited(&rt, alloc, (H1, empty), None, AFFINITY, WAITS_OF_NONE);
 }
 
 #[test]
 fn by_the_longest_tails(rt: HostRuntime) {
     let (alloc, files, rule) = (rt.alloc(), (H1, X1), Rule::Longest);
-    is_waited_by(&rt, alloc, files, Some(2), rule, false, WAITS_H1_X1_LONGEST);
-    is_waited_by(&rt, alloc, files, None, rule, true, WAITS_H1_X1_NAMES);
+    is_waited_by(
+        &rt,
+        alloc,
+        files,
+        Some(2),
+        rule,
+        AFFINITY,
+        WAITS_H1_X1_LONGEST,
+    );
+    is_waited_by(&rt, alloc, files, None, rule, NAME, WAITS_H1_X1_NAMES);
 }
 
 #[test]
 fn of_dashes(rt: HostRuntime) {
     let files = (DASH, DASHES);
-    is_waited(&rt, rt.alloc(), files, Some(1), false, WAITS_DASH);
-    is_waited(&rt, rt.alloc(), files, Some(1), true, WAITS_DASH_NAMES);
+    is_waited(&rt, rt.alloc(), files, Some(1), AFFINITY, WAITS_DASH);
+    is_waited(&rt, rt.alloc(), files, Some(1), NAME, WAITS_DASH_NAMES);
 }
 
 #[test]
 fn of_a_shared_line(rt: HostRuntime) {
-    is_waited(&rt, rt.alloc(), (H1, SHARED), None, false, WAITS_SHARED);
+    is_waited(&rt, rt.alloc(), (H1, SHARED), None, AFFINITY, WAITS_SHARED);
 }

@@ -6,10 +6,10 @@ ghost use Rattle.waff_model.specs.Cells.{cells_of_op};
 
 use std::alloc::{AllocError, Global};
 use std::process::Abort;
-use waff_model::limits::{MAX_COST, MAX_MESSAGES, MAX_OPS, MAX_RELEASE};
+use waff_model::limits::{MAX_ALL_OPS, MAX_COST, MAX_OPS, MAX_RELEASE};
 use waff_model::{
-    AffinityId, Cell, Kind, Layout, LayoutError, MapSpec, Message, Op, Ops, SpaceSpec, Text, Texts,
-    Trace, Tree, TreeBuilder, TreeError, Version, is_name,
+    AffinityId, Cell, Format, Kind, Layout, LayoutError, MapSpec, Message, Op, Ops, SpaceSpec,
+    Text, Texts, Trace, Tree, TreeBuilder, TreeError, Version, is_name,
 };
 
 /// The name of a space, how many cells in a row go to one affinity, and the affinities that take
@@ -67,17 +67,18 @@ fn maps_to_be(alloc: Global, rows: &[Map]) -> Result<Vec<MapSpec>, AllocError> {
     Ok(maps)
 }
 
-/// The layout of these spaces and maps over the tree, or why they are refused.
+/// The layout of this format of these spaces and maps over the tree, or why they are refused.
 pub fn laid_out(
     rt: &impl Abort,
     alloc: Global,
+    format: Format,
     tree: Tree,
     spaces: &[(&str, i64)],
     maps: &[Map],
 ) -> Result<Layout, LayoutError> {
     let spaces = spaces_to_be(alloc, spaces).expect(rt, "spaces");
     let maps = maps_to_be(alloc, maps).expect(rt, "maps");
-    let layout = Layout::new(alloc, Kind::Hierarchical, tree, &spaces, &maps);
+    let layout = Layout::new(alloc, format, Kind::Hierarchical, tree, &spaces, &maps);
     drop(spaces);
     drop(maps);
     layout
@@ -104,7 +105,7 @@ const MAPS: &[Map] = &[
 /// The layout of the hierarchical sample.
 pub fn layout(rt: &impl Abort, alloc: Global) -> Layout {
     let tree = tree(alloc, TREE).expect(rt, "a tree");
-    laid_out(rt, alloc, tree, SPACES, MAPS).expect(rt, "a layout")
+    laid_out(rt, alloc, Format::F1, tree, SPACES, MAPS).expect(rt, "a layout")
 }
 
 /// A message of one operation: its name, cost and release, and the operation.
@@ -176,7 +177,7 @@ pub fn trace(
 fn opened(alloc: Global, layout: &Layout, version: Version) -> Result<Trace, AllocError> {
     match version {
         Version::V1 => Trace::new(alloc, layout),
-        Version::V2 => Trace::with_version(alloc, layout, version),
+        Version::V2 | Version::V3 => Trace::with_version(alloc, layout, version),
     }
 }
 
@@ -193,11 +194,13 @@ fn push(
 ) {
     let (cost, release) = times;
     assert!(rt; trace.fits(layout));
-    assert!(rt; trace.len() < MAX_MESSAGES as u32);
+    assert!(rt; (trace.len() as usize) < trace.version().max_messages());
+    assert!(rt; trace.op_count() < MAX_ALL_OPS);
     assert!(rt; is_name(name));
     assert!(rt; 1 <= cost && cost <= MAX_COST);
     assert!(rt; release <= MAX_RELEASE);
-    assert!(rt; release == 0 || trace.version() == Version::V2);
+    assert!(rt; release == 0 || trace.version() != Version::V1);
+    assert!(rt; 1 <= trace.version().max_ops());
     assert!(rt; lies(layout, op));
     let mut ops = Ops::new(alloc);
     ops.push(op).expect(rt, "an operation");
@@ -206,6 +209,8 @@ fn push(
         name,
         cost,
         release,
+        client: Text::of(alloc, "-").expect(rt, "a name"),
+        think: 0,
         ops,
     };
     trace.push(message).expect(rt, "a message");

@@ -3,7 +3,7 @@
 use crate::same::is_same;
 use std::alloc::Global;
 use std::process::Abort;
-use waff_model::{AffinityId, Cell, Kind};
+use waff_model::{AffinityId, Cell, Format, Kind};
 use waff_read::read_hierarchy;
 use waff_samples::H1;
 
@@ -179,6 +179,89 @@ fn have_the_cells_of_the_limit(rt: HostRuntime) {
     is_told_of_change(&rt, rt.alloc(), "size = 8", "size = 262134", "None");
 }
 
+/// A line before the sample with one change: the part, what stands in its place, and the refusal.
+const FORMATS: &[(&str, &str, &str, &str)] = &[
+    ("format = 2", "size = 8", "size = 4294967295", "None"),
+    ("format = 0x2", "size = 8", "size = 262145", "None"),
+    (
+        "format = 2",
+        "size = 8",
+        "size = 4294967296",
+        "Some(Layout(Size))",
+    ),
+    ("format = 2", "size = 8", "size = 0", "Some(Layout(Size))"),
+    ("format = 2", "unit = 2", "unit = 4294967295", "None"),
+    (
+        "format = 2",
+        "unit = 2",
+        "unit = 4294967296",
+        "Some(Layout(Unit))",
+    ),
+    (
+        "format = 1",
+        "size = 8",
+        "size = 262145",
+        "Some(Layout(Size))",
+    ),
+    (
+        "format = 1",
+        "size = 8",
+        "size = 262135",
+        "Some(Layout(TooManyCells))",
+    ),
+    (
+        "format = 3",
+        "size = 8",
+        "size = 262145",
+        "Some(Layout(Size))",
+    ),
+    (
+        "format = -2",
+        "unit = 2",
+        "unit = 262145",
+        "Some(Layout(Unit))",
+    ),
+    (
+        "format = 4294967298",
+        "unit = 2",
+        "unit = 262145",
+        "Some(Layout(Unit))",
+    ),
+    (
+        "format = \"2\"",
+        "size = 8",
+        "size = 262145",
+        "Some(Layout(Size))",
+    ),
+    (
+        "format = 2.0",
+        "size = 8",
+        "size = 262145",
+        "Some(Layout(Size))",
+    ),
+    (
+        "format = [2]",
+        "size = 8",
+        "size = 262145",
+        "Some(Layout(Size))",
+    ),
+    (
+        "Format = 2",
+        "size = 8",
+        "size = 262145",
+        "Some(Layout(Size))",
+    ),
+];
+
+#[test]
+fn are_read_by_the_limits_of_their_format(rt: HostRuntime) {
+    for (format, part, new, wanted) in FORMATS {
+        let (before, after) = H1.split_once(*part).expect(&rt, "the part is not there");
+        let text = format!(in rt.alloc(); "{format}\n{before}{new}{after}").expect(&rt, "a text");
+        is_told(&rt, rt.alloc(), text.as_bytes(), *wanted);
+    }
+}
+
 const WITH_MORE: &str = "\u{feff}model = 'classical'\nowner = 'ignored'\n\
     [[affinity]]\nname = 'Serial'\n[[affinity]]\nname = 'T0'\nparent = 'Serial'\n\
     [[map]]\nspace = 'f'\nunit = 2\nto = ['T0', 'Serial']\n\
@@ -187,6 +270,7 @@ const WITH_MORE: &str = "\u{feff}model = 'classical'\nowner = 'ignored'\n\
 #[test]
 fn are_read_with_what_the_format_does_not_name(rt: HostRuntime) {
     let layout = read_hierarchy(rt.alloc(), WITH_MORE.as_bytes()).expect(&rt, "a hierarchy");
+    assert!(rt; layout.format() == Format::F1);
     assert!(rt; layout.kind() == Kind::Classical);
     assert!(rt; layout.tree().len() == 2);
     assert!(rt; layout.tree().parent(AffinityId(1)) == Some(AffinityId(0)));

@@ -3,18 +3,18 @@
 use crate::building::{Map, laid_out, tree};
 use std::alloc::Global;
 use std::process::Abort;
-use waff_model::{AffinityId, Cell, Kind, Layout, LayoutError, Trace, Version};
+use waff_model::{AffinityId, Cell, Format, Kind, Layout, LayoutError, Trace, Version};
 
 const TREE: &[(&str, Option<u16>)] = &[("root", None), ("v1", Some(0)), ("v2", Some(0))];
 
 /// The layout of these spaces and maps, which have to be accepted.
 fn made(rt: &impl Abort, alloc: Global, spaces: &[(&str, i64)], maps: &[Map]) -> Layout {
     let tree = tree(alloc, TREE).expect(rt, "a tree");
-    laid_out(rt, alloc, tree, spaces, maps).expect(rt, "a layout")
+    laid_out(rt, alloc, Format::F1, tree, spaces, maps).expect(rt, "a layout")
 }
 
 /// The owner of a cell and the cell's place, if it is one of the layout's.
-fn place(layout: &Layout, cell: Cell) -> Option<(AffinityId, AffinityId, u32)> {
+fn place(layout: &Layout, cell: Cell) -> Option<(AffinityId, AffinityId, u64)> {
     if layout.has(cell) {
         let (owner, place) = layout.place(cell);
         Some((layout.owner(cell), owner, place))
@@ -33,7 +33,7 @@ fn parts(layout: &Layout, s: u32) -> Option<(&str, u32)> {
 }
 
 /// How many cells an affinity owns, if it is one of the tree's.
-fn parcel_len(layout: &Layout, a: u16) -> Option<u32> {
+fn parcel_len(layout: &Layout, a: u16) -> Option<u64> {
     if u32::from(a) < layout.tree().len() {
         Some(layout.parcel_len(AffinityId(a)))
     } else {
@@ -59,7 +59,9 @@ fn has_its_parts(rt: &impl Abort, layout: &Layout) {
 fn show_what_they_were_made_of(rt: HostRuntime) {
     let layout = made(&rt, rt.alloc(), SPACES, MAPS);
     has_its_parts(&rt, &layout);
+    assert!(rt; layout.format() == Format::F1);
     assert!(rt; layout.kind() == Kind::Hierarchical);
+    assert!(rt; layout.has_few_cells());
     assert!(rt; layout.tree().len() == 3);
     assert!(rt; layout.find_space("g") == Some(1));
     assert!(rt; layout.find_space("h").is_none());
@@ -67,7 +69,7 @@ fn show_what_they_were_made_of(rt: HostRuntime) {
 }
 
 /// Cells with their owners and places, where they are of the layout.
-const PLACES: &[(u32, u32, Option<(AffinityId, AffinityId, u32)>)] = &[
+const PLACES: &[(u32, u32, Option<(AffinityId, AffinityId, u64)>)] = &[
     (0, 2, Some((AffinityId(2), AffinityId(2), 0))),
     (0, 4, Some((AffinityId(1), AffinityId(1), 2))),
     (1, 3, Some((AffinityId(1), AffinityId(1), 7))),
@@ -76,7 +78,7 @@ const PLACES: &[(u32, u32, Option<(AffinityId, AffinityId, u32)>)] = &[
 ];
 
 /// How many cells each affinity owns, where it is of the tree.
-const LENGTHS: &[(u16, Option<u32>)] = &[(0, Some(0)), (1, Some(8)), (2, Some(4)), (3, None)];
+const LENGTHS: &[(u16, Option<u64>)] = &[(0, Some(0)), (1, Some(8)), (2, Some(4)), (3, None)];
 
 fn has_places(rt: &impl Abort, layout: &Layout) {
     for (space, index, found) in PLACES {
@@ -161,8 +163,92 @@ const REFUSED: &[(&[(&str, i64)], &[Map], LayoutError)] = &[
 fn are_refused_for_their_spaces_and_maps(rt: HostRuntime) {
     for (spaces, maps, error) in REFUSED {
         let tree = tree(rt.alloc(), TREE).expect(&rt, "a tree");
-        let found = laid_out(&rt, rt.alloc(), tree, spaces, maps).err();
+        let found = laid_out(&rt, rt.alloc(), Format::F1, tree, spaces, maps).err();
         assert!(rt; found == Some(*error), "{spaces:?} {maps:?}: {found:?}");
+    }
+}
+
+/// The greatest size and unit of format 2.
+const MOST: i64 = 4_294_967_295;
+
+/// Spaces and maps of format 2 that are refused, with why.
+const REFUSED_LARGE: &[(&[(&str, i64)], &[Map], LayoutError)] = &[
+    (&[("f", 0)], &[], LayoutError::Size),
+    (&[("f", MOST + 1)], &[], LayoutError::Size),
+    (F, &[("f", 0, ONE)], LayoutError::Unit),
+    (F, &[("f", MOST + 1, ONE)], LayoutError::Unit),
+];
+
+#[test]
+fn are_refused_for_large_spaces_past_the_limit(rt: HostRuntime) {
+    for (spaces, maps, error) in REFUSED_LARGE {
+        let tree = tree(rt.alloc(), TREE).expect(&rt, "a tree");
+        let found = laid_out(&rt, rt.alloc(), Format::F2, tree, spaces, maps).err();
+        assert!(rt; found == Some(*error), "{spaces:?} {maps:?}: {found:?}");
+    }
+}
+
+const LARGE: &[(&str, i64)] = &[("f", MOST), ("g", MOST), ("h", MOST)];
+
+const LARGE_MAPS: &[Map] = &[
+    ("f", 1, &["root", "v1", "v2"]),
+    ("g", 3_000_000_000, &["v1", "v2"]),
+    ("h", MOST, &["v2", "v1"]),
+];
+
+/// Cells of large spaces with their owners, where they are of the layout: 4,294,967,295 is a multiple
+/// of 3.
+const LARGE_OWNERS: &[(u32, u32, Option<AffinityId>)] = &[
+    (0, 0, Some(AffinityId(0))),
+    (0, 4_294_967_294, Some(AffinityId(2))),
+    (0, 4_294_967_295, None),
+    (1, 2_999_999_999, Some(AffinityId(1))),
+    (1, 3_000_000_000, Some(AffinityId(2))),
+    (1, 4_294_967_294, Some(AffinityId(2))),
+    (2, 4_294_967_294, Some(AffinityId(2))),
+];
+
+/// The owner of a cell, if it is one of the layout's.
+fn owner(layout: &Layout, cell: Cell) -> Option<AffinityId> {
+    if layout.has(cell) {
+        Some(layout.owner(cell))
+    } else {
+        None
+    }
+}
+
+fn has_owners(rt: &impl Abort, layout: &Layout) {
+    for (space, index, wanted) in LARGE_OWNERS {
+        let (space, index) = (*space, *index);
+        let found = owner(layout, Cell { space, index });
+        assert!(rt; found == *wanted, "{space}:{index}: {found:?}");
+    }
+}
+
+#[test]
+fn own_the_cells_of_large_spaces(rt: HostRuntime) {
+    let tree = tree(rt.alloc(), TREE).expect(&rt, "a tree");
+    let layout = laid_out(&rt, rt.alloc(), Format::F2, tree, LARGE, LARGE_MAPS);
+    let layout = layout.expect(&rt, "a layout");
+    assert!(rt; layout.format() == Format::F2);
+    assert!(rt; !layout.has_few_cells());
+    has_owners(&rt, &layout);
+    drop(layout);
+}
+
+/// Sizes of a space of format 2, and whether its cells are few.
+const FEW: &[(i64, bool)] = &[(1, true), (262_144, true), (262_145, false)];
+
+#[test]
+fn have_few_cells_up_to_the_limit(rt: HostRuntime) {
+    for (size, wanted) in FEW {
+        let tree = tree(rt.alloc(), TREE).expect(&rt, "a tree");
+        let spaces = &[("f", *size)];
+        let layout = laid_out(&rt, rt.alloc(), Format::F2, tree, spaces, &[("f", 1, ONE)]);
+        let layout = layout.expect(&rt, "a layout");
+        let found = layout.has_few_cells();
+        drop(layout);
+        assert!(rt; found == *wanted, "{size}");
     }
 }
 

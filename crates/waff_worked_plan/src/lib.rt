@@ -6,6 +6,8 @@ mod affinities;
 #[cfg(test)]
 mod building;
 #[cfg(test)]
+mod clients;
+#[cfg(test)]
 mod hierarchies;
 #[cfg(test)]
 mod layouts;

@@ -206,6 +206,27 @@ fn a_seat_waits_for_a_need(rt: HostRuntime) {
 }
 
 #[test]
+fn the_next_message_is_clear_when_its_needs_are_done(rt: HostRuntime) {
+    let (board, mut seats) = seated(&rt, rt.alloc(), X1, &[1, 2, 3, 4, 5, 6], 2);
+    let first = sit(&rt, &board, &mut seats);
+    let second = sit(&rt, &board, &mut seats);
+    drop(seats);
+    assert!(rt; board.is_next_clear());
+    let one = draw(&rt, &board, first);
+    assert!(rt; board.is_next_clear());
+    let second = run_next(&rt, &board, second, 1);
+    assert!(rt; board.is_done(2) && !board.is_done(1));
+    assert!(rt; !board.is_next_clear());
+    let first = run(&rt, &board, one);
+    assert!(rt; board.is_done(1) && board.is_next_clear());
+    let first = run_next(&rt, &board, first, 4);
+    assert!(rt; board.is_next_clear());
+    drop(first);
+    drop(second);
+    drop(board);
+}
+
+#[test]
 fn a_dropped_grant_stays_unfinished(rt: HostRuntime) {
     let trace = "message,cost,ops\nm1,1,set f:0 1\nm2,1,set g:0 1\n";
     let (board, mut seats) = seated(&rt, rt.alloc(), trace, &[1, 2], 2);

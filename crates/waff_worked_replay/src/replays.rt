@@ -289,3 +289,40 @@ fn of_a_chain_of_messages(rt: HostRuntime) {
     };
     leaves(&rt, rt.alloc(), &chain, 2, &Open);
 }
+
+/// A gate at which messages stay for some turns, more or less from message to message and from replay
+/// to replay.
+#[derive(Drop)]
+struct Stays {
+    replay: u32,
+}
+
+impl Gate for Stays {
+    fn before(&self, grant: &Grant<'_>) {
+        let mixed = (self.replay ^ grant.message()).wrapping_mul(0x9e37_79b1);
+        for _ in 0..mixed >> 20 {
+            spin_loop();
+        }
+    }
+}
+
+/// As many replays as there are of each trace whose messages stay at a gate. One in which a worker is
+/// never woken does not end.
+const STAYS: u32 = 60;
+
+#[test]
+fn of_messages_that_stay_at_a_gate(rt: HostRuntime) {
+    let trace = additions(rt.alloc(), 12).expect(&rt, "a trace");
+    let chain = Case {
+        hierarchy: H1,
+        trace: trace.as_str(),
+        messages: 12,
+        wanted: "f:0 12",
+    };
+    for replay in 0..STAYS {
+        let stays = Stays { replay };
+        let workers = [2, 3, 4, 16][replay as usize % 4];
+        leaves(&rt, rt.alloc(), &chain, workers, &stays);
+        leaves(&rt, rt.alloc(), &FIRST, workers, &stays);
+    }
+}

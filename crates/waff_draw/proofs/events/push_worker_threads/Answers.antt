@@ -1,8 +1,7 @@
 use Rattle.std.proofs.Common.{◌≡◌, ℕ, ◌++◌, List, Option, Some, flat_map, length, string_bytes, sym, ◌∙◌, ap}
 use Rattle.std.specs.List.{range_with_len}
-use Rattle.waff_draw.specs.Events.{worker_thread, worker_threads}
+use Rattle.waff_draw.specs.Events.{worker_thread, worker_threads, workers_start}
 use Rattle.waff_draw.specs.Scene.{lanes_in}
-use Rattle.waff_draw.specs.declared.events.TheConstants.{WORKERS_START}
 use Rattle.waff_draw.proofs.TextLemmas.{behind}
 use Rattle.waff_draw.proofs.events.push_worker_threads.Goals as goal
 
@@ -12,7 +11,7 @@ returns-in_ok-push_threads_of c =
     let before = string_bytes c.args.text.now in
     let threads : ℕ → List ℕ = λ n. flat_map (worker_thread n) (range_with_len 1 c.in-Some.k) in
     let told : c.args.chart.now.plan.summary.workers ≡ Some c.in-Some.k = sym c.workers.ensures.workers ∙ c.in-Some.is in
-    behind before (string_bytes c.push_str.new.self) (string_bytes c.push_threads_of.new.text) WORKERS_START.now (threads c.lane_count.result)
+    behind before (string_bytes c.push_str.new.self) (string_bytes c.push_threads_of.new.text) workers_start (threads c.lane_count.result)
     c.in_ok-push_str.ensures.bytes c.in_ok-push_threads_of.ensures
-    ∙ ap (λ n. before ++ (WORKERS_START.now ++ threads n)) c.lane_count.ensures.count
+    ∙ ap (λ n. before ++ (workers_start ++ threads n)) c.lane_count.ensures.count
     ∙ ap (λ (w : Option ℕ). before ++ worker_threads first w) (sym told)

@@ -8,4 +8,4 @@ use Rattle.waff_draw.proofs.svg.push_affinity_lanes.Given as goal
 abbrev pub invariant-loop-row : goal.invariant-loop-row
 invariant-loop-row l =
     Adds l.initial.text l.text
-    (flat_map (affinity_lane l.chart.tree (lanes_in l.chart)) (range_with_len 0 l.row))
+    (flat_map (affinity_lane l.chart.instance.tree (lanes_in l.chart)) (range_with_len 0 l.row))

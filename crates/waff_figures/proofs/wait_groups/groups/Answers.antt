@@ -11,48 +11,48 @@ use Rattle.waff_figures.specs.WaitText.{are_alike, same_affinity}
 use Rattle.waff_figures.proofs.WaitGroups.{groups_tell, names_tell}
 use Rattle.waff_figures.proofs.wait_groups.groups.Goals as goal
 
-pub returns-in_ok-found-clause-count : goal.returns-in_ok-found-clause-count
-returns-in_ok-found-clause-count c =
+pub returns-in_ok-found-in-Name-clause-count : goal.returns-in_ok-found-in-Name-clause-count
+returns-in_ok-found-in-Name-clause-count c =
     let group : ℕ → ℕ × ℕ = λ m. (get_or c.as_slice.result.now (m - 1) 0, affinity_of c.args.case.now.assigned.now m) in
     IfOk-weaker c.numbered_groups.result (λ groups. groups.items ≡ map group (range_with_len 1 (length c.args.case.now.assigned.now))) _
     (λ groups are. ap length are ∙ length-map-range_with_len group 1 (length c.args.case.now.assigned.now)) c.numbered_groups.ensures
 
-pub returns-in_ok-found-clause-tell : goal.returns-in_ok-found-clause-tell
-returns-in_ok-found-clause-tell c =
+pub returns-in_ok-found-in-Name-clause-tell : goal.returns-in_ok-found-in-Name-clause-tell
+returns-in_ok-found-in-Name-clause-tell c =
     let assigned = c.args.case.now.assigned.now in
     let n = length assigned in
     let names = message_names c.args.case.now.trace.now.messages in
-    let places = c.in_ok-found.found.places.items in
-    let keys = c.in_ok-found.found.names.keys in
+    let places = c.in_ok-found-in-Name.found.places.items in
+    let keys = c.in_ok-found-in-Name.found.names.keys in
     let number : ℕ → ℕ = λ m. get_or places (m - 1) 0 in
     IfOk-weaker c.numbered_groups.result
     (λ groups. groups.items ≡ map (λ m. (get_or c.as_slice.result.now (m - 1) 0, affinity_of assigned m)) (range_with_len 1 n))
-    (λ groups. (i j : ℕ) → IsAmongFirst n i → IsAmongFirst n j → same_group groups.items i j ≡ are_alike c.args.by_name assigned names i j)
+    (λ groups. (i j : ℕ) → IsAmongFirst n i → IsAmongFirst n j → same_group groups.items i j ≡ are_alike c.args.grouping assigned names i j)
     (λ groups are i j first second.
     let are_numbered = subst (λ ps. groups.items ≡ map (λ m. (get_or ps (m - 1) 0, affinity_of assigned m)) (range_with_len 1 n)) c.as_slice.ensures.value are in
     groups_tell number (affinity_of assigned) groups.items n are_numbered i j first second
     ∙ ap (λ b. b && same_affinity assigned i j)
-    (names_tell names (map (λ name. name.now) keys) places n (length keys) (c.in_ok-found.ensures.places ∙ sym c.args.case.now.lengths) c.in_ok-found.ensures.known
+    (names_tell names (map (λ name. name.now) keys) places n (length keys) (c.in_ok-found-in-Name.ensures.places ∙ sym c.args.case.now.lengths) c.in_ok-found-in-Name.ensures.known
     (subst (λ k. (g m : ℕ) → g < length keys → 1 ≤ m → m ≤ k → is_in places g m ≡ is_named names (get_or (map (λ name. name.now) keys) g []) m)
-    (sym c.args.case.now.lengths) c.in_ok-found.ensures.each) i j first second)
-    ∙ ap (λ b. are_alike b assigned names i j) (sym c.if-by_name.true))
+    (sym c.args.case.now.lengths) c.in_ok-found-in-Name.ensures.each) i j first second)
+    ∙ ap (λ b. are_alike b assigned names i j) (sym c.in-Name.is))
     c.numbered_groups.ensures
 
-pub returns-else-by_name-clause-count : goal.returns-else-by_name-clause-count
-returns-else-by_name-clause-count c =
+pub returns-in-Affinity-clause-count : goal.returns-in-Affinity-clause-count
+returns-in-Affinity-clause-count c =
     let group : ℕ → ℕ × ℕ = λ m. (0, affinity_of c.args.case.now.assigned.now m) in
     IfOk-weaker c.affinity_groups.result (λ groups. groups.items ≡ map group (range_with_len 1 (length c.args.case.now.assigned.now))) _
     (λ groups are. ap length are ∙ length-map-range_with_len group 1 (length c.args.case.now.assigned.now)) c.affinity_groups.ensures
 
-pub returns-else-by_name-clause-tell : goal.returns-else-by_name-clause-tell
-returns-else-by_name-clause-tell c =
+pub returns-in-Affinity-clause-tell : goal.returns-in-Affinity-clause-tell
+returns-in-Affinity-clause-tell c =
     let assigned = c.args.case.now.assigned.now in
     let n = length assigned in
     let names = message_names c.args.case.now.trace.now.messages in
     IfOk-weaker c.affinity_groups.result
     (λ groups. groups.items ≡ map (λ m. (0, affinity_of assigned m)) (range_with_len 1 n))
-    (λ groups. (i j : ℕ) → IsAmongFirst n i → IsAmongFirst n j → same_group groups.items i j ≡ are_alike c.args.by_name assigned names i j)
+    (λ groups. (i j : ℕ) → IsAmongFirst n i → IsAmongFirst n j → same_group groups.items i j ≡ are_alike c.args.grouping assigned names i j)
     (λ groups are i j first second.
     groups_tell (λ m. 0) (affinity_of assigned) groups.items n are i j first second
-    ∙ ap (λ b. are_alike b assigned names i j) (sym c.if-by_name.false))
+    ∙ ap (λ b. are_alike b assigned names i j) (sym c.in-Affinity.is))
     c.affinity_groups.ensures

@@ -5,5 +5,5 @@ use Rattle.waff_figures.proofs.wait_laws.rows_are_one.Goals as goal
 
 pub returns : goal.returns
 returns c = record {
-  equal = λ tree assigned work count. rows_are_one (IsOrdered tree assigned) work (IsOrdered_forward tree assigned work count);
+  equal = λ tree assigned work count follows. rows_are_one (IsOrdered tree assigned) work (IsOrdered_forward tree assigned work count follows);
 }

@@ -24,7 +24,7 @@ returns c =
     let assigned = c.args.planned.now.case.assigned.now in
     let waits = c.in_ok-waits.waits.items in
     let groups = c.in_ok-groups.groups.items in
-    let alike = are_alike c.args.by_name assigned (message_names c.args.planned.now.case.trace.now.messages) in
+    let alike = are_alike c.args.grouping assigned (message_names c.args.planned.now.case.trace.now.messages) in
     let among = c.in_ok-waits.ensures.among in
     let told : (rows : List Row) → AreRows (same_group c.as_slice-2.result.now) c.as_slice.result.now rows → AreRows (same_group groups) waits rows
     = λ rows are.

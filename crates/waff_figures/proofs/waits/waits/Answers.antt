@@ -1,12 +1,11 @@
-use Rattle.std.proofs.Common.{◌≡◌, ℕ, ◌+◌, ◌-◌, ◌≤◌, ◌++◌, List, Option, get_or, length, None, IfSome, arith, sym, ◌∙◌, ap, subst}
+use Rattle.std.proofs.Common.{◌≡◌, ℕ, ◌+◌, ◌-◌, ◌≤◌, ◌++◌, List, Option, get_or, length, None, IfSome, arith, refl, sym, ◌∙◌, ap, subst}
 use Rattle.std.proofs.lemmas.List.{get_or_read}
-use Rattle.waff_plan.specs.Links.{AreLinks}
 use Rattle.waff_plan.specs.Planned.{planned_pairs, planned_starts, planned_work}
 use Rattle.waff_plan.specs.Timetable.{Timetable, starts_in, work_in}
 use Rattle.waff_plan.specs.Work.{IsAmongFirst}
 use Rattle.waff_plan.specs.declared.planned.Planned.{Planned}
-use Rattle.waff_figures.proofs.WaitLemmas.{AreSoFar, links_known, upto_more, upto_so_far, waits_upto}
-use Rattle.waff_figures.specs.Waits.{waits_in}
+use Rattle.waff_figures.proofs.WaitLemmas.{AreSoFar, links_known, upto_more, upto_so_far, waited_for_links, waits_upto}
+use Rattle.waff_figures.specs.Waits.{AreWaitedFor, waits_in}
 use Rattle.waff_figures.specs.declared.waits.Wait.{Wait}
 use Rattle.waff_figures.proofs.waits.waits.Goals as goal
 
@@ -22,7 +21,8 @@ push_waits-requires-clause-link c =
     let read : c.index.result.now ≡ get_or links (m - 1) None
     = get_or_read links (m - 1) c.index.result.now (omega (arith, from, to, c.in_ok-links.ensures.count, planned.lengths)) c.index.ensures None in
     subst (λ link. IfSome link (IsAmongFirst (length assigned))) (sym read)
-    (links_known planned.case.tree.now assigned (work_in plan) (starts_in plan) links (length plan.timings) planned.lengths c.in_ok-links.ensures.links m from to)
+    (links_known planned.case.tree.now assigned (work_in plan) (starts_in plan) links (length plan.timings) planned.lengths
+    (waited_for_links (planned_pairs planned) (work_in plan) (starts_in plan) (length plan.timings) links (λ _. refl) c.in_ok-links.ensures.links) m from to)
 
 pub loop-m-preserved : goal.loop-m-preserved
 loop-m-preserved c =
@@ -50,7 +50,8 @@ all_waits plan links waits m from end is =
 pub returns-clause-waits : goal.returns-clause-waits
 returns-clause-waits c = record {
   links = c.in_ok-links.links.items;
-  are_links = c.in_ok-links.ensures.links;
+  are_links = waited_for_links (planned_pairs c.args.planned.now) (planned_work c.args.planned.now) (planned_starts c.args.planned.now)
+      (length c.args.planned.now.plan.now.timings) c.in_ok-links.links.items (λ _. refl) c.in_ok-links.ensures.links;
   waits_are = all_waits c.args.planned.now.plan.now c.in_ok-links.links.items c.loop-m.waits.items c.loop-m.m c.loop-m.auto.m
       (omega (arith, c.loop-m-test.false, c.len-m-end.ensures.count, c.loop-m.auto.m, c.loop-m.auto.m-end)) c.loop-m.invariant;
 }
@@ -58,7 +59,7 @@ returns-clause-waits c = record {
 -- they come in order, and are of these messages
 are_so_far : (planned : Planned) (links : List (Option ℕ)) (waits : List Wait) (m : ℕ) → 1 ≤ m → m ≡ length planned.plan.now.timings + 1
     → waits ≡ waits_upto (planned_work planned) (planned_starts planned) links (m - 1)
-    → AreLinks (planned_pairs planned) (planned_work planned) (planned_starts planned) (length planned.plan.now.timings) links
+    → AreWaitedFor (planned_pairs planned) (planned_work planned) (planned_starts planned) (length planned.plan.now.timings) links
     → AreSoFar (length planned.case.assigned.now) (length planned.plan.now.timings) waits
 are_so_far planned links waits m from end is are =
     let n = length planned.plan.now.timings in
@@ -70,9 +71,13 @@ are_so_far planned links waits m from end is are =
 pub returns-clause-order : goal.returns-clause-order
 returns-clause-order c =
     (are_so_far c.args.planned.now c.in_ok-links.links.items c.loop-m.waits.items c.loop-m.m c.loop-m.auto.m
-    (omega (arith, c.loop-m-test.false, c.len-m-end.ensures.count, c.loop-m.auto.m, c.loop-m.auto.m-end)) c.loop-m.invariant c.in_ok-links.ensures.links).order
+    (omega (arith, c.loop-m-test.false, c.len-m-end.ensures.count, c.loop-m.auto.m, c.loop-m.auto.m-end)) c.loop-m.invariant
+    (waited_for_links (planned_pairs c.args.planned.now) (planned_work c.args.planned.now) (planned_starts c.args.planned.now)
+    (length c.args.planned.now.plan.now.timings) c.in_ok-links.links.items (λ _. refl) c.in_ok-links.ensures.links)).order
 
 pub returns-clause-among : goal.returns-clause-among
 returns-clause-among c =
     (are_so_far c.args.planned.now c.in_ok-links.links.items c.loop-m.waits.items c.loop-m.m c.loop-m.auto.m
-    (omega (arith, c.loop-m-test.false, c.len-m-end.ensures.count, c.loop-m.auto.m, c.loop-m.auto.m-end)) c.loop-m.invariant c.in_ok-links.ensures.links).among
+    (omega (arith, c.loop-m-test.false, c.len-m-end.ensures.count, c.loop-m.auto.m, c.loop-m.auto.m-end)) c.loop-m.invariant
+    (waited_for_links (planned_pairs c.args.planned.now) (planned_work c.args.planned.now) (planned_starts c.args.planned.now)
+    (length c.args.planned.now.plan.now.timings) c.in_ok-links.links.items (λ _. refl) c.in_ok-links.ensures.links)).among

@@ -3,6 +3,7 @@ use Rattle.std.proofs.Common.{◌≡◌, ℕ, List, [], map, ap, subst, ◌∙�
 use Rattle.waff_model.specs.declared.message.Message.{Message}
 use Rattle.waff_plan.specs.Timing.{start_of}
 use Rattle.waff_order.specs.Needs.{IsNeed}
+use Rattle.waff_list.specs.ListRule.{IsTakenFirst}
 use Rattle.waff_list.specs.Load.{Placed, priority_of, released_at}
 use Rattle.waff_list.specs.Planning.{placed_in}
 use Rattle.waff_list.specs.Progress.{work_of_messages, IsMade}
@@ -23,9 +24,9 @@ own needs messages releases priorities k placed same made =
 pub returns-clause-follows : goal.returns-clause-follows
 returns-clause-follows c =
     let made = own c.args.needs.now c.args.trace.now.messages c.in_ok-releases.releases.items c.match-rule.priorities.items c.args.k (placed_in c.in_ok-made.made)
-    c.in_ok-releases.ensures c.in_ok-made.ensures in
+    c.in_ok-releases.ensures.releases c.in_ok-made.ensures in
     let priority = priority_of c.match-rule.priorities.items in
-    let plan = plan_over_paths (IsNeed c.args.needs.now) (work_of_messages c.args.trace.now.messages) priority c.args.k (start_of c.in_ok-made.made.starts.items) made.plan in
+    let plan = plan_over_paths (IsNeed c.args.needs.now) (work_of_messages c.args.trace.now.messages) (IsTakenFirst priority) c.args.k (start_of c.in_ok-made.made.starts.items) made.plan in
     rw (c.new.ensures, c.in_ok-plan.ensures.timings, c.in_ok-plan.ensures.starts, c.as_slice.ensures.value)
     (elim c.match-rule.branch [
       | in-Longest+in_ok-priorities-in-Longest w ↦ rw w.in-Longest.is (priority, rw w.priorities-is w.in_ok-priorities-in-Longest.ensures.paths, plan)
@@ -37,9 +38,9 @@ returns-clause-follows c =
 pub returns-clause-seated : goal.returns-clause-seated
 returns-clause-seated c =
     rw (c.new.ensures, c.in_ok-plan.ensures.timings, c.in_ok-plan.ensures.starts, c.as_slice.ensures.value)
-    (own c.args.needs.now c.args.trace.now.messages _ _ c.args.k (placed_in c.in_ok-made.made) c.in_ok-releases.ensures c.in_ok-made.ensures).seated
+    (own c.args.needs.now c.args.trace.now.messages _ _ c.args.k (placed_in c.in_ok-made.made) c.in_ok-releases.ensures.releases c.in_ok-made.ensures).seated
 
 pub returns-clause-order : goal.returns-clause-order
 returns-clause-order c =
     rw (c.new.ensures, c.in_ok-plan.ensures.timings, c.in_ok-plan.ensures.starts, c.as_slice.ensures.value)
-    (own c.args.needs.now c.args.trace.now.messages _ _ c.args.k (placed_in c.in_ok-made.made) c.in_ok-releases.ensures c.in_ok-made.ensures).listed
+    (own c.args.needs.now c.args.trace.now.messages _ _ c.args.k (placed_in c.in_ok-made.made) c.in_ok-releases.ensures.releases c.in_ok-made.ensures).listed

@@ -3,6 +3,7 @@ use Rattle.std.proofs.lemmas.List.{append-nil, get_or_default, length-map}
 use Rattle.waff_model.specs.Numbers.{IsAmongFirst}
 use Rattle.waff_plan.specs.Work.{IsNumber}
 use Rattle.waff_plan.specs.Timing.{start_of}
+use Rattle.waff_list.specs.Load.{before_in, first_in}
 use Rattle.waff_list.specs.Planning.{load_of, placed_in}
 use Rattle.waff_list.specs.Progress.{IsProgress}
 use Rattle.waff_list.specs.Waiting.{AreEach, AreReady, AreReleases, ArePassed, AreLeft, AreManned, IsPassed, StayReady}
@@ -12,6 +13,7 @@ use Rattle.waff_list.proofs.Each.{contains_map}
 use Rattle.waff_list.proofs.FinishLemmas.{finishes_none}
 use Rattle.waff_list.proofs.Making.{never_at, progress_none}
 use Rattle.waff_list.proofs.TraceWork.{count_is, lengths_of, forward_of}
+use Rattle.waff_list.proofs.Uniqueness.{numbers_of, followed_of}
 use Rattle.waff_list.proofs.Waking.{ready_none, ready_of_passed}
 use Rattle.waff_list.proofs.planner.begin.Goals as goal
 
@@ -32,7 +34,7 @@ go_on-done-requires c =
     let passed : ArePassed sorted c.pass.new.self.passed 0 = pass.passed (λ i d early inside. absurd (omega (arith, none))) in
     let starts : p.starts.items ≡ replicate work.count NEVER = h.starts ∙ ap (λ n. replicate n NEVER) count in
     let never = λ (m : ℕ) (number : IsNumber (load_of c.args.task.now c.args.waiting.now.ready.priorities).work m).
-    subst (λ xs. start_of xs m ≡ NEVER) (sym starts) (never_at load forward m number) in
+    subst (λ xs. start_of xs m ≡ NEVER) (sym starts) (never_at (before_in load) (first_in load) load.work load.workers (numbers_of (before_in load) load.work forward) (followed_of (before_in load) load.work forward) m number) in
     let left : List ℕ = c.args.waiting.now.left.items in
     let counts : AreLeft load.needs (start_of p.starts.items) [] left
     = subst (λ xs. AreLeft load.needs (start_of p.starts.items) [] xs) (sym c.requires.left) (left_none load.needs work forward same (start_of p.starts.items) never) in
@@ -42,7 +44,7 @@ go_on-done-requires c =
     = subst (λ xs. StayReady work (IsPassed sorted c.in_ok-releases.releases.passed) xs c.args.waiting.now.ready.messages (IsPassed sorted c.pass.new.self.passed) xs c.pass.new.ready.messages)
     c.as_slice.ensures.value (pass.ready work are) in
     let manned : AreManned task.workers p.seats.items [] p.idle = subst (λ xs. AreEach (IsAmongFirst task.workers) xs) (sym (append-nil p.idle)) h.idle in
-    let progress : IsProgress load (placed_in p) 0 1 0 = rw (h.starts, h.seats, h.order, count) (progress_none load forward (omega (arith, task.lists.few))) in
+    let progress : IsProgress load (placed_in p) 0 1 0 = rw (h.starts, h.seats, h.order, count) (progress_none (before_in load) (first_in load) load.work load.workers (numbers_of (before_in load) load.work forward) (followed_of (before_in load) load.work forward) (omega (arith, task.lists.few))) in
     record {
       begun = rw pass.priorities progress;
       kept = rw (pass.priorities, h.finishes, h.order) (record {

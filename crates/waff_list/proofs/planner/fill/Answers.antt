@@ -3,7 +3,7 @@ use Rattle.std.specs.List.Sorted.{IsPermutation}
 use Rattle.std.proofs.lemmas.List.{get_or_read}
 use Rattle.waff_plan.specs.Work.{IsNumber}
 use Rattle.waff_list.specs.Planning.{task_work, load_of, placed_in}
-use Rattle.waff_list.proofs.TraceWork.{count_is, lengths_of, forward_of}
+use Rattle.waff_list.proofs.TraceWork.{count_is, lengths_of, forward_of, none_of}
 use Rattle.waff_list.proofs.Filling.{starting_none, starting_more, message_known, filled, kept_filled}
 use Rattle.waff_list.proofs.planner.fill.Goals as goal
 use Rattle.waff_list.proofs.planner.fill.Goals.{After-index-m}
@@ -13,7 +13,7 @@ loop-at-init c =
     let task = c.args.task.now in
     let p = c.args.progress.now in
     record {
-      on = starting_none (load_of task c.args.waiting.now.ready.priorities) (forward_of task) (lengths_of task) (placed_in p) p.finishes p.idle c.args.waiting.now.left.items c.args.waiting.now.ready c.choose.new.idle c.choose.new.ready
+      on = starting_none (load_of task c.args.waiting.now.ready.priorities) (forward_of task) (none_of task) (lengths_of task) (placed_in p) p.finishes p.idle c.args.waiting.now.left.items c.args.waiting.now.ready c.choose.new.idle c.choose.new.ready
           c.args.now c.choose.new.self.messages.items c.choose.new.self.workers.items c.in_ok-choose.ensures.chosen c.requires.begun c.requires.kept;
       idle = refl;
     }
@@ -34,7 +34,7 @@ known c =
     let load = load_of task c.args.waiting.now.ready.priorities in
     let chosen = c.in_ok-choose.ensures.chosen in
     subst (λ m. IsNumber load.work m) (sym (is c))
-    (message_known load (forward_of task) (lengths_of task) _ _ _ _ c.choose.new.self.messages.items c.choose.new.self.workers.items c.loop-at.at chosen.count c.loop-at.invariant.on
+    (message_known load (forward_of task) (none_of task) (lengths_of task) _ _ _ _ c.choose.new.self.messages.items c.choose.new.self.workers.items c.loop-at.at chosen.count c.loop-at.invariant.on
     c.in_ok-choose.ensures.sorted chosen.rising (least c) (inside c))
 
 pub cost_of-requires : goal.cost_of-requires
@@ -72,7 +72,7 @@ loop-at-preserved c =
     let pushed : IsPermutation ((now + work.cost m, m) ∷ p.finishes) c.place.new.self.finishes = rw (cost, is i) at h.finishes in
     record {
       on = rw (h.starts, h.seats, h.order, h.idle, is i, on_worker, next)
-          (starting_more load (forward_of task) (lengths_of task) _ (placed_in p) _ now messages workers c.loop-at.at chosen.count c.loop-at.invariant.on
+          (starting_more load (forward_of task) (none_of task) (lengths_of task) _ (placed_in p) _ now messages workers c.loop-at.at chosen.count c.loop-at.invariant.on
           c.in_ok-choose.ensures.sorted chosen.rising (least i) (inside i) c.place.new.self.finishes (omega arith) (subst (λ n. 1 ≤ n) cost c.cost_of.ensures.some) pushed);
       idle = h.idle ∙ c.loop-at.invariant.idle;
     }
@@ -84,11 +84,11 @@ returns-clause-filled c =
     let messages = c.choose.new.self.messages.items in
     let end : length messages ≤ c.loop-at.at = omega (arith, c.len-at-end.ensures, c.loop-at-test.false) in
     let over = subst (λ (xs : List ℕ). (xs ≡ []) ⊎ (c.choose.new.ready.messages ≡ [])) (sym c.loop-at.invariant.idle) c.in_ok-choose.ensures.over in
-    filled (load_of task c.args.waiting.now.ready.priorities) (forward_of task) (lengths_of task) _ _ _ _ messages _ c.loop-at.at chosen.count c.loop-at.invariant.on end (omega arith) over chosen.first
+    filled (load_of task c.args.waiting.now.ready.priorities) (forward_of task) (none_of task) (lengths_of task) _ _ _ _ messages _ c.loop-at.at chosen.count c.loop-at.invariant.on end (omega arith) over chosen.first
 
 pub returns-clause-kept : goal.returns-clause-kept
 returns-clause-kept c =
     let task = c.args.task.now in
     let messages = c.choose.new.self.messages.items in
-    kept_filled (load_of task c.args.waiting.now.ready.priorities) (forward_of task) (lengths_of task) _ _ _ _ messages _ c.loop-at.at c.in_ok-choose.ensures.chosen.count c.loop-at.invariant.on
+    kept_filled (load_of task c.args.waiting.now.ready.priorities) (forward_of task) (none_of task) (lengths_of task) _ _ _ _ messages _ c.loop-at.at c.in_ok-choose.ensures.chosen.count c.loop-at.invariant.on
     (omega (arith, c.len-at-end.ensures, c.loop-at-test.false))

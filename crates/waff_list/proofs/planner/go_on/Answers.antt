@@ -1,10 +1,11 @@
-use Rattle.std.proofs.Common.{ℕ, ◌+◌, ◌<◌, ◌≤◌, List, length, get_or, All, arith, refl, sym, ◌∙◌, ap, subst}
+use Rattle.std.proofs.Common.{ℕ, ◌+◌, ◌<◌, ◌≤◌, List, length, get_or, All, inl, inr, arith, refl, sym, ◌∙◌, ap, subst}
 use Rattle.std.proofs.lemmas.List.{get_or_default}
 use Rattle.std.proofs.lemmas.List.Elements.{All-weaker}
 use Rattle.waff_model.specs.Numbers.{IsAmongFirst}
 use Rattle.waff_plan.specs.Work.{Work}
 use Rattle.waff_plan.specs.Timing.{start_of}
-use Rattle.waff_list.specs.Load.{Load}
+use Rattle.waff_plan.proofs.NoClients.{issue_is_release}
+use Rattle.waff_list.specs.Load.{Load, before_in, first_in}
 use Rattle.waff_list.specs.Planning.{task_work, load_of, pending_in, placed_in}
 use Rattle.waff_list.specs.Progress.{IsKept, IsNextTick, IsLastTick, GoesOn}
 use Rattle.waff_list.specs.Waiting.{AreFinishes, AreManned, AreReady, AreReleases, ArePassed, IsPassed, Runs, StayReady}
@@ -13,7 +14,8 @@ use Rattle.waff_list.proofs.Each.{contains_map}
 use Rattle.waff_list.proofs.Events.{events_fewer, on_time_none, on_time_next, made_of_last}
 use Rattle.waff_list.proofs.FinishLemmas.{finishes_advance}
 use Rattle.waff_list.proofs.Making.{progress_advance}
-use Rattle.waff_list.proofs.TraceWork.{count_is, lengths_of, forward_of}
+use Rattle.waff_list.proofs.TraceWork.{count_is, lengths_of, forward_of, none_of}
+use Rattle.waff_list.proofs.Uniqueness.{numbers_of, followed_of}
 use Rattle.waff_list.proofs.Waking.{passed_of_ready, ready_of_passed}
 use Rattle.waff_list.proofs.planner.go_on.Goals as goal
 use Rattle.waff_list.proofs.planner.go_on.Goals.{In_ok-fill, In-Some}
@@ -46,7 +48,7 @@ loop-releases-init c = record {
   progress = c.requires.begun;
   kept = c.requires.kept;
   priorities = refl;
-  time = on_time_none (load_of c.args.task.now c.args.waiting.now.ready.priorities).work (start_of c.args.progress.now.starts.items);
+  time = on_time_none (load_of c.args.task.now c.args.waiting.now.ready.priorities).work (start_of c.args.progress.now.starts.items) 0 (omega arith);
   releases = c.requires.releases;
   passed = c.requires.passed;
 }
@@ -117,7 +119,12 @@ loop-releases-preserved c =
     = subst (λ xs. StayReady work (IsPassed sorted c.loop-releases.releases.passed) xs c.wake.new.waiting.ready.messages (IsPassed sorted c.pass.new.self.passed) xs c.pass.new.ready.messages)
     c.as_slice-in-Some.ensures.value (pass.ready work invariant.releases) in
     record {
-      progress = progress_advance (load f) (forward_of c.args.task.now) (placed_in new) now next new.finishes (kept f).finishes to_next made;
+      progress = progress_advance (before_in (load f)) (first_in (load f)) work (load f).workers (numbers_of (before_in (load f)) work (forward_of c.args.task.now))
+          (followed_of (before_in (load f)) work (forward_of c.args.task.now)) (placed_in new) now next new.finishes (kept f).finishes to_next
+          (λ m number. elim (to_next.releases m number) [
+            | inl early ↦ inl (omega (arith, early, issue_is_release work (none_of c.args.task.now) start m))
+            | inr late ↦ inr (omega (arith, late, issue_is_release work (none_of c.args.task.now) start m))
+          ]) made;
       kept = record {
         finishes = finishes_advance work start now next new.finishes c.wake.new.finishes later to_next.tick made.settled.placed woken.finished (kept f).finishes;
         manned = subst (λ xs. AreManned (load f).workers xs new.finishes new.idle → AreManned (load f).workers xs c.wake.new.finishes c.wake.new.idle) c.as_slice.ensures.value
@@ -138,5 +145,5 @@ returns-in-None c =
     let new = c.fill.new.progress in
     let invariant = c.loop-releases.invariant in
     let last : IsLastTick (load f).work new.finishes c.loop-releases.now = c.in-None.ensures (load f).work c.requires.small invariant.releases invariant.passed (late f) in
-    made_of_last (load f) (forward_of c.args.task.now) c.requires.small (placed_in new) c.loop-releases.now c.args.task.now.some.from (omega (arith, invariant.time, c.args.task.now.lists.few, lengths_of c.args.task.now))
+    made_of_last (load f) (forward_of c.args.task.now) (none_of c.args.task.now) c.requires.small (placed_in new) c.loop-releases.now c.args.task.now.some.from (omega (arith, invariant.time, c.args.task.now.lists.few, lengths_of c.args.task.now))
     (filled f).progress new.finishes (kept f).finishes last

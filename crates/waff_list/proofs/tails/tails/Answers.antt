@@ -2,12 +2,12 @@ use Rattle.std.proofs.Common.{◌≡◌, ℕ, ◌+◌, ◌-◌, ◌^◌, ◌<◌
 use Rattle.std.proofs.lemmas.List.{get_or_read, length-set, take_all, drop_all, append-nil}
 use Rattle.std.proofs.lemmas.List.Elements.{Contains-get_or}
 use Rattle.waff_plan.specs.Work.{IsNumber}
-use Rattle.waff_plan.specs.Obeys.{IsForward}
+use Rattle.waff_plan.specs.Obeys.{IsEarlier}
 use Rattle.waff_order.specs.Needs.{IsNeed}
 use Rattle.waff_list.specs.Progress.{work_of_messages}
 use Rattle.waff_list.specs.Tails.{tail_of, AreTails, AreRaised}
 use Rattle.waff_list.proofs.DependentLemmas.{needs_inside}
-use Rattle.waff_list.proofs.TraceWork.{count_is, needs_forward}
+use Rattle.waff_list.proofs.TraceWork.{count_is, needs_earlier}
 use Rattle.waff_list.proofs.TailLemmas.{tails_over_paths}
 use Rattle.waff_list.proofs.TailMaking.{AreTailsAfter, tails_all, tails_more, tails_small, takes_turn}
 use Rattle.waff_list.proofs.tails.tails.Goals as goal
@@ -42,7 +42,7 @@ loop-m-preserved c =
     let from : 1 ≤ m = omega arith in
     let to : m ≤ length tails = omega (arith, count, c.loop-m.auto.m) in
     let all : length tails ≡ work.count = count ∙ c.requires ∙ sym (count_is c.args.trace.now.messages) in
-    let forward = needs_forward needs work c.len.ensures.lists (sym count ∙ all) in
+    let forward = needs_earlier needs work c.len.ensures.lists (sym count ∙ all) in
     let number : IsNumber work m = record { from = from; to = omega (arith, all) } in
     let read : c.index.result.now ≡ tail_of tails m = get_or_read tails (m - 1) c.index.result.now (omega (arith, to)) c.index.ensures 0 in
     let sum : tail ≡ tail_of tails m + work.cost m = omega (arith, read, c.cost_of.ensures.cost) in
@@ -59,9 +59,9 @@ loop-m-preserved c =
       after = subst (λ xs. AreTailsAfter (IsNeed needs) work (tail_of xs) (m - 1)) (sym is) after;
     }
 
-forward_at : (c : After-loop-m) → IsForward (IsNeed c.args.needs.now) (work_of_messages c.args.trace.now.messages)
+forward_at : (c : After-loop-m) → (i j : ℕ) → IsNeed c.args.needs.now i j → IsEarlier (work_of_messages c.args.trace.now.messages) i j
 forward_at c =
-    needs_forward c.args.needs.now (work_of_messages c.args.trace.now.messages) c.len.ensures.lists (c.requires ∙ sym (count_is c.args.trace.now.messages))
+    needs_earlier c.args.needs.now (work_of_messages c.args.trace.now.messages) c.len.ensures.lists (c.requires ∙ sym (count_is c.args.trace.now.messages))
 
 -- all messages have had their turns
 made : (c : After-loop-m) → AreTailsAfter (IsNeed c.args.needs.now) (work_of_messages c.args.trace.now.messages) (tail_of c.loop-m.tails.items) 0

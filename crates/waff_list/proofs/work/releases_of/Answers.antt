@@ -1,6 +1,8 @@
-use Rattle.std.proofs.Common.{◌≡◌, ◌+◌, ◌-◌, [], ◌∷◌, ◌++◌, take, arith, ◌∙◌, ap}
-use Rattle.std.proofs.lemmas.List.{map-append, take_more}
+use Rattle.std.proofs.Common.{◌≡◌, ◌+◌, ◌-◌, ◌≤◌, [], ◌∷◌, ◌++◌, map, take, All, arith, sym, ◌∙◌, ap, subst}
+use Rattle.std.proofs.lemmas.List.{map-append, take_all, take_more}
+use Rattle.std.proofs.lemmas.List.Elements.{All-map}
 use Rattle.std.proofs.lemmas.Option.{slice_get_within, get_or_from_slice_get}
+use Rattle.waff_model.specs.declared.limits.TheConstants.{MAX_RELEASE}
 use Rattle.waff_model.specs.declared.message.Message.{Message}
 use Rattle.waff_list.proofs.work.releases_of.Goals as goal
 
@@ -17,3 +19,12 @@ loop-m-preserved c =
       items = rw (c.push_reserved.ensures.items, next, more, map-append (λ (x : Message). x.release) (take i messages) (message ∷ []), c.loop-m.invariant.items);
       room = c.push_reserved.ensures.capacity ∙ c.loop-m.invariant.room;
     }
+
+pub returns-clause-small : goal.returns-clause-small
+returns-clause-small c =
+    let messages = c.args.trace.now.messages in
+    let release = λ (x : Message). x.release in
+    let whole : take (c.loop-m.m - 1) messages ≡ messages = take_all (c.loop-m.m - 1) messages (omega arith) in
+    let items : c.loop-m.releases.items ≡ map release messages = c.loop-m.invariant.items ∙ ap (λ xs. map release xs) whole in
+    subst (All (λ r. r ≤ MAX_RELEASE)) (sym items)
+    (All-map (λ r. r ≤ MAX_RELEASE) release messages (λ k d inside. (c.len.ensures.trace.messages k d inside).within_release))

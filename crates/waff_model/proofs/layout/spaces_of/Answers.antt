@@ -5,7 +5,7 @@ use Rattle.waff_model.proofs.layout.spaces_of.Goals as goal
 
 pub loop-space-preserved : goal.loop-space-preserved
 loop-space-preserved c =
-    let row = space_of c.args.tree.now c.args.maps.now in
+    let row = space_of c.args.format c.args.tree.now c.args.maps.now in
     let spaces = c.args.spaces.now in
     let k = c.loop-space.space-index in
     let space = c.space-item.result in
@@ -17,4 +17,4 @@ loop-space-preserved c =
 pub returns : goal.returns
 returns c =
     c.loop-space.invariant
-    ∙ ap (map (space_of c.args.tree.now c.args.maps.now)) (take_all c.loop-space.space-index c.args.spaces.now c.loop-space-test.false)
+    ∙ ap (map (space_of c.args.format c.args.tree.now c.args.maps.now)) (take_all c.loop-space.space-index c.args.spaces.now c.loop-space-test.false)

@@ -3,6 +3,7 @@ use Rattle.std.proofs.lemmas.Bool.{eqb-true}
 use Rattle.waff_model.specs.declared.cell.Cell.{Cell}
 use Rattle.waff_model.specs.Layout.{IsCell, owner_of}
 use Rattle.waff_model.specs.Parcel.{cells_ahead}
+use Rattle.waff_model.proofs.LayoutLemmas.{cells_within}
 use Rattle.waff_model.proofs.ParcelLemmas.{owned_more, owned_same, owned_few}
 use Rattle.waff_model.proofs.parcels.count_on.Goals as goal
 use Rattle.waff_model.proofs.parcels.count_on.Goals.{then-eq, else-eq}
@@ -19,7 +20,7 @@ overflow_add-count c =
       c.loop-index.invariant,
       owned_more spaces cell is_cell c.args.a.0 owned,
       owned_few spaces (cells_ahead spaces c.args.s + (c.loop-index.index + 1)) c.args.a.0,
-      c.space_count.ensures.layout.cells,
+      cells_within c.args.layout.now c.space_count.ensures.layout,
     )
 
 pub loop-index-preserved : goal.loop-index-preserved

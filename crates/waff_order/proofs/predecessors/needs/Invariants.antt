@@ -1,6 +1,6 @@
-use Rattle.std.proofs.Common.{◌-◌}
-use Rattle.waff_order.proofs.Reaching.{IsReached}
+use Rattle.std.proofs.Common.{◌-◌, take}
+use Rattle.waff_order.specs.Joined.{HaveJoined}
 use Rattle.waff_order.proofs.predecessors.needs.Given as goal
 
 abbrev pub invariant-loop-m : goal.invariant-loop-m
-invariant-loop-m l = IsReached l.tree l.assigned l.spans l.lists l.frontier.opened l.frontier.latest (l.m - 1)
+invariant-loop-m l = HaveJoined l.tree l.spans (take (l.m - 1) l.assigned) l.joining

@@ -4,4 +4,4 @@ use Rattle.waff_plan.proofs.Forward.{IsOrdered_forward}
 use Rattle.waff_plan.proofs.laws.printed_is_chain.Goals as goal
 
 pub returns : goal.returns
-returns c = λ tree assigned work same. printed_is_chain (IsOrdered tree assigned) work (IsOrdered_forward tree assigned work same)
+returns c = λ tree assigned work same follows. printed_is_chain (IsOrdered tree assigned) work (IsOrdered_forward tree assigned work same follows)

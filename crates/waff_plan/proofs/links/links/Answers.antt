@@ -1,12 +1,14 @@
-use Rattle.std.proofs.Common.{◌≡◌, ◌+◌, ◌-◌, ◌≤◌, [], ◌∷◌, ◌++◌, length, arith, sym, ◌∙◌, ap, subst}
+use Rattle.std.proofs.Common.{◌≡◌, ◌+◌, ◌-◌, ◌≤◌, [], ◌∷◌, ◌++◌, length, arith, refl, sym, ◌∙◌, ap, subst}
+use Rattle.std.specs.List.{range_with_len}
 use Rattle.std.proofs.lemmas.List.{length_push}
 use Rattle.waff_model.specs.Preorder.{span_at}
 use Rattle.waff_assign.specs.Order.{IsOrdered}
 use Rattle.waff_plan.specs.Work.{finish_of}
-use Rattle.waff_plan.specs.Table.{message_span, IsTable}
+use Rattle.waff_plan.specs.Table.{IsTable}
 use Rattle.waff_plan.specs.Links.{IsLink, link_of}
 use Rattle.waff_plan.specs.Timetable.{work_in, starts_in}
 use Rattle.waff_plan.proofs.Linkings.{is_link, links_more}
+use Rattle.waff_plan.proofs.Longest.{range_with_len_more}
 use Rattle.waff_plan.proofs.Tables.{found_at}
 use Rattle.waff_plan.proofs.links.links.Goals as goal
 
@@ -39,15 +41,17 @@ loop-m-preserved c =
     let link_is : link ≡ link_of c.latest.result (work.release m)
     = c.waited_for-link.ensures ∙ ap (λ release. link_of c.latest.result release) c.release.ensures.release in
     let is : IsLink (IsOrdered tree assigned) work start m link
-    = subst (λ x. IsLink (IsOrdered tree assigned) work start m x) (sym link_is) (is_link tree assigned work start m c.latest.result from to found) in
+    = subst (λ x. IsLink (IsOrdered tree assigned) work start m x) (sym link_is) (is_link tree assigned work start m c.latest.result (λ _. refl) from to found) in
     let more = links_more (IsOrdered tree assigned) work start m links link from c.loop-m.invariant.count c.loop-m.invariant.links is in
-    let noted = c.note.ensures.table spans assigned finish (m - 1) c.loop-m.invariant.table (sym this)
-    (ap (λ x. message_span spans assigned x) this ∙ ap (λ x. span_at spans x) (sym c.of.ensures)) (ap finish this ∙ sym c.finish-finish.ensures.finish) in
+    let one_more : range_with_len 1 (m - 1) ++ m ∷ [] ≡ range_with_len 1 (m + 1 - 1)
+    = sym (range_with_len_more 1 (m - 1) m (omega arith)) ∙ ap (range_with_len 1) (this ∙ next) in
+    let noted = c.note.ensures.table spans assigned finish (range_with_len 1 (m - 1)) c.loop-m.invariant.table
+    (ap (λ x. span_at spans x) (sym c.of.ensures)) (sym c.finish-finish.ensures.finish) in
     let items : c.push_reserved.new.self.items ≡ links ++ link ∷ [] = c.push_reserved.ensures.items in
     record {
       count = rw items (let long = length_push links link in omega (arith, long, c.loop-m.invariant.count));
       links = rw items more;
-      table = subst (λ x. IsTable spans assigned finish x c.note.new.self) (this ∙ next) noted;
+      table = subst (λ xs. IsTable spans assigned finish xs c.note.new.self) one_more noted;
       spans = c.note.ensures.count ∙ c.loop-m.invariant.spans;
       room = c.push_reserved.ensures.capacity ∙ c.loop-m.invariant.room;
     }

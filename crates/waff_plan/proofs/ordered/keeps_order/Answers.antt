@@ -1,10 +1,12 @@
 -- Each message starts after the latest of the noted ones that exclude it.
-use Rattle.std.proofs.Common.{◌≡◌, ◌+◌, ◌-◌, ◌<◌, ◌≤◌, length, IfSome, arith, sym, ◌∙◌, ap, subst}
+use Rattle.std.proofs.Common.{◌≡◌, ◌+◌, ◌-◌, ◌<◌, ◌≤◌, [], ◌∷◌, ◌++◌, length, IfSome, arith, sym, ◌∙◌, ap, subst}
+use Rattle.std.specs.List.{range_with_len}
 use Rattle.waff_model.specs.Preorder.{span_at}
 use Rattle.waff_plan.specs.Work.{finish_of}
-use Rattle.waff_plan.specs.Table.{message_span, IsTable}
+use Rattle.waff_plan.specs.Table.{IsTable}
 use Rattle.waff_plan.specs.Timetable.{work_in, starts_in}
 use Rattle.waff_plan.proofs.OrderKept.{after_latest, keeps_more, noted_before, starts_after}
+use Rattle.waff_plan.proofs.Longest.{range_with_len_more}
 use Rattle.waff_plan.proofs.Tables.{found_at}
 use Rattle.waff_plan.proofs.ordered.keeps_order.Goals as goal
 use Rattle.waff_plan.proofs.ordered.keeps_order.Goals.{then-m-count, else-m-count}
@@ -14,7 +16,7 @@ loop-m-init c = record {
   kept = λ i j o early. let from : 1 ≤ i = o.ordered.from in let earlier : i < j = o.ordered.earlier in absurd (omega arith);
   table =
       let none : 0 ≡ noted_before c.args.count 1 = omega arith in
-      subst (λ x. IsTable c.spans-spans.result.now c.args.assigned.now (finish_of (work_in c.args.plan.now) (starts_in c.args.plan.now)) x c.in_ok-table.table)
+      subst (λ x. IsTable c.spans-spans.result.now c.args.assigned.now (finish_of (work_in c.args.plan.now) (starts_in c.args.plan.now)) (range_with_len 1 x) c.in_ok-table.table)
       none (c.in_ok-table.ensures.table c.spans-spans.result.now c.args.assigned.now _);
   spans = c.in_ok-table.ensures.count ∙ c.len.ensures.count;
 }
@@ -56,16 +58,16 @@ loop-m-preserved c =
     c.spans-spans.ensures c.requires.known (omega arith) to c.of.ensures kept.table c.latest.ensures in
     let late : IfSome c.latest.result (λ l. l.finish ≤ start m) = rw (sym c.start.ensures.start) (c.is_finished_by.ensures.0 c.if-not-is_finished_by.false) in
     let more = keeps_more tree assigned work start count m kept.kept (starts_after tree assigned work start count m c.latest.result found late) in
-    let this : m - 1 + 1 ≡ m = omega arith in
     elim c.if-m-count.branch [
       | then-m-count w ↦ (
           let within : m ≤ count = omega (arith, w.if-m-count.true) in
           let before : noted_before count m ≡ m - 1 = omega arith in
-          let after : m - 1 + 1 ≡ noted_before count (m + 1) = omega arith in
-          let noted : IsTable spans assigned (finish_of work start) (m - 1 + 1) w.note.new.self
-          = w.note.ensures.table spans assigned (finish_of work start) (m - 1) (subst (λ x. IsTable spans assigned (finish_of work start) x c.loop-m.table) before kept.table) (sym this)
-          (ap (λ x. message_span spans assigned x) this ∙ ap (λ x. span_at spans x) (sym c.of.ensures))
-          (ap (finish_of work start) this ∙ sym w.finish-finish.ensures.finish) in
+          let after : range_with_len 1 (m - 1) ++ m ∷ [] ≡ range_with_len 1 (noted_before count (m + 1))
+          = sym (range_with_len_more 1 (m - 1) m (omega arith)) ∙ ap (range_with_len 1) (let next : m - 1 + 1 ≡ noted_before count (m + 1) = omega arith in next) in
+          let noted : IsTable spans assigned (finish_of work start) (range_with_len 1 (m - 1) ++ m ∷ []) w.note.new.self
+          = w.note.ensures.table spans assigned (finish_of work start) (range_with_len 1 (m - 1))
+          (subst (λ x. IsTable spans assigned (finish_of work start) (range_with_len 1 x) c.loop-m.table) before kept.table)
+          (ap (λ x. span_at spans x) (sym c.of.ensures)) (sym w.finish-finish.ensures.finish) in
           rw w.table-is (record {
             kept = more;
             table = subst (λ x. IsTable spans assigned (finish_of work start) x w.note.new.self) after noted;
@@ -77,7 +79,7 @@ loop-m-preserved c =
           let same : noted_before count m ≡ noted_before count (m + 1) = omega arith in
           rw w.table-is (record {
             kept = more;
-            table = subst (λ x. IsTable spans assigned (finish_of work start) x c.loop-m.table) same kept.table;
+            table = subst (λ x. IsTable spans assigned (finish_of work start) (range_with_len 1 x) c.loop-m.table) same kept.table;
             spans = kept.spans;
           })
           )

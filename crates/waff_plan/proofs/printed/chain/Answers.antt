@@ -5,7 +5,7 @@ use Rattle.waff_plan.specs.Work.{length_of}
 use Rattle.waff_plan.specs.Chain.{IsChain, IsListed, IsPrinted, chain_cost, chain_release}
 use Rattle.waff_plan.specs.Timetable.{Timetable, work_in, starts_in}
 use Rattle.waff_plan.proofs.Chains.{printed_is_chain, printed_is_as_long}
-use Rattle.waff_plan.proofs.Forward.{IsOrdered_forward}
+use Rattle.waff_plan.proofs.Forward.{timings_forward}
 use Rattle.waff_plan.proofs.Linkings.{chain_is_numbers, chain_is_few}
 use Rattle.waff_plan.proofs.printed.chain.Goals as goal
 
@@ -14,7 +14,7 @@ chain_from : (tree : List Node) (assigned : List ℕ) (plan : Timetable) (messag
     → IsPrinted (IsOrdered tree assigned) (work_in plan) (starts_in plan) messages
     → IsChain (IsOrdered tree assigned) (work_in plan) messages
 chain_from tree assigned plan messages same h =
-    printed_is_chain (IsOrdered tree assigned) (work_in plan) (IsOrdered_forward tree assigned (work_in plan) (sym same))
+    printed_is_chain (IsOrdered tree assigned) (work_in plan) (timings_forward tree assigned plan.timings (sym same))
     (starts_in plan) messages h
 
 -- its messages are messages, at most as many as there are
@@ -28,7 +28,7 @@ listed_from tree assigned plan messages same h =
     let numbers = chain_is_numbers before work messages linked in
     record {
       each = λ i d lt. let m = numbers i d lt in record { from = m.from; to = m.to };
-      few = chain_is_few before work (IsOrdered_forward tree assigned work (sym same)) messages linked;
+      few = chain_is_few before work (timings_forward tree assigned plan.timings (sym same)) messages linked;
     }
 
 pub cost_of-cost-requires : goal.cost_of-cost-requires
@@ -60,7 +60,7 @@ returns-clause-as_long c = λ least.
     let start = starts_in c.args.plan.now in
     let messages = c.in_ok-messages.messages.items in
     let long : chain_release work messages + chain_cost work messages ≡ length_of work start
-    = printed_is_as_long (IsOrdered tree assigned) work (IsOrdered_forward tree assigned work (sym c.requires.lengths)) start messages least
+    = printed_is_as_long (IsOrdered tree assigned) work (timings_forward tree assigned c.args.plan.now.timings (sym c.requires.lengths)) start messages least
     c.in_ok-messages.ensures.printed in
     let cost : c.cost_of-cost.result ≡ chain_cost work messages
     = c.cost_of-cost.ensures.cost ∙ ap (λ xs. chain_cost work xs) c.as_slice.ensures.value in

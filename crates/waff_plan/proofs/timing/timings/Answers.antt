@@ -1,5 +1,9 @@
-use Rattle.std.proofs.Common.{◌≡◌, ℕ, ◌+◌, ◌-◌, List, [], ◌∷◌, ◌++◌, Some, take, slice_get, arith, sym, ◌∙◌, ap, option_map}
-use Rattle.std.proofs.lemmas.List.{take_more}
+use Rattle.std.proofs.Common.{◌≡◌, ℕ, ◌+◌, ◌-◌, List, [], ◌∷◌, ◌++◌, length, All, Some, take, slice_get, arith, sym, ◌∙◌, ap, subst, option_map}
+use Rattle.std.proofs.lemmas.List.{take_more, take_all, length-map}
+use Rattle.std.proofs.lemmas.List.Elements.{All-map}
+use Rattle.waff_model.specs.Messages.{IsMessage}
+use Rattle.waff_model.specs.declared.message.Version.{Version}
+use Rattle.waff_plan.specs.Timing.{IsTiming}
 use Rattle.std.proofs.lemmas.Option.{slice_get-map, slice_get_within, get_or_from_slice_get}
 use Rattle.waff_model.specs.declared.message.Message.{Message}
 use Rattle.waff_plan.specs.declared.timing.Timing.{Timing}
@@ -29,3 +33,18 @@ loop-n-preserved c =
           ∙ ap (λ k. take k all) next,
       c.push_reserved.ensures.capacity ∙ c.loop-n.invariant.1,
     )
+
+-- the timing of a message within the limits is within them
+timings_are_small : (version : Version) (sizes : List ℕ) (messages : List Message) → All (IsMessage version sizes) messages → All IsTiming (timings_of messages)
+timings_are_small version sizes messages h =
+    All-map IsTiming (λ (m : Message). let t : Timing = record { cost = m.cost; release = m.release } in t) messages
+    (λ k d within. let is = h k d within in record { cost = is.within_cost; release = is.within_release })
+
+pub returns-clause-small : goal.returns-clause-small
+returns-clause-small c =
+    let messages = c.args.trace.now.messages in
+    let count : length (timings_of messages) ≡ length messages
+    = length-map messages (λ (m : Message). let t : Timing = record { cost = m.cost; release = m.release } in t) in
+    let same : c.loop-n.timings.items ≡ timings_of messages
+    = c.loop-n.invariant.0 ∙ take_all (c.loop-n.n - 1) (timings_of messages) (omega (arith, count, c.loop-n-test.false, c.len-n-end.ensures.count)) in
+    subst (All IsTiming) (sym same) (timings_are_small _ _ messages c.len.ensures.trace.messages)

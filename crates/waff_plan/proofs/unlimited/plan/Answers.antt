@@ -1,5 +1,6 @@
 use Rattle.std.proofs.Common.{◌≡◌, ◌≤◌, List, length, arith, sym, ◌∙◌, ap, subst}
 use Rattle.std.proofs.lemmas.List.{length-map}
+use Rattle.waff_model.specs.declared.limits.TheConstants.{MAX_MESSAGES}
 use Rattle.waff_model.specs.declared.message.Message.{Message}
 use Rattle.waff_assign.specs.Order.{IsOrdered}
 use Rattle.waff_plan.specs.Obeys.{IsLeast}
@@ -16,7 +17,7 @@ new-requires c =
     let lengths : length c.in_ok-starts.starts.items ≡ length c.in_ok-timings.timings.items = c.in_ok-starts.ensures.count ∙ ap length c.as_slice.ensures.value in
     let same : length c.in_ok-timings.timings.items ≡ length c.args.trace.now.messages
     = ap length c.in_ok-timings.ensures.each ∙ length-timings_of c.args.trace.now.messages in
-    let few : length c.args.trace.now.messages ≤ 65536 = c.timings.ensures.few in
+    let few : length c.args.trace.now.messages ≤ MAX_MESSAGES = c.timings.ensures.few in
     record {
       lengths = lengths;
       few = omega arith;

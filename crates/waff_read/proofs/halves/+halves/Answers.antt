@@ -3,10 +3,10 @@ use Rattle.waff_read.specs.Traces.{Spells}
 use Rattle.waff_read.proofs.HalfLaws.{some-has, spells-both}
 use Rattle.waff_read.proofs.halves.+halves.Goals as goal
 
-pub returns : goal.returns
-returns g t c =
-    spells-both c.args.version c.args.spaces.now c.args.text.now c.in_ok-first.first.now c.in_ok-first.second.now c.in_ok-first-2.field-0.items c.in_ok-second.field-0.items c.joined.result
+pub returns-clause-messages : goal.returns-clause-messages
+returns-clause-messages g t c =
+    spells-both c.args.version c.args.spaces.now c.args.text.now c.in_ok-first.first.now c.in_ok-first.second.now c.in_ok-first-2.field-0.list.items c.in_ok-second.field-0.list.items c.joined.result
     c.in_ok-first.ensures.records
-    (some-has (λ messages. Spells c.args.version c.args.spaces.now c.in_ok-first.first.now messages.items) c.join-first.result.0 c.in_ok-first-2.field-0 c.in_ok-first-2.was c.join-first.ensures.first)
-    (some-has (λ messages. Spells c.args.version c.args.spaces.now c.in_ok-first.second.now messages.items) c.join-first.result.1 c.in_ok-second.field-0 c.in_ok-second.was c.join-first.ensures.second)
-    c.joined.ensures.both c.joined.ensures.few
+    (some-has (λ read. Spells c.args.version c.args.spaces.now c.in_ok-first.first.now read.list.items) c.join-first.result.0 c.in_ok-first-2.field-0 c.in_ok-first-2.was c.join-first.ensures.first.0)
+    (some-has (λ read. Spells c.args.version c.args.spaces.now c.in_ok-first.second.now read.list.items) c.join-first.result.1 c.in_ok-second.field-0 c.in_ok-second.was c.join-first.ensures.second.0)
+    c.joined.ensures.both c.joined.ensures.few c.joined.ensures.few_ops

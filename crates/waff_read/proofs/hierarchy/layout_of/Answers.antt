@@ -4,8 +4,8 @@ use Rattle.waff_read.proofs.hierarchy.layout_of.Goals as goal
 
 pub returns-in-Ok : goal.returns-in-Ok
 returns-in-Ok c =
-    layout_read c.args.kind c.args.tree c.args.spaces.now c.args.maps.now c.in-Ok.ensures.accepted ∙ ap Ok (sym c.in-Ok.ensures.kept)
+    layout_read c.args.format c.args.kind c.args.tree c.args.spaces.now c.args.maps.now c.in-Ok.ensures.accepted ∙ ap Ok (sym c.in-Ok.ensures.kept)
 
 pub returns-in_default : goal.returns-in_default
 returns-in_default c =
-    layout_refused c.args.kind c.args.tree c.args.spaces.now c.args.maps.now c.in-Err.e c.in-Err.ensures.refused c.in_default.not-Memory
+    layout_refused c.args.format c.args.kind c.args.tree c.args.spaces.now c.args.maps.now c.in-Err.e c.in-Err.ensures.refused c.in_default.not-Memory

@@ -1,41 +1,61 @@
--- The messages so far, and the walk over the records left, are the walk over all records.
-use Rattle.std.proofs.Common.{[], ◌∷◌, refl, ◌∙◌, arith}
-use Rattle.std.proofs.lemmas.List.{length-append}
+-- The messages so far, and those of the records left, are those of all records.
+use Rattle.std.proofs.Common.{[], ◌∷◌, refl, sym, ap, ◌∙◌, arith}
 use Rattle.std.proofs.lemmas.Result.{err_from_is_err_and}
+use Rattle.waff_model.proofs.TraceLemmas.{max_messages-most}
 use Rattle.waff_parse.specs.Rows.{records_left}
 use Rattle.waff_parse.proofs.Laws.{with_front-nil}
-use Rattle.waff_read.proofs.TraceLaws.{error-messages, next-fits, walk-message, whole-messages}
+use Rattle.waff_read.specs.Places.{behind, first_place, next_place}
+use Rattle.waff_read.specs.declared.place.Place.{Place}
+use Rattle.waff_read.proofs.TraceLaws.{behind-ops, behind-push, error-messages, next-fits, walk-message, whole-messages}
 use Rattle.waff_read.proofs.trace.read_messages.Goals as goal
 
-pub loop-messages-init : goal.loop-messages-init
-loop-messages-init c =
-    let none = c.new-messages.ensures.items in record {
+pub loop-list-init : goal.loop-list-init
+unfolding behind
+loop-list-init c =
+    let none = c.new-list.ensures.items in record {
       reads = c.requires;
-      number = rw none refl;
-      few = omega arith;
-      messages = rw none (with_front-nil _);
+      place = rw (none, c.first-place.ensures) refl;
+      messages = rw (none, c.first-place.ensures) (with_front-nil _);
     }
 
-pub returns-in_err-message : goal.returns-in_err-message
-returns-in_err-message c =
+pub returns-in_err-message-clause-messages : goal.returns-in_err-message-clause-messages
+returns-in_err-message-clause-messages c =
     let p = err_from_is_err_and c.from_residual.result c.from_residual.ensures.1 in
-    rw (p.1, p.2) (error-messages c.args.version c.args.spaces.now c.loop-messages.at c.loop-messages.messages.items (records_left c.loop-messages.rdr) (records_left c.next_message.new.rdr) (records_left c.args.rdr.now) c.in_err-message.field-0.0
-    c.in_err-message.ensures.message c.loop-messages.invariant.messages)
+    rw (p.1, p.2) (error-messages c.args.version c.args.spaces.now c.loop-list.place c.loop-list.list.items (records_left c.loop-list.rdr) (records_left c.next_message.new.rdr) (records_left c.args.rdr.now) c.in_err-message.field-0.0
+    c.in_err-message.ensures.message c.loop-list.invariant.messages)
 
-pub loop-messages-preserved : goal.loop-messages-preserved
-loop-messages-preserved c =
+pub next-place-requires-clause-at : goal.next-place-requires-clause-at
+next-place-requires-clause-at c =
     let given = rw c.in-Some.is at c.in_ok-message.ensures.message in
-    let fits = next-fits c.args.version c.args.spaces.now c.loop-messages.at (records_left c.loop-messages.rdr) (records_left c.next_message.new.rdr) c.in-Some.message given in
+    let fits = next-fits c.args.version c.args.spaces.now c.loop-list.place (records_left c.loop-list.rdr) (records_left c.next_message.new.rdr) c.in-Some.message given in
+    omega (arith, fits.counted, max_messages-most c.args.version)
+
+pub next-place-requires-clause-ops : goal.next-place-requires-clause-ops
+next-place-requires-clause-ops c =
+    let given = rw c.in-Some.is at c.in_ok-message.ensures.message in
+    let fits = next-fits c.args.version c.args.spaces.now c.loop-list.place (records_left c.loop-list.rdr) (records_left c.next_message.new.rdr) c.in-Some.message given in
+    fits.room
+
+pub loop-list-preserved : goal.loop-list-preserved
+loop-list-preserved c =
+    let given = rw c.in-Some.is at c.in_ok-message.ensures.message in
     let pushed = c.in_ok-push.ensures.items in
-    let before = c.loop-messages.invariant in record {
+    let before = c.loop-list.invariant in record {
       reads = c.in_ok-message.ensures.reads;
-      number = rw pushed (omega (arith, length-append c.loop-messages.messages.items (c.in-Some.message ∷ []), before.number));
-      few = omega (arith, fits.1);
-      messages = rw pushed (walk-message c.args.version c.args.spaces.now c.loop-messages.at c.loop-messages.messages.items (records_left c.loop-messages.rdr) (records_left c.next_message.new.rdr) c.in-Some.message given ∙ before.messages);
+      place = rw pushed
+          (c.next-place.ensures ∙ ap (λ (p : Place). next_place p c.in-Some.message) before.place
+          ∙ sym (behind-push first_place c.loop-list.list.items c.in-Some.message));
+      messages = rw (pushed, c.next-place.ensures)
+          (walk-message c.args.version c.args.spaces.now c.loop-list.place c.loop-list.list.items (records_left c.loop-list.rdr) (records_left c.next_message.new.rdr) c.in-Some.message given ∙ before.messages);
     }
 
-pub returns : goal.returns
-returns c =
+pub returns-clause-messages : goal.returns-clause-messages
+returns-clause-messages c =
     let none = rw c.in_default.is at c.in_ok-message.ensures.message in
-    whole-messages c.args.version c.args.spaces.now c.loop-messages.at c.loop-messages.messages.items (records_left c.loop-messages.rdr) (records_left c.args.rdr.now)
-    none c.loop-messages.invariant.messages
+    whole-messages c.args.version c.args.spaces.now c.loop-list.place c.loop-list.list.items (records_left c.loop-list.rdr) (records_left c.args.rdr.now)
+    none c.loop-list.invariant.messages
+
+pub returns-clause-ops : goal.returns-clause-ops
+returns-clause-ops c =
+    let here = ap (λ (p : Place). p.ops) c.loop-list.invariant.place in
+    omega (arith, here, behind-ops first_place c.loop-list.list.items)

@@ -1,7 +1,7 @@
 use Rattle.std.proofs.Common.{◌≡◌, Ok, rules, subst}
 use Rattle.waff_model.specs.Layout.{Hierarchy}
 use Rattle.waff_read.specs.Hierarchies.{hierarchy_of}
-use Rattle.waff_read.specs.Traces.{trace_of}
+use Rattle.waff_inputs.specs.Known.{trace_of}
 use Rattle.waff_assign.specs.Lowest.{IsAssignment}
 use Rattle.waff_inputs.proofs.SameInput.{same_ok}
 use Rattle.waff_tool.proofs.ResultLemmas.{if_ok_turned}
@@ -25,6 +25,7 @@ returns-in-Ok g c =
             layout = accepted.layout;
             trace = accepted.trace;
             is_layout = is.layout;
+            few = is.few;
             is_trace = subst (λ (l : Hierarchy). trace_of l.spaces c.args.trace.now ≡ Ok accepted.trace) same is.accepted.is_trace;
             lines = lines;
           })

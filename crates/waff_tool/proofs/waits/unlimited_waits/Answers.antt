@@ -17,9 +17,9 @@ returns c =
     let instance = instance_of c.args.case.now in
     let starts = c.in_ok-plan.plan.starts in
     let timings = c.in_ok-plan.ensures.timings in
-    IfOk-weaker c.waiting_text-text.result (λ text. IsTold c.args.by_name instance c.in_ok-plan.plan.timings starts (string_bytes text)) _
+    IfOk-weaker c.waiting_text-text.result (λ text. IsTold c.args.grouping instance c.in_ok-plan.plan.timings starts (string_bytes text)) _
     (λ text told rule.
-    told_text rule None c.args.by_name instance starts (string_bytes text)
+    told_text rule None c.args.grouping instance starts (string_bytes text)
     (c.ticks_add_up.ensures instance.tree instance.assigned (work_of_instance instance)) (rw timings at c.in_ok-plan.ensures.least)
-    (subst (λ ts. IsTold c.args.by_name instance ts starts (string_bytes text)) timings told))
+    (subst (λ ts. IsTold c.args.grouping instance ts starts (string_bytes text)) timings told))
     c.waiting_text-text.ensures

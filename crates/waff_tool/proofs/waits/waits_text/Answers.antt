@@ -6,6 +6,6 @@ use Rattle.waff_tool.proofs.waits.waits_text.Goals as goal
 
 pub returns : goal.returns
 returns g c =
-    delivers (λ text. string_bytes text) (λ text. IsWaitsText c.args.rule c.args.hierarchy.now c.args.trace.now c.args.workers c.args.by_name text)
+    delivers (λ text. string_bytes text) (λ text. IsWaitsText c.args.rule c.args.hierarchy.now c.args.trace.now c.args.workers c.args.grouping text)
     (Refuses c.args.hierarchy.now c.args.trace.now) _ _ tt c.made_waits_text.result c.deliver.result c.made_waits_text.ensures tt
     c.deliver.ensures

@@ -20,15 +20,15 @@ pub returns : goal.returns
 returns c =
     let plan = c.in_ok-made.made.plan in
     let instance = instance_of c.args.case.now in
-    let by_name = c.args.by_name in
+    let grouping = c.args.grouping in
     let timings = c.in_ok-made.ensures.timings in
     let planned = c.needs_make_the_same_plans.ensures instance.tree instance.assigned c.in_ok-needs.needs
     (work_of plan.timings) c.args.rule c.args.k (start_of plan.starts) c.in_ok-needs.ensures.needs c.in_ok-made.ensures.follows in
     IfOk-weaker c.waiting_text-text.result
-    (λ text. IsTold by_name instance c.plan-plan.result.now.timings c.plan-plan.result.now.starts (string_bytes text)) _
+    (λ text. IsTold grouping instance c.plan-plan.result.now.timings c.plan-plan.result.now.starts (string_bytes text)) _
     (λ text told.
-    told_text c.args.rule (Some c.args.k) by_name instance plan.starts (string_bytes text)
+    told_text c.args.rule (Some c.args.k) grouping instance plan.starts (string_bytes text)
     (c.ticks_add_up.ensures instance.tree instance.assigned (work_of_instance instance)) (rw timings at planned)
-    (subst (λ ts. IsTold by_name instance ts plan.starts (string_bytes text)) timings
-    (subst (λ (table : Timetable). IsTold by_name instance table.timings table.starts (string_bytes text)) c.plan-plan.ensures.plan told)))
+    (subst (λ ts. IsTold grouping instance ts plan.starts (string_bytes text)) timings
+    (subst (λ (table : Timetable). IsTold grouping instance table.timings table.starts (string_bytes text)) c.plan-plan.ensures.plan told)))
     c.waiting_text-text.ensures

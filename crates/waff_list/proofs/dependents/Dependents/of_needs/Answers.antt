@@ -1,11 +1,10 @@
-use Rattle.std.proofs.Common.{◌≡◌, ℕ, ◌+◌, ◌-◌, ◌<◌, ◌≤◌, List, length, get_or, replicate, Contains, arith, ◌∙◌, ap, subst}
+use Rattle.std.proofs.Common.{◌≡◌, ℕ, ◌+◌, ◌-◌, ◌≤◌, [], length, sum_by, take, get_or, replicate, Contains, arith, ◌∙◌, ap, subst}
 use Rattle.std.proofs.lemmas.List.{length-map}
 use Rattle.std.proofs.lemmas.List.Elements.{Contains-get_or}
-use Rattle.std.specs.List.Sorted.{IsStrictlyIncreasing}
-use Rattle.waff_order.specs.Needs.{needs_of, IsNeed, AreLists}
+use Rattle.std.proofs.lemmas.List.Sums.{sum_by_more, sum_by_more_le}
+use Rattle.waff_order.specs.Needs.{needs_of}
 use Rattle.waff_list.specs.Trails.{trail, trails}
 use Rattle.waff_list.specs.Waiting.{dependents_of, Grows, AreDependents, times}
-use Rattle.waff_list.proofs.CountLemmas.{rising_fewer}
 use Rattle.waff_list.proofs.DependentLemmas.{dependents_none, dependents_more, needs_inside}
 use Rattle.waff_list.proofs.TrailLemmas.{linked_none}
 use Rattle.waff_list.proofs.dependents.Dependents.of_needs.Goals as goal
@@ -22,12 +21,6 @@ loop-m-init c =
       told = dependents_none c.args.needs.now d firsts_are h.links;
     }
 
--- a message has fewer needs than its number
-fewer : (needs : List (List ℕ)) (xs : List ℕ) (m : ℕ) → AreLists needs → 1 ≤ m → xs ≡ needs_of needs m → IsStrictlyIncreasing xs → length xs < m
-fewer needs xs m lists from is rising =
-    let need = λ (x : ℕ) (there : Contains xs x). let h : IsNeed needs x m = record { from = from; listed = subst (λ ys. Contains ys x) is there } in h in
-    rising_fewer xs m rising (λ x there. (lists.from x m (need x there), lists.earlier x m (need x there))) from
-
 pub add_all-requires-clause-numbers : goal.add_all-requires-clause-numbers
 add_all-requires-clause-numbers c = λ k d within.
     let xs = c.of.result.now in
@@ -39,9 +32,8 @@ add_all-requires-clause-numbers c = λ k d within.
 
 pub add_all-requires-clause-room : goal.add_all-requires-clause-room
 add_all-requires-clause-room c =
-    let few = c.len.ensures.lists.few in
-    let less = fewer c.args.needs.now c.of.result.now c.loop-m.m c.len.ensures.lists (omega arith) c.of.ensures.needs c.of.ensures.rising in
-    omega (arith, few, less, c.loop-m.invariant.few, c.loop-m-test.true)
+    let within = sum_by_more_le (length {A = ℕ}) c.args.needs.now (c.loop-m.m - 1) [] (omega arith) in
+    omega (arith, within, ap length c.of.ensures.needs, c.loop-m.invariant.few, c.len.ensures.lists.short)
 
 pub loop-m-preserved : goal.loop-m-preserved
 loop-m-preserved c =
@@ -55,11 +47,11 @@ loop-m-preserved c =
     let added = λ (i : ℕ) (from : 1 ≤ i).
     subst (λ m. times m (dependents_of new i) ≡ times m (dependents_of old i) + times i (needs_of c.args.needs.now m)) next
     (h.added i from ∙ ap (λ xs. times c.loop-m.m (dependents_of old i) + times i xs) c.of.ensures.needs) in
-    let few = c.len.ensures.lists.few in
-    let less = fewer c.args.needs.now c.of.result.now c.loop-m.m c.len.ensures.lists (omega arith) c.of.ensures.needs c.of.ensures.rising in
+    let more = sum_by_more (length {A = ℕ}) c.args.needs.now n [] (omega arith) in
     record {
       linked = h.linked;
-      few = omega (arith, few, h.more, less, c.loop-m.invariant.few, c.loop-m-test.true);
+      few = subst (λ m. length c.add_all.new.self.links.items ≡ sum_by length (take m c.args.needs.now)) one_more
+          (omega (arith, more, h.more, ap length c.of.ensures.needs, c.loop-m.invariant.few));
       told = subst (λ m. AreDependents c.args.needs.now new m) one_more
           (dependents_more c.args.needs.now old new n c.loop-m.invariant.told grows added);
     }

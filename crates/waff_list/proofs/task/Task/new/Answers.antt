@@ -7,4 +7,5 @@ invariant_of-result c = record {
   linked = c.in_ok-dependents.ensures.linked;
   told = c.in_ok-dependents.ensures.dependents;
   some = c.requires.workers;
+  small = c.requires.small;
 }

@@ -1,6 +1,7 @@
-use Rattle.std.proofs.Common.{◌<◌, length, subst, sym}
-use Rattle.waff_model.specs.declared.limits.TheConstants.{MAX_MESSAGES}
-use Rattle.waff_model.specs.Messages.{Arrivals, IsMessage}
+use Rattle.std.proofs.Common.{◌+◌, ◌<◌, ◌≤◌, length, subst, sym}
+use Rattle.waff_model.specs.declared.limits.TheConstants.{MAX_ALL_OPS}
+use Rattle.waff_model.specs.Messages.{Arrivals, IsMessage, ops_in}
+use Rattle.waff_model.specs.Versions.{max_messages}
 use Rattle.waff_model.proofs.TraceLemmas.{is_trace-push}
 use Rattle.waff_model.proofs.trace.Trace.push.Goals as goal
 
@@ -9,4 +10,5 @@ invariant_of-self-2 c =
     let here = sym c.self.view_is in
     rw c.in_ok-push.ensures.items (is_trace-push _ c.args.message c.self.invariant
     (subst (λ (t : Arrivals). IsMessage t.version t.sizes c.args.message) here c.requires.message)
-    (subst (λ (t : Arrivals). length t.messages < MAX_MESSAGES) here c.requires.room))
+    (subst (λ (t : Arrivals). length t.messages < max_messages t.version) here c.requires.room)
+    (subst (λ (t : Arrivals). ops_in t.messages + length c.args.message.ops ≤ MAX_ALL_OPS) here c.requires.few_ops))

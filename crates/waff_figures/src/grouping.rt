@@ -1,0 +1,10 @@
+//! What the messages of one row have in common.
+
+/// What the messages that are told of in one row have in common.
+#[derive(Clone, Copy)]
+pub enum Grouping {
+    /// Their affinity.
+    Affinity,
+    /// Their name; where it is told who waits for whom, their affinity too.
+    Name,
+}

@@ -1,0 +1,24 @@
+-- The versions of traces, and the limits that go by them.
+use Rattle.std.specs.Prelude.{ℕ}
+use Rattle.waff_model.specs.declared.limits.TheConstants.{MAX_EARLIER_MESSAGES, MAX_EARLIER_OPS}
+use Rattle.waff_model.specs.declared.limits.TheConstants.{MAX_MESSAGES, MAX_OPS}
+use Rattle.waff_model.specs.declared.message.Version.{Version}
+use Rattle.waff_model.specs.declared.message.Version.TheVariants.{V1, V2, V3}
+
+-- the number of a version
+abbrev pub number : Version → ℕ
+number V1 = 1
+number V2 = 2
+number V3 = 3
+
+-- how many messages a trace may have
+abbrev pub max_messages : Version → ℕ
+max_messages V1 = MAX_EARLIER_MESSAGES
+max_messages V2 = MAX_EARLIER_MESSAGES
+max_messages V3 = MAX_MESSAGES
+
+-- how many operations a message may have
+abbrev pub max_ops : Version → ℕ
+max_ops V1 = MAX_EARLIER_OPS
+max_ops V2 = MAX_EARLIER_OPS
+max_ops V3 = MAX_OPS

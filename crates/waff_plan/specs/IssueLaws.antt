@@ -1,0 +1,63 @@
+-- What holds of plans in the order of issue.
+use Rattle.std.specs.Prelude.{◌≡◌, ℕ, ◌<◌, ◌≤◌, ◌↔◌, ◌⊎◌, List, length, Some}
+use Rattle.waff_model.specs.Tree.{Node}
+use Rattle.waff_assign.specs.Order.{Relation, IsOrdered}
+use Rattle.waff_plan.specs.Work.{Work, IsNumber, issue_of}
+use Rattle.waff_plan.specs.Obeys.{FollowsNone, FollowsEarlier, IsLeast}
+use Rattle.waff_plan.specs.Issues.{IsIssuedBefore, IsServedBefore, IsLeastByIssue}
+use Rattle.waff_plan.specs.AtOnce.{AllStartAtOnce}
+use Rattle.waff_plan.specs.Laws.{ChainsAreWithinLength, LeastIsShortest, PrintedIsChain}
+use Rattle.waff_plan.specs.Laws.{PrintedIsAsLong, TotalIsWithinWorkers, NoneIsShorter}
+use Rattle.waff_plan.specs.Bound.{BoundIsWithinTwice, BoundIsWithinRatio}
+use Rattle.waff_plan.specs.Unique.{AreSame, LeastIsOne, PrintedIsOne}
+
+-- the laws of plans hold of those that obey this order
+pub record IsLawful (before : Relation) (work : Work) : Type 0 where
+  pub chains : ChainsAreWithinLength before work
+  pub shortest : LeastIsShortest before work
+  pub is_chain : PrintedIsChain before work
+  pub as_long : PrintedIsAsLong before work
+  pub total : TotalIsWithinWorkers before work
+  pub none_shorter : NoneIsShorter before work
+  pub twice : BoundIsWithinTwice before work
+  pub ratio : BoundIsWithinRatio before work
+  pub one_least : LeastIsOne before work
+  pub one_printed : PrintedIsOne before work
+
+-- no message starts before it is issued
+abbrev pub StartsIssued : Work → (ℕ → ℕ) → Type 0
+StartsIssued work start = (m : ℕ) → IsNumber work m → issue_of work start m ≤ start m
+
+-- the order of issue is total: no message is issued before itself; what is issued before another is
+-- issued before all that this one is issued before; and of two messages one is issued before the other
+pub record IssueIsTotal (work : Work) (start : ℕ → ℕ) : Type 0 where
+  pub not_itself : (i : ℕ) → IsIssuedBefore work start i i → ⊥
+  pub on : (i j k : ℕ) → IsIssuedBefore work start i j → IsIssuedBefore work start j k
+      → IsIssuedBefore work start i k
+  pub one_first : (i j : ℕ)
+      → (i ≡ j) ⊎ (IsIssuedBefore work start i j ⊎ IsIssuedBefore work start j i)
+
+-- a message is issued before the one that follows it
+abbrev pub IssueRises : Work → (ℕ → ℕ) → Type 0
+IssueRises work start = (i m : ℕ) → work.follows m ≡ Some i → IsIssuedBefore work start i m
+
+-- the unlimited plan in the order of issue is that in which each message starts at the greatest of
+-- its issue and the finishes of the messages that exclude it and are issued before it
+abbrev pub LeastStartsAtOnce : List Node → List ℕ → Work → (ℕ → ℕ) → Type 0
+LeastStartsAtOnce tree assigned work start =
+    IsLeastByIssue tree assigned work start
+    ↔ AllStartAtOnce (IsServedBefore tree assigned work start) work start
+
+-- there is one such plan
+abbrev pub LeastByIssueIsOne : List Node → List ℕ → Work → Type 0
+LeastByIssueIsOne tree assigned work =
+    (start other : ℕ → ℕ) → IsLeastByIssue tree assigned work start
+    → IsLeastByIssue tree assigned work other → AreSame work start other
+
+-- where no message follows another and releases do not fall, what is served in the order of issue is
+-- served in that of the trace
+abbrev pub IssueIsArrival : List Node → List ℕ → Work → (ℕ → ℕ) → Type 0
+IssueIsArrival tree assigned work start =
+    length assigned ≡ work.count → FollowsNone work
+    → ((i j : ℕ) → i < j → work.release i ≤ work.release j)
+    → (i j : ℕ) → IsServedBefore tree assigned work start i j ↔ IsOrdered tree assigned i j

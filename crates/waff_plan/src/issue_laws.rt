@@ -1,0 +1,55 @@
+//! What holds of plans in the order of issue, where the messages of a client follow one another. Each
+//! law is a function that does nothing and whose contract is the law, for a tree of affinities and the
+//! affinities assigned to the messages.
+
+ghost use Rattle.std.specs.Prelude.{ℕ, ◌↔◌, List};
+ghost use Rattle.waff_model.specs.Tree.{Node};
+ghost use Rattle.waff_plan.specs.Work.{Work};
+ghost use Rattle.waff_plan.specs.Obeys.{FollowsEarlier, IsForward};
+ghost use Rattle.waff_plan.specs.Issues.{IsServedBefore};
+ghost use Rattle.waff_plan.specs.IssueLaws.{IssueIsTotal, IssueRises, StartsIssued, IsLawful};
+ghost use Rattle.waff_plan.specs.IssueLaws.{LeastStartsAtOnce, LeastByIssueIsOne, IssueIsArrival};
+
+/// The order of issue is total.
+pub fn issue_is_total()
+    ensures { (work : Work) (start : ℕ → ℕ) → IssueIsTotal work start }
+{}
+
+/// Along a client issue rises.
+pub fn issue_rises()
+    ensures { (work : Work) (start : ℕ → ℕ) → FollowsEarlier work → StartsIssued work start
+        → IssueRises work start }
+{}
+
+/// Messages have places in the order of issue of a plan.
+pub fn served_pairs_are_forward()
+    ensures { (tree : List Node) (assigned : List ℕ) (work : Work) (start : ℕ → ℕ)
+        → FollowsEarlier work → StartsIssued work start
+        → IsForward (IsServedBefore tree assigned work start) work }
+{}
+
+/// The laws of plans hold in the order of issue of a plan: of its chains, and of all plans that serve
+/// messages that exclude each other in that order.
+pub fn issue_is_lawful()
+    ensures { (tree : List Node) (assigned : List ℕ) (work : Work) (start : ℕ → ℕ)
+        → FollowsEarlier work → StartsIssued work start
+        → IsLawful (IsServedBefore tree assigned work start) work }
+{}
+
+/// The unlimited plan in the order of issue, in other words.
+pub fn least_starts_at_once()
+    ensures { (tree : List Node) (assigned : List ℕ) (work : Work) (start : ℕ → ℕ)
+        → FollowsEarlier work → LeastStartsAtOnce tree assigned work start }
+{}
+
+/// There is one unlimited plan in the order of issue.
+pub fn least_by_issue_is_one()
+    ensures { (tree : List Node) (assigned : List ℕ) (work : Work)
+        → FollowsEarlier work → LeastByIssueIsOne tree assigned work }
+{}
+
+/// Without clients and with releases that do not fall the order of issue is that of the trace.
+pub fn issue_is_arrival()
+    ensures { (tree : List Node) (assigned : List ℕ) (work : Work) (start : ℕ → ℕ)
+        → IssueIsArrival tree assigned work start }
+{}

@@ -1,0 +1,47 @@
+//! The places of the records of a trace.
+
+ghost use Rattle.std.specs.Prelude.{◌≡◌, ◌+◌, ◌≤◌, length};
+ghost use Rattle.waff_model.specs.declared.limits.TheConstants.{MAX_ALL_OPS, MAX_MESSAGES};
+ghost use Rattle.waff_read.specs.Places as places;
+
+use waff_model::limits::MAX_ALL_OPS;
+use waff_model::{Message, Version};
+
+/// The place of a message's record: its number, the header's being 1, and how many operations the
+/// messages before it have.
+#[derive(Clone, Copy)]
+pub(crate) struct Place {
+    pub(crate) at: u64,
+    pub(crate) ops: usize,
+}
+
+impl Place {
+    /// The place behind the header.
+    pub(crate) fn first() -> Place
+        ensures { result ≡ places.first_place }
+    {
+        Place { at: 2, ops: 0 }
+    }
+
+    /// The place behind the record of a message that is not one too many, and has not too many
+    /// operations.
+    pub(crate) fn next(self, message: &Message) -> Place
+        requires at { self.at ≤ MAX_MESSAGES + 1 }
+        requires ops { self.ops + length message.now.ops ≤ MAX_ALL_OPS }
+        ensures { result ≡ places.next_place self message.now }
+    {
+        Place {
+            at: self.at + 1,
+            ops: self.ops + message.ops.len(),
+        }
+    }
+
+    /// How many operations the message may have.
+    pub(crate) fn most_ops(self, version: Version) -> usize
+        ensures { result ≡ places.most_ops version self }
+    {
+        let most = version.max_ops();
+        let room = MAX_ALL_OPS.saturating_sub(self.ops);
+        if most <= room { most } else { room }
+    }
+}

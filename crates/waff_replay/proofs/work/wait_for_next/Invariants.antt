@@ -1,5 +1,0 @@
-use Rattle.waff_replay.proofs.work.wait_for_next.Given as goal
-
-abbrev pub invariant-loop : goal.invariant-loop
-invariant-loop g l =
-    (goal.iterator-loop g).can_next l.iterator' × (goal.iterator-loop g).is_finite l.iterator'

@@ -1,0 +1,768 @@
+#!/usr/bin/env python3
+"""A plain planner of traces with clients, by definition and slowly: what waff prints of traces of all three versions.
+
+    tests/random/clients.py COMMAND FILE ..      assign, plan, check, replay, compare, sweep, rate, rank, waits or where, as waff has them
+
+It has no proof and shares no line with the program. A hierarchy has to be right but for its sizes; traces and plan texts are refused as
+waff does. Plans are made from tick to tick, over all pairs of messages, so take some hundred messages at most.
+"""
+
+import argparse
+import csv
+import io
+import re
+import sys
+import tomllib
+from argparse import ArgumentParser, Namespace
+from collections import Counter
+from collections.abc import Callable, Iterator
+from dataclasses import dataclass, field
+from itertools import pairwise
+
+HEADERS = {("message", "cost", "ops"): 1, ("message", "cost", "release", "ops"): 2}
+HEADERS |= {("message", "cost", "release", "client", "think", "ops"): 3}
+MOST_MESSAGES = {1: 65536, 2: 65536, 3: 1048576}
+MOST_OPS = {1: 32, 2: 32, 3: 1024}
+MOST_OPS_OF_TRACE = 16777216
+MOST_IN_PLAN = 10**15
+MOST_CELLS = 262144
+MOST_LARGE = 4294967295
+SWEPT = "1,2,3,4,6,8,12,16,24,32,48,64"
+
+NAME = re.compile(r"[A-Za-z0-9._-]{1,32}", re.ASCII)
+NUMBER = re.compile(r"0|[1-9][0-9]*", re.ASCII)
+CELL = re.compile(r"([A-Za-z0-9._-]{1,32}):(0|[1-9][0-9]*)(?:-(0|[1-9][0-9]*))?", re.ASCII)
+
+FIGURES = ("length", "speedup", "busy", "least", "over", "waits", "mean", "p50", "p99", "latency")
+
+
+class Fault(Exception):
+    """A fault as it is printed, after `waff: `."""
+
+
+# Hierarchies and traces
+
+
+@dataclass(slots=True)
+class Tree:
+    """Affinities by number, the parent of each (None for the root), and the spaces in their order."""
+
+    model: str
+    names: list[str]
+    parents: list[int | None]
+    sizes: dict[str, int]
+    units: dict[str, int]
+    owners: dict[str, list[int]]
+
+    def way(self, affinity: int) -> list[int]:
+        """From an affinity up to the root."""
+        parent = self.parents[affinity]
+        return [affinity] + ([] if parent is None else self.way(parent))
+
+    def excludes(self, one: int, other: int) -> bool:
+        return one in self.way(other) or other in self.way(one)
+
+    def owner(self, space: str, index: int) -> int:
+        to = self.owners[space]
+        return to[index // self.units[space] % len(to)]
+
+    def lowest(self, owners: set[int]) -> int:
+        """The lowest affinity at or above all of these."""
+        ways = [self.way(it) for it in owners]
+        return next(it for it in ways[0] if all(it in way for way in ways))
+
+
+Cell = tuple[str, int]
+
+
+@dataclass(slots=True)
+class Message:
+    """`ops` are verbs with their cells and numbers, a range as one operation for each cell. A client is None for `-`."""
+
+    name: str
+    cost: int
+    release: int = 0
+    client: str | None = None
+    think: int = 0
+    ops: list[tuple[str, Cell, Cell | int | None]] = field(default_factory=list)
+
+
+@dataclass(slots=True)
+class Trace:
+    version: int
+    messages: list[Message]
+
+
+def read_tree(name: str, number: int = 1) -> Tree:
+    return tree_of(read_text(name), number)
+
+
+def tree_of(text: str, number: int = 1) -> Tree:
+    """A hierarchy; `number` is its place among those that are read."""
+    table = tomllib.loads(text)
+    is_large = type(table.get("format")) is int and table["format"] == 2
+    most = MOST_LARGE if is_large else MOST_CELLS
+    for fault, numbers in (("Size", [it["size"] for it in table["space"]]), ("Unit", [it["unit"] for it in table["map"]])):
+        if not all(1 <= it <= most for it in numbers):
+            raise Fault(f"Hier.Layout.{fault} {number}")
+    if not is_large and sum(it["size"] for it in table["space"]) > most:
+        raise Fault(f"Hier.Layout.TooManyCells {number}")
+    names = [it["name"] for it in table["affinity"]]
+    parents = [names.index(it["parent"]) if "parent" in it else None for it in table["affinity"]]
+    sizes = {it["name"]: it["size"] for it in table["space"]}
+    units = {it["space"]: it["unit"] for it in table["map"]}
+    owners = {it["space"]: [names.index(owner) for owner in it["to"]] for it in table["map"]}
+    return Tree(table["model"], names, parents, sizes, units, owners)
+
+
+def is_number(word: str, most: int | None = None, least: int = 0) -> bool:
+    return NUMBER.fullmatch(word) is not None and least <= int(word) and (most is None or int(word) <= most)
+
+
+def read_text(name: str) -> str:
+    if name == "-":
+        return sys.stdin.buffer.read().decode("utf-8-sig")
+    with open(name, "rb") as file:
+        return file.read().decode("utf-8-sig")
+
+
+def records_of(text: str) -> list[list[str]]:
+    return [it for it in csv.reader(io.StringIO(text, newline="")) if it]
+
+
+def read_trace(name: str, tree: Tree) -> Trace:
+    return trace_of(read_text(name), tree)
+
+
+def trace_of(text: str, tree: Tree) -> Trace:
+    records = records_of(text)
+    version = HEADERS.get(tuple(records[0])) if records else None
+    if version is None:
+        raise Fault("Trace.Header 1")
+    messages: list[Message] = []
+    count = 0
+    for at, record in enumerate(records[1:], 2):
+        messages.append(message_of(record, at, tree, version))
+        count += len(messages[-1].ops)
+        if len(messages[-1].ops) > MOST_OPS[version] or version == 3 and count > MOST_OPS_OF_TRACE:
+            raise Fault(f"Trace.TooManyOps {at}")
+        if len(messages) > MOST_MESSAGES[version]:
+            raise Fault(f"Trace.TooManyMessages {at}")
+        for fault, wrong in late_faults(record, version):
+            if wrong:
+                raise Fault(f"Trace.{fault} {at}")
+    return Trace(version, messages)
+
+
+def late_faults(record: list[str], version: int) -> Iterator[tuple[str, bool]]:
+    """What is looked at last in a record."""
+    if version >= 2:
+        yield "Release", not is_number(record[2], 1000000000)
+    if version == 3:
+        yield "Client", NAME.fullmatch(record[3]) is None
+        yield "Think", not is_number(record[4], 10000000)
+
+
+def message_of(record: list[str], at: int, tree: Tree, version: int) -> Message:
+    """A message, where nothing is refused before the number of its operations. What is looked at last may be 0 here."""
+    if len(record) != {1: 3, 2: 4, 3: 6}[version]:
+        raise Fault(f"Trace.Fields {at}")
+    if NAME.fullmatch(record[0]) is None:
+        raise Fault(f"Trace.Name {at}")
+    if not is_number(record[1], 1000000, 1):
+        raise Fault(f"Trace.Cost {at}")
+    if record[-1] == "":
+        raise Fault(f"Trace.NoOps {at}")
+    ops = ops_of(record[-1], at, tree, version)
+    message = Message(record[0], int(record[1]), ops=ops)
+    if version >= 2 and is_number(record[2]):
+        message.release = int(record[2])
+    if version == 3:
+        message.client = None if record[3] == "-" else record[3]
+        message.think = int(record[4]) if is_number(record[4]) else 0
+    return message
+
+
+def ops_of(text: str, at: int, tree: Tree, version: int) -> list[tuple[str, Cell, Cell | int | None]]:
+    """The operations; each check is over all of them in turn."""
+    parts = [part_of(it, version) for it in text.split(";")]
+    if None in parts:
+        raise Fault(f"Trace.Op {at}")
+    found = [it for it in parts if it]
+    cells = [cell for _, words, _ in found for cell in words]
+    if any(space not in tree.sizes for space, _, _ in cells):
+        raise Fault(f"Trace.SpaceUnknown {at}")
+    if any(last >= tree.sizes[space] for space, _, last in cells):
+        raise Fault(f"Trace.IndexTooLarge {at}")
+    ops: list[tuple[str, Cell, Cell | int | None]] = []
+    for verb, words, value in found:
+        space, first, last = words[0]
+        other = words[1][:2] if len(words) > 1 else value
+        ops += [(verb, (space, index), other) for index in range(first, last + 1)]
+    return ops
+
+
+# A verb, cells (each a space, its first and its last index), and a number.
+Part = tuple[str, list[tuple[str, int, int]], int | None]
+
+
+def part_of(text: str, version: int) -> Part | None:
+    """An operation as it is written; None where it is none."""
+    verb, *words = text.split(" ")
+    value = None
+    if verb in ("set", "add"):
+        if len(words) != 2 or not is_number(words[1], 2**64 - 1):
+            return None
+        value = int(words.pop())
+    if len(words) != {"set": 1, "add": 1, "read": 1, "copy": 2, "swap": 2}.get(verb):
+        return None
+    cells = []
+    for word in words:
+        match = CELL.fullmatch(word)
+        if match is None or match[3] and (version < 3 or verb in ("copy", "swap") or int(match[2]) > int(match[3])):
+            return None
+        cells.append((match[1], int(match[2]), int(match[3] or match[2])))
+    return verb, cells, value
+
+
+# Plans
+
+
+class World:
+    """A trace under a tree: the affinity of each message, which messages exclude each other, and the one before each of its client.
+    Messages are numbered from 0 here."""
+
+    def __init__(self, tree: Tree, trace: Trace) -> None:
+        self.tree = tree
+        self.version = trace.version
+        self.messages = trace.messages
+        self.all = range(len(trace.messages))
+        self.affinities = [tree.lowest({tree.owner(*cell) for cell in cells_of(it)}) for it in trace.messages]
+        self.total = sum(it.cost for it in trace.messages)
+        self.befores = [self.one_before(it) for it in self.all]
+        names = range(len(tree.names))
+        self.pairs = {(one, other) for one in names for other in names if tree.excludes(one, other)}
+
+    def excludes(self, one: int, other: int) -> bool:
+        return one != other and (self.affinities[one], self.affinities[other]) in self.pairs
+
+    def one_before(self, message: int) -> int | None:
+        client = self.messages[message].client
+        found = [it for it in range(message) if client is not None and self.messages[it].client == client]
+        return found[-1] if found else None
+
+    def before(self, message: int) -> int | None:
+        """The message before one of its client."""
+        return self.befores[message]
+
+    def floor(self, message: int) -> int:
+        it = self.messages[message]
+        return max(it.release, it.think) if self.version == 3 and self.before(message) is None else it.release
+
+    def tails(self) -> list[int]:
+        """What the rule `longest` sorts by, of each message."""
+        found: dict[int, int] = {}
+        for m in reversed(self.all):
+            if self.version < 3:
+                below = [found[it] for it in found if self.excludes(it, m)]
+            else:
+                below = [self.messages[it].think + found[it] for it in found if self.before(it) == m]
+            found[m] = self.messages[m].cost + max(below, default=0)
+        return [found[m] for m in self.all]
+
+    def least(self, workers: int | None) -> int:
+        """A length that no plan for so many workers is below."""
+        found = -(-self.total // workers) if workers else 0
+        if self.version < 3:
+            return max(found, plan_of(self, None).length())
+        ends = list[int]()
+        for m in self.all:
+            before, it = self.before(m), self.messages[m]
+            ends.append(max(it.release, (0 if before is None else ends[before]) + it.think) + it.cost)
+        works = [
+            sum(self.messages[m].cost for m in self.all if self.affinities[m] in self.tree.way(affinity))
+            for affinity in range(len(self.tree.names))
+        ]
+        return max([found, *ends, *works])
+
+
+def cells_of(message: Message) -> list[Cell]:
+    found = [cell for _, cell, _ in message.ops]
+    return found + [other for _, _, other in message.ops if isinstance(other, tuple)]
+
+
+@dataclass(slots=True)
+class Plan:
+    """The starts and workers of messages, None where there is none (yet). `count` is the number of workers, None for any."""
+
+    world: World
+    count: int | None
+    starts: list[int | None]
+    workers: list[int | None]
+
+    def finish(self, m: int) -> int:
+        start = self.starts[m]
+        assert start is not None
+        return start + self.world.messages[m].cost
+
+    def issue(self, m: int) -> int | None:
+        """When a message is issued; None while that is not known."""
+        it, before = self.world.messages[m], self.world.before(m)
+        if self.world.version < 3:
+            return it.release
+        if before is None:
+            return max(it.release, it.think)
+        return None if self.starts[before] is None else max(it.release, self.finish(before) + it.think)
+
+    def issued(self, m: int) -> int:
+        found = self.issue(m)
+        assert found is not None
+        return found
+
+    def issued_before(self, one: int, other: int) -> bool:
+        """In versions 1 and 2 the order is that of the numbers."""
+        if self.world.version < 3:
+            return one < other
+        first, second = self.issue(one), self.issue(other)
+        return first is not None and (second is None or (first, one) < (second, other))
+
+    def waited_for(self, m: int) -> list[int]:
+        """The messages that exclude one and are issued before it."""
+        return [it for it in self.world.all if self.world.excludes(it, m) and self.issued_before(it, m)]
+
+    def runs(self, m: int, tick: int) -> bool:
+        start = self.starts[m]
+        return start is not None and start <= tick < self.finish(m)
+
+    def has_finished(self, m: int, tick: int) -> bool:
+        return self.starts[m] is not None and self.finish(m) <= tick
+
+    def is_ready(self, m: int, tick: int) -> bool:
+        issue = self.issue(m)
+        if self.starts[m] is not None or issue is None or issue > tick:
+            return False
+        return all(self.has_finished(it, tick) for it in self.waited_for(m))
+
+    def length(self) -> int:
+        return max((self.finish(m) for m in self.world.all), default=0)
+
+    def gap(self, one: int, other: int) -> int:
+        return self.world.messages[other].think if self.world.before(other) == one else 0
+
+    def is_link(self, one: int, other: int) -> bool:
+        if self.world.version < 3:
+            return one < other and self.world.excludes(one, other)
+        start, end = self.starts[one], self.starts[other]
+        assert start is not None and end is not None
+        return self.world.before(other) == one or self.world.excludes(one, other) and start < end
+
+    def chain(self) -> list[int]:
+        """The printed chain."""
+        world = self.world
+        if not world.messages:
+            return []
+        found = [min(world.all, key=lambda m: (-self.finish(m), m))]
+        while True:
+            m = found[0]
+            links = [it for it in world.all if self.is_link(it, m)]
+            first = min(links, key=lambda it: (-self.finish(it) - self.gap(it, m), it), default=None)
+            if first is None or world.floor(m) >= self.finish(first) + self.gap(first, m):
+                return found
+            found.insert(0, first)
+
+    def chain_release(self, chain: list[int]) -> int:
+        return (self.world.floor(chain[0]) if chain else 0) + sum(self.gap(*it) for it in pairwise(chain) if self.is_link(*it))
+
+    def summary(self, chain: list[int]) -> dict[str, tuple[int, ...]]:
+        """The numbers below the rows, with this chain."""
+        release, cost = self.chain_release(chain), sum(self.world.messages[m].cost for m in chain)
+        total, length, k = self.world.total, self.length(), self.count
+        bound = (length, release + cost) if k is None else (k * length, total + k * release + (k - 1) * cost)
+        found = {"total": (total,), "length": (length,), "chain": tuple(m + 1 for m in chain)}
+        if self.world.version > 1:
+            found["release"] = (release,)
+        return found | {"cost": (cost,), "bound": bound}
+
+
+def plan_of(world: World, workers: int | None, rule: str = "arrival") -> Plan:
+    """The plan of waff: from tick to tick, each at which a message is issued or one has finished."""
+    plan = Plan(world, workers, [None for _ in world.all], [None for _ in world.all])
+    tick, tails = 0, world.tails()
+    while None in plan.starts:
+        ready = [m for m in world.all if plan.is_ready(m, tick)]
+        free = [it for it in range(1, (workers or 0) + 1) if not any(plan.runs(m, tick) and plan.workers[m] == it for m in world.all)]
+        if workers is not None:
+            # By the issues first; the other sort keeps the order of those with equal tails.
+            ready.sort(key=lambda m: (plan.issued(m), m) if world.version == 3 else (m,))
+            if rule == "longest":
+                ready.sort(key=lambda m: tails[m], reverse=True)
+            ready = sorted(ready[: len(free)])
+            for m, worker in zip(ready, free):
+                plan.workers[m] = worker
+        for m in ready:
+            plan.starts[m] = tick
+        later = [plan.finish(m) for m in world.all if plan.starts[m] is not None]
+        later += [it for m in world.all if (it := plan.issue(m)) is not None]
+        tick = min((it for it in later if it > tick), default=tick)
+    is_as_defined(plan)
+    return plan
+
+
+def is_as_defined(plan: Plan) -> None:
+    """The plan obeys and is in order, and one without workers starts each message when it is ready."""
+    for m in plan.world.all:
+        ready = max([plan.issued(m), *(plan.finish(it) for it in plan.waited_for(m))])
+        start = plan.starts[m]
+        assert start is not None and (start == ready if plan.count is None else start >= ready), f"message {m + 1}: {start}, {ready}"
+    ticks = {it for it in plan.starts if it is not None}
+    assert plan.count is None or all(sum(plan.runs(m, tick) for m in plan.world.all) <= plan.count for tick in ticks)
+
+
+# Texts
+
+
+def assign_text(world: World) -> str:
+    rows = [f"{m + 1},{world.messages[m].name},{world.tree.names[world.affinities[m]]}" for m in world.all]
+    return lines(["message,name,affinity", *rows])
+
+
+def lines(found: list[str]) -> str:
+    return "".join(it + "\n" for it in found)
+
+
+def plan_text(plan: Plan) -> str:
+    world = plan.world
+    rows = ["message,affinity,start,finish,worker"]
+    for m in world.all:
+        rows.append(f"{m + 1},{world.tree.names[world.affinities[m]]},{plan.starts[m]},{plan.finish(m)},{plan.workers[m] or '-'}")
+    rows.append(f"workers,{plan.count or '-'}")
+    for name, numbers in plan.summary(plan.chain()).items():
+        rows.append(f"{name}," + (" " if name == "chain" else ",").join(map(str, numbers)))
+    return lines(rows)
+
+
+def ratio(part: int, whole: int, up: bool = False) -> str:
+    if whole == 0:
+        return "-"
+    found = -(-100 * part // whole) if up else 100 * part // whole
+    return f"{found // 100}.{found % 100:02}"
+
+
+def figures_of(plan: Plan) -> dict[str, object]:
+    """The figures of a plan, whether or not it obeys."""
+    world = plan.world
+    count, length, least = len(world.messages), plan.length(), world.least(plan.count)
+    latencies = sorted(max(0, plan.finish(m) - plan.issued(m)) for m in world.all)
+    found: dict[str, object] = {"length": length, "speedup": ratio(world.total, length)}
+    found["busy"] = ratio(world.total, plan.count * length) if plan.count else "-"
+    found |= {"least": least, "over": ratio(length, least, up=True)}
+    found["waits"] = sum(max(0, (plan.starts[m] or 0) - plan.issued(m)) for m in world.all)
+    found["mean"] = ratio(sum(latencies), count)
+    for name, part in (("p50", 50), ("p99", 99)):
+        found[name] = next((it for n, it in enumerate(latencies, 1) if 100 * n >= part * count), 0)
+    return found | {"latency": max(latencies, default=0)}
+
+
+def sweep_text(world: World, counts: list[int], rule: str) -> str:
+    rows = [",".join(["workers", *FIGURES])]
+    for count in [*counts, None]:
+        found = figures_of(plan_of(world, count, rule))
+        rows.append(",".join([str(count or "-"), *(str(found[it]) for it in FIGURES)]))
+    return lines(rows)
+
+
+def rank_text(worlds: list[World], workers: int, rule: str) -> str:
+    rows = ["hierarchy,model,affinities,length,list,least,over,waits,mean,p50,p99,latency"]
+    for number, world in enumerate(worlds, 1):
+        found = figures_of(plan_of(world, workers, rule))
+        words = [number, world.tree.model, len(world.tree.names), plan_of(world, None).length(), found["length"]]
+        rows.append(",".join(map(str, [*words, *(found[it] for it in FIGURES[3:])])))
+    return lines(rows)
+
+
+def compare_text(worlds: list[World], workers: int) -> str:
+    worlds = sorted(worlds, key=lambda it: it.tree.model)
+    one, other = worlds
+    rows = [f"workers,{workers}", f"total,{one.total}"]
+    has_releases = one.version > 1
+    rows.append("model,length,release,chain,list,listrelease,listchain,left,right" if has_releases else "model,length,chain,list,listchain,left,right")
+    for world in worlds:
+        words: list[object] = [world.tree.model]
+        for plan in (plan_of(world, None), plan_of(world, workers)):
+            found = plan.summary(plan.chain())
+            words += [*found["length"], *(found["release"] if has_releases else ()), *found["cost"]]
+        rows.append(",".join(map(str, [*words, *found["bound"]])))
+    refines = all(one.excludes(i, j) for i in other.all for j in other.all if other.excludes(i, j))
+    return lines([*rows, f"refines,{'yes' if refines else 'no'}"])
+
+
+def waits_text(plan: Plan, by_names: bool) -> str:
+    """Who waits for whom: the lines by ticks, and then by the first message that waits so."""
+    world = plan.world
+
+    def words(m: int | None) -> tuple[str, ...]:
+        if m is None:
+            return ("-", "-") if by_names else ("-",)
+        affinity = world.tree.names[world.affinities[m]]
+        return (world.messages[m].name, affinity) if by_names else (affinity,)
+
+    # For each pair the first message that waits so, whether it is for a worker, and the ticks of each.
+    found: dict[tuple[tuple[str, ...], tuple[str, ...], bool], tuple[int, list[int]]] = {}
+    for m in world.all:
+        issue, start = plan.issued(m), plan.starts[m] or 0
+        others = plan.waited_for(m)
+        last = min(others, key=lambda it: (-plan.finish(it), it), default=None)
+        ready = max(issue, plan.finish(last) if last is not None else 0)
+        for other, ticks in ((last, ready - issue), (None, start - ready)):
+            if ticks:
+                found.setdefault((words(m), words(other), other is None), (m, []))[1].append(ticks)
+    rows = ["name,affinity,forname,foraffinity,messages,ticks,longest" if by_names else "affinity,for,messages,ticks,longest"]
+    for (one, other, _), (_, ticks) in sorted(found.items(), key=lambda it: (-sum(it[1][1]), it[1][0], it[0][2])):
+        rows.append(",".join([*one, *other, str(len(ticks)), str(sum(ticks)), str(max(ticks))]))
+    return lines(rows)
+
+
+def where_text(world: World, by: str | None) -> str:
+    chain = plan_of(world, None).chain()
+
+    def cost(messages: Iterator[int]) -> int:
+        return sum(world.messages[m].cost for m in messages)
+
+    if by is not None:
+        keys = [(world.messages[m].client or "-") if by == "clients" else world.messages[m].name for m in world.all]
+        rows = [f"{by.removesuffix('s')},messages,cost,chain"]
+        for key, count in Counter(keys).items():
+            rows.append(f"{key},{count},{cost(m for m in world.all if keys[m] == key)},{cost(m for m in chain if keys[m] == key)}")
+        return lines(rows)
+    tree, of = world.tree, world.affinities
+    rows = ["affinity,parent,messages,cost,below,chain"]
+    for a, name in enumerate(tree.names):
+        parent = tree.parents[a]
+        words = [name, "-" if parent is None else tree.names[parent], of.count(a), cost(m for m in world.all if of[m] == a)]
+        words += [cost(m for m in world.all if a in tree.way(of[m])), cost(m for m in chain if of[m] == a)]
+        rows.append(",".join(map(str, words)))
+    return lines(rows)
+
+
+def replay_text(world: World) -> str:
+    values: Counter[Cell] = Counter()
+    for message in world.messages:
+        for verb, cell, other in message.ops:
+            if verb == "set" and isinstance(other, int):
+                values[cell] = other
+            elif verb == "add" and isinstance(other, int):
+                values[cell] = (values[cell] + other) % 2**64
+            elif verb == "copy" and isinstance(other, tuple):
+                values[cell] = values[other]
+            elif verb == "swap" and isinstance(other, tuple):
+                values[cell], values[other] = values[other], values[cell]
+    spaces = list(world.tree.sizes)
+    order = sorted(values, key=lambda cell: (spaces.index(cell[0]), cell[1]))
+    return lines(["cell,value", *(f"{space}:{index},{values[space, index]}" for space, index in order if values[space, index])])
+
+
+# Plans that are handed in
+
+
+@dataclass(slots=True)
+class Given:
+    """A plan text: the plan, the rows (affinity, finish and worker of each message), and its summary."""
+
+    plan: Plan
+    rows: list[tuple[str, int, str]]
+    summary: dict[str, tuple[int, ...]]
+
+
+def read_plan(name: str, world: World) -> Given:
+    records = records_of(read_text(name))
+    if not records or records[0] != ["message", "affinity", "start", "finish", "worker"]:
+        raise Fault("PlanText.Header 1")
+    end = next((at for at, it in enumerate(records) if at and it[0] == "workers"), len(records))
+    count = len(world.messages)
+    rows: dict[int, list[str]] = {}
+    for at, record in enumerate(records[1:end], 2):
+        is_row = len(record) == 5 and is_number(record[0], count, 1) and NAME.fullmatch(record[1])
+        if not is_row or not (is_number(record[2]) and is_number(record[3]) and (record[4] == "-" or is_number(record[4]))):
+            raise Fault(f"PlanText.Row {at}")
+        if int(record[0]) in rows:
+            raise Fault(f"PlanText.Twice {at}")
+        if any(int(it) > MOST_IN_PLAN for it in record[2:] if it != "-"):
+            raise Fault(f"PlanText.TooLarge {at}")
+        rows[int(record[0])] = record
+    missing = next((m for m in range(1, count + 1) if m not in rows), None)
+    if missing is not None:
+        raise Fault(f"PlanText.Missing {missing}")
+    summary, workers = read_summary(records[end:], end + 1, world)
+    given = [rows[m] for m in range(1, count + 1)]
+    plan = Plan(world, workers, [int(it[2]) for it in given], [None for _ in given])
+    return Given(plan, [(it[1], int(it[3]), it[4]) for it in given], summary)
+
+
+def read_summary(records: list[list[str]], first: int, world: World) -> tuple[dict[str, tuple[int, ...]], int | None]:
+    wanted = ["workers", "total", "length", "chain", "release", "cost", "bound"]
+    if world.version == 1:
+        wanted.remove("release")
+    summary: dict[str, tuple[int, ...]] = {}
+    workers: int | None = None
+    for at, name in enumerate(wanted):
+        record = records[at] if at < len(records) else []
+        words = record[1:]
+        if name == "chain" and len(words) == 1:
+            words = words[0].split(" ") if words[0] else []
+        elif len(words) != (2 if name == "bound" else 1):
+            raise Fault(f"PlanText.Summary {first + at}")
+        if name == "workers" and words == ["-"]:
+            words = []
+        most = {"workers": 64, "chain": len(world.messages)}.get(name)
+        is_right = all(is_number(it, most, 0 if most is None else 1) for it in words)
+        if not record or record[0] != name or not is_right or name == "chain" and len(words) > len(world.messages):
+            raise Fault(f"PlanText.Summary {first + at}")
+        if any(int(it) > MOST_IN_PLAN for it in words):
+            raise Fault(f"PlanText.TooLarge {first + at}")
+        if name == "workers":
+            workers = int(words[0]) if words else None
+        else:
+            summary[name] = tuple(map(int, words))
+    if len(records) > len(wanted):
+        raise Fault(f"PlanText.Summary {first + len(wanted)}")
+    return summary, workers
+
+
+def is_common(plan: Plan, one: int, other: int) -> bool:
+    """Whether two messages run at a common tick."""
+    first, second = plan.starts[one] or 0, plan.starts[other] or 0
+    return first < plan.finish(other) and second < plan.finish(one)
+
+
+def faults(given: Given) -> Iterator[str]:
+    """What is wrong with a plan, in the order of the verdicts."""
+    plan, world = given.plan, given.plan.world
+    for one in world.all:
+        for other in range(one + 1, len(world.messages)):
+            in_turn = world.version < 3 and (plan.starts[other] or 0) < plan.finish(one)
+            if world.excludes(one, other) and (in_turn or world.version == 3 and is_common(plan, one, other)):
+                yield f"overlap,{one + 1},{other + 1}"
+    k = plan.count
+    for tick in sorted(it for it in plan.starts if it is not None):
+        if k is not None and sum(plan.runs(m, tick) for m in world.all) > k:
+            yield f"toomany,{tick}"
+    for m, (_, _, worker) in enumerate(given.rows):
+        shared = any(given.rows[it][2] == worker and is_common(plan, it, m) for it in range(m))
+        if worker != "-" if k is None else worker == "-" or not 1 <= int(worker) <= k or shared:
+            yield f"worker,{m + 1}"
+    yield from (f"affinity,{m + 1}" for m in world.all if given.rows[m][0] != world.tree.names[world.affinities[m]])
+    yield from (f"finish,{m + 1}" for m in world.all if given.rows[m][1] != plan.finish(m))
+    chain = [it - 1 for it in given.summary["chain"]]
+    if plan.summary(chain) != given.summary:
+        yield "totals"
+    yield from (f"notachain,{place}" for place, pair in enumerate(pairwise(chain), 2) if not plan.is_link(*pair))
+    yield from (f"early,{m + 1}" for m in world.all if (plan.starts[m] or 0) < world.floor(m))
+    for m in world.all:
+        before = world.before(m)
+        if before is not None and (plan.starts[m] or 0) < plan.finish(before) + world.messages[m].think:
+            yield f"client,{m + 1}"
+
+
+def verdict(given: Given) -> tuple[str, int]:
+    """The verdict, and the status."""
+    wrong = next(faults(given), None)
+    if wrong:
+        return wrong, 1
+    plan, world = given.plan, given.plan.world
+    chain = [it - 1 for it in given.summary["chain"]]
+    k, length = plan.count, plan.length()
+    release, cost = plan.chain_release(chain), sum(world.messages[m].cost for m in chain)
+    is_tight = release + cost == length
+    if length == world.least(k) if world.version == 3 else is_tight:
+        return "shortest", 0
+    if world.version == 3 and is_tight:
+        return "tight", 0
+    if k is not None and k * length <= world.total + k * release + (k - 1) * cost:
+        return "withinbound", 0
+    return "obeys", 0
+
+
+def rate_text(given: Given) -> tuple[str, int]:
+    told, status = verdict(given)
+    found = figures_of(given.plan)
+    rows = [f"verdict,{told}", f"workers,{given.plan.count or '-'}", f"total,{given.plan.world.total}"]
+    return lines([*rows, *(f"{it},{found[it]}" for it in FIGURES)]), status
+
+
+# Words
+
+
+def words() -> ArgumentParser:
+    top = ArgumentParser(prog="clients.py", description="Plans traces with clients plainly, for tests.")
+    parts = top.add_subparsers(dest="command", required=True)
+    files = {"rank": ["trace"], "compare": ["hier", "other", "trace"]}
+    for name in ("assign", "plan", "check", "replay", "compare", "sweep", "rate", "rank", "waits", "where"):
+        part = parts.add_parser(name)
+        for it in files.get(name, ["hier", "trace"]):
+            part.add_argument(it)
+        if name == "rank":
+            part.add_argument("hier", nargs="+")
+        if name in ("check", "rate"):
+            part.add_argument("plan")
+        if name in ("plan", "waits", "rank", "compare", "replay"):
+            part.add_argument("--workers", "-k", type=int, required=name in ("rank", "compare"))
+        if name == "sweep":
+            part.add_argument("--workers", "-k", default=SWEPT)
+        if name in ("plan", "sweep", "waits", "rank"):
+            part.add_argument("--rule", choices=["arrival", "longest"], default="arrival")
+        if name in ("waits", "where"):
+            either = part.add_mutually_exclusive_group()
+            either.add_argument("--names", dest="by", action="store_const", const="names")
+        if name == "where":
+            either.add_argument("--clients", dest="by", action="store_const", const="clients")
+    return top
+
+
+def worlds_of(asked: Namespace) -> list[World]:
+    """The trace under each hierarchy; hierarchies of a space that differ are no part of this."""
+    names = asked.hier if asked.command == "rank" else [asked.hier, *([asked.other] if asked.command == "compare" else [])]
+    text = read_text(asked.trace)
+    trees = [read_tree(name, number) for number, name in enumerate(names, 1)]
+    if asked.command == "replay" and sum(trees[0].sizes.values()) > MOST_CELLS:
+        raise Fault("TooManyCells")
+    return [World(tree, trace_of(text, tree)) for tree in trees]
+
+
+def answer(asked: Namespace) -> tuple[str, int]:
+    """The text and the status."""
+    worlds = worlds_of(asked)
+    world, command = worlds[0], asked.command
+    if command in ("check", "rate"):
+        given = read_plan(asked.plan, world)
+        told, status = verdict(given)
+        return (told + "\n", status) if command == "check" else rate_text(given)
+    texts: dict[str, Callable[[], str]] = {
+        "assign": lambda: assign_text(world),
+        "plan": lambda: plan_text(plan_of(world, asked.workers, asked.rule)),
+        "compare": lambda: compare_text(worlds, asked.workers),
+        "sweep": lambda: sweep_text(world, [int(it) for it in asked.workers.split(",")], asked.rule),
+        "rank": lambda: rank_text(worlds, asked.workers, asked.rule),
+        "waits": lambda: waits_text(plan_of(world, asked.workers, asked.rule), asked.by is not None),
+        "where": lambda: where_text(world, asked.by),
+        "replay": lambda: replay_text(world),
+    }
+    return texts[command](), 0
+
+
+def main(given: list[str]) -> int:
+    try:
+        if given:
+            text, status = answer(words().parse_args(given))
+        else:
+            before, _, after = read_text("-").partition("\n---\n")
+            tree = tree_of(before)
+            text, status = plan_text(plan_of(World(tree, trace_of(after, tree)), None)), 0
+    except Fault as fault:
+        print(f"waff: {fault}", file=sys.stderr)
+        return 3
+    sys.stdout.write(text)
+    return status
+
+
+if __name__ == "__main__":
+    sys.exit(main(sys.argv[1:]))
