@@ -16,6 +16,7 @@ pub mod Parcel
 pub mod ParcelLaws
 pub mod Numbers
 pub mod Versions
+pub mod Clients
 pub mod Messages
 pub mod Later
 pub mod Blocks

@@ -1,7 +1,8 @@
 -- Messages and traces, and the limits that they keep.
-use Rattle.std.specs.Prelude.{◌≡◌, ◌≢◌, ℕ, ◌≤◌, true, List, length, All, codes}
+use Rattle.std.specs.Prelude.{◌≡◌, ◌≢◌, ℕ, ◌≤◌, true, List, length, All}
 use Rattle.std.specs.List.{sum_by}
 pub use Rattle.waff_model.specs.Layout.{sizes_of}
+pub use Rattle.waff_model.specs.Clients.{no_client}
 use Rattle.waff_model.specs.Names.{is_name}
 use Rattle.waff_model.specs.Cells.{cells_of, LiesIn}
 use Rattle.waff_model.specs.Versions.{max_messages, max_ops}
@@ -17,10 +18,6 @@ pub record Arrivals : Type 0 where
   pub version : Version
   pub sizes : List ℕ
   pub messages : List Message
-
--- the name that stands where a message is of no client
-abbrev pub no_client : List ℕ
-no_client = codes "-"
 
 -- the message is within the limits, and its cells lie in spaces of these sizes
 pub record IsMessage (version : Version) (sizes : List ℕ) (message : Message) : Type 0 where

@@ -8,7 +8,7 @@
 //!   affinity owns each cell; `parcels`: where a cell stands among the cells of its owner.
 //! - `trace`, `message`, `op`, `ops` over `packed_op`: messages with their costs, releases (in
 //!   ticks) and operations on cells.
-//! - `cell`, `kind`, `name`, `texts`: the small parts; `limits`: the limits of hierarchies, traces
+//! - `cell`, `client`, `kind`, `name`, `texts`: the small parts; `limits`: the limits of hierarchies, traces
 //!   and plans; `format`: which of them hold of spaces.
 //! - `laws`: what holds of the parcels of all layouts.
 //!
@@ -20,6 +20,7 @@
 #![tactic(auto)]
 
 mod cell;
+mod client;
 mod format;
 mod kind;
 pub mod laws;
@@ -41,6 +42,7 @@ mod trace;
 mod tree;
 
 pub use cell::Cell;
+pub use client::Client;
 pub use format::Format;
 pub use kind::Kind;
 pub use layout::Layout;

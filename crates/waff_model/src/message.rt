@@ -3,6 +3,7 @@
 ghost use Rattle.std.specs.Prelude.{◌≡◌};
 ghost use Rattle.waff_model.specs.Versions as versions;
 
+use crate::client::Client;
 use crate::limits::{MAX_EARLIER_MESSAGES, MAX_EARLIER_OPS, MAX_MESSAGES, MAX_OPS};
 use crate::name::Text;
 use crate::ops::Ops;
@@ -58,8 +59,8 @@ pub struct Message {
     pub cost: u32,
     /// The tick before which the message may not start.
     pub release: u32,
-    /// The name of the client that issues the message, `-` where it is of none.
-    pub client: Text,
+    /// The client that issues the message.
+    pub client: Client,
     /// How long the client thinks before it issues the message, in ticks.
     pub think: u32,
     pub ops: Ops,

@@ -14,7 +14,7 @@ use csv::StringRecord;
 use std::alloc::Global;
 use std::marker::Model;
 use waff_model::limits::{MAX_COST, MAX_RELEASE, MAX_THINK};
-use waff_model::{Message, Text, Version, is_name};
+use waff_model::{Client, Message, Text, Version, is_name};
 use waff_parse::{Stop, four_fields, number_within, six_fields, three_fields};
 
 // Whether a record is the header of the first version.
@@ -254,7 +254,7 @@ fn message_of_columns(
         name: Text::of(alloc, columns.name)?,
         cost,
         release,
-        client: Text::of(alloc, client)?,
+        client: Client::of(alloc, client)?,
         think,
         ops,
     })

@@ -8,7 +8,7 @@ use std::alloc::{AllocError, Global};
 use std::process::Abort;
 use waff_model::limits::{MAX_ALL_OPS, MAX_COST, MAX_OPS, MAX_RELEASE};
 use waff_model::{
-    AffinityId, Cell, Format, Kind, Layout, LayoutError, MapSpec, Message, Op, Ops, SpaceSpec,
+    AffinityId, Cell, Client, Format, Kind, Layout, LayoutError, MapSpec, Message, Op, Ops, SpaceSpec,
     Text, Texts, Trace, Tree, TreeBuilder, TreeError, Version, is_name,
 };
 
@@ -209,7 +209,7 @@ fn push(
         name,
         cost,
         release,
-        client: Text::of(alloc, "-").expect(rt, "a name"),
+        client: Client::none(),
         think: 0,
         ops,
     };
