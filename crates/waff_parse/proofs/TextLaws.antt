@@ -13,7 +13,7 @@ use Rattle.std.proofs.lemmas.List.Quantifiers.{position-Some}
 use Rattle.std.proofs.lemmas.List.Sums.{fails_before_first, position_or_len_is}
 use Rattle.std.proofs.lemmas.Str.{digit_value_digit}
 use Rattle.waff_parse.specs.Fields.{Field, three_of, two_of}
-use Rattle.waff_parse.specs.Texts.{parts, parts_after, small}
+use Rattle.waff_parse.specs.Texts.{parts, small}
 
 -- the first place of a byte
 pub record IsPlaceOf (c : ℕ) (text : List ℕ) (i : ℕ) : Type 0 where

@@ -18,7 +18,6 @@ use Rattle.waff_parse.specs.Texts.{number_of, number_within, parts, within}
 use Rattle.waff_parse.specs.Walks.{gather}
 use Rattle.waff_read.specs.Laws.{IsClient, IsRelease, IsThink, PiecesAreSingle, RecordIsExact, SpellOps, Spells}
 use Rattle.waff_read.specs.Messages.{Columns, client_of, columns_of, cost_of, counted, message_of_columns, message_of_row, name_of, release_of, think_of}
-use Rattle.waff_read.specs.Ops.{op_of}
 use Rattle.waff_read.specs.Pieces.{joined, ops_of, piece_of, pieces_of}
 use Rattle.waff_read.specs.Places.{most_ops}
 use Rattle.waff_read.specs.TraceFaults.{number}

@@ -1,5 +1,5 @@
 -- What is read is within the limits.
-use Rattle.std.proofs.Common.{◌≡◌, ℕ, ◌+◌, ◌<◌, ◌≤◌, List, [], ◌∷◌, ◌++◌, length, get_or, drop, map, Option, Some, None, Result, Ok, Err, codes, refl, sym, subst, arith, length-append}
+use Rattle.std.proofs.Common.{◌≡◌, ℕ, ◌+◌, ◌≤◌, List, [], ◌∷◌, ◌++◌, length, drop, map, Option, Some, None, Result, Ok, Err, codes, refl, subst, arith, length-append}
 use Rattle.toml.specs.Data.{Data}
 use Rattle.waff_parse.specs.Refusals.{◌>>=◌}
 use Rattle.waff_parse.specs.Rows.{Record, records_of}

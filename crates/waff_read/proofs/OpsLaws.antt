@@ -1,7 +1,7 @@
 -- Operations, of which one more than the limit is kept.
 use Rattle.std.proofs.Common.{◌≡◌, ◌≢◌, ℕ, zero, suc, ◌+◌, ◌-◌, ◌≤◌, ◌<◌, List, [], ◌∷◌, ◌++◌, length, map, take, false, Option, Some, None, Result, Ok, Err, refl, sym, ap, ◌∙◌, append_assoc, arith}
 use Rattle.std.specs.Prelude.{◌==◌, nat_lt, if◌then◌else◌}
-use Rattle.std.specs.List.{flat_map, range_with_len}
+use Rattle.std.specs.List.{range_with_len}
 use Rattle.std.proofs.lemmas.Grind.{flat_map-append}
 use Rattle.std.proofs.lemmas.List.{append-nil, length-append, length-take, take_all, take_at}
 use Rattle.std.proofs.lemmas.Bool.{le-ltb, lt-ltb}
@@ -14,7 +14,7 @@ use Rattle.waff_parse.specs.Refusals.{◌>>=◌, both, one}
 use Rattle.waff_parse.specs.Walks.{gather}
 use Rattle.waff_parse.proofs.Laws.{gather-push}
 use Rattle.waff_read.specs.Ops.{op_of}
-use Rattle.waff_read.specs.Pieces.{first_ops, joined, least_of, ops_of, or_range, piece_of, pieces_of}
+use Rattle.waff_read.specs.Pieces.{first_ops, joined, least_of, ops_of, piece_of, pieces_of}
 use Rattle.waff_read.specs.Ranges.{op_on, ops_of_range, range_of}
 use Rattle.waff_read.specs.TraceFaults.{number}
 use Rattle.waff_read.specs.declared.range.Deed.{Deed}

@@ -1,5 +1,5 @@
 -- The operations of a range that is read are on cells of the spaces, and there is one at least.
-use Rattle.std.proofs.Common.{◌≡◌, ℕ, zero, suc, ◌+◌, ◌<◌, ◌≤◌, List, [], ◌∷◌, length, Bool, true, false, Option, Some, None, Result, Ok, Err, slice_index, refl, arith}
+use Rattle.std.proofs.Common.{◌≡◌, ℕ, zero, suc, ◌+◌, ◌<◌, ◌≤◌, List, length, Bool, true, false, Option, Some, None, Result, Ok, Err, slice_index, refl, arith}
 use Rattle.std.specs.Prelude.{IfOk, ok_or, nat_lt, codes, if◌then◌else◌}
 use Rattle.std.specs.Str.{bytes_eq}
 use Rattle.std.proofs.lemmas.Bool.{leb-true, ltb-true}
@@ -17,7 +17,7 @@ use Rattle.waff_parse.specs.Refusals.{◌>>=◌, pair}
 use Rattle.waff_parse.specs.Texts.{are_rising, number_of, parts, rising}
 use Rattle.waff_parse.proofs.Laws.{bind-if, pair-if}
 use Rattle.waff_read.specs.Ops.{cell_in, cell_of_name, value_of}
-use Rattle.waff_read.specs.Ranges.{ends_of, ends_of_name, op_on, ops_on, range_len, range_of, range_of_three, range_of_two, range_of_words, range_to}
+use Rattle.waff_read.specs.Ranges.{ends_of, ends_of_name, op_on, ops_on, range_len, range_of, range_of_words, range_to}
 use Rattle.waff_read.specs.TraceFaults.{number}
 use Rattle.waff_read.specs.declared.range.Deed.{Deed}
 use Rattle.waff_read.specs.declared.range.Deed.TheVariants as deed

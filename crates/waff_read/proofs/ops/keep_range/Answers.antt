@@ -1,7 +1,6 @@
 -- An operation of the range more, and one fewer to come.
-use Rattle.std.proofs.Common.{List, [], ◌∷◌, ◌++◌, ◌+◌, ◌∙◌, length, take, ap, arith}
+use Rattle.std.proofs.Common.{[], ◌∷◌, ◌+◌, ◌∙◌, take, ap, arith}
 use Rattle.std.proofs.lemmas.List.{length-append}
-use Rattle.waff_model.specs.declared.op.Op.{Op}
 use Rattle.waff_read.proofs.OpsLaws.{ops_from-more}
 use Rattle.waff_read.proofs.ops.keep_range.Goals as goal
 

@@ -1,6 +1,6 @@
 -- A piece that is no operation is a range where it is misspelled as one, in the third version.
 use Rattle.std.proofs.Common.{◌≡◌, ◌∙◌, Err, ap, arith}
-use Rattle.waff_model.specs.declared.message.Version.TheVariants.{V1, V2, V3}
+use Rattle.waff_model.specs.declared.message.Version.TheVariants.{V1, V2}
 use Rattle.waff_read.specs.declared.trace_fault.TraceFault.TheVariants as fault
 use Rattle.waff_read.proofs.OpsLaws.{is-misspelled, piece-fault, piece-range}
 use Rattle.waff_read.proofs.ops.range_or.Goals as goal

@@ -1,5 +1,5 @@
 -- A piece more is operations more, or a fault more.
-use Rattle.std.proofs.Common.{List, ℕ, Bor, map, Ok, Err, [], ◌∷◌, ◌++◌, ◌+◌, ◌∙◌, refl, sym, ap, arith, lit<, rules}
+use Rattle.std.proofs.Common.{List, ℕ, Bor, map, [], ◌∷◌, ◌++◌, ◌+◌, ◌∙◌, refl, sym, ap, arith, lit<, rules}
 use Rattle.std.proofs.lemmas.Iterator.Consumers.{YieldsList-end}
 use Rattle.std.proofs.lemmas.Iterator.Splits.{YieldsList-from_str_split}
 use Rattle.std.proofs.lemmas.List.{length-take, map-append}

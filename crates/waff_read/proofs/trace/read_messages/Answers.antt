@@ -1,5 +1,5 @@
 -- The messages so far, and those of the records left, are those of all records.
-use Rattle.std.proofs.Common.{[], ◌∷◌, refl, sym, ap, ◌∙◌, arith}
+use Rattle.std.proofs.Common.{refl, sym, ap, ◌∙◌, arith}
 use Rattle.std.proofs.lemmas.Result.{err_from_is_err_and}
 use Rattle.waff_model.proofs.TraceLemmas.{max_messages-most}
 use Rattle.waff_parse.specs.Rows.{records_left}

@@ -1,5 +1,4 @@
-use Rattle.std.proofs.Common.{◌≡◌, ◌≤◌, length}
-use Rattle.waff_model.specs.Versions.{max_messages}
+use Rattle.std.proofs.Common.{◌≡◌, length}
 use Rattle.waff_parse.specs.Rows.{Reads, records_left}
 use Rattle.waff_parse.specs.Walks.{with_front}
 use Rattle.waff_read.specs.Places.{behind, first_place}
