@@ -8,8 +8,8 @@ use std::alloc::{AllocError, Global};
 use std::process::Abort;
 use waff_model::limits::{MAX_ALL_OPS, MAX_COST, MAX_OPS, MAX_RELEASE};
 use waff_model::{
-    AffinityId, Cell, Client, Format, Kind, Layout, LayoutError, MapSpec, Message, Op, Ops, SpaceSpec,
-    Text, Texts, Trace, Tree, TreeBuilder, TreeError, Version, is_name,
+    AffinityId, Cell, Client, Format, Kind, Layout, LayoutError, MapSpec, Message, Op, Ops,
+    SpaceSpec, Text, Texts, Trace, Tree, TreeBuilder, TreeError, Version, is_name,
 };
 
 /// The name of a space, how many cells in a row go to one affinity, and the affinities that take
