@@ -1,6 +1,7 @@
 //! The needs of each message of a trace.
 
-ghost use Rattle.std.specs.Prelude.{◌+◌, ◌*◌, ◌<◌, ◌≤◌, ℕ, length, All, IfOk, sum_by};
+ghost use Rattle.std.specs.Prelude.{◌≡◌, ◌+◌, ◌*◌, ◌<◌, ◌≤◌, ℕ, List, length, All, IfOk, sum_by};
+ghost use Rattle.waff_model.specs.Tree.{Node};
 ghost use Rattle.waff_order.specs.Needs.{AreNeeds, IsWithinDepth};
 ghost use Rattle.waff_order.specs.Open.{AreChosen};
 
@@ -28,3 +29,9 @@ pub fn needs(alloc: Global, tree: &Tree, assigned: &Assigned) -> Result<Needs, A
     }
     Ok(joining.needs())
 }
+
+/// The needs that the messages of a trace are given are unique.
+pub fn needs_are_one()
+    ensures { (tree : List Node) (assigned : List ℕ) (needs other : List (List ℕ))
+        → AreChosen tree assigned needs → AreChosen tree assigned other → needs ≡ other }
+{}
