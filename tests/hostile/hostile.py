@@ -42,6 +42,7 @@ WORDS = (
     "rate {H} {T} {F}",
     "waits {H} {T}",
     "waits {H} {T} --workers 2 --names",
+    "needs {H} {T}",
     "rank {T} {H} {C} --workers 2",
     "where {H} {T}",
     "where {H} {T} --names",

@@ -1,7 +1,7 @@
 #!/usr/bin/env python3
 """A plain planner of traces with clients, by definition and slowly: what waff prints of traces of all three versions.
 
-    tests/random/clients.py COMMAND FILE ..      assign, plan, check, replay, compare, sweep, rate, rank, waits or where, as waff has them
+    tests/random/clients.py COMMAND FILE ..      assign, plan, check, replay, compare, sweep, rate, rank, waits, where or needs, as waff has them
 
 It has no proof and shares no line with the program. A hierarchy has to be right but for its sizes; traces and plan texts are refused as
 waff does. Plans are made from tick to tick, over all pairs of messages, so take some hundred messages at most.
@@ -426,6 +426,21 @@ def assign_text(world: World) -> str:
     return lines(["message,name,affinity", *rows])
 
 
+def needs_text(world: World) -> str:
+    """For which earlier messages each one waits, by number: the open ones at or below it, else the latest one above it. A message is
+    open until a later one is at or above it."""
+
+    def is_above(one: int, other: int) -> bool:
+        return world.affinities[one] in world.tree.way(world.affinities[other])
+
+    rows = ["message,needs"]
+    for m in world.all:
+        found = [it for it in range(m) if is_above(m, it) and not any(is_above(later, it) for later in range(it + 1, m))]
+        found = found or [it for it in range(m) if is_above(it, m)][-1:]
+        rows.append(f"{m + 1}," + " ".join(str(it + 1) for it in found))
+    return lines(rows)
+
+
 def lines(found: list[str]) -> str:
     return "".join(it + "\n" for it in found)
 
@@ -696,7 +711,7 @@ def words() -> ArgumentParser:
     top = ArgumentParser(prog="clients.py", description="Plans traces with clients plainly, for tests.")
     parts = top.add_subparsers(dest="command", required=True)
     files = {"rank": ["trace"], "compare": ["hier", "other", "trace"]}
-    for name in ("assign", "plan", "check", "replay", "compare", "sweep", "rate", "rank", "waits", "where"):
+    for name in ("assign", "needs", "plan", "check", "replay", "compare", "sweep", "rate", "rank", "waits", "where"):
         part = parts.add_parser(name)
         for it in files.get(name, ["hier", "trace"]):
             part.add_argument(it)
@@ -738,6 +753,7 @@ def answer(asked: Namespace) -> tuple[str, int]:
         return (told + "\n", status) if command == "check" else rate_text(given)
     texts: dict[str, Callable[[], str]] = {
         "assign": lambda: assign_text(world),
+        "needs": lambda: needs_text(world),
         "plan": lambda: plan_text(plan_of(world, asked.workers, asked.rule)),
         "compare": lambda: compare_text(worlds, asked.workers),
         "sweep": lambda: sweep_text(world, [int(it) for it in asked.workers.split(",")], asked.rule),

@@ -1,6 +1,6 @@
 //! A plain planner with no proof, on the standard library alone: what `tests/random/run` compares the built program with.
 //!
-//! It reads files that are right (nothing is refused), and prints the texts of assign, plan, check and compare. A plan by the
+//! It reads files that are right (nothing is refused), and prints the texts of assign, needs, plan, check and compare. A plan by the
 //! longest tails is made tick by tick, over all pairs.
 use std::cmp::Reverse;
 use std::collections::{BTreeMap, BinaryHeap, HashMap};
@@ -395,6 +395,17 @@ fn bound(trace: &Trace, plan: &Plan, chain: &[usize], k: Option<u64>) -> (u64, u
     }
 }
 
+/// The needs of each message in rising order.
+fn needs_text(h: &Hierarchy, assigned: &[usize]) -> String {
+    let mut text = "message,needs\n".to_string();
+    for (n, mut found) in needs(h, assigned).into_iter().enumerate() {
+        found.sort_unstable();
+        let words: Vec<String> = found.iter().map(|it| (it + 1).to_string()).collect();
+        writeln!(text, "{},{}", n + 1, words.join(" ")).unwrap();
+    }
+    text
+}
+
 pub fn assign_text(h: &Hierarchy, trace: &Trace, assigned: &[usize]) -> String {
     let mut text = String::from("message,name,affinity\n");
     for (n, (message, &a)) in trace.messages.iter().zip(assigned).enumerate() {
@@ -614,6 +625,7 @@ fn main() {
         let assigned = assign(&h, &trace);
         match words[0].as_str() {
             "assign" => assign_text(&h, &trace, &assigned),
+            "needs" => needs_text(&h, &assigned),
             "plan" => plan_text(&h, &trace, &assigned, k, is_longest),
             "check" => {
                 let plan = file(2);

@@ -11,20 +11,23 @@ use std::rt::Runtime;
 use std::sync::Wait;
 use std::thread::Threads;
 use waff_answer::answer;
-use waff_cli::read_question;
+use waff_cli::{Terminals, read_question};
 
 fn main(rt: HostRuntime) -> ExitCode {
-    let at_terminal = rt.stdin().is_terminal();
-    ExitCode::from(run(&rt, at_terminal, &mut rt.stderr()))
+    let terminals = Terminals {
+        input: rt.stdin().is_terminal(),
+        error: rt.stderr().is_terminal(),
+    };
+    ExitCode::from(run(&rt, terminals, &mut rt.stderr()))
 }
 
 /// Answers what the program is asked, and gives the exit status.
 fn run<R: Runtime + AllocGlobal + Threads + Wait + Sync, E: Write>(
     rt: &R,
-    at_terminal: bool,
+    terminals: Terminals,
     err: &mut E,
 ) -> u8 {
-    match read_question(rt, at_terminal) {
+    match read_question(rt, terminals) {
         Ok(question) => {
             let status = answer(rt, rt.alloc(), &question, &mut io::writer(rt), err);
             drop(question);

@@ -12,6 +12,7 @@ use Rattle.waff_tool.specs.Comparison.{IsCompareText, RefusesComparison}
 use Rattle.waff_tool.specs.DrawText.{IsDrawText}
 use Rattle.waff_tool.specs.Explanations.{IsExplanation, RefusesWork, status_explained}
 use Rattle.waff_tool.specs.Figures.{IsSweepText, IsWhereText}
+use Rattle.waff_tool.specs.NeedsText.{IsNeedsText}
 use Rattle.waff_tool.specs.PlanText.{IsPlanText, IsPlanTextFor}
 use Rattle.waff_tool.specs.Ranks.{IsRankText, RefusesRank, file_at}
 use Rattle.waff_tool.specs.Rate.{IsRateText}
@@ -69,6 +70,8 @@ Answers (asked.Where grouping) files status text =
     (status ≡ 0) × IsWhereText (first files) (second files) grouping text
 Answers (asked.Waits workers rule grouping) files status text =
     (status ≡ 0) × IsWaitsText rule (first files) (second files) workers grouping text
+Answers asked.Needs files status text =
+    (status ≡ 0) × IsNeedsText (first files) (second files) text
 Answers (asked.Draw drawing part) files status text =
     (status ≡ 0)
     × IsDrawText (first files) (second files) (third files) (picture_for drawing) part text
@@ -94,6 +97,7 @@ RefusesAsked (asked.Sweep given rule) files error = Refuses (first files) (secon
 RefusesAsked (asked.Where grouping) files error = Refuses (first files) (second files) error
 RefusesAsked (asked.Waits workers rule grouping) files error =
     Refuses (first files) (second files) error
+RefusesAsked asked.Needs files error = Refuses (first files) (second files) error
 RefusesAsked (asked.Draw drawing part) files error =
     RefusesCheck (first files) (second files) (third files) error
 RefusesAsked (asked.Rank k rule) files error = RefusesRank (drop 1 files) (first files) error

@@ -18,9 +18,9 @@ use waff_check::Verdict;
 use waff_cli::{Asked, Drawing, Question, thread_count};
 use waff_tool::{
     Explained, MAX_RANKED, Part, Picture, Rule, ToolError, assign_text_by_threads, check_text,
-    compare_text_by_threads, draw_text, explain_text, explained_status, plan_text_by, rank_text,
-    rate_text, replay_text, split_input, sweep_text, sweep_workers, verdict_status, waits_text,
-    where_text,
+    compare_text_by_threads, draw_text, explain_text, explained_status, needs_text, plan_text_by,
+    rank_text, rate_text, replay_text, split_input, sweep_text, sweep_workers, verdict_status,
+    waits_text, where_text,
 };
 
 /// Writes the answer to the question, and gives the exit status.
@@ -65,6 +65,7 @@ pub fn print<R: Threads + Wait + Sync, W: Write>(
         Asked::Waits(workers, rule, grouping) => {
             printed(waits_text(rt, alloc, first, second, *workers, *rule, *grouping, out))
         }
+        Asked::Needs => printed(needs_text(rt, alloc, first, second, out)),
         Asked::Draw(drawing, part) => {
             let picture = picture_of(*drawing);
             printed(draw_text(rt, alloc, first, second, third, picture, *part, out))

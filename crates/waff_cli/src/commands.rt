@@ -167,6 +167,11 @@ pub static COMMANDS: &[CommandWords] = &[
         ],
     },
     CommandWords {
+        name: "needs",
+        about: "Prints for which earlier messages each message has to wait",
+        words: &[Word::File(HIERARCHY), Word::File(TRACE)],
+    },
+    CommandWords {
         name: "draw",
         about: "Prints a picture of a plan",
         words: &[

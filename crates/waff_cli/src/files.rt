@@ -44,13 +44,37 @@ impl From<ReadFault> for Fault {
     }
 }
 
+/// What is told of a file that was not read.
+#[derive(Clone, Copy)]
+pub enum Told {
+    /// The line of the fault.
+    Fault,
+    /// The name of the file, and what the system says.
+    Reason,
+    /// Both, in this order.
+    Both,
+}
+
 impl Unread<'_> {
-    /// The refusal that this comes to. Where it is to be told in words, those are printed here: the
-    /// name of the file, and what the system says.
-    pub fn refusal<R: Eprint + Files>(self, rt: &R, in_words: bool) -> Refusal {
+    /// The refusal that this comes to. A reason that is to be told is printed here.
+    pub fn refusal<R: Eprint + Files>(self, rt: &R, told: Told) -> Refusal {
+        let fault = Refusal::Read(self.place);
+        match (self.fault, told) {
+            (Fault::Memory, _) => return Refusal::Memory,
+            (_, Told::Fault) => return fault,
+            (_, Told::Both) => {
+                let _ = fault.report(rt);
+            }
+            (_, Told::Reason) => {}
+        }
+        self.tell_reason(rt);
+        Refusal::Told(FAILED)
+    }
+
+    /// A line of why it was not read.
+    fn tell_reason<R: Eprint + Files>(&self, rt: &R) {
         match self.fault {
-            Fault::Memory => return Refusal::Memory,
-            _ if !in_words => return Refusal::Read(self.place),
+            Fault::Memory => self.tell(rt, &"memory was refused"),
             Fault::Closed(error) => self.tell(rt, &error),
             Fault::Failed => match read_error(rt, self.name) {
                 Some(error) => self.tell(rt, &error),
@@ -58,7 +82,6 @@ impl Unread<'_> {
             },
             Fault::TooLong => self.tell(rt, &format_args!("it has more than {MAX_INPUT} bytes")),
         }
-        Refusal::Told(FAILED)
     }
 
     /// A line on standard error. Where that fails, the exit status has to do.
@@ -78,16 +101,18 @@ fn read_error(rt: &impl Files, name: &str) -> Option<io::Error> {
     }
 }
 
-/// The bytes of the files of these names, in their order.
+/// The bytes of the files of these names, in their order. Before standard input is read, `waiting` is
+/// said where there is something to say.
 pub fn read_files<'a, R: Runtime>(
     rt: &R,
     alloc: Global,
     names: &[&'a str],
+    waiting: Option<&str>,
 ) -> Result<Vec<Vec<u8>>, Unread<'a>>
     ensures { IfOk result (λ files. length files.items ≡ length names.now) }
 {
     let mut files = Vec::new(alloc);
-    match push_files(rt, alloc, names, &mut files) {
+    match push_files(rt, alloc, names, waiting, &mut files) {
         Ok(()) => Ok(files),
         Err(unread) => Err(unread),
     }
@@ -98,6 +123,7 @@ fn push_files<'a, R: Runtime>(
     rt: &R,
     alloc: Global,
     names: &[&'a str],
+    waiting: Option<&str>,
     files: &mut Vec<Vec<u8>>,
 ) -> Result<(), Unread<'a>>
     ensures { OnOk result
@@ -105,12 +131,22 @@ fn push_files<'a, R: Runtime>(
 {
     for at in 0..names.len() {
         let name = names[at];
+        if name == INPUT {
+            say(rt, waiting);
+        }
         if let Err(fault) = push_file(rt, alloc, name, files) {
             let place = if name == INPUT { 0 } else { at + 1 };
             return Err(Unread { name, place, fault });
         }
     }
     Ok(())
+}
+
+/// A line on standard error, where there is one. Where that fails, the input is read all the same.
+fn say(rt: &impl Eprint, line: Option<&str>) {
+    if let Some(line) = line {
+        let _ = rt.eprintln(line);
+    }
 }
 
 /// Appends the bytes of the file of this name.

@@ -13,6 +13,7 @@ pub fn of(command: &str) -> &'static str {
         "sweep" => SWEEP,
         "where" => WHERE,
         "waits" => WAITS,
+        "needs" => NEEDS,
         "draw" => DRAW,
         "replay" => REPLAY,
         "compare" => COMPARE,
@@ -243,6 +244,19 @@ With --names a line for each two names and their affinities:
   forname      that of the messages they wait for; - for a worker
   foraffinity  that of those; - for a worker
   messages, ticks, longest"
+);
+
+/// What the long help of `waff needs` ends with.
+const NEEDS: &str = with_statuses!(
+    "\
+Example: waff needs hier.toml trace.csv
+
+A line for each message:
+  message  its number, from 1
+  needs    the earlier messages that have to finish before it starts, with
+           spaces between them; nothing where it may start at once
+Each earlier message that excludes it is one of them, or has finished before one
+of them starts. Earlier is by number, also where a trace has clients."
 );
 
 /// What the long help of `waff draw` ends with.

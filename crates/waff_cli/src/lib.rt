@@ -21,7 +21,7 @@ mod threads;
 mod version;
 mod words;
 
-pub use question::{Question, read_question};
+pub use question::{Question, Terminals, read_question};
 pub use refusal::Refusal;
 pub use threads::thread_count;
 pub use words::{Asked, Drawing};

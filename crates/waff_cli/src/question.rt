@@ -3,7 +3,7 @@ ghost use Rattle.std.specs.Prelude.{length};
 ghost use Rattle.waff_cli.specs.Limits.{within_limits-prop};
 ghost use Rattle.waff_cli.specs.Requests.{IsWithinLimits, TakesFiles};
 
-use crate::files::read_files;
+use crate::files::{Told, read_files};
 use crate::refusal::Refusal;
 use crate::words::{Asked, Request, read_words};
 use std::alloc::Global;
@@ -19,21 +19,29 @@ pub struct Question {
     ghost taken: { TakesFiles asked (length files.items) },
 }
 
+/// Which standard streams are those of a terminal.
+#[derive(Clone, Copy)]
+pub struct Terminals {
+    /// Standard input is what somebody types.
+    pub input: bool,
+    /// Standard error is what somebody reads.
+    pub error: bool,
+}
+
 /// What is said where the program has no words, and waits for what somebody types.
-const WAITING: &str = "\
+const WITHOUT_WORDS: &str = "\
 waff: reads a hierarchy, a line ---, and a trace from standard input; waff --help says more";
 
-/// Reads the words that the program was started with, and the files that they name. `at_terminal` is
-/// whether standard input is what somebody types.
+/// What is said where it waits for what somebody types in place of a file.
+const FOR_A_FILE: &str = "waff: reads the file - from standard input, up to its end (Ctrl-D)";
+
+/// Reads the words that the program was started with, and the files that they name.
 pub fn read_question<R: Runtime + AllocGlobal>(
     rt: &R,
-    at_terminal: bool,
+    terminals: Terminals,
 ) -> Result<Question, Refusal> {
     let words = words_of(rt)?;
-    if at_terminal && words.len() == 1 {
-        let _ = rt.eprintln(WAITING);
-    }
-    let question = question_of(rt, rt.alloc(), words.as_slice());
+    let question = question_of(rt, rt.alloc(), words.as_slice(), terminals);
     drop(words);
     question
 }
@@ -48,13 +56,44 @@ fn words_of<R: Runtime + AllocGlobal>(rt: &R) -> Result<Vec<String>, Refusal> {
 }
 
 /// What these words ask, of the files that they name.
-fn question_of<R: Runtime>(rt: &R, alloc: Global, words: &[String]) -> Result<Question, Refusal> {
+fn question_of<R: Runtime>(
+    rt: &R,
+    alloc: Global,
+    words: &[String],
+    terminals: Terminals,
+) -> Result<Question, Refusal> {
     let Request {
         asked,
         files: names,
     } = read_words(rt, alloc, words)?;
-    match read_files(rt, alloc, names.as_slice()) {
+    match read_files(rt, alloc, names.as_slice(), waiting(&asked, terminals)) {
         Ok(files) => Ok(Question { asked, files }),
-        Err(unread) => Err(unread.refusal(rt, matches!(asked, Asked::Explain))),
+        Err(unread) => {
+            let is_explained = matches!(asked, Asked::Explain);
+            Err(unread.refusal(rt, told(is_explained, terminals)))
+        }
+    }
+}
+
+/// What is said before standard input is read, where somebody types it.
+fn waiting(asked: &Asked, terminals: Terminals) -> Option<&'static str> {
+    if !terminals.input {
+        return None;
+    }
+    match asked {
+        Asked::PlanOfInput => Some(WITHOUT_WORDS),
+        _ => Some(FOR_A_FILE),
+    }
+}
+
+/// How it is told that a file was not read: `explain` has the reason in place of the fault, and at a
+/// terminal the reason stands below it.
+fn told(is_explained: bool, terminals: Terminals) -> Told {
+    if is_explained {
+        Told::Reason
+    } else if terminals.error {
+        Told::Both
+    } else {
+        Told::Fault
     }
 }

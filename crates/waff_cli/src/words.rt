@@ -53,6 +53,8 @@ pub enum Asked {
     /// Who waits for whom, in the plan for this number of workers by this rule or in a shortest one,
     /// by affinity or by the names of messages too.
     Waits(Option<u32>, Rule, Grouping),
+    /// For which earlier messages each message has to wait.
+    Needs,
     /// This part of the plan drawn as this picture.
     Draw(Drawing, Part),
     /// How several hierarchies serve the trace, for this number of workers by this rule. The trace
@@ -161,6 +163,7 @@ fn asked_of(
         "assign" => Ok(Asked::Assign),
         "check" => Ok(Asked::Check),
         "explain" => Ok(Asked::Explain),
+        "needs" => Ok(Asked::Needs),
         "rate" => Ok(Asked::Rate),
         "where" => Ok(Asked::Where(grouping(matches))),
         "replay" => Ok(Asked::Replay(workers(matches, MAX_SEATS)?)),

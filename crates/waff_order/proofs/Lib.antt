@@ -1,5 +1,6 @@
 pub mod Parts
 pub mod NeedLemmas
+pub mod ChosenLemmas
 mod Taking
 mod Holding
 mod Closure

@@ -8,10 +8,11 @@ use Rattle.waff_model.specs.Spans.{map_in, messages_in}
 use Rattle.waff_model.specs.declared.limits.TheConstants.{MAX_MESSAGES}
 use Rattle.waff_model.specs.declared.preorder.Span.{Span}
 use Rattle.waff_assign.specs.Order.{affinity_of, IsOrdered}
-use Rattle.waff_order.specs.Open.{IsAbove, IsOpen, chosen}
+use Rattle.waff_order.specs.Open.{IsAbove, IsOpen, IsChosen, AreChosen, chosen}
 use Rattle.waff_order.specs.Runs.{AreGathered}
 use Rattle.waff_order.specs.Joined.{Joined, HaveJoined, place_at}
-use Rattle.waff_order.proofs.Reaching.{IsReached, reached_none, needs_count, reached_more}
+use Rattle.waff_order.proofs.ChosenLemmas.{chosen_more, chosen_nothing}
+use Rattle.waff_order.proofs.Reaching.{IsReached, reached_none, needs_count, reached_more, is_chosen}
 use Rattle.waff_order.proofs.UpTo.{up_to_all, up_to_lists}
 
 -- what has joined is what is reached
@@ -36,13 +37,14 @@ reached_of tree spans assigned joined h = record {
 }
 
 pub joined_of : (tree : List Node) (spans : List Span) (assigned : List ℕ) (joined : Joined) → IsTree tree → AreNested tree spans
-    → All (λ a. a < length tree) assigned → length assigned ≤ MAX_MESSAGES
+    → All (λ a. a < length tree) assigned → length assigned ≤ MAX_MESSAGES → AreChosen tree assigned joined.needs
     → IsReached tree assigned spans joined.needs joined.opened joined.latest (length assigned) → HaveJoined tree spans assigned joined
-joined_of tree spans assigned joined is_tree nested known few h = record {
+joined_of tree spans assigned joined is_tree nested known few are_chosen h = record {
   is_tree = is_tree;
   nested = nested;
   known = known;
   needs = up_to_all tree assigned joined.needs (length assigned) refl h.needs;
+  chosen = are_chosen;
   lists = up_to_lists tree assigned joined.needs (length assigned) few (omega (arith, h.total)) h.needs;
   leads = h.needs.closed.leads;
   opened_count = h.count;
@@ -56,7 +58,7 @@ joined_of tree spans assigned joined is_tree nested known few h = record {
 pub joined_none : (tree : List Node) (spans : List Span) (joined : Joined) → joined.needs ≡ [] → joined.opened ≡ replicate (length tree) 0
     → joined.latest ≡ replicate (length tree) 0 → IsTree tree → AreNested tree spans → HaveJoined tree spans [] joined
 joined_none tree spans joined none opened latest is_tree nested =
-    joined_of tree spans [] joined is_tree nested (All-nil _) (omega arith)
+    joined_of tree spans [] joined is_tree nested (All-nil _) (omega arith) (chosen_nothing tree joined.needs none)
     (rw (none, opened, latest) (reached_none tree [] spans is_tree nested (All-nil _)))
 
 -- the messages before stand as they did where one more affinity is listed
@@ -181,5 +183,13 @@ module _ (tree : List Node) (spans : List Span) (assigned : List ℕ) (a : ℕ) 
       (set (map_in (λ m. 0) joined.opened (span_at spans x).first (span_at spans x).end) (span_at spans x).first (length assigned + 1))
       (map_in (λ v. max v (length assigned + 1)) joined.latest (span_at spans x).first (span_at spans x).end) (length assigned + 1))
       (last tree spans assigned a) reached in
+      let last_is : IsChosen (IsAbove tree (more tree spans assigned a)) (length assigned) chosen_needs =
+      subst (λ x. IsChosen (IsAbove tree (more tree spans assigned a)) (length assigned) (chosen gathered (get_or joined.latest (place_at spans x) 0)))
+      (last tree spans assigned a)
+      (is_chosen tree (more tree spans assigned a) spans h.is_tree h.nested known_more joined.needs joined.opened joined.latest (length assigned)
+      room before gathered (at_last _ refl)) in
+      let are_chosen = chosen_more tree assigned (more tree spans assigned a) joined.needs chosen_needs long
+      (above_to tree spans assigned a) (above_from tree spans assigned a) h.chosen last_is in
       joined_of tree spans (more tree spans assigned a) next h.is_tree h.nested known_more (omega (arith, long, few))
+      (rw needs are_chosen)
       (rw (needs, opened, latest, long) here)

@@ -1,5 +1,5 @@
 -- What the tables and the lists hold after the first messages, and after one more.
-use Rattle.std.proofs.Common.{◌≡◌, ℕ, ◌+◌, ◌-◌, ◌*◌, ◌<◌, ◌≤◌, ◌↔◌, max, List, All, [], ◌∷◌, ◌++◌, length, get_or, set, replicate, sum_by, arith, ◌∙◌}
+use Rattle.std.proofs.Common.{◌≡◌, ℕ, ◌+◌, ◌-◌, ◌*◌, ◌<◌, ◌≤◌, ◌↔◌, max, List, All, [], ◌∷◌, ◌++◌, length, get_or, set, replicate, sum_by, arith, refl, ◌∙◌}
 use Rattle.std.proofs.lemmas.List.{length-set, length-replicate}
 use Rattle.std.proofs.lemmas.List.Sums.{sum_by_push}
 use Rattle.waff_model.specs.Tree.{Node, IsTree}
@@ -9,7 +9,7 @@ use Rattle.waff_model.specs.declared.preorder.Span.{Span}
 use Rattle.waff_model.proofs.SpanLemmas.{held, length-map_in, held-put, held-taken, held-none}
 use Rattle.waff_assign.specs.Order.{affinity_of}
 use Rattle.waff_order.specs.Needs.{IsWithinDepth}
-use Rattle.waff_order.specs.Open.{IsAbove, AreTaken, IsLatestAbove, chosen}
+use Rattle.waff_order.specs.Open.{IsAbove, AreTaken, IsLatestAbove, IsChosen, chosen}
 use Rattle.waff_order.specs.Runs.{AreGathered}
 use Rattle.waff_order.specs.Joined.{AreHeld, AreLatest, IsOver, place_at}
 use Rattle.waff_order.proofs.Holding.{held_none, latest_none, taken, held_more, latest_next}
@@ -80,6 +80,9 @@ module _ (tree : List Node) (assigned : List ℕ) (spans : List Span) (is_tree :
 
     is_latest : IsLatestAbove (IsAbove tree assigned) n (n + 1) above
     is_latest = let there = h.latest (affinity_of assigned (n + 1)) (known_affinity (n + 1) (omega arith) room) in record { some = there.some; latest = there.latest }
+
+    pub is_chosen : IsChosen (IsAbove tree assigned) n (chosen gathered above)
+    is_chosen = record { taken = gathered; above = above; are_taken = takes; is_latest = is_latest; chosen = refl }
 
     -- the needs of one message more
     pub needs_count : sum_by length lists + length (chosen gathered above) + held (set left (first_of spans assigned (n + 1)) (n + 1)) ≤ 2 * (n + 1)

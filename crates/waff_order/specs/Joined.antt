@@ -7,7 +7,7 @@ use Rattle.waff_model.specs.Spans.{messages_of}
 use Rattle.waff_model.specs.declared.preorder.Span.{Span}
 use Rattle.waff_assign.specs.Order.{affinity_of, Path, Relation}
 use Rattle.waff_order.specs.Needs.{IsNeed, AreLists, AreNeeds, IsWithinDepth}
-use Rattle.waff_order.specs.Open.{IsAbove, IsOpen, IsLatestAbove}
+use Rattle.waff_order.specs.Open.{IsAbove, IsOpen, IsLatestAbove, AreChosen}
 
 -- the needs of the messages that have joined, the open ones, each at the place of its affinity, and
 -- at each place the latest message at or above it, 0 where there is none
@@ -47,6 +47,7 @@ pub record HaveJoined (tree : List Node) (spans : List Span) (assigned : List �
   pub nested : AreNested tree spans
   pub known : All (λ a. a < length tree) assigned
   pub needs : AreNeeds tree assigned joined.needs
+  pub chosen : AreChosen tree assigned joined.needs
   pub lists : AreLists joined.needs
   pub leads : LeadToOpen (IsAbove tree assigned) (IsNeed joined.needs) (length assigned)
   pub opened_count : length joined.opened ≡ length tree

@@ -1,10 +1,12 @@
 -- The open messages: those that no later message at or above them has taken as a need. A message
 -- takes as needs the open messages at or below it, or, where there is none, the latest message
 -- above it.
-use Rattle.std.specs.Prelude.{ℕ, zero, suc, ◌+◌, ◌<◌, ◌≤◌, ◌⊎◌, List, [], ◌∷◌, All, Contains}
+use Rattle.std.specs.Prelude.{◌≡◌, ℕ, zero, suc, ◌+◌, ◌<◌, ◌≤◌, ◌⊎◌, List, [], ◌∷◌, length, All}
+use Rattle.std.specs.Prelude.{Contains}
 use Rattle.std.specs.List.Sorted.{IsStrictlyIncreasing}
 use Rattle.waff_model.specs.Tree.{Node, AtOrAbove}
 use Rattle.waff_assign.specs.Order.{affinity_of, Relation}
+use Rattle.waff_order.specs.Needs.{needs_of}
 
 -- the affinity of message i is at or above that of message j
 abbrev pub IsAbove : List Node → List ℕ → ℕ → ℕ → Type 0
@@ -32,3 +34,17 @@ abbrev pub chosen : List ℕ → ℕ → List ℕ
 chosen [] zero = []
 chosen [] (suc n) = suc n ∷ []
 chosen (i ∷ rest) above = i ∷ rest
+
+-- the list that message n + 1 gets
+pub record IsChosen (Above : Relation) (n : ℕ) (needs : List ℕ) : Type 0 where
+  pub taken : List ℕ
+  pub above : ℕ
+  pub are_taken : AreTaken Above n taken
+  pub is_latest : IsLatestAbove Above n (n + 1) above
+  pub chosen : needs ≡ chosen taken above
+
+-- the needs that each message is given: there is one list for each message
+pub record AreChosen (tree : List Node) (assigned : List ℕ) (needs : List (List ℕ)) : Type 0 where
+  pub count : length needs ≡ length assigned
+  pub each : (n : ℕ) → n < length assigned
+      → IsChosen (IsAbove tree assigned) n (needs_of needs (n + 1))

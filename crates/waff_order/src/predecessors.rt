@@ -1,7 +1,9 @@
 //! The needs of each message of a trace.
 
-ghost use Rattle.std.specs.Prelude.{◌+◌, ◌*◌, ◌<◌, ◌≤◌, ℕ, length, All, IfOk, sum_by};
+ghost use Rattle.std.specs.Prelude.{◌≡◌, ◌+◌, ◌*◌, ◌<◌, ◌≤◌, ℕ, List, length, All, IfOk, sum_by};
+ghost use Rattle.waff_model.specs.Tree.{Node};
 ghost use Rattle.waff_order.specs.Needs.{AreNeeds, IsWithinDepth};
+ghost use Rattle.waff_order.specs.Open.{AreChosen};
 
 use crate::joining::Joining;
 use crate::lists::Needs;
@@ -10,10 +12,12 @@ use waff_assign::Assigned;
 use waff_model::Tree;
 
 /// The needs of each message: earlier messages that exclude it, so many that every other such
-/// message is led to it by a path through needs.
+/// message is led to it by a path through needs. They are the open messages at or below it, or,
+/// where there is none, the latest one above it.
 pub fn needs(alloc: Global, tree: &Tree, assigned: &Assigned) -> Result<Needs, AllocError>
     requires { All (λ a. a < length tree.now) assigned.now }
     ensures needs { IfOk result (AreNeeds tree.now assigned.now) }
+    ensures chosen { IfOk result (AreChosen tree.now assigned.now) }
     ensures few { IfOk result (λ needs. (depth : ℕ)
         → IsWithinDepth tree.now depth → sum_by length needs ≤ length assigned.now * (depth + 1)) }
     ensures twice { IfOk result (λ needs. sum_by length needs ≤ 2 * length assigned.now) }
@@ -25,3 +29,9 @@ pub fn needs(alloc: Global, tree: &Tree, assigned: &Assigned) -> Result<Needs, A
     }
     Ok(joining.needs())
 }
+
+/// The needs that the messages of a trace are given are unique.
+pub fn needs_are_one()
+    ensures { (tree : List Node) (assigned : List ℕ) (needs other : List (List ℕ))
+        → AreChosen tree assigned needs → AreChosen tree assigned other → needs ≡ other }
+{}

@@ -12,7 +12,7 @@ ghost use Rattle.waff_plan_text.specs.Spelling.{plan_row, release_line, summary_
 ghost use Rattle.waff_plan_text.specs.Spelling.{unlimited_lines, worker_field, worker_lines};
 ghost use Rattle.waff_plan_text.specs.Spelling.{workers_of};
 
-use crate::numbers::{push_field, push_number};
+use crate::numbers::{push_field, push_number, push_numbers};
 use crate::row::COLUMNS;
 use std::alloc::{AllocError, Global};
 use waff_model::Version;
@@ -196,22 +196,6 @@ fn push_chain(text: &mut String, chain: &[u32]) -> Result<(), AllocError>
     text.push_str("chain,")?;
     push_numbers(text, chain)?;
     text.push('\n')
-}
-
-/// Appends the numbers, joined by spaces.
-fn push_numbers(text: &mut String, numbers: &[u32]) -> Result<(), AllocError>
-    ensures { OnOk result (Adds text.old text.new
-        (numbers_field numbers.now)) }
-{
-    let Some((first, others)) = numbers.split_first() else {
-        return Ok(());
-    };
-    push_number(text, u64::from(*first))?;
-    for number in others {
-        text.push(' ')?;
-        push_number(text, u64::from(*number))?;
-    }
-    Ok(())
 }
 
 /// Appends the line of the release, where the version has one.

@@ -8,6 +8,7 @@ mod ExplainedLaws
 mod ExplainedLines
 mod FigureUniqueness
 mod LineLaws
+mod NeedsTexts
 mod OrderLemmas
 mod OwnPlanLaws
 mod RankLaws

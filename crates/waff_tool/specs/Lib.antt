@@ -8,6 +8,7 @@ pub mod DrawText
 pub mod Explanations
 pub mod Figures
 pub mod ListOrder
+pub mod NeedsText
 pub mod OwnPlans
 pub mod PlanText
 pub mod PrintedSpaces

@@ -5,14 +5,14 @@
 //! before the first byte is written, so a refusal leaves nothing written, and a writer that fails
 //! has taken a prefix of it. A plan is told with its printed chain as its *certificate*.
 //! - `assigns` (assign), `plans` (plan), `comparison` (compare, over `measures`), `sweeps` (sweep),
-//!   `wheres` (where), `waits` (waits), `ranks` (rank): commands that tell of a trace under
-//!   hierarchies. Plans for k workers are by a rule, which `plans`, `sweeps`, `waits` and `ranks`
+//!   `wheres` (where), `waits` (waits), `needs` (needs), `ranks` (rank): commands that tell of a trace
+//!   under hierarchies. Plans for k workers are by a rule, which `plans`, `sweeps`, `waits` and `ranks`
 //!   are told; the others have those by arrival. `certificates`: plans with their printed chains.
 //! - `checks` (check, over `verdict_line`), `rates` (rate), `draws` (draw): a plan that is handed in,
 //!   tried; they read it beside the other files (`ahead`).
 //! - `replays` (replay, over `state_text`): the state that threads leave.
 //! - `explains` (explain): the fault or the verdict that the others find, in words.
-//! - `unique`, and the laws of `sweeps`, `rates`, `wheres`, `waits`, `ranks` and `draws`: one text or
+//! - `unique`, and the laws of `sweeps`, `rates`, `wheres`, `waits`, `needs`, `ranks` and `draws`: one text or
 //!   one fault for each input;
 //!   `own`: plans that are printed pass the check.
 #![tactic(auto)]
@@ -25,6 +25,7 @@ mod comparison;
 pub mod draws;
 mod explains;
 mod measures;
+pub mod needs;
 pub mod own;
 mod plans;
 pub mod ranks;
@@ -42,6 +43,7 @@ pub use checks::{check_text, verdict_status};
 pub use comparison::{compare_text, compare_text_by_threads};
 pub use draws::{Picture, draw_text};
 pub use explains::{Explained, explain_text, explained_status, lines_are_no_first_lines};
+pub use needs::needs_text;
 pub use plans::{plan_text, plan_text_by};
 pub use ranks::rank_text;
 pub use rates::rate_text;

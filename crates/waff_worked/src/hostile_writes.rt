@@ -14,9 +14,9 @@ use waff_samples::{
 };
 use waff_tool::{
     Grouping, Part, Picture, ReadFault, ToolError, assign_text, assign_text_by_threads, check_text,
-    compare_text, compare_text_by_threads, draw_text, explain_text, plan_text, plan_text_by,
-    rank_text, rate_text, read_whole, replay_text, sweep_text, sweep_workers, waits_text,
-    where_text,
+    compare_text, compare_text_by_threads, draw_text, explain_text, needs_text, plan_text,
+    plan_text_by, rank_text, rate_text, read_whole, replay_text, sweep_text, sweep_workers,
+    waits_text, where_text,
 };
 
 /// The calls that write a text.
@@ -39,6 +39,7 @@ enum Call {
     Explain,
     Rate,
     Waits,
+    Needs,
     Rank,
 }
 
@@ -111,6 +112,7 @@ fn write_text<R: Threads + Wait + Sync>(
             let (workers, rule, grouping) = (Some(2), Rule::Arrival, Grouping::Name);
             waits_text(rt, alloc, hierarchy, trace, workers, rule, grouping, writer)
         }
+        Call::Needs => needs_text(rt, alloc, hierarchy, trace, writer),
         Call::Rank => {
             let trees = [H1.as_bytes().to_vec(alloc)?, C1.as_bytes().to_vec(alloc)?];
             rank_text(rt, alloc, &trees, trace, 2, Rule::Longest, writer)
@@ -248,6 +250,11 @@ fn are_given<R: Threads + Wait + Sync + Abort>(rt: &R, alloc: Global, calls: &[C
 fn leave_the_part_of_a_text_about_a_plan_that_was_taken(rt: HostRuntime) {
     let calls = [Call::Picture, Call::Events, Call::Explain, Call::Rate];
     are_given(&rt, rt.alloc(), &calls);
+}
+
+#[test]
+fn leave_the_part_of_the_needs_that_was_taken(rt: HostRuntime) {
+    are_given(&rt, rt.alloc(), &[Call::Needs]);
 }
 
 #[test]

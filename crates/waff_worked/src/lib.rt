@@ -15,6 +15,8 @@ mod hostile_writes;
 #[cfg(test)]
 mod long_traces;
 #[cfg(test)]
+mod needs;
+#[cfg(test)]
 mod plan_texts;
 #[cfg(test)]
 mod ranks;

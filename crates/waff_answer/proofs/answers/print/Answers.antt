@@ -8,6 +8,7 @@ use Rattle.waff_tool.specs.Comparison.{IsCompareText}
 use Rattle.waff_tool.specs.DrawText.{IsDrawText}
 use Rattle.waff_tool.specs.Explanations.{IsExplanation, status_explained}
 use Rattle.waff_tool.specs.Figures.{IsSweepText, IsWhereText}
+use Rattle.waff_tool.specs.NeedsText.{IsNeedsText}
 use Rattle.waff_tool.specs.PlanText.{IsPlanText, IsPlanTextFor}
 use Rattle.waff_tool.specs.Ranks.{IsRankText}
 use Rattle.waff_tool.specs.Rate.{IsRateText}
@@ -97,6 +98,13 @@ returns-in-Waits g c =
     answers_as (λ _. 0) (λ _ text. IsWaitsText rule (first files) (second files) workers grouping text) (asked.Waits workers rule grouping) files _ _ _ _ _
     c.in-Waits.is (λ _ text is. (refl, is)) c.printed-in-Waits.ensures.written c.printed-in-Waits.ensures.refused
     (rw (c.file-first.ensures, c.file-second.ensures, c.as_slice-files.ensures.value) at c.waits_text.ensures)
+
+pub returns-in-Needs : goal.returns-in-Needs
+returns-in-Needs g c =
+    let files = bytes_of c.args.question.now.files.items in
+    answers_as (λ _. 0) (λ _ text. IsNeedsText (first files) (second files) text) asked.Needs files _ _ _ _ _
+    c.in-Needs.is (λ _ text is. (refl, is)) c.printed-in-Needs.ensures.written c.printed-in-Needs.ensures.refused
+    (rw (c.file-first.ensures, c.file-second.ensures, c.as_slice-files.ensures.value) at c.needs_text.ensures)
 
 pub returns-in-Draw : goal.returns-in-Draw
 returns-in-Draw g c =

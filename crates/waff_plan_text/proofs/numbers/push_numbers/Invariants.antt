@@ -1,6 +1,6 @@
 use Rattle.std.proofs.Common.{◌≡◌, ◌∷◌, ◌++◌, take, string_bytes, decimal}
 use Rattle.std.specs.List.{flat_map}
-use Rattle.waff_plan_text.proofs.writing.push_numbers.Given as goal
+use Rattle.waff_plan_text.proofs.numbers.push_numbers.Given as goal
 
 abbrev pub invariant-loop-number : goal.invariant-loop-number
 invariant-loop-number l =
