@@ -243,7 +243,7 @@ With --names a line for each two names and their affinities:
   affinity     theirs
   forname      that of the messages they wait for; - for a worker
   foraffinity  that of those; - for a worker
-  messages, ticks, longest"
+  messages, ticks, longest  as above, of these messages"
 );
 
 /// What the long help of `waff needs` ends with.

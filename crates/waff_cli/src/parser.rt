@@ -31,7 +31,7 @@ fn waff<'a>(alloc: Global) -> Command<'a> {
     Command::new(alloc, "waff")
         .version(VERSION)
         .long_version(LONG_VERSION)
-        .about("How much parallelism a tree of affinities allows a trace of messages")
+        .about("Plans messages on a tree of affinities, and shows how much can run in parallel")
         .after_help("Without words: the plan of what standard input holds.")
         .after_long_help(help::WAFF)
 }
@@ -87,8 +87,12 @@ fn arg<'a>(alloc: Global, word: Word) -> Arg<'a> {
         Word::Rule => rule(alloc),
         Word::Names(help) => option(alloc, "names", help).action(ArgAction::SetTrue),
         Word::Picture => picture(alloc),
-        Word::From => tick(alloc, "from", "The tick at which the part begins, else 0"),
-        Word::To => tick(alloc, "to", "The tick at which it ends, else the length"),
+        Word::From => tick(alloc, "from", "The tick at which the part begins").default_value("0"),
+        Word::To => tick(
+            alloc,
+            "to",
+            "The tick at which it ends [default: the length]",
+        ),
     }
 }
 

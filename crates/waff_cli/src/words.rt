@@ -311,7 +311,7 @@ fn grouping(matches: &ArgMatches<'_>) -> Grouping {
 
 /// The part of a plan that is drawn.
 fn part_of(rt: &impl Eprint, matches: &ArgMatches<'_>) -> Result<Part, Refusal> {
-    let from = matches.get_one::<u64>("from").unwrap_or(0);
+    let from = matches.get_one::<u64>("from").ok_or(Refusal::NoWords)?;
     match matches.get_one::<u64>("to") {
         Some(to) if to <= from => Err(Refusal::because(rt, "'--from' has to be below '--to'")),
         to => Ok(Part { from, to }),

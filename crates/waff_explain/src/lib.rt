@@ -9,6 +9,7 @@
 //! - `plan_texts`: the text of a plan that is refused.
 //! - `fields`: a field that is no name, no number or no text.
 //! - `sizes`: how much there is where nothing is wrong.
+//! - `near`: keys of a hierarchy that count for nothing and are nearly those of its format.
 //! - `verdicts`: a verdict, over `hearing` (a case, and the plan that was given for it).
 //!
 //! `words` has the lines, each with its head, and `said` the values that stand in them. `walk`
@@ -24,6 +25,7 @@ mod hearing;
 mod hierarchy;
 mod layouts;
 mod named;
+mod near;
 mod operations;
 mod plan_texts;
 mod said;
@@ -34,6 +36,7 @@ mod walk;
 mod words;
 
 pub use hierarchy::hierarchy_words;
+pub use near::near_words;
 pub use plan_texts::plan_text_words;
 pub use sizes::sizes_words;
 pub use traces::trace_words;

@@ -1,12 +1,15 @@
--- No line of an explanation below its first one is a first line.
-use Rattle.std.proofs.Common.{◌≡◌, ◌∙◌, ℕ, ◌+◌, ◌*◌, List, [], ◌∷◌, ◌++◌, Bool, true, false, true≢false, refl, sym, ap, codes}
+-- No line of an explanation below its first one is a first line, and more lines may stand below.
+use Rattle.std.proofs.Common.{◌≡◌, ◌∙◌, ℕ, ◌+◌, ◌*◌, List, [], ◌∷◌, ◌++◌, Bool, true, false, Option, true≢false, refl, sym, ap, codes, append_assoc}
 use Rattle.std.specs.Prelude.{◌==◌, ◌&&◌, ◌||◌, slice_index}
-use Rattle.waff_explain.specs.Lines.{head_text}
+use Rattle.std.specs.List.{concat}
+use Rattle.std.proofs.lemmas.List.Elements.{All-append}
+use Rattle.std.proofs.lemmas.List.Folds.{concat-append}
+use Rattle.waff_explain.specs.Lines.{AreHeadedLines, IsHeadedLine, head_text}
 use Rattle.waff_explain.specs.declared.words.Head.{Head}
 use Rattle.waff_explain.specs.declared.words.Head.TheVariants as head
 use Rattle.waff_check.specs.declared.verdict.Verdict.TheVariants as verdict
 use Rattle.waff_inputs.specs.declared.fault.ToolError.TheVariants as tool
-use Rattle.waff_tool.specs.Explanations.{first_line, LinesAreNoFirstLines}
+use Rattle.waff_tool.specs.Explanations.{first_line, IsExplanation, IsToldBelow, LinesAreNoFirstLines}
 use Rattle.waff_tool.specs.declared.explains.Explained.{Explained}
 use Rattle.waff_tool.specs.declared.explains.Explained.TheVariants as explained
 
@@ -57,3 +60,29 @@ first_begins (explained.Verdict verdict.WithinBound) = refl
 pub lines_are_no_first_lines : LinesAreNoFirstLines
 lines_are_no_first_lines line e is same =
     true≢false (sym (head_begins is.head (is.said ++ 10 ∷ [])) ∙ (ap begins (sym is.whole ∙ same) ∙ first_begins e))
+
+-- lines, and lines behind them
+lines_join : (text more : List ℕ) → AreHeadedLines text → AreHeadedLines more → AreHeadedLines (text ++ more)
+lines_join text more are others = record {
+  lines = are.lines ++ others.lines;
+  headed = All-append IsHeadedLine are.lines others.lines are.headed others.headed;
+  whole =
+      concat-append are.lines others.lines
+      ∙ (ap (λ t. t ++ concat others.lines) are.whole ∙ ap (λ t. text ++ t) others.whole);
+}
+
+below_more : (line text more : List ℕ) → IsToldBelow line text → AreHeadedLines more → IsToldBelow line (text ++ more)
+below_more line text more told are = record {
+  words = told.words ++ more;
+  headed = lines_join told.words more told.headed are;
+  whole = ap (λ t. t ++ more) told.whole ∙ append_assoc line told.words more;
+}
+
+-- an explanation with more lines below it
+pub explanation_more : (hierarchy : List ℕ) (trace plan : Option (List ℕ)) (e : Explained) (text more : List ℕ)
+    → IsExplanation hierarchy trace plan e text → AreHeadedLines more
+    → IsExplanation hierarchy trace plan e (text ++ more)
+explanation_more hierarchy trace plan e text more is are = record {
+  is_explained = is.is_explained;
+  told = below_more (first_line e) text more is.told are;
+}

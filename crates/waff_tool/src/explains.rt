@@ -22,7 +22,9 @@ use std::io::Write;
 use std::thread::Threads;
 use waff_assign::{Case, assign};
 use waff_check::{GivenPlan, PlanTextError, Verdict, read_plan};
-use waff_explain::{hierarchy_words, plan_text_words, sizes_words, trace_words, verdict_words};
+use waff_explain::{
+    hierarchy_words, near_words, plan_text_words, sizes_words, trace_words, verdict_words,
+};
 use waff_inputs::{ToolError, deliver, fault_status, fault_text, newest, read_trace};
 use waff_model::{Layout, Trace};
 use waff_read::{HierError, TraceError, read_hierarchy};
@@ -58,9 +60,10 @@ struct Explanation {
 }
 
 /// Writes in plain words where the first fault of the files is, what was found and what is wanted,
-/// or what the verdict on the plan tells; answers which fault or verdict that is. The text begins
-/// with the line that the other commands print, and each further line with a head (`Head`). A plan
-/// without a trace is not looked at. Nothing is written before the whole text is made.
+/// or what the verdict on the plan tells, and which keys of the format the hierarchy nearly has;
+/// answers which fault or verdict that is. The text begins with the line that the other commands
+/// print, and each further line with a head (`Head`). A plan without a trace is not looked at.
+/// Nothing is written before the whole text is made.
 pub fn explain_text<R: Threads + Sync, W: Write>(
     rt: &R,
     alloc: Global,
@@ -78,8 +81,23 @@ pub fn explain_text<R: Threads + Sync, W: Write>(
     Ok(explained)
 }
 
-/// The explanation of the files, of which the hierarchy is read first.
+/// The explanation of the files, and below it which keys of the format the hierarchy nearly has.
 fn explain<R: Threads + Sync>(
+    rt: &R,
+    alloc: Global,
+    hierarchy: &[u8],
+    trace: Option<&[u8]>,
+    plan: Option<&[u8]>,
+) -> Result<Explanation, AllocError>
+    ensures { IfOk result (λ made. IsExplanation hierarchy.now (option_copied trace.entry)
+        (option_copied plan.entry) made.explained (string_bytes made.text)) }
+{
+    let made = explain_files(rt, alloc, hierarchy, trace, plan)?;
+    tell_near(alloc, hierarchy, made)
+}
+
+/// The explanation of the files, of which the hierarchy is read first.
+fn explain_files<R: Threads + Sync>(
     rt: &R,
     alloc: Global,
     hierarchy: &[u8],
@@ -317,6 +335,22 @@ fn tell(
     let mut text = made_first_line(alloc, explained)?;
     text.push_str(words.as_str())?;
     drop(words);
+    Ok(Explanation { explained, text })
+}
+
+/// The explanation, and below it which keys of the format the hierarchy nearly has.
+fn tell_near(alloc: Global, hierarchy: &[u8], made: Explanation) -> Result<Explanation, AllocError>
+    ensures { IfOk result (λ more. (file : List ℕ) (trace plan : Option (List ℕ))
+        → IsExplanation file trace plan made.explained (string_bytes made.text)
+        → IsExplanation file trace plan more.explained (string_bytes more.text)) }
+{
+    let Explanation {
+        explained,
+        mut text,
+    } = made;
+    let near = near_words(alloc, hierarchy)?;
+    text.push_str(near.as_str())?;
+    drop(near);
     Ok(Explanation { explained, text })
 }
 
