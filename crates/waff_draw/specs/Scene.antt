@@ -1,5 +1,5 @@
 -- What a picture shows: a plan that is given for an instance, or a part of it.
-use Rattle.std.specs.Prelude.{ℕ, ◌+◌, ◌-◌, max, min, Bool, List, [], Option, Some, None, length}
+use Rattle.std.specs.Prelude.{ℕ, ◌+◌, ◌-◌, ◌*◌, ◌/◌, max, min, Bool, List, [], Option, Some, None, length}
 use Rattle.std.specs.Prelude.{map, nat_lt, slice_index_or}
 use Rattle.waff_assign.specs.Instance.{Instance}
 use Rattle.waff_plan.specs.Instances.{work_of_instance}
@@ -41,6 +41,10 @@ end_in scene = end_of scene.part (length_in scene)
 
 abbrev pub span_in : Scene → ℕ
 span_in scene = end_in scene - from_in scene
+
+-- how wide so many ticks are, in hundredths of a pixel, rounded down: the part is 1,000 pixels wide
+abbrev pub place_in : Scene → ℕ → ℕ
+place_in scene ticks = ticks * 100000 / span_in scene
 
 -- what is shown of message n, cut at the edges of the part: from which tick, and how many
 abbrev pub shown_start : Scene → ℕ → ℕ

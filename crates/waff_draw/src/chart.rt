@@ -11,8 +11,8 @@ ghost use Rattle.waff_plan_text.specs.Given.{row_at};
 ghost use Rattle.waff_draw.specs.Kinds.{row_in, shown_row, worker_row};
 ghost use Rattle.waff_draw.specs.Lanes.{is_among, lane_of, row_of};
 ghost use Rattle.waff_draw.specs.Scene.{end_in, finish_in, from_in, lanes_in, length_in};
-ghost use Rattle.waff_draw.specs.Scene.{name_in, rows_in, scene_of, shown_start, shown_ticks};
-ghost use Rattle.waff_draw.specs.Scene.{span_in, start_in, work_of_scene, workers_in};
+ghost use Rattle.waff_draw.specs.Scene.{name_in, place_in, rows_in, scene_of, shown_start};
+ghost use Rattle.waff_draw.specs.Scene.{shown_ticks, span_in, start_in, work_of_scene, workers_in};
 ghost use Rattle.waff_draw.specs.Svg.{line_in};
 
 use crate::axis::line_at;
@@ -332,6 +332,14 @@ impl<'a> Chart<'a> {
         ensures small { result ≤ 2 ^ 64 }
     {
         self.end() - u128::from(self.from())
+    }
+
+    /// How wide so many ticks are in hundredths of a pixel, rounded down.
+    pub(crate) fn place(&self, ticks: u128) -> u128
+        requires { ticks ≤ 2 ^ 66 }
+        ensures { result ≡ place_in self.now ticks }
+    {
+        ticks * 100_000 / self.span()
     }
 
     /// Where line `i` of the axis is, counted from 0.
