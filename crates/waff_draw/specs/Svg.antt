@@ -11,7 +11,7 @@ use Rattle.waff_draw.specs.Lanes.{lane_of}
 use Rattle.waff_draw.specs.Pieces.{axis_unit, grid_line, heading_start, lane_end, lane_start}
 use Rattle.waff_draw.specs.Pieces.{plan_start, rule_line, tick_label, top_start, worker_name}
 use Rattle.waff_draw.specs.Scene.{Scene, end_in, from_in, lanes_in, length_in, place_in, rows_in}
-use Rattle.waff_draw.specs.Scene.{span_in, work_of_scene, workers_in}
+use Rattle.waff_draw.specs.Scene.{span_in, tree_scene, work_of_scene, workers_in}
 use Rattle.waff_draw.specs.Xml.{xml_text}
 use Rattle.waff_draw.specs.declared.lanes.Lane.{Lane}
 use Rattle.waff_draw.specs.declared.lanes.LaneKind.TheVariants.{Affinity, Worker}
@@ -87,8 +87,12 @@ ground_text scene =
     ++ plan_start
     ++ each_line scene (grid_text scene)
 
--- the document
-abbrev pub svg_text : Scene → List ℕ
-svg_text scene =
+-- the document of a scene
+abbrev pub document_text : Scene → List ℕ
+document_text scene =
     ground_text scene ++ bars_of scene Affinity ++ bars_of scene Worker
     ++ codes "</g>\n</svg>\n"
+
+-- the picture, with the lanes of the tree
+abbrev pub svg_text : Scene → List ℕ
+svg_text scene = document_text (tree_scene scene)

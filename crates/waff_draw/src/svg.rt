@@ -9,8 +9,8 @@ ghost use Rattle.waff_plan_text.specs.Spelling.{worker_field};
 ghost use Rattle.waff_draw.specs.Pieces.{axis_unit};
 ghost use Rattle.waff_draw.specs.Scene.{end_in, from_in, lanes_in, length_in, rows_in};
 ghost use Rattle.waff_draw.specs.Scene.{scene_of, work_of_scene, workers_in};
-ghost use Rattle.waff_draw.specs.Svg.{affinity_lane, each_line, grid_text, ground_text};
-ghost use Rattle.waff_draw.specs.Svg.{heading_text, rule_text, svg_text, tick_text, top_text};
+ghost use Rattle.waff_draw.specs.Svg.{affinity_lane, document_text, each_line, grid_text};
+ghost use Rattle.waff_draw.specs.Svg.{ground_text, heading_text, rule_text, svg_text, tick_text, top_text};
 ghost use Rattle.waff_draw.specs.Svg.{upto, worker_lane};
 
 use crate::bars::push_bars;
@@ -39,13 +39,13 @@ pub fn svg_text(
     ensures { IfOk result (λ text.
         string_bytes text ≡ svg_text (scene_of (instance_of case.now) given.now part)) }
 {
-    let chart = Chart::new(alloc, case, given, part)?;
+    let chart = Chart::new(alloc, case, given, part, true)?;
     picture(alloc, &chart)
 }
 
 /// The picture of a chart.
 fn picture(alloc: Global, chart: &Chart<'_>) -> Result<String, AllocError>
-    ensures { IfOk result (λ text. string_bytes text ≡ svg_text chart.now) }
+    ensures { IfOk result (λ text. string_bytes text ≡ document_text chart.now) }
 {
     let mut text = String::new(alloc);
     push_ground(&mut text, chart)?;
