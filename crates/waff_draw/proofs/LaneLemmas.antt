@@ -17,7 +17,7 @@ or_last : (b c : Bool) → c ≡ true → (b || (c || false)) ≡ true
 or_last true c h = refl
 or_last false c h = ap (λ x. x || false) h
 
-or_none : (b c : Bool) → c ≡ false → (b || (c || false)) ≡ b
+pub or_none : (b c : Bool) → c ≡ false → (b || (c || false)) ≡ b
 or_none true c h = refl
 or_none false c h = ap (λ x. x || false) h
 

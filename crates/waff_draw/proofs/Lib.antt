@@ -3,6 +3,8 @@ pub mod LaneLemmas
 pub mod PathLemmas
 pub mod OrderLemmas
 pub mod PlaceLemmas
+pub mod WayLemmas
+mod UsedLemmas
 mod PreorderLemmas
 mod RowLemmas
 mod PartLemmas

@@ -67,7 +67,7 @@ module _ (tree : List Node) (rooted : IsRooted tree) where
   path_enough (suc n) (suc m) b one other =
       same_by n m b (parent_of tree b) refl (λ p up. path_enough n m p (omega (arith, up, one)) (omega (arith, up, other)))
 
-  path_step : (b p : ℕ) → parent_of tree b ≡ Some p → path_of tree b ≡ path_of tree p ++ b ∷ []
+  pub path_step : (b p : ℕ) → parent_of tree b ≡ Some p → path_of tree b ≡ path_of tree p ++ b ∷ []
   path_step b p is =
       let up : p < b = rooted.earlier b p is in
       let next : b ≡ suc (b - 1) = omega (arith, up) in

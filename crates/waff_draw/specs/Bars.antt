@@ -7,8 +7,8 @@ use Rattle.waff_plan.specs.Work.{numbers}
 use Rattle.waff_draw.specs.Kinds.{shown_row}
 use Rattle.waff_draw.specs.Lanes.{is_among}
 use Rattle.waff_draw.specs.Pieces.{bar_end, bar_middle, bar_start}
-use Rattle.waff_draw.specs.Scene.{Scene, finish_in, from_in, name_in, shown_start, shown_ticks}
-use Rattle.waff_draw.specs.Scene.{span_in, start_in, work_of_scene}
+use Rattle.waff_draw.specs.Scene.{Scene, finish_in, from_in, name_in, place_in, shown_start}
+use Rattle.waff_draw.specs.Scene.{shown_ticks, span_in, start_in, work_of_scene}
 use Rattle.waff_draw.specs.Xml.{xml_text}
 use Rattle.waff_draw.specs.declared.bars.Bar.{Bar}
 use Rattle.waff_draw.specs.declared.lanes.LaneKind.{LaneKind}
@@ -23,25 +23,32 @@ mark_of is_link is_thin =
     if is_link then (if is_thin then codes " class='chain thin'" else codes " class='chain'") else
     (if is_thin then codes " class='thin'" else codes "")
 
--- how many tenths of its lane are free above it and below: none round a thin bar of the chain
+-- how much of its lane is free above it and below: none round a thin bar of the chain
 abbrev pub margin_of : Bool → Bool → ℕ
-margin_of is_link is_thin = if is_link && is_thin then 0 else 1
+margin_of is_link is_thin = if is_link && is_thin then 0 else 200
 
 -- a bar in its row, with what it tells of its message
 abbrev pub bar_text : Bar → List ℕ → List ℕ → List ℕ
 bar_text bar name affinity =
     bar_start (mark_of bar.is_link bar.is_thin) bar.left
-    (bar.row * 10 + margin_of bar.is_link bar.is_thin) bar.width
-    (10 - 2 * margin_of bar.is_link bar.is_thin) bar.message
+    (bar.row * 2000 + margin_of bar.is_link bar.is_thin) bar.width
+    (2000 - 2 * margin_of bar.is_link bar.is_thin) bar.message
     ++ xml_text name ++ bar_middle ++ xml_text affinity ++ bar_end bar.start bar.finish
+
+-- where the bar of message n begins and ends, in hundredths of a pixel from the left of the part
+abbrev pub left_of : Scene → ℕ → ℕ
+left_of scene n = place_in scene (shown_start scene n - from_in scene)
+
+abbrev pub right_of : Scene → ℕ → ℕ
+right_of scene n = place_in scene (shown_start scene n + shown_ticks scene n - from_in scene)
 
 -- the bar of message n in a row: it is as wide as its ticks that are shown, and tells of all
 abbrev pub bar_at : Scene → ℕ → ℕ → Bar
 bar_at scene row n = record {
   message = n;
   row = row;
-  left = shown_start scene n - from_in scene;
-  width = shown_ticks scene n;
+  left = left_of scene n;
+  width = right_of scene n - left_of scene n;
   start = start_in scene n;
   finish = finish_in scene n;
   is_link = is_among scene.plan.summary.chain n;

@@ -1,8 +1,9 @@
--- The lanes of a picture: the affinities that have a message, in preorder.
+-- The lanes of a picture: affinities in preorder, those that have a message, or these and what is
+-- above them.
 use Rattle.std.specs.Prelude.{ℕ, zero, suc, ◌+◌, ◌==◌, Bool, List, [], ◌∷◌, ◌++◌, if◌then◌else◌, length}
 use Rattle.std.specs.Prelude.{map, option_map, unwrap_or}
 use Rattle.std.specs.Cmp.Lexicographic.{slice_cmp}
-use Rattle.std.specs.List.{filter, list_any, range_with_len}
+use Rattle.std.specs.List.{filter, flat_map, list_any, range_with_len}
 use Rattle.std.specs.Ordering.{is_lt, nat_cmp}
 use Rattle.waff_model.specs.Tree.{Node, parent_of}
 use Rattle.waff_draw.specs.declared.lanes.Lane.{Lane}
@@ -41,6 +42,20 @@ lane_in tree a = lane_of a (length (path_of tree a))
 -- whether a number is one of a list
 abbrev pub is_among : List ℕ → ℕ → Bool
 is_among numbers n = list_any (λ m. m == n) numbers
+
+-- the affinities at or above b, from the root down
+abbrev pub way_to : List Node → ℕ → List ℕ
+way_to tree b = 0 ∷ path_of tree b
+
+-- the affinities that have a message in them or below them
+abbrev pub used_below : List Node → List ℕ → List ℕ
+used_below tree assigned =
+    flat_map (λ a. if is_among assigned a then way_to tree a else [])
+    (range_with_len 0 (length tree))
+
+-- the affinities that have a lane: those that have a message, or these and what is above them
+abbrev pub laned_of : List Node → List ℕ → Bool → List ℕ
+laned_of tree assigned is_tree = if is_tree then used_below tree assigned else assigned
 
 -- the affinities that have a message among so many from this one on, in preorder
 abbrev pub used_from : List Node → List ℕ → ℕ → ℕ → List ℕ

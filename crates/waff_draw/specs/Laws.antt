@@ -5,20 +5,30 @@ use Rattle.std.specs.List.{count_by}
 use Rattle.waff_model.specs.Tree.{AtOrAbove, Leads, Node, parent_of}
 use Rattle.waff_plan.specs.Work.{IsNumber}
 use Rattle.waff_draw.specs.Axis.{step_of}
-use Rattle.waff_draw.specs.Lanes.{is_among, lane_of, lanes_of, row_of}
+use Rattle.waff_draw.specs.Lanes.{is_among, lane_of, lanes_of, row_of, used_below}
 use Rattle.waff_draw.specs.Scene.{Scene, end_in, from_in, shown_start, shown_ticks, span_in}
 use Rattle.waff_draw.specs.Scene.{start_in, work_of_scene}
 use Rattle.waff_draw.specs.Svg.{line_in}
 use Rattle.waff_draw.specs.declared.lanes.Lane.{Lane}
 use Rattle.waff_draw.specs.declared.parts.Part.{Part}
 
--- an affinity that has a message has one lane, and no other has any
+-- an affinity has a message in it or below it
+abbrev pub HasMessage : List Node → List ℕ → ℕ → Type 0
+HasMessage tree assigned b =
+    (a : ℕ) × (a < length tree) × (is_among assigned a ≡ true) × AtOrAbove tree b a
+
+-- the affinities that have a lane of the tree are those that have a message in them or below them
+abbrev pub LanesAreOfTree : List Node → List ℕ → Type 0
+LanesAreOfTree tree assigned =
+    (b : ℕ) → is_among (used_below tree assigned) b ≡ true ↔ HasMessage tree assigned b
+
+-- an affinity that is to have a lane has one, and no other has any
 abbrev pub LaneIsOne : List Node → List ℕ → Type 0
 LaneIsOne tree assigned =
     (a : ℕ) → a < length tree → count_by (λ lane. lane.affinity == a) (lanes_of tree assigned)
     ≡ (if is_among assigned a then 1 else 0)
 
--- the row of an affinity that has a message is that of its lane
+-- the row of an affinity that is to have a lane is that of its lane
 abbrev pub RowIsOfLane : List Node → List ℕ → Type 0
 RowIsOfLane tree assigned =
     (a : ℕ) → a < length tree → is_among assigned a ≡ true

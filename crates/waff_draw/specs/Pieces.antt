@@ -7,11 +7,13 @@ use Rattle.waff_plan_text.specs.Ratio.{ratio_field}
 abbrev pub joined : List (List ℕ) → List ℕ
 joined pieces = flat_map (λ piece. piece) pieces
 
--- the top of the document, of this height
+-- the top of the document, of this height, and its ground
 unfoldable pub top_start : ℕ → List ℕ
 top_start height = joined (
     codes "<svg xmlns='http://www.w3.org/2000/svg' width='1380' height='" ∷ decimal height
-    ∷ codes "'>\n" ∷ [])
+    ∷ codes "' viewBox='0 0 1380 " ∷ decimal height
+    ∷ codes "'>\n<rect class='ground' width='1380' height='" ∷ decimal height
+    ∷ codes "'/>\n" ∷ [])
 
 -- what is told of the plan, as far as its workers
 unfoldable pub heading_start : ℕ → ℕ → List ℕ
@@ -34,6 +36,16 @@ lane_end = codes "</text></g>\n"
 unfoldable pub worker_name : ℕ → List ℕ
 worker_name worker = joined (codes "worker " ∷ decimal worker ∷ [])
 
+-- a rule at this height, between the lanes of affinities and those of workers
+unfoldable pub rule_line : ℕ → List ℕ
+rule_line top = joined (codes "<path class='rule' d='M0 " ∷ decimal top ∷ codes "h1380'/>\n" ∷ [])
+
+-- what the numbers along the axis are, above the lanes and below
+unfoldable pub axis_unit : ℕ → List ℕ
+axis_unit bottom = joined (
+    codes "<text x='232' y='72'>ticks</text><text x='232' y='" ∷ decimal bottom
+    ∷ codes "'>ticks</text>\n" ∷ [])
+
 -- a number of ticks at this place, above the lanes and below
 unfoldable pub tick_label : ℕ → ℕ → ℕ → List ℕ
 tick_label place bottom tick = joined (
@@ -41,17 +53,14 @@ tick_label place bottom tick = joined (
     ∷ codes "</text><text class='tick' x='" ∷ decimal place ∷ codes "' y='" ∷ decimal bottom
     ∷ codes "'>" ∷ decimal tick ∷ codes "</text>\n" ∷ [])
 
--- the ground of the bars: so many pixels high, so many ticks wide, so many tenths of a lane high
-unfoldable pub plan_start : ℕ → ℕ → ℕ → List ℕ
-plan_start height span units = joined (
-    codes "<svg class='plan' x='320' y='80' width='1000' height='" ∷ decimal height
-    ∷ codes "' viewBox='0 0 " ∷ decimal span ∷ codes " " ∷ decimal units
-    ∷ codes "' preserveAspectRatio='none' overflow='visible'>\n" ∷ [])
+-- the beginning of the lines and bars, whose units are hundredths of a pixel
+unfoldable pub plan_start : List ℕ
+plan_start = codes "<g class='plan' transform='translate(320 80) scale(.01)'>\n"
 
 -- a line through all lanes
 unfoldable pub grid_line : ℕ → ℕ → List ℕ
-grid_line tick units = joined (
-    codes "<path d='M" ∷ decimal tick ∷ codes " 0v" ∷ decimal units ∷ codes "'/>\n" ∷ [])
+grid_line place height = joined (
+    codes "<path d='M" ∷ decimal place ∷ codes " 0v" ∷ decimal height ∷ codes "'/>\n" ∷ [])
 
 -- a bar with its mark, place and size, and what it tells as far as the name of its message
 unfoldable pub bar_start : List ℕ → ℕ → ℕ → ℕ → ℕ → ℕ → List ℕ

@@ -1,12 +1,12 @@
 -- What a picture shows: a plan that is given for an instance, or a part of it.
-use Rattle.std.specs.Prelude.{ℕ, ◌+◌, ◌-◌, max, min, Bool, List, [], Option, Some, None, length}
-use Rattle.std.specs.Prelude.{map, nat_lt, slice_index_or}
+use Rattle.std.specs.Prelude.{ℕ, ◌+◌, ◌-◌, ◌*◌, ◌/◌, max, min, Bool, false, true, List, []}
+use Rattle.std.specs.Prelude.{Option, Some, None, length, map, nat_lt, slice_index_or}
 use Rattle.waff_assign.specs.Instance.{Instance}
 use Rattle.waff_plan.specs.Instances.{work_of_instance}
 use Rattle.waff_plan.specs.Timing.{start_of}
 use Rattle.waff_plan.specs.Work.{Work, finish_of, length_of}
 use Rattle.waff_plan_text.specs.Given.{Given}
-use Rattle.waff_draw.specs.Lanes.{lanes_of}
+use Rattle.waff_draw.specs.Lanes.{laned_of, lanes_of}
 use Rattle.waff_draw.specs.Parts.{end_of}
 use Rattle.waff_draw.specs.declared.lanes.Lane.{Lane}
 use Rattle.waff_draw.specs.declared.parts.Part.{Part}
@@ -15,9 +15,19 @@ pub record Scene : Type 0 where
   pub instance : Instance
   pub plan : Given
   pub part : Part
+  -- whether the affinities above those that have a message have lanes too
+  pub is_tree : Bool
+
+abbrev pub scene_with : Instance → Given → Part → Bool → Scene
+scene_with instance plan part is_tree =
+    record { instance = instance; plan = plan; part = part; is_tree = is_tree }
 
 abbrev pub scene_of : Instance → Given → Part → Scene
-scene_of instance plan part = record { instance = instance; plan = plan; part = part }
+scene_of instance plan part = scene_with instance plan part false
+
+-- the same with the lanes of the tree
+abbrev pub tree_scene : Scene → Scene
+tree_scene scene = scene_with scene.instance scene.plan scene.part true
 
 -- the work, the starts, the finishes and the length of the plan
 abbrev pub work_of_scene : Scene → Work
@@ -42,6 +52,10 @@ end_in scene = end_of scene.part (length_in scene)
 abbrev pub span_in : Scene → ℕ
 span_in scene = end_in scene - from_in scene
 
+-- how wide so many ticks are, in hundredths of a pixel, rounded down: the part is 1,000 pixels wide
+abbrev pub place_in : Scene → ℕ → ℕ
+place_in scene ticks = ticks * 100000 / span_in scene
+
 -- what is shown of message n, cut at the edges of the part: from which tick, and how many
 abbrev pub shown_start : Scene → ℕ → ℕ
 shown_start scene n = max (start_in scene n) (from_in scene)
@@ -55,7 +69,9 @@ is_shown scene n = nat_lt 0 (shown_ticks scene n)
 
 -- the lanes of affinities; below them a plan for k workers has k more
 abbrev pub lanes_in : Scene → List Lane
-lanes_in scene = lanes_of scene.instance.tree scene.instance.assigned
+lanes_in scene =
+    lanes_of scene.instance.tree
+    (laned_of scene.instance.tree scene.instance.assigned scene.is_tree)
 
 abbrev pub worker_count : Option ℕ → ℕ
 worker_count None = 0

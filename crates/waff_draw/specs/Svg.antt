@@ -8,10 +8,10 @@ use Rattle.waff_plan_text.specs.Spelling.{worker_field}
 use Rattle.waff_draw.specs.Axis.{line_at}
 use Rattle.waff_draw.specs.Bars.{bars_of}
 use Rattle.waff_draw.specs.Lanes.{lane_of}
-use Rattle.waff_draw.specs.Pieces.{grid_line, heading_start, lane_end, lane_start, plan_start}
-use Rattle.waff_draw.specs.Pieces.{tick_label, top_start, worker_name}
-use Rattle.waff_draw.specs.Scene.{Scene, end_in, from_in, lanes_in, length_in, rows_in, span_in}
-use Rattle.waff_draw.specs.Scene.{work_of_scene, workers_in}
+use Rattle.waff_draw.specs.Pieces.{axis_unit, grid_line, heading_start, lane_end, lane_start}
+use Rattle.waff_draw.specs.Pieces.{plan_start, rule_line, tick_label, top_start, worker_name}
+use Rattle.waff_draw.specs.Scene.{Scene, end_in, from_in, lanes_in, length_in, place_in, rows_in}
+use Rattle.waff_draw.specs.Scene.{span_in, tree_scene, work_of_scene, workers_in}
 use Rattle.waff_draw.specs.Xml.{xml_text}
 use Rattle.waff_draw.specs.declared.lanes.Lane.{Lane}
 use Rattle.waff_draw.specs.declared.lanes.LaneKind.TheVariants.{Affinity, Worker}
@@ -49,6 +49,10 @@ affinity_lane tree lanes row = affinity_lane_text tree row (slice_index_or lanes
 abbrev pub worker_lane : ℕ → ℕ → List ℕ
 worker_lane first worker = lane_text (first + worker - 1) 0 (worker_name worker)
 
+-- the rule between so many lanes of affinities and those of workers, if there are workers
+abbrev pub rule_text : ℕ → ℕ → List ℕ
+rule_text first k = if nat_le 1 k then rule_line (first * 20 + 80) else []
+
 -- a number of ticks where it stands between the left and the right of the lanes
 abbrev pub tick_text : Scene → ℕ → List ℕ
 tick_text scene tick =
@@ -56,7 +60,7 @@ tick_text scene tick =
 
 -- a line through all rows
 abbrev pub grid_text : Scene → ℕ → List ℕ
-grid_text scene tick = grid_line (tick - from_in scene) (rows_in scene * 10)
+grid_text scene tick = grid_line (place_in scene (tick - from_in scene)) (rows_in scene * 2000)
 
 -- the lines of the axis that are not past the end of the part
 abbrev pub upto : ℕ → (ℕ → List ℕ) → ℕ → List ℕ
@@ -69,10 +73,6 @@ abbrev pub each_line : Scene → (ℕ → List ℕ) → List ℕ
 each_line scene text =
     flat_map (λ i. upto (end_in scene) text (line_in scene i)) (range_with_len 0 11)
 
--- the ground of the bars, in ticks and tenths of a lane
-abbrev pub plan_text : ℕ → ℕ → List ℕ
-plan_text rows span = plan_start (rows * 20) span (rows * 10)
-
 -- what stands before the bars
 abbrev pub ground_text : Scene → List ℕ
 ground_text scene =
@@ -81,12 +81,18 @@ ground_text scene =
     ++ flat_map (affinity_lane scene.instance.tree (lanes_in scene))
     (range_with_len 0 (length (lanes_in scene)))
     ++ flat_map (worker_lane (length (lanes_in scene))) (range_with_len 1 (workers_in scene))
+    ++ rule_text (length (lanes_in scene)) (workers_in scene)
+    ++ axis_unit (rows_in scene * 20 + 98)
     ++ each_line scene (tick_text scene)
-    ++ plan_text (rows_in scene) (span_in scene)
+    ++ plan_start
     ++ each_line scene (grid_text scene)
 
--- the document
-abbrev pub svg_text : Scene → List ℕ
-svg_text scene =
+-- the document of a scene
+abbrev pub document_text : Scene → List ℕ
+document_text scene =
     ground_text scene ++ bars_of scene Affinity ++ bars_of scene Worker
-    ++ codes "</svg>\n</svg>\n"
+    ++ codes "</g>\n</svg>\n"
+
+-- the picture, with the lanes of the tree
+abbrev pub svg_text : Scene → List ℕ
+svg_text scene = document_text (tree_scene scene)

@@ -12,15 +12,15 @@ use crate::pieces::{push_bar_end, push_bar_middle, push_bar_start};
 use crate::xml::push_xml;
 use std::alloc::AllocError;
 
-/// A bar: its message, its row, its left edge and its width in ticks of the part that is shown;
-/// when the message starts and finishes, whether it is on the chain, and whether the bar is narrower
-/// than a pixel.
+/// A bar: its message, its row, its left edge from that of the part and its width, both in hundredths
+/// of a pixel; the ticks at which the message starts and finishes, whether it is on the chain, and
+/// whether the bar is narrower than a pixel.
 #[derive(Clone, Copy)]
 pub struct Bar {
     pub message: u32,
     pub row: u64,
-    pub left: u64,
-    pub width: u64,
+    pub left: u128,
+    pub width: u128,
     pub start: u64,
     pub finish: u64,
     pub is_link: bool,
@@ -51,8 +51,8 @@ fn push_bar(text: &mut String, chart: &Chart<'_>, row: u64, n: u32) -> Result<()
     let bar = bar_of(chart, row, n);
     let mark = mark_of(bar.is_link, bar.is_thin);
     let margin = margin_of(bar.is_link, bar.is_thin);
-    let top = u128::from(bar.row) * 10 + u128::from(margin);
-    push_bar_start(text, &bar, top, 10 - 2 * margin, mark)?;
+    let top = u128::from(bar.row) * 2000 + u128::from(margin);
+    push_bar_start(text, &bar, top, 2000 - 2 * margin, mark)?;
     push_xml(text, chart.name(n))?;
     push_bar_middle(text)?;
     push_xml(text, chart.affinity_name(n))?;
@@ -64,16 +64,20 @@ fn bar_of(chart: &Chart<'_>, row: u64, n: u32) -> Bar
     requires { IsNumber (work_of_scene chart.now) n }
     ensures { result ≡ bar_at chart.now row n }
 {
-    let width = chart.shown_ticks(n);
+    let ticks = chart.shown_ticks(n);
+    let start = u128::from(chart.shown_start(n));
+    let from = u128::from(chart.from());
+    let left = chart.place(start - from);
+    let right = chart.place(start + u128::from(ticks) - from);
     Bar {
         message: n,
         row,
-        left: chart.shown_start(n) - chart.from(),
-        width,
+        left,
+        width: right.saturating_sub(left),
         start: chart.start(n),
         finish: chart.finish(n),
         is_link: chart.is_link(n),
-        is_thin: is_narrow(chart.span(), width),
+        is_thin: is_narrow(chart.span(), ticks),
     }
 }
 
@@ -96,10 +100,11 @@ fn mark_of(is_link: bool, is_thin: bool) -> &'static str
     }
 }
 
-/// How many tenths of its lane are free above a bar and below: none round a thin bar of the chain.
+/// How much of its lane is free above a bar and below, in hundredths of a pixel: none round a thin
+/// bar of the chain.
 fn margin_of(is_link: bool, is_thin: bool) -> u32
     ensures margin { result ≡ margin_of is_link is_thin }
-    ensures small { result ≤ 1 }
+    ensures small { result ≤ 200 }
 {
-    if is_link && is_thin { 0 } else { 1 }
+    if is_link && is_thin { 0 } else { 200 }
 }

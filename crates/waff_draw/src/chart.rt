@@ -11,8 +11,8 @@ ghost use Rattle.waff_plan_text.specs.Given.{row_at};
 ghost use Rattle.waff_draw.specs.Kinds.{row_in, shown_row, worker_row};
 ghost use Rattle.waff_draw.specs.Lanes.{is_among, lane_of, row_of};
 ghost use Rattle.waff_draw.specs.Scene.{end_in, finish_in, from_in, lanes_in, length_in};
-ghost use Rattle.waff_draw.specs.Scene.{name_in, rows_in, scene_of, shown_start, shown_ticks};
-ghost use Rattle.waff_draw.specs.Scene.{span_in, start_in, work_of_scene, workers_in};
+ghost use Rattle.waff_draw.specs.Scene.{name_in, place_in, rows_in, scene_with, shown_start};
+ghost use Rattle.waff_draw.specs.Scene.{shown_ticks, span_in, start_in, work_of_scene, workers_in};
 ghost use Rattle.waff_draw.specs.Svg.{line_in};
 
 use crate::axis::line_at;
@@ -28,13 +28,15 @@ use waff_plan::Plan;
 use waff_plan_text::GivenPlan;
 
 /// A scene made ready for drawing: a plan that is given for the messages of a trace with their
-/// affinities, and which part of it is shown; the lanes of these and the row of each, the plan of
+/// affinities, which part of it is shown, and whether the affinities above those that have a message
+/// have lanes too; the lanes of these and the row of each, the plan of
 /// its starts and its length in ticks, where the part ends, and whether each message is on the
 /// chain, by its number.
 pub(crate) struct Chart<'a> {
     case: Case<'a>,
     given: &'a GivenPlan,
     part: Part,
+    is_tree: bool,
     lanes: Vec<Lane>,
     plan: Plan,
     ticks: u64,
@@ -46,7 +48,7 @@ pub(crate) struct Chart<'a> {
 impl<'a> Model for Chart<'a> {
     ghost use Rattle.std.specs.Coded.{codes};
     ghost use Rattle.waff_assign.specs.Case.{instance_of};
-    ghost use Rattle.waff_draw.specs.Scene.{Scene, scene_of};
+    ghost use Rattle.waff_draw.specs.Scene.{Scene, scene_with};
     ghost use Rattle.waff_draw.specs.Charts.{IsChart};
     ghost use Rattle.waff_draw.specs.contracts.parts.Part.{the_row};
 
@@ -55,9 +57,9 @@ impl<'a> Model for Chart<'a> {
     // A part has a fact, so that its code has to be named.
     ghost coded = { Prim.hlevel (codes, the_row.coded) };
 
-    ghost view = { λ c. scene_of (instance_of c.case) c.given.now c.part };
+    ghost view = { λ c. scene_with (instance_of c.case) c.given.now c.part c.is_tree };
 
-    ghost invariant = { λ c. IsChart (scene_of (instance_of c.case) c.given.now c.part)
+    ghost invariant = { λ c. IsChart (scene_with (instance_of c.case) c.given.now c.part c.is_tree)
         c.lanes.items c.plan c.ticks c.end c.rows.items c.links.items };
 }
 
@@ -68,6 +70,7 @@ impl<'a> Drop for Chart<'a> {
             case: _,
             given: _,
             part: _,
+            is_tree: _,
             lanes,
             plan,
             ticks: _,
@@ -83,17 +86,20 @@ impl<'a> Drop for Chart<'a> {
 }
 
 impl<'a> Chart<'a> {
-    /// The chart of this part of a plan that is given.
+    /// The chart of this part of a plan that is given, with the lanes of the tree or those of messages
+    /// alone.
     pub(crate) fn new(
         alloc: Global,
         case: &Case<'a>,
         given: &'a GivenPlan,
         part: Part,
+        is_tree: bool,
     ) -> Result<Self, AllocError>
         requires rows { length given.now.rows ≡ length case.now.trace.now.messages }
-        ensures { IfOk result (λ chart. chart ≡ scene_of (instance_of case.now) given.now part) }
+        ensures { IfOk result (λ chart.
+            chart ≡ scene_with (instance_of case.now) given.now part is_tree) }
     {
-        let lanes = lanes(alloc, case)?;
+        let lanes = lanes(alloc, case, is_tree)?;
         let rows = rows(alloc, case.tree.len() as usize, lanes.as_slice())?;
         let links = marks(alloc, case.trace.len() as usize + 1, given.chain())?;
         let plan = given.plan(alloc, case.trace)?;
@@ -102,6 +108,7 @@ impl<'a> Chart<'a> {
             case: *case,
             given,
             part,
+            is_tree,
             lanes,
             plan,
             ticks,
@@ -332,6 +339,14 @@ impl<'a> Chart<'a> {
         ensures small { result ≤ 2 ^ 64 }
     {
         self.end() - u128::from(self.from())
+    }
+
+    /// How wide so many ticks are in hundredths of a pixel, rounded down.
+    pub(crate) fn place(&self, ticks: u128) -> u128
+        requires { ticks ≤ 2 ^ 66 }
+        ensures { result ≡ place_in self.now ticks }
+    {
+        ticks * 100_000 / self.span()
     }
 
     /// Where line `i` of the axis is, counted from 0.

@@ -55,7 +55,7 @@ pub fn events_text(
     ensures { IfOk result (λ text.
         string_bytes text ≡ events_text (scene_of (instance_of case.now) given.now part)) }
 {
-    let chart = Chart::new(alloc, case, given, part)?;
+    let chart = Chart::new(alloc, case, given, part, false)?;
     document(alloc, &chart)
 }
 

@@ -1,10 +1,12 @@
-//! The lanes of a picture: the affinities that have a message, in preorder.
+//! The lanes of a picture: affinities in preorder, those that have a message, or these and what is
+//! above them.
 
 ghost use Rattle.std.specs.Prelude.{◌≡◌, ◌^◌, ◌<◌, ◌≤◌, ℕ, All, IfOk, List, length, map};
-ghost use Rattle.std.specs.Prelude.{slice_index, false, slice_index_or};
+ghost use Rattle.std.specs.Prelude.{slice_index, false, slice_index_or, ◌||◌};
 ghost use Rattle.std.specs.BTreeMap.{values};
 ghost use Rattle.std.specs.List.{range_with_len};
-ghost use Rattle.waff_draw.specs.Lanes.{is_among, lanes_of, path_of, row_of};
+ghost use Rattle.waff_draw.specs.Lanes.{is_among, laned_of, lanes_of, path_of, row_of};
+ghost use Rattle.waff_draw.specs.Lanes.{used_below, way_to};
 
 use crate::marks::marks;
 use std::alloc::{AllocError, Global};
@@ -26,18 +28,71 @@ pub enum LaneKind {
     Worker,
 }
 
-/// The lanes of the affinities that have a message.
-pub(crate) fn lanes(alloc: Global, case: &Case<'_>) -> Result<Vec<Lane>, AllocError>
-    ensures lanes { IfOk result (λ lanes.
-        lanes.items ≡ lanes_of case.now.tree.now case.now.assigned.now) }
+/// The lanes of the affinities that have a message, or, of the tree, of these and what is above them.
+pub(crate) fn lanes(
+    alloc: Global,
+    case: &Case<'_>,
+    is_tree: bool,
+) -> Result<Vec<Lane>, AllocError>
+    ensures lanes { IfOk result (λ lanes. lanes.items ≡ lanes_of case.now.tree.now
+        (laned_of case.now.tree.now case.now.assigned.now is_tree)) }
     ensures known { IfOk result (λ lanes.
         All (λ lane. lane.affinity < length case.now.tree.now) lanes.items) }
     ensures few { IfOk result (λ lanes. length lanes.items ≤ 65536) }
 {
     let _tree = case.tree.len();
-    let used = used(alloc, case)?;
-    let lanes = by_place(alloc, case.tree, &used)?;
+    let laned = laned(alloc, case, is_tree)?;
+    let lanes = by_place(alloc, case.tree, &laned)?;
     lanes.into_values().collect(alloc)
+}
+
+/// For each affinity whether it has a lane.
+fn laned(alloc: Global, case: &Case<'_>, is_tree: bool) -> Result<Vec<bool>, AllocError>
+    ensures count { IfOk result (λ laned. length laned.items ≡ length case.now.tree.now) }
+    ensures each { IfOk result (λ laned. (a : ℕ) → a < length case.now.tree.now
+        → slice_index_or laned.items a false
+        ≡ is_among (laned_of case.now.tree.now case.now.assigned.now is_tree) a) }
+{
+    let used = used(alloc, case)?;
+    if is_tree {
+        used_below(alloc, case.tree, &used)
+    } else {
+        Ok(used)
+    }
+}
+
+/// For each affinity whether it or one below it is used.
+fn used_below(alloc: Global, tree: &Tree, used: &[bool]) -> Result<Vec<bool>, AllocError>
+    requires { length used.now ≡ length tree.now }
+    ensures count { IfOk result (λ marks. length marks.items ≡ length tree.now) }
+    ensures each { IfOk result (λ marks. (assigned : List ℕ)
+        → ((a : ℕ) → a < length tree.now → slice_index_or used.now a false ≡ is_among assigned a)
+        → (a : ℕ) → a < length tree.now
+        → slice_index_or marks.items a false ≡ is_among (used_below tree.now assigned) a) }
+{
+    let mut marks = vec![in alloc; false; tree.len() as usize]?;
+    for affinity in 0..tree.len() {
+        if used[affinity as usize] {
+            mark_way(tree, &mut marks, AffinityId(affinity as u16));
+        }
+    }
+    Ok(marks)
+}
+
+/// Marks the affinities at or above this one.
+fn mark_way(tree: &Tree, marks: &mut [bool], affinity: AffinityId)
+    requires known { affinity.0 < length tree.now }
+    requires count { length marks.old ≡ length tree.now }
+    ensures count { length marks.new ≡ length tree.now }
+    ensures each { (n : ℕ) → slice_index_or marks.new n false
+        ≡ (slice_index_or marks.old n false || is_among (way_to tree.now affinity.0) n) }
+{
+    let _affinities = tree.len();
+    let mut next = Some(affinity);
+    while let Some(above) = next {
+        marks[above.0 as usize] = true;
+        next = tree.parent(above);
+    }
 }
 
 /// For each affinity whether a message has it.

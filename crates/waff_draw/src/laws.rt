@@ -5,10 +5,18 @@ ghost use Rattle.std.specs.Prelude.{◌≡◌, ℕ, List};
 ghost use Rattle.waff_model.specs.Tree.{IsTree, Node};
 ghost use Rattle.waff_draw.specs.Lanes.{lanes_of};
 ghost use Rattle.waff_draw.specs.Laws.{DepthIsSteps, HasLines, IsPreorder, LaneIsOne};
-ghost use Rattle.waff_draw.specs.Laws.{RowIsOfLane, ShowsAll, ShowsTicksInPart, whole_part};
+ghost use Rattle.waff_draw.specs.Laws.{LanesAreOfTree, RowIsOfLane, ShowsAll, ShowsTicksInPart};
+ghost use Rattle.waff_draw.specs.Laws.{whole_part};
 ghost use Rattle.waff_draw.specs.Scene.{Scene};
 
-/// An affinity that has a message has one lane, and no other affinity has any.
+/// The affinities that are to have a lane of the tree are those that have a message in them or below
+/// them.
+pub fn lanes_are_of_tree()
+    ensures { (tree : List Node) (assigned : List ℕ)
+        → IsTree tree → LanesAreOfTree tree assigned }
+{}
+
+/// An affinity that is to have a lane has one, and no other affinity has any.
 pub fn lane_is_one()
     ensures one { (tree : List Node) (assigned : List ℕ) → IsTree tree → LaneIsOne tree assigned }
 {}

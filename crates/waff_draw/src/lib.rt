@@ -1,9 +1,9 @@
 //! A picture of a plan, whoever made it, or of a part of it: a lane for each affinity and each
 //! worker, a bar for each message.
 //!
-//! - `lanes`: the affinities that have a message, in preorder; `marks`: which numbers a list has;
-//!   `laws`: each has one lane, where its bars are, and the lanes are in preorder; which ticks are
-//!   shown, and where the axis has lines.
+//! - `lanes`: the affinities that have a message, or these and what is above them, in preorder;
+//!   `marks`: which numbers a list has; `laws`: each has one lane, where its bars are, and the lanes
+//!   are in preorder; which ticks are shown, and where the axis has lines.
 //! - `parts`: the ticks that are shown; `chart`: what a picture shows, made ready for drawing.
 //! - `axis`: round numbers of ticks; `xml`: names in a document of markup.
 //! - `svg`: the text of the picture; `bars`: its bars; `pieces`: what both are made of.
@@ -24,8 +24,8 @@ mod xml;
 
 pub use events::events_text;
 pub use laws::{
-    axis_has_lines, depth_is_steps, lane_is_one, lanes_in_preorder, row_is_of_lane,
-    shows_ticks_in_part, whole_shows_all,
+    axis_has_lines, depth_is_steps, lane_is_one, lanes_are_of_tree, lanes_in_preorder,
+    row_is_of_lane, shows_ticks_in_part, whole_shows_all,
 };
 pub use parts::Part;
 pub use svg::svg_text;

@@ -10,14 +10,14 @@ use waff_plan_text::Ratio;
 
 /// The colours, for light and for dark.
 pub(crate) const STYLE: &str = "\
-<style>svg{background:#fff;font:12px sans-serif}text{fill:#222}\
+<style>svg{background:#fff;font:12px sans-serif}text{fill:#222}.ground{fill:#fff}\
 .heading{font-size:16px;font-weight:bold}.tick{text-anchor:middle}\
-.lane rect{fill:#fff}.lane:nth-of-type(even) rect{fill:#f0f2f5}\
-.plan rect{fill:#56b4e9;stroke:#0072b2;stroke-width:.75;vector-effect:non-scaling-stroke}\
-.plan .thin{fill:#0072b2}.plan .chain{fill:#e69f00;stroke:#000;stroke-width:2}\
-.plan path{stroke:#c8ccd2;vector-effect:non-scaling-stroke}\
-@media(prefers-color-scheme:dark){svg{background:#16181c}text{fill:#e8e8e8}\
-.lane rect{fill:#16181c}.lane:nth-of-type(even) rect{fill:#22262c}\
+.lane rect{fill:#fff}.lane:nth-of-type(even) rect{fill:#f0f2f5}.rule{stroke:#222}\
+.plan rect{fill:#56b4e9;stroke:#0072b2;stroke-width:75}\
+.plan .thin{fill:#0072b2}.plan .chain{fill:#e69f00;stroke:#000;stroke-width:200}\
+.plan path{stroke:#c8ccd2;stroke-width:100}\
+@media(prefers-color-scheme:dark){svg{background:#16181c}text{fill:#e8e8e8}.ground{fill:#16181c}\
+.lane rect{fill:#16181c}.lane:nth-of-type(even) rect{fill:#22262c}.rule{stroke:#e8e8e8}\
 .plan rect{fill:#0072b2;stroke:#56b4e9}.plan .thin{fill:#56b4e9}\
 .plan .chain{fill:#e69f00;stroke:#fff}.plan path{stroke:#454b54}}\
 .plan .thin{stroke:none}</style>\n";
@@ -27,14 +27,14 @@ pub(crate) const LEGEND: &str = "\
 <text x='8' y='48'>A bar is a message from its start to its finish. The plan's chain has thick \
 outlines; its bars narrower than a pixel fill the height of the lane.</text>\n";
 
-/// Appends the top of the document, of this height.
+/// Appends the top of the document, of this height in pixels, and its ground.
 #[tactic(auto, unfolding(crate::specs::Pieces::top_start))]
 pub(crate) fn push_top_start(text: &mut String, height: u64) -> Result<(), AllocError>
     ensures { OnOk result (Adds text.old text.new (pieces.top_start height)) }
 {
     writeln!(
         text,
-        "<svg xmlns='http://www.w3.org/2000/svg' width='1380' height='{height}'>"
+        "<svg xmlns='http://www.w3.org/2000/svg' width='1380' height='{height}' viewBox='0 0 1380 {height}'>\n<rect class='ground' width='1380' height='{height}'/>"
     )
 }
 
@@ -82,6 +82,25 @@ pub(crate) fn push_worker_name(text: &mut String, worker: u32) -> Result<(), All
     write!(text, "worker {worker}")
 }
 
+/// Appends a rule at this height, between the lanes of affinities and those of workers.
+#[tactic(auto, unfolding(crate::specs::Pieces::rule_line))]
+pub(crate) fn push_rule_line(text: &mut String, top: u64) -> Result<(), AllocError>
+    ensures { OnOk result (Adds text.old text.new (pieces.rule_line top)) }
+{
+    writeln!(text, "<path class='rule' d='M0 {top}h1380'/>")
+}
+
+/// Appends what the numbers along the axis are, above the lanes and below.
+#[tactic(auto, unfolding(crate::specs::Pieces::axis_unit))]
+pub(crate) fn push_axis_unit(text: &mut String, bottom: u64) -> Result<(), AllocError>
+    ensures { OnOk result (Adds text.old text.new (pieces.axis_unit bottom)) }
+{
+    writeln!(
+        text,
+        "<text x='232' y='72'>ticks</text><text x='232' y='{bottom}'>ticks</text>"
+    )
+}
+
 /// Appends a number of ticks, above the lanes and below.
 #[tactic(auto, unfolding(crate::specs::Pieces::tick_label))]
 pub(crate) fn push_tick_label(
@@ -98,28 +117,20 @@ pub(crate) fn push_tick_label(
     )
 }
 
-/// Appends the ground of the bars.
+/// Appends the beginning of the lines and bars, whose units are hundredths of a pixel.
 #[tactic(auto, unfolding(crate::specs::Pieces::plan_start))]
-pub(crate) fn push_plan_start(
-    text: &mut String,
-    height: u64,
-    span: u128,
-    units: u64,
-) -> Result<(), AllocError>
-    ensures { OnOk result (Adds text.old text.new (pieces.plan_start height span units)) }
+pub(crate) fn push_plan_start(text: &mut String) -> Result<(), AllocError>
+    ensures { OnOk result (Adds text.old text.new pieces.plan_start) }
 {
-    writeln!(
-        text,
-        "<svg class='plan' x='320' y='80' width='1000' height='{height}' viewBox='0 0 {span} {units}' preserveAspectRatio='none' overflow='visible'>"
-    )
+    text.push_str("<g class='plan' transform='translate(320 80) scale(.01)'>\n")
 }
 
 /// Appends a line through all lanes.
 #[tactic(auto, unfolding(crate::specs::Pieces::grid_line))]
-pub(crate) fn push_grid_line(text: &mut String, tick: u128, units: u64) -> Result<(), AllocError>
-    ensures { OnOk result (Adds text.old text.new (pieces.grid_line tick units)) }
+pub(crate) fn push_grid_line(text: &mut String, place: u128, height: u64) -> Result<(), AllocError>
+    ensures { OnOk result (Adds text.old text.new (pieces.grid_line place height)) }
 {
-    writeln!(text, "<path d='M{tick} 0v{units}'/>")
+    writeln!(text, "<path d='M{place} 0v{height}'/>")
 }
 
 /// Appends a bar with its mark, place and size, as far as the name of its message.

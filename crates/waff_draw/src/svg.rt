@@ -1,15 +1,16 @@
 //! The picture as a document in SVG.
 
-ghost use Rattle.std.specs.Prelude.{◌≡◌, ◌<◌, ◌≤◌, IfOk, OnOk, length, string_bytes};
+ghost use Rattle.std.specs.Prelude.{◌≡◌, ◌+◌, ◌*◌, ◌<◌, ◌≤◌, IfOk, OnOk, length, string_bytes};
 ghost use Rattle.std.specs.List.{flat_map, range_with_len};
 ghost use Rattle.waff_assign.specs.Case.{instance_of};
 ghost use Rattle.waff_plan.specs.Work.{total_of};
 ghost use Rattle.waff_plan_text.specs.Lines.{Adds};
 ghost use Rattle.waff_plan_text.specs.Spelling.{worker_field};
+ghost use Rattle.waff_draw.specs.Pieces.{axis_unit};
 ghost use Rattle.waff_draw.specs.Scene.{end_in, from_in, lanes_in, length_in, rows_in};
-ghost use Rattle.waff_draw.specs.Scene.{scene_of, span_in, work_of_scene, workers_in};
-ghost use Rattle.waff_draw.specs.Svg.{affinity_lane, each_line, grid_text, ground_text};
-ghost use Rattle.waff_draw.specs.Svg.{heading_text, plan_text, svg_text, tick_text, top_text};
+ghost use Rattle.waff_draw.specs.Scene.{scene_of, work_of_scene, workers_in};
+ghost use Rattle.waff_draw.specs.Svg.{affinity_lane, document_text, each_line, grid_text};
+ghost use Rattle.waff_draw.specs.Svg.{ground_text, heading_text, rule_text, svg_text, tick_text, top_text};
 ghost use Rattle.waff_draw.specs.Svg.{upto, worker_lane};
 
 use crate::bars::push_bars;
@@ -17,8 +18,9 @@ use crate::chart::Chart;
 use crate::lanes::LaneKind;
 use crate::parts::Part;
 use crate::pieces::{
-    LEGEND, STYLE, push_grid_line, push_heading_start, push_lane_end, push_lane_start,
-    push_plan_start, push_tick_label, push_top_start, push_worker_name,
+    LEGEND, STYLE, push_axis_unit, push_grid_line, push_heading_start, push_lane_end,
+    push_lane_start, push_plan_start, push_rule_line, push_tick_label, push_top_start,
+    push_worker_name,
 };
 use crate::xml::push_xml;
 use std::alloc::{AllocError, Global};
@@ -37,19 +39,19 @@ pub fn svg_text(
     ensures { IfOk result (λ text.
         string_bytes text ≡ svg_text (scene_of (instance_of case.now) given.now part)) }
 {
-    let chart = Chart::new(alloc, case, given, part)?;
+    let chart = Chart::new(alloc, case, given, part, true)?;
     picture(alloc, &chart)
 }
 
 /// The picture of a chart.
 fn picture(alloc: Global, chart: &Chart<'_>) -> Result<String, AllocError>
-    ensures { IfOk result (λ text. string_bytes text ≡ svg_text chart.now) }
+    ensures { IfOk result (λ text. string_bytes text ≡ document_text chart.now) }
 {
     let mut text = String::new(alloc);
     push_ground(&mut text, chart)?;
     push_bars(&mut text, chart, LaneKind::Affinity)?;
     push_bars(&mut text, chart, LaneKind::Worker)?;
-    text.push_str("</svg>\n</svg>\n")?;
+    text.push_str("</g>\n</svg>\n")?;
     Ok(text)
 }
 
@@ -61,8 +63,10 @@ fn push_ground(text: &mut String, chart: &Chart<'_>) -> Result<(), AllocError>
     push_heading(text, chart)?;
     push_affinity_lanes(text, chart)?;
     push_worker_lanes(text, chart)?;
+    push_rule(text, chart)?;
+    push_unit(text, chart)?;
     push_ticks(text, chart)?;
-    push_plan(text, chart)?;
+    push_plan_start(text)?;
     push_grid(text, chart)
 }
 
@@ -146,6 +150,24 @@ fn push_worker_lane(text: &mut String, chart: &Chart<'_>, worker: u32) -> Result
     push_lane_end(text)
 }
 
+/// Appends the rule between the lanes of affinities and those of workers, if there are workers.
+fn push_rule(text: &mut String, chart: &Chart<'_>) -> Result<(), AllocError>
+    ensures { OnOk result (Adds text.old text.new
+        (rule_text (length (lanes_in chart.now)) (workers_in chart.now))) }
+{
+    if chart.worker_count() >= 1 {
+        push_rule_line(text, chart.lane_count() * 20 + 80)?;
+    }
+    Ok(())
+}
+
+/// Appends what the numbers along the axis are.
+fn push_unit(text: &mut String, chart: &Chart<'_>) -> Result<(), AllocError>
+    ensures { OnOk result (Adds text.old text.new (axis_unit (rows_in chart.now * 20 + 98))) }
+{
+    push_axis_unit(text, chart.row_count() * 20 + 98)
+}
+
 /// Appends the numbers of ticks along the axis, above the lanes and below.
 fn push_ticks(text: &mut String, chart: &Chart<'_>) -> Result<(), AllocError>
     ensures { OnOk result (Adds text.old text.new (each_line chart.now (tick_text chart.now))) }
@@ -169,15 +191,6 @@ fn push_tick(text: &mut String, chart: &Chart<'_>, tick: u128) -> Result<(), All
     Ok(())
 }
 
-/// Appends the ground of the bars.
-fn push_plan(text: &mut String, chart: &Chart<'_>) -> Result<(), AllocError>
-    ensures { OnOk result (Adds text.old text.new
-        (plan_text (rows_in chart.now) (span_in chart.now))) }
-{
-    let rows = chart.row_count();
-    push_plan_start(text, rows * 20, chart.span(), rows * 10)
-}
-
 /// Appends the lines of the axis through all rows.
 fn push_grid(text: &mut String, chart: &Chart<'_>) -> Result<(), AllocError>
     ensures { OnOk result (Adds text.old text.new (each_line chart.now (grid_text chart.now))) }
@@ -195,11 +208,8 @@ fn push_grid_at(text: &mut String, chart: &Chart<'_>, tick: u128) -> Result<(), 
         (upto (end_in chart.now) (grid_text chart.now) tick)) }
 {
     if tick <= chart.end() {
-        push_grid_line(
-            text,
-            tick - u128::from(chart.from()),
-            chart.row_count() * 10,
-        )?;
+        let place = chart.place(tick - u128::from(chart.from()));
+        push_grid_line(text, place, chart.row_count() * 2000)?;
     }
     Ok(())
 }
