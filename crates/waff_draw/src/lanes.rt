@@ -29,11 +29,7 @@ pub enum LaneKind {
 }
 
 /// The lanes of the affinities that have a message, or, of the tree, of these and what is above them.
-pub(crate) fn lanes(
-    alloc: Global,
-    case: &Case<'_>,
-    is_tree: bool,
-) -> Result<Vec<Lane>, AllocError>
+pub(crate) fn lanes(alloc: Global, case: &Case<'_>, is_tree: bool) -> Result<Vec<Lane>, AllocError>
     ensures lanes { IfOk result (λ lanes. lanes.items ≡ lanes_of case.now.tree.now
         (laned_of case.now.tree.now case.now.assigned.now is_tree)) }
     ensures known { IfOk result (λ lanes.
