@@ -66,8 +66,8 @@ Answers asked.Rate files status text =
 Answers (asked.Sweep given rule) files status text =
     (status ≡ 0) × IsSweepText rule (first files) (second files)
     (unwrap_or (option_map (λ numbers. numbers.items) given) sweep_workers) text
-Answers (asked.Where grouping) files status text =
-    (status ≡ 0) × IsWhereText (first files) (second files) grouping text
+Answers (asked.Where label) files status text =
+    (status ≡ 0) × IsWhereText (first files) (second files) label text
 Answers (asked.Waits workers rule grouping) files status text =
     (status ≡ 0) × IsWaitsText rule (first files) (second files) workers grouping text
 Answers asked.Needs files status text =
@@ -94,7 +94,7 @@ RefusesAsked (asked.Compare k) files error =
     RefusesComparison (first files) (second files) (third files) error
 RefusesAsked asked.Rate files error = RefusesCheck (first files) (second files) (third files) error
 RefusesAsked (asked.Sweep given rule) files error = Refuses (first files) (second files) error
-RefusesAsked (asked.Where grouping) files error = Refuses (first files) (second files) error
+RefusesAsked (asked.Where label) files error = Refuses (first files) (second files) error
 RefusesAsked (asked.Waits workers rule grouping) files error =
     Refuses (first files) (second files) error
 RefusesAsked asked.Needs files error = Refuses (first files) (second files) error

@@ -61,7 +61,7 @@ pub fn print<R: Threads + Wait + Sync, W: Write>(
             let workers = swept(given);
             printed(sweep_text(rt, alloc, first, second, workers, *rule, out))
         }
-        Asked::Where(grouping) => printed(where_text(rt, alloc, first, second, *grouping, out)),
+        Asked::Where(label) => printed(where_text(rt, alloc, first, second, *label, out)),
         Asked::Waits(workers, rule, grouping) => {
             printed(waits_text(rt, alloc, first, second, *workers, *rule, *grouping, out))
         }

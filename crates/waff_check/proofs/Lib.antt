@@ -7,6 +7,9 @@ mod ShiftSteps
 mod PlaceLaws
 mod OverlapLaws
 mod LinkLaws
+mod ServedLaws
+mod ServesLaws
+mod ShortLaws
 pub mod PromiseLaws
 pub mod Uniqueness
 pub mod OwnLaws

@@ -1,30 +1,102 @@
 -- Overlaps by the place of their first message.
-use Rattle.std.proofs.Common.{◌≡◌, ℕ, ◌+◌, ◌-◌, ◌<◌, ◌≤◌, Some, None, arith, subst, inl, inr}
+use Rattle.std.proofs.Common.{◌≡◌, ◌↔◌, ℕ, ◌+◌, ◌-◌, ◌<◌, ◌≤◌, Bool, IsTrue, Some, None, arith, refl, subst, inl, inr}
 use Rattle.std.proofs.lemmas.Bool.{cases_lt}
+use Rattle.waff_model.specs.declared.message.Version.{Version}
+use Rattle.waff_model.specs.declared.message.Version.TheVariants.{V1, V2, V3}
+use Rattle.waff_assign.specs.Case.{pairs_of}
+use Rattle.waff_assign.specs.Order.{Relation}
+use Rattle.waff_plan.specs.Apart.{AreApart}
 use Rattle.waff_plan.specs.Obeys.{IsAmong, KeepsOrder}
-use Rattle.waff_plan.specs.Planned.{planned_pairs, planned_starts, planned_work}
-use Rattle.waff_plan.specs.Work.{finish_of}
+use Rattle.waff_plan.specs.Planned.{planned_starts, planned_work}
+use Rattle.waff_plan.specs.Work.{Work, finish_of}
 use Rattle.waff_plan.specs.declared.planned.Planned.{Planned}
-use Rattle.waff_check.specs.Faults.{IsFirstOverlap, IsLeastOf, Overlaps}
-use Rattle.waff_check.specs.Searches.{HasOverlap, IsFirstPlace}
+use Rattle.waff_check.specs.Faults.{IsFirstPair, IsLeastOf, Overlaps, OverlapsIn}
+use Rattle.waff_check.specs.Searches.{AreAtOddsIn, HasOverlap, IsFirstPlace, NoneAmong, planned_overlaps, version_in}
+
+-- a pair that overlaps is one, and is at odds
+pub overlap_parts : (version : Version) (before : Relation) (work : Work) (start : ℕ → ℕ) (i j : ℕ) → OverlapsIn version before work start i j
+    → before i j × AreAtOddsIn version work start i j
+overlap_parts V1 before work start i j h = (h.ordered, h.early)
+overlap_parts V2 before work start i j h = (h.ordered, h.early)
+overlap_parts V3 before work start i j h = (h.ordered, h.together)
+
+pub overlap_from : (version : Version) (before : Relation) (work : Work) (start : ℕ → ℕ) (i j : ℕ) → before i j → AreAtOddsIn version work start i j
+    → OverlapsIn version before work start i j
+overlap_from V1 before work start i j pair early = record { ordered = pair; early = early }
+overlap_from V2 before work start i j pair early = record { ordered = pair; early = early }
+overlap_from V3 before work start i j pair together = record { ordered = pair; together = together }
+
+-- none of the first messages overlaps where they keep the order, or are apart
+abbrev pub NoneOfFirst : Version → Relation → Work → (ℕ → ℕ) → ℕ → Type 0
+NoneOfFirst version before work start count = (i j : ℕ) → i ≤ count → OverlapsIn version before work start i j → ⊥
+
+none_late : (before : Relation) (work : Work) (start : ℕ → ℕ) (count : ℕ) → KeepsOrder (IsAmong count before) work start
+    → (i j : ℕ) → i ≤ count → Overlaps before work start i j → ⊥
+none_late before work start count order i j within overlap =
+    omega (arith, order i j (record { ordered = overlap.ordered; within = within }), overlap.early)
+
+order_kept : (before : Relation) (work : Work) (start : ℕ → ℕ) (count : ℕ) → ((i j : ℕ) → i ≤ count → Overlaps before work start i j → ⊥)
+    → KeepsOrder (IsAmong count before) work start
+order_kept before work start count none i j among = elim (cases_lt (start j) (finish_of work start i)) [
+  | inl early ↦ absurd (none i j among.within (record { ordered = among.ordered; early = early }))
+  | inr late ↦ late
+]
+
+pub none_where_ordered : (version : Version) (before : Relation) (work : Work) (start : ℕ → ℕ) (count : ℕ) → (version ≡ V3 → ⊥)
+    → KeepsOrder (IsAmong count before) work start → NoneOfFirst version before work start count
+none_where_ordered V1 before work start count early = none_late before work start count
+none_where_ordered V2 before work start count early = none_late before work start count
+none_where_ordered V3 before work start count early = absurd (early refl)
+
+pub ordered_where_none : (version : Version) (before : Relation) (work : Work) (start : ℕ → ℕ) (count : ℕ) → (version ≡ V3 → ⊥)
+    → NoneOfFirst version before work start count → KeepsOrder (IsAmong count before) work start
+ordered_where_none V1 before work start count early = order_kept before work start count
+ordered_where_none V2 before work start count early = order_kept before work start count
+ordered_where_none V3 before work start count early = absurd (early refl)
+
+pub none_where_apart : (version : Version) (before : Relation) (work : Work) (start : ℕ → ℕ) (count : ℕ) → version ≡ V3
+    → AreApart (IsAmong count before) work start → NoneOfFirst version before work start count
+none_where_apart V1 before work start count is = absurd (cc is)
+none_where_apart V2 before work start count is = absurd (cc is)
+none_where_apart V3 before work start count is =
+    λ apart i j within pair. apart i j (record { ordered = record { ordered = pair.ordered; within = within }; together = pair.together })
+
+pub apart_where_none : (version : Version) (before : Relation) (work : Work) (start : ℕ → ℕ) (count : ℕ) → version ≡ V3
+    → NoneOfFirst version before work start count → AreApart (IsAmong count before) work start
+apart_where_none V1 before work start count is = absurd (cc is)
+apart_where_none V2 before work start count is = absurd (cc is)
+apart_where_none V3 before work start count is =
+    λ none i j pair. none i j pair.ordered.within (record { ordered = pair.ordered.ordered; together = pair.together })
+
+-- what a test of the first messages tells
+pub order_tells : (version : Version) (before : Relation) (work : Work) (start : ℕ → ℕ) (count : ℕ) → (version ≡ V3 → ⊥) → (kept : Bool)
+    → (IsTrue kept ↔ KeepsOrder (IsAmong count before) work start) → IsTrue kept ↔ NoneOfFirst version before work start count
+order_tells version before work start count early kept told = (
+  λ t. none_where_ordered version before work start count early (told.0 t),
+  λ none. told.1 (ordered_where_none version before work start count early none),
+)
+
+pub apart_tells : (version : Version) (before : Relation) (work : Work) (start : ℕ → ℕ) (count : ℕ) → version ≡ V3 → (kept : Bool)
+    → (IsTrue kept ↔ AreApart (IsAmong count before) work start) → IsTrue kept ↔ NoneOfFirst version before work start count
+apart_tells version before work start count is kept told = (
+  λ t. none_where_apart version before work start count is (told.0 t),
+  λ none. told.1 (apart_where_none version before work start count is none),
+)
+
+-- an overlap is one of a pair of messages
+pub pair_of : (planned : Planned) (i j : ℕ) → planned_overlaps planned i j → pairs_of planned.case i j
+pair_of planned i j h =
+    (overlap_parts (version_in planned) (pairs_of planned.case) (planned_work planned) (planned_starts planned) i j h).0
 
 module _ (planned : Planned) (kept : ℕ) where
   abbrev Pair : ℕ → ℕ → Type 0
-  Pair = Overlaps (planned_pairs planned) (planned_work planned) (planned_starts planned)
-
-  -- the first messages overlap with none
-  abbrev Kept : Type 0
-  Kept = KeepsOrder (IsAmong kept (planned_pairs planned)) (planned_work planned) (planned_starts planned)
+  Pair = planned_overlaps planned
 
   -- a message that has an overlap is none of the first
-  past-kept : Kept → (i j : ℕ) → Pair i j → kept < i
-  past-kept order i j h = elim (cases_lt kept i) [
+  past-kept : NoneAmong planned kept → (i j : ℕ) → Pair i j → kept < i
+  past-kept none i j h = elim (cases_lt kept i) [
     | inl lt ↦ lt
-    | inr le ↦ (
-        let early : planned_starts planned j < finish_of (planned_work planned) (planned_starts planned) i = h.early in
-        let late : finish_of (planned_work planned) (planned_starts planned) i ≤ planned_starts planned j = order i j (record { ordered = h.ordered; within = le }) in
-        absurd (omega arith)
-        )
+    | inr le ↦ absurd (none i j le h)
   ]
 
   -- an overlap stands at the place of its first message
@@ -34,23 +106,24 @@ module _ (planned : Planned) (kept : ℕ) where
       (j, subst (λ n. Pair n j) same h)
 
   -- where there is no place there is no overlap
-  pub no-overlap : Kept → IsFirstPlace (λ i. HasOverlap planned (kept + i)) ((planned_work planned).count - kept) None
+  pub no-overlap : NoneAmong planned kept → IsFirstPlace (λ i. HasOverlap planned (kept + i)) ((planned_work planned).count - kept) None
       → (i j : ℕ) → Pair i j → ⊥
-  no-overlap order none i j h =
-      let past : kept < i = past-kept order i j h in
-      let earlier : i < j = h.ordered.earlier in
-      let to = h.ordered.to in
+  no-overlap first none i j h =
+      let past : kept < i = past-kept first i j h in
+      let pair = pair_of planned i j h in
+      let earlier : i < j = pair.earlier in
+      let to = pair.to in
       none (i - kept - 1) (omega (arith, planned.lengths)) (has-overlap i j past h)
 
   -- the first place, and the least second message there
-  pub first-overlap : (place second : ℕ) → Kept
+  pub first-overlap : (place second : ℕ) → NoneAmong planned kept
       → IsFirstPlace (λ i. HasOverlap planned (kept + i)) ((planned_work planned).count - kept) (Some place)
       → IsLeastOf (Pair (kept + place + 1)) second
-      → IsFirstOverlap (planned_pairs planned) (planned_work planned) (planned_starts planned) (kept + place + 1) second
-  first-overlap place second order at least = record {
+      → IsFirstPair Pair (kept + place + 1) second
+  first-overlap place second first at least = record {
     least_second = least;
     least_first = λ i j h. elim (cases_lt i (kept + place + 1)) [
-      | inl lt ↦ (let past : kept < i = past-kept order i j h in absurd (at.2 (i - kept - 1) (omega arith) (has-overlap i j past h)))
+      | inl lt ↦ (let past : kept < i = past-kept first i j h in absurd (at.2 (i - kept - 1) (omega arith) (has-overlap i j past h)))
       | inr le ↦ le
     ];
   }

@@ -1,33 +1,46 @@
 -- The verdicts on plans that tell what they are.
-use Rattle.std.proofs.Common.{◌≡◌, ℕ, ◌+◌, ◌-◌, ◌*◌, ◌<◌, ◌≤◌, inl, inr, List, length, map, cond, Option, Some, None, refl, sym, ap, ◌∙◌, arith, subst}
+use Rattle.std.proofs.Common.{◌≡◌, ℕ, ◌+◌, ◌-◌, ◌*◌, ◌<◌, ◌≤◌, ◌⊎◌, inl, inr, List, length, map, cond, Option, Some, None, refl, sym, ap, ◌∙◌, arith, subst}
 use Rattle.std.specs.Prelude.{nat_le, nat_lt, ◌&&◌}
 use Rattle.std.proofs.lemmas.Bool.{cases_eq}
-use Rattle.std.proofs.lemmas.List.{get_or-map, length-map}
+use Rattle.std.proofs.lemmas.List.{get_or-map}
 use Rattle.std.proofs.lemmas.List.FromFn.{get_or-map-range_with_len, length-map-range_with_len}
-use Rattle.waff_model.specs.declared.message.Message.{Message}
+use Rattle.waff_model.specs.Tree.{Node}
+use Rattle.waff_model.specs.declared.message.Version.{Version}
+use Rattle.waff_model.specs.declared.message.Version.TheVariants.{V1, V2, V3}
 use Rattle.waff_assign.specs.Instance.{Instance, before_in}
+use Rattle.waff_assign.specs.Order.{IsOrdered}
+use Rattle.waff_plan.specs.Apart.{AreApart}
 use Rattle.waff_plan.specs.Bound.{right_side}
 use Rattle.waff_plan.specs.Chain.{IsChain, chain_cost, chain_release}
-use Rattle.waff_plan.specs.Obeys.{Obeys}
-use Rattle.waff_plan.specs.Instances.{work_of_instance}
+use Rattle.waff_plan.specs.IssueLaws.{StartsIssued}
+use Rattle.waff_plan.specs.Issues.{IsServedBefore}
+use Rattle.waff_plan.specs.Obeys.{FollowsEarlier, Obeys}
+use Rattle.waff_plan.specs.Instances.{served_first, started_first, work_of_instance}
+use Rattle.waff_plan.specs.Serving.{served_before, started_before}
+use Rattle.waff_plan.specs.Timetable.{clients_of}
 use Rattle.waff_plan.specs.Unique.{AreSame}
-use Rattle.waff_plan.specs.Work.{Work, IsNumber, finish_of, length_of, numbers}
+use Rattle.waff_plan.specs.Work.{Work, IsNumber, length_of, numbers}
 use Rattle.waff_plan.specs.Workers.{running, runs_at}
-use Rattle.waff_plan.specs.declared.timing.Timing.{Timing}
-use Rattle.waff_plan.proofs.Holding.{released}
+use Rattle.waff_plan.proofs.ApartLaws.{apart_where_finished, turned}
+use Rattle.waff_plan.proofs.ClientLemmas.{client_follows_earlier}
+use Rattle.waff_plan.proofs.IssueOrder.{one_is_issued_first}
+use Rattle.waff_plan.proofs.IssuePlans.{same_issue}
 use Rattle.waff_plan.proofs.Ticks.{sum_by-numbers-le}
+use Rattle.waff_plan.proofs.TimingLemmas.{length-timings_of, timings_follow_clients}
 use Rattle.waff_plan.proofs.Uniqueness.{same_length, totals_same}
 use Rattle.waff_plan_text.specs.Given.{no_row, row_at}
 use Rattle.waff_plan_text.specs.Laws.{row_told}
 use Rattle.waff_plan_text.specs.Spelling.{no_worker}
 use Rattle.waff_plan_text.specs.declared.row.Row.{Row}
-use Rattle.waff_check.specs.Faults.{HasWrongWorker, IsCrowded, IsMisplaced, IsTaken, NoneOf, RunTogether}
+use Rattle.waff_check.specs.Faults.{HasWrongWorker, IsCrowded, IsMisplaced, IsTaken, NoneOf, OverlapsIn, RunTogether}
 use Rattle.waff_check.specs.Promises.{AreOneAtATime}
-use Rattle.waff_check.specs.OwnPlans.{OwnPlanIsShortest, OwnPlanIsWithinBound, claim_told}
+use Rattle.waff_check.specs.OwnPlans.{IsFoundShort, OwnPlanIsShortest, OwnPlanIsWithinBound, claim_told}
 use Rattle.waff_check.specs.Shifts.{IsOneOf}
-use Rattle.waff_check.specs.Verdicts.{Claim, IsFaultless, IsFreeBelow, ReachesLength, stage, start_in, worker_in}
+use Rattle.waff_check.specs.Verdicts.{Claim, IsFaultless, IsFound, IsFreeBelow, IsShort, IsShortIn, ReachesLength, IsVerdict, stage, start_in, version_of, worker_in}
 use Rattle.waff_check.specs.declared.verdict.Verdict.TheVariants as verdict
-use Rattle.waff_check.proofs.LinkLaws.{chain-linked}
+use Rattle.waff_check.proofs.LinkLaws.{chain-linked, chain-of-more}
+use Rattle.waff_check.proofs.OverlapLaws.{overlap_parts}
+use Rattle.waff_check.proofs.ServedLaws.{none_early, none_unissued, turn}
 
 -- no more run at a tick under the same starts
 no_more_run : (work : Work) (start other : ℕ → ℕ) → AreSame work start other → (t : ℕ) → running work start t ≤ running work other t
@@ -78,6 +91,60 @@ no_workers : (work : Work) (start : ℕ → ℕ) (told : ℕ → Option ℕ) →
 no_workers work start told tells n wrong =
     subst (λ w. IsMisplaced work start told None n w) (tells n wrong.number) wrong.wrong
 
+-- messages of a plan that obeys the order of its version are apart
+ordered_apart : (tree : List Node) (assigned : List ℕ) (work : Work) (start : ℕ → ℕ) → Obeys (IsOrdered tree assigned) work start
+    → AreApart (IsOrdered tree assigned) work start
+ordered_apart tree assigned work start obeys i j pair = apart_where_finished work start i j (obeys.ordered i j pair.ordered) pair.together
+
+issued_apart : (tree : List Node) (assigned : List ℕ) (work : Work) (start : ℕ → ℕ) → length assigned ≡ work.count
+    → Obeys (IsServedBefore tree assigned work start) work start → AreApart (IsOrdered tree assigned) work start
+issued_apart tree assigned work start long obeys i j pair =
+    let ordered = pair.ordered in
+    let from : 1 ≤ i = ordered.from in
+    let earlier : i < j = ordered.earlier in
+    let first : IsNumber work i = record { from = from; to = omega (arith, long, earlier, ordered.to) } in
+    let second : IsNumber work j = record { from = omega (arith, from, earlier); to = omega (arith, long, ordered.to) } in
+    elim (one_is_issued_first work start i j) [
+      | inl same ↦ absurd (omega (arith, same, earlier))
+      | inr (inl before) ↦
+          apart_where_finished work start i j
+          (obeys.ordered i j (record { first = first; second = second; issued = before; excludes = ordered.excludes })) pair.together
+      | inr (inr after) ↦
+          apart_where_finished work start j i
+          (obeys.ordered j i (record { first = second; second = first; issued = after; excludes = turn tree _ _ ordered.excludes }))
+          (turned work start i j pair.together)
+    ]
+
+-- under the same starts no pair of such a plan overlaps
+none_overlap : (version : Version) (tree : List Node) (assigned : List ℕ) (work : Work) (start told : ℕ → ℕ) → length assigned ≡ work.count
+    → AreSame work told start → Obeys (served_before version tree assigned work start) work start
+    → (i j : ℕ) → IsNumber work i → IsNumber work j → OverlapsIn version (IsOrdered tree assigned) work told i j → ⊥
+none_overlap V1 tree assigned work start told long same obeys i j first second pair =
+    omega (arith, same i first, same j second, obeys.ordered i j pair.ordered, pair.early)
+none_overlap V2 tree assigned work start told long same obeys i j first second pair =
+    omega (arith, same i first, same j second, obeys.ordered i j pair.ordered, pair.early)
+none_overlap V3 tree assigned work start told long same obeys i j first second pair =
+    issued_apart tree assigned work start long obeys i j
+    (record { ordered = pair.ordered; together = together_too work told start same i j first second pair.together })
+
+-- and messages start in the same order
+started_too : (version : Version) (tree : List Node) (assigned : List ℕ) (work : Work) (start told : ℕ → ℕ) → length assigned ≡ work.count
+    → AreSame work told start → (i j : ℕ) → started_before version tree assigned start i j → started_before version tree assigned told i j
+started_too V1 tree assigned work start told long same i j before = before
+started_too V2 tree assigned work start told long same i j before = before
+started_too V3 tree assigned work start told long same i j before =
+    let one = same i (record { from = before.first.from; to = omega (arith, before.first.to, long) }) in
+    let other = same j (record { from = before.second.from; to = omega (arith, before.second.to, long) }) in
+    record { first = before.first; second = before.second; started = omega (arith, one, other, before.started); excludes = before.excludes }
+
+-- and each message is issued when it starts
+issued_too : (work : Work) (start told : ℕ → ℕ) → FollowsEarlier work → AreSame work told start → StartsIssued work start → StartsIssued work told
+issued_too work start told follows same issued m number =
+    let again = same_issue work told start m (λ f follow.
+    let earlier = follows f m follow in
+    same f (record { from = earlier.from; to = omega (arith, earlier.earlier, earlier.to) })) in
+    omega (arith, again, same m number, issued m number)
+
 module _ (instance : Instance) (workers : Option ℕ) (start : ℕ → ℕ)
     (worker : ℕ → Option ℕ) (chain : List ℕ) where
   abbrev claim : Claim
@@ -107,20 +174,25 @@ module _ (instance : Instance) (workers : Option ℕ) (start : ℕ → ℕ)
   tells_worker : (n : ℕ) → IsNumber work n → worker_in claim.plan n ≡ worker n
   tells_worker n number = ap (λ (row : Row). row.worker) (tells_row n number)
 
+  long : length instance.assigned ≡ length instance.trace.messages → length instance.assigned ≡ work.count
+  long count = omega (arith, count, length-timings_of instance.trace.messages)
+
+  issued : StartsIssued work start → StartsIssued work (start_in claim)
+  issued =
+      issued_too work start (start_in claim)
+      (client_follows_earlier (clients_of instance.trace.messages) work (timings_follow_clients instance.trace.messages)) tells_start
+
   -- a claim of an obeying plan with its chain has no fault
-  no_fault : length instance.assigned ≡ length instance.trace.messages → Obeys (before_in instance) work start → IsChain (before_in instance) work chain
+  no_fault : length instance.assigned ≡ length instance.trace.messages → Obeys (served_first instance start) work start → IsChain (started_first instance start) work chain
       → ((k : ℕ) → workers ≡ Some k → (t : ℕ) → running work start t ≤ k)
       → NoneOf (HasWrongWorker work (start_in claim) (worker_in claim.plan) workers) → IsFaultless claim
   no_fault count obeys is_chain within manned (verdict.Overlap i j) less = λ overlap.
-      let from : 1 ≤ i = overlap.ordered.from in
-      let earlier : i < j = overlap.ordered.earlier in
-      let to : j ≤ length instance.assigned = overlap.ordered.to in
-      let all : work.count ≡ length instance.trace.messages = length-map instance.trace.messages (λ (message : Message). let t : Timing = record { cost = message.cost; release = message.release } in t) in
-      let one : start_in claim i ≡ start i = tells_start i (record { from = from; to = omega arith }) in
-      let other : start_in claim j ≡ start j = tells_start j (record { from = omega arith; to = omega arith }) in
-      let after : finish_of work start i ≤ start j = obeys.ordered i j overlap.ordered in
-      let early : start_in claim j < finish_of work (start_in claim) i = overlap.early in
-      omega (arith, one, other, after, early)
+      let pair = (overlap_parts instance.trace.version (before_in instance) work (start_in claim) i j overlap).0 in
+      let from : 1 ≤ i = pair.from in
+      let earlier : i < j = pair.earlier in
+      none_overlap instance.trace.version instance.tree instance.assigned work start (start_in claim) (long count) tells_start obeys i j
+      (record { from = from; to = omega (arith, earlier, pair.to, long count) })
+      (record { from = omega (arith, from, earlier); to = omega (arith, pair.to, long count) }) overlap
   no_fault count obeys is_chain within manned (verdict.TooManyAt tick) less =
       uncrowded work (start_in claim) workers
       (λ k is t. let few = within k is t in let same = no_more_run work (start_in claim) start tells_start t in omega (arith, few, same)) tick
@@ -130,27 +202,60 @@ module _ (instance : Instance) (workers : Option ℕ) (start : ℕ → ℕ)
   no_fault count obeys is_chain within manned (verdict.Finish n) less = λ wrong.
       wrong.wrong (ap (λ (row : Row). row.finish) (tells_row n wrong.number) ∙ ap (λ s. s + work.cost n) (tells_back n wrong.number))
   no_fault count obeys is_chain within manned verdict.Totals less = totals_same workers work start (start_in claim) chain tells_back
-  no_fault count obeys is_chain within manned (verdict.NotAChain place) less = chain-linked (before_in instance) work (λ _. refl) chain is_chain place
-  no_fault count obeys is_chain within manned (verdict.Early n) less = λ early.
-      let same : start_in claim n ≡ start n = tells_start n early.number in
-      let released : work.release n ≤ start n = released (before_in instance) work start obeys n early.number in
-      let sooner : start_in claim n < work.release n = early.early in
-      omega (arith, same, released, sooner)
+  no_fault count obeys is_chain within manned (verdict.NotAChain place) less =
+      chain-linked (started_first instance (start_in claim)) work chain
+      (chain-of-more (started_first instance start) (started_first instance (start_in claim)) work
+      (started_too instance.trace.version instance.tree instance.assigned work start (start_in claim) (long count) tells_start) chain is_chain)
+      place
+  no_fault count obeys is_chain within manned (verdict.Early n) less = none_early work (start_in claim) (issued obeys.issued) n
+  no_fault count obeys is_chain within manned (verdict.Client n) less = none_unissued work (start_in claim) (issued obeys.issued) n
   no_fault count obeys is_chain within manned _ less = absurd (omega arith)
 
--- a plan without a fault that is no shortest one
-not_shortest : (claim : Claim) → IsFaultless claim → (ReachesLength claim → ⊥) → IsFreeBelow claim (stage verdict.WithinBound)
+-- whether a plan is as short as any can be
+short_or_longer : (version : Version) (claim : Claim) → (IsShortIn version claim) ⊎ (IsShortIn version claim → ⊥)
+short_or_longer V1 _ = cases_eq _ _
+short_or_longer V2 _ = cases_eq _ _
+short_or_longer V3 _ = cases_eq _ _
+
+-- a plan without a fault that is no shortest one, and one that is not tight either
+not_shortest : (claim : Claim) → IsFaultless claim → (IsShort claim → ⊥) → IsFreeBelow claim (stage verdict.Tight)
 not_shortest claim good longer verdict.Shortest less = longer
 not_shortest claim good longer v less = good v (omega arith)
+
+not_tight : (claim : Claim) → IsFaultless claim → (IsShort claim → ⊥) → (ReachesLength claim → ⊥) → IsFreeBelow claim (stage verdict.WithinBound)
+not_tight claim good longer loose verdict.Shortest less = longer
+not_tight claim good longer loose verdict.Tight less = loose
+not_tight claim good longer loose v less = good v (omega arith)
+
+-- a plan as long as its chain is found as short as it can be
+found_short : (claim : Claim) (version : Version) → version ≡ version_of claim → IsFaultless claim → ReachesLength claim → IsFoundShort version claim
+found_short claim V1 is good reach = record { free = good; found = subst (λ v. IsShortIn v claim) is reach }
+found_short claim V2 is good reach = record { free = good; found = subst (λ v. IsShortIn v claim) is reach }
+found_short claim V3 is good reach = elim (short_or_longer (version_of claim) claim) [
+  | inl short ↦ inl (record { free = good; found = short })
+  | inr longer ↦ inr (record { free = not_shortest claim good longer; found = reach })
+]
+
+-- a plan that is longer than its chain, but within the bound
+found_within : (claim : Claim) (version : Version) → version ≡ version_of claim → IsFaultless claim → (ReachesLength claim → ⊥) → IsFound claim verdict.WithinBound
+    → IsFoundShort version claim ⊎ IsVerdict claim verdict.WithinBound
+found_within claim V1 is good loose kept =
+    inr (record { free = not_tight claim good (subst (λ v. IsShortIn v claim → ⊥) is loose) loose; found = kept })
+found_within claim V2 is good loose kept =
+    inr (record { free = not_tight claim good (subst (λ v. IsShortIn v claim → ⊥) is loose) loose; found = kept })
+found_within claim V3 is good loose kept = elim (short_or_longer (version_of claim) claim) [
+  | inl short ↦ inl (inl (record { free = good; found = short }))
+  | inr longer ↦ inr (record { free = not_tight claim good longer loose; found = kept })
+]
 
 pub own_plan_is_shortest : (instance : Instance) (start : ℕ → ℕ) (chain : List ℕ)
     → OwnPlanIsShortest instance start chain
 own_plan_is_shortest instance start chain count obeys is_chain as_long =
-    let told = claim_told instance None start no_worker chain in record {
-      free = no_fault instance None start no_worker chain count obeys is_chain (λ k none. absurd (cc))
-          (no_workers (work_of_instance instance) (start_in told) (worker_in told.plan) (tells_worker instance None start no_worker chain));
-      found = as_long ∙ same_length (work_of_instance instance) start (start_in told) (tells_back instance None start no_worker chain);
-    }
+    let told = claim_told instance None start no_worker chain in
+    found_short told instance.trace.version refl
+    (no_fault instance None start no_worker chain count obeys is_chain (λ k none. absurd (cc))
+    (no_workers (work_of_instance instance) (start_in told) (worker_in told.plan) (tells_worker instance None start no_worker chain)))
+    (as_long ∙ same_length (work_of_instance instance) start (start_in told) (tells_back instance None start no_worker chain))
 
 pub own_plan_is_within_bound : (instance : Instance) (k : ℕ) (start : ℕ → ℕ)
     (worker : ℕ → Option ℕ) (chain : List ℕ) → OwnPlanIsWithinBound instance k start worker chain
@@ -164,8 +269,8 @@ own_plan_is_within_bound instance k start worker chain count plan manned is_chai
     (right_workers all start (start_in told) worker (worker_in told.plan) k same (tells_worker instance (Some k) start worker chain) manned) in
     let kept = subst (λ n. k * n ≤ right_side all k chain) (same_length all start (start_in told) (tells_back instance (Some k) start worker chain)) bound in
     elim (cases_eq (chain_release all chain + chain_cost all chain) (length_of all (start_in told))) [
-      | inl as_long ↦ inl (record { free = good; found = as_long })
-      | inr shorter ↦ inr (record { free = not_shortest told good shorter; found = (k, refl, kept) })
+      | inl as_long ↦ inl (found_short told instance.trace.version refl good as_long)
+      | inr shorter ↦ found_within told instance.trace.version refl good shorter (k, refl, kept)
     ]
   where
     some_is : (k j : ℕ) → Some k ≡ Some j → k ≡ j

@@ -1,11 +1,11 @@
 -- A given plan has one verdict: faults of two kinds exclude each other, and each kind picks the least.
 use Rattle.std.proofs.Common.{◌≡◌, ℕ, ◌<◌, ◌≤◌, inl, inr, refl, arith, sym, ap, subst}
 use Rattle.std.proofs.lemmas.Bool.{cases_order}
-use Rattle.waff_plan.specs.Work.{Work}
-use Rattle.waff_check.specs.Faults.{IsFirstOverlap, IsLeastOf, Overlaps}
+use Rattle.waff_assign.specs.Order.{Relation}
+use Rattle.waff_check.specs.Faults.{IsFirstPair, IsLeastOf}
 use Rattle.waff_check.specs.Unique.{VerdictIsOne}
-use Rattle.waff_check.specs.Verdicts.{Claim, FinishIsWrong, IsFound, IsFreeOf, IsVerdict, LinkIsBroken, NameIsWrong, StartIsEarly, TickIsCrowded, WorkerIsWrong}
-use Rattle.waff_check.specs.Verdicts.{before_of, stage, start_in, work_of_claim}
+use Rattle.waff_check.specs.Verdicts.{Claim, FinishIsWrong, IsFound, IsFreeOf, IsVerdict, LinkIsBroken, NameIsWrong, PairOverlaps, StartIsEarly, StartIsUnissued, TickIsCrowded, WorkerIsWrong}
+use Rattle.waff_check.specs.Verdicts.{stage}
 use Rattle.waff_check.specs.declared.verdict.Verdict.{Verdict}
 use Rattle.waff_check.specs.declared.verdict.Verdict.TheVariants as verdict
 
@@ -18,8 +18,10 @@ found-or-free claim (verdict.Affinity message) found free = free found.holds
 found-or-free claim (verdict.Finish message) found free = free found.holds
 found-or-free claim (verdict.NotAChain place) found free = found.holds.broken (free found.holds.from found.holds.to)
 found-or-free claim (verdict.Early message) found free = free found.holds
+found-or-free claim (verdict.Client message) found free = free found.holds
 found-or-free claim verdict.Totals found free = found free
 found-or-free claim verdict.Shortest found free = free found
+found-or-free claim verdict.Tight found free = free found
 found-or-free claim verdict.WithinBound found free = free found
 found-or-free claim verdict.Obeys found free = free
 
@@ -40,27 +42,24 @@ one_least P n m first second =
     let above : m ≤ n = second.least n first.holds in
     omega arith
 
--- the first overlap is one
-one_first : (before : ℕ → ℕ → Type 0) (work : Work) (start : ℕ → ℕ) (i j n m : ℕ) → IsFirstOverlap before work start i j
-    → IsFirstOverlap before work start n m → i ≡ n
-one_first before work start i j n m one other =
+-- the first pair is one
+one_first : (Pair : Relation) (i j n m : ℕ) → IsFirstPair Pair i j → IsFirstPair Pair n m → i ≡ n
+one_first Pair i j n m one other =
     let below : i ≤ n = one.least_first n m other.least_second.holds in
     let above : n ≤ i = other.least_first i j one.least_second.holds in
     omega arith
 
-one_overlap : (before : ℕ → ℕ → Type 0) (work : Work) (start : ℕ → ℕ) (i j n m : ℕ) → IsFirstOverlap before work start i j
-    → IsFirstOverlap before work start n m → (i ≡ n) × (j ≡ m)
-one_overlap before work start i j n m one other =
-    let first = one_first before work start i j n m one other in (
+one_pair : (Pair : Relation) (i j n m : ℕ) → IsFirstPair Pair i j → IsFirstPair Pair n m → (i ≡ n) × (j ≡ m)
+one_pair Pair i j n m one other =
+    let first = one_first Pair i j n m one other in (
       first,
-      one_least (Overlaps before work start i) j m one.least_second
-          (subst (λ x. IsLeastOf (Overlaps before work start x) m) (sym first) other.least_second),
+      one_least (Pair i) j m one.least_second (subst (λ x. IsLeastOf (Pair x) m) (sym first) other.least_second),
     )
 
 -- of one stage there is one verdict
 of-stage : (claim : Claim) (v w : Verdict) → IsFound claim v → IsFound claim w → stage v ≡ stage w → v ≡ w
 of-stage claim (verdict.Overlap i j) (verdict.Overlap n m) one other same =
-    let e = one_overlap (before_of claim) (work_of_claim claim) (start_in claim) i j n m one other in cc (e.0, e.1)
+    let e = one_pair (PairOverlaps claim) i j n m one other in cc (e.0, e.1)
 of-stage claim (verdict.TooManyAt n) (verdict.TooManyAt m) one other same = ap verdict.TooManyAt (one_least (TickIsCrowded claim) n m one other)
 of-stage claim (verdict.Worker n) (verdict.Worker m) one other same = ap verdict.Worker (one_least (WorkerIsWrong claim) n m one other)
 of-stage claim (verdict.Affinity n) (verdict.Affinity m) one other same = ap verdict.Affinity (one_least (NameIsWrong claim) n m one other)
@@ -68,7 +67,9 @@ of-stage claim (verdict.Finish n) (verdict.Finish m) one other same = ap verdict
 of-stage claim verdict.Totals verdict.Totals one other same = refl
 of-stage claim (verdict.NotAChain n) (verdict.NotAChain m) one other same = ap verdict.NotAChain (one_least (LinkIsBroken claim) n m one other)
 of-stage claim (verdict.Early n) (verdict.Early m) one other same = ap verdict.Early (one_least (StartIsEarly claim) n m one other)
+of-stage claim (verdict.Client n) (verdict.Client m) one other same = ap verdict.Client (one_least (StartIsUnissued claim) n m one other)
 of-stage claim verdict.Shortest verdict.Shortest one other same = refl
+of-stage claim verdict.Tight verdict.Tight one other same = refl
 of-stage claim verdict.WithinBound verdict.WithinBound one other same = refl
 of-stage claim verdict.Obeys verdict.Obeys one other same = refl
 of-stage claim _ _ one other same = absurd (omega arith)

@@ -1,10 +1,14 @@
 -- What may be wrong with a plan that is given: one definition a fault. `before i j` says that
--- message j starts only when message i has finished.
-use Rattle.std.specs.Prelude.{◌≡◌, ◌≢◌, ◌⊎◌, ℕ, ◌-◌, ◌<◌, ◌≤◌, true, List, length, slice_index}
+-- message j starts only when message i has finished, and `link i j` that a chain may go from i to j.
+use Rattle.std.specs.Prelude.{◌≡◌, ◌≢◌, ◌⊎◌, ℕ, ◌+◌, ◌-◌, ◌<◌, ◌≤◌, List, length, slice_index}
 use Rattle.std.specs.Prelude.{Option, Some, None}
+use Rattle.waff_model.specs.declared.message.Version.{Version}
+use Rattle.waff_model.specs.declared.message.Version.TheVariants.{V1, V2, V3}
 use Rattle.waff_assign.specs.Order.{Relation}
 use Rattle.waff_plan.specs.Work.{Work, IsNumber, finish_of}
-use Rattle.waff_plan.specs.Workers.{running, runs_at}
+pub use Rattle.waff_plan.specs.Apart.{RunTogether}
+use Rattle.waff_plan.specs.Apart.{Collides}
+use Rattle.waff_plan.specs.Workers.{running}
 use Rattle.waff_plan.specs.Totals.{totals_of}
 use Rattle.waff_plan_text.specs.Given.{SummaryLines}
 
@@ -22,21 +26,22 @@ pub record Overlaps (before : Relation) (work : Work) (start : ℕ → ℕ) (i j
   pub ordered : before i j
   pub early : start j < finish_of work start i
 
+-- a pair that overlaps: in the first two versions the second message starts too early, in the third
+-- both run at a common tick
+abbrev pub OverlapsIn : Version → Relation → Work → (ℕ → ℕ) → Relation
+OverlapsIn V1 before work start = Overlaps before work start
+OverlapsIn V2 before work start = Overlaps before work start
+OverlapsIn V3 before work start = Collides before work start
+
 -- the least first message of such a pair, and the least second message with it
-pub record IsFirstOverlap (before : Relation) (work : Work) (start : ℕ → ℕ)
-    (first second : ℕ) : Type 0 where
-  pub least_second : IsLeastOf (Overlaps before work start first) second
-  pub least_first : (i j : ℕ) → Overlaps before work start i j → first ≤ i
+pub record IsFirstPair (Pair : Relation) (first second : ℕ) : Type 0 where
+  pub least_second : IsLeastOf (Pair first) second
+  pub least_first : (i j : ℕ) → Pair i j → first ≤ i
 
 -- more messages run at the tick t than there are workers
 abbrev pub IsCrowded : Work → (ℕ → ℕ) → Option ℕ → ℕ → Type 0
 IsCrowded work start None t = ⊥
 IsCrowded work start (Some k) t = k < running work start t
-
--- two messages run at a common tick
-abbrev pub RunTogether : Work → (ℕ → ℕ) → ℕ → ℕ → Type 0
-RunTogether work start i j =
-    (t : ℕ) × (runs_at work start t i ≡ true) × (runs_at work start t j ≡ true)
 
 -- message i, of a lower number than n, has the worker w and runs at a tick at which n runs
 pub record IsTaken (work : Work) (start : ℕ → ℕ) (worker : ℕ → Option ℕ) (w n i : ℕ) : Type 0 where
@@ -78,6 +83,14 @@ pub record StartsEarly (work : Work) (start : ℕ → ℕ) (n : ℕ) : Type 0 wh
   pub number : IsNumber work n
   pub early : start n < work.release n
 
+-- a message that starts before its client issues it: sooner than its think time after the finish of
+-- the message that it follows
+pub record StartsUnissued (work : Work) (start : ℕ → ℕ) (n : ℕ) : Type 0 where
+  pub number : IsNumber work n
+  pub followed : ℕ
+  pub follows : work.follows n ≡ Some followed
+  pub early : start n < finish_of work start followed + work.think n
+
 -- the totals of a summary are those of the trace, the starts and the chain; where all releases are
 -- 0, as in a trace of the first version, the release is 0
 abbrev pub HasTotals : Work → (ℕ → ℕ) → SummaryLines → Type 0
@@ -87,18 +100,18 @@ HasTotals work start summary = summary.totals ≡ totals_of summary.workers work
 abbrev pub link_at : List ℕ → ℕ → ℕ
 link_at chain place = slice_index chain (place - 1)
 
--- at this place of a chain, from 2 on, stands a message that is no ordered pair with the one before
--- it
-pub record IsBroken (before : Relation) (chain : List ℕ) (place : ℕ) : Type 0 where
+-- at this place of a chain, from 2 on, stands a message to which no link goes from the one
+-- before it
+pub record IsBroken (link : Relation) (chain : List ℕ) (place : ℕ) : Type 0 where
   pub from : 2 ≤ place
   pub to : place ≤ length chain
-  pub broken : before (link_at chain (place - 1)) (link_at chain place) → ⊥
+  pub broken : link (link_at chain (place - 1)) (link_at chain place) → ⊥
 
--- the message at this place of a chain and the one before it are an ordered pair
+-- a link goes to the message at this place of a chain from the one before it
 abbrev pub IsLinkedAt : Relation → List ℕ → ℕ → Type 0
-IsLinkedAt before chain place =
-    2 ≤ place → place ≤ length chain → before (link_at chain (place - 1)) (link_at chain place)
+IsLinkedAt link chain place =
+    2 ≤ place → place ≤ length chain → link (link_at chain (place - 1)) (link_at chain place)
 
--- each message of a chain and the next one are an ordered pair
+-- a link goes from each message of a chain to the next one
 abbrev pub AreLinked : Relation → List ℕ → Type 0
-AreLinked before chain = (place : ℕ) → IsLinkedAt before chain place
+AreLinked link chain = (place : ℕ) → IsLinkedAt link chain place

@@ -1,9 +1,11 @@
 -- The verdicts on plans that tell what they are.
 use Rattle.std.specs.Prelude.{◌≡◌, ℕ, ◌+◌, ◌⊎◌, List, length, Option, Some, None}
-use Rattle.waff_assign.specs.Instance.{Instance, before_in}
+use Rattle.waff_model.specs.declared.message.Version.{Version}
+use Rattle.waff_model.specs.declared.message.Version.TheVariants.{V1, V2, V3}
+use Rattle.waff_assign.specs.Instance.{Instance}
 use Rattle.waff_plan.specs.Bound.{IsWithinBound}
 use Rattle.waff_plan.specs.Chain.{IsChain, chain_cost, chain_release}
-use Rattle.waff_plan.specs.Instances.{work_of_instance}
+use Rattle.waff_plan.specs.Instances.{served_first, started_first, work_of_instance}
 use Rattle.waff_plan.specs.Obeys.{Obeys}
 use Rattle.waff_plan.specs.Work.{length_of}
 use Rattle.waff_plan.specs.Workers.{IsWorkerPlan}
@@ -19,25 +21,31 @@ claim_told instance workers start worker chain =
     claim_of instance (plan_told instance.trace.version instance.tree instance.assigned
     (work_of_instance instance) workers start worker chain)
 
--- an obeying plan without workers, with a chain whose release and cost are its length, is found
--- shortest
+-- a plan is found as short as it can be: shortest, or in the third version tight
+abbrev pub IsFoundShort : Version → Claim → Type 0
+IsFoundShort V1 claim = IsVerdict claim verdict.Shortest
+IsFoundShort V2 claim = IsVerdict claim verdict.Shortest
+IsFoundShort V3 claim = IsVerdict claim verdict.Shortest ⊎ IsVerdict claim verdict.Tight
+
+-- a plan without workers that obeys the order of its version, with a chain whose release and cost are
+-- its length, is found as short as it can be
 abbrev pub OwnPlanIsShortest : Instance → (ℕ → ℕ) → List ℕ → Type 0
 OwnPlanIsShortest instance start chain =
     length instance.assigned ≡ length instance.trace.messages
-    → Obeys (before_in instance) (work_of_instance instance) start
-    → IsChain (before_in instance) (work_of_instance instance) chain
+    → Obeys (served_first instance start) (work_of_instance instance) start
+    → IsChain (started_first instance start) (work_of_instance instance) chain
     → chain_release (work_of_instance instance) chain + chain_cost (work_of_instance instance) chain
     ≡ length_of (work_of_instance instance) start
-    → IsVerdict (claim_told instance None start no_worker chain) verdict.Shortest
+    → IsFoundShort instance.trace.version (claim_told instance None start no_worker chain)
 
--- a worker plan for k with its workers, within the bound by a chain, is found shortest or within
--- the bound
+-- a worker plan for k with its workers, within the bound by a chain, is found as short as it can be or
+-- within the bound
 abbrev pub OwnPlanIsWithinBound : Instance → ℕ → (ℕ → ℕ) → (ℕ → Option ℕ) → List ℕ → Type 0
 OwnPlanIsWithinBound instance k start worker chain =
     length instance.assigned ≡ length instance.trace.messages
-    → IsWorkerPlan (before_in instance) (work_of_instance instance) k start
+    → IsWorkerPlan (served_first instance start) (work_of_instance instance) k start
     → AreOneAtATime (work_of_instance instance) start worker k
-    → IsChain (before_in instance) (work_of_instance instance) chain
+    → IsChain (started_first instance start) (work_of_instance instance) chain
     → IsWithinBound (work_of_instance instance) k start chain
-    → IsVerdict (claim_told instance (Some k) start worker chain) verdict.Shortest
+    → IsFoundShort instance.trace.version (claim_told instance (Some k) start worker chain)
     ⊎ IsVerdict (claim_told instance (Some k) start worker chain) verdict.WithinBound

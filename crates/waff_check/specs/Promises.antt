@@ -1,14 +1,19 @@
 -- What a verdict without a fault implies.
-use Rattle.std.specs.Prelude.{◌≡◌, ℕ, ◌<◌, ◌≤◌, Option, Some}
+use Rattle.std.specs.Prelude.{◌≡◌, ◌↔◌, ℕ, ◌<◌, ◌≤◌, Option, Some}
+use Rattle.waff_model.specs.declared.message.Version.{Version}
+use Rattle.waff_model.specs.declared.message.Version.TheVariants.{V1, V2, V3}
+use Rattle.waff_plan.specs.Apart.{AreApart}
 use Rattle.waff_plan.specs.Bound.{IsWithinBound, IsWithinTwice, IsWithinRatio}
 use Rattle.waff_plan.specs.Chain.{IsChain}
+use Rattle.waff_plan.specs.LowerBound.{ObeysInSomeOrder}
 use Rattle.waff_plan.specs.Obeys.{Obeys}
+use Rattle.waff_plan.specs.ServesAs.{ServesAs}
 use Rattle.waff_plan.specs.Work.{IsNumber, Work, length_of}
 use Rattle.waff_plan.specs.Workers.{IsWorkerPlan}
 use Rattle.waff_check.specs.Faults.{RunTogether}
 use Rattle.waff_check.specs.Shifts.{IsOneOf}
-use Rattle.waff_check.specs.Verdicts.{Claim, before_of, chain_in, start_in, work_of_claim}
-use Rattle.waff_check.specs.Verdicts.{worker_in, workers_in}
+use Rattle.waff_check.specs.Verdicts.{Claim, before_of, chain_in, pairs_of_claim, start_in}
+use Rattle.waff_check.specs.Verdicts.{version_of, work_of_claim, worker_in, workers_in}
 use Rattle.waff_check.specs.declared.verdict.Verdict.{Verdict}
 use Rattle.waff_check.specs.declared.verdict.Verdict.TheVariants as verdict
 
@@ -16,6 +21,7 @@ use Rattle.waff_check.specs.declared.verdict.Verdict.TheVariants as verdict
 abbrev pub Accepts : Verdict → Type 0
 Accepts verdict.Obeys = Unit {0}
 Accepts verdict.Shortest = Unit {0}
+Accepts verdict.Tight = Unit {0}
 Accepts verdict.WithinBound = Unit {0}
 Accepts _ = ⊥
 
@@ -26,25 +32,48 @@ pub record AreOneAtATime (work : Work) (start : ℕ → ℕ)
   pub apart : (i j w : ℕ) → IsNumber work i → IsNumber work j
       → i < j → worker i ≡ Some w → worker j ≡ Some w → RunTogether work start i j → ⊥
 
+-- the plans none of which is shorter than a shortest one: in the first two versions those that obey the
+-- order of the trace, in the third those that obey in whatever order, for as many workers
+abbrev pub IsRivalIn : Version → Claim → (ℕ → ℕ) → Type 0
+IsRivalIn V1 claim other = Obeys (pairs_of_claim claim) (work_of_claim claim) other
+IsRivalIn V2 claim other = Obeys (pairs_of_claim claim) (work_of_claim claim) other
+IsRivalIn V3 claim other =
+    ObeysInSomeOrder claim.instance.tree claim.instance.assigned (work_of_claim claim)
+    (workers_in claim) other
+
+abbrev pub IsRival : Claim → (ℕ → ℕ) → Type 0
+IsRival claim other = IsRivalIn (version_of claim) claim other
+
+-- the plans that serve as this one does
+abbrev pub ServesAlike : Claim → (ℕ → ℕ) → Type 0
+ServesAlike claim other =
+    ServesAs claim.instance.tree claim.instance.assigned (work_of_claim claim) (start_in claim) other
+
 -- within a bound for k workers, by this chain: so within twice the length of every worker plan for
--- k, and within 2k - 1 parts of k where all releases are 0
+-- k that serves in the same order, and within 2k - 1 parts of k where all releases are 0
 pub record IsWithin (claim : Claim) (k : ℕ) : Type 0 where
   pub workers : workers_in claim ≡ Some k
   pub bound : IsWithinBound (work_of_claim claim) k (start_in claim) (chain_in claim)
   pub twice : IsWithinTwice (before_of claim) (work_of_claim claim) k (start_in claim)
   pub ratio : IsWithinRatio (before_of claim) (work_of_claim claim) k (start_in claim)
 
--- where no fault is told: the starts obey; with k workers they are a worker plan for k, and the
--- messages run on the workers one at a time; and the chain of the text is a chain. Of a shortest
--- plan, no obeying plan is shorter; of one within the bound, the bound
+-- where no fault is told: the starts obey the order of the plan, and no two messages that exclude each
+-- other run at a common tick; the plans that serve as it does are those that obey its order; with k
+-- workers they are a worker plan for k, and the messages run on the workers one at a time; and the
+-- chain of the text is a chain. Of a shortest plan, no plan that obeys is shorter; of a tight one, none
+-- that serves as it does; of one within the bound, the bound
 pub record Promises (claim : Claim) (v : Verdict) : Type 0 where
   pub obeys : Accepts v → Obeys (before_of claim) (work_of_claim claim) (start_in claim)
+  pub apart : Accepts v → AreApart (pairs_of_claim claim) (work_of_claim claim) (start_in claim)
+  pub serves : Accepts v → (other : ℕ → ℕ)
+      → ServesAlike claim other ↔ Obeys (before_of claim) (work_of_claim claim) other
   pub worker_plan : Accepts v → (k : ℕ) → workers_in claim ≡ Some k
       → IsWorkerPlan (before_of claim) (work_of_claim claim) k (start_in claim)
   pub one_at_a_time : Accepts v → (k : ℕ) → workers_in claim ≡ Some k
       → AreOneAtATime (work_of_claim claim) (start_in claim) (worker_in claim.plan) k
   pub chain : Accepts v → IsChain (before_of claim) (work_of_claim claim) (chain_in claim)
-  pub shortest : v ≡ verdict.Shortest → (other : ℕ → ℕ)
-      → Obeys (before_of claim) (work_of_claim claim) other
+  pub shortest : v ≡ verdict.Shortest → (other : ℕ → ℕ) → IsRival claim other
+      → length_of (work_of_claim claim) (start_in claim) ≤ length_of (work_of_claim claim) other
+  pub tight : v ≡ verdict.Tight → (other : ℕ → ℕ) → ServesAlike claim other
       → length_of (work_of_claim claim) (start_in claim) ≤ length_of (work_of_claim claim) other
   pub bound : v ≡ verdict.WithinBound → (k : ℕ) × IsWithin claim k

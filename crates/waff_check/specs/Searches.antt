@@ -1,9 +1,43 @@
--- The search for the first overlap, place by place.
+-- The search for the first overlap, place by place, and for a link that is none.
 use Rattle.std.specs.Prelude.{ℕ, ◌+◌, ◌<◌, ◌≤◌, Option, Some, None}
 use Rattle.waff_model.specs.declared.limits.TheConstants.{MAX_MESSAGES}
-use Rattle.waff_plan.specs.Planned.{planned_pairs, planned_starts, planned_work}
+use Rattle.waff_model.specs.declared.message.Version.{Version}
+use Rattle.waff_model.specs.declared.message.Version.TheVariants.{V1, V2, V3}
+use Rattle.waff_assign.specs.Case.{instance_of, pairs_of}
+use Rattle.waff_assign.specs.Order.{Relation}
+use Rattle.waff_plan.specs.Obeys.{IsLinked}
+use Rattle.waff_plan.specs.Instances.{started_first}
+use Rattle.waff_plan.specs.Planned.{planned_starts, planned_work}
+use Rattle.waff_plan.specs.Work.{Work, finish_of}
 use Rattle.waff_plan.specs.declared.planned.Planned.{Planned}
-use Rattle.waff_check.specs.Faults.{Overlaps}
+use Rattle.waff_check.specs.Faults.{OverlapsIn, RunTogether}
+
+-- two messages are at odds, if they exclude each other: in the first two versions the second starts
+-- before the first has finished, in the third both run at a common tick
+abbrev pub AreAtOddsIn : Version → Work → (ℕ → ℕ) → Relation
+AreAtOddsIn V1 work start i j = start j < finish_of work start i
+AreAtOddsIn V2 work start i j = start j < finish_of work start i
+AreAtOddsIn V3 work start i j = RunTogether work start i j
+
+-- the version of the trace, and the pairs that overlap
+abbrev pub version_in : Planned → Version
+version_in planned = planned.case.trace.now.version
+
+abbrev pub planned_overlaps : Planned → Relation
+planned_overlaps planned =
+    OverlapsIn (version_in planned) (pairs_of planned.case) (planned_work planned)
+    (planned_starts planned)
+
+-- none of the first messages, of which there are `count`, overlaps with a later one
+abbrev pub NoneAmong : Planned → ℕ → Type 0
+NoneAmong planned count = (i j : ℕ) → i ≤ count → planned_overlaps planned i j → ⊥
+
+-- what the plan serves before what, and from which message to which a chain may go
+abbrev pub planned_before : Planned → Relation
+planned_before planned = started_first (instance_of planned.case) (planned_starts planned)
+
+abbrev pub planned_links : Planned → Relation
+planned_links planned = IsLinked (planned_before planned) (planned_work planned)
 
 -- i is the place, from 0, of one of the messages, of which there are at most MAX_MESSAGES
 pub record IsSearchable (planned : Planned) (i : ℕ) : Type 0 where
@@ -12,8 +46,7 @@ pub record IsSearchable (planned : Planned) (i : ℕ) : Type 0 where
 
 -- the message at the place i, from 0, overlaps with another one
 abbrev pub HasOverlap : Planned → ℕ → Type 0
-HasOverlap planned i = (j : ℕ)
-    × Overlaps (planned_pairs planned) (planned_work planned) (planned_starts planned) (i + 1) j
+HasOverlap planned i = (j : ℕ) × planned_overlaps planned (i + 1) j
 
 -- the first of n places at which P holds, if there is one
 abbrev pub IsFirstPlace : (ℕ → Type 0) → ℕ → Option ℕ → Type 0

@@ -1,16 +1,20 @@
 -- The verdict on a plan that is given: the first fault, or else how good the plan is.
 use Rattle.std.specs.Prelude.{◌≡◌, ℕ, ◌+◌, ◌<◌, List, length, map, All, Option, Some}
+use Rattle.waff_model.specs.declared.message.Version.{Version}
+use Rattle.waff_model.specs.declared.message.Version.TheVariants.{V1, V2, V3}
 use Rattle.waff_assign.specs.Instance.{Instance, before_in}
 use Rattle.waff_assign.specs.Order.{Relation, affinity_name}
 use Rattle.waff_plan.specs.Bound.{IsWithinBound}
 use Rattle.waff_plan.specs.Chain.{chain_cost, chain_release}
-use Rattle.waff_plan.specs.Instances.{work_of_instance}
+use Rattle.waff_plan.specs.Instances.{started_first, work_of_instance}
+use Rattle.waff_plan.specs.LowerBound.{lower_bound_of}
+use Rattle.waff_plan.specs.Obeys.{IsLinked}
 use Rattle.waff_plan.specs.Timing.{start_of}
 use Rattle.waff_plan.specs.Work.{Work, length_of}
 use Rattle.waff_plan_text.specs.Given.{Given, row_at}
 use Rattle.waff_check.specs.Faults.{HasTotals, HasWrongFinish, HasWrongName, HasWrongWorker}
-use Rattle.waff_check.specs.Faults.{IsBroken, IsCrowded, IsFirstOverlap, IsLeastOf, IsLinkedAt}
-use Rattle.waff_check.specs.Faults.{Overlaps, StartsEarly}
+use Rattle.waff_check.specs.Faults.{IsBroken, IsCrowded, IsFirstPair, IsLeastOf, IsLinkedAt}
+use Rattle.waff_check.specs.Faults.{OverlapsIn, StartsEarly, StartsUnissued}
 use Rattle.waff_check.specs.declared.verdict.Verdict.{Verdict}
 use Rattle.waff_check.specs.declared.verdict.Verdict.TheVariants as verdict
 
@@ -28,9 +32,9 @@ pub record IsClaim (claim : Claim) : Type 0 where
   pub rows : length claim.plan.rows ≡ length claim.instance.trace.messages
   pub known : All (λ a. a < length claim.instance.tree) claim.instance.assigned
 
--- the ordered pairs, the work and the starts
-abbrev pub before_of : Claim → Relation
-before_of claim = before_in claim.instance
+-- the version, the work and the starts
+abbrev pub version_of : Claim → Version
+version_of claim = claim.instance.trace.version
 
 abbrev pub work_of_claim : Claim → Work
 work_of_claim claim = work_of_instance claim.instance
@@ -40,6 +44,17 @@ starts_of plan = map (λ row. row.start) plan.rows
 
 abbrev pub start_in : Claim → ℕ → ℕ
 start_in claim = start_of (starts_of claim.plan)
+
+-- the messages that exclude each other, the one that comes first in the trace before the other
+abbrev pub pairs_of_claim : Claim → Relation
+pairs_of_claim claim = before_in claim.instance
+
+-- the order in which the plan serves them, and from which message to which a chain may go
+abbrev pub before_of : Claim → Relation
+before_of claim = started_first claim.instance (start_in claim)
+
+abbrev pub links_of : Claim → Relation
+links_of claim = IsLinked (before_of claim) (work_of_claim claim)
 
 -- the number of workers, and the chain
 abbrev pub workers_in : Claim → Option ℕ
@@ -60,7 +75,8 @@ told_finish plan n = (row_at plan.rows n).finish
 
 -- the faults
 abbrev pub PairOverlaps : Claim → Relation
-PairOverlaps claim = Overlaps (before_of claim) (work_of_claim claim) (start_in claim)
+PairOverlaps claim =
+    OverlapsIn (version_of claim) (pairs_of_claim claim) (work_of_claim claim) (start_in claim)
 
 abbrev pub TickIsCrowded : Claim → ℕ → Type 0
 TickIsCrowded claim = IsCrowded (work_of_claim claim) (start_in claim) (workers_in claim)
@@ -81,10 +97,13 @@ abbrev pub SumsAreRight : Claim → Type 0
 SumsAreRight claim = HasTotals (work_of_claim claim) (start_in claim) claim.plan.summary
 
 abbrev pub LinkIsBroken : Claim → ℕ → Type 0
-LinkIsBroken claim = IsBroken (before_of claim) (chain_in claim)
+LinkIsBroken claim = IsBroken (links_of claim) (chain_in claim)
 
 abbrev pub StartIsEarly : Claim → ℕ → Type 0
 StartIsEarly claim = StartsEarly (work_of_claim claim) (start_in claim)
+
+abbrev pub StartIsUnissued : Claim → ℕ → Type 0
+StartIsUnissued claim = StartsUnissued (work_of_claim claim) (start_in claim)
 
 -- the release and the cost of the chain are the length
 abbrev pub ReachesLength : Claim → Type 0
@@ -92,6 +111,23 @@ ReachesLength claim =
     chain_release (work_of_claim claim) (chain_in claim)
     + chain_cost (work_of_claim claim) (chain_in claim)
     ≡ length_of (work_of_claim claim) (start_in claim)
+
+-- the length below which no plan obeys, in whatever order
+abbrev pub lower_bound_in : Claim → ℕ
+lower_bound_in claim =
+    lower_bound_of (workers_in claim) claim.instance.tree claim.instance.assigned
+    (work_of_claim claim)
+
+-- the length is the least that any plan may have: in the first two versions by the chain, in the third
+-- by what every plan needs, in whatever order it serves
+abbrev pub IsShortIn : Version → Claim → Type 0
+IsShortIn V1 claim = ReachesLength claim
+IsShortIn V2 claim = ReachesLength claim
+IsShortIn V3 claim =
+    length_of (work_of_claim claim) (start_in claim) ≡ lower_bound_in claim
+
+abbrev pub IsShort : Claim → Type 0
+IsShort claim = IsShortIn (version_of claim) claim
 
 -- with workers, the length is within the bound for as many, by the chain
 abbrev pub KeepsBound : Claim → Type 0
@@ -110,9 +146,11 @@ stage (verdict.Finish message) = 4
 stage verdict.Totals = 5
 stage (verdict.NotAChain place) = 6
 stage (verdict.Early message) = 7
-stage verdict.Shortest = 8
-stage verdict.WithinBound = 9
-stage verdict.Obeys = 10
+stage (verdict.Client message) = 8
+stage verdict.Shortest = 9
+stage verdict.Tight = 10
+stage verdict.WithinBound = 11
+stage verdict.Obeys = 12
 
 -- what a verdict tells does not hold of the plan
 abbrev pub IsFreeOf : Claim → Verdict → Type 0
@@ -122,16 +160,17 @@ IsFreeOf claim (verdict.Worker message) = WorkerIsWrong claim message → ⊥
 IsFreeOf claim (verdict.Affinity message) = NameIsWrong claim message → ⊥
 IsFreeOf claim (verdict.Finish message) = FinishIsWrong claim message → ⊥
 IsFreeOf claim verdict.Totals = SumsAreRight claim
-IsFreeOf claim (verdict.NotAChain place) = IsLinkedAt (before_of claim) (chain_in claim) place
+IsFreeOf claim (verdict.NotAChain place) = IsLinkedAt (links_of claim) (chain_in claim) place
 IsFreeOf claim (verdict.Early message) = StartIsEarly claim message → ⊥
-IsFreeOf claim verdict.Shortest = ReachesLength claim → ⊥
+IsFreeOf claim (verdict.Client message) = StartIsUnissued claim message → ⊥
+IsFreeOf claim verdict.Shortest = IsShort claim → ⊥
+IsFreeOf claim verdict.Tight = ReachesLength claim → ⊥
 IsFreeOf claim verdict.WithinBound = KeepsBound claim → ⊥
 IsFreeOf claim verdict.Obeys = ⊥
 
 -- what a verdict tells holds, and of its kind it is the first
 abbrev pub IsFound : Claim → Verdict → Type 0
-IsFound claim (verdict.Overlap first second) =
-    IsFirstOverlap (before_of claim) (work_of_claim claim) (start_in claim) first second
+IsFound claim (verdict.Overlap first second) = IsFirstPair (PairOverlaps claim) first second
 IsFound claim (verdict.TooManyAt tick) = IsLeastOf (TickIsCrowded claim) tick
 IsFound claim (verdict.Worker message) = IsLeastOf (WorkerIsWrong claim) message
 IsFound claim (verdict.Affinity message) = IsLeastOf (NameIsWrong claim) message
@@ -139,7 +178,9 @@ IsFound claim (verdict.Finish message) = IsLeastOf (FinishIsWrong claim) message
 IsFound claim verdict.Totals = SumsAreRight claim → ⊥
 IsFound claim (verdict.NotAChain place) = IsLeastOf (LinkIsBroken claim) place
 IsFound claim (verdict.Early message) = IsLeastOf (StartIsEarly claim) message
-IsFound claim verdict.Shortest = ReachesLength claim
+IsFound claim (verdict.Client message) = IsLeastOf (StartIsUnissued claim) message
+IsFound claim verdict.Shortest = IsShort claim
+IsFound claim verdict.Tight = ReachesLength claim
 IsFound claim verdict.WithinBound = KeepsBound claim
 IsFound claim verdict.Obeys = Unit {0}
 
@@ -147,7 +188,7 @@ IsFound claim verdict.Obeys = Unit {0}
 abbrev pub IsFreeBelow : Claim → ℕ → Type 0
 IsFreeBelow claim n = (v : Verdict) → stage v < n → IsFreeOf claim v
 
--- no ordered pair overlaps, no tick is crowded, and each message has a right worker
+-- no pair overlaps, no tick is crowded, and each message has a right worker
 abbrev pub IsManned : Claim → Type 0
 IsManned claim = IsFreeBelow claim (stage (verdict.Affinity 0))
 
@@ -155,7 +196,7 @@ IsManned claim = IsFreeBelow claim (stage (verdict.Affinity 0))
 abbrev pub IsSummed : Claim → Type 0
 IsSummed claim = IsFreeBelow claim (stage (verdict.NotAChain 0))
 
--- and the chain is one, and no start is early: no fault is left
+-- and the chain is one, and each message is issued when it starts: no fault is left
 abbrev pub IsFaultless : Claim → Type 0
 IsFaultless claim = IsFreeBelow claim (stage verdict.Shortest)
 

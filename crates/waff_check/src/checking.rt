@@ -1,26 +1,28 @@
 //! The check of a plan that is given.
 
-ghost use Rattle.std.specs.Prelude.{◌≡◌, length, IfOk};
+ghost use Rattle.std.specs.Prelude.{◌≡◌, ◌↔◌, ◌+◌, ◌^◌, ◌<◌, length, IfOk, IsTrue};
 ghost use Rattle.waff_assign.specs.Case.{instance_of};
 ghost use Rattle.waff_check.specs.Claimed.{claim_under, claimed};
 ghost use Rattle.waff_check.specs.Verdicts.{IsClaim, IsFaultless, IsManned, IsSummed, IsVerdict};
-ghost use Rattle.waff_check.specs.Verdicts.{claim_of};
+ghost use Rattle.waff_check.specs.Verdicts.{IsShort, chain_in, claim_of, lower_bound_in, start_in};
+ghost use Rattle.waff_check.specs.Verdicts.{work_of_claim, workers_in};
+ghost use Rattle.waff_plan.specs.Totals.{totals_of};
 ghost use Rattle.waff_check.specs.Promises.{Promises};
 
 use crate::claim::Claim;
 use crate::crowd::crowded;
 use crate::links::broken_link;
 use crate::overlap::first_overlap;
-use crate::told::{early_start, wrong_finish, wrong_name};
+use crate::told::{early_start, unissued_start, wrong_finish, wrong_name};
 use crate::totals::has_totals;
 use crate::verdict::Verdict;
 use crate::worker::wrong_worker;
 use std::alloc::{AllocError, Global};
 use std::thread::Threads;
 use waff_assign::{Assigned, Case};
-use waff_model::{Trace, Tree};
-use waff_plan::Planned;
-use waff_plan::laws::{bound_is_within_ratio, bound_is_within_twice, chains_are_within_length};
+use waff_model::{Trace, Tree, Version};
+use waff_plan::lower_bound::lower_bound;
+use waff_plan::{Planned, Totals};
 use waff_plan_text::GivenPlan;
 
 /// The verdict on a plan that is given for the messages of a trace, whose affinities are assigned:
@@ -41,10 +43,9 @@ pub fn check<R: Threads + Sync>(
     ensures promises { IfOk result
         (Promises (claim_under tree.now assigned.now trace.now given.now)) }
 {
-    chains_are_within_length();
-    bound_is_within_twice();
-    bound_is_within_ratio();
     let _rows = given.len();
+    let _messages = trace.len();
+    let _affinities = tree.len();
     let case = Case {
         tree,
         assigned,
@@ -87,52 +88,90 @@ fn judge<R: Threads + Sync>(rt: &R, alloc: Global, claim: &Claim<'_>) -> Result<
     if let Some(message) = wrong_worker(alloc, claim, workers)? {
         return Ok(Verdict::Worker { message });
     }
-    Ok(judge_manned(claim))
+    judge_manned(alloc, claim)
 }
 
 // The verdict on a plan whose messages keep their order and have right workers.
-fn judge_manned(claim: &Claim<'_>) -> Verdict
+fn judge_manned(alloc: Global, claim: &Claim<'_>) -> Result<Verdict, AllocError>
     requires { IsManned (claimed claim.now) }
-    ensures { IsVerdict (claimed claim.now) result }
+    ensures { IfOk result (IsVerdict (claimed claim.now)) }
 {
     if let Some(message) = wrong_name(claim) {
-        return Verdict::Affinity { message };
+        return Ok(Verdict::Affinity { message });
     }
     if let Some(message) = wrong_finish(claim) {
-        return Verdict::Finish { message };
+        return Ok(Verdict::Finish { message });
     }
     if !has_totals(claim) {
-        return Verdict::Totals;
+        return Ok(Verdict::Totals);
     }
-    judge_summed(claim)
+    judge_summed(alloc, claim)
 }
 
 // The verdict on a plan whose rows and totals are right.
-fn judge_summed(claim: &Claim<'_>) -> Verdict
+fn judge_summed(alloc: Global, claim: &Claim<'_>) -> Result<Verdict, AllocError>
     requires { IsSummed (claimed claim.now) }
-    ensures { IsVerdict (claimed claim.now) result }
+    ensures { IfOk result (IsVerdict (claimed claim.now)) }
 {
-    if let Some(place) = broken_link(&claim.planned.case, claim.given.chain()) {
-        return Verdict::NotAChain { place };
+    if let Some(place) = broken_link(&claim.planned, claim.given.chain()) {
+        return Ok(Verdict::NotAChain { place });
     }
     if let Some(message) = early_start(claim.planned.plan) {
-        return Verdict::Early { message };
+        return Ok(Verdict::Early { message });
     }
-    praise(claim)
+    if let Some(message) = unissued_start(claim.planned.plan) {
+        return Ok(Verdict::Client { message });
+    }
+    praise(alloc, claim)
 }
 
 // How good a plan without a fault is.
-fn praise(claim: &Claim<'_>) -> Verdict
+fn praise(alloc: Global, claim: &Claim<'_>) -> Result<Verdict, AllocError>
     requires { IsFaultless (claimed claim.now) }
-    ensures { IsVerdict (claimed claim.now) result }
+    ensures { IfOk result (IsVerdict (claimed claim.now)) }
 {
     let summary = claim.given.summary();
     let totals = claim.planned.plan.totals(summary.workers, &summary.chain);
-    if totals.release + totals.cost == totals.length {
-        return Verdict::Shortest;
+    if is_short(alloc, claim, &totals)? {
+        return Ok(Verdict::Shortest);
+    }
+    if reaches(&totals) {
+        return Ok(Verdict::Tight);
     }
     if summary.workers.is_some() && totals.left <= totals.right {
-        return Verdict::WithinBound;
+        return Ok(Verdict::WithinBound);
     }
-    Verdict::Obeys
+    Ok(Verdict::Obeys)
+}
+
+// Whether the release and the cost of the chain are the length.
+fn reaches(totals: &Totals) -> bool
+    requires small { totals.now.release + totals.now.cost < 2 ^ 53 }
+    ensures { IsTrue result ↔ (totals.now.release + totals.now.cost ≡ totals.now.length) }
+{
+    totals.release + totals.cost == totals.length
+}
+
+// Whether the length is that below which no plan obeys, in whatever order.
+fn is_least(alloc: Global, claim: &Claim<'_>, length: u64) -> Result<bool, AllocError>
+    ensures { IfOk result (λ least. IsTrue least ↔ (length ≡ lower_bound_in (claimed claim.now))) }
+{
+    let bound = lower_bound(alloc, &claim.planned, claim.given.summary().workers)?;
+    Ok(length == bound)
+}
+
+// Whether the length is the least that any plan may have: in the first two versions that is the
+// release and the cost of the chain.
+fn is_short(alloc: Global, claim: &Claim<'_>, totals: &Totals) -> Result<bool, AllocError>
+    requires totals { totals.now ≡ totals_of (workers_in (claimed claim.now))
+        (work_of_claim (claimed claim.now)) (start_in (claimed claim.now))
+        (chain_in (claimed claim.now)) }
+    requires small { totals.now.release + totals.now.cost < 2 ^ 53 }
+    ensures { IfOk result (λ short. IsTrue short ↔ IsShort (claimed claim.now)) }
+{
+    match claim.planned.case.trace.version() {
+        Version::V1 => Ok(reaches(totals)),
+        Version::V2 => Ok(reaches(totals)),
+        Version::V3 => is_least(alloc, claim, totals.length),
+    }
 }

@@ -1,20 +1,70 @@
 //! The chain of a text.
 
-ghost use Rattle.std.specs.Prelude.{MatchOption, length};
-ghost use Rattle.waff_assign.specs.Case.{pairs_of};
+ghost use Rattle.std.specs.Prelude.{◌≡◌, ◌≤◌, ◌↔◌, IsTrue, MatchOption, Some};
 ghost use Rattle.waff_plan.specs.Chain.{IsListed};
+ghost use Rattle.waff_plan.specs.Planned.{planned_starts, planned_work};
+ghost use Rattle.waff_plan.specs.Serving.{IsStartedBefore};
+ghost use Rattle.waff_plan.specs.Timetable.{work_in};
+ghost use Rattle.waff_plan.specs.Work.{IsNumber};
 ghost use Rattle.waff_check.specs.Faults.{AreLinked, IsBroken, IsLeastOf};
+ghost use Rattle.waff_check.specs.Searches.{planned_before, planned_links};
 
-use waff_assign::{Case, is_ordered};
+use waff_assign::is_ordered;
+use waff_model::Version;
+use waff_plan::{Plan, Planned};
 
-/// The first place of a chain, from 2 on, whose message is no ordered pair with the one before it.
-pub(crate) fn broken_link(case: &Case<'_>, chain: &[u32]) -> Option<u64>
-    requires chain { IsListed (length case.now.assigned.now) chain.now }
-    ensures { MatchOption result (AreLinked (pairs_of case.now) chain.now)
-        (IsLeastOf (IsBroken (pairs_of case.now) chain.now)) }
+// Whether message `i` starts before message `j`, and they exclude each other.
+fn starts_first(planned: &Planned<'_>, i: u32, j: u32) -> bool
+    requires first { IsNumber (planned_work planned.now) i }
+    requires second { IsNumber (planned_work planned.now) j }
+    ensures { IsTrue result ↔ IsStartedBefore planned.now.case.tree.now
+        planned.now.case.assigned.now (planned_starts planned.now) i j }
+{
+    let (tree, assigned) = (planned.case.tree, planned.case.assigned);
+    planned.plan.start(i) < planned.plan.start(j) && tree.excludes(assigned.of(i), assigned.of(j))
+}
+
+// Whether the plan serves message `i` before message `j`: in the first two versions they are an
+// ordered pair, in the third they exclude each other and `i` starts first.
+fn is_before(planned: &Planned<'_>, i: u32, j: u32) -> bool
+    requires first { IsNumber (planned_work planned.now) i }
+    requires second { IsNumber (planned_work planned.now) j }
+    ensures { IsTrue result ↔ planned_before planned.now i j }
+{
+    let case = &planned.case;
+    match case.trace.version() {
+        Version::V1 => is_ordered(case.tree, case.assigned, i, j),
+        Version::V2 => is_ordered(case.tree, case.assigned, i, j),
+        Version::V3 => starts_first(planned, i, j),
+    }
+}
+
+// Whether message `i` is the one that message `j` follows.
+fn is_followed(plan: &Plan, i: u32, j: u32) -> bool
+    requires first { 1 ≤ i }
+    requires second { IsNumber (work_in plan.now) j }
+    ensures { IsTrue result ↔ ((work_in plan.now).follows j ≡ Some i) }
+{
+    plan.follows(j) == i
+}
+
+// Whether a link goes from message `i` to message `j`: `i` is served before `j`, or `j` follows it.
+fn is_linked(planned: &Planned<'_>, i: u32, j: u32) -> bool
+    requires first { IsNumber (planned_work planned.now) i }
+    requires second { IsNumber (planned_work planned.now) j }
+    ensures { IsTrue result ↔ planned_links planned.now i j }
+{
+    is_before(planned, i, j) || is_followed(planned.plan, i, j)
+}
+
+/// The first place of a chain, from 2 on, to whose message no link goes from the one before it.
+pub(crate) fn broken_link(planned: &Planned<'_>, chain: &[u32]) -> Option<u64>
+    requires chain { IsListed (planned_work planned.now).count chain.now }
+    ensures { MatchOption result (AreLinked (planned_links planned.now) chain.now)
+        (IsLeastOf (IsBroken (planned_links planned.now) chain.now)) }
 {
     for index in 1..chain.len() {
-        if !is_ordered(case.tree, case.assigned, chain[index - 1], chain[index]) {
+        if !is_linked(planned, chain[index - 1], chain[index]) {
             return Some(index as u64 + 1);
         }
     }

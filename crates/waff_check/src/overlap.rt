@@ -1,40 +1,69 @@
-//! Ordered pairs of which the second message starts too early.
+//! Pairs of messages that exclude each other, of which the second starts too early, or which run at a
+//! common tick.
 
-ghost use Rattle.std.specs.Prelude.{◌+◌, ◌-◌, ◌≤◌, ◌↔◌, ℕ, IfOk, IsTrue, MatchOption};
+ghost use Rattle.std.specs.Prelude.{◌+◌, ◌-◌, ◌<◌, ◌≤◌, ◌↔◌, ℕ, IfOk, IsTrue, MatchOption};
 ghost use Rattle.waff_model.specs.declared.limits.TheConstants.{MAX_MESSAGES};
-ghost use Rattle.waff_plan.specs.Planned.{planned_pairs, planned_starts, planned_work};
-ghost use Rattle.waff_plan.specs.Obeys.{IsAmong, KeepsOrder};
-ghost use Rattle.waff_plan.specs.Work.{IsNumber};
-ghost use Rattle.waff_check.specs.Searches.{HasOverlap, IsFirstPlace, IsSearchable};
-ghost use Rattle.waff_check.specs.Faults.{IsFirstOverlap, IsLeastOf, NoneOf, Overlaps};
+ghost use Rattle.waff_plan.specs.Planned.{planned_starts, planned_work};
+ghost use Rattle.waff_plan.specs.Timetable.{starts_in, work_in};
+ghost use Rattle.waff_plan.specs.Work.{IsNumber, finish_of};
+ghost use Rattle.waff_check.specs.Searches.{AreAtOddsIn, HasOverlap, IsFirstPlace, IsSearchable};
+ghost use Rattle.waff_check.specs.Searches.{NoneAmong, planned_overlaps, version_in};
+ghost use Rattle.waff_check.specs.Faults.{IsFirstPair, IsLeastOf, NoneOf};
 
+use crate::worker::run_together;
 use rayon::prelude::*;
 use std::alloc::{AllocError, Global};
 use std::thread::Threads;
 use waff_assign::is_ordered;
-use waff_plan::Planned;
+use waff_model::Version;
+use waff_plan::apart::keeps_apart;
 use waff_plan::ordered::keeps_order;
+use waff_plan::{Plan, Planned};
 
-// Whether messages `i` and `j` are an ordered pair of which `j` starts before `i` has finished.
+// Whether message `j` starts before message `i` has finished.
+fn is_too_soon(plan: &Plan, i: u32, j: u32) -> bool
+    requires first { IsNumber (work_in plan.now) i }
+    requires second { IsNumber (work_in plan.now) j }
+    ensures { IsTrue result
+        ↔ (starts_in plan.now j < finish_of (work_in plan.now) (starts_in plan.now) i) }
+{
+    plan.start(j) < plan.finish(i)
+}
+
+// Whether two messages are at odds, if they exclude each other: in the first two versions `j` starts
+// before `i` has finished, in the third both run at a common tick.
+fn are_at_odds(planned: &Planned<'_>, i: u32, j: u32) -> bool
+    requires first { IsNumber (planned_work planned.now) i }
+    requires second { IsNumber (planned_work planned.now) j }
+    ensures { IsTrue result ↔ AreAtOddsIn (version_in planned.now)
+        (planned_work planned.now) (planned_starts planned.now) i j }
+{
+    let plan = planned.plan;
+    match planned.case.trace.version() {
+        Version::V1 => is_too_soon(plan, i, j),
+        Version::V2 => is_too_soon(plan, i, j),
+        Version::V3 => run_together(plan, i, j),
+    }
+}
+
+// Whether messages `i` and `j` are a pair that overlaps.
 fn overlaps(planned: &Planned<'_>, i: u32, j: u32) -> bool
     requires first { IsNumber (planned_work planned.now) i }
     requires second { IsNumber (planned_work planned.now) j }
-    ensures { IsTrue result ↔ Overlaps (planned_pairs planned.now)
-        (planned_work planned.now) (planned_starts planned.now) i j }
+    ensures { IsTrue result ↔ planned_overlaps planned.now i j }
 {
-    let case = &planned.case;
-    let plan = planned.plan;
-    plan.start(j) < plan.finish(i) && is_ordered(case.tree, case.assigned, i, j)
+    if !are_at_odds(planned, i, j) {
+        return false;
+    }
+    is_ordered(planned.case.tree, planned.case.assigned, i, j)
 }
 
 // The least message with which message `i` overlaps.
 fn second_of(planned: &Planned<'_>, i: u32) -> Option<u32>
     requires number { IsNumber (planned_work planned.now) i }
     ensures { MatchOption result
-        (NoneOf (Overlaps (planned_pairs planned.now)
-        (planned_work planned.now) (planned_starts planned.now) i))
-        (IsLeastOf (Overlaps (planned_pairs planned.now)
-        (planned_work planned.now) (planned_starts planned.now) i)) }
+        (NoneOf (planned_overlaps planned.now i))
+        (IsLeastOf (planned_overlaps planned.now i)) }
 {
     let messages = planned.plan.len();
     for j in i + 1..messages + 1 {
@@ -45,23 +74,34 @@ fn second_of(planned: &Planned<'_>, i: u32) -> Option<u32>
     None
 }
 
-// So many of the first messages overlap with none: all, or those before the first that does, as the
-// number is halved in on. No clause says that there are no more: that decides the time alone.
-fn kept_ones(alloc: Global, planned: &Planned<'_>) -> Result<u32, AllocError>
-    ensures many { IfOk result (λ kept. kept ≤ (planned_work planned.now).count) }
-    ensures kept { IfOk result (λ kept. KeepsOrder (IsAmong kept (planned_pairs planned.now))
-        (planned_work planned.now) (planned_starts planned.now)) }
+// Whether none of the first `count` messages overlaps with a later one.
+fn is_kept(alloc: Global, planned: &Planned<'_>, count: u32) -> Result<bool, AllocError>
+    ensures { IfOk result (λ kept. IsTrue kept ↔ NoneAmong planned.now count) }
 {
     let case = &planned.case;
+    let (tree, assigned, plan) = (case.tree, case.assigned, planned.plan);
+    match case.trace.version() {
+        Version::V1 => keeps_order(alloc, tree, assigned, plan, count),
+        Version::V2 => keeps_order(alloc, tree, assigned, plan, count),
+        Version::V3 => keeps_apart(alloc, tree, assigned, plan, count),
+    }
+}
+
+// So many of the first messages overlap with no later one: all, or those before the first that does,
+// as the number is halved in on. No clause says that there are no more: that decides the time alone.
+fn kept_ones(alloc: Global, planned: &Planned<'_>) -> Result<u32, AllocError>
+    ensures many { IfOk result (λ kept. kept ≤ (planned_work planned.now).count) }
+    ensures kept { IfOk result (NoneAmong planned.now) }
+{
     let messages = planned.plan.len();
-    if keeps_order(alloc, case.tree, case.assigned, planned.plan, messages)? {
+    if is_kept(alloc, planned, messages)? {
         return Ok(messages);
     }
     let mut kept = 0;
     let mut broken = messages;
     while kept + 1 < broken {
         let half = kept + (broken - kept) / 2;
-        if keeps_order(alloc, case.tree, case.assigned, planned.plan, half)? {
+        if is_kept(alloc, planned, half)? {
             kept = half;
         } else {
             broken = half;
@@ -93,13 +133,10 @@ fn first_place<R: Threads + Sync>(rt: &R, planned: &Planned<'_>, from: u32) -> O
 // `kept` first.
 fn first_pair<R: Threads + Sync>(rt: &R, planned: &Planned<'_>, kept: u32) -> Option<(u32, u32)>
     requires many { kept ≤ (planned_work planned.now).count }
-    requires kept { KeepsOrder (IsAmong kept (planned_pairs planned.now))
-        (planned_work planned.now) (planned_starts planned.now) }
+    requires kept { NoneAmong planned.now kept }
     ensures { MatchOption result
-        ((i j : ℕ) → Overlaps (planned_pairs planned.now)
-        (planned_work planned.now) (planned_starts planned.now) i j → ⊥)
-        (λ pair. IsFirstOverlap (planned_pairs planned.now)
-        (planned_work planned.now) (planned_starts planned.now) pair.0 pair.1) }
+        ((i j : ℕ) → planned_overlaps planned.now i j → ⊥)
+        (λ pair. IsFirstPair (planned_overlaps planned.now) pair.0 pair.1) }
 {
     match first_place(rt, planned, kept) {
         None => None,
@@ -121,10 +158,8 @@ pub(crate) fn first_overlap<R: Threads + Sync>(
     planned: &Planned<'_>,
 ) -> Result<Option<(u32, u32)>, AllocError>
     ensures { IfOk result (λ found. MatchOption found
-        ((i j : ℕ) → Overlaps (planned_pairs planned.now)
-        (planned_work planned.now) (planned_starts planned.now) i j → ⊥)
-        (λ pair. IsFirstOverlap (planned_pairs planned.now)
-        (planned_work planned.now) (planned_starts planned.now) pair.0 pair.1)) }
+        ((i j : ℕ) → planned_overlaps planned.now i j → ⊥)
+        (λ pair. IsFirstPair (planned_overlaps planned.now) pair.0 pair.1)) }
 {
     let kept = kept_ones(alloc, planned)?;
     Ok(first_pair(rt, planned, kept))

@@ -5,13 +5,15 @@ ghost use Rattle.std.specs.Prelude.{ℕ, List, Option};
 ghost use Rattle.waff_assign.specs.Instance.{Instance};
 ghost use Rattle.waff_check.specs.OwnPlans.{OwnPlanIsShortest, OwnPlanIsWithinBound};
 
-/// An obeying plan that tells a chain as long as itself is found shortest.
+/// A plan that obeys the order of its version and tells a chain as long as itself is found shortest, or
+/// in the third version tight.
 pub fn own_plan_is_shortest()
     ensures verdict { (instance : Instance) (start : ℕ → ℕ) (chain : List ℕ)
         → OwnPlanIsShortest instance start chain }
 {}
 
-/// A worker plan within the bound of the chain that it tells is found shortest or within the bound.
+/// A worker plan within the bound of the chain that it tells is found shortest, in the third version
+/// tight, or within the bound.
 pub fn own_plan_is_within_bound()
     ensures verdict { (instance : Instance) (k : ℕ)
         (start : ℕ → ℕ) (worker : ℕ → Option ℕ) (chain : List ℕ)

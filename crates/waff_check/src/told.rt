@@ -1,11 +1,12 @@
 //! Names, finishes and starts that rows tell.
 
-ghost use Rattle.std.specs.Prelude.{◌<◌, MatchOption};
+ghost use Rattle.std.specs.Prelude.{◌<◌, ◌↔◌, IsTrue, MatchOption};
 ghost use Rattle.waff_assign.specs.Order.{affinity_name};
 ghost use Rattle.waff_plan.specs.Planned.{planned_starts, planned_work};
 ghost use Rattle.waff_plan.specs.Timetable.{starts_in, work_in};
+ghost use Rattle.waff_plan.specs.Work.{IsNumber};
 ghost use Rattle.waff_check.specs.Faults.{HasWrongFinish, HasWrongName, IsLeastOf, NoneOf};
-ghost use Rattle.waff_check.specs.Faults.{StartsEarly};
+ghost use Rattle.waff_check.specs.Faults.{StartsEarly, StartsUnissued};
 ghost use Rattle.waff_check.specs.Verdicts.{told_finish, told_name};
 
 use crate::claim::Claim;
@@ -52,6 +53,32 @@ pub(crate) fn early_start(plan: &Plan) -> Option<u32>
 {
     for n in 1..plan.len() + 1 {
         if plan.start(n) < plan.release(n) {
+            return Some(n);
+        }
+    }
+    None
+}
+
+// Whether message `n` follows one, and starts sooner than its think time after the finish of that one.
+fn starts_unissued(plan: &Plan, n: u32) -> bool
+    requires number { IsNumber (work_in plan.now) n }
+    ensures { IsTrue result ↔ StartsUnissued (work_in plan.now) (starts_in plan.now) n }
+{
+    let followed = plan.follows(n);
+    if followed == 0 {
+        return false;
+    }
+    plan.start(n) < plan.finish(followed) + plan.think(n)
+}
+
+/// The first message that starts before its client issues it.
+pub(crate) fn unissued_start(plan: &Plan) -> Option<u32>
+    ensures { MatchOption result
+        (NoneOf (StartsUnissued (work_in plan.now) (starts_in plan.now)))
+        (IsLeastOf (StartsUnissued (work_in plan.now) (starts_in plan.now))) }
+{
+    for n in 1..plan.len() + 1 {
+        if starts_unissued(plan, n) {
             return Some(n);
         }
     }

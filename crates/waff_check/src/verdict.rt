@@ -1,10 +1,12 @@
 //! Verdicts.
 
 /// What a check finds of a plan that is given: the first fault of the first kind that there is, or
-/// else how good the plan is. Messages are numbered from 1, places of the chain too.
+/// else how good the plan is. Messages are numbered from 1, places of the chain too. `Client` and
+/// `Tight` are found of traces of version 3 alone.
 #[derive(Clone, Copy, Debug, PartialEq)]
 pub enum Verdict {
-    /// An ordered pair of messages the second of which starts before the first has finished.
+    /// An ordered pair of messages the second of which starts before the first has finished; in version
+    /// 3 two messages that exclude each other and run at a common tick.
     Overlap { first: u32, second: u32 },
     /// More messages run at this tick than there are workers.
     TooManyAt { tick: u64 },
@@ -16,14 +18,19 @@ pub enum Verdict {
     Finish { message: u32 },
     /// A number of the summary is wrong.
     Totals,
-    /// The message at this place of the chain and the one before it are no ordered pair.
+    /// No link goes to the message at this place of the chain from the one before it.
     NotAChain { place: u64 },
     /// No fault; the plan obeys, and no more is known.
     Obeys,
-    /// No fault, and no obeying plan is shorter.
+    /// No fault, and no obeying plan is shorter, in version 3 in whatever order it serves.
     Shortest,
     /// No fault, and the length is within the bound for the workers.
     WithinBound,
     /// The message starts before its release.
     Early { message: u32 },
+    /// The message starts before its client issues it, sooner than its think time after the finish of
+    /// the message before it.
+    Client { message: u32 },
+    /// No fault, and no plan that serves messages in the same order is shorter.
+    Tight,
 }

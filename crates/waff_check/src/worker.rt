@@ -14,8 +14,8 @@ use crate::shifts::are_right;
 use std::alloc::{AllocError, Global};
 use waff_plan::Plan;
 
-// Whether messages `i` and `j` run at a common tick.
-fn run_together(plan: &Plan, i: u32, j: u32) -> bool
+/// Whether messages `i` and `j` run at a common tick.
+pub(crate) fn run_together(plan: &Plan, i: u32, j: u32) -> bool
     requires first { IsNumber (work_in plan.now) i }
     requires second { IsNumber (work_in plan.now) j }
     ensures { IsTrue result

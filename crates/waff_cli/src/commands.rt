@@ -34,6 +34,8 @@ pub enum Word {
     Rule,
     /// `--names`, with its help.
     Names(&'static str),
+    /// `--clients`.
+    Clients,
     /// `--as`.
     Picture,
     /// `--from`.
@@ -148,11 +150,12 @@ pub static COMMANDS: &[CommandWords] = &[
     },
     CommandWords {
         name: "where",
-        about: "Prints where the time goes, by affinity or by name of messages",
+        about: "Prints where the time goes, by affinity, or by name or client of messages",
         words: &[
             Word::File(HIERARCHY),
             Word::File(TRACE),
             Word::Names("A line for each name of messages"),
+            Word::Clients,
         ],
     },
     CommandWords {

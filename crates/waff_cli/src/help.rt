@@ -223,7 +223,9 @@ With --names a line for each name of messages:
   name      the name
   messages  how many have it
   cost      their cost
-  chain     the cost of those on the chain of the shortest plan"
+  chain     the cost of those on the chain of the shortest plan
+With --clients a line for each client, with the same columns:
+  client    the client; - for messages of none"
 );
 
 /// What the long help of `waff waits` ends with.

@@ -86,6 +86,11 @@ fn arg<'a>(alloc: Global, word: Word) -> Arg<'a> {
         ),
         Word::Rule => rule(alloc),
         Word::Names(help) => option(alloc, "names", help).action(ArgAction::SetTrue),
+        Word::Clients => option(
+            alloc,
+            "clients",
+            "A line for each client; not with --names",
+        ).action(ArgAction::SetTrue),
         Word::Picture => picture(alloc),
         Word::From => tick(alloc, "from", "The tick at which the part begins").default_value("0"),
         Word::To => tick(

@@ -13,7 +13,7 @@ use clap::ArgMatches;
 use std::alloc::{AllocError, Global};
 use waff_core::limits::MAX_SEATS;
 use waff_draw::Part;
-use waff_figures::Grouping;
+use waff_figures::{Grouping, Label};
 use waff_inputs::MAX_RANKED;
 use waff_list::Rule;
 use waff_model::limits::MAX_WORKERS;
@@ -48,8 +48,8 @@ pub enum Asked {
     /// How long the trace takes by this rule, for each of these numbers of workers, or for the usual
     /// ones.
     Sweep(Option<Vec<u32>>, Rule),
-    /// Where the time goes, by affinity or by the names of messages.
-    Where(Grouping),
+    /// Where the time goes, by the names or the clients of messages, or without either by affinity.
+    Where(Option<Label>),
     /// Who waits for whom, in the plan for this number of workers by this rule or in a shortest one,
     /// by affinity or by the names of messages too.
     Waits(Option<u32>, Rule, Grouping),
@@ -165,7 +165,7 @@ fn asked_of(
         "explain" => Ok(Asked::Explain),
         "needs" => Ok(Asked::Needs),
         "rate" => Ok(Asked::Rate),
-        "where" => Ok(Asked::Where(grouping(matches))),
+        "where" => Ok(Asked::Where(label(rt, matches)?)),
         "replay" => Ok(Asked::Replay(workers(matches, MAX_SEATS)?)),
         "compare" => Ok(Asked::Compare(wanted_workers(matches)?)),
         "draw" => Ok(Asked::Draw(drawn_as(matches)?, part_of(rt, matches)?)),
@@ -306,6 +306,16 @@ fn grouping(matches: &ArgMatches<'_>) -> Grouping {
         Grouping::Name
     } else {
         Grouping::Affinity
+    }
+}
+
+/// The label of messages of which each has one line, if there is one.
+fn label(rt: &impl Eprint, matches: &ArgMatches<'_>) -> Result<Option<Label>, Refusal> {
+    match (matches.get_flag("names"), matches.get_flag("clients")) {
+        (true, true) => Err(Refusal::because(rt, "'--names' cannot be used with '--clients'")),
+        (true, false) => Ok(Some(Label::Name)),
+        (false, true) => Ok(Some(Label::Client)),
+        (false, false) => Ok(None),
     }
 }
 

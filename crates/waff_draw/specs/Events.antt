@@ -6,12 +6,14 @@ use Rattle.std.specs.List.{flat_map, range_with_len}
 use Rattle.serde_json.specs.Data.{string}
 use Rattle.serde_json.specs.Written.{compact_text}
 use Rattle.waff_model.specs.Tree.{Node, name_of}
+use Rattle.waff_model.specs.declared.message.Version.{Version}
+use Rattle.waff_model.specs.declared.message.Version.TheVariants.{V1, V2, V3}
 use Rattle.waff_assign.specs.Order.{affinity_name}
 use Rattle.waff_plan.specs.Work.{numbers}
 use Rattle.waff_draw.specs.Kinds.{process_of, shown_row}
 use Rattle.waff_draw.specs.Lanes.{is_among, lane_of}
 use Rattle.waff_draw.specs.Pieces.{joined, worker_name}
-use Rattle.waff_draw.specs.Scene.{Scene, lanes_in, name_in, shown_start, shown_ticks, work_of_scene}
+use Rattle.waff_draw.specs.Scene.{Scene, client_in, lanes_in, name_in, shown_start, shown_ticks, work_of_scene}
 use Rattle.waff_draw.specs.declared.events.Event.{Event}
 use Rattle.waff_draw.specs.declared.lanes.Lane.{Lane}
 use Rattle.waff_draw.specs.declared.lanes.LaneKind.{LaneKind}
@@ -50,8 +52,8 @@ thread_place process thread = joined (
 abbrev pub category : Bool → List ℕ
 category is_link = if is_link then codes "chain" else codes "message"
 
--- a complete event: what runs from when for how long, in which thread, and what is told of the
--- message, with its name and that of its affinity as JSON
+-- a complete event, as far as the release of its message: what runs from when for how long, in
+-- which thread, and what is told of the message, with its name and that of its affinity as JSON
 unfoldable pub event_entry : Event → List ℕ → List ℕ → List ℕ
 event_entry event name affinity = joined (
     codes ",\n{\"name\":" ∷ name
@@ -63,7 +65,7 @@ event_entry event name affinity = joined (
     ∷ codes ",\"args\":{\"number\":" ∷ decimal event.message
     ∷ codes ",\"name\":" ∷ name
     ∷ codes ",\"affinity\":" ∷ affinity
-    ∷ codes ",\"release\":" ∷ decimal event.release ∷ codes "}}" ∷ [])
+    ∷ codes ",\"release\":" ∷ [])
 
 -- a text as a string of JSON
 abbrev pub quoted : List ℕ → List ℕ
@@ -73,9 +75,21 @@ abbrev pub thread_text : ℕ → ℕ → List ℕ → List ℕ
 thread_text process thread name =
     thread_name process thread (quoted name) ++ thread_place process thread
 
--- a message of this name that runs in the affinity of that name
-abbrev pub event_text : Event → List ℕ → List ℕ → List ℕ
-event_text event name affinity = event_entry event (quoted name) (quoted affinity)
+-- the client of a message, which is given as JSON
+abbrev pub client_entry : List ℕ → List ℕ
+client_entry client = codes ",\"client\":" ++ client
+
+-- that of a message of a trace of the third version, `-` too
+abbrev pub client_text : Version → List ℕ → List ℕ
+client_text V1 client = []
+client_text V2 client = []
+client_text V3 client = client_entry (quoted client)
+
+-- a message of this name that runs in the affinity of that name, for this client
+abbrev pub event_text : Version → Event → List ℕ → List ℕ → List ℕ → List ℕ
+event_text version event name affinity client =
+    event_entry event (quoted name) (quoted affinity) ++ decimal event.release
+    ++ client_text version client ++ codes "}}"
 
 -- the thread of the lane in a row, which is one more than the row: 1 is the uppermost
 abbrev pub affinity_thread : List Node → List Lane → ℕ → List ℕ
@@ -106,8 +120,8 @@ event_at scene process row n = record {
 -- its text
 abbrev pub event_in : Scene → ℕ → ℕ → ℕ → List ℕ
 event_in scene process row n =
-    event_text (event_at scene process row n) (name_in scene n)
-    (affinity_name scene.instance.tree scene.instance.assigned n)
+    event_text scene.instance.trace.version (event_at scene process row n) (name_in scene n)
+    (affinity_name scene.instance.tree scene.instance.assigned n) (client_in scene n)
 
 -- the event of message n in its row, if it has one
 abbrev pub event_where : Scene → ℕ → ℕ → Option ℕ → List ℕ

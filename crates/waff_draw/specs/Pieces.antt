@@ -73,8 +73,14 @@ bar_start mark left top width height message = joined (
 unfoldable pub bar_middle : List ℕ
 bar_middle = codes " in "
 
--- what it tells behind the name of its affinity
-unfoldable pub bar_end : ℕ → ℕ → List ℕ
-bar_end start finish = joined (
-    codes ": " ∷ decimal start ∷ codes " to " ∷ decimal finish
-    ∷ codes "</title></rect>\n" ∷ [])
+-- when it starts and finishes, behind the name of its affinity
+unfoldable pub bar_ticks : ℕ → ℕ → List ℕ
+bar_ticks start finish = joined (
+    codes ": " ∷ decimal start ∷ codes " to " ∷ decimal finish ∷ [])
+
+-- what stands before the name of its client
+unfoldable pub bar_client : List ℕ
+bar_client = codes " for "
+
+unfoldable pub bar_end : List ℕ
+bar_end = codes "</title></rect>\n"

@@ -2,7 +2,9 @@
 use Rattle.std.specs.Prelude.{ℕ, ◌+◌, ◌-◌, ◌*◌, ◌/◌, max, min, Bool, false, true, List, []}
 use Rattle.std.specs.Prelude.{Option, Some, None, length, map, nat_lt, slice_index_or}
 use Rattle.waff_assign.specs.Instance.{Instance}
+use Rattle.waff_plan.specs.Clients.{client_of}
 use Rattle.waff_plan.specs.Instances.{work_of_instance}
+use Rattle.waff_plan.specs.Timetable.{clients_of}
 use Rattle.waff_plan.specs.Timing.{start_of}
 use Rattle.waff_plan.specs.Work.{Work, finish_of, length_of}
 use Rattle.waff_plan_text.specs.Given.{Given}
@@ -86,3 +88,7 @@ rows_in scene = length (lanes_in scene) + workers_in scene
 -- the name of message n
 abbrev pub name_in : Scene → ℕ → List ℕ
 name_in scene n = slice_index_or (map (λ message. message.name) scene.instance.trace.messages) (n - 1) []
+
+-- that of its client, `-` where it is of none
+abbrev pub client_in : Scene → ℕ → List ℕ
+client_in scene n = client_of (clients_of scene.instance.trace.messages) n

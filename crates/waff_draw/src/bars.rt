@@ -3,12 +3,15 @@
 ghost use Rattle.std.specs.Prelude.{◌≡◌, ◌≤◌, OnOk};
 ghost use Rattle.waff_plan.specs.Work.{IsNumber};
 ghost use Rattle.waff_plan_text.specs.Lines.{Adds};
-ghost use Rattle.waff_draw.specs.Bars.{bar_at, bar_in, bars_of, is_narrow, margin_of, mark_of};
+ghost use Rattle.waff_draw.specs.Bars.{bar_at, bar_in, bars_of, for_client, is_narrow, margin_of};
+ghost use Rattle.waff_draw.specs.Bars.{mark_of};
 ghost use Rattle.waff_draw.specs.Scene.{work_of_scene};
 
 use crate::chart::Chart;
 use crate::lanes::LaneKind;
-use crate::pieces::{push_bar_end, push_bar_middle, push_bar_start};
+use crate::pieces::{
+    push_bar_client, push_bar_end, push_bar_middle, push_bar_start, push_bar_ticks,
+};
 use crate::xml::push_xml;
 use std::alloc::AllocError;
 
@@ -56,7 +59,20 @@ fn push_bar(text: &mut String, chart: &Chart<'_>, row: u64, n: u32) -> Result<()
     push_xml(text, chart.name(n))?;
     push_bar_middle(text)?;
     push_xml(text, chart.affinity_name(n))?;
-    push_bar_end(text, bar.start, bar.finish)
+    push_bar_ticks(text, bar.start, bar.finish)?;
+    push_client(text, chart.client(n))?;
+    push_bar_end(text)
+}
+
+/// Appends the client of a message, where it is of one.
+fn push_client(text: &mut String, client: &str) -> Result<(), AllocError>
+    ensures { OnOk result (Adds text.old text.new (for_client client.now)) }
+{
+    if client == "-" {
+        return Ok(());
+    }
+    push_bar_client(text)?;
+    push_xml(text, client)
 }
 
 /// The bar of message `n` in this row.

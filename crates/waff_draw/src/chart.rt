@@ -10,7 +10,8 @@ ghost use Rattle.waff_plan.specs.Work.{IsNumber, total_of};
 ghost use Rattle.waff_plan_text.specs.Given.{row_at};
 ghost use Rattle.waff_draw.specs.Kinds.{row_in, shown_row, worker_row};
 ghost use Rattle.waff_draw.specs.Lanes.{is_among, lane_of, row_of};
-ghost use Rattle.waff_draw.specs.Scene.{end_in, finish_in, from_in, lanes_in, length_in};
+ghost use Rattle.waff_draw.specs.Scene.{client_in, end_in, finish_in, from_in, lanes_in};
+ghost use Rattle.waff_draw.specs.Scene.{length_in};
 ghost use Rattle.waff_draw.specs.Scene.{name_in, place_in, rows_in, scene_with, shown_start};
 ghost use Rattle.waff_draw.specs.Scene.{shown_ticks, span_in, start_in, work_of_scene, workers_in};
 ghost use Rattle.waff_draw.specs.Svg.{line_in};
@@ -22,8 +23,8 @@ use crate::parts::Part;
 use std::alloc::{AllocError, Global};
 use std::marker::Model;
 use waff_assign::Case;
-use waff_model::AffinityId;
 use waff_model::limits::{MAX_MESSAGES, MAX_WORKERS};
+use waff_model::{AffinityId, Version};
 use waff_plan::Plan;
 use waff_plan_text::GivenPlan;
 
@@ -133,6 +134,22 @@ impl<'a> Chart<'a> {
     {
         let trace = self.case.trace;
         trace.message(n).name.as_str()
+    }
+
+    /// The name of its client, `-` where it is of none.
+    pub(crate) fn client(&self, n: u32) -> &str
+        requires { IsNumber (work_of_scene self.now) n }
+        ensures { result.now ≡ client_in self.now n }
+    {
+        let trace = self.case.trace;
+        trace.message(n).client.as_str()
+    }
+
+    /// The version of its trace.
+    pub(crate) fn version(&self) -> Version
+        ensures { result ≡ self.now.instance.trace.version }
+    {
+        self.case.trace.version()
     }
 
     /// The name of its affinity.

@@ -1,16 +1,18 @@
 //! The picture in the Trace Event Format, which Perfetto and the tracing page of Chromium open.
 
-ghost use Rattle.std.specs.Prelude.{◌≡◌, ◌≤◌, IfOk, OnOk, length, string_bytes};
+ghost use Rattle.std.specs.Prelude.{◌≡◌, ◌≤◌, IfOk, OnOk, decimal, length, string_bytes};
 ghost use Rattle.std.specs.List.{flat_map, range_with_len};
 ghost use Rattle.waff_assign.specs.Case.{instance_of};
+ghost use Rattle.waff_assign.specs.Order.{affinity_name};
 ghost use Rattle.waff_plan.specs.Work.{IsNumber};
 ghost use Rattle.waff_plan_text.specs.Lines.{Adds};
 ghost use Rattle.waff_draw.specs.Events.{affinity_thread, category, document_start, event_at};
-ghost use Rattle.waff_draw.specs.Events.{event_entry, event_text, events_of, events_text, quoted};
+ghost use Rattle.waff_draw.specs.Events.{client_entry, client_text, event_entry, event_text};
+ghost use Rattle.waff_draw.specs.Events.{events_of, events_text, quoted};
 ghost use Rattle.waff_draw.specs.Events.{thread_name, thread_place, thread_text, threads_text};
 ghost use Rattle.waff_draw.specs.Events.{worker_thread, worker_threads};
 ghost use Rattle.waff_draw.specs.Kinds.{process_of};
-ghost use Rattle.waff_draw.specs.Scene.{lanes_in, scene_of, work_of_scene};
+ghost use Rattle.waff_draw.specs.Scene.{client_in, lanes_in, name_in, scene_of, work_of_scene};
 
 use crate::chart::Chart;
 use crate::lanes::LaneKind;
@@ -19,6 +21,7 @@ use crate::pieces::push_worker_name;
 use serde_json::Value;
 use std::alloc::{AllocError, Global};
 use waff_assign::Case;
+use waff_model::Version;
 use waff_plan_text::GivenPlan;
 
 /// The start of the document, with the process whose threads are the lanes of affinities.
@@ -211,7 +214,7 @@ fn push_events(
     for n in 1..chart.len() + 1 {
         if let Some(row) = chart.shown_row(kind, n) {
             let event = event_of(chart, process_of(kind), row, n);
-            push_event(alloc, text, &event, chart.name(n), chart.affinity_name(n))?;
+            push_event(alloc, text, chart, &event, n)?;
         }
     }
     Ok(())
@@ -243,22 +246,62 @@ fn event_of(chart: &Chart<'_>, process: u32, row: u64, n: u32) -> Event
     }
 }
 
-/// Appends an event.
+/// Appends the event of message `n`.
 fn push_event(
     alloc: Global,
     text: &mut String,
+    chart: &Chart<'_>,
     event: &Event,
-    name: &str,
-    affinity: &str,
+    n: u32,
 ) -> Result<(), AllocError>
-    ensures { OnOk result (Adds text.old text.new (event_text event.now name.now affinity.now)) }
+    requires { IsNumber (work_of_scene chart.now) n }
+    ensures { OnOk result (Adds text.old text.new
+        (event_text chart.now.instance.trace.version event.now (name_in chart.now n)
+        (affinity_name chart.now.instance.tree chart.now.instance.assigned n)
+        (client_in chart.now n))) }
 {
-    let name = json(alloc, name)?;
-    let affinity = json(alloc, affinity)?;
-    push_event_entry(text, event, name.as_str(), affinity.as_str())
+    let name = json(alloc, chart.name(n))?;
+    let affinity = json(alloc, chart.affinity_name(n))?;
+    push_event_entry(text, event, name.as_str(), affinity.as_str())?;
+    push_number(text, event.release)?;
+    push_client(alloc, text, chart.version(), chart.client(n))?;
+    text.push_str("}}")
 }
 
-/// Appends an event, with its name and that of its affinity as JSON.
+/// Appends a number.
+fn push_number(text: &mut String, number: u64) -> Result<(), AllocError>
+    ensures { OnOk result (Adds text.old text.new (decimal number)) }
+{
+    write!(text, "{number}")
+}
+
+/// Appends the client of a message, where the trace is of the third version.
+fn push_client(
+    alloc: Global,
+    text: &mut String,
+    version: Version,
+    client: &str,
+) -> Result<(), AllocError>
+    ensures { OnOk result (Adds text.old text.new (client_text version client.now)) }
+{
+    match version {
+        Version::V1 => Ok(()),
+        Version::V2 => Ok(()),
+        Version::V3 => {
+            let client = json(alloc, client)?;
+            push_client_entry(text, client.as_str())
+        }
+    }
+}
+
+/// Appends the client of a message, which is given as JSON.
+fn push_client_entry(text: &mut String, client: &str) -> Result<(), AllocError>
+    ensures { OnOk result (Adds text.old text.new (client_entry client.now)) }
+{
+    write!(text, ",\"client\":{client}")
+}
+
+/// Appends an event as far as the release, with its name and that of its affinity as JSON.
 #[tactic(auto, unfolding(crate::specs::Events::event_entry))]
 fn push_event_entry(
     text: &mut String,
@@ -274,13 +317,13 @@ fn push_event_entry(
         thread,
         start,
         ticks,
-        release,
         is_link,
+        ..
     } = *event;
     let category = category(is_link);
     write!(
         text,
-        ",\n{{\"name\":{name},\"cat\":\"{category}\",\"ph\":\"X\",\"ts\":{start},\"dur\":{ticks},\"pid\":{process},\"tid\":{thread},\"args\":{{\"number\":{message},\"name\":{name},\"affinity\":{affinity},\"release\":{release}}}}}"
+        ",\n{{\"name\":{name},\"cat\":\"{category}\",\"ph\":\"X\",\"ts\":{start},\"dur\":{ticks},\"pid\":{process},\"tid\":{thread},\"args\":{{\"number\":{message},\"name\":{name},\"affinity\":{affinity},\"release\":"
     )
 }
 

@@ -165,10 +165,26 @@ pub(crate) fn push_bar_middle(text: &mut String) -> Result<(), AllocError>
     text.push_str(" in ")
 }
 
-/// Appends the end of a bar, behind the name of the affinity.
-#[tactic(auto, unfolding(crate::specs::Pieces::bar_end))]
-pub(crate) fn push_bar_end(text: &mut String, start: u64, finish: u64) -> Result<(), AllocError>
-    ensures { OnOk result (Adds text.old text.new (pieces.bar_end start finish)) }
+/// Appends when a bar's message starts and finishes, behind the name of the affinity.
+#[tactic(auto, unfolding(crate::specs::Pieces::bar_ticks))]
+pub(crate) fn push_bar_ticks(text: &mut String, start: u64, finish: u64) -> Result<(), AllocError>
+    ensures { OnOk result (Adds text.old text.new (pieces.bar_ticks start finish)) }
 {
-    writeln!(text, ": {start} to {finish}</title></rect>")
+    write!(text, ": {start} to {finish}")
+}
+
+/// Appends what stands before the name of a message's client.
+#[tactic(auto, unfolding(crate::specs::Pieces::bar_client))]
+pub(crate) fn push_bar_client(text: &mut String) -> Result<(), AllocError>
+    ensures { OnOk result (Adds text.old text.new pieces.bar_client) }
+{
+    text.push_str(" for ")
+}
+
+/// Appends the end of a bar.
+#[tactic(auto, unfolding(crate::specs::Pieces::bar_end))]
+pub(crate) fn push_bar_end(text: &mut String) -> Result<(), AllocError>
+    ensures { OnOk result (Adds text.old text.new pieces.bar_end) }
+{
+    text.push_str("</title></rect>\n")
 }

@@ -6,18 +6,20 @@ use crate::walk::push_line;
 use crate::words::{Words, say};
 use std::alloc::{AllocError, Global};
 use waff_assign::Case;
-use waff_model::{AffinityId, Message, Tree};
-use waff_plan::Totals;
+use waff_model::{AffinityId, Message, Tree, Version};
+use waff_plan::{Plan, Totals};
 use waff_plan_text::{GivenPlan, Row};
 
-/// A case, the plan that was given for it, and the bytes that give the plan. What is asked of a
-/// message that there is not is 0, or empty.
+/// A case, the plan that was given for it, the plan of its starts, and the bytes that give the plan.
+/// What is asked of a message that there is not is 0, or empty.
 #[derive(Clone, Copy)]
 pub(crate) struct Hearing<'a> {
     pub(crate) case: Case<'a>,
     pub(crate) given: &'a GivenPlan,
+    pub(crate) plan: &'a Plan,
     pub(crate) bytes: &'a [u8],
     ghost rows: { length given.now.rows ≡ length case.trace.now.messages },
+    ghost timings: { length plan.now.timings ≡ length case.trace.now.messages },
 }
 
 impl<'a> Hearing<'a> {
@@ -40,10 +42,47 @@ impl<'a> Hearing<'a> {
         self.given.workers().unwrap_or(0)
     }
 
-    /// The release of a message, 0 where there is no such message.
-    pub(crate) fn release(&self, n: u32) -> u64 {
+    /// The version of the trace.
+    pub(crate) fn version(&self) -> Version {
+        self.case.trace.version()
+    }
+
+    /// The tick before which a message may not start, whatever the others do, 0 where there is no such
+    /// message.
+    pub(crate) fn floor(&self, n: u32) -> u64 {
+        if self.has(n) { self.plan.release(n) } else { 0 }
+    }
+
+    /// The message before a message of its client, 0 where there is none.
+    pub(crate) fn before(&self, n: u32) -> u32 {
+        if self.has(n) { self.plan.follows(n) } else { 0 }
+    }
+
+    /// The think time of a message.
+    pub(crate) fn think(&self, n: u32) -> u64 {
+        if self.has(n) { self.plan.think(n) } else { 0 }
+    }
+
+    /// The tick at which a message is issued under the plan.
+    fn issue(&self, n: u32) -> u64 {
+        if self.has(n) { self.plan.issue(n) } else { 0 }
+    }
+
+    /// The name of the client of a message.
+    pub(crate) fn client(&self, n: u32) -> &str {
         self.message(n)
-            .map_or(0, |message| u64::from(message.release))
+            .map_or("", |message| message.client.as_str())
+    }
+
+    /// Whether two messages exclude each other.
+    pub(crate) fn exclude(&self, one: u32, other: u32) -> bool {
+        if self.has(one) && self.has(other) {
+            let (tree, assigned) = (self.case.tree, self.case.assigned);
+            let (first, second) = (assigned.of(one), assigned.of(other));
+            tree.at_or_above(first, second) || tree.at_or_above(second, first)
+        } else {
+            false
+        }
     }
 
     /// The start that the row of a message tells, 0 where there is no such row.
@@ -98,11 +137,8 @@ impl<'a> Hearing<'a> {
     }
 
     /// The totals that the starts of the rows and the chain of the summary make.
-    pub(crate) fn totals(&self, alloc: Global) -> Result<Totals, AllocError> {
-        match self.given.plan(alloc, self.case.trace) {
-            Ok(plan) => Ok(plan.totals(self.given.workers(), self.given.chain())),
-            Err(refused) => Err(refused),
-        }
+    pub(crate) fn totals(&self) -> Totals {
+        self.plan.totals(self.given.workers(), self.given.chain())
     }
 
     /// Appends where the row of a message stands, and what there is to tell of the message.
@@ -119,6 +155,14 @@ impl<'a> Hearing<'a> {
         let Some(message) = self.message(n) else {
             return;
         };
+        match self.version() {
+            Version::V1 | Version::V2 => self.push_alone(words, n, message),
+            Version::V3 => self.push_issued(words, n, message),
+        }
+    }
+
+    /// Appends what there is to tell of a message of no client.
+    fn push_alone(&self, words: &mut Words, n: u32, message: &Message) {
         let (name, affinity) = (message.name.as_str(), self.affinity(n));
         let (start, finish) = (self.start(n), self.told_finish(n));
         match self.worker(n) {
@@ -128,6 +172,24 @@ impl<'a> Hearing<'a> {
             None => say!(words; Message(n):
                 "{}, affinity {}, release {}, cost {}, start {}, finish {}",
                 name, affinity, message.release, message.cost, start, finish),
+        }
+    }
+
+    /// Appends what there is to tell of a message that a client issues, also of none.
+    fn push_issued(&self, words: &mut Words, n: u32, message: &Message) {
+        let (name, affinity, client) = (message.name.as_str(), self.affinity(n), self.client(n));
+        let (issue, start, finish) = (self.issue(n), self.start(n), self.told_finish(n));
+        match self.worker(n) {
+            Some(worker) => say!(words; Message(n):
+                "{}, affinity {}, release {}, cost {}, client {}, think {}, issue {}, start {}, \
+                 finish {}, worker {}",
+                name, affinity, message.release, message.cost, client, message.think, issue, start,
+                finish, worker),
+            None => say!(words; Message(n):
+                "{}, affinity {}, release {}, cost {}, client {}, think {}, issue {}, start {}, \
+                 finish {}",
+                name, affinity, message.release, message.cost, client, message.think, issue, start,
+                finish),
         }
     }
 

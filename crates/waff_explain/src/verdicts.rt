@@ -10,7 +10,7 @@ use crate::words::{Words, say};
 use std::alloc::{AllocError, Global};
 use waff_assign::Case;
 use waff_check::Verdict;
-use waff_model::Layout;
+use waff_model::{Layout, Version};
 use waff_plan::Totals;
 use waff_plan_text::GivenPlan;
 
@@ -28,13 +28,16 @@ pub fn verdict_words(
     requires { length given.now.rows ≡ length case.now.trace.now.messages }
     ensures { IfOk result (λ text. AreHeadedLines (string_bytes text)) }
 {
+    let made = given.plan(alloc, case.trace)?;
+    let mut words = Words::new(alloc);
     let hearing = Hearing {
         case: *case,
         given,
+        plan: &made,
         bytes: plan,
     };
-    let mut words = Words::new(alloc);
     push_finding(&mut words, layout, &hearing, verdict);
+    drop(made);
     words.finish()
 }
 
@@ -48,7 +51,8 @@ fn push_finding(words: &mut Words, layout: &Layout, hearing: &Hearing<'_>, verdi
         Verdict::Totals => push_totals(words, hearing),
         Verdict::NotAChain { place } => push_no_link(words, hearing, place),
         Verdict::Early { message } => push_early(words, hearing, message),
-        Verdict::Obeys | Verdict::Shortest | Verdict::WithinBound => {
+        Verdict::Client { message } => push_client(words, hearing, message),
+        Verdict::Obeys | Verdict::Shortest | Verdict::Tight | Verdict::WithinBound => {
             push_no_fault(words, hearing, verdict);
             push_sizes(words, layout, Some(hearing.case.trace));
         }
@@ -57,6 +61,14 @@ fn push_finding(words: &mut Words, layout: &Layout, hearing: &Hearing<'_>, verdi
 
 /// Appends two messages that overlap, and why they must not.
 fn push_overlap(words: &mut Words, hearing: &Hearing<'_>, first: u32, second: u32) {
+    match hearing.version() {
+        Version::V1 | Version::V2 => push_overtaken(words, hearing, first, second),
+        Version::V3 => push_together(words, hearing, first, second),
+    }
+}
+
+/// Appends a message that starts before one that comes earlier in the trace has finished.
+fn push_overtaken(words: &mut Words, hearing: &Hearing<'_>, first: u32, second: u32) {
     let (start, end) = (hearing.start(second), hearing.end(first));
     hearing.push_message(words, first);
     hearing.push_message(words, second);
@@ -64,6 +76,20 @@ fn push_overlap(words: &mut Words, hearing: &Hearing<'_>, first: u32, second: u3
         second, start, first, end);
     hearing.push_exclusion(words, first, second);
     say!(words; Wanted: "message {} starts at {} or later", second, end);
+}
+
+/// Appends two messages that run at a common tick, whichever starts first.
+fn push_together(words: &mut Words, hearing: &Hearing<'_>, first: u32, second: u32) {
+    let (from, to) = (
+        hearing.start(first).max(hearing.start(second)),
+        hearing.end(first).min(hearing.end(second)),
+    );
+    hearing.push_message(words, first);
+    hearing.push_message(words, second);
+    say!(words; Found: "messages {} and {} both run from {} to {}", first, second, from, to);
+    hearing.push_exclusion(words, first, second);
+    say!(words; Wanted: "one of messages {} and {} starts when the other has finished",
+        first, second);
 }
 
 /// Appends the messages that run at a tick, one more than there are workers.
@@ -142,18 +168,34 @@ fn push_finish(words: &mut Words, hearing: &Hearing<'_>, message: u32) {
 
 fn push_early(words: &mut Words, hearing: &Hearing<'_>, message: u32) {
     hearing.push_message(words, message);
-    let (start, release) = (hearing.start(message), hearing.release(message));
-    say!(words; Found: "message {} starts at {}, before its release", message, start);
-    say!(words; Wanted: "message {} starts at {} or later", message, release);
+    let (start, floor) = (hearing.start(message), hearing.floor(message));
+    match hearing.version() {
+        Version::V1 | Version::V2 =>
+            say!(words; Found: "message {} starts at {}, before its release", message, start),
+        Version::V3 =>
+            say!(words; Found: "message {} starts at {}, before any plan issues it", message, start),
+    }
+    say!(words; Wanted: "message {} starts at {} or later", message, floor);
+}
+
+/// Appends the message before another of its client, and when that one has finished.
+fn push_client(words: &mut Words, hearing: &Hearing<'_>, message: u32) {
+    let before = hearing.before(message);
+    hearing.push_message(words, before);
+    hearing.push_message(words, message);
+    let (start, end) = (hearing.start(message), hearing.end(before));
+    let (client, think) = (hearing.client(message), hearing.think(message));
+    say!(words; Found:
+        "message {} starts at {}, and message {}, the one before it of client {}, has finished at {}",
+        message, start, before, client, end);
+    say!(words; Wanted: "message {} starts at {} or later, its think time of {} after that",
+        message, end.saturating_add(think), think);
 }
 
 /// Appends the lines of the summary that are wrong.
 fn push_totals(words: &mut Words, hearing: &Hearing<'_>) {
     push_line(words, hearing.bytes, "workers");
-    match hearing.totals(words.alloc()) {
-        Ok(made) => push_differences(words, hearing.given.summary().totals, made),
-        Err(_) => words.refuse(),
-    }
+    push_differences(words, hearing.given.summary().totals, hearing.totals());
 }
 
 fn push_differences(words: &mut Words, told: Totals, made: Totals) {
@@ -179,6 +221,14 @@ fn push_no_link(words: &mut Words, hearing: &Hearing<'_>, place: u64) {
     push_line(words, hearing.bytes, "chain");
     hearing.push_facts(words, before);
     hearing.push_facts(words, message);
+    match hearing.version() {
+        Version::V1 | Version::V2 => push_no_pair(words, before, message, place),
+        Version::V3 => push_no_hold(words, hearing, before, message, place),
+    }
+}
+
+/// Appends why two messages are no ordered pair of the trace.
+fn push_no_pair(words: &mut Words, before: u32, message: u32, place: u64) {
     if message <= before {
         say!(words; Found:
             "message {} at place {} of the chain, which does not come after message {}",
@@ -192,6 +242,24 @@ fn push_no_link(words: &mut Words, hearing: &Hearing<'_>, place: u64) {
     say!(words; Wanted: "a message behind message {}, their affinities exclude each other", before);
 }
 
+/// Appends why the one message does not hold back the other in the plan.
+fn push_no_hold(words: &mut Words, hearing: &Hearing<'_>, before: u32, message: u32, place: u64) {
+    if hearing.exclude(before, message) {
+        say!(words; Found:
+            "message {} at place {} of the chain, which does not start after message {}",
+            message, place, before);
+    } else {
+        say!(words; Found:
+            "message {} at place {} of the chain, whose affinity and that of message {} do not \
+             exclude each other",
+            message, place, before);
+    }
+    say!(words; Wanted:
+        "a message that starts after message {}, their affinities exclude each other, or the next \
+         one of its client",
+        before);
+}
+
 /// Appends how good a plan is that has no fault.
 fn push_no_fault(words: &mut Words, hearing: &Hearing<'_>, verdict: Verdict) {
     let Totals {
@@ -202,12 +270,19 @@ fn push_no_fault(words: &mut Words, hearing: &Hearing<'_>, verdict: Verdict) {
         right,
         ..
     } = hearing.given.summary().totals;
-    match verdict {
-        Verdict::Shortest => say!(words; Found:
+    match (verdict, hearing.version()) {
+        (Verdict::Shortest, Version::V3) => say!(words; Found:
+            "no fault, and no plan that obeys, for as many workers, is shorter than the length {}",
+            length),
+        (Verdict::Shortest, _) => say!(words; Found:
             "no fault, and no plan that obeys is shorter: the chain's release {} and cost {} make \
              the length {}",
             release, cost, length),
-        Verdict::WithinBound => say!(words; Found:
+        (Verdict::Tight, _) => say!(words; Found:
+            "no fault, and no plan that serves in the same order is shorter: the chain's release {} \
+             and cost {} make the length {}",
+            release, cost, length),
+        (Verdict::WithinBound, _) => say!(words; Found:
             "no fault, and the plan is within the bound for its workers: {} is at most {}",
             left, right),
         _ => say!(words; Found: "no fault, and no more is known of how short the plan is"),

@@ -1,7 +1,9 @@
 -- Plans with the same starts have the same figures.
 use Rattle.std.proofs.Common.{◌≡◌, ℕ, ◌+◌, ◌-◌, ◌<◌, ◌≤◌, Option, sum_by, arith, refl, sym, ◌∙◌, ap, subst}
+use Rattle.waff_plan.specs.Obeys.{FollowsEarlier}
 use Rattle.waff_plan.specs.Unique.{AreSame}
-use Rattle.waff_plan.specs.Work.{Work, greatest, numbers}
+use Rattle.waff_plan.specs.Work.{Work, finish_of, greatest, issue_of, numbers}
+use Rattle.waff_plan.proofs.IssuePlans.{same_issue}
 use Rattle.waff_plan.proofs.Uniqueness.{same_length}
 use Rattle.waff_figures.specs.Figures.{AreFigures, FiguresAreOne, latencies_of, latency_of, waits_of}
 use Rattle.waff_figures.specs.Percentile.{IsPercentile}
@@ -10,16 +12,23 @@ use Rattle.waff_figures.proofs.PercentileLemmas.{percentile_is_one}
 use Rattle.waff_figures.proofs.RowLemmas.{map_range_same}
 use Rattle.waff_figures.proofs.SumLemmas.{sum_same}
 
-module _ (work : Work) (start other : ℕ → ℕ) (same : AreSame work start other) where
+module _ (work : Work) (follows : FollowsEarlier work) (start other : ℕ → ℕ) (same : AreSame work start other) where
   at : (m : ℕ) → 1 ≤ m → m < 1 + work.count → start m ≡ other m
   at m from to = same m (record { from = from; to = omega (arith, to) })
 
+  issued_same : (m : ℕ) → issue_of work start m ≡ issue_of work other m
+  issued_same m = same_issue work start other m (λ f follow.
+      let is = follows f m follow in
+      at f is.from (omega (arith, is.earlier, is.to)))
+
   latency_same : (m : ℕ) → 1 ≤ m → m < 1 + work.count → latency_of work start m ≡ latency_of work other m
-  latency_same m from to = ap (λ s. s + work.cost m - work.release m) (at m from to)
+  latency_same m from to =
+      ap (λ s. s + work.cost m - issue_of work start m) (at m from to) ∙ ap (λ i. finish_of work other m - i) (issued_same m)
 
   pub waits_same : waits_of work start ≡ waits_of work other
   waits_same =
-      sum_same (λ m. start m - work.release m) (λ m. other m - work.release m) 1 work.count (λ m from to. ap (λ s. s - work.release m) (at m from to))
+      sum_same (λ m. start m - issue_of work start m) (λ m. other m - issue_of work other m) 1 work.count (λ m from to.
+      ap (λ s. s - issue_of work start m) (at m from to) ∙ ap (λ i. other m - i) (issued_same m))
 
   latencies_same : latencies_of work start ≡ latencies_of work other
   latencies_same = map_range_same (latency_of work start) (latency_of work other) 1 work.count latency_same
@@ -30,8 +39,8 @@ module _ (work : Work) (start other : ℕ → ℕ) (same : AreSame work start ot
   moved : (p n : ℕ) → IsPercentile p (latencies_of work other) n → IsPercentile p (latencies_of work start) n
   moved p n h = subst (λ xs. IsPercentile p xs n) (sym latencies_same) h
 
-  pub figures_moved : (limit : Option ℕ) (shortest : ℕ) (figures : Figures) → AreFigures limit work shortest other figures → AreFigures limit work shortest start figures
-  figures_moved limit shortest figures h = record {
+  pub figures_moved : (limit : Option ℕ) (least : ℕ) (figures : Figures) → AreFigures limit work least other figures → AreFigures limit work least start figures
+  figures_moved limit least figures h = record {
     workers = h.workers;
     messages = h.messages;
     total = h.total;
@@ -59,9 +68,9 @@ made a0 a1 a2 a3 a4 a5 a6 a7 a8 a9 = record {
 }
 
 -- of the same starts
-of_one_plan : (limit : Option ℕ) (work : Work) (shortest : ℕ) (start : ℕ → ℕ) (one other : Figures) → AreFigures limit work shortest start one
-    → AreFigures limit work shortest start other → one ≡ other
-of_one_plan limit work shortest start one other h k =
+of_one_plan : (limit : Option ℕ) (work : Work) (bound : ℕ) (start : ℕ → ℕ) (one other : Figures) → AreFigures limit work bound start one
+    → AreFigures limit work bound start other → one ≡ other
+of_one_plan limit work bound start one other h k =
     let workers : one.workers ≡ other.workers = h.workers ∙ sym k.workers in
     let messages : one.messages ≡ other.messages = h.messages ∙ sym k.messages in
     let total : one.total ≡ other.total = h.total ∙ sym k.total in
@@ -78,5 +87,5 @@ of_one_plan limit work shortest start one other h k =
     all
 
 pub figures_are_one : (work : Work) → FiguresAreOne work
-figures_are_one work limit shortest start other one another same h k =
-    of_one_plan limit work shortest start one another h (figures_moved work start other same limit shortest another k)
+figures_are_one work limit least start other one another follows same h k =
+    of_one_plan limit work least start one another h (figures_moved work follows start other same limit least another k)

@@ -1,13 +1,14 @@
 pub mod SumLemmas
 mod BelowLemmas
 mod TallyLemmas
-mod NameLemmas
+pub mod NameLemmas
 mod LineLemmas
 pub mod AddingUp
 pub mod RowLemmas
 mod PercentileLemmas
 pub mod FigureLaws
-mod LeastLaws
+pub mod LeastLaws
+mod PlanLemmas
 mod NameLaws
 mod WaitLemmas
 mod WaitRowLemmas

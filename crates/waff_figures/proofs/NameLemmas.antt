@@ -4,14 +4,32 @@ use Rattle.std.specs.List.{list_any}
 use Rattle.std.specs.Str.{bytes_eq}
 use Rattle.std.proofs.lemmas.Bool.{cases_eq, cases_lt, cases_Bool}
 use Rattle.std.proofs.lemmas.Bool.Decides.{nat_tests}
-use Rattle.std.proofs.lemmas.List.{map_push, get_or_push, get_or_append_left, length_push}
+use Rattle.std.proofs.lemmas.List.{length-map, map_push, get_or_push, get_or_append_left, length_push}
 use Rattle.std.proofs.lemmas.List.Folds.{list_any_at}
 use Rattle.std.proofs.lemmas.List.Sums.{fold_more}
 use Rattle.std.proofs.lemmas.Option.{get_or_from_slice_get, slice_get-map}
 use Rattle.indexmap.specs.IndexSet.{insert_key}
 use Rattle.std.proofs.lemmas.Slice.Eq.{bytes_eq-Decides}
-use Rattle.waff_figures.specs.ByName.{AreApart, AreNumbered, distinct_names, is_named, with_name}
+use Rattle.waff_model.specs.declared.message.Message.{Message}
+use Rattle.waff_figures.specs.ByName.{AreApart, AreNumbered, distinct_names, is_named, label_of, labels_of, with_name}
+use Rattle.waff_figures.specs.declared.grouping.Label.{Label}
+use Rattle.waff_figures.specs.declared.grouping.Label.TheVariants.{Client, Name}
 use Rattle.waff_figures.specs.Tally.{is_in}
+
+-- each message has a label
+pub labels_length : (label : Label) (messages : List Message) → length (labels_of label messages) ≡ length messages
+labels_length Name messages = length-map messages (λ (m : Message). m.name)
+labels_length Client messages = length-map messages (λ (m : Message). m.client)
+
+-- that of the message at a place
+pub label_there : (label : Label) (messages : List Message) (place : ℕ) (message : Message) → slice_get messages place ≡ Some message
+    → get_or (labels_of label messages) place [] ≡ label_of label message
+label_there Name messages place message at =
+    get_or_from_slice_get (labels_of Name messages) place message.name []
+    (slice_get-map (λ (m : Message). m.name) messages place ∙ ap (λ o. option_map (λ (m : Message). m.name) o) at)
+label_there Client messages place message at =
+    get_or_from_slice_get (labels_of Client messages) place message.client []
+    (slice_get-map (λ (m : Message). m.client) messages place ∙ ap (λ o. option_map (λ (m : Message). m.client) o) at)
 
 pub none_numbered : (names : List (List ℕ)) → AreNumbered names [] []
 none_numbered names = record {

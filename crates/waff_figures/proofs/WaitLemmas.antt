@@ -6,13 +6,14 @@ use Rattle.std.proofs.lemmas.List.{append-nil, flat_map_more}
 use Rattle.std.proofs.lemmas.List.Elements.{All-nil, All-push}
 use Rattle.std.proofs.lemmas.List.Quantifiers.{all_pairs_push}
 use Rattle.waff_model.specs.Tree.{Node}
-use Rattle.waff_assign.specs.Order.{Relation, IsOrdered}
-use Rattle.waff_plan.specs.Links.{AreLinks, IsLink}
-use Rattle.waff_plan.specs.Obeys.{FollowsNone}
-use Rattle.waff_plan.specs.Work.{Work, IsAmongFirst, finish_of}
+use Rattle.waff_model.specs.declared.message.Version.{Version}
+use Rattle.waff_model.specs.declared.message.Version.TheVariants.{V1, V2, V3}
+use Rattle.waff_assign.specs.Order.{Relation}
+use Rattle.waff_plan.specs.Serving.{started_before}
+use Rattle.waff_plan.specs.Waited.{AreWaitedFor, IsWaitedFor}
+use Rattle.waff_plan.specs.Work.{Work, IsAmongFirst, finish_of, issue_of}
 use Rattle.waff_plan.proofs.Longest.{range_with_len_more}
-use Rattle.waff_plan.proofs.NoClients.{holds_is_finish, linked_before}
-use Rattle.waff_figures.specs.Waits.{AreWaitedFor, ComesFirst, IsWaitAmong, IsWaitedFor, wait_of, waits_in}
+use Rattle.waff_figures.specs.Waits.{ComesFirst, IsWaitAmong, wait_of, waits_in}
 use Rattle.waff_figures.specs.declared.waits.Wait.{Wait}
 
 abbrev wait : ℕ → Option ℕ → ℕ → Wait
@@ -80,15 +81,15 @@ module _ (count n m : ℕ) (next : n + 1 ≡ m) (within : m ≤ count) where
   pub so_far_more : (work : Work) (start : ℕ → ℕ) (link : Option ℕ) → IfSome link (IsAmongFirst count) → (ws : List Wait) → AreSoFar count n ws
       → AreSoFar count m (ws ++ waits_in work start m link)
   so_far_more work start None known ws are =
-      let release = work.release m in
-      let nothing = wait_of m None (release - release) in
-      subst (AreSoFar count m) (append_assoc ws nothing (wait_of m None (start m - release)))
-      (wait_pushed (λ l. AreSoFar count m (l ++ wait_of m None (start m - release))) ws m None (release - release)
-      (wait_pushed (AreSoFar count m) ws m None (start m - release) (none_more ws are) (λ some. one_more None (start m - release) tt ws are))
+      let issue = issue_of work start m in
+      let nothing = wait_of m None (issue - issue) in
+      subst (AreSoFar count m) (append_assoc ws nothing (wait_of m None (start m - issue)))
+      (wait_pushed (λ l. AreSoFar count m (l ++ wait_of m None (start m - issue))) ws m None (issue - issue)
+      (wait_pushed (AreSoFar count m) ws m None (start m - issue) (none_more ws are) (λ some. one_more None (start m - issue) tt ws are))
       (λ some. absurd (omega (arith, some))))
   so_far_more work start (Some i) known ws are =
       let ready = finish_of work start i in
-      let ticks = ready - work.release m in
+      let ticks = ready - issue_of work start m in
       let more = start m - ready in
       subst (AreSoFar count m) (append_assoc ws (wait_of m (Some i) ticks) (wait_of m None more))
       (wait_pushed (λ l. AreSoFar count m (l ++ wait_of m None more)) ws m (Some i) ticks
@@ -119,33 +120,19 @@ module _ (work : Work) (start : ℕ → ℕ) (links : List (Option ℕ)) where
       subst (AreSoFar count (suc n)) (sym (upto_more n (suc n) next))
       (so_far_more count n (suc n) next within work start (get_or links (suc n - 1) None) (known (suc n) (omega arith) within) (waits_upto n) old)
 
--- where no message follows another, a link is the message that was waited for
-waited_for_link : (before : Relation) (work : Work) (start : ℕ → ℕ) (m : ℕ) (link : Option ℕ) → FollowsNone work → IsLink before work start m link
-    → IsWaitedFor before work start m link
-waited_for_link before work start m None none is = λ i pair. omega (arith, is i (inl pair), holds_is_finish work none start i m)
-waited_for_link before work start m (Some i) none is =
-    let hold = λ (j : ℕ). holds_is_finish work none start j m in (
-      record {
-        one = linked_before work none before i m is.0.one;
-        latest = λ j pair. omega (arith, is.0.latest j (inl pair), hold i, hold j);
-        lowest = λ j pair same. is.0.lowest j (inl pair) (omega (arith, same, hold i, hold j));
-      },
-      omega (arith, is.1, hold i),
-    )
-
-pub waited_for_links : (before : Relation) (work : Work) (start : ℕ → ℕ) (n : ℕ) (links : List (Option ℕ)) → FollowsNone work → AreLinks before work start n links
-    → AreWaitedFor before work start n links
-waited_for_links before work start n links none are m from to = waited_for_link before work start m (get_or links (m - 1) None) none (are m from to)
+-- what starts before another message is one of so many
+pub first_known : (version : Version) (tree : List Node) (assigned : List ℕ) (start : ℕ → ℕ) (i m : ℕ) → started_before version tree assigned start i m
+    → IsAmongFirst (length assigned) i
+first_known V1 tree assigned start i m pair = record { from = pair.from; to = omega (arith, pair.earlier, pair.to) }
+first_known V2 tree assigned start i m pair = record { from = pair.from; to = omega (arith, pair.earlier, pair.to) }
+first_known V3 tree assigned start i m pair = pair.first
 
 -- a message waited for one of the messages
-link_known : (tree : List Node) (assigned : List ℕ) (work : Work) (start : ℕ → ℕ) (m : ℕ) (link : Option ℕ) → IsWaitedFor (IsOrdered tree assigned) work start m link
-    → IfSome link (IsAmongFirst (length assigned))
-link_known tree assigned work start m None is = tt
-link_known tree assigned work start m (Some i) is =
-    let one = is.0.one in
-    record { from = one.from; to = omega (arith, one.earlier, one.to) }
+module _ (before : Relation) (count : ℕ) (known : (i m : ℕ) → before i m → IsAmongFirst count i) (work : Work) (start : ℕ → ℕ) where
+  link_known : (m : ℕ) (link : Option ℕ) → IsWaitedFor before work start m link → IfSome link (IsAmongFirst count)
+  link_known m None is = tt
+  link_known m (Some i) is = known i m is.0.one
 
-pub links_known : (tree : List Node) (assigned : List ℕ) (work : Work) (start : ℕ → ℕ) (links : List (Option ℕ)) (n : ℕ) → n ≡ length assigned
-    → AreWaitedFor (IsOrdered tree assigned) work start n links → (m : ℕ) → 1 ≤ m → m ≤ length assigned → IfSome (get_or links (m - 1) None) (IsAmongFirst (length assigned))
-links_known tree assigned work start links n count are m from to =
-    link_known tree assigned work start m (get_or links (m - 1) None) (are m from (omega (arith, to, count)))
+  pub links_known : (links : List (Option ℕ)) (n : ℕ) → n ≡ count → AreWaitedFor before work start n links
+      → (m : ℕ) → 1 ≤ m → m ≤ count → IfSome (get_or links (m - 1) None) (IsAmongFirst count)
+  links_known links n same are m from to = link_known m (get_or links (m - 1) None) (are m from (omega (arith, to, same)))

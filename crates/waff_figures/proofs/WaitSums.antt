@@ -5,9 +5,10 @@ use Rattle.std.proofs.lemmas.Bool.{cases_Bool, cond_both, ltb-false}
 use Rattle.std.proofs.lemmas.Bool.Decides.{nat_tests}
 use Rattle.std.proofs.lemmas.List.Sums.{sum_by-append, sum_by-cons}
 use Rattle.waff_plan.specs.Obeys.{Obeys}
-use Rattle.waff_plan.specs.Work.{Work, IsNumber, finish_of, numbers}
+use Rattle.waff_plan.specs.Waited.{IsWaitedFor}
+use Rattle.waff_plan.specs.Work.{Work, IsNumber, finish_of, issue_of, numbers}
 use Rattle.waff_plan.proofs.Longest.{sum_more}
-use Rattle.waff_figures.specs.Waits.{AreWaits, IsWaitedFor, ready_of, wait_of, waits_in}
+use Rattle.waff_figures.specs.Waits.{AreWaits, ready_of, wait_of, waits_in}
 use Rattle.waff_figures.specs.WaitLaws.{ReadyIsGreatest, TicksAddUp, WaitsAddUp}
 use Rattle.waff_figures.specs.WaitRows.{same_kind}
 use Rattle.waff_figures.specs.declared.wait_rows.Row.{Row}
@@ -15,10 +16,10 @@ use Rattle.waff_figures.specs.declared.waits.Wait.{Wait}
 use Rattle.waff_figures.proofs.SumLemmas.{sum_one, sum_same}
 use Rattle.waff_figures.proofs.WaitLemmas.{upto_more, waits_at, waits_upto}
 
-pub ready_is_greatest : (before : ℕ → ℕ → Type 0) (work : Work) → ReadyIsGreatest before work
-ready_is_greatest before work start m None is = record { released = omega arith; finished = is; one = inl refl }
+pub ready_is_greatest : (before : ℕ → ℕ → Type 0) (work : Work) (start : ℕ → ℕ) → ReadyIsGreatest before work start
+ready_is_greatest before work start m None is = record { issued = omega arith; finished = is; one = inl refl }
 ready_is_greatest before work start m (Some i) is = record {
-  released = let later : work.release m < finish_of work start i = is.1 in omega (arith, later);
+  issued = let later : issue_of work start m < finish_of work start i = is.1 in omega (arith, later);
   finished = is.0.latest;
   one = inr (i, is.0.one, refl);
 }
@@ -52,10 +53,10 @@ none_weighed false ticks none = refl
 
 sum_in : (counts : ℕ → Bool) (work : Work) (start : ℕ → ℕ) (m : ℕ) (link : Option ℕ)
     → sum_by (weighed counts) (waits_in work start m link)
-    ≡ cond (counts m) ((ready_of work start m link - work.release m) + (start m - ready_of work start m link)) 0
+    ≡ cond (counts m) ((ready_of work start m link - issue_of work start m) + (start m - ready_of work start m link)) 0
 sum_in counts work start m link =
     let ready = ready_of work start m link in
-    let ticks = ready - work.release m in
+    let ticks = ready - issue_of work start m in
     let more = start m - ready in
     let first = one_wait (weighed counts) m link ticks (cond (counts m) ticks 0) refl (none_weighed (counts m) ticks) in
     let second = one_wait (weighed counts) m None more (cond (counts m) more 0) refl (none_weighed (counts m) more) in
@@ -63,12 +64,12 @@ sum_in counts work start m link =
     ∙ ap (λ x. x + sum_by (weighed counts) (wait_of m None more)) first ∙ ap (λ x. cond (counts m) ticks 0 + x) second
     ∙ weight (counts m) ticks more
 
--- from the release to the start
+-- from the issue to the start
 all_of_it : (before : ℕ → ℕ → Type 0) (work : Work) (start : ℕ → ℕ) (m : ℕ) (link : Option ℕ) → IsWaitedFor before work start m link → Obeys before work start
-    → (ready_of work start m link - work.release m) + (start m - ready_of work start m link) ≡ start m - work.release m
+    → (ready_of work start m link - issue_of work start m) + (start m - ready_of work start m link) ≡ start m - issue_of work start m
 all_of_it before work start m None is obeys = omega arith
 all_of_it before work start m (Some i) is obeys =
-    let later : work.release m < finish_of work start i = is.1 in
+    let later : issue_of work start m < finish_of work start i = is.1 in
     let done : finish_of work start i ≤ start m = obeys.ordered i m is.0.one in
     omega (arith, later, done)
 
@@ -87,28 +88,28 @@ sum_upto f work start links (suc n) =
 
 module _ (before : ℕ → ℕ → Type 0) (work : Work) (start : ℕ → ℕ) (waits : List Wait) (are : AreWaits before work start waits) (obeys : Obeys before work start) where
   -- what counts of all waits
-  all_counted : (counts : ℕ → Bool) → sum_by (weighed counts) waits ≡ sum_by (λ m. cond (counts m) (start m - work.release m) 0) (numbers work)
+  all_counted : (counts : ℕ → Bool) → sum_by (weighed counts) waits ≡ sum_by (λ m. cond (counts m) (start m - issue_of work start m) 0) (numbers work)
   all_counted counts =
       ap (sum_by (weighed counts)) are.waits_are ∙ sum_upto (weighed counts) work start are.links work.count
-      ∙ sum_same (λ m. sum_by (weighed counts) (waits_at work start are.links m)) (λ m. cond (counts m) (start m - work.release m) 0) 1 work.count
+      ∙ sum_same (λ m. sum_by (weighed counts) (waits_at work start are.links m)) (λ m. cond (counts m) (start m - issue_of work start m) 0) 1 work.count
       (λ m from to.
       let link = get_or are.links (m - 1) None in
       sum_in counts work start m link
       ∙ ap (λ x. cond (counts m) x 0) (all_of_it before work start m link (are.are_links m from (omega (arith, to))) obeys))
 
-  pub one_adds_up : (m : ℕ) → IsNumber work m → sum_by (λ wait. cond (wait.message == m) wait.ticks 0) waits ≡ start m - work.release m
+  pub one_adds_up : (m : ℕ) → IsNumber work m → sum_by (λ wait. cond (wait.message == m) wait.ticks 0) waits ≡ start m - issue_of work start m
   one_adds_up m number =
-      let term : ℕ → ℕ = λ k. cond (k == m) (start k - work.release k) 0 in
+      let term : ℕ → ℕ = λ k. cond (k == m) (start k - issue_of work start k) 0 in
       let from : 1 ≤ m = number.from in
       let to : m ≤ work.count = number.to in
-      let this : term m ≡ start m - work.release m = grind (arith, nat_tests) in
+      let this : term m ≡ start m - issue_of work start m = grind (arith, nat_tests) in
       all_counted (λ k. k == m)
       ∙ sum_one term m 1 work.count from (omega (arith, to)) (λ k low high other. grind (arith, nat_tests, other)) ∙ this
 
-  pub all_add_up : sum_by ticks_of waits ≡ sum_by (λ m. start m - work.release m) (numbers work)
+  pub all_add_up : sum_by ticks_of waits ≡ sum_by (λ m. start m - issue_of work start m) (numbers work)
   all_add_up = all_counted (λ m. true)
 
-pub waits_add_up : (before : ℕ → ℕ → Type 0) (work : Work) → WaitsAddUp before work
+pub waits_add_up : (before : ℕ → ℕ → Type 0) (work : Work) (start : ℕ → ℕ) → WaitsAddUp before work start
 waits_add_up before work start waits m are obeys number = one_adds_up before work start waits are obeys m number
 
 -- sums over any list
@@ -177,8 +178,8 @@ parts_add_up p f parts (x ∷ xs) once =
     let rest = parts_add_up p f parts xs (λ k d low. once (suc k) d (omega (arith, low))) in
     omega (arith, split, both, this, rest, sum_by-cons f x xs)
 
-pub ticks_add_up : (before : ℕ → ℕ → Type 0) (work : Work) → TicksAddUp before work
-ticks_add_up before work alike start waits rows are obeys told =
+pub ticks_add_up : (before : ℕ → ℕ → Type 0) (work : Work) (start : ℕ → ℕ) → TicksAddUp before work start
+ticks_add_up before work start alike waits rows are obeys told =
     sum_all_same (λ (row : Row). row.ticks) (λ row. sum_by ticks_of (filter (same_kind alike row.first) waits)) rows
     (λ k d low. ap (λ (row : Row). row.ticks) (told.told.each k d low).row_is)
     ∙ parts_add_up (λ (row : Row) (wait : Wait). same_kind alike row.first wait) ticks_of rows waits told.told.once

@@ -1,5 +1,5 @@
 -- The waits of a plan are one list, and so are their rows.
-use Rattle.std.proofs.Common.{◌≡◌, ℕ, zero, suc, ◌+◌, ◌-◌, ◌<◌, ◌≤◌, inl, inr, Bool, true, false, List, [], ◌∷◌, ◌++◌, get_or, count_by, slice_get, Option, Some, None, arith, refl, sym, ◌∙◌, ap, subst}
+use Rattle.std.proofs.Common.{◌≡◌, ℕ, zero, suc, ◌+◌, ◌-◌, ◌<◌, ◌≤◌, inl, inr, Bool, true, false, List, [], ◌∷◌, ◌++◌, length, get_or, count_by, slice_get, Option, Some, None, arith, refl, sym, ◌∙◌, ap, subst}
 use Rattle.std.specs.Cmp.{IsEquivalence}
 use Rattle.std.specs.List.{AllPairs}
 use Rattle.std.specs.Option.{IsSome, is_some}
@@ -8,11 +8,17 @@ use Rattle.std.proofs.lemmas.Bool.{cases_lt, false≢true}
 use Rattle.std.proofs.lemmas.Cmp.{and_equiv, nat_eq_equiv, on_equiv}
 use Rattle.std.proofs.lemmas.Slice.Eq.{bytes_eq-Decides}
 use Rattle.std.proofs.lemmas.Option.{get_or_from_slice_get, same_Some, slice_get-get_or, slice_get_within}
-use Rattle.waff_assign.specs.Order.{affinity_of}
-use Rattle.waff_plan.specs.Obeys.{IsForward}
+use Rattle.waff_model.specs.Tree.{Node}
+use Rattle.waff_model.specs.declared.message.Version.{Version}
+use Rattle.waff_model.specs.declared.message.Version.TheVariants.{V1, V2, V3}
+use Rattle.waff_assign.specs.Order.{Relation, affinity_of}
+use Rattle.waff_plan.specs.Obeys.{FollowsEarlier}
+use Rattle.waff_plan.specs.Serving.{started_before}
 use Rattle.waff_plan.specs.Unique.{AreSame}
-use Rattle.waff_plan.specs.Work.{Work, IsNumber, finish_of}
-use Rattle.waff_figures.specs.Waits.{AreWaitedFor, AreWaits, ComesFirst, IsWaitedFor, ready_of, wait_of, waits_in}
+use Rattle.waff_plan.specs.Waited.{AreWaitedFor, IsWaitedFor}
+use Rattle.waff_plan.specs.Work.{Work, IsNumber, finish_of, issue_of}
+use Rattle.waff_plan.proofs.IssuePlans.{same_issue}
+use Rattle.waff_figures.specs.Waits.{AreWaits, ComesFirst, ready_of, wait_of, waits_in}
 use Rattle.waff_figures.specs.WaitLaws.{RowsAreOne}
 use Rattle.waff_figures.specs.WaitRows.{AreRows, IsRow, StandsBefore, row_of, same_kind}
 use Rattle.waff_figures.specs.WaitText.{are_alike, name_at}
@@ -21,26 +27,32 @@ use Rattle.waff_figures.specs.declared.grouping.Grouping.TheVariants.{Affinity, 
 use Rattle.waff_figures.specs.declared.wait_rows.Row.{Row}
 use Rattle.waff_figures.specs.declared.waits.Wait.{Wait}
 use Rattle.waff_figures.proofs.WaitKinds.{kinds_are}
-use Rattle.waff_figures.proofs.WaitLemmas.{upto_more, waits_at, waits_upto}
+use Rattle.waff_figures.proofs.WaitLemmas.{first_known, upto_more, waits_at, waits_upto}
 use Rattle.waff_figures.proofs.WaitRowLemmas.{counted_is_there}
 
 -- plans with the same starts have the same links, and the same waits
-module _ (before : ℕ → ℕ → Type 0) (work : Work) (forward : IsForward before work) (start other : ℕ → ℕ) (same : AreSame work start other) where
+module _ (before : ℕ → ℕ → Type 0) (work : Work) (known : (i m : ℕ) → before i m → IsNumber work i) (follows : FollowsEarlier work) (start other : ℕ → ℕ)
+    (same : AreSame work start other) where
   same_finish : (i m : ℕ) → before i m → finish_of work start i ≡ finish_of work other i
-  same_finish i m pair = ap (λ s. s + work.cost i) (same i (forward.first i m (inl pair)))
+  same_finish i m pair = ap (λ s. s + work.cost i) (same i (known i m pair))
+
+  same_issued : (m : ℕ) → issue_of work start m ≡ issue_of work other m
+  same_issued m = same_issue work start other m (λ f follow.
+      let is = follows f m follow in
+      same f (record { from = is.from; to = omega (arith, is.earlier, is.to) }))
 
   link_is_one : (m : ℕ) (a b : Option ℕ) → IsWaitedFor before work start m a → IsWaitedFor before work other m b → a ≡ b
   link_is_one m None None first second = refl
   link_is_one m None (Some j) first second =
       let pair = second.0.one in
-      let later : work.release m < finish_of work other j = second.1 in
-      let done : finish_of work start j ≤ work.release m = first j pair in
-      absurd (omega (arith, later, done, same_finish j m pair))
+      let later : issue_of work other m < finish_of work other j = second.1 in
+      let done : finish_of work start j ≤ issue_of work start m = first j pair in
+      absurd (omega (arith, later, done, same_finish j m pair, same_issued m))
   link_is_one m (Some i) None first second =
       let pair = first.0.one in
-      let later : work.release m < finish_of work start i = first.1 in
-      let done : finish_of work other i ≤ work.release m = second i pair in
-      absurd (omega (arith, later, done, same_finish i m pair))
+      let later : issue_of work start m < finish_of work start i = first.1 in
+      let done : finish_of work other i ≤ issue_of work other m = second i pair in
+      absurd (omega (arith, later, done, same_finish i m pair, same_issued m))
   link_is_one m (Some i) (Some j) first second =
       let one = first.0.one in
       let two = second.0.one in
@@ -54,14 +66,16 @@ module _ (before : ℕ → ℕ → Type 0) (work : Work) (forward : IsForward be
       ap Some equal
 
   same_ready : (m : ℕ) (link : Option ℕ) → IsWaitedFor before work start m link → ready_of work start m link ≡ ready_of work other m link
-  same_ready m None is = refl
+  same_ready m None is = same_issued m
   same_ready m (Some i) is = same_finish i m is.0.one
 
   same_waits_in : (m : ℕ) (a b : Option ℕ) → IsNumber work m → IsWaitedFor before work start m a → IsWaitedFor before work other m b
       → waits_in work start m a ≡ waits_in work other m b
   same_waits_in m a b number first second =
-      let waits : ℕ → ℕ → List Wait = λ ready s. wait_of m a (ready - work.release m) ++ wait_of m None (s - ready) in
-      ap (λ r. waits r (start m)) (same_ready m a first) ∙ ap (waits (ready_of work other m a)) (same m number)
+      let waits : ℕ → ℕ → ℕ → List Wait = λ issue ready s. wait_of m a (ready - issue) ++ wait_of m None (s - ready) in
+      ap (λ i. waits i (ready_of work start m a) (start m)) (same_issued m)
+      ∙ ap (λ r. waits (issue_of work other m) r (start m)) (same_ready m a first)
+      ∙ ap (waits (issue_of work other m) (ready_of work other m a)) (same m number)
       ∙ ap (λ link. waits_in work other m link) (link_is_one m a b first second)
 
   same_upto : (links other_links : List (Option ℕ)) → AreWaitedFor before work start work.count links → AreWaitedFor before work other work.count other_links
@@ -165,9 +179,45 @@ module _ (alike : ℕ → ℕ → Bool) (laws : IsEquivalence alike) (waits : Li
   same_rows rows other are other_are =
       same_order StandsBefore one_stands_before rows other are.order other_are.order (is_there rows other are other_are) (is_there other rows other_are are)
 
-pub rows_are_one : (before : ℕ → ℕ → Type 0) (work : Work) → IsForward before work → RowsAreOne before work
-rows_are_one before work forward alike start other waits other_waits rows other_rows laws same are other_are told other_told =
-    let equal = same_waits before work forward start other same waits other_waits are other_are in
+-- what was waited for by one of two relations that are the same
+module _ (before again : Relation) (work : Work) (start : ℕ → ℕ) (into : (i m : ℕ) → before i m → again i m) (back : (i m : ℕ) → again i m → before i m) where
+  waited_again : (m : ℕ) (link : Option ℕ) → IsWaitedFor before work start m link → IsWaitedFor again work start m link
+  waited_again m None is = λ i pair. is i (back i m pair)
+  waited_again m (Some i) is = (
+    record {
+      one = into i m is.0.one;
+      latest = λ j pair. is.0.latest j (back j m pair);
+      lowest = λ j pair level. is.0.lowest j (back j m pair) level;
+    },
+    is.1,
+  )
+
+  waits_again : (waits : List Wait) → AreWaits before work start waits → AreWaits again work start waits
+  waits_again waits are = record {
+    links = are.links;
+    are_links = λ m from to. waited_again m (get_or are.links (m - 1) None) (are.are_links m from to);
+    waits_are = are.waits_are;
+  }
+
+-- plans with the same starts start first what the other does
+pub started_same : (version : Version) (tree : List Node) (assigned : List ℕ) (work : Work) → length assigned ≡ work.count → (start other : ℕ → ℕ)
+    → AreSame work start other → (i j : ℕ) → started_before version tree assigned start i j → started_before version tree assigned other i j
+started_same V1 tree assigned work count start other same i j pair = pair
+started_same V2 tree assigned work count start other same i j pair = pair
+started_same V3 tree assigned work count start other same i j pair =
+    let one = same i (record { from = pair.first.from; to = omega (arith, pair.first.to, count) }) in
+    let two = same j (record { from = pair.second.from; to = omega (arith, pair.second.to, count) }) in
+    record { first = pair.first; second = pair.second; started = omega (arith, pair.started, one, two); excludes = pair.excludes }
+
+pub rows_are_one : (version : Version) (tree : List Node) (assigned : List ℕ) (work : Work) → RowsAreOne version tree assigned work
+rows_are_one version tree assigned work alike start other waits other_waits rows other_rows count follows laws same are other_are told other_told =
+    let before = started_before version tree assigned start in
+    let back : AreSame work other start = λ m number. sym (same m number) in
+    let again = waits_again (started_before version tree assigned other) before work other (started_same version tree assigned work count other start back)
+    (started_same version tree assigned work count start other same) other_waits other_are in
+    let known : (i m : ℕ) → before i m → IsNumber work i
+    = λ i m pair. let is = first_known version tree assigned start i m pair in record { from = is.from; to = omega (arith, is.to, count) } in
+    let equal = same_waits before work known follows start other same waits other_waits are again in
     same_rows alike laws other_waits rows other_rows (subst (λ ws. AreRows alike ws rows) equal told) other_told
 
 -- tests that pass alike are equal

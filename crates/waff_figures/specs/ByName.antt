@@ -1,16 +1,29 @@
--- Where the time goes, by the names of messages (own).
+-- Where the time goes, by the labels of messages: their names, or their clients (own).
 use Rattle.std.specs.Prelude.{◌≡◌, ℕ, ◌-◌, ◌<◌, ◌≤◌, Bool, List, [], ◌∷◌, ◌++◌, if◌then◌else◌, fold, map}
 use Rattle.std.specs.Prelude.{slice_index_or, codes, decimal, length, take}
 use Rattle.std.specs.List.{list_any}
 use Rattle.std.specs.Str.{bytes_eq}
 use Rattle.waff_model.specs.declared.message.Message.{Message}
+use Rattle.waff_plan.specs.Timetable.{clients_of}
 use Rattle.waff_plan.specs.Work.{Work}
 use Rattle.waff_figures.specs.Tally.{no_tally, tally_of}
+use Rattle.waff_figures.specs.declared.grouping.Label.{Label}
+use Rattle.waff_figures.specs.declared.grouping.Label.TheVariants.{Name, Client}
 use Rattle.waff_figures.specs.declared.tally.Tally.{Tally}
 
 -- the names of messages, in the order of arrival
 abbrev pub message_names : List Message → List (List ℕ)
 message_names messages = map (λ message. message.name) messages
+
+-- the label of a message: its name, or that of its client
+abbrev pub label_of : Label → Message → List ℕ
+label_of Name message = message.name
+label_of Client message = message.client
+
+-- the labels of messages, in the order of arrival
+abbrev pub labels_of : Label → List Message → List (List ℕ)
+labels_of Name messages = message_names messages
+labels_of Client messages = clients_of messages
 
 -- a name goes after the others where it is not among them
 abbrev pub with_name : List (List ℕ) → List ℕ → List (List ℕ)
@@ -24,8 +37,10 @@ distinct_names names = fold with_name [] names
 abbrev pub is_named : List (List ℕ) → List ℕ → ℕ → Bool
 is_named names name m = bytes_eq (slice_index_or names (m - 1) []) name
 
-abbrev pub names_header : List (List ℕ)
-names_header = codes "name" ∷ codes "messages" ∷ codes "cost" ∷ codes "chain" ∷ []
+-- the first line
+abbrev pub label_header : Label → List (List ℕ)
+label_header Name = codes "name" ∷ codes "messages" ∷ codes "cost" ∷ codes "chain" ∷ []
+label_header Client = codes "client" ∷ codes "messages" ∷ codes "cost" ∷ codes "chain" ∷ []
 
 -- a line: the name, how many messages have it, the sum of their costs, and of those on the chain
 abbrev pub named_row : List ℕ → Tally → List (List ℕ)
@@ -35,9 +50,11 @@ named_row name tally = name ∷ decimal tally.messages ∷ decimal tally.cost �
 abbrev pub name_row : List (List ℕ) → Work → List ℕ → List ℕ → List (List ℕ)
 name_row names work chain name = named_row name (tally_of work chain (is_named names name))
 
--- the lines of the distinct names
-abbrev pub names_lines : List (List ℕ) → Work → List ℕ → List (List (List ℕ))
-names_lines names work chain = names_header ∷ map (name_row names work chain) (distinct_names names)
+-- the lines of the distinct labels
+abbrev pub label_lines : Label → List Message → Work → List ℕ → List (List (List ℕ))
+label_lines label messages work chain =
+    label_header label
+    ∷ map (name_row (labels_of label messages) work chain) (distinct_names (labels_of label messages))
 
 -- the line of the name at a place of a list, by a tally for each
 abbrev pub tallied_name_row : List (List ℕ) → List Tally → ℕ → List (List ℕ)

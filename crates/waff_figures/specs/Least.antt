@@ -1,12 +1,20 @@
 -- What `least` and `over` tell of a plan, beside all plans for as many workers (own).
 use Rattle.std.specs.Prelude.{◌≡◌, ℕ, ◌*◌, ◌/◌, ◌^◌, ◌<◌, ◌≤◌, List, Option, Some, None, IfSome, codes}
+use Rattle.std.specs.Prelude.{length}
+use Rattle.waff_model.specs.Tree.{IsTree}
+use Rattle.waff_model.specs.declared.message.Version.{Version}
+use Rattle.waff_model.specs.declared.message.Version.TheVariants.{V1, V2, V3}
+use Rattle.waff_assign.specs.Instance.{Instance, before_in}
 use Rattle.waff_assign.specs.Order.{Relation}
 use Rattle.waff_plan.specs.Bound.{IsWorkers}
+use Rattle.waff_plan.specs.Instances.{served_first, work_of_instance}
+use Rattle.waff_plan.specs.Laws.{least_for}
+use Rattle.waff_plan.specs.LowerBound.{ObeysInSomeOrder, lower_bound_of}
 use Rattle.waff_plan.specs.Obeys.{IsLeast, Obeys}
 use Rattle.waff_plan.specs.Work.{Work, length_of, total_of}
 use Rattle.waff_plan.specs.Workers.{IsWorkerPlan}
 use Rattle.waff_plan_text.specs.Ratio.{hundredths_field, ratio_up_field}
-use Rattle.waff_figures.specs.Figures.{AreFigures, least_of}
+use Rattle.waff_figures.specs.Figures.{AreFigures}
 use Rattle.waff_figures.specs.declared.figures.Figures.{Figures}
 
 -- an obeying plan, and where there are k workers a worker plan for k
@@ -14,37 +22,72 @@ abbrev pub ObeysFor : Option ℕ → Relation → Work → (ℕ → ℕ) → Typ
 ObeysFor None before work start = Obeys before work start
 ObeysFor (Some k) before work start = IsWorkerPlan before work k start
 
--- no obeying plan for as many workers is shorter than this
-abbrev pub IsLowerBound : Option ℕ → Relation → Work → ℕ → Type 0
-IsLowerBound limit before work bound =
-    (other : ℕ → ℕ) → ObeysFor limit before work other → bound ≤ length_of work other
+-- the plans for as many workers that a plan is told beside: in the first two versions those that obey
+-- the order of the trace, in the third those that obey in whatever order
+abbrev pub IsRivalIn : Version → Option ℕ → Instance → (ℕ → ℕ) → Type 0
+IsRivalIn V1 limit instance other =
+    ObeysFor limit (before_in instance) (work_of_instance instance) other
+IsRivalIn V2 limit instance other =
+    ObeysFor limit (before_in instance) (work_of_instance instance) other
+IsRivalIn V3 limit instance other =
+    ObeysInSomeOrder instance.tree instance.assigned (work_of_instance instance) limit other
+
+abbrev pub IsRival : Option ℕ → Instance → (ℕ → ℕ) → Type 0
+IsRival limit instance other = IsRivalIn instance.trace.version limit instance other
+
+-- none of them is shorter than this
+abbrev pub IsLowerBound : Option ℕ → Instance → ℕ → Type 0
+IsLowerBound limit instance bound =
+    (other : ℕ → ℕ) → IsRival limit instance other
+    → bound ≤ length_of (work_of_instance instance) other
+
+-- such a number of ticks by the length of the unlimited plan, and without workers that length
+abbrev pub least_of : Option ℕ → ℕ → ℕ → ℕ
+least_of None total shortest = shortest
+least_of (Some k) total shortest = least_for k total shortest
+
+-- such a number of ticks, where the unlimited plan is this long: in the first two versions by that
+-- length, in the third by what workers, clients and paths of affinities need in whatever order
+abbrev pub least_by : Version → Option ℕ → Instance → ℕ → ℕ
+least_by V1 limit instance shortest =
+    least_of limit (total_of (work_of_instance instance)) shortest
+least_by V2 limit instance shortest =
+    least_of limit (total_of (work_of_instance instance)) shortest
+least_by V3 limit instance shortest =
+    lower_bound_of limit instance.tree instance.assigned (work_of_instance instance)
+
+abbrev pub least_in : Option ℕ → Instance → ℕ → ℕ
+least_in limit instance shortest = least_by instance.trace.version limit instance shortest
 
 -- `least` is such a bound
-abbrev pub LeastIsLowerBound : Relation → Work → Type 0
-LeastIsLowerBound before work =
-    (limit : Option ℕ) (start : ℕ → ℕ) → IfSome limit IsWorkers → IsLeast before work start
-    → IsLowerBound limit before work (least_of limit (total_of work) (length_of work start))
+abbrev pub LeastIsLowerBound : Instance → Type 0
+LeastIsLowerBound instance =
+    (limit : Option ℕ) (start : ℕ → ℕ) → IfSome limit IsWorkers → IsTree instance.tree
+    → length instance.assigned ≡ length instance.trace.messages
+    → IsLeast (served_first instance start) (work_of_instance instance) start
+    → IsLowerBound limit instance
+    (least_in limit instance (length_of (work_of_instance instance) start))
 
 -- the field that tells how much longer a plan is than `least`
 abbrev pub over_field : Figures → List ℕ
 over_field figures = ratio_up_field figures.length figures.least
 
--- a plan is at most as many hundredths of times as long as an obeying plan for as many workers as
--- `over` says
-abbrev pub OverIsUpperBound : Relation → Work → Type 0
-OverIsUpperBound before work =
-    (limit : Option ℕ) (shortest over : ℕ) (start other : ℕ → ℕ) (figures : Figures)
-    → AreFigures limit work shortest start figures → figures.length < 2 ^ 64
-    → IsLowerBound limit before work figures.least
+-- a plan is at most as many hundredths of times as long as each of these plans as `over` says
+abbrev pub OverIsUpperBound : Instance → Type 0
+OverIsUpperBound instance =
+    (limit : Option ℕ) (least over : ℕ) (start other : ℕ → ℕ) (figures : Figures)
+    → AreFigures limit (work_of_instance instance) least start figures
+    → figures.length < 2 ^ 64 → IsLowerBound limit instance figures.least
     → over / 100 < 2 ^ 64 → over_field figures ≡ hundredths_field over
-    → ObeysFor limit before work other
-    → 100 * length_of work start ≤ over * length_of work other
+    → IsRival limit instance other
+    → 100 * length_of (work_of_instance instance) start
+    ≤ over * length_of (work_of_instance instance) other
 
--- where `over` is `1.00`, no obeying plan for as many workers is shorter
-abbrev pub OneIsShortest : Relation → Work → Type 0
-OneIsShortest before work =
-    (limit : Option ℕ) (shortest : ℕ) (start other : ℕ → ℕ) (figures : Figures)
-    → AreFigures limit work shortest start figures → figures.length < 2 ^ 64
-    → IsLowerBound limit before work figures.least
-    → over_field figures ≡ codes "1.00" → ObeysFor limit before work other
-    → length_of work start ≤ length_of work other
+-- where `over` is `1.00`, none of them is shorter
+abbrev pub OneIsShortest : Instance → Type 0
+OneIsShortest instance =
+    (limit : Option ℕ) (least : ℕ) (start other : ℕ → ℕ) (figures : Figures)
+    → AreFigures limit (work_of_instance instance) least start figures
+    → figures.length < 2 ^ 64 → IsLowerBound limit instance figures.least
+    → over_field figures ≡ codes "1.00" → IsRival limit instance other
+    → length_of (work_of_instance instance) start ≤ length_of (work_of_instance instance) other

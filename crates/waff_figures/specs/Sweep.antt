@@ -1,14 +1,17 @@
 -- The lines of a sweep: how long the trace takes, by the number of workers (own).
-use Rattle.std.specs.Prelude.{◌≡◌, ℕ, ◌*◌, List, [], ◌∷◌, ◌++◌, Option, Some, None, All, map}
+use Rattle.std.specs.Prelude.{◌≡◌, ◌≢◌, ℕ, ◌*◌, List, [], ◌∷◌, ◌++◌, Option, Some, None, All, map}
 use Rattle.std.specs.Prelude.{codes, decimal}
-use Rattle.waff_assign.specs.Order.{Relation}
+use Rattle.waff_model.specs.declared.message.Version.TheVariants.{V3}
+use Rattle.waff_assign.specs.Instance.{Instance}
+use Rattle.waff_assign.specs.declared.case.Case.{Case}
+use Rattle.waff_plan.specs.Instances.{work_of_instance}
 use Rattle.waff_plan.specs.Timing.{start_of}
-use Rattle.waff_plan.specs.Work.{Work}
-use Rattle.waff_list.specs.Rules.{IsPlanBy}
+use Rattle.waff_order.specs.Needs.{AreNeeds}
+use Rattle.waff_list.specs.Served.{IsPlanServed}
 use Rattle.waff_list.specs.declared.rule.Rule.{Rule}
 use Rattle.waff_plan_text.specs.Spelling.{worker_field}
 use Rattle.waff_figures.specs.Figures.{AreFigures}
-use Rattle.waff_figures.specs.Least.{IsLowerBound, over_field}
+use Rattle.waff_figures.specs.Least.{IsLowerBound, least_in, over_field}
 use Rattle.waff_plan_text.specs.Ratio.{ratio_field}
 use Rattle.waff_figures.specs.declared.figures.Figures.{Figures}
 
@@ -53,18 +56,30 @@ sweep_row figures =
 abbrev pub sweep_lines : List Figures → Figures → List (List (List ℕ))
 sweep_lines listed unlimited = sweep_header ∷ map sweep_row listed ++ sweep_row unlimited ∷ []
 
--- the figures of the plan by this rule for k workers, where the least plan is this long; no plan for
+-- the needs of the messages of a case of one of the first two versions
+pub record AreNeedsOf (case : Case) (needs : List (List ℕ)) : Type 0 where
+  pub are : AreNeeds case.tree.now case.assigned.now needs
+  pub earlier_version : case.trace.now.version ≢ V3
+
+-- a plan by this rule for k workers, in the order in which it is to serve messages
+abbrev pub IsPlanOf : Rule → Instance → ℕ → (ℕ → ℕ) → Type 0
+IsPlanOf rule instance k start =
+    IsPlanServed instance.trace.version rule instance.tree instance.assigned
+    (work_of_instance instance) k start
+
+-- the figures of the plan by this rule for k workers, where the unlimited plan is this long; no plan for
 -- k workers is shorter than `least`
-pub record IsListed (rule : Rule) (before : Relation) (work : Work) (shortest : ℕ)
+pub record IsListed (rule : Rule) (instance : Instance) (shortest : ℕ)
     (figures : Figures) : Type 0 where
   pub k : ℕ
   pub starts : List ℕ
-  pub list : IsPlanBy rule before work k (start_of starts)
-  pub figures_are : AreFigures (Some k) work shortest (start_of starts) figures
-  pub least : IsLowerBound (Some k) before work figures.least
+  pub list : IsPlanOf rule instance k (start_of starts)
+  pub figures_are : AreFigures (Some k) (work_of_instance instance)
+      (least_in (Some k) instance shortest) (start_of starts) figures
+  pub least : IsLowerBound (Some k) instance figures.least
 
 -- the figures of the plans by this rule for these numbers of workers, for each in turn
-pub record AreListed (rule : Rule) (before : Relation) (work : Work) (shortest : ℕ)
+pub record AreListed (rule : Rule) (instance : Instance) (shortest : ℕ)
     (workers : List ℕ) (listed : List Figures) : Type 0 where
   pub in_turn : map (λ figures. figures.workers) listed ≡ map Some workers
-  pub each : All (IsListed rule before work shortest) listed
+  pub each : All (IsListed rule instance shortest) listed

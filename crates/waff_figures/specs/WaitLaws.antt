@@ -1,49 +1,57 @@
 -- What holds of the waits of all plans: they add up, and they leave no choice.
 use Rattle.std.specs.Prelude.{◌≡◌, ℕ, ◌-◌, ◌==◌, ◌≤◌, ◌⊎◌, Bool, List, Option, if◌then◌else◌, sum_by}
+use Rattle.std.specs.Prelude.{length}
 use Rattle.std.specs.Cmp.{IsEquivalence}
+use Rattle.waff_model.specs.Tree.{Node}
+use Rattle.waff_model.specs.declared.message.Version.{Version}
 use Rattle.waff_assign.specs.Order.{Relation}
-use Rattle.waff_plan.specs.Obeys.{Obeys}
+use Rattle.waff_plan.specs.Obeys.{FollowsEarlier, Obeys}
+use Rattle.waff_plan.specs.Serving.{started_before}
 use Rattle.waff_plan.specs.Unique.{AreSame}
-use Rattle.waff_plan.specs.Work.{Work, IsNumber, finish_of}
+use Rattle.waff_plan.specs.Waited.{IsWaitedFor}
+use Rattle.waff_plan.specs.Work.{Work, IsNumber, finish_of, issue_of}
 use Rattle.waff_figures.specs.Figures.{waits_of}
-use Rattle.waff_figures.specs.Waits.{AreWaits, IsWaitedFor, ready_of}
+use Rattle.waff_figures.specs.Waits.{AreWaits, ready_of}
 use Rattle.waff_figures.specs.WaitRows.{AreRows}
 use Rattle.waff_figures.specs.declared.wait_rows.Row.{Row}
 use Rattle.waff_figures.specs.declared.waits.Wait.{Wait}
 
--- the tick is the greatest of the release of m and the finishes of the messages before it
+-- the tick is the greatest of the issue of m and the finishes of the messages before it
 pub record IsReady (before : Relation) (work : Work)
     (start : ℕ → ℕ) (m ready : ℕ) : Type 0 where
-  pub released : work.release m ≤ ready
+  pub issued : issue_of work start m ≤ ready
   pub finished : (i : ℕ) → before i m → finish_of work start i ≤ ready
-  pub one : (ready ≡ work.release m) ⊎ ((i : ℕ) × before i m × (ready ≡ finish_of work start i))
+  pub one : (ready ≡ issue_of work start m)
+      ⊎ ((i : ℕ) × before i m × (ready ≡ finish_of work start i))
 
 -- a message waits for another one until that tick, and for a worker from then on
-abbrev pub ReadyIsGreatest : Relation → Work → Type 0
-ReadyIsGreatest before work =
-    (start : ℕ → ℕ) (m : ℕ) (waited_for : Option ℕ) → IsWaitedFor before work start m waited_for
+abbrev pub ReadyIsGreatest : Relation → Work → (ℕ → ℕ) → Type 0
+ReadyIsGreatest before work start =
+    (m : ℕ) (waited_for : Option ℕ) → IsWaitedFor before work start m waited_for
     → IsReady before work start m (ready_of work start m waited_for)
 
--- the waits of a message add up to the time from its release to its start
-abbrev pub WaitsAddUp : Relation → Work → Type 0
-WaitsAddUp before work =
-    (start : ℕ → ℕ) (waits : List Wait) (m : ℕ)
+-- the waits of a message add up to the time from its issue to its start
+abbrev pub WaitsAddUp : Relation → Work → (ℕ → ℕ) → Type 0
+WaitsAddUp before work start =
+    (waits : List Wait) (m : ℕ)
     → AreWaits before work start waits → Obeys before work start → IsNumber work m
     → sum_by (λ wait. if wait.message == m then wait.ticks else 0) waits
-    ≡ start m - work.release m
+    ≡ start m - issue_of work start m
 
 -- the ticks of all rows add up to how long all messages wait
-abbrev pub TicksAddUp : Relation → Work → Type 0
-TicksAddUp before work =
-    (alike : ℕ → ℕ → Bool) (start : ℕ → ℕ) (waits : List Wait) (rows : List Row)
+abbrev pub TicksAddUp : Relation → Work → (ℕ → ℕ) → Type 0
+TicksAddUp before work start =
+    (alike : ℕ → ℕ → Bool) (waits : List Wait) (rows : List Row)
     → AreWaits before work start waits → Obeys before work start → AreRows alike waits rows
     → sum_by (λ row. row.ticks) rows ≡ waits_of work start
 
 -- where two plans start each message at the same tick, their rows are equal
-abbrev pub RowsAreOne : Relation → Work → Type 0
-RowsAreOne before work =
+abbrev pub RowsAreOne : Version → List Node → List ℕ → Work → Type 0
+RowsAreOne version tree assigned work =
     (alike : ℕ → ℕ → Bool) (start other : ℕ → ℕ) (waits other_waits : List Wait)
-    (rows other_rows : List Row) → IsEquivalence alike → AreSame work start other
-    → AreWaits before work start waits → AreWaits before work other other_waits
+    (rows other_rows : List Row) → length assigned ≡ work.count → FollowsEarlier work
+    → IsEquivalence alike → AreSame work start other
+    → AreWaits (started_before version tree assigned start) work start waits
+    → AreWaits (started_before version tree assigned other) work other other_waits
     → AreRows alike waits rows → AreRows alike other_waits other_rows
     → rows ≡ other_rows

@@ -1,16 +1,16 @@
 -- Who waits for whom in a plan (own).
-use Rattle.std.specs.Prelude.{◌≡◌, ℕ, ◌-◌, ◌<◌, ◌≤◌, ◌⊎◌, List, [], ◌∷◌, ◌++◌, Option, Some, None, IsSome}
-use Rattle.std.specs.Prelude.{IfSome, MatchOption, if◌then◌else◌, nat_lt, slice_index_or}
+use Rattle.std.specs.Prelude.{◌≡◌, ℕ, ◌-◌, ◌<◌, ◌⊎◌, List, [], ◌∷◌, ◌++◌, Option, Some, None, IsSome}
+use Rattle.std.specs.Prelude.{IfSome, if◌then◌else◌, nat_lt, slice_index_or}
 use Rattle.std.specs.List.{flat_map}
 use Rattle.waff_assign.specs.Order.{Relation}
-use Rattle.waff_plan.specs.Chain.{IsLatest}
-use Rattle.waff_plan.specs.Work.{Work, IsAmongFirst, finish_of, numbers}
+use Rattle.waff_plan.specs.Waited.{AreWaitedFor}
+use Rattle.waff_plan.specs.Work.{Work, IsAmongFirst, finish_of, issue_of, numbers}
 use Rattle.waff_figures.specs.declared.waits.Wait.{Wait}
 
 -- from when on m waits for a worker alone: from the finish of the message that it waited for, or
--- from its release where it waited for none
+-- from its issue where it waited for none
 abbrev pub ready_of : Work → (ℕ → ℕ) → ℕ → Option ℕ → ℕ
-ready_of work start m None = work.release m
+ready_of work start m None = issue_of work start m
 ready_of work start m (Some i) = finish_of work start i
 
 -- the wait of m for so many ticks, none where there are no ticks
@@ -18,25 +18,12 @@ abbrev pub wait_of : ℕ → Option ℕ → ℕ → List Wait
 wait_of m on ticks =
     if nat_lt 0 ticks then record { message = m; on = on; ticks = ticks } ∷ [] else []
 
--- the waits of m: from its release until it is ready for the message that it waited for, and then
+-- the waits of m: from its issue until it is ready for the message that it waited for, and then
 -- until its start for a worker
 abbrev pub waits_in : Work → (ℕ → ℕ) → ℕ → Option ℕ → List Wait
 waits_in work start m waited_for =
-    wait_of m waited_for (ready_of work start m waited_for - work.release m)
+    wait_of m waited_for (ready_of work start m waited_for - issue_of work start m)
     ++ wait_of m None (start m - ready_of work start m waited_for)
-
--- the message that m waited for: the latest before it, where that finishes after the release of m
-abbrev pub IsWaitedFor : Relation → Work → (ℕ → ℕ) → ℕ → Option ℕ → Type 0
-IsWaitedFor before work start m waited_for =
-    MatchOption waited_for ((i : ℕ) → before i m → finish_of work start i ≤ work.release m)
-    (λ i. IsLatest (λ j. before j m) (finish_of work start) i
-    × (work.release m < finish_of work start i))
-
--- the messages that the first n waited for
-abbrev pub AreWaitedFor : Relation → Work → (ℕ → ℕ) → ℕ → List (Option ℕ) → Type 0
-AreWaitedFor before work start n links =
-    (m : ℕ) → 1 ≤ m → m ≤ n
-    → IsWaitedFor before work start m (slice_index_or links (m - 1) None)
 
 -- the waits of a plan, message by message
 pub record AreWaits (before : Relation) (work : Work)

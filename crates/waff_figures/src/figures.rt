@@ -1,20 +1,24 @@
 //! What is told of one plan.
 
-ghost use Rattle.std.specs.Prelude.{◌≡◌, ◌^◌, ◌<◌, ℕ, List, IfOk, IfSome, length, sum_by};
+ghost use Rattle.std.specs.Prelude.{◌≡◌, ◌^◌, ◌<◌, IfOk, IfSome, length, sum_by};
 ghost use Rattle.std.specs.List.Sorted.{IsNonDecreasing, IsPermutation};
-ghost use Rattle.waff_model.specs.Tree.{Node};
-ghost use Rattle.waff_assign.specs.Order.{IsOrdered};
-ghost use Rattle.waff_plan.specs.Timetable.{starts_in, work_in};
+ghost use Rattle.waff_assign.specs.Case.{instance_of};
+ghost use Rattle.waff_assign.specs.Instance.{Instance};
 ghost use Rattle.waff_plan.specs.Bound.{IsWorkers};
+ghost use Rattle.waff_plan.specs.Planned.{planned_starts, planned_work};
+ghost use Rattle.waff_plan.specs.Timetable.{starts_in, work_in};
 ghost use Rattle.waff_plan.specs.Work.{IsAmongFirst, Work, greatest, numbers};
 ghost use Rattle.waff_figures.specs.Figures.{AreFigures, FiguresAreOne, latencies_of, latency_of};
-ghost use Rattle.waff_figures.specs.Figures.{least_of, waits_of};
+ghost use Rattle.waff_figures.specs.Figures.{waits_of};
 ghost use Rattle.waff_figures.specs.Least.{LeastIsLowerBound, OneIsShortest, OverIsUpperBound};
+ghost use Rattle.waff_figures.specs.Least.{least_in, least_of};
 
 use crate::percentile::percentile;
 use std::alloc::{AllocError, Global};
-use waff_plan::Plan;
+use waff_model::Version;
 use waff_plan::laws::{least_is_shortest, none_is_shorter};
+use waff_plan::lower_bound::{lower_bound, none_is_below};
+use waff_plan::{Plan, Planned};
 use waff_plan_text::laws::ratio_up_is_upper_bound;
 
 /// What is told of a plan, in ticks.
@@ -27,12 +31,13 @@ pub struct Figures {
     /// The sum of all costs.
     pub total: u64,
     pub length: u64,
-    /// No plan that obeys is shorter, for as many workers.
+    /// No plan that obeys is shorter, for as many workers; where messages are of clients, none that
+    /// obeys in whatever order.
     pub least: u64,
-    /// The sum over all messages of the time from the release to the start. It may pass 64 bits, as
-    /// 65,536 starts may be up to 10^15.
+    /// The sum over all messages of the time from the issue to the start. It may pass 64 bits, as
+    /// 1,048,576 starts may be up to 10^15.
     pub waits: u128,
-    /// The sum of the latencies: of the times from the releases to the finishes. It may pass 64
+    /// The sum of the latencies: of the times from the issues to the finishes. It may pass 64
     /// bits too.
     pub latencies: u128,
     /// At least half of the messages have a latency of at most this.
@@ -43,26 +48,28 @@ pub struct Figures {
     pub latency: u64,
 }
 
-/// The figures of a plan for this number of workers or without a limit, where the unlimited plan is
-/// `shortest` long.
+/// The figures of a plan of a case for this number of workers or without a limit, where the unlimited
+/// plan of the case is `shortest` long.
 pub fn figures_of(
     alloc: Global,
-    plan: &Plan,
+    planned: &Planned<'_>,
     workers: Option<u32>,
     shortest: u64,
 ) -> Result<Figures, AllocError>
     requires { IfSome workers IsWorkers }
-    ensures { IfOk result
-        (AreFigures workers (work_in plan.now) shortest (starts_in plan.now)) }
+    ensures { IfOk result (AreFigures workers (planned_work planned.now)
+        (least_in workers (instance_of planned.now.case) shortest)
+        (planned_starts planned.now)) }
 {
+    let least = least(alloc, planned, workers, shortest)?;
+    let plan = planned.plan;
     let sorted = sorted_latencies(alloc, plan)?;
-    let total = plan.total();
     Ok(Figures {
         workers,
         messages: plan.len(),
-        total,
+        total: plan.total(),
         length: plan.length(),
-        least: least(workers, total, shortest),
+        least,
         waits: waits(plan),
         latencies: sum_of_latencies(plan),
         p50: percentile(sorted.as_slice(), 50),
@@ -71,8 +78,28 @@ pub fn figures_of(
     })
 }
 
-/// A number of ticks that no plan for as many workers is shorter than.
-fn least(workers: Option<u32>, total: u64, shortest: u64) -> u64
+/// A number of ticks that no plan of the case for as many workers is shorter than. The starts of the
+/// plan at hand count for nothing.
+fn least(
+    alloc: Global,
+    planned: &Planned<'_>,
+    workers: Option<u32>,
+    shortest: u64,
+) -> Result<u64, AllocError>
+    requires { IfSome workers IsWorkers }
+    ensures { IfOk result (λ least.
+        least ≡ least_in workers (instance_of planned.now.case) shortest) }
+{
+    let plan = planned.plan;
+    match plan.version() {
+        Version::V1 => Ok(least_in_order(workers, plan.total(), shortest)),
+        Version::V2 => Ok(least_in_order(workers, plan.total(), shortest)),
+        Version::V3 => lower_bound(alloc, planned, workers),
+    }
+}
+
+/// The same of plans that obey the order of the trace.
+fn least_in_order(workers: Option<u32>, total: u64, shortest: u64) -> u64
     requires { IfSome workers IsWorkers }
     ensures { result ≡ least_of workers total shortest }
 {
@@ -82,24 +109,24 @@ fn least(workers: Option<u32>, total: u64, shortest: u64) -> u64
     }
 }
 
-/// How long the messages wait in all, from their releases to their starts.
+/// How long the messages wait in all, from their issues to their starts.
 fn waits(plan: &Plan) -> u128
     ensures { result ≡ waits_of (work_in plan.now) (starts_in plan.now) }
 {
     let mut waits = 0;
     for n in 1..plan.len() + 1 {
-        waits += u128::from(plan.start(n).saturating_sub(plan.release(n)));
+        waits += u128::from(plan.start(n).saturating_sub(plan.issue(n)));
     }
     waits
 }
 
-/// How long message `n` takes from its release to its finish, 0 where it finishes before that.
+/// How long message `n` takes from its issue to its finish, 0 where it finishes before that.
 fn latency(plan: &Plan, n: u32) -> u64
     requires number { IsAmongFirst (length plan.now.timings) n }
     ensures latency { result ≡ latency_of (work_in plan.now) (starts_in plan.now) n }
     ensures small { result < 2 ^ 64 }
 {
-    plan.finish(n).saturating_sub(plan.release(n))
+    plan.finish(n).saturating_sub(plan.issue(n))
 }
 
 /// The sum of the latencies.
@@ -146,28 +173,26 @@ pub fn figures_are_one()
     ensures equal { (work : Work) → FiguresAreOne work }
 {}
 
-/// No obeying plan for as many workers is shorter than `least`.
+/// No plan that obeys, for as many workers, is shorter than `least`.
 pub fn least_is_lower_bound()
-    ensures bound { (tree : List Node) (assigned : List ℕ) (work : Work)
-        → LeastIsLowerBound (IsOrdered tree assigned) work }
+    ensures bound { (instance : Instance) → LeastIsLowerBound instance }
 {
     least_is_shortest();
     none_is_shorter();
+    none_is_below();
 }
 
-/// A plan is at most `over` times as long as any obeying plan for as many workers, where `over` is
+/// A plan is at most `over` times as long as any plan that obeys, for as many workers, where `over` is
 /// as printed.
 pub fn over_is_upper_bound()
-    ensures bound { (tree : List Node) (assigned : List ℕ) (work : Work)
-        → OverIsUpperBound (IsOrdered tree assigned) work }
+    ensures bound { (instance : Instance) → OverIsUpperBound instance }
 {
     ratio_up_is_upper_bound();
 }
 
-/// Where `over` is `1.00`, no obeying plan for as many workers is shorter.
+/// Where `over` is `1.00`, no plan that obeys, for as many workers, is shorter.
 pub fn one_is_shortest()
-    ensures shortest { (tree : List Node) (assigned : List ℕ) (work : Work)
-        → OneIsShortest (IsOrdered tree assigned) work }
+    ensures shortest { (instance : Instance) → OneIsShortest instance }
 {
     over_is_upper_bound();
 }

@@ -8,3 +8,12 @@ pub enum Grouping {
     /// Their name; where it is told who waits for whom, their affinity too.
     Name,
 }
+
+/// A text that each message has.
+#[derive(Clone, Copy)]
+pub enum Label {
+    /// The message's name.
+    Name,
+    /// Its client, `-` for a message of none.
+    Client,
+}

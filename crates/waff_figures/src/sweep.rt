@@ -1,20 +1,25 @@
 //! The sweep over numbers of workers.
 
-ghost use Rattle.std.specs.Prelude.{◌≡◌, All, IfOk, OnOk, Some, map, string_bytes};
+ghost use Rattle.std.specs.Prelude.{◌≡◌, ◌≢◌, All, IfOk, IfSome, OnOk, Some, map, string_bytes};
+ghost use Rattle.waff_model.specs.declared.message.Version.TheVariants.{V3};
+ghost use Rattle.waff_assign.specs.Case.{instance_of};
 ghost use Rattle.waff_plan.specs.Bound.{IsWorkers};
 ghost use Rattle.waff_plan.specs.Obeys.{IsLeast};
-ghost use Rattle.waff_plan.specs.Planned.{planned_pairs, planned_starts, planned_work};
+ghost use Rattle.waff_plan.specs.Planned.{planned_order, planned_starts, planned_work};
+ghost use Rattle.waff_plan.specs.Timetable.{starts_in, timings_of, work_in};
 ghost use Rattle.waff_plan.specs.Work.{length_of};
 ghost use Rattle.waff_plan_text.specs.Lines.{Adds, line_text, text_of};
-ghost use Rattle.waff_order.specs.Needs.{AreNeeds};
-ghost use Rattle.waff_figures.specs.Sweep.{AreListed, IsListed, sweep_lines, sweep_row};
-ghost use Rattle.waff_figures.specs.Sweep.{sweep_workers};
+ghost use Rattle.waff_list.specs.Served.{IsPlanServed};
+ghost use Rattle.waff_figures.specs.Sweep.{AreListed, AreNeedsOf, IsListed};
+ghost use Rattle.waff_figures.specs.Sweep.{sweep_lines, sweep_row, sweep_workers};
 
 use crate::fields::{BusyField, QualityFields, WorkerField};
 use crate::figures::{Figures, figures_of, least_is_lower_bound};
 use std::alloc::{AllocError, Global};
+use waff_assign::Case;
 use waff_list::laws::needs_make_the_same_plans;
-use waff_list::{Rule, list_plan_by};
+use waff_list::{Rule, WorkerPlan, list_plan, list_plan_by};
+use waff_model::Version;
 use waff_order::Needs;
 use waff_order::predecessors::needs;
 use waff_plan::Planned;
@@ -39,33 +44,52 @@ pub fn list_figures(
     rule: Rule,
     workers: &[u32],
 ) -> Result<Vec<Figures>, AllocError>
-    requires least { IsLeast (planned_pairs unlimited.now) (planned_work unlimited.now)
+    requires least { IsLeast (planned_order unlimited.now) (planned_work unlimited.now)
         (planned_starts unlimited.now) }
     requires workers { All IsWorkers workers.now }
-    ensures { IfOk result (λ listed. AreListed rule (planned_pairs unlimited.now)
-        (planned_work unlimited.now)
+    ensures { IfOk result (λ listed. AreListed rule (instance_of unlimited.now.case)
+        (length_of (planned_work unlimited.now) (planned_starts unlimited.now))
+        workers.now listed.items) }
+{
+    match unlimited.plan.version() {
+        Version::V1 => figures_in_order(alloc, unlimited, rule, workers),
+        Version::V2 => figures_in_order(alloc, unlimited, rule, workers),
+        Version::V3 => figures_by(alloc, unlimited, None, rule, workers),
+    }
+}
+
+/// The same figures of a trace that is served in its own order: all these plans have the same needs.
+fn figures_in_order(
+    alloc: Global,
+    unlimited: &Planned<'_>,
+    rule: Rule,
+    workers: &[u32],
+) -> Result<Vec<Figures>, AllocError>
+    requires earlier_version { unlimited.now.plan.now.version ≢ V3 }
+    requires least { IsLeast (planned_order unlimited.now) (planned_work unlimited.now)
+        (planned_starts unlimited.now) }
+    requires workers { All IsWorkers workers.now }
+    ensures { IfOk result (λ listed. AreListed rule (instance_of unlimited.now.case)
         (length_of (planned_work unlimited.now) (planned_starts unlimited.now))
         workers.now listed.items) }
 {
     let needs = needs(alloc, unlimited.case.tree, unlimited.case.assigned)?;
-    figures_by(alloc, unlimited, &needs, rule, workers)
+    figures_by(alloc, unlimited, Some(&needs), rule, workers)
 }
 
-/// The same figures, with these needs.
+/// The same figures, with the needs where they are known.
 fn figures_by(
     alloc: Global,
     unlimited: &Planned<'_>,
-    needs: &Needs,
+    needs: Option<&Needs>,
     rule: Rule,
     workers: &[u32],
 ) -> Result<Vec<Figures>, AllocError>
-    requires needs { AreNeeds unlimited.now.case.tree.now unlimited.now.case.assigned.now
-        needs.now }
-    requires least { IsLeast (planned_pairs unlimited.now) (planned_work unlimited.now)
+    requires needs { IfSome needs (λ needs. AreNeedsOf unlimited.now.case needs.now) }
+    requires least { IsLeast (planned_order unlimited.now) (planned_work unlimited.now)
         (planned_starts unlimited.now) }
     requires workers { All IsWorkers workers.now }
-    ensures { IfOk result (λ listed. AreListed rule (planned_pairs unlimited.now)
-        (planned_work unlimited.now)
+    ensures { IfOk result (λ listed. AreListed rule (instance_of unlimited.now.case)
         (length_of (planned_work unlimited.now) (planned_starts unlimited.now))
         workers.now listed.items) }
 {
@@ -84,40 +108,86 @@ pub fn list_figures_for(
     rule: Rule,
     k: u32,
 ) -> Result<Figures, AllocError>
-    requires least { IsLeast (planned_pairs unlimited.now) (planned_work unlimited.now)
+    requires least { IsLeast (planned_order unlimited.now) (planned_work unlimited.now)
         (planned_starts unlimited.now) }
     requires workers { IsWorkers k }
     ensures workers { IfOk result (λ figures. figures.workers ≡ Some k) }
-    ensures listed { IfOk result (IsListed rule (planned_pairs unlimited.now)
-        (planned_work unlimited.now)
+    ensures listed { IfOk result (IsListed rule (instance_of unlimited.now.case)
         (length_of (planned_work unlimited.now) (planned_starts unlimited.now))) }
 {
-    let needs = needs(alloc, unlimited.case.tree, unlimited.case.assigned)?;
-    figures_for(alloc, unlimited, &needs, rule, k)
+    figures_for(alloc, unlimited, None, rule, k)
 }
 
-/// The figures of the list plan by this rule for k workers.
+/// The figures of the list plan by this rule for k workers, with the needs where they are known.
 fn figures_for(
     alloc: Global,
     unlimited: &Planned<'_>,
-    needs: &Needs,
+    needs: Option<&Needs>,
     rule: Rule,
     k: u32,
 ) -> Result<Figures, AllocError>
-    requires needs { AreNeeds unlimited.now.case.tree.now unlimited.now.case.assigned.now
-        needs.now }
-    requires least { IsLeast (planned_pairs unlimited.now) (planned_work unlimited.now)
+    requires needs { IfSome needs (λ needs. AreNeedsOf unlimited.now.case needs.now) }
+    requires least { IsLeast (planned_order unlimited.now) (planned_work unlimited.now)
         (planned_starts unlimited.now) }
     requires workers { IsWorkers k }
     ensures workers { IfOk result (λ figures. figures.workers ≡ Some k) }
-    ensures listed { IfOk result (IsListed rule (planned_pairs unlimited.now)
-        (planned_work unlimited.now)
+    ensures listed { IfOk result (IsListed rule (instance_of unlimited.now.case)
         (length_of (planned_work unlimited.now) (planned_starts unlimited.now))) }
 {
-    let made = list_plan_by(alloc, needs, unlimited.case.trace, rule, k)?;
-    needs_make_the_same_plans();
+    let _affinities = unlimited.case.tree.len();
+    let made = planned_for(alloc, unlimited.case, needs, rule, k)?;
     least_is_lower_bound();
-    figures_of(alloc, made.plan(), Some(k), unlimited.plan.length())
+    let planned = Planned {
+        case: unlimited.case,
+        plan: made.plan(),
+    };
+    let figures = figures_of(alloc, &planned, Some(k), unlimited.plan.length());
+    drop(made);
+    figures
+}
+
+/// The list plan by this rule for k workers, with the needs where they are known.
+fn planned_for(
+    alloc: Global,
+    case: Case<'_>,
+    needs: Option<&Needs>,
+    rule: Rule,
+    k: u32,
+) -> Result<WorkerPlan, AllocError>
+    requires needs { IfSome needs (λ needs. AreNeedsOf case needs.now) }
+    requires workers { IsWorkers k }
+    ensures version { IfOk result (λ made. made.plan.version ≡ case.entry.trace.now.version) }
+    ensures timings { IfOk result (λ made.
+        made.plan.timings ≡ timings_of case.entry.trace.now.messages) }
+    ensures follows { IfOk result (λ made. IsPlanServed case.entry.trace.now.version rule
+        case.entry.tree.now case.entry.assigned.now
+        (work_in made.plan) k (starts_in made.plan)) }
+{
+    match needs {
+        Some(needs) => planned_by(alloc, case, needs, rule, k),
+        None => list_plan(alloc, case, rule, k),
+    }
+}
+
+/// The same plan, by the needs.
+fn planned_by(
+    alloc: Global,
+    case: Case<'_>,
+    needs: &Needs,
+    rule: Rule,
+    k: u32,
+) -> Result<WorkerPlan, AllocError>
+    requires needs { AreNeedsOf case needs.now }
+    requires workers { IsWorkers k }
+    ensures version { IfOk result (λ made. made.plan.version ≡ case.entry.trace.now.version) }
+    ensures timings { IfOk result (λ made.
+        made.plan.timings ≡ timings_of case.entry.trace.now.messages) }
+    ensures follows { IfOk result (λ made. IsPlanServed case.entry.trace.now.version rule
+        case.entry.tree.now case.entry.assigned.now
+        (work_in made.plan) k (starts_in made.plan)) }
+{
+    needs_make_the_same_plans();
+    list_plan_by(alloc, needs, case.trace, rule, k)
 }
 
 /// The text of the figures of the list plans and of the unlimited plan.

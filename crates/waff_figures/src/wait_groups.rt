@@ -8,7 +8,7 @@ ghost use Rattle.waff_figures.specs.ByName.{message_names};
 ghost use Rattle.waff_figures.specs.WaitRows.{same_group};
 ghost use Rattle.waff_figures.specs.WaitText.{are_alike};
 
-use crate::grouping::Grouping;
+use crate::grouping::{Grouping, Label};
 use crate::names::names_of;
 use crate::wait_rows::Group;
 use std::alloc::{AllocError, Global};
@@ -31,7 +31,7 @@ pub(crate) fn groups(
     match grouping {
         Grouping::Affinity => affinity_groups(alloc, case.assigned),
         Grouping::Name => {
-            let found = names_of(alloc, case.trace)?;
+            let found = names_of(alloc, case.trace, Label::Name)?;
             numbered_groups(alloc, case.assigned, found.places.as_slice())
         }
     }

@@ -18,7 +18,7 @@ pub struct Row {
     /// The first of these waits: the others are of messages like its own.
     pub first: Wait,
     pub messages: usize,
-    /// The sum of the ticks. It may pass 64 bits, as 65,536 starts may be up to 10^15.
+    /// The sum of the ticks. It may pass 64 bits, as 1,048,576 starts may be up to 10^15.
     pub ticks: u128,
     /// The most ticks of one message.
     pub longest: u64,

@@ -3,7 +3,10 @@
 ghost use Rattle.std.specs.Prelude.{◌≡◌, All, IfOk, IfSome, List, OnOk, length};
 ghost use Rattle.std.specs.Prelude.{map, string_bytes, []};
 ghost use Rattle.waff_assign.specs.Order.{affinity_name};
-ghost use Rattle.waff_plan.specs.Planned.{planned_pairs, planned_starts, planned_work};
+ghost use Rattle.waff_model.specs.declared.message.Version.TheVariants.{V3};
+ghost use Rattle.waff_plan.specs.Obeys.{Obeys};
+ghost use Rattle.waff_plan.specs.Planned.{planned_order, planned_pairs, planned_starts};
+ghost use Rattle.waff_plan.specs.Planned.{planned_work};
 ghost use Rattle.waff_plan.specs.Work.{IsAmongFirst};
 ghost use Rattle.waff_plan_text.specs.Lines.{Adds, line_text, text_of};
 ghost use Rattle.waff_figures.specs.ByName.{message_names};
@@ -23,12 +26,15 @@ use waff_assign::Case;
 use waff_plan::Planned;
 
 /// The text that tells for each pair of affinities how long messages of the one wait for messages
-/// of the other, and by name for each pair of names and affinities.
+/// of the other, and by name for each pair of names and affinities. A plan of a trace with clients has to
+/// obey.
 pub fn waiting_text(
     alloc: Global,
     planned: &Planned<'_>,
     grouping: Grouping,
 ) -> Result<String, AllocError>
+    requires served { planned.now.plan.now.version ≡ V3
+        → Obeys (planned_order planned.now) (planned_work planned.now) (planned_starts planned.now) }
     ensures { IfOk result (λ text. (waits : List WaitOf) × (rows : List RowOf)
         × AreWaits (planned_pairs planned.now) (planned_work planned.now)
         (planned_starts planned.now) waits
@@ -50,6 +56,8 @@ fn waiting_rows(
     planned: &Planned<'_>,
     grouping: Grouping,
 ) -> Result<Vec<Row>, AllocError>
+    requires served { planned.now.plan.now.version ≡ V3
+        → Obeys (planned_order planned.now) (planned_work planned.now) (planned_starts planned.now) }
     ensures rows { IfOk result (λ rows. (waits : List WaitOf)
         × AreWaits (planned_pairs planned.now) (planned_work planned.now)
         (planned_starts planned.now) waits

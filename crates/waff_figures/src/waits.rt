@@ -2,13 +2,16 @@
 
 ghost use Rattle.std.specs.Prelude.{◌≡◌, ◌++◌, All, IfOk, OnOk, IfSome, length};
 ghost use Rattle.std.specs.List.{AllPairs};
-ghost use Rattle.waff_plan.specs.Planned.{planned_pairs, planned_starts, planned_work};
+ghost use Rattle.waff_model.specs.declared.message.Version.TheVariants.{V3};
+ghost use Rattle.waff_plan.specs.Obeys.{Obeys};
+ghost use Rattle.waff_plan.specs.Planned.{planned_order, planned_pairs, planned_starts};
+ghost use Rattle.waff_plan.specs.Planned.{planned_work};
 ghost use Rattle.waff_plan.specs.Work.{IsAmongFirst};
 ghost use Rattle.waff_figures.specs.Waits.{AreWaits, ComesFirst, IsWaitAmong, wait_of, waits_in};
 
 use std::alloc::{AllocError, Global};
 use waff_plan::Planned;
-use waff_plan::links::links;
+use waff_plan::waited::waited;
 
 /// How long a message waits for another one, or for a worker.
 #[derive(Clone, Copy)]
@@ -22,8 +25,10 @@ pub struct Wait {
 }
 
 /// All waits of the plan, in the order of the messages; that for a message comes before that for a
-/// worker.
+/// worker. A plan of a trace with clients has to obey.
 pub(crate) fn waits(alloc: Global, planned: &Planned<'_>) -> Result<Vec<Wait>, AllocError>
+    requires served { planned.now.plan.now.version ≡ V3
+        → Obeys (planned_order planned.now) (planned_work planned.now) (planned_starts planned.now) }
     ensures waits { IfOk result (λ waits. AreWaits (planned_pairs planned.now)
         (planned_work planned.now) (planned_starts planned.now) waits.items) }
     ensures order { IfOk result (λ waits. AllPairs ComesFirst waits.items) }
@@ -31,7 +36,7 @@ pub(crate) fn waits(alloc: Global, planned: &Planned<'_>) -> Result<Vec<Wait>, A
         All (IsWaitAmong (length planned.now.case.assigned.now)) waits.items) }
 {
     let plan = planned.plan;
-    let links = links(alloc, planned.case.tree, planned.case.assigned, plan)?;
+    let links = waited(alloc, planned.case.tree, planned.case.assigned, plan)?;
     let mut waits = Vec::new(alloc);
     for m in 1..plan.len() + 1 {
         push_waits(&mut waits, planned, m, links[m as usize - 1])?;
@@ -39,7 +44,7 @@ pub(crate) fn waits(alloc: Global, planned: &Planned<'_>) -> Result<Vec<Wait>, A
     Ok(waits)
 }
 
-/// Appends the waits of a message: for the one of its link until it is ready, and then for a
+/// Appends the waits of a message: for the one that it waited for until it is ready, and then for a
 /// worker until it starts.
 fn push_waits(
     waits: &mut Vec<Wait>,
@@ -53,12 +58,12 @@ fn push_waits(
         ++ waits_in (planned_work planned.now) (planned_starts planned.now) message link) }
 {
     let plan = planned.plan;
-    let release = plan.release(message);
+    let issue = plan.issue(message);
     let ready = match link {
         Some(other) => plan.finish(other),
-        None => release,
+        None => issue,
     };
-    push_wait(waits, message, link, ready.saturating_sub(release))?;
+    push_wait(waits, message, link, ready.saturating_sub(issue))?;
     push_wait(
         waits,
         message,

@@ -30,7 +30,7 @@ chosen_none ready idle = record {
 }
 
 -- where one leaves, all in all are the same
-parted_more : (old xs ys : List ℕ) (x : ℕ) (rest : List ℕ) → IsPermutation old (xs ++ ys) → IsPermutation ys (x ∷ rest) → IsPermutation old ((xs ++ x ∷ []) ++ rest)
+pub parted_more : (old xs ys : List ℕ) (x : ℕ) (rest : List ℕ) → IsPermutation old (xs ++ ys) → IsPermutation ys (x ∷ rest) → IsPermutation old ((xs ++ x ∷ []) ++ rest)
 parted_more old xs ys x rest same leaves = subst (λ zs. IsPermutation old zs) (sym (append_assoc xs (x ∷ []) rest))
     (IsPermutation-trans old (xs ++ ys) (xs ++ x ∷ rest) same (IsPermutation-append_right xs ys (x ∷ rest) leaves))
 

@@ -7,19 +7,18 @@ use Rattle.std.proofs.lemmas.List.Sorted.{sum_by_pushed}
 use Rattle.std.specs.List.Sorted.{IsPermutation, IsStrictlyIncreasing}
 use Rattle.std.proofs.lemmas.List.Sums.{sum_by-cons, sum_by-le, get_or-le-sum_by, count_by_more_yes, count_by_more_no, sum_by_more_le}
 use Rattle.waff_plan.specs.Work.{Work, IsNumber, finish_of}
-use Rattle.waff_plan.specs.Obeys.{IsForward}
 use Rattle.waff_order.specs.Needs.{needs_of, IsNeed}
 use Rattle.waff_list.specs.Waiting.{Runs, AreFinishes, AreLeft, FallAlike, left_of, times}
 use Rattle.waff_list.specs.declared.work.TheConstants.{NEVER}
 
 -- where no element adds to a sum, it is 0
-sum_none : {X : Type 0} (f : X → ℕ) (xs : List X) → ((x : X) → Contains xs x → f x ≡ 0) → sum_by f xs ≡ 0
+pub sum_none : {X : Type 0} (f : X → ℕ) (xs : List X) → ((x : X) → Contains xs x → f x ≡ 0) → sum_by f xs ≡ 0
 sum_none f xs h =
     let none = sum_by-le f 0 xs (All-weaker (Contains xs) (λ x. f x ≤ 0) (λ x there. let is : f x ≡ 0 = h x there in omega arith) xs (All-contains_itself xs)) in
     omega (arith, none)
 
 -- an element adds its part
-sum_some : {X : Type 0} (f : X → ℕ) (xs : List X) (x : X) → Contains xs x → f x ≤ sum_by f xs
+pub sum_some : {X : Type 0} (f : X → ℕ) (xs : List X) (x : X) → Contains xs x → f x ≤ sum_by f xs
 sum_some f xs x there = subst (λ y. f y ≤ sum_by f xs) there.2 (get_or-le-sum_by f xs there.0 x there.1)
 
 count_none : {X : Type 0} (p : X → Bool) (xs : List X) → ((x : X) → Contains xs x → p x ≡ false) → count_by p xs ≡ 0
@@ -135,10 +134,7 @@ left_fall needs start finishes finishes_after left left_after h fall count = rec
   counts = λ m from to. omega (arith, fall m from to, h.counts m from to);
 }
 
-module _ (needs : List (List ℕ)) (work : Work) (forward : IsForward (IsNeed needs) work) (same : length needs ≡ work.count) where
-  need_number : (i j : ℕ) → IsNeed needs i j → IsNumber work i
-  need_number i j need = forward.first i j (inl need)
-
+module _ (needs : List (List ℕ)) (work : Work) (need_number : (i j : ℕ) → IsNeed needs i j → IsNumber work i) (same : length needs ≡ work.count) where
   need_of : (i m : ℕ) → 1 ≤ m → Contains (needs_of needs m) i → IsNeed needs i m
   need_of i m from there = record { from = from; listed = there }
 

@@ -45,7 +45,7 @@ times_append x xs ys = sum_by-append (λ y. cond (y == x) 1 0) xs ys
 times_moved : (x : ℕ) (xs ys : List ℕ) → IsPermutation xs ys → times x ys ≡ times x xs
 times_moved x xs ys moved = sum_by-IsPermutation (λ y. cond (y == x) 1 0) xs ys moved
 
-times_listed : (x : ℕ) (xs : List ℕ) → 1 ≤ times x xs → Contains xs x
+pub times_listed : (x : ℕ) (xs : List ℕ) → 1 ≤ times x xs → Contains xs x
 times_listed x [] some = absurd (omega (arith, some))
 times_listed x (y ∷ ys) some = elim (cases_eq x y) [
   | inl same ↦ subst (λ z. Contains (y ∷ ys) z) (sym same) (contains_first y ys)

@@ -13,10 +13,10 @@ use Rattle.waff_list.specs.ListRule.{IsReady, IsListPlan}
 use Rattle.waff_list.specs.Load.{Placed}
 use Rattle.waff_list.specs.Seats.{ComesBefore, HoldsWorker, IsSeated}
 use Rattle.waff_list.specs.Seating.{worker_of}
-use Rattle.waff_list.specs.Progress.{IsSettled, IsOrderSoFar, IsProgressOf, IsNextTick}
+use Rattle.waff_list.specs.Progress.{IsSettled, IsOrderSoFar, IsProgressOf}
 use Rattle.waff_list.specs.Waiting.{AreEach, AreManned, AreFinishes, Runs}
 use Rattle.waff_list.specs.declared.work.TheConstants.{NEVER}
-use Rattle.waff_list.proofs.Each.{each_there, each_moved, each_apart, contains_rest_of, contains_first, contains_map, contains_mapped, manned_more}
+use Rattle.waff_list.proofs.Each.{each_there, each_moved, each_same, each_apart, contains_rest_of, contains_first, contains_map, contains_mapped, manned_more}
 use Rattle.waff_list.proofs.TailLemmas.{IsAhead}
 use Rattle.waff_list.proofs.Uniqueness.{AreAlike, FollowsMessages}
 use Rattle.waff_list.proofs.IssueLemmas.{issue_same, followed_by}
@@ -288,33 +288,52 @@ module _ (before taken_first : Relation) (work : Work) (k : ℕ) (numbers : (i j
         }
 
     -- what is issued by now in the new plan was issued then
-    issue_back : (m t : ℕ) → t ≤ now → issue_of work later m ≤ t → issue_of work later m ≡ issue_of work start m
+    pub issue_back : (m t : ℕ) → t ≤ now → issue_of work later m ≤ t → issue_of work later m ≡ issue_of work start m
     issue_back m t early issued = issue_same work later start m (λ f follows. elim (cases_eq f x) [
       | inl same ↦ absurd (omega (arith, followed_by work later m t f issued follows, early, ap (finish_of work later) same, at_x, cost))
       | inr other ↦ kept f (followed f m follows) other
     ])
 
     -- and stays so
-    issue_kept : (m t : ℕ) → t ≤ now → issue_of work start m ≤ t → issue_of work later m ≡ issue_of work start m
+    pub issue_kept : (m t : ℕ) → t ≤ now → issue_of work start m ≤ t → issue_of work later m ≡ issue_of work start m
     issue_kept m t early issued = issue_same work later start m (λ f follows. elim (cases_eq f x) [
       | inl same ↦ absurd (omega (arith, followed_by work start m t f issued follows, early, ap (finish_of work start) same, never, short))
       | inr other ↦ kept f (followed f m follows) other
     ])
 
+    -- what is ready in the new plan by now was ready
+    pub ready_was : (near second : Relation) → AreAlike work before near taken_first second start later now
+        → (t m : ℕ) → t ≤ now → IsReady near work later t m → IsReady before work start t m
+    ready_was near second alike t m early ready = record {
+      number = ready.number;
+      issued = omega (arith, ready.issued, issue_back m t (omega arith) ready.issued);
+      free = λ i pair.
+          let near_pair = alike.before_to i m (omega (arith, early, ready.issued, issue_back m t early ready.issued)) pair in
+          elim (cases_eq i x) [
+            | inl same ↦ absurd (omega (arith, rw (same, at_x) at (ready.free i near_pair), cost))
+            | inr other ↦ rw (kept i (first_number i m pair) other) at (ready.free i near_pair)
+          ];
+    }
+
+    -- and what was ready at now is so still
+    pub ready_still : (near second : Relation) → AreAlike work before near taken_first second start later now
+        → (m : ℕ) → IsReady before work start now m → IsReady near work later now m
+    ready_still near second alike m ready =
+        let issued = issue_kept m now (omega arith) ready.issued in
+        record {
+          number = ready.number;
+          issued = omega (arith, ready.issued, issued);
+          free = λ i near_pair.
+              let pair = alike.before_back i m (omega (arith, ready.issued, issued)) near_pair in
+              let done = ready.free i pair in
+              rw (kept i (first_number i m pair) (λ is_x. omega (arith, done, ap (finish_of work start) is_x, never, short))) done;
+        }
+
     -- what is ready in the new plan by now, and waits, was ready and waited
     pub ready_back : (near second : Relation) → AreAlike work before near taken_first second start later now
         → (t m : ℕ) → t ≤ now → IsReady near work later t m → t < later m → IsReady before work start t m × (t < start m)
     ready_back near second alike t m early ready waits = (
-      record {
-        number = ready.number;
-        issued = omega (arith, ready.issued, issue_back m t (omega arith) ready.issued);
-        free = λ i pair.
-            let near_pair = alike.before_to i m (omega (arith, early, ready.issued, issue_back m t early ready.issued)) pair in
-            elim (cases_eq i x) [
-              | inl same ↦ absurd (omega (arith, rw (same, at_x) at (ready.free i near_pair), cost))
-              | inr other ↦ rw (kept i (first_number i m pair) other) at (ready.free i near_pair)
-            ];
-      },
+      ready_was near second alike t m early ready,
       elim (cases_eq m x) [
         | inl same ↦ omega (arith, ap start same, never)
         | inr other ↦ rw (kept m ready.number other) at waits
@@ -484,6 +503,26 @@ module _ (before taken_first : Relation) (work : Work) (k : ℕ) (numbers : (i j
           listed = order_more start worker later seats now x w number short cost moved_here seated_there unplaced h.settled placed.order h.listed;
         }
 
+    -- what is issued by now in the new plan was issued then
+    pub issue_was : (m t : ℕ) → t ≤ now → issue_of work (start_of more_placed.starts) m ≤ t → issue_of work (start_of more_placed.starts) m ≡ issue_of work (start_of placed.starts) m
+    issue_was = issue_back (start_of placed.starts) (worker_of placed.seats) (start_of more_placed.starts) (worker_of more_placed.seats) now x w number short cost moved_here seated_there unplaced h.settled
+
+    -- and stays so
+    pub issue_stays : (m t : ℕ) → t ≤ now → issue_of work (start_of placed.starts) m ≤ t → issue_of work (start_of more_placed.starts) m ≡ issue_of work (start_of placed.starts) m
+    issue_stays = issue_kept (start_of placed.starts) (worker_of placed.seats) (start_of more_placed.starts) (worker_of more_placed.seats) now x w number short cost moved_here seated_there unplaced h.settled
+
+    -- the same are ready at now
+    pub ready_place : (near second : Relation) → AreAlike work before near taken_first second (start_of placed.starts) (start_of more_placed.starts) now
+        → (xs : List ℕ) → AreEach (IsReady before work (start_of placed.starts) now) xs → AreEach (IsReady near work (start_of more_placed.starts) now) xs
+    ready_place near second alike xs each =
+        let start = start_of placed.starts in
+        let worker = worker_of placed.seats in
+        let later = start_of more_placed.starts in
+        let seats = worker_of more_placed.seats in
+        each_same (IsReady before work start now) xs each (IsReady near work later now)
+        (ready_still start worker later seats now x w number short cost moved_here seated_there unplaced h.settled near second alike)
+        (λ m. ready_was start worker later seats now x w number short cost moved_here seated_there unplaced h.settled near second alike now m (omega arith))
+
     pub manned_place : (more : List (ℕ × ℕ)) → IsPermutation ((now + work.cost x, x) ∷ finishes) more → AreManned k more_placed.seats more idle
     manned_place more pushed =
         let kept : All (λ (r : ℕ × ℕ). worker_of placed.seats r.1 ≡ worker_of more_placed.seats r.1) finishes
@@ -538,17 +577,16 @@ module _ (before taken_first : Relation) (work : Work) (k : ℕ) (numbers : (i j
   }
 
   -- on to the next tick at which a message finishes or is issued
-  pub progress_advance : (placed : Placed) (now next : ℕ) (finishes : List (ℕ × ℕ)) → AreFinishes work (start_of placed.starts) now finishes → IsNextTick work finishes now next
+  pub progress_advance : (placed : Placed) (now next : ℕ) (finishes : List (ℕ × ℕ)) → AreFinishes work (start_of placed.starts) now finishes
+      → now < next → next < NEVER → All (λ r. next ≤ r.0) finishes
       → ((m : ℕ) → IsNumber work m → (issue_of work (start_of placed.starts) m ≤ now) ⊎ (next ≤ issue_of work (start_of placed.starts) m))
       → IsProgressOf before taken_first work k placed now (work.count + 1) (now + 1) → IsProgressOf before taken_first work k placed next 1 next
-  progress_advance placed now next finishes run tick issues h =
+  progress_advance placed now next finishes run later short first issues h =
       let start = start_of placed.starts in
-      let later : now < next = tick.later in
-      let short : next < NEVER = tick.tick in
       let back : (m : ℕ) → IsNumber work m → start m ≤ next → start m ≤ now = λ m number is. elim (h.settled.placed m number) [ inl early ↦ early | inr never ↦ absurd (omega arith) ] in
       let ends : (m : ℕ) → IsNumber work m → (finish_of work start m ≤ now) ⊎ (next ≤ finish_of work start m) = λ m number. elim (h.settled.placed m number) [
         | inl early ↦ elim (cases_lt now (finish_of work start m)) [
-          | inl late ↦ inr (All-contains (λ (r : ℕ × ℕ). next ≤ r.0) finishes (finish_of work start m, m) tick.first (run.each m number early late))
+          | inl late ↦ inr (All-contains (λ (r : ℕ × ℕ). next ≤ r.0) finishes (finish_of work start m, m) first (run.each m number early late))
           | inr done ↦ inl done
         ]
         | inr never ↦ inr (omega arith)

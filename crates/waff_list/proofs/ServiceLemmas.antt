@@ -8,19 +8,19 @@ use Rattle.waff_plan.specs.Issues.{IsIssuedBefore, IsServedBefore}
 use Rattle.waff_plan.specs.Obeys.{FollowsEarlier}
 use Rattle.waff_plan.specs.Timing.{start_of}
 use Rattle.waff_plan.specs.Work.{Work, IsNumber, IsAmongFirst, finish_of, issue_of}
-use Rattle.waff_plan.proofs.IssueOrder.{place_of, place_to, earlier_place, issued_not_itself, issued_on}
+use Rattle.waff_plan.proofs.IssueOrder.{issued_not_itself, issued_on}
+use Rattle.waff_plan.proofs.Places.{earlier_place, place_of, place_to}
 use Rattle.waff_order.specs.Needs.{IsNeed, needs_of}
 use Rattle.waff_order.specs.Joined.{Joined, HaveJoined}
 use Rattle.waff_order.proofs.NeedLemmas.{need_within}
 use Rattle.waff_list.specs.ByIssue.{IsTakenByIssue}
-use Rattle.waff_list.specs.Clients.{MAX_THINKING}
 use Rattle.waff_list.specs.Load.{Placed}
 use Rattle.waff_list.specs.Progress.{IsSettled, IsSmall}
 use Rattle.waff_list.specs.Seating.{worker_of}
 use Rattle.waff_list.specs.Serving.{AreNeedsByNumber, AreServed, IsLastEvent, IsMadeByIssue, IsProgressByIssue, Service, served_at}
 use Rattle.waff_list.specs.Waiting.{AreFinishes}
 use Rattle.waff_list.specs.declared.work.TheConstants.{NEVER}
-use Rattle.waff_model.specs.declared.limits.TheConstants.{MAX_COST, MAX_RELEASE}
+use Rattle.waff_model.specs.declared.limits.TheConstants.{MAX_COST, MAX_RELEASE, MAX_THINK, MAX_TICK}
 use Rattle.waff_list.proofs.Each.{contains_map, contains_mapped, each_there}
 use Rattle.waff_list.proofs.IssueLemmas.{issue_le}
 use Rattle.waff_list.proofs.IssuePlans.{follows_messages, served_to, taken_to}
@@ -44,10 +44,10 @@ module _ (service : Service) (follows : FollowsEarlier service.work) where
 
   pub served_ahead : (start : ℕ → ℕ) → IsAhead (before_at start) work
   served_ahead start = record {
-    place = place_of work start;
-    to = λ m number. place_to work start m;
+    place = place_of work (issue_of work start);
+    to = λ m number. place_to work (issue_of work start) m;
     second = λ i j pair. pair.second;
-    earlier = λ i j pair. earlier_place work start i j pair.second pair.issued;
+    earlier = λ i j pair. earlier_place work (issue_of work start) i j pair.second pair.issued;
   }
 
   -- where two plans issue the same by now, they serve alike
@@ -62,8 +62,8 @@ module _ (service : Service) (follows : FollowsEarlier service.work) where
   }
 
   -- where no message finishes after now, and none is known to be issued, all are issued and placed
-  module _ (start worker : ℕ → ℕ) (now : ℕ) (some : 1 ≤ service.workers) (early : now + MAX_RELEASE + MAX_THINKING < NEVER) (small : IsSmall work)
-      (thinks : (m : ℕ) → IsNumber work m → work.think m ≤ MAX_THINKING)
+  module _ (start worker : ℕ → ℕ) (now : ℕ) (some : 1 ≤ service.workers) (early : now + MAX_RELEASE + MAX_THINK < NEVER) (small : IsSmall work)
+      (thinks : (m : ℕ) → IsNumber work m → work.think m ≤ MAX_THINK)
       (finishes : (m : ℕ) → IsNumber work m → start m ≤ now → finish_of work start m ≤ now)
       (issues : (m : ℕ) → IsNumber work m → (issue_of work start m ≤ now) ⊎ (NEVER ≤ issue_of work start m))
       (h : IsSettled (before_at start) (first_at start) work service.workers start worker now (work.count + 1) (now + 1)) where
@@ -77,7 +77,7 @@ module _ (service : Service) (follows : FollowsEarlier service.work) where
     all_issued (suc bound) m less number = elim (issues m number) [
       | inl issued ↦ issued
       | inr never ↦
-          let soon = issue_le work start m (now + MAX_RELEASE + MAX_THINKING) (omega (arith, small.release m number))
+          let soon = issue_le work start m (now + MAX_RELEASE + MAX_THINK) (omega (arith, small.release m number))
           (λ f is.
           let earlier = follows f m is in
           let f_number : IsNumber work f = record { from = earlier.from; to = omega (arith, earlier.earlier, earlier.to) } in
@@ -89,8 +89,8 @@ module _ (service : Service) (follows : FollowsEarlier service.work) where
     pub all_placed : (m : ℕ) → IsNumber work m → start m ≤ now
     all_placed m number = placed_if_issued m number (all_issued (suc m) m (omega arith) number)
 
-  pub made_by_issue : (placed : Placed) (now : ℕ) → 1 ≤ service.workers → now + MAX_RELEASE + MAX_THINKING + MAX_COST < NEVER → IsSmall work
-      → ((m : ℕ) → IsNumber work m → work.think m ≤ MAX_THINKING) → IsProgressByIssue service placed now (work.count + 1) (now + 1)
+  pub made_by_issue : (placed : Placed) (now : ℕ) → 1 ≤ service.workers → now ≤ MAX_TICK → IsSmall work
+      → ((m : ℕ) → IsNumber work m → work.think m ≤ MAX_THINK) → IsProgressByIssue service placed now (work.count + 1) (now + 1)
       → (finishes : List (ℕ × ℕ)) → AreFinishes work (start_of placed.starts) now finishes → IsLastEvent work (start_of placed.starts) finishes now
       → IsMadeByIssue service placed
   made_by_issue placed now some early small thinks h finishes running last =
@@ -109,6 +109,7 @@ module _ (service : Service) (follows : FollowsEarlier service.work) where
       record {
         starts_count = h.starts_count;
         seats_count = h.seats_count;
+        printable = λ i d inside. omega (arith, read placed.starts i d inside, all (i + 1) (number_at i (omega (arith, h.starts_count))), early);
         plan = settled_plan (before_at start) (first_at start) work service.workers (served_numbers start) (follows_messages work follows) start (worker_of seats) now all h.settled;
         seated = λ m number. h.settled.seated m number (all m number);
         known = λ i d inside.

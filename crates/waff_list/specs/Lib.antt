@@ -12,6 +12,9 @@ pub mod Unique
 pub mod Tails
 pub mod Rules
 pub mod ByIssue
+pub mod Served
 pub mod Clients
 pub mod Serving
 pub mod Issuing
+pub mod IssuePlanning
+pub mod IssueJoining

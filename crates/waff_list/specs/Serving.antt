@@ -6,6 +6,7 @@ use Rattle.std.specs.Prelude.{Contains, slice_index}
 use Rattle.std.specs.List.Sorted.{IsPermutation}
 use Rattle.waff_model.specs.Numbers.{IsAmongFirst}
 use Rattle.waff_model.specs.Tree.{Node}
+use Rattle.waff_model.specs.declared.limits.TheConstants.{MAX_TICK}
 use Rattle.waff_model.specs.declared.preorder.Span.{Span}
 use Rattle.waff_assign.specs.Order.{affinity_of}
 use Rattle.waff_plan.specs.Issues.{IsIssuedBefore, IsServedBefore}
@@ -66,13 +67,14 @@ pub record AreNeedsByNumber (messages : ℕ) (served : List ℕ) (joined : Joine
       → needs_of needs (served_at served p) ≡ map (served_at served) (needs_of joined.needs p)
   pub of_others : (m : ℕ) → IsAmongFirst messages m → (Contains served m → ⊥) → needs_of needs m ≡ []
 
--- what is kept of the messages that have joined by now, of those that run, and of those that wait
+-- what is kept of the messages that have joined, which are those that were issued by the tick joined_by,
+-- of those that run at now, and of those that wait
 pub record IsServing (service : Service) (placed : Placed) (pending : Pending) (joins : Joins)
-    (needs : List (List ℕ)) (now : ℕ) : Type 0 where
-  pub served : AreServed service.work (start_of placed.starts) now joins.served
+    (needs : List (List ℕ)) (joined_by now : ℕ) : Type 0 where
+  pub served : AreServed service.work (start_of placed.starts) joined_by joins.served
   pub joined : HaveJoined service.tree service.spans
       (map (affinity_of service.assigned) joins.served) joins.joined
-  pub issues : AreIssues service.work (start_of placed.starts) now joins.issues
+  pub issues : AreIssues service.work (start_of placed.starts) joined_by joins.issues
   pub told : AreNeedsByNumber service.work.count joins.served joins.joined needs
   pub dependents : AreDependents needs joins.dependents service.work.count
   pub finishes : AreFinishes service.work (start_of placed.starts) now pending.finishes
@@ -111,6 +113,7 @@ pub record IsLastEvent (work : Work) (start : ℕ → ℕ) (finishes : List (ℕ
 pub record IsMadeByIssue (service : Service) (placed : Placed) : Type 0 where
   pub starts_count : length placed.starts ≡ service.work.count
   pub seats_count : length placed.seats ≡ service.work.count
+  pub printable : All (λ start. start ≤ MAX_TICK) placed.starts
   pub plan : IsListPlanByIssue service.tree service.assigned service.priority service.work
       service.workers (start_of placed.starts)
   pub seated : AreSeated service.work (start_of placed.starts) (worker_of placed.seats)

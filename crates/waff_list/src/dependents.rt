@@ -28,7 +28,7 @@ pub(crate) struct Dependents {
 
 impl Dependents {
     /// The dependents of `count` messages that need nothing.
-    fn none(alloc: Global, count: u32) -> Result<Self, AllocError>
+    pub fn none(alloc: Global, count: u32) -> Result<Self, AllocError>
         ensures firsts { IfOk result (λ d. d.firsts.items ≡ replicate count 0) }
         ensures links { IfOk result (λ d. d.links.items ≡ []) }
     {
@@ -55,7 +55,7 @@ impl Dependents {
     }
 
     /// Message `m` needs message `i`.
-    fn add(&mut self, i: u32, m: u32) -> Result<(), AllocError>
+    pub fn add(&mut self, i: u32, m: u32) -> Result<(), AllocError>
         requires number { IsAmongFirst (length self.old.firsts.items) i }
         requires linked { AreLinked self.old }
         requires room { length self.old.links.items + 1 < 2 ^ 32 }

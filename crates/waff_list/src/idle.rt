@@ -1,6 +1,6 @@
 //! The workers that are free, the least first.
 
-ghost use Rattle.std.specs.Prelude.{◌≡◌, [], ◌∷◌, OnOk, IfOk, MatchOption};
+ghost use Rattle.std.specs.Prelude.{◌≡◌, [], ◌∷◌, length, OnOk, IfOk, MatchOption};
 ghost use Rattle.std.specs.List.Sorted.{IsPermutation};
 ghost use Rattle.waff_model.specs.Numbers.{IsAmongFirst};
 ghost use Rattle.waff_list.specs.Waiting.{AreEach, LeavesLeast};
@@ -46,6 +46,13 @@ impl Idle {
             idle.push(worker + 1)?;
         }
         Ok(idle)
+    }
+
+    /// How many workers are free.
+    pub fn len(&self) -> usize
+        ensures { result ≡ length self.now }
+    {
+        self.heap.len()
     }
 
     /// The worker is free.

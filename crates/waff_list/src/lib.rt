@@ -11,7 +11,12 @@
 //!   (the workers that are free), `waiting` (how many needs of each message have not finished, and
 //!   the `candidates`, those that are ready, by their priorities), `chosen` (those that start at a
 //!   tick), `releases` and `ticks` (when something happens), `work` (costs and releases).
-//! - `tails`: the tail of each message, which is its priority under the rule of the longest tail.
+//! - `list_by_issue`: the plans of clients' messages, in the order in which they issue them.
+//! - `issuing`, over `client_task` (the messages with what each follows), `serving` (those that have
+//!   joined the order of service, and their needs), `issues` (those that are still to join, by the ticks
+//!   at which they are issued) and `takers` (those that are ready, by their priorities and issues).
+//! - `tails`, `tails_by_client`: the tail of each message, which is its priority under the rule of the
+//!   longest tail.
 //! - `laws`: the bound, and that needs make the same plans as all pairs; `tail_laws`: what tails
 //!   are; `unique`: that there is one list plan; `issue_laws`: of list plans in the order in which
 //!   clients issue messages.
@@ -19,18 +24,21 @@
 
 mod candidates;
 mod chosen;
-mod clients;
+mod client_task;
 mod dependents;
 mod finishes;
 mod idle;
 pub mod issue_laws;
 mod issues;
+mod issuing;
 pub mod laws;
 mod list;
+mod list_by_issue;
 mod planner;
 mod progress;
 mod releases;
 mod rule;
+mod serving;
 pub mod tail_laws;
 mod tails;
 mod tails_by_client;
@@ -42,8 +50,6 @@ mod waiting;
 mod work;
 mod worker_plan;
 
-pub use clients::Clients;
 pub use list::{list_chain, list_plan, list_plan_by};
 pub use rule::Rule;
-pub use tails_by_client::client_tails;
 pub use worker_plan::WorkerPlan;

@@ -1,55 +1,92 @@
-//! The list plan of a trace, and its printed chain.
+//! The list plans of a trace, and the printed chain of one.
 
-ghost use Rattle.std.specs.Prelude.{◌≡◌, ◌<◌, length, All, IfOk};
+ghost use Rattle.std.specs.Prelude.{◌≡◌, ◌≢◌, ◌<◌, length, All, IfOk};
+ghost use Rattle.waff_model.specs.declared.message.Version.TheVariants.{V3};
 ghost use Rattle.waff_assign.specs.Order.{IsOrdered, Path};
 ghost use Rattle.waff_plan.specs.Bound.{IsWithinBound, IsWithinRatio, IsWithinTwice, IsWorkers};
 ghost use Rattle.waff_plan.specs.Chain.{IsChain, IsListed, IsPrinted, chain_cost, chain_release};
+ghost use Rattle.waff_plan.specs.Obeys.{Obeys};
+ghost use Rattle.waff_plan.specs.Serving.{served_in, started_in};
 ghost use Rattle.waff_plan.specs.Timetable.{starts_in, timings_of, work_in};
 ghost use Rattle.waff_order.specs.Needs.{IsNeed};
 ghost use Rattle.waff_list.specs.Bound.{IsBusyPlan};
-ghost use Rattle.waff_list.specs.ListRule.{IsListPlan, IsTakenFirst, arrival};
 ghost use Rattle.waff_list.specs.Rules.{IsPlanBy};
+ghost use Rattle.waff_list.specs.Served.{IsPlanServed};
 ghost use Rattle.waff_list.specs.Seats.{IsInOrder};
 ghost use Rattle.waff_list.specs.Seating.{worker_of};
 ghost use Rattle.waff_list.specs.Unique.{AreSeated};
 
 use crate::WorkerPlan;
+use crate::list_by_issue::list_plan_by_issue;
 use crate::planner::make;
 use crate::rule::Rule;
 use crate::tails::tails;
 use crate::work::releases_of;
 use std::alloc::{AllocError, Global};
-use waff_assign::Assigned;
-use waff_model::{Trace, Tree};
+use waff_assign::{Assigned, Case};
+use waff_model::{Trace, Tree, Version};
 use waff_order::Needs;
+use waff_order::predecessors::needs;
 use waff_plan::printed::chain;
 use waff_plan::{Chain, Plan};
 
-/// The plan for k workers by the list rule: whenever a worker is free and messages are ready, the
-/// ready message that arrived first starts, on the least worker that is free.
+/// The plan for k workers by this rule: whenever a worker is free and messages are ready, the one that the
+/// rule takes first starts. Of two messages that exclude each other the one that comes first in the trace is
+/// served first, and in a trace of the third version the one that is issued first. Of the messages that
+/// start at a tick the one of the lowest number takes the least worker that is free.
 pub fn list_plan(
     alloc: Global,
-    needs: &Needs,
-    trace: &Trace,
+    case: Case,
+    rule: Rule,
     k: u32,
 ) -> Result<WorkerPlan, AllocError>
-    requires lengths { length needs.now ≡ length trace.now.messages }
     requires workers { IsWorkers k }
-    ensures timings { IfOk result (λ made. made.plan.timings ≡ timings_of trace.now.messages) }
+    ensures version { IfOk result (λ made. made.plan.version ≡ case.entry.trace.now.version) }
+    ensures timings { IfOk result (λ made.
+        made.plan.timings ≡ timings_of case.entry.trace.now.messages) }
     ensures workers { IfOk result (λ made. made.workers ≡ k) }
-    ensures follows { IfOk result (λ made. IsListPlan
-        (Path (IsNeed needs.now)) (IsTakenFirst arrival) (work_in made.plan) k
-        (starts_in made.plan)) }
+    ensures follows { IfOk result (λ made. IsPlanServed case.entry.trace.now.version rule
+        case.entry.tree.now case.entry.assigned.now
+        (work_in made.plan) k (starts_in made.plan)) }
     ensures seated { IfOk result (λ made. AreSeated
         (work_in made.plan) (starts_in made.plan) (worker_of made.seats)) }
     ensures order { IfOk result (λ made.
         IsInOrder (work_in made.plan) (starts_in made.plan) made.order) }
 {
-    list_plan_by(alloc, needs, trace, Rule::Arrival, k)
+    match case.trace.version() {
+        Version::V1 => list_plan_in_order(alloc, case, rule, k),
+        Version::V2 => list_plan_in_order(alloc, case, rule, k),
+        Version::V3 => list_plan_by_issue(alloc, case, rule, k),
+    }
 }
 
-/// The plan for k workers by this rule. Workers are given as by `list_plan`: of the messages that
-/// start at a tick the one that arrived first takes the least worker that is free.
+/// The plan in which what comes first in the trace is served first.
+fn list_plan_in_order(
+    alloc: Global,
+    case: Case,
+    rule: Rule,
+    k: u32,
+) -> Result<WorkerPlan, AllocError>
+    requires workers { IsWorkers k }
+    requires earlier_version { case.trace.now.version ≢ V3 }
+    ensures version { IfOk result (λ made. made.plan.version ≡ case.entry.trace.now.version) }
+    ensures timings { IfOk result (λ made.
+        made.plan.timings ≡ timings_of case.entry.trace.now.messages) }
+    ensures workers { IfOk result (λ made. made.workers ≡ k) }
+    ensures follows { IfOk result (λ made. IsPlanBy rule
+        (IsOrdered case.entry.tree.now case.entry.assigned.now)
+        (work_in made.plan) k (starts_in made.plan)) }
+    ensures seated { IfOk result (λ made. AreSeated
+        (work_in made.plan) (starts_in made.plan) (worker_of made.seats)) }
+    ensures order { IfOk result (λ made.
+        IsInOrder (work_in made.plan) (starts_in made.plan) made.order) }
+{
+    let needs = needs(alloc, case.tree, case.assigned)?;
+    list_plan_by(alloc, &needs, case.trace, rule, k)
+}
+
+/// The plan for k workers by this rule over the needs of the messages of a trace of the first two
+/// versions. Workers are given as by `list_plan`.
 pub fn list_plan_by(
     alloc: Global,
     needs: &Needs,
@@ -59,6 +96,8 @@ pub fn list_plan_by(
 ) -> Result<WorkerPlan, AllocError>
     requires lengths { length needs.now ≡ length trace.now.messages }
     requires workers { IsWorkers k }
+    requires earlier_version { trace.now.version ≢ V3 }
+    ensures version { IfOk result (λ made. made.plan.version ≡ trace.now.version) }
     ensures timings { IfOk result (λ made. made.plan.timings ≡ timings_of trace.now.messages) }
     ensures workers { IfOk result (λ made. made.workers ≡ k) }
     ensures follows { IfOk result (λ made. IsPlanBy
@@ -78,9 +117,10 @@ pub fn list_plan_by(
     Ok(WorkerPlan::new(plan, k, made.seats, made.order))
 }
 
-/// The printed chain of the list plan. Where no worker idles while a message is ready, as in every plan
-/// that follows the list rule, over the ordered pairs of this tree and assignment, its length is within the list bound of this chain, and so within a
-/// constant ratio of that of any worker plan.
+/// The printed chain of a list plan, in the order in which its messages start. Where no worker idles while
+/// a message is ready, as in every plan that follows the list rule, its length is within the list bound of
+/// this chain, and so within a constant ratio of that of any worker plan that serves as it does. A plan of a
+/// trace with clients has to obey.
 pub fn list_chain(
     alloc: Global,
     tree: &Tree,
@@ -89,28 +129,38 @@ pub fn list_chain(
 ) -> Result<Chain, AllocError>
     requires lengths { length made.now.plan.timings ≡ length assigned.now }
     requires known { All (λ a. a < length tree.now) assigned.now }
-    ensures printed { IfOk result (λ chain. IsPrinted (IsOrdered tree.now assigned.now)
+    requires served { made.now.plan.version ≡ V3
+        → Obeys (served_in tree.now assigned.now made.now.plan)
+        (work_in made.now.plan) (starts_in made.now.plan) }
+    ensures printed { IfOk result (λ chain. IsPrinted
+        (started_in tree.now assigned.now made.now.plan)
         (work_in made.now.plan) (starts_in made.now.plan) chain.messages) }
-    ensures chain { IfOk result (λ chain.
-        IsChain (IsOrdered tree.now assigned.now) (work_in made.now.plan) chain.messages) }
+    ensures chain { IfOk result (λ chain. IsChain
+        (started_in tree.now assigned.now made.now.plan)
+        (work_in made.now.plan) chain.messages) }
     ensures listed { IfOk result (λ chain.
         IsListed (length made.now.plan.timings) chain.messages) }
     ensures cost { IfOk result (λ chain.
         chain.cost ≡ chain_cost (work_in made.now.plan) chain.messages) }
     ensures release { IfOk result (λ chain.
         chain.release ≡ chain_release (work_in made.now.plan) chain.messages) }
-    ensures bound { IfOk result (λ chain. IsBusyPlan (IsOrdered tree.now assigned.now)
+    ensures bound { IfOk result (λ chain.
+        IsBusyPlan (served_in tree.now assigned.now made.now.plan)
         (work_in made.now.plan) made.now.workers (starts_in made.now.plan)
         → IsWithinBound
         (work_in made.now.plan) made.now.workers (starts_in made.now.plan) chain.messages) }
-    ensures twice { IfOk result (λ _. IsBusyPlan (IsOrdered tree.now assigned.now)
+    ensures twice { IfOk result (λ _.
+        IsBusyPlan (served_in tree.now assigned.now made.now.plan)
         (work_in made.now.plan) made.now.workers (starts_in made.now.plan)
-        → IsWithinTwice (IsOrdered tree.now assigned.now)
+        → IsWithinTwice (served_in tree.now assigned.now made.now.plan)
         (work_in made.now.plan) made.now.workers (starts_in made.now.plan)) }
-    ensures ratio { IfOk result (λ _. IsBusyPlan (IsOrdered tree.now assigned.now)
+    ensures ratio { IfOk result (λ _.
+        IsBusyPlan (served_in tree.now assigned.now made.now.plan)
         (work_in made.now.plan) made.now.workers (starts_in made.now.plan)
-        → IsWithinRatio (IsOrdered tree.now assigned.now)
+        → IsWithinRatio (served_in tree.now assigned.now made.now.plan)
         (work_in made.now.plan) made.now.workers (starts_in made.now.plan)) }
 {
-    chain(alloc, tree, assigned, made.plan())
+    let plan = made.plan();
+    let _messages = plan.len();
+    chain(alloc, tree, assigned, plan)
 }

@@ -5,6 +5,7 @@ ghost use Rattle.std.specs.Prelude.{◌≡◌, ℕ, ◌+◌, ◌^◌, ◌<◌, �
 ghost use Rattle.waff_model.specs.Numbers.{IsAmongFirst};
 ghost use Rattle.waff_model.specs.declared.limits.TheConstants.{MAX_RELEASE};
 ghost use Rattle.waff_plan.specs.Bound.{IsWorkers};
+ghost use Rattle.waff_plan.specs.Obeys.{FollowsNone};
 ghost use Rattle.waff_order.specs.Needs.{needs_of};
 ghost use Rattle.waff_list.specs.Load.{Load, released_at};
 ghost use Rattle.waff_list.specs.Progress.{work_of_messages, GoesOn, IsKept, IsMade, IsProgress};
@@ -38,6 +39,7 @@ pub(crate) fn make(
     priorities: Vec<u64>,
 ) -> Result<Progress, AllocError>
     requires lengths { length needs.now ≡ length trace.now.messages }
+    requires alone { FollowsNone (work_of_messages trace.now.messages) }
     requires workers { IsWorkers k }
     requires small { All (λ release. release ≤ MAX_RELEASE) releases.items }
     ensures { IfOk result (λ made. IsMade (record {

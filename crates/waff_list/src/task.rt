@@ -3,6 +3,8 @@
 ghost use Rattle.std.specs.Prelude.{◌≡◌, ◌≤◌, length, All, IfOk};
 ghost use Rattle.waff_model.specs.declared.limits.TheConstants.{MAX_RELEASE};
 ghost use Rattle.waff_plan.specs.Bound.{IsWorkers};
+ghost use Rattle.waff_plan.specs.Obeys.{FollowsNone};
+ghost use Rattle.waff_plan.specs.Timetable.{work_of_messages};
 ghost use Rattle.waff_order.specs.Needs.{AreLists};
 ghost use Rattle.waff_list.specs.Load.{release_of};
 ghost use Rattle.waff_list.specs.Trails.{AreLinked, trails};
@@ -24,6 +26,7 @@ pub(crate) struct Task<'a> {
     pub workers: u32,
     ghost lists: { AreLists needs.now },
     ghost lengths: { length needs.now ≡ length trace.now.messages },
+    ghost alone: { FollowsNone (work_of_messages trace.now.messages) },
     ghost linked: { AreLinked dependents },
     ghost told: { AreDependents needs.now (trails dependents) (length needs.now) },
     ghost some: { IsWorkers workers },
@@ -40,6 +43,7 @@ impl<'a> Task<'a> {
         k: u32,
     ) -> Result<Self, AllocError>
         requires lengths { length needs.now ≡ length trace.now.messages }
+        requires alone { FollowsNone (work_of_messages trace.now.messages) }
         requires workers { IsWorkers k }
         requires small { All (λ release. release ≤ MAX_RELEASE) releases.items }
         ensures needs { IfOk result (λ task. task.needs.now ≡ needs.entry.now) }

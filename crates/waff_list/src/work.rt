@@ -2,6 +2,7 @@
 
 ghost use Rattle.std.specs.Prelude.{◌≡◌, ◌^◌, ◌<◌, ◌≤◌, length, map, All, IfOk};
 ghost use Rattle.waff_model.specs.declared.limits.TheConstants.{MAX_RELEASE};
+ghost use Rattle.waff_model.specs.Messages.{IsTrace};
 ghost use Rattle.waff_model.specs.Numbers.{IsAmongFirst};
 ghost use Rattle.waff_list.specs.Progress.{work_of_messages};
 
@@ -27,6 +28,7 @@ pub(crate) fn releases_of(alloc: Global, trace: &Trace) -> Result<Vec<u32>, Allo
         ≡ map (λ message. message.release) trace.now.messages) }
     ensures small { IfOk result (λ releases.
         All (λ release. release ≤ MAX_RELEASE) releases.items) }
+    ensures trace { IsTrace trace.now }
 {
     let mut releases = Vec::with_capacity(alloc, trace.len() as usize)?;
     for m in 1..trace.len() + 1 {

@@ -3,7 +3,7 @@ use Rattle.std.proofs.Common.{◌≡◌, ℕ, ◌+◌, ◌≤◌, ◌≢◌, Lis
 use Rattle.std.proofs.lemmas.List.Sums.{sum_by-cons}
 use Rattle.std.proofs.lemmas.Bool.{cases_lt, cases_eq, eq-eqb, ne_eqb, cond-true, cond-false}
 use Rattle.waff_assign.specs.Order.{Relation}
-use Rattle.waff_plan.specs.Work.{Work, IsNumber, finish_of, length_of, gap_of, holds_until}
+use Rattle.waff_plan.specs.Work.{Work, IsNumber, length_of, holds_until}
 use Rattle.waff_plan.specs.Obeys.{IsLinked, IsForward, Obeys, IsLeast}
 use Rattle.waff_plan.specs.Chain.{LinksOn, LeadsToEnd, gaps_after}
 use Rattle.waff_plan.specs.Laws.{ChainsAreWithinLength, LeastIsShortest, PrintedIsChain, PrintedIsAsLong, LeastIsNoLonger}

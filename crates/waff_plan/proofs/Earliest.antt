@@ -1,9 +1,9 @@
 -- The least plan is the one in which each message starts as soon as it may.
-use Rattle.std.proofs.Common.{◌≡◌, ℕ, zero, suc, ◌+◌, ◌≤◌, ◌<◌, ◌↔◌, Option, Some, None, option_map, inl, inr, arith, refl}
+use Rattle.std.proofs.Common.{◌≡◌, ℕ, zero, suc, ◌≤◌, Option, Some, None, option_map, inl, inr, arith, refl}
 use Rattle.waff_assign.specs.Order.{Relation}
-use Rattle.waff_plan.specs.Work.{Work, IsNumber, finish_of, issue_after, issue_of, holds_until}
+use Rattle.waff_plan.specs.Work.{Work, IsNumber, finish_of, issue_after}
 use Rattle.waff_plan.specs.Obeys.{IsLinked, IsForward, Obeys, IsLeast}
-use Rattle.waff_plan.specs.AtOnce.{StartsAtOnce, AllStartAtOnce}
+use Rattle.waff_plan.specs.AtOnce.{AllStartAtOnce}
 use Rattle.waff_plan.proofs.Holding.{release-le-issue, held-le}
 use Rattle.waff_plan.proofs.Chains.{least_is_earliest}
 

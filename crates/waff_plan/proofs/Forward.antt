@@ -1,11 +1,10 @@
 -- The ordered pairs of a trace go forward, where a message follows only earlier ones.
-use Rattle.std.proofs.Common.{◌≡◌, ℕ, List, length, inl, inr, subst, ◌<◌, ◌≤◌, arith, refl}
+use Rattle.std.proofs.Common.{◌≡◌, ℕ, List, length, inl, inr, subst, ◌<◌, ◌≤◌, arith}
 use Rattle.waff_model.specs.Tree.{Node}
 use Rattle.waff_assign.specs.Order.{IsOrdered}
-use Rattle.waff_plan.specs.Work.{Work, IsNumber}
+use Rattle.waff_plan.specs.Work.{Work}
 use Rattle.waff_plan.specs.Timing.{work_of}
 use Rattle.waff_plan.specs.declared.timing.Timing.{Timing}
-use Rattle.waff_plan.proofs.NoClients.{none_follows_earlier}
 use Rattle.waff_plan.specs.Obeys.{IsLinked, IsForward, FollowsEarlier}
 
 pub IsOrdered_forward : (tree : List Node) (assigned : List ℕ) (work : Work) → length assigned ≡ work.count → FollowsEarlier work
@@ -25,8 +24,7 @@ IsOrdered_forward tree assigned work same follows =
       earlier = λ i m linked. (pair i m linked).1.0;
     }
 
--- so do those of timings, of which none follows another
+-- so do those of timings
 pub timings_forward : (tree : List Node) (assigned : List ℕ) (timings : List Timing) → length assigned ≡ length timings
-    → IsForward (IsOrdered tree assigned) (work_of timings)
-timings_forward tree assigned timings same =
-    IsOrdered_forward tree assigned (work_of timings) same (none_follows_earlier (work_of timings) (λ _. refl))
+    → FollowsEarlier (work_of timings) → IsForward (IsOrdered tree assigned) (work_of timings)
+timings_forward tree assigned timings same follows = IsOrdered_forward tree assigned (work_of timings) same follows

@@ -1,16 +1,16 @@
 -- What holds a message back: its release, the messages before it, and the one that it follows.
-use Rattle.std.proofs.Common.{◌≡◌, ℕ, ◌+◌, ◌≤◌, ◌⊎◌, inl, inr, eqb, cond, Option, Some, None, option_map, arith, refl, sym, ◌∙◌, ap, subst}
+use Rattle.std.proofs.Common.{◌≡◌, ℕ, ◌+◌, ◌≤◌, ◌⊎◌, inl, inr, eqb, Option, Some, None, option_map, arith, refl, ap}
 use Rattle.std.proofs.lemmas.Bool.{cases_eq, eq-eqb, ne_eqb, cond-true, cond-false}
 use Rattle.std.proofs.lemmas.Option.{none-some, same_Some}
 use Rattle.waff_assign.specs.Order.{Relation}
-use Rattle.waff_plan.specs.Work.{Work, IsNumber, finish_of, issue_after, issue_of, gap_after, gap_of, holds_until}
+use Rattle.waff_plan.specs.Work.{Work, IsNumber, finish_of, issue_after, issue_of, gap_after, holds_until}
 use Rattle.waff_plan.specs.Obeys.{IsLinked, Obeys}
 
 -- the gap to the message that is followed, and to another
-gap_same : (think i f : ℕ) → f ≡ i → gap_after think i (Some f) ≡ think
+pub gap_same : (think i f : ℕ) → f ≡ i → gap_after think i (Some f) ≡ think
 gap_same think i f same = cond-true (eqb f i) think 0 (eq-eqb f i same)
 
-gap_other : (think i f : ℕ) → (f ≡ i → ⊥) → gap_after think i (Some f) ≡ 0
+pub gap_other : (think i f : ℕ) → (f ≡ i → ⊥) → gap_after think i (Some f) ≡ 0
 gap_other think i f other = cond-false (eqb f i) think 0 (ne_eqb f i other)
 
 -- what is issued by a tick has been held back no longer

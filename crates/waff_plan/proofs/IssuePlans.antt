@@ -2,9 +2,8 @@
 use Rattle.std.proofs.Common.{◌≡◌, ℕ, zero, suc, ◌+◌, ◌<◌, ◌≤◌, ◌⊎◌, inl, inr, List, Option, Some, None, option_map, arith, refl, sym, ◌∙◌, ap, subst}
 use Rattle.std.proofs.lemmas.Bool.{cases_lt, cases_eq}
 use Rattle.waff_model.specs.Tree.{Node}
-use Rattle.waff_assign.specs.Order.{Relation}
-use Rattle.waff_plan.specs.Work.{Work, IsNumber, finish_of, issue_after, issue_of, holds_until}
-use Rattle.waff_plan.specs.Obeys.{IsLinked, IsForward, Obeys, IsLeast, FollowsEarlier}
+use Rattle.waff_plan.specs.Work.{Work, IsNumber, finish_of, issue_after, issue_of}
+use Rattle.waff_plan.specs.Obeys.{IsLinked, FollowsEarlier}
 use Rattle.waff_plan.specs.Issues.{IsIssuedBefore, IsServedBefore, IsLeastByIssue}
 use Rattle.waff_plan.specs.Unique.{AreSame}
 use Rattle.waff_plan.proofs.Holding.{release-le-issue, held_until, holds-same}

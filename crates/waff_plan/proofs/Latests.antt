@@ -1,5 +1,5 @@
 -- The latest of the messages that one thing or another holds of.
-use Rattle.std.proofs.Common.{◌≡◌, ◌⊎◌, ℕ, zero, suc, ◌+◌, ◌<◌, ◌≤◌, true, false, List, [], ◌∷◌, ◌++◌, length, Contains, Option, Some, None, arith, refl, sym, ◌∙◌, ap, subst, inl, inr, ⊎_elim}
+use Rattle.std.proofs.Common.{◌≡◌, ◌⊎◌, ℕ, zero, suc, ◌+◌, ◌<◌, ◌≤◌, true, false, List, [], ◌∷◌, ◌++◌, Contains, Option, Some, None, arith, refl, sym, ◌∙◌, ap, subst, inl, inr, ⊎_elim}
 use Rattle.std.proofs.lemmas.Bool.{cond_both, cases_eq}
 use Rattle.std.specs.List.{range_with_len}
 use Rattle.std.proofs.lemmas.Bool.Decides.{nat_tests}
@@ -9,11 +9,11 @@ use Rattle.waff_plan.specs.Work.{IsAmongFirst}
 use Rattle.waff_plan.specs.Latest.{is_later, later_of, IsFound}
 use Rattle.waff_plan.specs.declared.latest.Latest.{Latest}
 
-is_later_true : (f g m n : ℕ) → let one : Latest = record { finish = f; number = m } in let other : Latest = record { finish = g; number = n } in
+pub is_later_true : (f g m n : ℕ) → let one : Latest = record { finish = f; number = m } in let other : Latest = record { finish = g; number = n } in
     is_later one other ≡ true → (f ≤ g) × (f ≡ g → n < m)
 is_later_true f g m n h = (grind (arith, nat_tests), λ same. grind (arith, nat_tests))
 
-is_later_false : (f g m n : ℕ) → let one : Latest = record { finish = f; number = m } in let other : Latest = record { finish = g; number = n } in
+pub is_later_false : (f g m n : ℕ) → let one : Latest = record { finish = f; number = m } in let other : Latest = record { finish = g; number = n } in
     is_later one other ≡ false → (g ≤ f) × (g ≡ f → m ≤ n)
 is_later_false f g m n h = (grind (arith, nat_tests), λ same. grind (arith, nat_tests))
 

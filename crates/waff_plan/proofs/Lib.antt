@@ -3,8 +3,19 @@ pub mod Holding
 pub mod NoClients
 pub mod Chains
 pub mod Earliest
+pub mod Places
 pub mod IssueOrder
+pub mod StartOrder
 pub mod IssuePlans
+mod IssueSteps
+mod PendingLemmas
+pub mod FollowLemmas
+pub mod ClientLemmas
+pub mod TimingLemmas
+mod LastLemmas
+pub mod ServingLemmas
+mod IssueFirst
+mod IssueLoop
 pub mod Ticks
 mod Steps
 pub mod Forward
@@ -13,6 +24,11 @@ mod Tables
 mod LeastStarts
 mod OrderKept
 pub mod Linkings
+mod Followings
+mod StartedLinks
+mod WaitedFor
 pub mod Ratios
+pub mod ApartLaws
 pub mod Uniqueness
 mod Shares
+pub mod LowerBounds

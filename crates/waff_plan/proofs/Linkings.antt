@@ -1,7 +1,7 @@
 -- The links of a plan, one message after another, and the chain that they make from its end.
-use Rattle.std.proofs.Common.{◌≡◌, ℕ, ◌+◌, ◌-◌, ◌<◌, ◌≤◌, List, [], ◌∷◌, ◌++◌, length, ltb, Option, Some, None, MatchOption, All, arith, inl, inr}
+use Rattle.std.proofs.Common.{◌≡◌, ℕ, ◌+◌, ◌-◌, ◌<◌, ◌≤◌, List, [], ◌∷◌, ◌++◌, length, get_or, ltb, Option, Some, None, MatchOption, All, arith, inl, inr, subst, sym, ◌∙◌}
 use Rattle.std.proofs.lemmas.Bool.{cases_eq, cond_both, ltb-true, ltb-false}
-use Rattle.std.proofs.lemmas.List.{get_or_append_left, get_or_push}
+use Rattle.std.proofs.lemmas.List.{get_or_append_left, get_or_default, get_or_push}
 use Rattle.std.proofs.lemmas.List.Elements.{All-nil, All-cons}
 use Rattle.waff_model.specs.Tree.{Node, Excludes}
 use Rattle.waff_assign.specs.Order.{Relation, affinity_of, IsOrdered}
@@ -54,6 +54,13 @@ links_more before work start m links link from count h is_link i i_from i_to = e
   | inl last ↦ rw (get_or_push links link None (i - 1) (omega arith), last) is_link
   | inr other ↦ rw (get_or_append_left links (link ∷ []) None (i - 1) (omega arith)) (h i i_from (omega arith))
 ]
+
+-- the link of a message
+pub link_there : (before : Relation) (work : Work) (start : ℕ → ℕ) (links : List (Option ℕ)) (m : ℕ) (link : Option ℕ) → length links ≡ work.count
+    → IsNumber work m → link ≡ get_or links (m - 1) link → AreLinks before work start work.count links → IsLink before work start m link
+link_there before work start links m link count number is are =
+    let within : m - 1 < length links = omega (arith, number.from, number.to, count) in
+    subst (IsLink before work start m) (sym (is ∙ get_or_default links (m - 1) link None within)) (are m number.from number.to)
 
 -- where the walk from the end stands: at a message that leads to the end, or at the whole chain
 abbrev pub IsWalked : Relation → Work → (ℕ → ℕ) → Option ℕ → List ℕ → Type 0

@@ -1,9 +1,9 @@
 -- Work in which no message follows another: a message is held back by those before it alone.
-use Rattle.std.proofs.Common.{◌≡◌, ℕ, ◌+◌, ◌≤◌, List, [], ◌∷◌, Option, Some, None, option_map, inl, inr, arith, refl, sym, ◌∙◌, ap}
+use Rattle.std.proofs.Common.{◌≡◌, ℕ, ◌≤◌, List, [], ◌∷◌, option_map, inl, inr, arith, refl, sym, ◌∙◌, ap}
 use Rattle.std.proofs.lemmas.Option.{none-some}
 use Rattle.waff_assign.specs.Order.{Relation}
 use Rattle.waff_plan.specs.Work.{Work, IsNumber, finish_of, issue_after, issue_of, gap_after, gap_of, holds_until}
-use Rattle.waff_plan.specs.Obeys.{IsLinked, IsEarlier, FollowsNone, FollowsEarlier, KeepsOrder, Obeys}
+use Rattle.waff_plan.specs.Obeys.{IsLinked, FollowsNone, FollowsEarlier, KeepsOrder, Obeys}
 use Rattle.waff_plan.specs.Chain.{gaps_after, chain_release}
 
 module _ (work : Work) (none : FollowsNone work) where

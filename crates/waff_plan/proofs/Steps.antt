@@ -2,7 +2,7 @@
 -- the step to one more.
 use Rattle.std.proofs.Common.{◌≡◌, ◌⊎◌, ℕ, ◌≤◌, arith, refl, inl, inr, subst, sym}
 use Rattle.waff_assign.specs.Order.{Relation}
-use Rattle.waff_plan.specs.Work.{Work, IsNumber, finish_of, holds_until}
+use Rattle.waff_plan.specs.Work.{Work, IsNumber, holds_until}
 use Rattle.waff_plan.specs.Obeys.{IsLinked, Obeys, IsLeast}
 use Rattle.waff_plan.proofs.Holding.{released, held_until, obeys_held, holds-le, holds-same}
 

@@ -30,6 +30,11 @@ abbrev pub gaps_after : Work → ℕ → List ℕ → ℕ
 gaps_after work m [] = 0
 gaps_after work m (next ∷ rest) = gap_of work m next + gaps_after work next rest
 
+-- the gaps of a chain
+abbrev pub gaps_in : Work → List ℕ → ℕ
+gaps_in work [] = 0
+gaps_in work (m ∷ rest) = gaps_after work m rest
+
 -- the release of a chain: that of its first message and its gaps, the ticks in which nothing of it
 -- runs; 0 where it is empty
 abbrev pub chain_release : Work → List ℕ → ℕ

@@ -1,9 +1,12 @@
 -- What holds of plans in the order of issue.
-use Rattle.std.specs.Prelude.{◌≡◌, ℕ, ◌<◌, ◌≤◌, ◌↔◌, ◌⊎◌, List, length, Some}
+use Rattle.std.specs.Prelude.{◌≡◌, ℕ, ◌<◌, ◌≤◌, ◌↔◌, ◌⊎◌, List, length, Some, All}
+use Rattle.waff_model.specs.Messages.{no_client}
+use Rattle.waff_model.specs.declared.message.Message.{Message}
 use Rattle.waff_model.specs.Tree.{Node}
 use Rattle.waff_assign.specs.Order.{Relation, IsOrdered}
-use Rattle.waff_plan.specs.Work.{Work, IsNumber, issue_of}
-use Rattle.waff_plan.specs.Obeys.{FollowsNone, FollowsEarlier, IsLeast}
+use Rattle.waff_plan.specs.Work.{Work}
+pub use Rattle.waff_plan.specs.Obeys.{StartsIssued}
+use Rattle.waff_plan.specs.Obeys.{FollowsNone}
 use Rattle.waff_plan.specs.Issues.{IsIssuedBefore, IsServedBefore, IsLeastByIssue}
 use Rattle.waff_plan.specs.AtOnce.{AllStartAtOnce}
 use Rattle.waff_plan.specs.Laws.{ChainsAreWithinLength, LeastIsShortest, PrintedIsChain}
@@ -24,9 +27,10 @@ pub record IsLawful (before : Relation) (work : Work) : Type 0 where
   pub one_least : LeastIsOne before work
   pub one_printed : PrintedIsOne before work
 
--- no message starts before it is issued
-abbrev pub StartsIssued : Work → (ℕ → ℕ) → Type 0
-StartsIssued work start = (m : ℕ) → IsNumber work m → issue_of work start m ≤ start m
+-- messages of no client, which no client thinks about
+abbrev pub AreOfNoClient : List Message → Type 0
+AreOfNoClient messages =
+    All (λ message. (message.client ≡ no_client) × (message.think ≡ 0)) messages
 
 -- the order of issue is total: no message is issued before itself; what is issued before another is
 -- issued before all that this one is issued before; and of two messages one is issued before the other

@@ -1,8 +1,8 @@
 -- The links of a plan: for each message the one that its start waited for.
-use Rattle.std.specs.Prelude.{ℕ, ◌-◌, ◌<◌, ◌≤◌, List, Option, Some, None, MatchOption, nat_lt}
+use Rattle.std.specs.Prelude.{ℕ, ◌+◌, ◌-◌, ◌<◌, ◌≤◌, List, Option, Some, None, MatchOption, nat_lt}
 use Rattle.std.specs.Prelude.{slice_index_or, if◌then◌else◌}
 use Rattle.waff_assign.specs.Order.{Relation}
-use Rattle.waff_plan.specs.Work.{Work, holds_until}
+use Rattle.waff_plan.specs.Work.{Work, finish_of, holds_until}
 use Rattle.waff_plan.specs.Obeys.{IsLinked}
 use Rattle.waff_plan.specs.Chain.{IsLatest}
 use Rattle.waff_plan.specs.declared.latest.Latest.{Latest}
@@ -20,6 +20,12 @@ IsLink before work start m link =
 abbrev pub AreLinks : Relation → Work → (ℕ → ℕ) → ℕ → List (Option ℕ) → Type 0
 AreLinks before work start n links =
     (m : ℕ) → 1 ≤ m → m ≤ n → IsLink before work start m (slice_index_or links (m - 1) None)
+
+-- the message that message m follows, where it follows one, with the tick until which it holds back m
+abbrev pub followed_of : Work → (ℕ → ℕ) → ℕ → Option ℕ → Option Latest
+followed_of work start m None = None
+followed_of work start m (Some f) =
+    Some (record { finish = finish_of work start f + work.think m; number = f })
 
 -- the latest of some messages, where it finishes after a release
 abbrev pub link_of : Option Latest → ℕ → Option ℕ

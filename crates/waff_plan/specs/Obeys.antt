@@ -28,9 +28,21 @@ pub record IsEarlier (work : Work) (i m : ℕ) : Type 0 where
 abbrev pub FollowsEarlier : Work → Type 0
 FollowsEarlier work = (i m : ℕ) → work.follows m ≡ Some i → IsEarlier work i m
 
+-- no two messages follow the same one
+abbrev pub FollowsOnce : Work → Type 0
+FollowsOnce work = (i m n : ℕ) → work.follows m ≡ Some i → work.follows n ≡ Some i → m ≡ n
+
 -- no message follows another
 abbrev pub FollowsNone : Work → Type 0
 FollowsNone work = (m : ℕ) → work.follows m ≡ None
+
+-- each message runs for one tick at least
+abbrev pub EachRuns : Work → Type 0
+EachRuns work = (m : ℕ) → IsNumber work m → 1 ≤ work.cost m
+
+-- no message starts before it is issued
+abbrev pub StartsIssued : Work → (ℕ → ℕ) → Type 0
+StartsIssued work start = (m : ℕ) → IsNumber work m → issue_of work start m ≤ start m
 
 -- a pair of the order the first message of which is one of the first n
 pub record IsAmong (n : ℕ) (before : Relation) (i j : ℕ) : Type 0 where
@@ -44,7 +56,7 @@ KeepsOrder before work start = (i j : ℕ) → before i j → finish_of work sta
 -- an obeying plan: no message starts before it is issued, nor before the finish of one that is
 -- before it
 pub record Obeys (before : Relation) (work : Work) (start : ℕ → ℕ) : Type 0 where
-  pub issued : (m : ℕ) → IsNumber work m → issue_of work start m ≤ start m
+  pub issued : StartsIssued work start
   pub ordered : KeepsOrder before work start
 
 -- the least obeying plan: in each other one every message starts at the same tick or later

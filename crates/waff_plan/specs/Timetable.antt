@@ -1,13 +1,22 @@
 -- A plan as a table: the timing and the start of each message, in the order of arrival.
-use Rattle.std.specs.Prelude.{◌≡◌, ℕ, ◌≤◌, List, length, map, All}
+use Rattle.std.specs.Prelude.{◌≡◌, ◌≢◌, ℕ, zero, suc, ◌-◌, ◌≤◌, max, List, [], length, map, All}
+use Rattle.std.specs.Prelude.{slice_index_or}
+use Rattle.std.specs.List.{range_with_len}
+use Rattle.waff_model.specs.Messages.{no_client}
 use Rattle.waff_model.specs.declared.limits.TheConstants.{MAX_MESSAGES}
 use Rattle.waff_model.specs.declared.message.Message.{Message}
+use Rattle.waff_model.specs.declared.message.Version.{Version}
+use Rattle.waff_model.specs.declared.message.Version.TheVariants.{V3}
 use Rattle.waff_model.specs.declared.limits.TheConstants.{MAX_TICK}
+use Rattle.waff_plan.specs.Clients.{one_before}
+use Rattle.waff_plan.specs.Obeys.{FollowsEarlier, FollowsNone, FollowsOnce}
 use Rattle.waff_plan.specs.Work.{Work}
-use Rattle.waff_plan.specs.Timing.{work_of, start_of}
+use Rattle.waff_plan.specs.Timing.{IsTiming, work_of, start_of}
 use Rattle.waff_plan.specs.declared.timing.Timing.{Timing}
 
+-- the version of the plan's trace, and the timings and starts of its messages
 pub record Timetable : Type 0 where
+  pub version : Version
   pub timings : List Timing
   pub starts : List ℕ
 
@@ -19,16 +28,55 @@ work_in plan = work_of plan.timings
 abbrev pub starts_in : Timetable → ℕ → ℕ
 starts_in plan = start_of plan.starts
 
+-- timings within the limits of a trace of this version: a message follows an earlier one that no
+-- other follows, and before the third version none
+pub record AreTimings (version : Version) (timings : List Timing) : Type 0 where
+  pub small : All IsTiming timings
+  pub earlier : FollowsEarlier (work_of timings)
+  pub once : FollowsOnce (work_of timings)
+  pub alone : version ≢ V3 → FollowsNone (work_of timings)
+
 -- each message has a start, and no start is too late to be printed
 pub record IsTimetable (table : Timetable) : Type 0 where
   pub lengths : length table.starts ≡ length table.timings
   pub few : length table.timings ≤ MAX_MESSAGES
+  pub timings : AreTimings table.version table.timings
   pub printable : All (λ start. start ≤ MAX_TICK) table.starts
+
+-- no message
+abbrev pub no_message : Message
+no_message = record { name = []; cost = 0; release = 0; client = no_client; think = 0; ops = [] }
+
+-- message n, from 1
+abbrev pub message_of : List Message → ℕ → Message
+message_of messages n = slice_index_or messages (n - 1) no_message
+
+-- the clients of messages
+abbrev pub clients_of : List Message → List (List ℕ)
+clients_of messages = map (λ message. message.client) messages
+
+-- the tick before which a message that follows the one with this number, 0 for none, may not start
+-- whatever the others do: its release, and where it follows none its think time where that is later
+abbrev pub floor_of : Message → ℕ → ℕ
+floor_of message zero = max message.release message.think
+floor_of message (suc n) = message.release
+
+-- its timing
+abbrev pub timing_after : Message → ℕ → Timing
+timing_after message follows = record {
+  cost = message.cost;
+  release = floor_of message follows;
+  follows = follows;
+  think = message.think;
+}
+
+-- the timing of message n, which follows the one before it of its client
+abbrev pub timing_at : List Message → ℕ → Timing
+timing_at messages n = timing_after (message_of messages n) (one_before (clients_of messages) n)
 
 -- the timings of the messages of a trace
 abbrev pub timings_of : List Message → List Timing
-timings_of messages =
-    map (λ message. record { cost = message.cost; release = message.release }) messages
+timings_of messages = map (timing_at messages) (range_with_len 1 (length messages))
 
 -- the work of the messages of a trace
 abbrev pub work_of_messages : List Message → Work

@@ -1,30 +1,38 @@
 -- The timings and the starts of a trace's messages, as lists in the order of arrival.
-use Rattle.std.specs.Prelude.{ℕ, ◌-◌, ◌≤◌, List, length, None, slice_index, slice_index_or}
-use Rattle.waff_model.specs.declared.limits.TheConstants.{MAX_COST, MAX_RELEASE}
+use Rattle.std.specs.Prelude.{ℕ, zero, suc, ◌-◌, ◌≤◌, List, length, Option, Some, None}
+use Rattle.std.specs.Prelude.{slice_index, slice_index_or}
+use Rattle.waff_model.specs.declared.limits.TheConstants.{MAX_COST, MAX_RELEASE, MAX_THINK}
 use Rattle.waff_plan.specs.Work.{Work}
 use Rattle.waff_plan.specs.declared.timing.Timing.{Timing}
 
 -- of no message
 abbrev pub no_timing : Timing
-no_timing = record { cost = 0; release = 0 }
+no_timing = record { cost = 0; release = 0; follows = 0; think = 0 }
 
 -- a timing within the limits of messages
 pub record IsTiming (timing : Timing) : Type 0 where
+  pub some_cost : 1 ≤ timing.cost
   pub cost : timing.cost ≤ MAX_COST
   pub release : timing.release ≤ MAX_RELEASE
+  pub think : timing.think ≤ MAX_THINK
 
 -- the timing of message n, from 1
 abbrev pub timing_of : List Timing → ℕ → Timing
 timing_of timings n = slice_index_or timings (n - 1) no_timing
 
--- the work of messages with these timings, of which none follows another
+-- the message with this number, where 0 is none
+abbrev pub some_number : ℕ → Option ℕ
+some_number zero = None
+some_number (suc n) = Some (suc n)
+
+-- the work of messages with these timings
 abbrev pub work_of : List Timing → Work
 work_of timings = record {
   count = length timings;
   cost = λ m. (timing_of timings m).cost;
   release = λ m. (timing_of timings m).release;
-  follows = λ m. None;
-  think = λ m. 0;
+  follows = λ m. some_number (timing_of timings m).follows;
+  think = λ m. (timing_of timings m).think;
 }
 
 -- the start of message n, from 1

@@ -1,8 +1,11 @@
 -- One thing each: the least plan, and the printed chain of a plan.
 use Rattle.std.specs.Prelude.{◌≡◌, ℕ, List}
+use Rattle.waff_model.specs.Tree.{Node}
+use Rattle.waff_model.specs.declared.message.Version.{Version}
 use Rattle.waff_assign.specs.Order.{Relation}
 use Rattle.waff_plan.specs.Work.{Work, IsNumber}
 use Rattle.waff_plan.specs.Obeys.{IsLeast}
+use Rattle.waff_plan.specs.Serving.{served_before}
 use Rattle.waff_plan.specs.Chain.{IsPrinted}
 
 -- two maps from messages have the same number at each message of the work
@@ -14,6 +17,13 @@ abbrev pub LeastIsOne : Relation → Work → Type 0
 LeastIsOne before work =
     (start other : ℕ → ℕ) → IsLeast before work start
     → IsLeast before work other → AreSame work start other
+
+-- so do two plans each of which is least in the order in which it is to serve messages itself
+abbrev pub LeastServedIsOne : Version → List Node → List ℕ → Work → Type 0
+LeastServedIsOne version tree assigned work =
+    (start other : ℕ → ℕ) → IsLeast (served_before version tree assigned work start) work start
+    → IsLeast (served_before version tree assigned work other) work other
+    → AreSame work start other
 
 -- where two plans start each message at the same tick, their printed chains are equal
 abbrev pub PrintedIsOne : Relation → Work → Type 0

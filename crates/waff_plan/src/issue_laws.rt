@@ -2,13 +2,43 @@
 //! law is a function that does nothing and whose contract is the law, for a tree of affinities and the
 //! affinities assigned to the messages.
 
-ghost use Rattle.std.specs.Prelude.{ℕ, ◌↔◌, List};
+ghost use Rattle.std.specs.Prelude.{◌≡◌, ℕ, ◌↔◌, List, length};
+ghost use Rattle.waff_model.specs.declared.message.Message.{Message};
 ghost use Rattle.waff_model.specs.Tree.{Node};
-ghost use Rattle.waff_plan.specs.Work.{Work};
-ghost use Rattle.waff_plan.specs.Obeys.{FollowsEarlier, IsForward};
+ghost use Rattle.waff_plan.specs.Work.{IsAmongFirst, Work};
+ghost use Rattle.waff_plan.specs.Timetable.{clients_of, message_of, work_of_messages};
+ghost use Rattle.waff_plan.specs.Clients.{FollowsClients};
+ghost use Rattle.waff_plan.specs.Obeys.{FollowsEarlier, FollowsNone, FollowsOnce, IsForward};
 ghost use Rattle.waff_plan.specs.Issues.{IsServedBefore};
-ghost use Rattle.waff_plan.specs.IssueLaws.{IssueIsTotal, IssueRises, StartsIssued, IsLawful};
+ghost use Rattle.waff_plan.specs.IssueLaws.{AreOfNoClient, IssueIsTotal, IssueRises, StartsIssued, IsLawful};
 ghost use Rattle.waff_plan.specs.IssueLaws.{LeastStartsAtOnce, LeastByIssueIsOne, IssueIsArrival};
+
+/// In a trace each message follows the one before it of its client.
+pub fn traces_follow_clients()
+    ensures { (messages : List Message)
+        → FollowsClients (clients_of messages) (work_of_messages messages) }
+{}
+
+/// Messages of no client follow none, and have their own releases.
+pub fn no_clients_are_followed()
+    ensures none { (messages : List Message) → AreOfNoClient messages
+        → FollowsNone (work_of_messages messages) }
+    ensures released { (messages : List Message) → AreOfNoClient messages
+        → (m : ℕ) → IsAmongFirst (length messages) m
+        → (work_of_messages messages).release m ≡ (message_of messages m).release }
+{}
+
+/// What a message follows by its client comes earlier in the trace.
+pub fn clients_follow_earlier()
+    ensures { (clients : List (List ℕ)) (work : Work) → FollowsClients clients work
+        → FollowsEarlier work }
+{}
+
+/// By their clients no two messages follow the same one.
+pub fn clients_follow_once()
+    ensures { (clients : List (List ℕ)) (work : Work) → FollowsClients clients work
+        → FollowsOnce work }
+{}
 
 /// The order of issue is total.
 pub fn issue_is_total()

@@ -2,7 +2,7 @@
 
 ghost use Rattle.std.specs.Prelude.{◌≡◌, ◌<◌, ◌≤◌, max, length, All, IfOk, MatchOption};
 ghost use Rattle.waff_assign.specs.Order.{IsOrdered};
-ghost use Rattle.waff_plan.specs.Obeys.{IsLeast};
+ghost use Rattle.waff_plan.specs.Obeys.{FollowsNone, IsLeast};
 ghost use Rattle.waff_plan.specs.Timing.{IsTiming, work_of, start_of};
 ghost use Rattle.waff_model.specs.declared.limits.TheConstants.{MAX_MESSAGES};
 
@@ -14,8 +14,8 @@ use waff_assign::Assigned;
 use waff_model::Tree;
 use waff_model::limits::MAX_TICK;
 
-/// The starts of the least plan: each message starts at its release, or where it is later at the
-/// finish of the latest earlier message that excludes it.
+/// The starts of the least plan of messages that follow none: each starts at its release, or
+/// where it is later at the finish of the latest earlier message that excludes it.
 pub(crate) fn least_starts(
     alloc: Global,
     tree: &Tree,
@@ -26,6 +26,7 @@ pub(crate) fn least_starts(
     requires known { All (λ a. a < length tree.now) assigned.now }
     requires few { length timings.now ≤ MAX_MESSAGES }
     requires small { All IsTiming timings.now }
+    requires alone { FollowsNone (work_of timings.now) }
     ensures count { IfOk result (λ starts. length starts.items ≡ length timings.now) }
     ensures least { IfOk result (λ starts. IsLeast (IsOrdered tree.now assigned.now)
         (work_of timings.now) (start_of starts.items)) }

@@ -11,33 +11,44 @@
 //! excludes every other.
 //! - `timing`, `timetable`: costs and releases; plans.
 //! - `unlimited`, over `least` and `latest`: the unlimited plan.
+//! - `issued`, over `followers` and `pending`: the unlimited plan in the order in which clients issue
+//!   messages.
 //! - `table`, over `last`: the latest message that excludes another, by spans in preorder.
-//! - `printed`, over `links` and `linked`: the printed chain; `totals`: what the summary of a plan
-//!   tells.
-//! - `ordered`: whether a plan keeps the order of the messages.
+//! - `printed`, over `links` and `linked`: the printed chain; `waited`: what messages waited for;
+//!   `totals`: what the summary of a plan tells.
+//! - `ordered`: whether a plan keeps the order of the messages; `apart`: whether it has two that run
+//!   at a common tick though they exclude each other.
+//! - `lower_bound`: a length below which no plan obeys, in whatever order.
 //! - `laws`: what holds of all plans; `unique`: that the definitions leave no choice; `issue_laws`: of
-//!   plans in the order in which clients issue messages.
+//!   plans in the order in which clients issue messages; `start_laws`: in the order of their starts.
 #![tactic(auto)]
 
+pub mod apart;
+pub mod followers;
 pub mod issue_laws;
+mod issued;
 mod last;
 mod latest;
 pub mod laws;
 mod least;
 mod linked;
 pub mod links;
+pub mod lower_bound;
 pub mod ordered;
+mod pending;
 mod planned;
 pub mod printed;
+pub mod start_laws;
 mod table;
 mod timetable;
 mod timing;
 mod totals;
 pub mod unique;
 pub mod unlimited;
+pub mod waited;
 
 pub use linked::Chain;
 pub use planned::Planned;
 pub use timetable::Plan;
-pub use timing::Timing;
+pub use timing::{Timing, timings};
 pub use totals::Totals;

@@ -11,6 +11,7 @@ use waff_assign::Case;
 pub struct Planned<'a> {
     pub case: Case<'a>,
     pub plan: &'a Plan,
+    pub ghost version: { plan.now.version ≡ case.trace.now.version },
     pub ghost timings: { plan.now.timings ≡ timings_of case.trace.now.messages },
     pub ghost lengths: { length plan.now.timings ≡ length case.assigned.now },
 }

@@ -1,11 +1,12 @@
 //! The printed chain of a plan.
 
 ghost use Rattle.std.specs.Prelude.{◌≡◌, ◌+◌, ◌<◌, ◌≤◌, length, All, IfOk, OnOk};
-ghost use Rattle.waff_assign.specs.Order.{IsOrdered};
+ghost use Rattle.waff_model.specs.declared.message.Version.TheVariants.{V3};
 ghost use Rattle.waff_plan.specs.Chain.{IsChain, IsListed, IsPrinted, chain_cost, chain_release};
-ghost use Rattle.waff_plan.specs.Obeys.{IsLeast};
+ghost use Rattle.waff_plan.specs.Obeys.{IsLeast, Obeys};
 ghost use Rattle.waff_plan.specs.Work.{length_of};
-ghost use Rattle.waff_plan.specs.Timetable.{work_in, starts_in};
+ghost use Rattle.waff_plan.specs.Serving.{served_in, started_in};
+ghost use Rattle.waff_plan.specs.Timetable.{IsTimetable, work_in, starts_in};
 
 use crate::links::{last, links};
 use crate::totals::{cost_of, release_of};
@@ -17,7 +18,7 @@ use waff_model::limits::MAX_MESSAGES;
 
 /// The printed chain of the plan: it ends with the latest message, and before each message stands
 /// the latest of those that it waited for, until one waited for its release alone. In the unlimited
-/// plan its release plus its cost is the length.
+/// plan its release plus its cost is the length. A plan of a trace with clients has to obey.
 pub fn chain(
     alloc: Global,
     tree: &Tree,
@@ -26,10 +27,12 @@ pub fn chain(
 ) -> Result<Chain, AllocError>
     requires lengths { length plan.now.timings ≡ length assigned.now }
     requires known { All (λ a. a < length tree.now) assigned.now }
-    ensures printed { IfOk result (λ chain. IsPrinted (IsOrdered tree.now assigned.now)
+    requires served { plan.now.version ≡ V3 → Obeys (served_in tree.now assigned.now plan.now)
+        (work_in plan.now) (starts_in plan.now) }
+    ensures printed { IfOk result (λ chain. IsPrinted (started_in tree.now assigned.now plan.now)
         (work_in plan.now) (starts_in plan.now) chain.messages) }
     ensures chain { IfOk result (λ chain.
-        IsChain (IsOrdered tree.now assigned.now) (work_in plan.now)
+        IsChain (started_in tree.now assigned.now plan.now) (work_in plan.now)
         chain.messages) }
     ensures listed { IfOk result (λ chain. IsListed (length plan.now.timings) chain.messages) }
     ensures cost { IfOk result (λ chain.
@@ -39,7 +42,7 @@ pub fn chain(
 
     // The certificate of the unlimited plan.
     ensures as_long { IfOk result (λ chain.
-        IsLeast (IsOrdered tree.now assigned.now)
+        IsLeast (started_in tree.now assigned.now plan.now)
         (work_in plan.now) (starts_in plan.now)
         → chain.release + chain.cost
         ≡ length_of (work_in plan.now) (starts_in plan.now)) }
@@ -59,10 +62,13 @@ fn walk(
 ) -> Result<Vec<u32>, AllocError>
     requires lengths { length plan.now.timings ≡ length assigned.now }
     requires known { All (λ a. a < length tree.now) assigned.now }
-    ensures printed { IfOk result (λ messages. IsPrinted (IsOrdered tree.now assigned.now)
+    requires served { plan.now.version ≡ V3 → Obeys (served_in tree.now assigned.now plan.now)
+        (work_in plan.now) (starts_in plan.now) }
+    ensures printed { IfOk result (λ messages. IsPrinted (started_in tree.now assigned.now plan.now)
         (work_in plan.now) (starts_in plan.now) messages.items) }
-    ensures few { OnOk result (length plan.now.timings ≤ MAX_MESSAGES) }
+    ensures table { OnOk result (IsTimetable plan.now) }
 {
+    let _messages = plan.len();
     let links = links(alloc, tree, assigned, plan)?;
     let mut messages = Vec::new(alloc);
     let mut next = last(plan);

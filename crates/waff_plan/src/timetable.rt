@@ -1,7 +1,8 @@
 //! Plans.
 
 ghost use Rattle.std.specs.Prelude.{◌≡◌, ◌+◌, ◌^◌, ◌<◌, ◌≤◌, length, All, IfOk};
-ghost use Rattle.waff_plan.specs.Work.{IsAmongFirst, finish_of, length_of, total_of};
+ghost use Rattle.waff_plan.specs.Work.{IsAmongFirst, finish_of, issue_of, length_of, total_of};
+ghost use Rattle.waff_model.specs.declared.limits.TheConstants.{MAX_THINK};
 ghost use Rattle.waff_plan.specs.Timing.{timing_of};
 ghost use Rattle.waff_plan.specs.Timetable.{work_in, starts_in};
 
@@ -9,11 +10,12 @@ use crate::Timing;
 use crate::timing::timings;
 use std::alloc::{AllocError, Global};
 use std::marker::Model;
-use waff_model::Trace;
 use waff_model::limits::MAX_TICK;
+use waff_model::{Trace, Version};
 
 /// A plan: the start of each message of a trace. Messages are numbered from 1; all times are ticks.
 pub struct Plan {
+    version: Version,
     timings: Vec<Timing>,
     starts: Vec<u64>,
 }
@@ -23,16 +25,27 @@ impl Model for Plan {
 
     ghost Value = { Timetable };
 
-    ghost view = { λ p. record { timings = p.timings.items; starts = p.starts.items } };
+    ghost view = { λ p. record {
+      version = p.version;
+      timings = p.timings.items;
+      starts = p.starts.items;
+    } };
 
-    ghost invariant = { λ p.
-        IsTimetable (record { timings = p.timings.items; starts = p.starts.items }) };
+    ghost invariant = { λ p. IsTimetable (record {
+      version = p.version;
+      timings = p.timings.items;
+      starts = p.starts.items;
+    }) };
 }
 
 // Written out: a derived drop is proved again in each crate that lets go of the value.
 impl Drop for Plan {
     fn drop(self) {
-        let Plan { timings, starts } = self;
+        let Plan {
+            version: _,
+            timings,
+            starts,
+        } = self;
         drop(timings);
         drop(starts);
     }
@@ -41,25 +54,42 @@ impl Drop for Plan {
 impl Plan {
     ghost use Rattle.waff_plan.specs.Timetable.{IsTimetable, timings_of};
 
-    /// The plan with these timings and starts.
-    pub(crate) fn new(timings: Vec<Timing>, starts: Vec<u64>) -> Plan
-        requires { IsTimetable (record { timings = timings.items; starts = starts.items }) }
+    /// The plan of a trace of this version, with these timings and starts.
+    pub(crate) fn new(version: Version, timings: Vec<Timing>, starts: Vec<u64>) -> Plan
+        requires { IsTimetable (record {
+          version = version;
+          timings = timings.items;
+          starts = starts.items;
+        }) }
+        ensures version { result.version ≡ version }
         ensures timings { result.timings ≡ timings.items }
         ensures starts { result.starts ≡ starts.items }
     {
-        Plan { timings, starts }
+        Plan {
+            version,
+            timings,
+            starts,
+        }
     }
 
     /// The plan of the trace in which the messages start at these ticks.
     pub fn of_starts(alloc: Global, trace: &Trace, starts: &[u64]) -> Result<Plan, AllocError>
         requires lengths { length starts.now ≡ length trace.now.messages }
         requires printable { All (λ start. start ≤ MAX_TICK) starts.now }
+        ensures version { IfOk result (λ plan. plan.version ≡ trace.now.version) }
         ensures timings { IfOk result (λ plan. plan.timings ≡ timings_of trace.now.messages) }
         ensures starts { IfOk result (λ plan. plan.starts ≡ starts.now) }
     {
         let timings = timings(alloc, trace)?;
         let starts = Vec::from_slice(alloc, starts)?;
-        Ok(Plan::new(timings, starts))
+        Ok(Plan::new(trace.version(), timings, starts))
+    }
+
+    /// The version of its trace.
+    pub fn version(&self) -> Version
+        ensures { result ≡ self.now.version }
+    {
+        self.version
     }
 
     /// How many messages there are.
@@ -89,13 +119,44 @@ impl Plan {
         self.start(n) + self.cost(n)
     }
 
-    /// The tick before which message `n` may not start.
+    /// The tick before which message `n` may not start, whatever the others do.
     pub fn release(&self, n: u32) -> u64
         requires number { IsAmongFirst (length self.now.timings) n }
         ensures release { result ≡ (timing_of self.now.timings n).release }
         ensures small { result < 2 ^ 32 }
     {
         u64::from(self.timings[n as usize - 1].release)
+    }
+
+    /// The number of the message that message `n` follows: the one before it of its client, 0 where
+    /// there is none.
+    pub fn follows(&self, n: u32) -> u32
+        requires number { IsAmongFirst (length self.now.timings) n }
+        ensures follows { result ≡ (timing_of self.now.timings n).follows }
+        ensures earlier { result < n }
+    {
+        self.timings[n as usize - 1].follows
+    }
+
+    /// How many ticks after the finish of the one that it follows message `n` is issued.
+    pub fn think(&self, n: u32) -> u64
+        requires number { IsAmongFirst (length self.now.timings) n }
+        ensures think { result ≡ (timing_of self.now.timings n).think }
+        ensures small { result ≤ MAX_THINK }
+    {
+        u64::from(self.timings[n as usize - 1].think)
+    }
+
+    /// The tick at which message `n` is issued under the plan itself.
+    pub fn issue(&self, n: u32) -> u64
+        requires number { IsAmongFirst (length self.now.timings) n }
+        ensures issue { result ≡ issue_of (work_in self.now) (starts_in self.now) n }
+        ensures small { result < MAX_TICK + 2 ^ 33 }
+    {
+        match self.follows(n) {
+            0 => self.release(n),
+            before => self.release(n).max(self.finish(before) + self.think(n)),
+        }
     }
 
     /// The running time of message `n`.

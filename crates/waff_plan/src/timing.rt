@@ -1,27 +1,47 @@
 //! The timings of messages.
 
-ghost use Rattle.std.specs.Prelude.{◌≡◌, ◌≤◌, length, All, IfOk};
-ghost use Rattle.waff_plan.specs.Timing.{IsTiming};
-ghost use Rattle.waff_plan.specs.Timetable.{timings_of};
+ghost use Rattle.std.specs.Prelude.{◌≡◌, ◌≢◌, ℕ, ◌-◌, ◌≤◌, List, length, IfOk, OnOk};
+ghost use Rattle.waff_model.specs.declared.message.Version.TheVariants.{V3};
+ghost use Rattle.waff_plan.specs.Clients.{client_of, one_before};
+ghost use Rattle.waff_plan.specs.LastMessages.{AreLast};
+ghost use Rattle.waff_plan.specs.Timetable.{AreTimings, timing_after, timings_of};
 
 use std::alloc::{AllocError, Global};
-use waff_model::Trace;
+use std::collections::HashMap;
 use waff_model::limits::MAX_MESSAGES;
+use waff_model::{Message, Trace, Version};
 
 /// How long a message runs, and when it may start.
 #[derive(Clone, Copy)]
 pub struct Timing {
     /// The running time, in ticks.
     pub cost: u32,
-    /// The tick before which the message may not start.
+    /// The tick before which the message may not start, whatever the others do.
     pub release: u32,
+    /// The number of the message before it of its client, 0 where it follows none.
+    pub follows: u32,
+    /// How many ticks after the finish of that one it is issued.
+    pub think: u32,
 }
 
 /// The timings of the messages of a trace, in the order of arrival.
-pub(crate) fn timings(alloc: Global, trace: &Trace) -> Result<Vec<Timing>, AllocError>
+pub fn timings(alloc: Global, trace: &Trace) -> Result<Vec<Timing>, AllocError>
     ensures each { IfOk result (λ timings. timings.items ≡ timings_of trace.now.messages) }
-    ensures small { IfOk result (λ timings. All IsTiming timings.items) }
+    ensures are { AreTimings trace.now.version (timings_of trace.now.messages) }
     ensures few { length trace.now.messages ≤ MAX_MESSAGES }
+{
+    let _messages = trace.len();
+    match trace.version() {
+        Version::V1 => timings_alone(alloc, trace),
+        Version::V2 => timings_alone(alloc, trace),
+        Version::V3 => timings_by_client(alloc, trace),
+    }
+}
+
+/// The timings of messages that are of no client.
+fn timings_alone(alloc: Global, trace: &Trace) -> Result<Vec<Timing>, AllocError>
+    requires alone { trace.now.version ≢ V3 }
+    ensures each { IfOk result (λ timings. timings.items ≡ timings_of trace.now.messages) }
 {
     let mut timings = Vec::with_capacity(alloc, trace.len() as usize)?;
     for n in 1..trace.len() + 1 {
@@ -29,7 +49,62 @@ pub(crate) fn timings(alloc: Global, trace: &Trace) -> Result<Vec<Timing>, Alloc
         timings.push_reserved(Timing {
             cost: message.cost,
             release: message.release,
+            follows: 0,
+            think: 0,
         });
     }
     Ok(timings)
+}
+
+/// The timings of messages of clients.
+fn timings_by_client(alloc: Global, trace: &Trace) -> Result<Vec<Timing>, AllocError>
+    ensures each { IfOk result (λ timings. timings.items ≡ timings_of trace.now.messages) }
+{
+    let mut last = HashMap::new(alloc);
+    let mut timings = Vec::with_capacity(alloc, trace.len() as usize)?;
+    for n in 1..trace.len() + 1 {
+        let message = trace.message(n);
+        let follows = note_last(&mut last, message.client.as_str(), n)?;
+        timings.push_reserved(timing_after(message, follows));
+    }
+    Ok(timings)
+}
+
+/// Notes message `n` as the last of its client so far. The one that was the last before, 0 for none.
+fn note_last<'a>(
+    last: &mut HashMap<&'a str, u32>,
+    client: &'a str,
+    n: u32,
+) -> Result<u32, AllocError>
+    requires some { 1 ≤ n }
+    ensures last { OnOk result ((clients : List (List ℕ)) → AreLast clients (n - 1) last.old
+        → client_of clients n ≡ client.now → AreLast clients n last.new) }
+    ensures before { IfOk result (λ before. (clients : List (List ℕ))
+        → AreLast clients (n - 1) last.old → client_of clients n ≡ client.now
+        → before ≡ one_before clients n) }
+{
+    if client == "-" {
+        return Ok(0);
+    }
+    match last.insert(client, n)? {
+        Some(before) => Ok(before),
+        None => Ok(0),
+    }
+}
+
+/// The timing of a message that follows the one with this number, 0 for none.
+fn timing_after(message: &Message, follows: u32) -> Timing
+    ensures { result ≡ timing_after message.now follows }
+{
+    let release = if follows == 0 {
+        message.release.max(message.think)
+    } else {
+        message.release
+    };
+    Timing {
+        cost: message.cost,
+        release,
+        follows,
+        think: message.think,
+    }
 }

@@ -1,10 +1,12 @@
 //! What the summary of a plan tells.
 
-ghost use Rattle.std.specs.Prelude.{◌≡◌, ◌+◌, ◌^◌, ◌<◌, ◌≤◌, IfSome, length};
+ghost use Rattle.std.specs.Prelude.{◌≡◌, ◌+◌, ◌*◌, ◌^◌, ◌<◌, ◌≤◌, IfSome, length};
 ghost use Rattle.waff_plan.specs.Bound.{IsWorkers};
-ghost use Rattle.waff_plan.specs.Chain.{IsListed, chain_cost, chain_release};
+ghost use Rattle.waff_model.specs.declared.limits.TheConstants.{MAX_MESSAGES, MAX_THINK};
+ghost use Rattle.waff_plan.specs.Chain.{IsListed, chain_cost, chain_release, gaps_in};
 ghost use Rattle.waff_plan.specs.Totals.{totals_of};
 ghost use Rattle.waff_plan.specs.Timetable.{work_in, starts_in};
+ghost use Rattle.waff_plan.specs.Work.{IsAmongFirst, gap_of};
 
 use crate::Plan;
 
@@ -70,14 +72,43 @@ pub(crate) fn cost_of(plan: &Plan, chain: &[u32]) -> u64
     cost
 }
 
-/// The release of the first message, 0 where there is none.
+/// The release of the chain: that of its first message and its gaps, 0 where there is no message.
 pub(crate) fn release_of(plan: &Plan, chain: &[u32]) -> u64
     requires { IsListed (length plan.now.timings) chain.now }
     ensures release { result ≡ chain_release (work_in plan.now) chain.now }
-    ensures small { result < 2 ^ 32 }
+    ensures small { result < 2 ^ 44 }
 {
     match chain {
         [] => 0,
-        [first, ..] => plan.release(*first),
+        [first, ..] => plan.release(*first) + gaps_of(plan, chain),
+    }
+}
+
+/// The gaps between the messages of a chain.
+fn gaps_of(plan: &Plan, chain: &[u32]) -> u64
+    requires { IsListed (length plan.now.timings) chain.now }
+    ensures gaps { result ≡ gaps_in (work_in plan.now) chain.now }
+    ensures small { result ≤ MAX_THINK * MAX_MESSAGES }
+{
+    let _messages = plan.len();
+    let mut gaps = 0;
+    for place in 1..chain.len() {
+        let gap = gap_between(plan, chain[place - 1], chain[place]);
+        gaps += gap;
+    }
+    gaps
+}
+
+/// How many ticks after the finish of message `i` message `m` may start.
+pub(crate) fn gap_between(plan: &Plan, i: u32, m: u32) -> u64
+    requires some { 1 ≤ i }
+    requires number { IsAmongFirst (length plan.now.timings) m }
+    ensures gap { result ≡ gap_of (work_in plan.now) i m }
+    ensures small { result ≤ MAX_THINK }
+{
+    if plan.follows(m) == i {
+        plan.think(m)
+    } else {
+        0
     }
 }

@@ -7,12 +7,19 @@ ghost use Rattle.waff_model.specs.Tree.{Node};
 ghost use Rattle.waff_assign.specs.Order.{IsOrdered};
 ghost use Rattle.waff_plan.specs.Work.{Work};
 ghost use Rattle.waff_plan.specs.Obeys.{FollowsEarlier};
-ghost use Rattle.waff_plan.specs.Unique.{LeastIsOne, PrintedIsOne};
+ghost use Rattle.waff_plan.specs.Unique.{LeastIsOne, LeastServedIsOne, PrintedIsOne};
+ghost use Rattle.waff_model.specs.declared.message.Version.{Version};
 
 /// The least plan is one.
 pub fn least_is_one()
     ensures same { (tree : List Node) (assigned : List ℕ) (work : Work)
         → LeastIsOne (IsOrdered tree assigned) work }
+{}
+
+/// There is one plan that is least in the order in which it is to serve messages.
+pub fn least_served_is_one()
+    ensures same { (version : Version) (tree : List Node) (assigned : List ℕ) (work : Work)
+        → FollowsEarlier work → LeastServedIsOne version tree assigned work }
 {}
 
 /// A plan has one printed chain.

@@ -95,6 +95,7 @@ impl GivenPlan {
     /// The plan in which the messages of the trace start as the rows tell.
     pub fn plan(&self, alloc: Global, trace: &Trace) -> Result<Plan, AllocError>
         requires rows { length self.now.rows ≡ length trace.now.messages }
+        ensures version { IfOk result (λ plan. plan.version ≡ trace.now.version) }
         ensures timings { IfOk result (λ plan. plan.timings ≡ timings_of trace.now.messages) }
         ensures starts { IfOk result (λ plan. plan.starts ≡ map (λ row. row.start) self.now.rows) }
         ensures given { IfOk result (λ _. IsGiven self.now) }

@@ -1,12 +1,19 @@
 -- Two hierarchies on one trace.
-use Rattle.std.proofs.Common.{◌≡◌, ℕ, ◌≤◌, List, [], ◌∷◌, ◌++◌, decimal, inl, append_assoc, rules}
+use Rattle.std.proofs.Common.{◌≡◌, ◌≢◌, ℕ, ◌≤◌, refl, subst, List, [], ◌∷◌, ◌++◌, decimal, inl, append_assoc, rules}
 use Rattle.std.specs.List.{join_with_byte}
 use Rattle.waff_model.specs.Layout.{Hierarchy}
 use Rattle.waff_model.specs.Tree.{Node}
 use Rattle.waff_model.specs.declared.kind.Kind.{Kind}
 use Rattle.waff_model.specs.declared.message.Version.{Version}
 use Rattle.waff_model.specs.declared.message.Version.TheVariants.{V1, V2, V3}
+use Rattle.waff_model.specs.Messages.{Arrivals}
+use Rattle.waff_assign.specs.Case.{instance_of}
+use Rattle.waff_assign.specs.Instance.{Instance}
 use Rattle.waff_assign.specs.Order.{IsOrdered}
+use Rattle.waff_assign.specs.declared.case.Case.{Case}
+use Rattle.waff_plan.specs.Obeys.{IsLeast}
+use Rattle.waff_plan.specs.Serving.{served_before}
+use Rattle.waff_plan.specs.Timetable.{work_of_messages}
 use Rattle.waff_plan.specs.Timing.{start_of}
 use Rattle.waff_plan.specs.Laws.{LeastIsNoLonger}
 use Rattle.waff_plan.specs.Work.{Work}
@@ -22,21 +29,35 @@ use Rattle.waff_inputs.specs.declared.fault.ToolError.TheVariants as tool
 use Rattle.waff_tool.specs.declared.measures.Measured.{Measured}
 
 -- what is told of the plans over the pairs of a tree is told of the hierarchy that has the tree
-pub measured_of : (layout : Hierarchy) (tree : List Node) (assigned : List ℕ) (work : Work) (k : ℕ)
-    (kind : Kind) (unlimited listed : Totals) → tree ≡ layout.tree → kind ≡ layout.kind
-    → AreCertifiedTotals (IsOrdered tree assigned) work unlimited → AreListTotals (IsOrdered tree assigned) work k listed
-    → IsMeasured layout assigned work k (record { kind = kind; unlimited = unlimited; listed = listed })
-measured_of layout tree assigned work k kind unlimited listed same is least by_arrival =
-    record { kind = is; least = rw same at least; by_arrival = rw same at by_arrival }
+pub measured_of : (layout : Hierarchy) (case : Case) (k : ℕ) (kind : Kind) (unlimited listed : Totals) → case.tree.now ≡ layout.tree → kind ≡ layout.kind
+    → AreCertifiedTotals (instance_of case) unlimited → AreListTotals (instance_of case) k listed
+    → IsMeasured layout case.assigned.now case.trace.now k (record { kind = kind; unlimited = unlimited; listed = listed })
+measured_of layout case k kind unlimited listed same is least by_arrival =
+    let under : List Node → Instance = λ tree. record { tree = tree; assigned = case.assigned.now; trace = case.trace.now } in
+    record {
+      kind = is;
+      least = subst (λ tree. AreCertifiedTotals (under tree) unlimited) same least;
+      by_arrival = subst (λ tree. AreListTotals (under tree) k listed) same by_arrival;
+    }
+
+-- before the third version a plan is least in the order of the trace
+in_order : (version : Version) → version ≢ V3 → (tree : List Node) (assigned : List ℕ) (work : Work) (start : ℕ → ℕ)
+    → IsLeast (served_before version tree assigned work start) work start → IsLeast (IsOrdered tree assigned) work start
+in_order V1 earlier tree assigned work start least = least
+in_order V2 earlier tree assigned work start least = least
+in_order V3 earlier tree assigned work start least = absurd (earlier refl)
 
 -- the least plan under a hierarchy that refines another is no longer
-pub refined_is_no_longer : (classical hierarchical : Hierarchy) (coarse fine : List ℕ) (work : Work) (k : ℕ)
-    (of_classical of_hierarchical : Measured) → IsMeasured classical coarse work k of_classical
-    → IsMeasured hierarchical fine work k of_hierarchical
-    → LeastIsNoLonger (IsOrdered hierarchical.tree fine) (IsOrdered classical.tree coarse) work
-    → of_hierarchical.unlimited.length ≤ of_classical.unlimited.length
-refined_is_no_longer classical hierarchical coarse fine work k of_classical of_hierarchical one other no_longer =
-    let shorter = no_longer (start_of other.least.starts) (start_of one.least.starts) other.least.certified.least one.least.certified.least in
+pub refined_is_no_longer : (classical hierarchical : Hierarchy) (coarse fine : List ℕ) (trace : Arrivals) (k : ℕ)
+    (of_classical of_hierarchical : Measured) → IsMeasured classical coarse trace k of_classical
+    → IsMeasured hierarchical fine trace k of_hierarchical
+    → LeastIsNoLonger (IsOrdered hierarchical.tree fine) (IsOrdered classical.tree coarse) (work_of_messages trace.messages)
+    → trace.version ≢ V3 → of_hierarchical.unlimited.length ≤ of_classical.unlimited.length
+refined_is_no_longer classical hierarchical coarse fine trace k of_classical of_hierarchical one other no_longer earlier =
+    let work = work_of_messages trace.messages in
+    let fine_least = in_order trace.version earlier hierarchical.tree fine work (start_of other.least.starts) other.least.certified.least in
+    let coarse_least = in_order trace.version earlier classical.tree coarse work (start_of one.least.starts) one.least.certified.least in
+    let shorter = no_longer (start_of other.least.starts) (start_of one.least.starts) fine_least coarse_least in
     rw (one.least.told, other.least.told) shorter
 
 -- what a reader of traces refuses for a comparison, where the hierarchies are accepted

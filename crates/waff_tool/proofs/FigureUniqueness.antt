@@ -1,47 +1,47 @@
 -- Of the same bytes there is one sweep, and one text of where the time goes.
-use Rattle.std.proofs.Common.{◌≡◌, ℕ, ◌<◌, List, ◌∷◌, map, length, get_or, Some, None, arith, sym, ◌∙◌, ap, subst}
+use Rattle.std.proofs.Common.{◌≡◌, ℕ, ◌<◌, List, ◌∷◌, map, length, get_or, Option, Some, None, arith, sym, ◌∙◌, ap, subst}
 use Rattle.std.proofs.lemmas.List.{same_lists, get_or-map, length-map}
 use Rattle.std.proofs.lemmas.Option.{same_Some}
-use Rattle.waff_assign.specs.Instance.{Instance, before_in}
-use Rattle.waff_assign.specs.Order.{Relation}
-use Rattle.waff_plan.specs.Instances.{work_of_instance}
-use Rattle.waff_plan.specs.Obeys.{IsForward, IsLeast}
+use Rattle.waff_assign.specs.Instance.{Instance}
+use Rattle.waff_plan.specs.Instances.{served_first, work_of_instance}
+use Rattle.waff_plan.specs.Obeys.{IsLeast}
 use Rattle.waff_plan.specs.Timing.{start_of}
-use Rattle.waff_plan.specs.Work.{Work, length_of}
-use Rattle.waff_plan.proofs.Uniqueness.{least_is_one, printed_is_one, same_length}
-use Rattle.waff_list.specs.Rules.{IsPlanBy}
+use Rattle.waff_plan.specs.Work.{length_of}
+use Rattle.waff_plan.proofs.Uniqueness.{same_length}
 use Rattle.waff_list.specs.declared.rule.Rule.{Rule}
-use Rattle.waff_list.specs.Unique.{EachRuns}
-use Rattle.waff_list.proofs.RuleLemmas.{rule_plan_is_one}
 use Rattle.waff_plan_text.specs.Lines.{text_of}
 use Rattle.waff_figures.specs.ByAffinity.{affinities_lines, affinities_header, affinity_row, parent_field, tally_row, runs_in}
 use Rattle.waff_model.specs.Tree.{name_of, parent_of}
 use Rattle.waff_figures.specs.Tally.{tally_of}
-use Rattle.waff_figures.specs.ByName.{message_names, names_lines}
+use Rattle.waff_figures.specs.ByName.{label_lines}
 use Rattle.waff_figures.specs.Figures.{AreFigures}
-use Rattle.waff_figures.specs.Sweep.{AreListed, IsListed, sweep_lines}
+use Rattle.waff_figures.specs.Least.{least_in}
+use Rattle.waff_figures.specs.Sweep.{AreListed, IsListed, IsPlanOf, sweep_lines}
 use Rattle.waff_figures.specs.declared.figures.Figures.{Figures}
-use Rattle.waff_figures.specs.declared.grouping.Grouping.{Grouping}
-use Rattle.waff_figures.specs.declared.grouping.Grouping.TheVariants.{Affinity, Name}
+use Rattle.waff_figures.specs.declared.grouping.Label.{Label}
 use Rattle.waff_figures.proofs.FigureLaws.{figures_are_one}
 use Rattle.waff_figures.proofs.AddingUp.{cost_below_is_one}
+use Rattle.waff_figures.proofs.LeastLaws.{follows_in}
 use Rattle.waff_figures.proofs.RowLemmas.{map_range_same}
 use Rattle.waff_inputs.specs.Inputs.{Accepts}
 use Rattle.waff_inputs.proofs.SameInput.{same_input, told_is_one}
 use Rattle.waff_tool.specs.Figures.{IsSweepText, SweepTextIsOne, TellsAffinities, TellsNames, TellsSweep, TellsWhere, WhereTextIsOne}
-use Rattle.waff_tool.proofs.TextUniqueness.{each_runs, goes_forward}
+use Rattle.waff_tool.proofs.PlanUniqueness.{IsSound, chain_in_one, least_in_one, rule_in_one}
+use Rattle.waff_tool.proofs.TextUniqueness.{is_sound}
 
 -- the figures of plans by the same rule for the same number of workers are the same
-pub listed_same : (rule : Rule) (before : Relation) (work : Work) → IsForward before work → EachRuns work → (shortest : ℕ) (one other : Figures)
-    → IsListed rule before work shortest one → IsListed rule before work shortest other → one.workers ≡ other.workers → one ≡ other
-listed_same rule before work forward runs shortest one other p q workers =
+pub listed_same : (rule : Rule) (instance : Instance) → IsSound instance → (shortest : ℕ) (one other : Figures)
+    → IsListed rule instance shortest one → IsListed rule instance shortest other → one.workers ≡ other.workers → one ≡ other
+listed_same rule instance sound shortest one other p q workers =
+    let work = work_of_instance instance in
     let first : one.workers ≡ Some p.k = p.figures_are.workers in
     let second : other.workers ≡ Some q.k = q.figures_are.workers in
     let same_k : p.k ≡ q.k = same_Some p.k q.k (sym first ∙ workers ∙ second) in
-    let list = subst (λ k. IsPlanBy rule before work k (start_of q.starts)) (sym same_k) q.list in
-    let figures = subst (λ k. AreFigures (Some k) work shortest (start_of q.starts) other) (sym same_k) q.figures_are in
-    let same = rule_plan_is_one before work forward runs rule p.k (start_of p.starts) (start_of q.starts) p.list list in
-    figures_are_one work (Some p.k) shortest (start_of p.starts) (start_of q.starts) one other same p.figures_are figures
+    let list = subst (λ k. IsPlanOf rule instance k (start_of q.starts)) (sym same_k) q.list in
+    let figures = subst (λ k. AreFigures (Some k) work (least_in (Some k) instance shortest) (start_of q.starts) other) (sym same_k) q.figures_are in
+    let same = rule_in_one instance sound rule p.k (start_of p.starts) (start_of q.starts) p.list list in
+    figures_are_one work (Some p.k) (least_in (Some p.k) instance shortest) (start_of p.starts) (start_of q.starts) one other (follows_in instance) same
+    p.figures_are figures
 
 -- there is one for each number of workers, in its place
 pub count_of : (listed : List Figures) (workers : List ℕ) → map (λ (f : Figures). f.workers) listed ≡ map (λ (k : ℕ). Some k) workers
@@ -57,40 +57,39 @@ workers_at listed workers in_turn i d e inside =
     ∙ get_or-map (λ (k : ℕ). Some k) workers i e None there
 
 -- the list of them is one
-pub listed_is_one : (rule : Rule) (before : Relation) (work : Work) → IsForward before work → EachRuns work → (shortest : ℕ) (workers : List ℕ) (one other : List Figures)
-    → AreListed rule before work shortest workers one → AreListed rule before work shortest workers other → one ≡ other
-listed_is_one rule before work forward runs shortest workers one other p q =
+pub listed_is_one : (rule : Rule) (instance : Instance) → IsSound instance → (shortest : ℕ) (workers : List ℕ) (one other : List Figures)
+    → AreListed rule instance shortest workers one → AreListed rule instance shortest workers other → one ≡ other
+listed_is_one rule instance sound shortest workers one other p q =
     let long : length one ≡ length other = count_of one workers p.in_turn ∙ sym (count_of other workers q.in_turn) in
     same_lists one other long (λ i d inside.
     let there : i < length other = subst (λ n. i < n) long inside in
     let same : (get_or one i d).workers ≡ (get_or other i d).workers
     = workers_at one workers p.in_turn i d 0 inside ∙ sym (workers_at other workers q.in_turn i d 0 there) in
-    listed_same rule before work forward runs shortest (get_or one i d) (get_or other i d) (p.each i d inside) (q.each i d there) same)
+    listed_same rule instance sound shortest (get_or one i d) (get_or other i d) (p.each i d inside) (q.each i d there) same)
 
 -- the sweep
-sweep_is_one : (rule : Rule) (workers : List ℕ) (instance : Instance) → IsForward (before_in instance) (work_of_instance instance) → EachRuns (work_of_instance instance)
-    → (text other : List ℕ) → TellsSweep rule workers instance text → TellsSweep rule workers instance other → text ≡ other
-sweep_is_one rule workers instance forward runs text other p q =
-    let before = before_in instance in
+sweep_is_one : (rule : Rule) (workers : List ℕ) (instance : Instance) → IsSound instance → (text other : List ℕ) → TellsSweep rule workers instance text → TellsSweep rule workers instance other → text ≡ other
+sweep_is_one rule workers instance sound text other p q =
     let work = work_of_instance instance in
-    let same = least_is_one before work (start_of p.starts) (start_of q.starts) p.least q.least in
+    let same = least_in_one instance sound (start_of p.starts) (start_of q.starts) p.least q.least in
     let lengths = same_length work (start_of p.starts) (start_of q.starts) same in
-    let lists = listed_is_one rule before work forward runs (length_of work (start_of p.starts)) workers p.listed q.listed p.are_listed
-    (subst (λ n. AreListed rule before work n workers q.listed) (sym lengths) q.are_listed) in
-    let last = figures_are_one work None (length_of work (start_of p.starts)) (start_of p.starts) (start_of q.starts) p.unlimited q.unlimited same p.are_unlimited
-    (subst (λ n. AreFigures None work n (start_of q.starts) q.unlimited) (sym lengths) q.are_unlimited) in
+    let lists = listed_is_one rule instance sound (length_of work (start_of p.starts)) workers p.listed q.listed p.are_listed
+    (subst (λ n. AreListed rule instance n workers q.listed) (sym lengths) q.are_listed) in
+    let last = figures_are_one work None (least_in None instance (length_of work (start_of p.starts))) (start_of p.starts) (start_of q.starts)
+    p.unlimited q.unlimited (follows_in instance) same p.are_unlimited
+    (subst (λ n. AreFigures None work (least_in None instance n) (start_of q.starts) q.unlimited) (sym lengths) q.are_unlimited) in
     p.lines ∙ ap (λ fs. text_of (sweep_lines fs p.unlimited)) lists ∙ ap (λ f. text_of (sweep_lines q.listed f)) last ∙ sym q.lines
 
 pub sweep_text_is_one : (rule : Rule) (hierarchy_file trace_file workers : List ℕ) → SweepTextIsOne rule hierarchy_file trace_file workers
 sweep_text_is_one rule hierarchy_file trace_file workers = told_is_one (TellsSweep rule workers) hierarchy_file trace_file
-    (λ i accepts. sweep_is_one rule workers i (goes_forward hierarchy_file trace_file i accepts) (each_runs hierarchy_file trace_file i accepts))
+    (λ i accepts. sweep_is_one rule workers i (is_sound hierarchy_file trace_file i accepts))
 
 -- what a sweep of the same bytes tells of an instance
 abbrev pub IsSwept : Rule → List ℕ → List ℕ → List Figures → Figures → Instance → Type 0
 IsSwept rule workers starts listed unlimited instance =
-    IsLeast (before_in instance) (work_of_instance instance) (start_of starts)
-    × AreListed rule (before_in instance) (work_of_instance instance) (length_of (work_of_instance instance) (start_of starts)) workers listed
-    × AreFigures None (work_of_instance instance) (length_of (work_of_instance instance) (start_of starts)) (start_of starts) unlimited
+    IsLeast (served_first instance (start_of starts)) (work_of_instance instance) (start_of starts)
+    × AreListed rule instance (length_of (work_of_instance instance) (start_of starts)) workers listed
+    × AreFigures None (work_of_instance instance) (least_in None instance (length_of (work_of_instance instance) (start_of starts))) (start_of starts) unlimited
 
 pub told_swept : (rule : Rule) (hierarchy_file trace_file workers sweep : List ℕ) (instance : Instance) → Accepts hierarchy_file trace_file instance
     → (swept : IsSweepText rule hierarchy_file trace_file workers sweep) → IsSwept rule workers swept.told.starts swept.told.listed swept.told.unlimited instance
@@ -98,15 +97,16 @@ told_swept rule hierarchy_file trace_file workers sweep instance accepts swept =
     subst (IsSwept rule workers swept.told.starts swept.told.listed swept.told.unlimited)
     (sym (same_input hierarchy_file trace_file instance swept.instance accepts swept.accepts)) (swept.told.least, swept.told.are_listed, swept.told.are_unlimited)
 
--- where the time goes, by affinity and by name
-module _ (instance : Instance) (forward : IsForward (before_in instance) (work_of_instance instance)) where
+-- where the time goes, by affinity and by label
+module _ (instance : Instance) (sound : IsSound instance) where
   affinities_are_one : (text other : List ℕ) → TellsAffinities instance text → TellsAffinities instance other → text ≡ other
   affinities_are_one text other p q =
       let tree = instance.tree in
       let assigned = instance.assigned in
       let work = work_of_instance instance in
-      let same = least_is_one (before_in instance) work (start_of p.starts) (start_of q.starts) p.certified.least q.certified.least in
-      let chains = printed_is_one (before_in instance) work forward (start_of p.starts) (start_of q.starts) p.chain q.chain same p.certified.printed q.certified.printed in
+      let same = least_in_one instance sound (start_of p.starts) (start_of q.starts) p.certified.least q.certified.least in
+      let chains = chain_in_one instance sound (start_of p.starts) (start_of q.starts) p.chain q.chain p.certified.least.obeys.issued same
+      p.certified.printed q.certified.printed in
       let row = λ (a cost : ℕ). tally_row (name_of tree a) (parent_field tree (parent_of tree a)) cost (tally_of work p.chain (runs_in assigned a)) in
       let rows = map_range_same (affinity_row tree assigned work p.chain p.below) (affinity_row tree assigned work p.chain q.below) 0 (length tree)
       (λ a from to. ap (row a) (cost_below_is_one tree assigned work a (get_or p.below a 0) (get_or q.below a 0)
@@ -116,17 +116,18 @@ module _ (instance : Instance) (forward : IsForward (before_in instance) (work_o
       ∙ ap (λ c. text_of (affinities_lines tree assigned work c q.below)) chains
       ∙ sym q.lines
 
-  names_are_one : (text other : List ℕ) → TellsNames instance text → TellsNames instance other → text ≡ other
-  names_are_one text other p q =
+  names_are_one : (label : Label) (text other : List ℕ) → TellsNames label instance text → TellsNames label instance other → text ≡ other
+  names_are_one label text other p q =
       let work = work_of_instance instance in
-      let same = least_is_one (before_in instance) work (start_of p.starts) (start_of q.starts) p.certified.least q.certified.least in
-      let chains = printed_is_one (before_in instance) work forward (start_of p.starts) (start_of q.starts) p.chain q.chain same p.certified.printed q.certified.printed in
-      p.lines ∙ ap (λ c. text_of (names_lines (message_names instance.trace.messages) work c)) chains ∙ sym q.lines
+      let same = least_in_one instance sound (start_of p.starts) (start_of q.starts) p.certified.least q.certified.least in
+      let chains = chain_in_one instance sound (start_of p.starts) (start_of q.starts) p.chain q.chain p.certified.least.obeys.issued same
+      p.certified.printed q.certified.printed in
+      p.lines ∙ ap (λ c. text_of (label_lines label instance.trace.messages work c)) chains ∙ sym q.lines
 
-  where_is_one : (grouping : Grouping) (text other : List ℕ) → TellsWhere grouping instance text → TellsWhere grouping instance other → text ≡ other
-  where_is_one Affinity text other p q = affinities_are_one text other p q
-  where_is_one Name text other p q = names_are_one text other p q
+  where_is_one : (label : Option Label) (text other : List ℕ) → TellsWhere label instance text → TellsWhere label instance other → text ≡ other
+  where_is_one None text other p q = affinities_are_one text other p q
+  where_is_one (Some label) text other p q = names_are_one label text other p q
 
-pub where_text_is_one : (hierarchy_file trace_file : List ℕ) (grouping : Grouping) → WhereTextIsOne hierarchy_file trace_file grouping
-where_text_is_one hierarchy_file trace_file grouping = told_is_one (TellsWhere grouping) hierarchy_file trace_file
-    (λ i accepts. where_is_one i (goes_forward hierarchy_file trace_file i accepts) grouping)
+pub where_text_is_one : (hierarchy_file trace_file : List ℕ) (label : Option Label) → WhereTextIsOne hierarchy_file trace_file label
+where_text_is_one hierarchy_file trace_file label = told_is_one (TellsWhere label) hierarchy_file trace_file
+    (λ i accepts. where_is_one i (is_sound hierarchy_file trace_file i accepts) label)

@@ -1,4 +1,5 @@
 pub mod CertificateLemmas
+pub mod PlanUniqueness
 pub mod CheckRefusals
 pub mod CheckUniqueness
 mod ComparisonLemmas

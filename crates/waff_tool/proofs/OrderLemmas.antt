@@ -1,6 +1,8 @@
 -- The order of a plan that obeys is one in which a job can be handed out.
-use Rattle.std.proofs.Common.{◌≡◌, ℕ, ◌+◌, ◌<◌, ◌≤◌, inl, inr, List, length, get_or, AllPairs, arith, refl, sym, ◌∙◌, subst}
+use Rattle.std.proofs.Common.{◌≡◌, ℕ, ◌+◌, ◌-◌, ◌<◌, ◌≤◌, inl, inr, List, length, get_or, AllPairs, arith, refl, sym, ◌∙◌, subst}
+use Rattle.std.specs.List.{range_with_len}
 use Rattle.std.proofs.lemmas.Bool.{cases_order}
+use Rattle.std.proofs.lemmas.List.FromFn.{get_or-range_with_len, length-range_with_len}
 use Rattle.std.proofs.lemmas.Option.{get_or_from_slice_get, same_Some, slice_get_read, slice_get_within}
 use Rattle.waff_model.specs.Tree.{Node}
 use Rattle.waff_assign.specs.Order.{IsOrdered}
@@ -58,4 +60,38 @@ plan_order_is_order tree assigned needs work start order are same runs keeps lis
             | inr (inr more) ↦
                 absurd (not_after start i j (work.cost i) (runs i number) (keeps i j pair) (before other place j i more there at))
           ];
+    }
+
+-- in the order of the numbers message m stands at place m - 1
+stands_by_number : (count place m : ℕ) → StandsAt (range_with_len 1 count) place m → (m ≡ 1 + place) × (place < count)
+stands_by_number count place m at =
+    let inside : place < length (range_with_len 1 count) = slice_get_within (range_with_len 1 count) place m at in
+    let long = length-range_with_len 1 count in
+    let within : place < count = omega (arith, inside, long) in
+    (sym (get_or_from_slice_get (range_with_len 1 count) place m m at) ∙ get_or-range_with_len 1 count place m within, within)
+
+-- and each need before its message
+pub numbers_are_order : (tree : List Node) (assigned : List ℕ) (needs : List (List ℕ)) (count : ℕ) → AreNeeds tree assigned needs → length needs ≡ count
+    → IsOrder needs (range_with_len 1 count)
+numbers_are_order tree assigned needs count are same =
+    let order = range_with_len 1 count in
+    let long = length-range_with_len 1 count in
+    record {
+      messages = λ place d inside.
+          let is : get_or order place d ≡ 1 + place = get_or-range_with_len 1 count place d (omega (arith, inside, long)) in
+          (omega (arith, is), omega (arith, is, inside, long, same));
+      each = λ n from to.
+          let within : n - 1 < count = omega (arith, from, to, same) in
+          let is : get_or order (n - 1) n ≡ n = let at = get_or-range_with_len 1 count (n - 1) n within in omega (arith, at, from) in
+          (n - 1, slice_get_read order (length order) (n - 1) n refl (omega (arith, within, long)) (sym is));
+      once = λ place other n at there.
+          let one = stands_by_number count place n at in
+          let two = stands_by_number count other n there in
+          omega (arith, one.0, two.0);
+      needed = λ i j place other need at there.
+          let pair = are.ordered i j need in
+          let earlier : i < j = pair.earlier in
+          let one = stands_by_number count place i at in
+          let two = stands_by_number count other j there in
+          omega (arith, earlier, one.0, two.0);
     }

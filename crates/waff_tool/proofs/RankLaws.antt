@@ -9,13 +9,11 @@ use Rattle.waff_model.specs.declared.kind.Kind.{Kind}
 use Rattle.waff_read.specs.Hierarchies.{hierarchy_of}
 use Rattle.waff_read.specs.declared.hier_error.HierError.{HierError}
 use Rattle.waff_read.specs.declared.trace_fault.TraceError.{TraceError}
-use Rattle.waff_assign.specs.Instance.{Instance, before_in}
+use Rattle.waff_assign.specs.Instance.{Instance}
 use Rattle.waff_plan.specs.Instances.{work_of_instance}
-use Rattle.waff_plan.specs.Obeys.{IsForward}
 use Rattle.waff_plan.specs.Timing.{start_of}
 use Rattle.waff_plan.specs.Work.{length_of}
-use Rattle.waff_plan.proofs.Uniqueness.{least_is_one, same_length}
-use Rattle.waff_list.specs.Unique.{EachRuns}
+use Rattle.waff_plan.proofs.Uniqueness.{same_length}
 use Rattle.waff_list.specs.declared.rule.Rule.{Rule}
 use Rattle.waff_plan_text.specs.Lines.{text_of}
 use Rattle.waff_figures.specs.Sweep.{AreListed, IsListed}
@@ -29,13 +27,13 @@ use Rattle.waff_tool.specs.Ranks.{Admits, IsFirstRefused, IsFirstRefuted, IsHier
 use Rattle.waff_tool.specs.declared.ranks.Ranked.{Ranked}
 use Rattle.waff_tool.proofs.FigureUniqueness.{listed_is_one, listed_same, told_swept}
 use Rattle.waff_tool.proofs.RankLemmas.{ranked_admit}
-use Rattle.waff_tool.proofs.TextUniqueness.{each_runs, goes_forward}
+use Rattle.waff_tool.proofs.PlanUniqueness.{IsSound, least_in_one}
+use Rattle.waff_tool.proofs.TextUniqueness.{is_sound}
 
 -- what is told under a hierarchy is one
-under_is_one : (rule : Rule) (kind : Kind) (k : ℕ) (instance : Instance) (one other : Ranked) → IsForward (before_in instance) (work_of_instance instance)
-    → EachRuns (work_of_instance instance) → IsRankedUnder rule kind k instance one → IsRankedUnder rule kind k instance other → one ≡ other
-under_is_one rule kind k instance one other forward runs p q =
-    let before = before_in instance in
+under_is_one : (rule : Rule) (kind : Kind) (k : ℕ) (instance : Instance) (one other : Ranked) → IsSound instance
+    → IsRankedUnder rule kind k instance one → IsRankedUnder rule kind k instance other → one ≡ other
+under_is_one rule kind k instance one other sound p q =
     let work = work_of_instance instance in
     let told : Kind → ℕ → ℕ → Figures → Ranked = λ kind affinities length listed. record {
       kind = kind;
@@ -43,10 +41,10 @@ under_is_one rule kind k instance one other forward runs p q =
       length = length;
       listed = listed;
     } in
-    let same = least_is_one before work (start_of p.starts) (start_of q.starts) p.least q.least in
+    let same = least_in_one instance sound (start_of p.starts) (start_of q.starts) p.least q.least in
     let lengths : one.length ≡ other.length = p.shortest ∙ same_length work (start_of p.starts) (start_of q.starts) same ∙ sym q.shortest in
-    let listed : one.listed ≡ other.listed = listed_same rule before work forward runs one.length one.listed other.listed p.listed
-    (subst (λ n. IsListed rule before work n other.listed) (sym lengths) q.listed) (p.workers ∙ sym q.workers) in
+    let listed : one.listed ≡ other.listed = listed_same rule instance sound one.length one.listed other.listed p.listed
+    (subst (λ n. IsListed rule instance n other.listed) (sym lengths) q.listed) (p.workers ∙ sym q.workers) in
     ap (λ kind. told kind one.affinities one.length one.listed) (p.kind_is ∙ sym q.kind_is)
     ∙ ap (λ n. told other.kind n one.length one.listed) (p.affinities ∙ sym q.affinities)
     ∙ ap (λ n. told other.kind other.affinities n one.listed) lengths
@@ -58,7 +56,7 @@ ranked_is_one rule trace_file k file one other p q =
     let layouts = same_ok (hierarchy_of file) p.accepts.layout q.accepts.layout p.accepts.is_layout q.accepts.is_layout in
     let told = subst (λ (l : Hierarchy). IsRankedUnder rule l.kind k p.instance other) (sym layouts)
     (subst (λ i. IsRankedUnder rule q.accepts.layout.kind k i other) (sym same) q.under) in
-    under_is_one rule p.accepts.layout.kind k p.instance one other (goes_forward file trace_file p.instance p.accepts) (each_runs file trace_file p.instance p.accepts)
+    under_is_one rule p.accepts.layout.kind k p.instance one other (is_sound file trace_file p.instance p.accepts)
     p.under told
 
 ranks_are_one : (rule : Rule) (trace_file : List ℕ) (k : ℕ) (files : List (List ℕ)) (ranks others : List Ranked) → AllZip (IsRanked rule trace_file k) files ranks
@@ -154,16 +152,16 @@ pub is_ranked_as_swept : (rule : Rule) (hierarchy_file trace_file : List ℕ) �
 is_ranked_as_swept rule hierarchy_file trace_file k ranked text p swept =
     let i = p.instance in
     let under = p.under in
-    let before = before_in i in
+    let sound = is_sound hierarchy_file trace_file i p.accepts in
     let work = work_of_instance i in
     let moved = told_swept rule hierarchy_file trace_file (k ∷ []) text i p.accepts swept in
     let starts = swept.told.starts in
     let listed = swept.told.listed in
-    let same = least_is_one before work (start_of starts) (start_of under.starts) moved.0 under.least in
+    let same = least_in_one i sound (start_of starts) (start_of under.starts) moved.0 under.least in
     let lengths : length_of work (start_of starts) ≡ ranked.length = same_length work (start_of starts) (start_of under.starts) same ∙ sym under.shortest in
-    let alone : AreListed rule before work ranked.length (k ∷ []) (ranked.listed ∷ []) = record {
+    let alone : AreListed rule i ranked.length (k ∷ []) (ranked.listed ∷ []) = record {
       in_turn = ap (λ w. w ∷ []) under.workers;
-      each = All-cons (IsListed rule before work ranked.length) ranked.listed [] under.listed (λ i d inside. absurd (omega (arith, inside)));
+      each = All-cons (IsListed rule i ranked.length) ranked.listed [] under.listed (λ i d inside. absurd (omega (arith, inside)));
     } in
-    listed_is_one rule before work (goes_forward hierarchy_file trace_file i p.accepts) (each_runs hierarchy_file trace_file i p.accepts) ranked.length (k ∷ [])
-    listed (ranked.listed ∷ []) (subst (λ n. AreListed rule before work n (k ∷ []) listed) lengths moved.1) alone
+    listed_is_one rule i sound ranked.length (k ∷ [])
+    listed (ranked.listed ∷ []) (subst (λ n. AreListed rule i n (k ∷ []) listed) lengths moved.1) alone

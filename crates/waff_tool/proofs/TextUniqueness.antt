@@ -9,35 +9,32 @@ use Rattle.waff_model.specs.declared.kind.Kind.TheVariants as kind
 use Rattle.waff_read.specs.Hierarchies.{hierarchy_of}
 use Rattle.waff_inputs.specs.Known.{newest, trace_of}
 use Rattle.waff_read.proofs.LimitLaws.{trace_is_within_limits}
-use Rattle.waff_assign.specs.Instance.{Instance, before_in}
-use Rattle.waff_assign.specs.Order.{IsOrdered, Refines}
+use Rattle.waff_assign.specs.Instance.{Instance}
+use Rattle.waff_assign.specs.Order.{Refines}
 use Rattle.waff_assign.proofs.Uniqueness.{assignment_is_one}
 use Rattle.waff_plan.specs.Instances.{work_of_instance}
-use Rattle.waff_plan.specs.Obeys.{IsForward}
 use Rattle.waff_plan.specs.Timetable.{work_of_messages}
 use Rattle.waff_plan.specs.Timing.{start_of}
 use Rattle.waff_plan.specs.Totals.{totals_of}
-use Rattle.waff_plan.specs.Work.{Work, total_of}
+use Rattle.waff_plan.specs.Work.{total_of}
 use Rattle.waff_plan.specs.declared.totals.Totals.{Totals}
-use Rattle.waff_plan.proofs.Uniqueness.{least_is_one, printed_is_one}
 use Rattle.waff_list.specs.Seating.{worker_of}
 use Rattle.waff_list.specs.Unique.{EachRuns}
 use Rattle.waff_list.specs.declared.rule.Rule.{Rule}
 use Rattle.waff_list.specs.declared.rule.Rule.TheVariants.{Arrival}
 use Rattle.waff_list.proofs.SeatsUniqueness.{seats_are_one}
 use Rattle.waff_list.proofs.TraceWork.{trace_is_small}
-use Rattle.waff_list.proofs.RuleLemmas.{rule_plan_is_one}
 use Rattle.waff_plan_text.specs.Lines.{text_of}
 use Rattle.waff_plan_text.specs.Spelling.{no_worker, seat_of, unlimited_lines, worker_lines}
 use Rattle.waff_plan.proofs.Uniqueness.{totals_same}
-use Rattle.waff_inputs.specs.Inputs.{Accepts}
+use Rattle.waff_inputs.specs.Inputs.{Accepts, instance_under}
 use Rattle.waff_inputs.proofs.SameInput.{layout_tree, same_ok, same_trace, told_is_one}
 use Rattle.waff_tool.specs.AssignText.{TellsAssignment}
 use Rattle.waff_tool.specs.PlanText.{TellsLeastPlan, TellsPlan, TellsWorkerPlan}
 use Rattle.waff_tool.specs.Comparison.{AreModels, IsCompared, IsMeasured, compare_lines}
 use Rattle.waff_tool.specs.Unique.{AssignTextIsOne, CompareTextIsOne, PlanTextIsOne}
 use Rattle.waff_tool.specs.declared.measures.Measured.{Measured}
-use Rattle.waff_tool.proofs.CertificateLemmas.{pairs_forward}
+use Rattle.waff_tool.proofs.PlanUniqueness.{IsSound, chain_in_one, least_in_one, rule_in_one}
 use Rattle.waff_tool.proofs.LineLaws.{lines_same}
 
 -- each message of a trace that is read runs
@@ -48,51 +45,48 @@ trace_runs layout file trace read =
 
 -- an instance that is accepted
 module _ (hierarchy_file trace_file : List ℕ) (instance : Instance) (accepts : Accepts hierarchy_file trace_file instance) where
-  pub goes_forward : IsForward (before_in instance) (work_of_instance instance)
-  goes_forward = pairs_forward instance.tree instance.assigned instance.trace.messages accepts.assignment.count
-
-  pub each_runs : EachRuns (work_of_instance instance)
-  each_runs = trace_runs accepts.layout trace_file instance.trace accepts.is_trace
+  pub is_sound : IsSound instance
+  is_sound = record { same = accepts.assignment.count; runs = trace_runs accepts.layout trace_file instance.trace accepts.is_trace }
 
 -- the affinities
 pub assign_text_is_one : (hierarchy_file trace_file : List ℕ) → AssignTextIsOne hierarchy_file trace_file
 assign_text_is_one hierarchy_file trace_file = told_is_one TellsAssignment hierarchy_file trace_file (λ i accepts text other p q. p ∙ sym q)
 
 -- the plan without workers, and by a rule for k workers
-module _ (instance : Instance) (forward : IsForward (before_in instance) (work_of_instance instance)) where
+module _ (instance : Instance) (sound : IsSound instance) where
   least_plan_is_one : (text other : List ℕ) → TellsLeastPlan instance text → TellsLeastPlan instance other → text ≡ other
   least_plan_is_one text other p q =
-      let before = before_in instance in
       let work = work_of_instance instance in
-      let same = least_is_one before work (start_of p.starts) (start_of q.starts) p.certified.least q.certified.least in
-      let chains = printed_is_one before work forward (start_of p.starts) (start_of q.starts) p.chain q.chain same p.certified.printed q.certified.printed in
+      let same = least_in_one instance sound (start_of p.starts) (start_of q.starts) p.certified.least q.certified.least in
+      let chains = chain_in_one instance sound (start_of p.starts) (start_of q.starts) p.chain q.chain p.certified.least.obeys.issued same
+      p.certified.printed q.certified.printed in
       p.lines
       ∙ ap text_of (lines_same instance.trace.version instance.tree instance.assigned work None (start_of p.starts) (start_of q.starts) no_worker no_worker p.chain same (λ m number. refl))
       ∙ ap (λ c. text_of (unlimited_lines instance.trace.version instance.tree instance.assigned work (start_of q.starts) c)) chains
       ∙ sym q.lines
 
-  worker_plan_is_one : EachRuns (work_of_instance instance) → (rule : Rule) (k : ℕ) (text other : List ℕ) → TellsWorkerPlan rule k instance text
+  worker_plan_is_one : (rule : Rule) (k : ℕ) (text other : List ℕ) → TellsWorkerPlan rule k instance text
       → TellsWorkerPlan rule k instance other → text ≡ other
-  worker_plan_is_one runs rule k text other p q =
-      let before = before_in instance in
+  worker_plan_is_one rule k text other p q =
       let work = work_of_instance instance in
-      let same = rule_plan_is_one before work forward runs rule k (start_of p.starts) (start_of q.starts) p.bounded.list q.bounded.list in
+      let same = rule_in_one instance sound rule k (start_of p.starts) (start_of q.starts) p.bounded.list q.bounded.list in
       let sat = seats_are_one work (start_of p.starts) (start_of q.starts) (worker_of p.workers) (worker_of q.workers) same p.seated q.seated in
-      let chains = printed_is_one before work forward (start_of p.starts) (start_of q.starts) p.chain q.chain same p.bounded.printed q.bounded.printed in
+      let chains = chain_in_one instance sound (start_of p.starts) (start_of q.starts) p.chain q.chain p.bounded.obeys.issued same
+      p.bounded.printed q.bounded.printed in
       p.lines
       ∙ ap text_of (lines_same instance.trace.version instance.tree instance.assigned work (Some k) (start_of p.starts) (start_of q.starts) (seat_of p.workers) (seat_of q.workers) p.chain same
       (λ m number. ap Some (sat m number)))
       ∙ ap (λ c. text_of (worker_lines instance.trace.version instance.tree instance.assigned work k (start_of q.starts) q.workers c)) chains
       ∙ sym q.lines
 
-  plan_is_one : EachRuns (work_of_instance instance) → (rule : Rule) (workers : Option ℕ) (text other : List ℕ) → TellsPlan rule workers instance text
+  plan_is_one : (rule : Rule) (workers : Option ℕ) (text other : List ℕ) → TellsPlan rule workers instance text
       → TellsPlan rule workers instance other → text ≡ other
-  plan_is_one runs rule None text other p q = least_plan_is_one text other p q
-  plan_is_one runs rule (Some k) text other p q = worker_plan_is_one runs rule k text other p q
+  plan_is_one rule None text other p q = least_plan_is_one text other p q
+  plan_is_one rule (Some k) text other p q = worker_plan_is_one rule k text other p q
 
 pub plan_text_is_one : (rule : Rule) (hierarchy_file trace_file : List ℕ) (workers : Option ℕ) → PlanTextIsOne rule hierarchy_file trace_file workers
 plan_text_is_one rule hierarchy_file trace_file workers = told_is_one (TellsPlan rule workers) hierarchy_file trace_file
-    (λ i accepts. plan_is_one i (goes_forward hierarchy_file trace_file i accepts) (each_runs hierarchy_file trace_file i accepts) rule workers)
+    (λ i accepts. plan_is_one i (is_sound hierarchy_file trace_file i accepts) rule workers)
 
 -- what is told of a trace under one hierarchy
 made_of : Kind → Totals → Totals → Measured
@@ -105,15 +99,17 @@ same_measured one other kinds unlimited listed =
     ∙ ap (λ t. made_of other.kind t one.listed) unlimited
     ∙ ap (λ t. made_of other.kind other.unlimited t) listed
 
-measured_is_one : (layout : Hierarchy) (assigned : List ℕ) (work : Work) (k : ℕ) (one other : Measured) → IsForward (IsOrdered layout.tree assigned) work
-    → EachRuns work → IsMeasured layout assigned work k one → IsMeasured layout assigned work k other → one ≡ other
-measured_is_one layout assigned work k one other forward runs p q =
-    let before = IsOrdered layout.tree assigned in
-    let same = least_is_one before work (start_of p.least.starts) (start_of q.least.starts) p.least.certified.least q.least.certified.least in
-    let chains = printed_is_one before work forward (start_of p.least.starts) (start_of q.least.starts) p.least.chain q.least.chain same p.least.certified.printed q.least.certified.printed in
-    let same_list = rule_plan_is_one before work forward runs Arrival k (start_of p.by_arrival.starts) (start_of q.by_arrival.starts) p.by_arrival.bounded.list q.by_arrival.bounded.list in
-    let list_chains = printed_is_one before work forward (start_of p.by_arrival.starts) (start_of q.by_arrival.starts) p.by_arrival.chain q.by_arrival.chain same_list
-    p.by_arrival.bounded.printed q.by_arrival.bounded.printed in
+measured_is_one : (layout : Hierarchy) (assigned : List ℕ) (trace : Arrivals) (k : ℕ) (one other : Measured) → IsSound (instance_under layout assigned trace)
+    → IsMeasured layout assigned trace k one → IsMeasured layout assigned trace k other → one ≡ other
+measured_is_one layout assigned trace k one other sound p q =
+    let instance = instance_under layout assigned trace in
+    let work = work_of_instance instance in
+    let same = least_in_one instance sound (start_of p.least.starts) (start_of q.least.starts) p.least.certified.least q.least.certified.least in
+    let chains = chain_in_one instance sound (start_of p.least.starts) (start_of q.least.starts) p.least.chain q.least.chain p.least.certified.least.obeys.issued same
+    p.least.certified.printed q.least.certified.printed in
+    let same_list = rule_in_one instance sound Arrival k (start_of p.by_arrival.starts) (start_of q.by_arrival.starts) p.by_arrival.bounded.list q.by_arrival.bounded.list in
+    let list_chains = chain_in_one instance sound (start_of p.by_arrival.starts) (start_of q.by_arrival.starts) p.by_arrival.chain q.by_arrival.chain
+    p.by_arrival.bounded.obeys.issued same_list p.by_arrival.bounded.printed q.by_arrival.bounded.printed in
     same_measured one other (p.kind ∙ sym q.kind)
     (p.least.told ∙ totals_same None work (start_of p.least.starts) (start_of q.least.starts) p.least.chain same
     ∙ ap (λ c. totals_of None work (start_of q.least.starts) c) chains ∙ sym q.least.told)
@@ -127,12 +123,12 @@ compared_is_one classical hierarchical trace k text other tree fine_tree runs p 
     let work = work_of_messages trace.messages in
     let coarse = assignment_is_one classical trace.messages tree p.coarse q.coarse p.coarse_assignment q.coarse_assignment in
     let fine = assignment_is_one hierarchical trace.messages fine_tree p.fine q.fine p.fine_assignment q.fine_assignment in
-    let of_classical = measured_is_one classical p.coarse work k p.of_classical q.of_classical
-    (pairs_forward classical.tree p.coarse trace.messages p.coarse_assignment.count) runs p.classical_measured
-    (subst (λ a. IsMeasured classical a work k q.of_classical) (sym coarse) q.classical_measured) in
-    let of_hierarchical = measured_is_one hierarchical p.fine work k p.of_hierarchical q.of_hierarchical
-    (pairs_forward hierarchical.tree p.fine trace.messages p.fine_assignment.count) runs p.hierarchical_measured
-    (subst (λ a. IsMeasured hierarchical a work k q.of_hierarchical) (sym fine) q.hierarchical_measured) in
+    let of_classical = measured_is_one classical p.coarse trace k p.of_classical q.of_classical
+    (record { same = p.coarse_assignment.count; runs = runs }) p.classical_measured
+    (subst (λ a. IsMeasured classical a trace k q.of_classical) (sym coarse) q.classical_measured) in
+    let of_hierarchical = measured_is_one hierarchical p.fine trace k p.of_hierarchical q.of_hierarchical
+    (record { same = p.fine_assignment.count; runs = runs }) p.hierarchical_measured
+    (subst (λ a. IsMeasured hierarchical a trace k q.of_hierarchical) (sym fine) q.hierarchical_measured) in
     let told : IsTrue q.refined ↔ Refines hierarchical.tree p.fine classical.tree p.coarse =
     subst (λ a. IsTrue q.refined ↔ Refines hierarchical.tree p.fine classical.tree a) (sym coarse)
     (subst (λ a. IsTrue q.refined ↔ Refines hierarchical.tree a classical.tree q.coarse) (sym fine) q.told) in

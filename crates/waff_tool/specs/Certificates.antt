@@ -1,37 +1,42 @@
 -- A plan with its printed chain, and what the chain shows of the plan.
 use Rattle.std.specs.Prelude.{◌≡◌, ℕ, ◌+◌, ◌≤◌, List}
-use Rattle.waff_assign.specs.Order.{Relation}
-use Rattle.waff_plan.specs.Work.{Work, length_of}
+use Rattle.waff_assign.specs.Instance.{Instance}
+use Rattle.waff_plan.specs.Instances.{served_first, started_first, work_of_instance}
+use Rattle.waff_plan.specs.Work.{length_of}
 use Rattle.waff_plan.specs.Obeys.{Obeys, IsLeast}
 use Rattle.waff_plan.specs.Chain.{IsChain, IsPrinted, chain_cost, chain_release}
 use Rattle.waff_plan.specs.Workers.{running}
 use Rattle.waff_plan.specs.Bound.{IsWithinBound, IsWithinTwice, IsWithinRatio}
 use Rattle.waff_plan.specs.Laws.{ChainsAreWithinLength}
-use Rattle.waff_list.specs.Rules.{IsPlanBy}
 use Rattle.waff_list.specs.declared.rule.Rule.{Rule}
+use Rattle.waff_figures.specs.Sweep.{IsPlanOf}
 
--- the least plan, with its printed chain: no obeying plan is shorter, as the chain shows, whose
--- release plus cost is the length; that of every chain is at most the length of every obeying plan
-pub record IsCertified (before : Relation) (work : Work) (start : ℕ → ℕ)
-    (chain : List ℕ) : Type 0 where
-  pub least : IsLeast before work start
-  pub printed : IsPrinted before work start chain
-  pub shortest : (other : ℕ → ℕ) → Obeys before work other
-      → length_of work start ≤ length_of work other
-  pub is_chain : IsChain before work chain
-  pub as_long : chain_release work chain + chain_cost work chain ≡ length_of work start
-  pub certificate : ChainsAreWithinLength before work
+-- the least plan in the order in which it is to serve messages, with its printed chain: no plan that
+-- obeys the order of its chains is shorter, as the chain shows, whose release plus cost is the length;
+-- that of every chain is at most the length of every plan that obeys so
+pub record IsCertified (instance : Instance) (start : ℕ → ℕ) (chain : List ℕ) : Type 0 where
+  pub least : IsLeast (served_first instance start) (work_of_instance instance) start
+  pub printed : IsPrinted (started_first instance start) (work_of_instance instance) start chain
+  pub shortest : (other : ℕ → ℕ)
+      → Obeys (started_first instance start) (work_of_instance instance) other
+      → length_of (work_of_instance instance) start ≤ length_of (work_of_instance instance) other
+  pub is_chain : IsChain (started_first instance start) (work_of_instance instance) chain
+  pub as_long : chain_release (work_of_instance instance) chain
+      + chain_cost (work_of_instance instance) chain
+      ≡ length_of (work_of_instance instance) start
+  pub certificate : ChainsAreWithinLength (started_first instance start) (work_of_instance instance)
 
 -- the plan by this rule for k workers, with its printed chain: at most k messages run at each tick,
 -- and whatever the rule the plan is within the list bound of the chain, so at most twice as long as
--- any worker plan for k, or 2 - 1/k times where no message has a release
-pub record IsBounded (rule : Rule) (before : Relation) (work : Work) (k : ℕ) (start : ℕ → ℕ)
+-- any worker plan for k that obeys the order of its chains, or 2 - 1/k times where no message has a
+-- release or a think time
+pub record IsBounded (rule : Rule) (instance : Instance) (k : ℕ) (start : ℕ → ℕ)
     (chain : List ℕ) : Type 0 where
-  pub list : IsPlanBy rule before work k start
-  pub obeys : Obeys before work start
-  pub at_once : (t : ℕ) → running work start t ≤ k
-  pub printed : IsPrinted before work start chain
-  pub is_chain : IsChain before work chain
-  pub bound : IsWithinBound work k start chain
-  pub twice : IsWithinTwice before work k start
-  pub ratio : IsWithinRatio before work k start
+  pub list : IsPlanOf rule instance k start
+  pub obeys : Obeys (served_first instance start) (work_of_instance instance) start
+  pub at_once : (t : ℕ) → running (work_of_instance instance) start t ≤ k
+  pub printed : IsPrinted (started_first instance start) (work_of_instance instance) start chain
+  pub is_chain : IsChain (started_first instance start) (work_of_instance instance) chain
+  pub bound : IsWithinBound (work_of_instance instance) k start chain
+  pub twice : IsWithinTwice (started_first instance start) (work_of_instance instance) k start
+  pub ratio : IsWithinRatio (started_first instance start) (work_of_instance instance) k start

@@ -31,6 +31,8 @@ verdict_fields verdict.Obeys = codes "obeys" ∷ []
 verdict_fields verdict.Shortest = codes "shortest" ∷ []
 verdict_fields verdict.WithinBound = codes "withinbound" ∷ []
 verdict_fields (verdict.Early message) = codes "early" ∷ decimal message ∷ []
+verdict_fields (verdict.Client message) = codes "client" ∷ decimal message ∷ []
+verdict_fields verdict.Tight = codes "tight" ∷ []
 
 -- the text of a verdict is its line alone
 abbrev pub verdict_text : Verdict → List ℕ
@@ -40,6 +42,7 @@ verdict_text v = line_text (verdict_fields v)
 abbrev pub status_after : Verdict → ℕ
 status_after verdict.Obeys = 0
 status_after verdict.Shortest = 0
+status_after verdict.Tight = 0
 status_after verdict.WithinBound = 0
 status_after _ = 1
 

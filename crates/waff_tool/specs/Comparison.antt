@@ -1,5 +1,5 @@
 -- What is printed where a classical and a hierarchical hierarchy are compared on one trace.
-use Rattle.std.specs.Prelude.{◌≡◌, ℕ, ◌≤◌, ◌⊎◌, ◌↔◌, Bool, true, false, IsTrue, List, [], ◌∷◌, ◌++◌}
+use Rattle.std.specs.Prelude.{◌≡◌, ◌≢◌, ℕ, ◌≤◌, ◌⊎◌, ◌↔◌, Bool, true, false, IsTrue, List, [], ◌∷◌, ◌++◌}
 use Rattle.std.specs.Prelude.{◌<◌, All, length, Some, None, Ok, Err, codes, decimal}
 use Rattle.waff_model.specs.Layout.{Hierarchy, SameSpaces}
 use Rattle.waff_model.specs.Messages.{Arrivals}
@@ -10,14 +10,16 @@ use Rattle.waff_model.specs.declared.message.Version.TheVariants.{V1, V2, V3}
 use Rattle.waff_read.specs.Hierarchies.{hierarchy_of}
 use Rattle.waff_inputs.specs.Known.{trace_of}
 use Rattle.waff_assign.specs.Lowest.{IsAssignment}
-use Rattle.waff_assign.specs.Order.{IsOrdered, Refines, Relation}
+use Rattle.waff_assign.specs.Instance.{Instance}
+use Rattle.waff_assign.specs.Order.{Refines}
+use Rattle.waff_plan.specs.Instances.{work_of_instance}
 use Rattle.waff_plan.specs.Timetable.{work_of_messages}
 use Rattle.waff_plan.specs.Timing.{start_of}
 use Rattle.waff_plan.specs.Totals.{totals_of}
-use Rattle.waff_plan.specs.Work.{Work, total_of}
+use Rattle.waff_plan.specs.Work.{total_of}
 use Rattle.waff_plan.specs.declared.totals.Totals.{Totals}
 use Rattle.waff_list.specs.declared.rule.Rule.TheVariants.{Arrival}
-use Rattle.waff_inputs.specs.Inputs.{RefusesHierarchy}
+use Rattle.waff_inputs.specs.Inputs.{RefusesHierarchy, instance_under}
 use Rattle.waff_tool.specs.Certificates.{IsBounded, IsCertified}
 use Rattle.waff_plan_text.specs.Lines.{text_of}
 use Rattle.waff_inputs.specs.declared.fault.ToolError.{ToolError}
@@ -25,26 +27,26 @@ use Rattle.waff_inputs.specs.declared.fault.ToolError.TheVariants as tool
 use Rattle.waff_tool.specs.declared.measures.Measured.{Measured}
 
 -- the totals of the least plan, with its printed chain
-pub record AreCertifiedTotals (before : Relation) (work : Work) (totals : Totals) : Type 0 where
+pub record AreCertifiedTotals (instance : Instance) (totals : Totals) : Type 0 where
   pub starts : List ℕ
   pub chain : List ℕ
-  pub certified : IsCertified before work (start_of starts) chain
-  pub told : totals ≡ totals_of None work (start_of starts) chain
+  pub certified : IsCertified instance (start_of starts) chain
+  pub told : totals ≡ totals_of None (work_of_instance instance) (start_of starts) chain
 
 -- the totals of the list plan for k workers, with its printed chain
-pub record AreListTotals (before : Relation) (work : Work) (k : ℕ) (totals : Totals) : Type 0 where
+pub record AreListTotals (instance : Instance) (k : ℕ) (totals : Totals) : Type 0 where
   pub starts : List ℕ
   pub chain : List ℕ
-  pub bounded : IsBounded Arrival before work k (start_of starts) chain
-  pub told : totals ≡ totals_of (Some k) work (start_of starts) chain
+  pub bounded : IsBounded Arrival instance k (start_of starts) chain
+  pub told : totals ≡ totals_of (Some k) (work_of_instance instance) (start_of starts) chain
 
 -- what is told of a trace under one hierarchy: of its least plan, and of its plan by arrival for k
 -- workers, each with its printed chain
-pub record IsMeasured (layout : Hierarchy) (assigned : List ℕ) (work : Work) (k : ℕ)
+pub record IsMeasured (layout : Hierarchy) (assigned : List ℕ) (trace : Arrivals) (k : ℕ)
     (measured : Measured) : Type 0 where
   pub kind : measured.kind ≡ layout.kind
-  pub least : AreCertifiedTotals (IsOrdered layout.tree assigned) work measured.unlimited
-  pub by_arrival : AreListTotals (IsOrdered layout.tree assigned) work k measured.listed
+  pub least : AreCertifiedTotals (instance_under layout assigned trace) measured.unlimited
+  pub by_arrival : AreListTotals (instance_under layout assigned trace) k measured.listed
 
 abbrev pub kind_field : Kind → List ℕ
 kind_field kind.Classical = codes "classical"
@@ -99,11 +101,11 @@ pub record AreAssignedAndMeasured (layout : Hierarchy) (trace : Arrivals) (k : �
     (made : List ℕ × Measured) : Type 0 where
   pub assignment : IsAssignment layout trace.messages made.0
   pub known : All (λ a. a < length layout.tree) made.0
-  pub measured : IsMeasured layout made.0 (work_of_messages trace.messages) k made.1
+  pub measured : IsMeasured layout made.0 trace k made.1
 
 -- the text of the comparison of a classical and a hierarchical hierarchy on a trace: it tells
 -- whether the hierarchical one refines the classical one, and where it does its least plan is no
--- longer
+-- longer, but for the third version, whose plans serve in an order of their own
 pub record IsCompared (classical hierarchical : Hierarchy)
     (trace : Arrivals) (k : ℕ) (text : List ℕ) : Type 0 where
   pub coarse : List ℕ
@@ -113,10 +115,11 @@ pub record IsCompared (classical hierarchical : Hierarchy)
   pub refined : Bool
   pub coarse_assignment : IsAssignment classical trace.messages coarse
   pub fine_assignment : IsAssignment hierarchical trace.messages fine
-  pub classical_measured : IsMeasured classical coarse (work_of_messages trace.messages) k of_classical
-  pub hierarchical_measured : IsMeasured hierarchical fine (work_of_messages trace.messages) k of_hierarchical
+  pub classical_measured : IsMeasured classical coarse trace k of_classical
+  pub hierarchical_measured : IsMeasured hierarchical fine trace k of_hierarchical
   pub told : IsTrue refined ↔ Refines hierarchical.tree fine classical.tree coarse
-  pub no_longer : IsTrue refined → of_hierarchical.unlimited.length ≤ of_classical.unlimited.length
+  pub no_longer : trace.version ≢ V3 → IsTrue refined
+      → of_hierarchical.unlimited.length ≤ of_classical.unlimited.length
   pub lines : text ≡ text_of (compare_lines trace.version k
       (total_of (work_of_messages trace.messages)) of_classical of_hierarchical refined)
 

@@ -1,6 +1,6 @@
 -- What `plan` prints for the bytes of its files.
 use Rattle.std.specs.Prelude.{◌≡◌, ℕ, List, Option, Some, None}
-use Rattle.waff_assign.specs.Instance.{Instance, before_in}
+use Rattle.waff_assign.specs.Instance.{Instance}
 use Rattle.waff_plan.specs.Instances.{work_of_instance}
 use Rattle.waff_plan.specs.Timing.{start_of}
 use Rattle.waff_list.specs.Seating.{worker_of}
@@ -11,13 +11,12 @@ use Rattle.waff_plan_text.specs.Spelling.{unlimited_lines, worker_lines}
 use Rattle.waff_inputs.specs.Inputs.{IsToldOf}
 use Rattle.waff_tool.specs.Certificates.{IsBounded, IsCertified}
 
--- the text of the least plan of an instance, with the chain that shows that no obeying plan is
--- shorter
+-- the text of the least plan of an instance, with the chain that shows that no plan that obeys its
+-- order is shorter
 pub record TellsLeastPlan (instance : Instance) (text : List ℕ) : Type 0 where
   pub starts : List ℕ
   pub chain : List ℕ
-  pub certified : IsCertified (before_in instance)
-      (work_of_instance instance) (start_of starts) chain
+  pub certified : IsCertified instance (start_of starts) chain
   pub lines : text ≡ text_of (unlimited_lines instance.trace.version
       instance.tree instance.assigned (work_of_instance instance) (start_of starts) chain)
 
@@ -26,8 +25,7 @@ pub record TellsWorkerPlan (rule : Rule) (k : ℕ) (instance : Instance) (text :
   pub starts : List ℕ
   pub workers : List ℕ
   pub chain : List ℕ
-  pub bounded : IsBounded rule (before_in instance)
-      (work_of_instance instance) k (start_of starts) chain
+  pub bounded : IsBounded rule instance k (start_of starts) chain
   pub seated : AreSeated (work_of_instance instance) (start_of starts) (worker_of workers)
   pub lines : text ≡ text_of (worker_lines instance.trace.version
       instance.tree instance.assigned (work_of_instance instance) k (start_of starts) workers chain)

@@ -9,8 +9,8 @@ use Rattle.waff_read.specs.Hierarchies.{hierarchy_of}
 use Rattle.waff_inputs.specs.Known.{trace_of}
 use Rattle.waff_read.specs.declared.hier_error.HierError.{HierError}
 use Rattle.waff_read.specs.declared.trace_fault.TraceError.{TraceError}
-use Rattle.waff_assign.specs.Instance.{Instance, before_in}
-use Rattle.waff_plan.specs.Instances.{work_of_instance}
+use Rattle.waff_assign.specs.Instance.{Instance}
+use Rattle.waff_plan.specs.Instances.{served_first, work_of_instance}
 use Rattle.waff_plan.specs.Obeys.{IsLeast}
 use Rattle.waff_plan.specs.Timing.{start_of}
 use Rattle.waff_plan.specs.Work.{length_of}
@@ -31,10 +31,10 @@ pub record IsRankedUnder (rule : Rule) (kind : Kind) (k : ℕ) (instance : Insta
   pub starts : List ℕ
   pub kind_is : ranked.kind ≡ kind
   pub affinities : ranked.affinities ≡ length instance.tree
-  pub least : IsLeast (before_in instance) (work_of_instance instance) (start_of starts)
+  pub least : IsLeast (served_first instance (start_of starts)) (work_of_instance instance)
+      (start_of starts)
   pub shortest : ranked.length ≡ length_of (work_of_instance instance) (start_of starts)
-  pub listed : IsListed rule (before_in instance)
-      (work_of_instance instance) ranked.length ranked.listed
+  pub listed : IsListed rule instance ranked.length ranked.listed
   pub workers : ranked.listed.workers ≡ Some k
 
 -- what is told of the bytes of a trace under those of a hierarchy

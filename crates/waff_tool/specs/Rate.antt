@@ -1,38 +1,40 @@
 -- What `rate` tells of a plan that is handed in.
 use Rattle.std.specs.Prelude.{◌≡◌, ℕ, List, Option, ◌∷◌, Contains, codes}
-use Rattle.waff_assign.specs.Instance.{Instance, before_in}
-use Rattle.waff_assign.specs.Order.{Relation}
+use Rattle.waff_assign.specs.Instance.{Instance}
 use Rattle.waff_plan.specs.Bound.{IsWorkers}
-use Rattle.waff_plan.specs.Instances.{work_of_instance}
+use Rattle.waff_plan.specs.Instances.{served_first, work_of_instance}
 use Rattle.waff_plan.specs.Obeys.{IsLeast}
 use Rattle.waff_plan.specs.Timing.{start_of}
-use Rattle.waff_plan.specs.Work.{Work, length_of}
+use Rattle.waff_plan.specs.Work.{length_of}
 use Rattle.waff_list.specs.declared.rule.Rule.{Rule}
 use Rattle.waff_plan_text.specs.Given.{Given}
 use Rattle.waff_plan_text.specs.Lines.{text_of}
 use Rattle.waff_check.specs.Verdicts.{starts_of}
 use Rattle.waff_check.specs.declared.verdict.Verdict.{Verdict}
 use Rattle.waff_figures.specs.Figures.{AreFigures}
-use Rattle.waff_figures.specs.Least.{IsLowerBound}
+use Rattle.waff_figures.specs.Least.{IsLowerBound, least_in}
 use Rattle.waff_figures.specs.Rate.{rate_lines}
 use Rattle.waff_figures.specs.declared.figures.Figures.{Figures}
 use Rattle.waff_tool.specs.CheckText.{IsCheckText, verdict_fields}
 use Rattle.waff_tool.specs.Figures.{IsSweepText}
 use Rattle.waff_tool.specs.PlanText.{IsPlanText, IsWorkerPlanText}
 
--- the figures of a plan with these starts, whoever made it, against the least plan; no obeying plan for
--- as many workers is shorter than `least`
-pub record AreRated (before : Relation) (work : Work) (limit : Option ℕ) (start : ℕ → ℕ)
+-- the figures of a plan with these starts, whoever made it, against the least plan; no plan that obeys,
+-- for as many workers, is shorter than `least`
+pub record AreRated (instance : Instance) (limit : Option ℕ) (start : ℕ → ℕ)
     (figures : Figures) : Type 0 where
   pub starts : List ℕ
-  pub least : IsLeast before work (start_of starts)
-  pub are_figures : AreFigures limit work (length_of work (start_of starts)) start figures
-  pub bound : IsLowerBound limit before work figures.least
+  pub least : IsLeast (served_first instance (start_of starts)) (work_of_instance instance)
+      (start_of starts)
+  pub are_figures : AreFigures limit (work_of_instance instance)
+      (least_in limit instance (length_of (work_of_instance instance) (start_of starts)))
+      start figures
+  pub bound : IsLowerBound limit instance figures.least
 
 -- that of a plan that is given
 abbrev pub IsRated : Instance → Given → Figures → Type 0
-IsRated instance given figures = AreRated (before_in instance) (work_of_instance instance)
-    given.summary.workers (start_of (starts_of given)) figures
+IsRated instance given figures =
+    AreRated instance given.summary.workers (start_of (starts_of given)) figures
 
 -- the lines of a verdict and of the figures of a plan
 abbrev pub rated_lines : Verdict → Figures → List (List (List ℕ))

@@ -1,16 +1,14 @@
 -- What `waits` prints for the bytes of its files.
 use Rattle.std.specs.Prelude.{◌≡◌, ℕ, List, [], ◌∷◌, ◌++◌, Option, Some, None, Contains, sum_by}
-use Rattle.waff_assign.specs.Instance.{Instance, before_in}
-use Rattle.waff_assign.specs.Order.{Relation}
+use Rattle.waff_assign.specs.Instance.{Instance}
 use Rattle.waff_plan.specs.Obeys.{IsLeast}
-use Rattle.waff_plan.specs.Instances.{work_of_instance}
+use Rattle.waff_plan.specs.Instances.{served_first, started_first, work_of_instance}
 use Rattle.waff_plan.specs.Timing.{start_of}
-use Rattle.waff_plan.specs.Work.{Work}
-use Rattle.waff_list.specs.Rules.{IsPlanBy}
 use Rattle.waff_list.specs.declared.rule.Rule.{Rule}
 use Rattle.waff_plan_text.specs.Lines.{text_of}
 use Rattle.waff_figures.specs.ByName.{message_names}
 use Rattle.waff_figures.specs.Figures.{waits_of}
+use Rattle.waff_figures.specs.Sweep.{IsPlanOf}
 use Rattle.waff_figures.specs.Waits.{AreWaits}
 use Rattle.waff_figures.specs.WaitRows.{AreRows}
 use Rattle.waff_figures.specs.WaitText.{are_alike, waits_lines}
@@ -23,9 +21,10 @@ use Rattle.waff_tool.specs.Figures.{IsSweepText}
 
 -- the plan by this rule for this number of workers, or the least plan, whatever the rule, where there
 -- is no number
-abbrev pub IsPlanFor : Rule → Relation → Work → Option ℕ → (ℕ → ℕ) → Type 0
-IsPlanFor rule before work None start = IsLeast before work start
-IsPlanFor rule before work (Some k) start = IsPlanBy rule before work k start
+abbrev pub IsPlanFor : Rule → Instance → Option ℕ → (ℕ → ℕ) → Type 0
+IsPlanFor rule instance None start =
+    IsLeast (served_first instance start) (work_of_instance instance) start
+IsPlanFor rule instance (Some k) start = IsPlanOf rule instance k start
 
 -- the text of who waits for whom in the plan by this rule for this number of workers or without: a
 -- line for each kind of wait, by affinity or by name, whose ticks add up to how long all messages
@@ -35,9 +34,8 @@ pub record TellsWaits (rule : Rule) (workers : Option ℕ) (grouping : Grouping)
   pub starts : List ℕ
   pub waits : List Wait
   pub rows : List Row
-  pub planned : IsPlanFor rule (before_in instance)
-      (work_of_instance instance) workers (start_of starts)
-  pub are_waits : AreWaits (before_in instance)
+  pub planned : IsPlanFor rule instance workers (start_of starts)
+  pub are_waits : AreWaits (started_first instance (start_of starts))
       (work_of_instance instance) (start_of starts) waits
   pub are_rows : AreRows
       (are_alike grouping instance.assigned (message_names instance.trace.messages)) waits rows

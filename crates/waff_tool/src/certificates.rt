@@ -1,7 +1,7 @@
 //! Plans with their printed chains, which show how short the plans are.
 
 ghost use Rattle.std.specs.Prelude.{◌≡◌, IfOk, length};
-ghost use Rattle.waff_assign.specs.Case.{pairs_of};
+ghost use Rattle.waff_assign.specs.Case.{instance_of};
 ghost use Rattle.waff_plan.specs.Bound.{IsWorkers};
 ghost use Rattle.waff_plan.specs.Chain.{IsListed};
 ghost use Rattle.waff_plan.specs.Timetable.{timings_of, work_of_messages};
@@ -12,9 +12,7 @@ ghost use Rattle.waff_tool.specs.Certificates.{IsBounded, IsCertified};
 
 use std::alloc::{AllocError, Global};
 use waff_assign::Case;
-use waff_list::laws::needs_make_the_same_plans;
-use waff_list::{Rule, WorkerPlan, list_chain, list_plan_by};
-use waff_order::predecessors::needs;
+use waff_list::{Rule, WorkerPlan, list_plan};
 use waff_plan::printed::chain;
 use waff_plan::unlimited::plan;
 use waff_plan::{Chain, Plan};
@@ -35,15 +33,16 @@ pub struct Bounded {
 
 /// The unlimited plan of a case.
 pub fn certified_plan(alloc: Global, case: &Case<'_>) -> Result<Certified, AllocError>
+    ensures version { IfOk result (λ found. found.plan.version ≡ case.now.trace.now.version) }
     ensures timings { IfOk result (λ found.
         found.plan.timings ≡ timings_of case.now.trace.now.messages) }
     ensures listed { IfOk result (λ found.
         IsListed (length found.plan.timings) found.chain.messages) }
-    ensures certified { IfOk result (λ found. IsCertified (pairs_of case.now)
-        (work_of_messages case.now.trace.now.messages)
+    ensures certified { IfOk result (λ found. IsCertified (instance_of case.now)
         (start_of found.plan.starts) found.chain.messages) }
 {
     let plan = plan(alloc, case.tree, case.assigned, case.trace)?;
+    let _messages = plan.len();
     let chain = chain(alloc, case.tree, case.assigned, &plan)?;
     Ok(Certified { plan, chain })
 }
@@ -56,6 +55,8 @@ pub fn bounded_plan(
     k: u32,
 ) -> Result<Bounded, AllocError>
     requires workers { IsWorkers k }
+    ensures version { IfOk result (λ found.
+        found.made.plan.version ≡ case.now.trace.now.version) }
     ensures timings { IfOk result (λ found.
         found.made.plan.timings ≡ timings_of case.now.trace.now.messages) }
     ensures seated { IfOk result (λ found. AreSeated
@@ -63,14 +64,12 @@ pub fn bounded_plan(
         (start_of found.made.plan.starts) (worker_of found.made.seats)) }
     ensures listed { IfOk result (λ found.
         IsListed (length found.made.plan.timings) found.chain.messages) }
-    ensures bounded { IfOk result (λ found. IsBounded rule (pairs_of case.now)
-        (work_of_messages case.now.trace.now.messages) k
+    ensures bounded { IfOk result (λ found. IsBounded rule (instance_of case.now) k
         (start_of found.made.plan.starts) found.chain.messages) }
 {
-    let needs = needs(alloc, case.tree, case.assigned)?;
-    let made = list_plan_by(alloc, &needs, case.trace, rule, k)?;
-    drop(needs);
-    let chain = list_chain(alloc, case.tree, case.assigned, &made)?;
-    needs_make_the_same_plans();
+    let made = list_plan(alloc, *case, rule, k)?;
+    let plan = made.plan();
+    let _messages = plan.len();
+    let chain = chain(alloc, case.tree, case.assigned, plan)?;
     Ok(Bounded { made, chain })
 }

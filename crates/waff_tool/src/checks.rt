@@ -109,7 +109,7 @@ pub fn verdict_status(verdict: &Verdict) -> u8
     ensures { result ≡ status_after verdict.now }
 {
     match verdict {
-        Verdict::Obeys | Verdict::Shortest | Verdict::WithinBound => 0,
+        Verdict::Obeys | Verdict::Shortest | Verdict::Tight | Verdict::WithinBound => 0,
         Verdict::Overlap { .. }
         | Verdict::TooManyAt { .. }
         | Verdict::Worker { .. }
@@ -117,6 +117,7 @@ pub fn verdict_status(verdict: &Verdict) -> u8
         | Verdict::Finish { .. }
         | Verdict::Totals
         | Verdict::NotAChain { .. }
-        | Verdict::Early { .. } => 1,
+        | Verdict::Early { .. }
+        | Verdict::Client { .. } => 1,
     }
 }

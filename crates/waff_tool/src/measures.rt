@@ -1,9 +1,8 @@
 //! What is told of a trace under one hierarchy, and the text that tells it of two.
 ghost use Rattle.std.specs.Prelude.{◌≡◌, ◌∷◌, IfOk, OnOk, string_bytes};
 ghost use Rattle.std.specs.List.{join_with_byte};
-ghost use Rattle.waff_assign.specs.Case.{pairs_of};
+ghost use Rattle.waff_assign.specs.Case.{instance_of};
 ghost use Rattle.waff_plan.specs.Bound.{IsWorkers};
-ghost use Rattle.waff_plan.specs.Timetable.{work_of_messages};
 ghost use Rattle.waff_plan_text.specs.Lines.{Adds, line_text, text_of};
 ghost use Rattle.waff_tool.specs.Comparison.{AreCertifiedTotals, AreListTotals, IsMeasured};
 ghost use Rattle.waff_tool.specs.Comparison.{compare_lines, kind_field, measured_line};
@@ -36,7 +35,7 @@ pub fn measure(
     requires tree { case.now.tree.now ≡ layout.now.tree }
     requires workers { IsWorkers k }
     ensures { IfOk result (IsMeasured layout.now case.now.assigned.now
-        (work_of_messages case.now.trace.now.messages) k) }
+        case.now.trace.now k) }
 {
     Ok(Measured {
         kind: layout.kind(),
@@ -56,16 +55,14 @@ pub fn measure_side_by_side<R: Threads + Sync>(
     requires tree { case.now.tree.now ≡ layout.now.tree }
     requires workers { IsWorkers k }
     ensures { IfOk result (IsMeasured layout.now case.now.assigned.now
-        (work_of_messages case.now.trace.now.messages) k) }
+        case.now.trace.now k) }
 {
     let without_workers = move || -> Result<Totals, AllocError>
-        ensures { IfOk result (AreCertifiedTotals (pairs_of case.entry.now)
-            (work_of_messages case.entry.now.trace.now.messages)) }
+        ensures { IfOk result (AreCertifiedTotals (instance_of case.entry.now)) }
     { unlimited_totals(alloc, case) };
     let for_workers = move || -> Result<Totals, AllocError>
         requires { IsWorkers k }
-        ensures { IfOk result (AreListTotals (pairs_of case.entry.now)
-            (work_of_messages case.entry.now.trace.now.messages) k) }
+        ensures { IfOk result (AreListTotals (instance_of case.entry.now) k) }
     { list_totals(alloc, case, k) };
     let (unlimited, listed) = thread::join(rt, without_workers, for_workers);
     Ok(Measured {
@@ -77,8 +74,7 @@ pub fn measure_side_by_side<R: Threads + Sync>(
 
 /// What is told of the unlimited plan.
 fn unlimited_totals(alloc: Global, case: &Case<'_>) -> Result<Totals, AllocError>
-    ensures { IfOk result (AreCertifiedTotals (pairs_of case.now)
-        (work_of_messages case.now.trace.now.messages)) }
+    ensures { IfOk result (AreCertifiedTotals (instance_of case.now)) }
 {
     let certified = certified_plan(alloc, case)?;
     let totals = certified.plan.totals(None, certified.chain.messages());
@@ -89,8 +85,7 @@ fn unlimited_totals(alloc: Global, case: &Case<'_>) -> Result<Totals, AllocError
 /// What is told of the list plan for k workers.
 fn list_totals(alloc: Global, case: &Case<'_>, k: u32) -> Result<Totals, AllocError>
     requires workers { IsWorkers k }
-    ensures { IfOk result (AreListTotals (pairs_of case.now)
-        (work_of_messages case.now.trace.now.messages) k) }
+    ensures { IfOk result (AreListTotals (instance_of case.now) k) }
 {
     let bounded = bounded_plan(alloc, case, Rule::Arrival, k)?;
     let listed = bounded.made.plan();

@@ -22,6 +22,7 @@ use waff_check::{GivenPlan, Verdict};
 use waff_figures::figures::least_is_lower_bound;
 use waff_figures::{Figures, figures_of, push_rate};
 use waff_inputs::{ToolError, deliver};
+use waff_plan::Planned;
 use waff_plan::unlimited::plan;
 
 /// The verdict on a plan, and the text that tells how good the plan is.
@@ -103,10 +104,16 @@ fn given_figures(alloc: Global, case: &Case<'_>, given: &GivenPlan) -> Result<Fi
     let unlimited = plan(alloc, case.tree, case.assigned, case.trace)?;
     let shortest = unlimited.length();
     drop(unlimited);
+    let _affinities = case.tree.len();
     let handed = given.plan(alloc, case.trace)?;
-    let figures = figures_of(alloc, &handed, given.workers(), shortest)?;
+    let planned = Planned {
+        case: *case,
+        plan: &handed,
+    };
     least_is_lower_bound();
-    Ok(figures)
+    let figures = figures_of(alloc, &planned, given.workers(), shortest);
+    drop(handed);
+    figures
 }
 
 /// The text of a rating.

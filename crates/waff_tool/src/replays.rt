@@ -1,10 +1,12 @@
 //! The replay of a trace.
 
-ghost use Rattle.std.specs.Prelude.{◌≡◌, ◌≢◌, ◌<◌, ◌≤◌, IfErr, IfOk, Ok};
+ghost use Rattle.std.specs.Prelude.{◌≡◌, ◌≢◌, ◌^◌, ◌<◌, ◌≤◌, IfErr, IfOk, Ok};
 ghost use Rattle.std.specs.Prelude.{length, string_bytes};
+ghost use Rattle.std.specs.List.{range_with_len};
 ghost use Rattle.waff_model.specs.Layout.{HasFewCells};
 ghost use Rattle.waff_model.specs.Messages.{IsTrace, sizes_of};
 ghost use Rattle.waff_model.specs.declared.cell.Cell.{Cell};
+ghost use Rattle.waff_model.specs.declared.message.Version.TheVariants.{V3};
 ghost use Rattle.waff_assign.specs.Lowest.{IsAssignment};
 ghost use Rattle.waff_cells.specs.Grid.{cells_in, HasSizes};
 ghost use Rattle.waff_cells.specs.Serial.{operations};
@@ -15,7 +17,7 @@ ghost use Rattle.waff_plan_text.specs.Lines.{text_of};
 ghost use Rattle.waff_inputs.specs.Deliveries.{Delivers, Makes};
 ghost use Rattle.waff_inputs.specs.Inputs.{Accepts, instance_under};
 ghost use Rattle.waff_read.specs.Hierarchies.{hierarchy_of};
-ghost use Rattle.waff_tool.specs.ListOrder.{IsListOrder};
+ghost use Rattle.waff_tool.specs.ListOrder.{IsListOrder, IsReplayOrder};
 ghost use Rattle.waff_tool.specs.PrintedSpaces.{AreAllPrinted};
 ghost use Rattle.waff_tool.specs.ReplayText.{IsReplayText, RefusesReplay, state_after, state_lines};
 
@@ -28,17 +30,18 @@ use waff_cells::State;
 use waff_core::{Job, JobError};
 use waff_inputs::{Accepted, ToolError, accept_over_layout, deliver, read_numbered};
 use waff_list::laws::needs_make_the_same_plans;
-use waff_list::{WorkerPlan, list_plan};
-use waff_model::Version;
+use waff_list::{Rule, list_plan_by};
 use waff_model::limits::MAX_SPACES;
+use waff_model::{Trace, Version};
 use waff_order::Needs;
 use waff_order::predecessors::needs;
 use waff_replay::{Open, replay, serial};
 
 /// Writes the state that the messages of the trace leave under the hierarchy, which has few cells. They are replayed by
 /// this many workers, of which the calling thread is one, in the order of the list plan for as many:
-/// for one worker that of arrival, if no message has a release. Releases are not waited for. Nothing
-/// is written before the whole text is made.
+/// for one worker that of arrival, if no message has a release; in a trace of the third version always
+/// that of the trace. Releases and think times are not waited for. Nothing is written before the whole
+/// text is made.
 pub fn replay_text<R: Threads + Wait + Sync, W: Write>(
     rt: &R,
     alloc: Global,
@@ -155,12 +158,12 @@ fn replayed<R: Threads + Wait + Sync>(
         drop(accepted);
         return state;
     }
-    let job = job_in_list_order(alloc, accepted, workers)?;
+    let job = job_in_replay_order(alloc, accepted, workers)?;
     replay(rt, alloc, job, workers, &Open)
 }
 
-/// The job of what was accepted, in the order of the list plan for k workers.
-fn job_in_list_order(alloc: Global, accepted: Accepted, k: u32) -> Result<Job, AllocError>
+/// The job of what was accepted, in the order of its replay by k workers.
+fn job_in_replay_order(alloc: Global, accepted: Accepted, k: u32) -> Result<Job, AllocError>
     requires few { HasFewCells accepted.layout.spaces }
     requires trace { IsTrace accepted.trace }
     requires assignment { IsAssignment accepted.layout accepted.trace.messages accepted.assigned }
@@ -168,12 +171,12 @@ fn job_in_list_order(alloc: Global, accepted: Accepted, k: u32) -> Result<Job, A
     ensures layout { IfOk result (λ job. job.layout ≡ accepted.layout) }
     ensures ops { IfOk result (λ job. job.ops ≡ operations accepted.trace.messages) }
     ensures order { IfOk result (λ job.
-        IsListOrder accepted.layout.tree accepted.assigned accepted.trace k job.order) }
+        IsReplayOrder accepted.layout.tree accepted.assigned accepted.trace k job.order) }
 {
-    match needs_and_plan(alloc, &accepted, k) {
-        Ok((needs, plan)) => {
-            let job = job_in_order(alloc, accepted, needs, plan.order());
-            drop(plan);
+    match needs_and_order(alloc, &accepted, k) {
+        Ok((needs, order)) => {
+            let job = job_in_order(alloc, accepted, needs, order.as_slice());
+            drop(order);
             job
         }
         Err(error) => {
@@ -211,24 +214,83 @@ fn job_in_order(
     }
 }
 
-/// The needs of the messages of what was accepted, and their list plan for k workers.
-fn needs_and_plan(
+/// The needs of the messages of what was accepted, and the order of their replay by k workers.
+fn needs_and_order(
     alloc: Global,
     accepted: &Accepted,
     k: u32,
-) -> Result<(Needs, WorkerPlan), AllocError>
+) -> Result<(Needs, Vec<u32>), AllocError>
     requires trace { IsTrace accepted.now.trace }
     requires assignment { IsAssignment accepted.now.layout
         accepted.now.trace.messages accepted.now.assigned }
     requires seats { IsSeats k }
     ensures needs { IfOk result (λ made.
         AreNeeds accepted.now.layout.tree accepted.now.assigned made.0) }
-    ensures order { IfOk result (λ made. IsOrder made.0 made.1.order) }
-    ensures list { IfOk result (λ made. IsListOrder accepted.now.layout.tree
-        accepted.now.assigned accepted.now.trace k made.1.order) }
+    ensures order { IfOk result (λ made. IsOrder made.0 made.1.items) }
+    ensures replay { IfOk result (λ made. IsReplayOrder accepted.now.layout.tree
+        accepted.now.assigned accepted.now.trace k made.1.items) }
 {
     let needs = needs(alloc, accepted.layout.tree(), &accepted.assigned)?;
-    let plan = list_plan(alloc, &needs, &accepted.trace, k)?;
+    let order = order_of(alloc, accepted, &needs, k)?;
+    Ok((needs, order))
+}
+
+/// The order of a replay by k workers: that of the list plan, and in the third version that of the
+/// trace.
+fn order_of(
+    alloc: Global,
+    accepted: &Accepted,
+    needs: &Needs,
+    k: u32,
+) -> Result<Vec<u32>, AllocError>
+    requires trace { IsTrace accepted.now.trace }
+    requires assignment { IsAssignment accepted.now.layout
+        accepted.now.trace.messages accepted.now.assigned }
+    requires needs { AreNeeds accepted.now.layout.tree accepted.now.assigned needs.now }
+    requires seats { IsSeats k }
+    ensures order { IfOk result (λ order. IsOrder needs.now order.items) }
+    ensures replay { IfOk result (λ order. IsReplayOrder accepted.now.layout.tree
+        accepted.now.assigned accepted.now.trace k order.items) }
+{
+    match accepted.trace.version() {
+        Version::V1 => list_order(alloc, accepted, needs, k),
+        Version::V2 => list_order(alloc, accepted, needs, k),
+        Version::V3 => order_by_number(alloc, accepted.trace.len()),
+    }
+}
+
+/// The order of the list plan for k workers.
+fn list_order(
+    alloc: Global,
+    accepted: &Accepted,
+    needs: &Needs,
+    k: u32,
+) -> Result<Vec<u32>, AllocError>
+    requires trace { IsTrace accepted.now.trace }
+    requires earlier_version { accepted.now.trace.version ≢ V3 }
+    requires assignment { IsAssignment accepted.now.layout
+        accepted.now.trace.messages accepted.now.assigned }
+    requires needs { AreNeeds accepted.now.layout.tree accepted.now.assigned needs.now }
+    requires seats { IsSeats k }
+    ensures order { IfOk result (λ order. IsOrder needs.now order.items) }
+    ensures list { IfOk result (λ order. IsListOrder accepted.now.layout.tree
+        accepted.now.assigned accepted.now.trace k order.items) }
+{
+    let plan = list_plan_by(alloc, needs, &accepted.trace, Rule::Arrival, k)?;
     needs_make_the_same_plans();
-    Ok((needs, plan))
+    let order = plan.order().iter().map(|n| *n).collect(alloc);
+    drop(plan);
+    order
+}
+
+/// The numbers of so many messages, in order.
+fn order_by_number(alloc: Global, messages: u32) -> Result<Vec<u32>, AllocError>
+    requires few { messages < 2 ^ 31 }
+    ensures { IfOk result (λ order. order.items ≡ range_with_len 1 messages) }
+{
+    let mut order = Vec::with_capacity(alloc, messages as usize)?;
+    for n in 1..messages + 1 {
+        order.push_reserved(n);
+    }
+    Ok(order)
 }

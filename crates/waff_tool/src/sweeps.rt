@@ -71,12 +71,13 @@ fn swept_text(
         TellsSweep rule workers.now (instance_of case.now) (string_bytes text)) }
 {
     let plan = plan(alloc, case.tree, case.assigned, case.trace)?;
-    let unlimited = figures_of(alloc, &plan, None, plan.length())?;
-    least_is_lower_bound();
+    let _affinities = case.tree.len();
     let planned = Planned {
         case: *case,
         plan: &plan,
     };
+    let unlimited = figures_of(alloc, &planned, None, plan.length())?;
+    least_is_lower_bound();
     let listed = list_figures(alloc, &planned, rule, workers)?;
     let text = figures_text(alloc, listed.as_slice(), &unlimited);
     drop(listed);

@@ -26,6 +26,8 @@ impl fmt::Display for VerdictFields {
             Verdict::Shortest => return f.write_str("shortest"),
             Verdict::WithinBound => return f.write_str("withinbound"),
             Verdict::Early { message } => ("early", u64::from(message)),
+            Verdict::Client { message } => ("client", u64::from(message)),
+            Verdict::Tight => return f.write_str("tight"),
         };
         write!(f, "{name},{number}")
     }

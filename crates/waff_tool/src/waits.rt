@@ -14,9 +14,7 @@ use waff_assign::Case;
 use waff_figures::wait_laws::ticks_add_up;
 use waff_figures::{Grouping, waiting_text};
 use waff_inputs::{ToolError, accept_by_threads, deliver};
-use waff_list::laws::needs_make_the_same_plans;
-use waff_list::{Rule, list_plan_by};
-use waff_order::predecessors::needs;
+use waff_list::{Rule, list_plan};
 use waff_plan::Planned;
 use waff_plan::unlimited::plan;
 
@@ -91,6 +89,7 @@ fn unlimited_waits(alloc: Global, case: &Case<'_>, grouping: Grouping) -> Result
         → TellsWaits rule None grouping (instance_of case.now) (string_bytes text)) }
 {
     let plan = plan(alloc, case.tree, case.assigned, case.trace)?;
+    let _messages = plan.len();
     ticks_add_up();
     let planned = Planned {
         case: *case,
@@ -113,12 +112,10 @@ fn worker_waits(
     ensures { IfOk result (λ text.
         TellsWaits rule (Some k) grouping (instance_of case.now) (string_bytes text)) }
 {
-    let needs = needs(alloc, case.tree, case.assigned)?;
-    let made = list_plan_by(alloc, &needs, case.trace, rule, k)?;
-    drop(needs);
-    needs_make_the_same_plans();
+    let made = list_plan(alloc, *case, rule, k)?;
     ticks_add_up();
     let plan = made.plan();
+    let _messages = plan.len();
     let planned = Planned { case: *case, plan };
     let text = waiting_text(alloc, &planned, grouping);
     drop(made);

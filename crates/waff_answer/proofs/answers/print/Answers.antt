@@ -84,8 +84,8 @@ returns-in-Sweep g c =
 pub returns-in-Where : goal.returns-in-Where
 returns-in-Where g c =
     let files = bytes_of c.args.question.now.files.items in
-    let grouping = c.in-Where.grouping in
-    answers_as (λ _. 0) (λ _ text. IsWhereText (first files) (second files) grouping text) (asked.Where grouping) files _ _ _ _ _
+    let label = c.in-Where.label in
+    answers_as (λ _. 0) (λ _ text. IsWhereText (first files) (second files) label text) (asked.Where label) files _ _ _ _ _
     c.in-Where.is (λ _ text is. (refl, is)) c.printed-in-Where.ensures.written c.printed-in-Where.ensures.refused
     (rw (c.file-first.ensures, c.file-second.ensures, c.as_slice-files.ensures.value) at c.where_text.ensures)
 

@@ -1,11 +1,11 @@
 use Rattle.std.proofs.Common.{◌-◌, ◌≤◌}
-use Rattle.waff_plan.specs.Obeys.{IsAmong, KeepsOrder}
-use Rattle.waff_plan.specs.Planned.{planned_pairs, planned_starts, planned_work}
+use Rattle.waff_plan.specs.Planned.{planned_work}
+use Rattle.waff_check.specs.Searches.{NoneAmong}
 use Rattle.waff_check.proofs.overlap.kept_ones.Given as goal
 
 abbrev pub invariant-loop-kept : goal.invariant-loop-kept
 invariant-loop-kept l = record {
-  kept : KeepsOrder (IsAmong l.kept (planned_pairs l.planned)) (planned_work l.planned) (planned_starts l.planned);
+  kept : NoneAmong l.planned l.kept;
   rising : l.kept ≤ l.broken;
   within : l.broken ≤ (planned_work l.planned).count;
 }

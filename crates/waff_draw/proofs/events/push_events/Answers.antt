@@ -20,7 +20,7 @@ loop-n-preserved c =
           let event : w.event_of-event.result ≡ event_at scene process w.in-Some.row n
           = w.event_of-event.ensures ∙ ap (λ p. event_at scene p w.in-Some.row n) w.process_of.ensures in
           let one : string_bytes w.push_event.new.text ≡ before ++ event_in scene process w.in-Some.row n
-          = rw (event, w.name.ensures, w.affinity_name.ensures) at w.in_ok-push_event.ensures in
+          = rw event at w.in_ok-push_event.ensures in
           ap (λ t. string_bytes t) w.text-is ∙ one
           ∙ ap (λ r. before ++ event_where scene process n r) (sym w.in-Some.is ∙ c.shown_row.ensures)
       | in_default w ↦

@@ -3,15 +3,17 @@ use Rattle.std.specs.List.{range_with_len}
 use Rattle.std.proofs.lemmas.List.{length-map}
 use Rattle.std.proofs.lemmas.Result.{IfOk-weaker}
 use Rattle.waff_plan.specs.Timing.{work_of}
+use Rattle.waff_plan.proofs.TimingLemmas.{length-timings_of}
 use Rattle.waff_plan_text.specs.Lines.{text_of}
-use Rattle.waff_figures.specs.ByName.{distinct_names, is_named, message_names, name_row, named_row, names_header, tallied_name_row}
+use Rattle.waff_figures.specs.ByName.{distinct_names, is_named, label_header, labels_of, name_row, named_row, tallied_name_row}
 use Rattle.waff_figures.specs.Tally.{is_in, no_tally, tally_of}
 use Rattle.waff_figures.proofs.RowLemmas.{map_by_places, map_range_same, tally_same}
 use Rattle.waff_figures.proofs.by_name.names_text.Goals as goal
 
 pub returns : goal.returns
 returns c =
-    let names = message_names c.args.planned.now.case.trace.now.messages in
+    let header = label_header c.args.label in
+    let names = labels_of c.args.label c.args.planned.now.case.trace.now.messages in
     let work = work_of c.args.planned.now.plan.now.timings in
     let chain = c.args.chain.now in
     let keys = c.in_ok-found.found.names.keys in
@@ -19,7 +21,7 @@ returns c =
     let places = c.in_ok-found.found.places.items in
     let tallies = c.in_ok-tallies.tallies.items in
     let long : length texts ≡ length keys = length-map keys (λ (x : Bor (List ℕ)). x.now) in
-    let count : work.count ≡ length c.args.planned.now.case.trace.now.messages = ap length c.args.planned.now.timings ∙ length-map c.args.planned.now.case.trace.now.messages _ in
+    let count : work.count ≡ length c.args.planned.now.case.trace.now.messages = ap length c.args.planned.now.timings ∙ length-timings_of c.args.planned.now.case.trace.now.messages in
     let tally : (p : ℕ) → p < length keys → get_or tallies p no_tally ≡ tally_of work chain (is_named names (get_or texts p []))
     = λ p low.
     subst (λ gs. get_or tallies p no_tally ≡ tally_of work chain (is_in gs p)) c.as_slice.ensures.value
@@ -33,8 +35,8 @@ returns c =
     ∙ map_by_places (name_row names work chain) texts []
     ∙ ap (map (name_row names work chain)) c.in_ok-found.ensures.names in
     IfOk-weaker c.tallied_text.result
-    (λ text. string_bytes text ≡ text_of (names_header ∷ map (tallied_name_row texts c.as_slice-2.result.now) (range_with_len 0 (length keys)))) _
+    (λ text. string_bytes text ≡ text_of (header ∷ map (tallied_name_row texts c.as_slice-2.result.now) (range_with_len 0 (length keys)))) _
     (λ text is.
-    is ∙ ap (λ ts. text_of (names_header ∷ map (tallied_name_row texts ts) (range_with_len 0 (length keys)))) c.as_slice-2.ensures.value
-    ∙ ap (λ rs. text_of (names_header ∷ rs)) rows)
+    is ∙ ap (λ ts. text_of (header ∷ map (tallied_name_row texts ts) (range_with_len 0 (length keys)))) c.as_slice-2.ensures.value
+    ∙ ap (λ rs. text_of (header ∷ rs)) rows)
     c.tallied_text.ensures

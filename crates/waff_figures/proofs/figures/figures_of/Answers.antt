@@ -1,20 +1,21 @@
-use Rattle.std.proofs.Common.{refl, ◌∙◌, ap, subst}
+use Rattle.std.proofs.Common.{refl, subst}
 use Rattle.waff_plan.specs.Timetable.{starts_in, work_in}
-use Rattle.waff_figures.specs.Figures.{latencies_of, least_of}
+use Rattle.waff_figures.specs.Figures.{latencies_of}
 use Rattle.waff_figures.specs.Percentile.{IsPercentile}
 use Rattle.waff_figures.proofs.PercentileLemmas.{percentile_permuted}
 use Rattle.waff_figures.proofs.figures.figures_of.Goals as goal
 
 pub returns : goal.returns
 returns c =
-    let latencies = latencies_of (work_in c.args.plan.now) (starts_in c.args.plan.now) in
+    let plan = c.args.planned.now.plan.now in
+    let latencies = latencies_of (work_in plan) (starts_in plan) in
     let sorted = c.in_ok-sorted.sorted.items in
     record {
       workers = refl;
       messages = c.len.ensures.count;
-      total = c.total-total.ensures.total;
+      total = c.total.ensures.total;
       length = c.length.ensures.length;
-      least = c.least.ensures ∙ ap (λ t. least_of c.args.workers t c.args.shortest) c.total-total.ensures.total;
+      least = c.in_ok-least.ensures;
       waits = c.waits.ensures;
       latencies = c.sum_of_latencies.ensures;
       p50 = percentile_permuted 50 latencies sorted c.percentile.result c.in_ok-sorted.ensures.same

@@ -1,10 +1,8 @@
-use Rattle.std.proofs.Common.{◌≡◌, ℕ, ◌-◌, ◌<◌, ◌≤◌, List, [], length, get_or, map, option_map, Bor, arith, sym, ◌∙◌, ap, subst}
+use Rattle.std.proofs.Common.{◌≡◌, ℕ, ◌-◌, ◌<◌, ◌≤◌, List, [], length, get_or, map, Bor, arith, sym, ◌∙◌, ap, subst}
 use Rattle.std.proofs.lemmas.List.{length-map, length_push}
-use Rattle.std.proofs.lemmas.Option.{get_or_from_slice_get, slice_get-map}
 use Rattle.std.proofs.lemmas.Slice.Eq.{bytes_eq-Decides}
-use Rattle.waff_model.specs.declared.message.Message.{Message}
-use Rattle.waff_figures.specs.ByName.{AreNumbered, message_names, with_name}
-use Rattle.waff_figures.proofs.NameLemmas.{name_at, names_inserted, none_numbered, numbered_next}
+use Rattle.waff_figures.specs.ByName.{AreNumbered, labels_of, with_name}
+use Rattle.waff_figures.proofs.NameLemmas.{label_there, labels_length, name_at, names_inserted, none_numbered, numbered_next}
 use Rattle.waff_figures.proofs.names.places_of.Goals as goal
 
 abbrev texts_of : List (Bor (List ℕ)) → List (List ℕ)
@@ -12,7 +10,7 @@ texts_of keys = map (λ x. x.now) keys
 
 pub loop-n-init : goal.loop-n-init
 loop-n-init c =
-    let names = message_names c.args.trace.now.messages in
+    let names = labels_of c.args.label c.args.trace.now.messages in
     record {
       numbered = subst (λ ks. AreNumbered names (texts_of ks) c.in_ok-places.places.items) (sym c.requires.none)
           (subst (λ ps. AreNumbered names [] ps) (sym c.in_ok-places.ensures.items) (none_numbered names));
@@ -23,22 +21,20 @@ loop-n-init c =
 pub loop-n-preserved : goal.loop-n-preserved
 loop-n-preserved c =
     let messages = c.args.trace.now.messages in
-    let names = message_names messages in
+    let names = labels_of c.args.label messages in
     let keys = c.loop-n.names.keys in
     let new_keys = c.insert_full.new.self.keys in
     let places = c.loop-n.places.items in
     let n = c.loop-n.n in
-    let name = c.as_str-name.result.now in
+    let name = c.label_of-name.result.now in
     let place = c.in_ok-place.place in
     let from : 1 ≤ n = c.loop-n.auto.n in
     let count : length places ≡ n - 1 = c.loop-n.invariant.count in
     let inside : length places < length names
-    = omega (arith, count, from, c.loop-n-test.true, c.len-n-end.ensures.count, length-map messages (λ (m : Message). m.name)) in
-    let named : get_or names (n - 1) [] ≡ c.message.result.now.name
-    = get_or_from_slice_get names (n - 1) c.message.result.now.name []
-    (slice_get-map (λ (m : Message). m.name) messages (n - 1) ∙ ap (λ o. option_map (λ (m : Message). m.name) o) c.message.ensures.message) in
-    let is : name ≡ get_or names (length places) [] = c.as_str-name.ensures ∙ sym named ∙ ap (λ k. get_or names k []) (sym count) in
-    let inserted : texts_of new_keys ≡ with_name (texts_of keys) name = ap texts_of c.in_ok-place.ensures.keys ∙ names_inserted keys c.as_str-name.result in
+    = omega (arith, count, from, c.loop-n-test.true, c.len-n-end.ensures.count, labels_length c.args.label messages) in
+    let named = label_there c.args.label messages (n - 1) c.message.result.now c.message.ensures.message in
+    let is : name ≡ get_or names (length places) [] = c.label_of-name.ensures ∙ sym named ∙ ap (λ k. get_or names k []) (sym count) in
+    let inserted : texts_of new_keys ≡ with_name (texts_of keys) name = ap texts_of c.in_ok-place.ensures.keys ∙ names_inserted keys c.label_of-name.result in
     let stored = c.in_ok-place.ensures.stored in
     let within : place < length (with_name (texts_of keys) name)
     = subst (λ ks. place < length ks) inserted (subst (λ k. place < k) (sym (length-map new_keys (λ (x : Bor (List ℕ)). x.now))) c.in_ok-place.ensures.within) in

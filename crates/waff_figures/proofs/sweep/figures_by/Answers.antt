@@ -1,7 +1,8 @@
 use Rattle.std.proofs.Common.{ℕ, arith, length, List, ◌∷◌, [], ◌++◌, Some, All, map, take, get_or, sym, ◌∙◌, ap, subst}
 use Rattle.std.proofs.lemmas.List.{length-map, length-take, map_push, take_all, take_more}
 use Rattle.std.proofs.lemmas.List.Elements.{All-push}
-use Rattle.waff_plan.specs.Planned.{planned_pairs, planned_starts, planned_work}
+use Rattle.waff_assign.specs.Case.{instance_of}
+use Rattle.waff_plan.specs.Planned.{planned_starts, planned_work}
 use Rattle.waff_plan.specs.Work.{length_of}
 use Rattle.waff_figures.specs.Sweep.{AreListed, IsListed}
 use Rattle.waff_figures.specs.declared.figures.Figures.{Figures}
@@ -15,7 +16,7 @@ loop-k-preserved c =
     let listed = c.loop-k.listed.items in
     let figures = c.in_ok-figures.figures in
     let are : Figures → Type 0
-    = IsListed c.args.rule (planned_pairs unlimited) (planned_work unlimited) (length_of (planned_work unlimited) (planned_starts unlimited)) in
+    = IsListed c.args.rule (instance_of unlimited.case) (length_of (planned_work unlimited) (planned_starts unlimited)) in
     let items = c.push_reserved.ensures.items in
     record {
       listed = record {
@@ -40,6 +41,6 @@ push_reserved-requires c =
 pub returns : goal.returns
 returns c =
     let unlimited = c.args.unlimited.now in
-    subst (λ (ws : List ℕ). AreListed c.args.rule (planned_pairs unlimited) (planned_work unlimited)
+    subst (λ (ws : List ℕ). AreListed c.args.rule (instance_of unlimited.case)
     (length_of (planned_work unlimited) (planned_starts unlimited)) ws c.loop-k.listed.items)
     (take_all c.loop-k.k-index c.args.workers.now c.loop-k-test.false) c.loop-k.invariant.listed

@@ -4,8 +4,9 @@ use Rattle.waff_plan.specs.Planned.{planned_pairs, planned_starts, planned_work}
 use Rattle.waff_plan.specs.Timetable.{Timetable, starts_in, work_in}
 use Rattle.waff_plan.specs.Work.{IsAmongFirst}
 use Rattle.waff_plan.specs.declared.planned.Planned.{Planned}
-use Rattle.waff_figures.proofs.WaitLemmas.{AreSoFar, links_known, upto_more, upto_so_far, waited_for_links, waits_upto}
-use Rattle.waff_figures.specs.Waits.{AreWaitedFor, waits_in}
+use Rattle.waff_plan.specs.Waited.{AreWaitedFor}
+use Rattle.waff_figures.proofs.WaitLemmas.{AreSoFar, first_known, links_known, upto_more, upto_so_far, waits_upto}
+use Rattle.waff_figures.specs.Waits.{waits_in}
 use Rattle.waff_figures.specs.declared.waits.Wait.{Wait}
 use Rattle.waff_figures.proofs.waits.waits.Goals as goal
 
@@ -21,8 +22,8 @@ push_waits-requires-clause-link c =
     let read : c.index.result.now ≡ get_or links (m - 1) None
     = get_or_read links (m - 1) c.index.result.now (omega (arith, from, to, c.in_ok-links.ensures.count, planned.lengths)) c.index.ensures None in
     subst (λ link. IfSome link (IsAmongFirst (length assigned))) (sym read)
-    (links_known planned.case.tree.now assigned (work_in plan) (starts_in plan) links (length plan.timings) planned.lengths
-    (waited_for_links (planned_pairs planned) (work_in plan) (starts_in plan) (length plan.timings) links (λ _. refl) c.in_ok-links.ensures.links) m from to)
+    (links_known (planned_pairs planned) (length assigned) (first_known plan.version planned.case.tree.now assigned (starts_in plan)) (work_in plan) (starts_in plan)
+    links (length plan.timings) planned.lengths c.in_ok-links.ensures.waited m from to)
 
 pub loop-m-preserved : goal.loop-m-preserved
 loop-m-preserved c =
@@ -50,8 +51,7 @@ all_waits plan links waits m from end is =
 pub returns-clause-waits : goal.returns-clause-waits
 returns-clause-waits c = record {
   links = c.in_ok-links.links.items;
-  are_links = waited_for_links (planned_pairs c.args.planned.now) (planned_work c.args.planned.now) (planned_starts c.args.planned.now)
-      (length c.args.planned.now.plan.now.timings) c.in_ok-links.links.items (λ _. refl) c.in_ok-links.ensures.links;
+  are_links = c.in_ok-links.ensures.waited;
   waits_are = all_waits c.args.planned.now.plan.now c.in_ok-links.links.items c.loop-m.waits.items c.loop-m.m c.loop-m.auto.m
       (omega (arith, c.loop-m-test.false, c.len-m-end.ensures.count, c.loop-m.auto.m, c.loop-m.auto.m-end)) c.loop-m.invariant;
 }
@@ -66,18 +66,17 @@ are_so_far planned links waits m from end is are =
     let count = length planned.case.assigned.now in
     subst (AreSoFar count n) (sym (all_waits planned.plan.now links waits m from end is))
     (upto_so_far (planned_work planned) (planned_starts planned) links count n (omega (arith, planned.lengths))
-    (links_known planned.case.tree.now planned.case.assigned.now (planned_work planned) (planned_starts planned) links n planned.lengths are))
+    (links_known (planned_pairs planned) count (first_known planned.plan.now.version planned.case.tree.now planned.case.assigned.now (planned_starts planned))
+    (planned_work planned) (planned_starts planned) links n planned.lengths are))
 
 pub returns-clause-order : goal.returns-clause-order
 returns-clause-order c =
     (are_so_far c.args.planned.now c.in_ok-links.links.items c.loop-m.waits.items c.loop-m.m c.loop-m.auto.m
     (omega (arith, c.loop-m-test.false, c.len-m-end.ensures.count, c.loop-m.auto.m, c.loop-m.auto.m-end)) c.loop-m.invariant
-    (waited_for_links (planned_pairs c.args.planned.now) (planned_work c.args.planned.now) (planned_starts c.args.planned.now)
-    (length c.args.planned.now.plan.now.timings) c.in_ok-links.links.items (λ _. refl) c.in_ok-links.ensures.links)).order
+    c.in_ok-links.ensures.waited).order
 
 pub returns-clause-among : goal.returns-clause-among
 returns-clause-among c =
     (are_so_far c.args.planned.now c.in_ok-links.links.items c.loop-m.waits.items c.loop-m.m c.loop-m.auto.m
     (omega (arith, c.loop-m-test.false, c.len-m-end.ensures.count, c.loop-m.auto.m, c.loop-m.auto.m-end)) c.loop-m.invariant
-    (waited_for_links (planned_pairs c.args.planned.now) (planned_work c.args.planned.now) (planned_starts c.args.planned.now)
-    (length c.args.planned.now.plan.now.timings) c.in_ok-links.links.items (λ _. refl) c.in_ok-links.ensures.links)).among
+    c.in_ok-links.ensures.waited).among

@@ -1,4 +1,4 @@
-use Rattle.std.proofs.Common.{◌≡◌, ℕ, List, [], length, get_or, replicate, arith, sym, ◌∙◌, ap, subst}
+use Rattle.std.proofs.Common.{◌≡◌, ℕ, List, [], length, get_or, replicate, arith, sym, ◌∙◌, ap, subst, inl}
 use Rattle.std.proofs.lemmas.List.{append-nil, get_or_default, length-map}
 use Rattle.waff_model.specs.Numbers.{IsAmongFirst}
 use Rattle.waff_plan.specs.Work.{IsNumber}
@@ -37,7 +37,7 @@ go_on-done-requires c =
     subst (λ xs. start_of xs m ≡ NEVER) (sym starts) (never_at (before_in load) (first_in load) load.work load.workers (numbers_of (before_in load) load.work forward) (followed_of (before_in load) load.work forward) m number) in
     let left : List ℕ = c.args.waiting.now.left.items in
     let counts : AreLeft load.needs (start_of p.starts.items) [] left
-    = subst (λ xs. AreLeft load.needs (start_of p.starts.items) [] xs) (sym c.requires.left) (left_none load.needs work forward same (start_of p.starts.items) never) in
+    = subst (λ xs. AreLeft load.needs (start_of p.starts.items) [] xs) (sym c.requires.left) (left_none load.needs work (λ i j need. forward.first i j (inl need)) same (start_of p.starts.items) never) in
     let ready : AreReady work (IsPassed sorted c.in_ok-releases.releases.passed) left [] c.args.waiting.now.ready.messages
     = rw (none, c.requires.ready) (ready_none work sorted left) in
     let stay : StayReady work (IsPassed sorted c.in_ok-releases.releases.passed) left c.args.waiting.now.ready.messages (IsPassed sorted c.pass.new.self.passed) left c.pass.new.ready.messages

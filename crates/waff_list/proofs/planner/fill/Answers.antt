@@ -14,7 +14,7 @@ loop-at-init c =
     let p = c.args.progress.now in
     record {
       on = starting_none (load_of task c.args.waiting.now.ready.priorities) (forward_of task) (none_of task) (lengths_of task) (placed_in p) p.finishes p.idle c.args.waiting.now.left.items c.args.waiting.now.ready c.choose.new.idle c.choose.new.ready
-          c.args.now c.choose.new.self.messages.items c.choose.new.self.workers.items c.in_ok-choose.ensures.chosen c.requires.begun c.requires.kept;
+          c.args.now c.choose.new.self.messages.items c.choose.new.self.workers.items c.in_ok-choose.ensures.chosen (omega arith) c.requires.begun c.requires.kept;
       idle = refl;
     }
 
@@ -91,4 +91,4 @@ returns-clause-kept c =
     let task = c.args.task.now in
     let messages = c.choose.new.self.messages.items in
     kept_filled (load_of task c.args.waiting.now.ready.priorities) (forward_of task) (none_of task) (lengths_of task) _ _ _ _ messages _ c.loop-at.at c.in_ok-choose.ensures.chosen.count c.loop-at.invariant.on
-    (omega (arith, c.len-at-end.ensures, c.loop-at-test.false))
+    (omega (arith, c.len-at-end.ensures, c.loop-at-test.false)) (omega arith)

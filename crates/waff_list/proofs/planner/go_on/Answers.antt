@@ -63,6 +63,11 @@ fill-requires c =
       kept = rw invariant.priorities invariant.kept;
     }
 
+pub next_tick-requires : goal.next_tick-requires
+next_tick-requires c =
+    let task = c.args.task.now in
+    omega (arith, c.loop-releases.invariant.time, count_is task.trace.now.messages, task.lengths, task.lists.few)
+
 pub wake-requires : goal.wake-requires
 wake-requires c =
     let f = (goal.at.wake-requires c).In_ok-fill in
@@ -120,7 +125,7 @@ loop-releases-preserved c =
     c.as_slice-in-Some.ensures.value (pass.ready work invariant.releases) in
     record {
       progress = progress_advance (before_in (load f)) (first_in (load f)) work (load f).workers (numbers_of (before_in (load f)) work (forward_of c.args.task.now))
-          (followed_of (before_in (load f)) work (forward_of c.args.task.now)) (placed_in new) now next new.finishes (kept f).finishes to_next
+          (followed_of (before_in (load f)) work (forward_of c.args.task.now)) (placed_in new) now next new.finishes (kept f).finishes to_next.later to_next.tick to_next.first
           (λ m number. elim (to_next.releases m number) [
             | inl early ↦ inl (omega (arith, early, issue_is_release work (none_of c.args.task.now) start m))
             | inr late ↦ inr (omega (arith, late, issue_is_release work (none_of c.args.task.now) start m))

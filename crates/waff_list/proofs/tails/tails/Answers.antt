@@ -1,5 +1,6 @@
-use Rattle.std.proofs.Common.{◌≡◌, ℕ, ◌+◌, ◌-◌, ◌^◌, ◌<◌, ◌≤◌, List, ◌++◌, length, get_or, set, take, drop, Contains, arith, sym, ◌∙◌, ap, subst}
-use Rattle.std.proofs.lemmas.List.{get_or_read, length-set, take_all, drop_all, append-nil}
+use Rattle.std.proofs.Common.{inl, inr, replicate, rules, ◌≡◌, ℕ, ◌+◌, ◌-◌, ◌^◌, ◌<◌, ◌≤◌, List, ◌++◌, length, get_or, set, take, drop, Contains, arith, sym, ◌∙◌, ap, subst}
+use Rattle.std.proofs.lemmas.Bool.{cases_lt}
+use Rattle.std.proofs.lemmas.List.{get_or-replicate, get_or_past, length-replicate, get_or_read, length-set, take_all, drop_all, append-nil}
 use Rattle.std.proofs.lemmas.List.Elements.{Contains-get_or}
 use Rattle.waff_plan.specs.Work.{IsNumber}
 use Rattle.waff_plan.specs.Obeys.{IsEarlier}
@@ -9,7 +10,7 @@ use Rattle.waff_list.specs.Tails.{tail_of, AreTails, AreRaised}
 use Rattle.waff_list.proofs.DependentLemmas.{needs_inside}
 use Rattle.waff_list.proofs.TraceWork.{count_is, needs_earlier}
 use Rattle.waff_list.proofs.TailLemmas.{tails_over_paths}
-use Rattle.waff_list.proofs.TailMaking.{AreTailsAfter, tails_all, tails_more, tails_small, takes_turn}
+use Rattle.waff_list.proofs.TailMaking.{AreTailsAfter, tails_all, tails_more, tails_none, tails_small, takes_turn}
 use Rattle.waff_list.proofs.tails.tails.Goals as goal
 use Rattle.waff_list.proofs.tails.tails.Goals.{After-loop-m}
 
@@ -18,6 +19,39 @@ refilled : (n : ℕ) (new old : List ℕ) → length new ≡ n → length old �
 refilled n new old long was =
     ap (λ xs. take n (new ++ xs)) (drop_all (length new) old (omega (arith, long, was)))
     ∙ ap (λ xs. take n xs) (append-nil new) ∙ take_all n new (omega (arith, long))
+
+zeros : (n i : ℕ) → get_or {A = ℕ} (replicate n 0) i 0 ≡ 0
+zeros n i = elim (cases_lt i n) [
+  | inl inside ↦ get_or-replicate n i 0 0 inside
+  | inr past ↦ get_or_past (replicate n 0) i 0 (omega (arith, past, length-replicate {A = ℕ} n 0))
+]
+
+pub loop-m-init : goal.loop-m-init
+loop-m-init c =
+    let needs = c.args.needs.now in
+    let work = work_of_messages c.args.trace.now.messages in
+    let all : length needs ≡ work.count = c.requires ∙ sym (count_is c.args.trace.now.messages) in
+    let forward = needs_earlier needs work c.len.ensures.lists all in
+    let items : c.in_ok-tails.tails.items ≡ replicate c.len.result 0 = search rules in
+    let end : work.count ≡ c.len-m.result + 1 - 1 = omega (arith, all, c.len-m.ensures.count) in
+    record {
+      count = ap length items ∙ length-replicate {A = ℕ} c.len.result 0 ∙ c.len.ensures.count;
+      after = subst (AreTailsAfter (IsNeed needs) work (tail_of c.in_ok-tails.tails.items)) end
+          (tails_none (IsNeed needs) work forward (tail_of c.in_ok-tails.tails.items) (λ m. ap (λ xs. get_or xs (m - 1) 0) items ∙ zeros c.len.result (m - 1)));
+    }
+
+pub overflow_add-tail : goal.overflow_add-tail
+overflow_add-tail c =
+    let work = work_of_messages c.args.trace.now.messages in
+    let tails = c.loop-m.tails.items in
+    let m = c.loop-m.m - 1 in
+    let count : length tails ≡ length c.args.needs.now = c.loop-m.invariant.count in
+    let all : length tails ≡ work.count = count ∙ c.requires ∙ sym (count_is c.args.trace.now.messages) in
+    let to : m ≤ length tails = omega (arith, count, c.loop-m.auto.m) in
+    let number : IsNumber work m = record { from = omega arith; to = omega (arith, all, to) } in
+    let read : c.index.result.now ≡ tail_of tails m = get_or_read tails (m - 1) c.index.result.now (omega (arith, to)) c.index.ensures 0 in
+    let small = c.loop-m.invariant.after.small m number in
+    omega (arith, read, small, all, count, c.len.ensures.lists.few, c.cost_of.ensures.small)
 
 pub raise-requires : goal.raise-requires
 raise-requires c = λ k d within.

@@ -1,4 +1,4 @@
-use Rattle.std.proofs.Common.{◌≡◌, ℕ, ◌+◌, ◌-◌, ◌*◌, ◌<◌, ◌≤◌, List, [], ◌∷◌, ◌++◌, length, All, arith, refl, sym, ◌∙◌, ap, subst}
+use Rattle.std.proofs.Common.{◌≡◌, ℕ, ◌+◌, ◌-◌, ◌*◌, ◌≤◌, List, [], ◌∷◌, ◌++◌, length, All, arith, sym, ◌∙◌, ap, subst}
 use Rattle.std.specs.List.{range_with_len}
 use Rattle.std.proofs.lemmas.List.{length_push}
 use Rattle.waff_model.specs.Preorder.{span_at}
@@ -9,6 +9,7 @@ use Rattle.waff_plan.specs.Table.{IsTable}
 use Rattle.waff_model.specs.declared.limits.TheConstants.{MAX_COST, MAX_MESSAGES, MAX_RELEASE}
 use Rattle.waff_plan.specs.declared.timing.Timing.{Timing}
 use Rattle.waff_plan.proofs.Forward.{timings_forward}
+use Rattle.waff_plan.proofs.NoClients.{none_follows_earlier}
 use Rattle.waff_plan.proofs.Steps.{IsEarliest, least_of_none, least_of_all}
 use Rattle.waff_plan.proofs.LeastStarts.{start_early, earliest_after, kept, last, early_more, table_again, early_is_printable, least_more}
 use Rattle.waff_plan.proofs.Latests.{first_to}
@@ -71,7 +72,7 @@ loop-m-preserved c =
     = start_early _ finish (m - 1) s _ c.latest.result h.early
     (c.latest.ensures spans assigned finish (range_with_len 1 (m - 1)) h.table) small.release c.start_after-start.ensures.start in
     let earliest : IsEarliest (IsOrdered tree assigned) work (start_of starts) m s
-    = earliest_after tree assigned work (start_of starts) m s c.latest.result (λ _. refl) room
+    = earliest_after tree assigned work (start_of starts) m s c.latest.result c.requires.alone room
     (found_at tree spans assigned finish (m - 1) m c.of.result.0 c.loop-m.table c.latest.result c.spans-spans.ensures c.requires.known (omega arith) room c.of.ensures h.table c.latest.ensures)
     c.start_after-start.ensures.start in
     rw (c.push_reserved.ensures.items, back) (record {
@@ -83,7 +84,7 @@ loop-m-preserved c =
           (λ i there. let up_to = first_to (m - 1) i there in ap (λ x. x + work.cost i) (kept i up_to.from up_to.to)) h.table)
           (ap (span_at spans) (sym c.of.ensures))
           (ap (λ x. x + work.cost m) last ∙ ap (λ x. s + x) (sym c.from.ensures)));
-      least = least_more tree assigned work (start_of starts) later m (λ _. refl) number (λ i low high. kept i low high) h.least (rw last earliest);
+      least = least_more tree assigned work (start_of starts) later m c.requires.alone number (λ i low high. kept i low high) h.least (rw last earliest);
       spans = c.note.ensures.count ∙ h.spans;
       room = c.push_reserved.ensures.capacity ∙ h.room;
     })
@@ -93,7 +94,7 @@ returns-clause-least c =
     let work = work_of c.args.timings.now in
     let starts = c.loop-m.starts.items in
     let before = IsOrdered c.args.tree.now c.args.assigned.now in
-    let forward = timings_forward c.args.tree.now c.args.assigned.now c.args.timings.now (sym c.requires.lengths) in
+    let forward = timings_forward c.args.tree.now c.args.assigned.now c.args.timings.now (sym c.requires.lengths) (none_follows_earlier (work_of c.args.timings.now) c.requires.alone) in
     least_of_all before work _ (start_of starts)
     (λ m number. record { from = number.from; to = omega (arith, number.to, c.requires.lengths) })
     forward.second c.loop-m.invariant.least

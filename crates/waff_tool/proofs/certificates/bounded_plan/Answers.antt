@@ -1,16 +1,19 @@
 use Rattle.std.proofs.Common.{◌∙◌}
-use Rattle.waff_assign.specs.Case.{pairs_of}
-use Rattle.waff_plan.specs.Timetable.{work_of_messages}
-use Rattle.waff_plan.specs.Timing.{work_of, start_of}
-use Rattle.waff_tool.proofs.CertificateLemmas.{as_many, bounded, pairs_forward}
+use Rattle.waff_assign.specs.Case.{instance_of}
+use Rattle.waff_plan.specs.Timing.{start_of}
+use Rattle.waff_tool.proofs.CertificateLemmas.{as_many, bounded, busy_served}
 use Rattle.waff_tool.proofs.certificates.bounded_plan.Goals as goal
 
-pub list_plan_by-requires-clause-lengths : goal.list_plan_by-requires-clause-lengths
-list_plan_by-requires-clause-lengths c = c.in_ok-needs.ensures.needs.count ∙ c.args.case.now.lengths
+pub chain-requires-clause-lengths : goal.chain-requires-clause-lengths
+chain-requires-clause-lengths c =
+    rw c.plan-plan.ensures.plan (as_many c.args.case.now.trace.now.messages _ _ c.in_ok-made.ensures.timings c.args.case.now.lengths)
 
-pub list_chain-requires-clause-lengths : goal.list_chain-requires-clause-lengths
-list_chain-requires-clause-lengths c =
-    as_many c.args.case.now.trace.now.messages _ _ c.in_ok-made.ensures.timings c.args.case.now.lengths
+pub chain-requires-clause-served : goal.chain-requires-clause-served
+chain-requires-clause-served c = λ third.
+    let case = c.args.case.now in
+    let made = c.in_ok-made.made in
+    rw (c.plan-plan.ensures.plan, c.in_ok-made.ensures.version)
+    (busy_served case.trace.now.version c.args.rule case.tree.now case.assigned.now _ c.args.k (start_of made.plan.starts) c.in_ok-made.ensures.follows).within.obeys
 
 pub returns-clause-seated : goal.returns-clause-seated
 returns-clause-seated c = rw c.in_ok-made.ensures.timings at c.in_ok-made.ensures.seated
@@ -20,11 +23,9 @@ returns-clause-bounded c =
     let case = c.args.case.now in
     let made = c.in_ok-made.made in
     let starts = start_of made.plan.starts in
+    let version = c.in_ok-made.ensures.version in
     let timings = c.in_ok-made.ensures.timings in
-    let forward = pairs_forward case.tree.now case.assigned.now case.trace.now.messages case.lengths in
-    let plan = c.needs_make_the_same_plans.ensures case.tree.now case.assigned.now c.in_ok-needs.needs (work_of made.plan.timings) c.args.rule
-    c.args.k starts c.in_ok-needs.ensures.needs c.in_ok-made.ensures.follows in
-    let list = rw timings at plan in
-    let printed = rw timings at c.in_ok-chain.ensures.printed in
-    bounded c.args.rule (pairs_of case) (work_of_messages case.trace.now.messages) c.args.k starts c.in_ok-chain.chain.messages
-    c.requires.workers.from forward list printed
+    let are = rw (c.plan-plan.ensures.plan, version, timings) at c.len-messages.ensures.table.timings in
+    let list = rw timings at c.in_ok-made.ensures.follows in
+    let printed = rw (c.plan-plan.ensures.plan, version, timings) at c.in_ok-chain.ensures.printed in
+    bounded (instance_of case) are case.lengths starts c.in_ok-chain.chain.messages printed c.args.rule c.args.k c.requires.workers.from list

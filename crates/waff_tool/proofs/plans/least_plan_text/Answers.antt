@@ -12,6 +12,7 @@ use Rattle.waff_tool.proofs.plans.least_plan_text.Goals as goal
 
 pub invariant_of-planned : goal.invariant_of-planned
 invariant_of-planned c = record {
+  version = c.in_ok-certified.ensures.version;
   timings = c.in_ok-certified.ensures.timings;
   lengths = as_many c.args.case.now.trace.now.messages _ _ c.in_ok-certified.ensures.timings c.args.case.now.lengths;
 }

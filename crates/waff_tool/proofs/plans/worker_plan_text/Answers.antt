@@ -13,7 +13,11 @@ use Rattle.waff_tool.proofs.plans.worker_plan_text.Goals as goal
 pub invariant_of-planned : goal.invariant_of-planned
 invariant_of-planned c =
     let timings = ap (λ (t : Timetable). t.timings) c.plan-plan.ensures.plan ∙ c.in_ok-bounded.ensures.timings in
-    record { timings = timings; lengths = as_many c.args.case.now.trace.now.messages _ _ timings c.args.case.now.lengths }
+    record {
+      version = ap (λ (t : Timetable). t.version) c.plan-plan.ensures.plan ∙ c.in_ok-bounded.ensures.version;
+      timings = timings;
+      lengths = as_many c.args.case.now.trace.now.messages _ _ timings c.args.case.now.lengths;
+    }
 
 pub worker_text-text-requires-clause-seats : goal.worker_text-text-requires-clause-seats
 worker_text-text-requires-clause-seats c =

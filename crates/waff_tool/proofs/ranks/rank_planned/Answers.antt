@@ -3,6 +3,7 @@ use Rattle.waff_tool.proofs.ranks.rank_planned.Goals as goal
 
 pub invariant_of-planned : goal.invariant_of-planned
 invariant_of-planned c = record {
+  version = c.in_ok-plan.ensures.version;
   timings = c.in_ok-plan.ensures.timings;
   lengths = as_many c.args.case.now.trace.now.messages _ _ c.in_ok-plan.ensures.timings c.args.case.now.lengths;
 }

@@ -13,6 +13,7 @@ use Rattle.waff_tool.proofs.wheres.spent_by_affinity.Goals as goal
 
 pub invariant_of-planned : goal.invariant_of-planned
 invariant_of-planned c = record {
+  version = c.in_ok-certified.ensures.version;
   timings = c.in_ok-certified.ensures.timings;
   lengths = as_many c.args.case.now.trace.now.messages _ _ c.in_ok-certified.ensures.timings c.args.case.now.lengths;
 }

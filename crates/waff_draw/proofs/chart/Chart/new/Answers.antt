@@ -1,9 +1,9 @@
 use Rattle.std.proofs.Common.{◌≡◌, length, arith, sym, ◌∙◌, ap, ap₂}
-use Rattle.std.proofs.lemmas.List.{length-map}
 use Rattle.waff_assign.specs.Case.{instance_of}
 use Rattle.waff_plan.specs.Timetable.{timings_of}
 use Rattle.waff_plan.specs.Timing.{start_of, work_of}
 use Rattle.waff_plan.specs.Work.{length_of}
+use Rattle.waff_plan.proofs.TimingLemmas.{length-timings_of}
 use Rattle.waff_draw.specs.Lanes.{is_among, row_of}
 use Rattle.waff_draw.specs.Parts.{end_of}
 use Rattle.waff_draw.specs.Scene.{length_in, scene_with}
@@ -12,7 +12,7 @@ use Rattle.waff_draw.proofs.chart.Chart.new.Goals as goal
 pub invariant_of-result : goal.invariant_of-result
 invariant_of-result c =
     let messages = c.args.case.now.trace.now.messages in
-    let counted : length messages ≡ length (timings_of messages) = sym (length-map messages _) in
+    let counted : length messages ≡ length (timings_of messages) = sym (length-timings_of messages) in
     let long : c.length-ticks.result ≡ length_in (scene_with (instance_of c.args.case.now) c.args.given.now c.args.part c.args.is_tree)
     = c.length-ticks.ensures.length
     ∙ ap₂ (λ timings starts. length_of (work_of timings) (start_of starts)) c.in_ok-plan.ensures.timings c.in_ok-plan.ensures.starts in

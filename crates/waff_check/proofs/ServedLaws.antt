@@ -1,0 +1,125 @@
+-- What a plan serves before what, by the version of its trace, and pairs that overlap.
+use Rattle.std.proofs.Common.{◌≡◌, ℕ, ◌+◌, ◌-◌, ◌<◌, ◌≤◌, inl, inr, List, length, Option, Some, None, option_map, arith, refl, sym, ◌∙◌, subst}
+use Rattle.std.proofs.lemmas.Bool.{cases_lt, cases_order}
+use Rattle.std.proofs.lemmas.Option.{none-some, same_Some}
+use Rattle.waff_model.specs.Messages.{Arrivals, IsTrace}
+use Rattle.waff_model.specs.Tree.{Node, Excludes}
+use Rattle.waff_model.specs.declared.message.Version.{Version}
+use Rattle.waff_model.specs.declared.message.Version.TheVariants.{V1, V2, V3}
+use Rattle.waff_assign.specs.Order.{IsOrdered, Relation, affinity_of}
+use Rattle.waff_plan.specs.Apart.{AreApart}
+use Rattle.waff_plan.specs.IssueLaws.{StartsIssued}
+use Rattle.waff_plan.specs.Obeys.{KeepsOrder}
+use Rattle.waff_plan.specs.Serving.{IsStartedBefore, started_before}
+use Rattle.waff_plan.specs.Timetable.{timings_of, work_of_messages}
+use Rattle.waff_plan.specs.Timing.{no_timing}
+use Rattle.waff_plan.specs.Work.{IsAmongFirst, Work, finish_of, issue_after}
+use Rattle.waff_plan.proofs.ApartLaws.{apart_where_finished, together_where_running, turned}
+use Rattle.waff_plan.proofs.TimingLemmas.{are_timings, length-timings_of}
+use Rattle.waff_check.specs.Faults.{NoneOf, Overlaps, OverlapsIn, StartsEarly, StartsUnissued}
+
+pub turn : (tree : List Node) (a b : ℕ) → Excludes tree a b → Excludes tree b a
+turn tree a b (inl above) = inr above
+turn tree a b (inr below) = inl below
+
+-- each message runs at a tick
+abbrev pub AllRun : Work → List ℕ → Type 0
+AllRun work assigned = (m : ℕ) → IsAmongFirst (length assigned) m → 1 ≤ work.cost m
+
+-- no pair overlaps
+abbrev pub NoneOverlap : Version → Relation → Work → (ℕ → ℕ) → Type 0
+NoneOverlap version before work start = (i j : ℕ) → OverlapsIn version before work start i j → ⊥
+
+module _ (tree : List Node) (assigned : List ℕ) (work : Work) (start : ℕ → ℕ) where
+  in_order : ((i j : ℕ) → Overlaps (IsOrdered tree assigned) work start i j → ⊥) → KeepsOrder (IsOrdered tree assigned) work start
+  in_order none i j pair = elim (cases_lt (start j) (finish_of work start i)) [
+    | inl early ↦ absurd (none i j (record { ordered = pair; early = early }))
+    | inr late ↦ late
+  ]
+
+  -- what is apart is served in the order of starts
+  pub served_apart : AllRun work assigned → AreApart (IsOrdered tree assigned) work start → KeepsOrder (IsStartedBefore tree assigned start) work start
+  served_apart run apart i j before = elim (cases_lt (start j) (finish_of work start i)) [
+    | inl early ↦
+        let soon : start i ≤ start j = omega (arith, before.started) in
+        let together = together_where_running work start i j soon early (omega (arith, run j before.second)) in
+        elim (cases_order i j) [
+          | inl same ↦ absurd (let later : start i < start j = before.started in let none : start j < start j = rw same at later in omega (arith, none))
+          | inr (inl less) ↦ absurd (apart i j (record { ordered = record { from = before.first.from; earlier = less; to = before.second.to; excludes = before.excludes }; together = together }))
+          | inr (inr more) ↦ absurd (apart j i (record {
+            ordered = record { from = before.second.from; earlier = more; to = before.first.to; excludes = turn tree (affinity_of assigned i) (affinity_of assigned j) before.excludes };
+            together = turned work start i j together;
+          }))
+        ]
+    | inr late ↦ late
+  ]
+
+  pub order_is_kept : (version : Version) → AllRun work assigned → NoneOverlap version (IsOrdered tree assigned) work start
+      → KeepsOrder (started_before version tree assigned start) work start
+  order_is_kept V1 run none = in_order none
+  order_is_kept V2 run none = in_order none
+  order_is_kept V3 run none = served_apart run none
+
+  ordered_apart : KeepsOrder (IsOrdered tree assigned) work start → AreApart (IsOrdered tree assigned) work start
+  ordered_apart order i j pair = apart_where_finished work start i j (order i j pair.ordered) pair.together
+
+  pub none_together : (version : Version) → NoneOverlap version (IsOrdered tree assigned) work start → AreApart (IsOrdered tree assigned) work start
+  none_together V1 none = ordered_apart (in_order none)
+  none_together V2 none = ordered_apart (in_order none)
+  none_together V3 none = none
+
+-- a message that is neither early nor starts before its client issues it
+module _ (work : Work) (start : ℕ → ℕ) where
+  issued_after : (m : ℕ) (follows : Option ℕ) → work.follows m ≡ follows → work.release m ≤ start m
+      → ((f : ℕ) → work.follows m ≡ Some f → finish_of work start f + work.think m ≤ start m)
+      → issue_after (work.release m) (work.think m) (option_map (finish_of work start) follows) ≤ start m
+  issued_after m None is released after = released
+  issued_after m (Some f) is released after = omega (arith, released, after f is)
+
+  pub starts_issued : NoneOf (StartsEarly work start) → NoneOf (StartsUnissued work start) → StartsIssued work start
+  starts_issued late issued m number =
+      issued_after m (work.follows m) refl
+      (elim (cases_lt (start m) (work.release m)) [
+        | inl early ↦ absurd (late m (record { number = number; early = early }))
+        | inr released ↦ released
+      ])
+      (λ f follows. elim (cases_lt (start m) (finish_of work start f + work.think m)) [
+        | inl early ↦ absurd (issued m (record { number = number; followed = f; follows = follows; early = early }))
+        | inr after ↦ after
+      ])
+
+  -- what is issued when it starts is neither
+  pub released_by : (m : ℕ) (follows : Option ℕ) → issue_after (work.release m) (work.think m) (option_map (finish_of work start) follows) ≤ start m
+      → work.release m ≤ start m
+  released_by m None issued = issued
+  released_by m (Some f) issued = omega (arith, issued)
+
+  followed_by : (m f : ℕ) (follows : Option ℕ) → follows ≡ Some f → issue_after (work.release m) (work.think m) (option_map (finish_of work start) follows) ≤ start m
+      → finish_of work start f + work.think m ≤ start m
+  followed_by m f None is issued = absurd (cc is)
+  followed_by m f (Some g) is issued =
+      let same : g ≡ f = cc is in
+      subst (λ x. finish_of work start x + work.think m ≤ start m) same (omega (arith, issued))
+
+  pub none_early : StartsIssued work start → NoneOf (StartsEarly work start)
+  none_early issued m early = omega (arith, released_by m (work.follows m) (issued m early.number), early.early)
+
+  pub none_unissued : StartsIssued work start → NoneOf (StartsUnissued work start)
+  none_unissued issued m early =
+      omega (arith, followed_by m early.followed (work.follows m) early.follows (issued m early.number), early.early)
+
+-- what a message that follows another says of it
+pub unissued_none : (work : Work) (start : ℕ → ℕ) (n : ℕ) → work.follows n ≡ None → StartsUnissued work start n → ⊥
+unissued_none work start n none early = none-some early.followed (sym none ∙ early.follows)
+
+pub unissued_by : (work : Work) (start : ℕ → ℕ) (n f : ℕ) → work.follows n ≡ Some f → StartsUnissued work start n
+    → start n < finish_of work start f + work.think n
+unissued_by work start n f some early =
+    let same : early.followed ≡ f = same_Some early.followed f (sym early.follows ∙ some) in
+    subst (λ x. start n < finish_of work start x + work.think n) same early.early
+
+-- in a trace each message runs at a tick
+pub all_run : (trace : Arrivals) → IsTrace trace → (assigned : List ℕ) → length trace.messages ≡ length assigned → AllRun (work_of_messages trace.messages) assigned
+all_run trace is assigned long m number =
+    let within : m - 1 < length (timings_of trace.messages) = omega (arith, number.from, number.to, long, length-timings_of trace.messages) in
+    ((are_timings trace is).small (m - 1) no_timing within).some_cost

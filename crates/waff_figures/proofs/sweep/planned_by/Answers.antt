@@ -1,0 +1,15 @@
+use Rattle.std.proofs.lemmas.Result.{IfOk-weaker}
+use Rattle.waff_plan.specs.Timing.{start_of, work_of}
+use Rattle.waff_figures.proofs.PlanLemmas.{served_in_order}
+use Rattle.waff_figures.proofs.sweep.planned_by.Goals as goal
+
+pub returns-clause-follows : goal.returns-clause-follows
+returns-clause-follows c =
+    let case = c.args.case in
+    IfOk-weaker c.list_plan_by.result _ _
+    (λ made follows.
+    let work = work_of made.plan.timings in
+    let start = start_of made.plan.starts in
+    served_in_order case.trace.now.version c.requires.needs.earlier_version c.args.rule case.tree.now case.assigned.now work c.args.k start
+    (c.needs_make_the_same_plans.ensures case.tree.now case.assigned.now c.args.needs.now work c.args.rule c.args.k start c.requires.needs.are follows))
+    c.list_plan_by.ensures.follows

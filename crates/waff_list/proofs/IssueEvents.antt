@@ -1,0 +1,220 @@
+-- The ticks at which messages finish or are issued are so many that the planner ends, and so close that no tick is too late.
+use Rattle.std.proofs.Common.{◌≡◌, ◌≢◌, ℕ, ◌+◌, ◌*◌, ◌<◌, ◌≤◌, ◌⊎◌, inl, inr, true, List, map, min, max, nat_lt, count_by, length, All, Contains, Option, Some, None, option_map, arith, refl, sym, ap, ◌∙◌, subst}
+use Rattle.std.proofs.lemmas.Bool.{cases_eq, cases_lt, ltb-true, lt-ltb, le-ltb}
+use Rattle.std.proofs.lemmas.List.Elements.{All-contains, All-weaker}
+use Rattle.std.proofs.lemmas.List.FromFn.{length-range_with_len}
+use Rattle.std.proofs.lemmas.List.Sums.{count_by-le-length}
+use Rattle.waff_model.specs.declared.limits.TheConstants.{MAX_COST, MAX_MESSAGES, MAX_RELEASE, MAX_THINK, MAX_TICK}
+use Rattle.waff_plan.specs.Timing.{start_of}
+use Rattle.waff_plan.specs.Work.{Work, IsNumber, numbers, finish_of, issue_after, issue_of}
+use Rattle.waff_list.specs.Progress.{IsSmall}
+use Rattle.waff_list.specs.Serving.{AreIssues, IsLastEvent, IsNextEvent}
+use Rattle.waff_list.specs.Waiting.{Runs, AreFinishes}
+use Rattle.waff_list.specs.declared.work.TheConstants.{NEVER}
+use Rattle.waff_list.proofs.Each.{contains_map, contains_mapped, each_there}
+use Rattle.waff_list.proofs.IssueLemmas.{followed_by, issue_same}
+use Rattle.waff_list.proofs.Uniqueness.{FollowsMessages, counts_le, counts_lt}
+
+-- how many messages finish after now, and how many are issued after now
+abbrev ends_after : Work → (ℕ → ℕ) → ℕ → ℕ
+ends_after work start now = count_by (λ m. nat_lt now (finish_of work start m)) (numbers work)
+
+abbrev issues_after : Work → (ℕ → ℕ) → ℕ → ℕ
+issues_after work start now = count_by (λ m. nat_lt now (issue_of work start m)) (numbers work)
+
+abbrev pub steps_after : Work → (ℕ → ℕ) → ℕ → ℕ
+steps_after work start now = ends_after work start now + issues_after work start now
+
+-- no tick comes too late for the messages that are left
+abbrev pub IsInTime : Work → (ℕ → ℕ) → ℕ → Type 0
+IsInTime work start now =
+    now + (MAX_COST * ends_after work start now + MAX_THINK * issues_after work start now) ≤ MAX_RELEASE + (MAX_COST + MAX_THINK) * work.count
+
+few_by : (work : Work) (tick : ℕ → ℕ) (now : ℕ) → count_by (λ m. nat_lt now (tick m)) (numbers work) ≤ work.count
+few_by work tick now =
+    let few = count_by-le-length (λ m. nat_lt now (tick m)) (numbers work) in
+    let long : length (numbers work) ≡ work.count = length-range_with_len 1 work.count in
+    omega (arith, few, long)
+
+-- at the beginning, and at a release
+pub in_time_none : (work : Work) (start : ℕ → ℕ) (now : ℕ) → now ≤ MAX_RELEASE → IsInTime work start now
+in_time_none work start now early = omega (arith, few_by work (finish_of work start) now, few_by work (issue_of work start) now, early)
+
+-- so each tick can be printed
+pub in_time_early : (work : Work) (start : ℕ → ℕ) (now : ℕ) → work.count ≤ MAX_MESSAGES → IsInTime work start now → now ≤ MAX_TICK
+in_time_early work start now few h = omega (arith, few, h)
+
+cases_by : (finish : ℕ → ℕ) (release think : ℕ) (follows : Option ℕ)
+    → (issue_after release think (option_map finish follows) ≡ release) ⊎ ((f : ℕ) × (follows ≡ Some f) × (issue_after release think (option_map finish follows) ≡ finish f + think))
+cases_by finish release think None = inl refl
+cases_by finish release think (Some f) = elim (cases_lt release (finish f + think)) [ inl less ↦ inr (f, refl, omega arith) | inr more ↦ inl (omega arith) ]
+
+-- a message is issued at its release, or its think time after what it follows
+pub issue_cases : (work : Work) (start : ℕ → ℕ) (m : ℕ) → (issue_of work start m ≡ work.release m)
+    ⊎ ((f : ℕ) × (work.follows m ≡ Some f) × (issue_of work start m ≡ finish_of work start f + work.think m))
+issue_cases work start m = cases_by (finish_of work start) (work.release m) (work.think m) (work.follows m)
+
+module _ (work : Work) (followed : FollowsMessages work) (small : IsSmall work) (thinks : (m : ℕ) → IsNumber work m → work.think m ≤ MAX_THINK)
+    (old starts : List ℕ) (now next : ℕ)
+    (placed : (m : ℕ) → IsNumber work m → (start_of old m ≤ now) ⊎ (start_of old m ≡ NEVER))
+    (kept : (m : ℕ) → IsNumber work m → start_of old m ≤ now → start_of starts m ≡ start_of old m)
+    (after : (m : ℕ) → IsNumber work m → (start_of starts m ≤ now) ⊎ (start_of starts m ≡ NEVER))
+    (finishes : List (ℕ × ℕ)) (running : AreFinishes work (start_of starts) now finishes) (tick : IsNextEvent work (start_of starts) finishes now next) where
+  -- a finish or an issue after the next tick came after now before
+  finish_back : (m : ℕ) → IsNumber work m → now < finish_of work (start_of starts) m → now < finish_of work (start_of old) m
+  finish_back m number later = elim (placed m number) [
+    | inl early ↦ rw (kept m number early) at later
+    | inr never ↦ omega (arith, tick.tick, tick.later)
+  ]
+
+  issue_back : (m : ℕ) → now < issue_of work (start_of starts) m → now < issue_of work (start_of old) m
+  issue_back m later = elim (cases_lt now (issue_of work (start_of old) m)) [
+    | inl is ↦ is
+    | inr early ↦
+        let same = issue_same work (start_of starts) (start_of old) m
+        (λ f is. kept f (followed f m is) (omega (arith, followed_by work (start_of old) m now f early is))) in
+        omega (arith, same, later, early)
+  ]
+
+  -- the next tick is that of a message that starts by now and finishes, of a release, or a think time away
+  abbrev Ends : Type 0
+  Ends = (m : ℕ) × IsNumber work m × (start_of starts m ≤ now) × (finish_of work (start_of starts) m ≡ next)
+
+  abbrev Issues : Type 0
+  Issues = (m : ℕ) × IsNumber work m × (issue_of work (start_of starts) m ≡ next) × ((next ≤ MAX_RELEASE) ⊎ (next ≤ now + MAX_THINK))
+
+  event : Ends ⊎ Issues
+  event = elim tick.one [
+    | inl there ↦ let runs = All-contains (Runs work (start_of starts) now) finishes (next, there.0) running.only there.1 in inl (there.0, runs.0, runs.1, runs.3)
+    | inr (m, number, is) ↦ elim (issue_cases work (start_of starts) m) [
+      | inl release ↦ inr (m, number, is, inl (omega (arith, is, release, small.release m number)))
+      | inr (f, follows, sum) ↦
+          let f_number = followed f m follows in
+          elim (cases_lt now (finish_of work (start_of starts) f)) [
+            | inr done ↦ inr (m, number, is, inr (omega (arith, is, sum, done, thinks m number)))
+            | inl late ↦ elim (after f f_number) [
+              | inr never ↦ absurd (omega (arith, is, sum, never, tick.tick))
+              | inl begun ↦
+                  let first = All-contains (λ (r : ℕ × ℕ). next ≤ r.0) finishes (finish_of work (start_of starts) f, f) tick.first (running.each f f_number begun late) in
+                  inl (f, f_number, begun, omega (arith, is, sum, first))
+            ]
+          ]
+    ]
+  ]
+
+  ends_fewer : (m : ℕ) → IsNumber work m → finish_of work (start_of starts) m ≡ next → ends_after work (start_of starts) next < ends_after work (start_of old) now
+  ends_fewer m number finish =
+      let past = tick.later in
+      counts_lt (λ x. nat_lt next (finish_of work (start_of starts) x)) (λ x. nat_lt now (finish_of work (start_of old) x)) work.count m
+      (λ i i_number is. lt-ltb now (finish_of work (start_of old) i) (finish_back i i_number (omega (arith, past, ltb-true next (finish_of work (start_of starts) i) is))))
+      number (le-ltb next (finish_of work (start_of starts) m) (omega (arith, finish)))
+      (lt-ltb now (finish_of work (start_of old) m) (finish_back m number (omega (arith, finish, past))))
+
+  ends_no_more : ends_after work (start_of starts) next ≤ ends_after work (start_of old) now
+  ends_no_more =
+      let past = tick.later in
+      counts_le (λ x. nat_lt next (finish_of work (start_of starts) x)) (λ x. nat_lt now (finish_of work (start_of old) x)) work.count
+      (λ i i_number is. lt-ltb now (finish_of work (start_of old) i) (finish_back i i_number (omega (arith, past, ltb-true next (finish_of work (start_of starts) i) is))))
+
+  issues_fewer : (m : ℕ) → IsNumber work m → issue_of work (start_of starts) m ≡ next → issues_after work (start_of starts) next < issues_after work (start_of old) now
+  issues_fewer m number issue =
+      let past = tick.later in
+      counts_lt (λ x. nat_lt next (issue_of work (start_of starts) x)) (λ x. nat_lt now (issue_of work (start_of old) x)) work.count m
+      (λ i i_number is. lt-ltb now (issue_of work (start_of old) i) (issue_back i (omega (arith, past, ltb-true next (issue_of work (start_of starts) i) is))))
+      number (le-ltb next (issue_of work (start_of starts) m) (omega (arith, issue)))
+      (lt-ltb now (issue_of work (start_of old) m) (issue_back m (omega (arith, issue, past))))
+
+  issues_no_more : issues_after work (start_of starts) next ≤ issues_after work (start_of old) now
+  issues_no_more =
+      let past = tick.later in
+      counts_le (λ x. nat_lt next (issue_of work (start_of starts) x)) (λ x. nat_lt now (issue_of work (start_of old) x)) work.count
+      (λ i i_number is. lt-ltb now (issue_of work (start_of old) i) (issue_back i (omega (arith, past, ltb-true next (issue_of work (start_of starts) i) is))))
+
+  -- fewer events are left
+  pub steps_fewer : steps_after work (start_of starts) next < steps_after work (start_of old) now
+  steps_fewer = elim event [
+    | inl (m, number, begun, finish) ↦ omega (arith, ends_fewer m number finish, issues_no_more)
+    | inr (m, number, issue, soon) ↦ omega (arith, issues_fewer m number issue, ends_no_more)
+  ]
+
+  pub in_time_next : IsInTime work (start_of old) now → IsInTime work (start_of starts) next
+  in_time_next h = elim event [
+    | inl (m, number, begun, finish) ↦ omega (arith, h, small.cost m number, finish, begun, ends_fewer m number finish, issues_no_more)
+    | inr (m, number, issue, inl release) ↦ in_time_none work (start_of starts) next release
+    | inr (m, number, issue, inr soon) ↦ omega (arith, h, soon, issues_fewer m number issue, ends_no_more)
+  ]
+
+-- the next event, from the first finish and the first issue that is known
+module _ (work : Work) (start : ℕ → ℕ) (finishes issues : List (ℕ × ℕ)) (now first soonest : ℕ) (short : now < NEVER)
+    (running : AreFinishes work start now finishes) (are : AreIssues work start now issues)
+    (first_least : All (λ r. first ≤ r.0) finishes) (soonest_least : All (λ r. soonest ≤ r.0) issues) where
+  -- a message that is issued after now, and before all ticks are over, is known
+  known_late : (m : ℕ) → IsNumber work m → (issue_of work start m ≤ now) ⊎ ((NEVER ≤ issue_of work start m) ⊎ (soonest ≤ issue_of work start m))
+  known_late m number = elim (cases_lt now (issue_of work start m)) [
+    | inr early ↦ inl early
+    | inl late ↦ elim (cases_lt (issue_of work start m) NEVER) [
+      | inr never ↦ inr (inl never)
+      | inl soon ↦
+          let listed = each_there (λ i. IsNumber work i × (now < issue_of work start i) × (issue_of work start i < NEVER)) (map (λ (r : ℕ × ℕ). r.1) issues) are.each m (number, late, soon) in
+          let one = contains_mapped (λ (r : ℕ × ℕ). r.1) issues m listed in
+          let least = All-contains (λ (r : ℕ × ℕ). soonest ≤ r.0) issues one.0 soonest_least one.1 in
+          let at = All-contains (λ (r : ℕ × ℕ). issue_of work start r.1 ≡ r.0) issues one.0 are.ticks one.1 in
+          inr (inr (omega (arith, least, at, ap (issue_of work start) one.2)))
+    ]
+  ]
+
+  pub last_event : first ≡ NEVER → soonest ≡ NEVER → IsLastEvent work start finishes now
+  last_event no_finish no_issue = record {
+    none = All-weaker (λ (r : ℕ × ℕ). first ≤ r.0) (λ (r : ℕ × ℕ). NEVER ≤ r.0) (λ (r : ℕ × ℕ) least. omega (arith, least, no_finish)) finishes first_least;
+    issues = λ m number. elim (known_late m number) [
+      | inl early ↦ inl early
+      | inr (inl never) ↦ inr never
+      | inr (inr late) ↦ inr (omega (arith, late, no_issue))
+    ];
+  }
+
+  module _ (first_one : (first ≡ NEVER) ⊎ ((m : ℕ) × Contains finishes (first, m)))
+      (soonest_one : (soonest ≡ NEVER) ⊎ ((m : ℕ) × Contains issues (soonest, m))) where
+    first_later : now < first
+    first_later = elim first_one [
+      | inl never ↦ omega (arith, never, short)
+      | inr (m, there) ↦ let runs = All-contains (Runs work start now) finishes (first, m) running.only there in runs.2
+    ]
+
+    -- the message whose issue is the soonest
+    abbrev Soonest : Type 0
+    Soonest = (m : ℕ) × IsNumber work m × (issue_of work start m ≡ soonest) × (now < soonest)
+
+    soonest_is : (soonest ≡ NEVER) ⊎ Soonest
+    soonest_is = elim soonest_one [
+      | inl never ↦ inl never
+      | inr (m, there) ↦
+          let known = are.each.only m (contains_map (λ (r : ℕ × ℕ). r.1) issues (soonest, m) there) in
+          let at : issue_of work start m ≡ soonest = All-contains (λ (r : ℕ × ℕ). issue_of work start r.1 ≡ r.0) issues (soonest, m) are.ticks there in
+          inr (m, known.0, at, omega (arith, known.1, at))
+    ]
+
+    soonest_later : now < soonest
+    soonest_later = elim soonest_is [ inl never ↦ omega (arith, never, short) | inr one ↦ one.3 ]
+
+    pub next_event : (next : ℕ) → next ≡ min first soonest → next ≢ NEVER → next ≤ NEVER → IsNextEvent work start finishes now next
+    next_event next is some within = record {
+      later = omega (arith, is, first_later, soonest_later);
+      tick = omega (arith, some, within);
+      first = All-weaker (λ (r : ℕ × ℕ). first ≤ r.0) (λ (r : ℕ × ℕ). next ≤ r.0) (λ (r : ℕ × ℕ) least. omega (arith, least, is)) finishes first_least;
+      issues = λ m number. elim (known_late m number) [
+        | inl early ↦ inl early
+        | inr (inl never) ↦ inr (omega (arith, never, within))
+        | inr (inr late) ↦ inr (omega (arith, late, is))
+      ];
+      one = elim (cases_eq next first) [
+        | inl same ↦ elim first_one [
+          | inl never ↦ absurd (some (same ∙ never))
+          | inr (m, there) ↦ inl (m, subst (λ t. Contains finishes (t, m)) (sym same) there)
+        ]
+        | inr other ↦ elim soonest_is [
+          | inl never ↦ absurd (omega (arith, is, never, some, within, other))
+          | inr one ↦ inr (one.0, one.1, omega (arith, one.2, is, other))
+        ]
+      ];
+    }

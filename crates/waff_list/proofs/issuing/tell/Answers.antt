@@ -1,0 +1,43 @@
+use Rattle.std.proofs.Common.{◌≡◌, ◌≢◌, ◌-◌, ◌<◌, ◌≤◌, ◌∷◌, length, set, arith, ◌∙◌, ap, subst, get_or-set_same}
+use Rattle.std.specs.List.Sorted.{IsPermutation}
+use Rattle.std.proofs.lemmas.List.{get_or_read, length-set}
+use Rattle.waff_list.specs.IssuePlanning.{service_of}
+use Rattle.waff_list.specs.Issuing.{issue_kept}
+use Rattle.waff_list.specs.Waiting.{left_of}
+use Rattle.waff_list.proofs.Telling.{told_last, told_other}
+use Rattle.waff_list.proofs.issuing.tell.Goals as goal
+use Rattle.waff_list.proofs.issuing.tell.Goals.{After-index}
+
+-- the count is read, and again when it is one less
+read : (c : After-index) → c.index_mut.result.now ≡ left_of c.args.left.now.items c.args.m
+read c = get_or_read c.args.left.now.items (c.args.m - 1) c.index_mut.result.now (omega (arith, c.requires.number.from, c.requires.number.to, c.requires.left)) c.index_mut.ensures.value 0
+
+again : (c : After-index) → c.index.result.now ≡ left_of c.args.left.now.items c.args.m - 1
+again c =
+    let left = c.args.left.now.items in
+    let at = c.args.m - 1 in
+    let less = c.index_mut.result.now - 1 in
+    let inside : at < length left = omega (arith, c.requires.number.from, c.requires.number.to, c.requires.left) in
+    get_or_read (set left at less) at c.index.result.now (omega (arith, inside, length-set left at less)) c.index.ensures 0
+    ∙ get_or-set_same left at less 0 inside ∙ ap (λ n. n - 1) (read c)
+
+pub returns-in_ok-push : goal.returns-in_ok-push
+returns-in_ok-push c =
+    let i = (goal.at.returns-in_ok-push c).After-index in
+    let service = service_of c.args.task.now in
+    let left = c.args.left.now.items in
+    let issued = c.args.issued.now in
+    let m = c.args.m in
+    let last : left_of left m ≡ 1 = omega (arith, again i, c.if-index-eq0.true, c.requires.some) in
+    let pushed : IsPermutation ((service.priority m, (issue_kept issued m, m)) ∷ c.args.ready.now) c.push.new.self
+    = subst (λ p. IsPermutation ((p, (issue_kept issued m, m)) ∷ c.args.ready.now) c.push.new.self) c.priority.ensures c.in_ok-push.ensures in
+    rw (read i) (told_last service.work service.priority issued left c.args.ready.now m c.requires.number c.requires.left c.requires.some c.push.new.self last pushed)
+
+pub returns-else-index-eq0 : goal.returns-else-index-eq0
+returns-else-index-eq0 c =
+    let i = (goal.at.returns-else-index-eq0 c).After-index in
+    let service = service_of c.args.task.now in
+    let left = c.args.left.now.items in
+    let m = c.args.m in
+    let more : left_of left m ≢ 1 = λ last. c.if-index-eq0.false (omega (arith, again i, last)) in
+    rw (read i) (told_other service.work service.priority c.args.issued.now left c.args.ready.now m c.requires.number c.requires.left c.requires.some more)

@@ -1,0 +1,130 @@
+-- The messages that follow none, one message after another.
+use Rattle.std.proofs.Common.{◌≡◌, ℕ, ◌-◌, ◌^◌, ◌<◌, ◌≤◌, ◌⊎◌, inl, inr, zero, suc, List, [], ◌∷◌, Contains, Option, Some, None, arith, refl, sym, ◌∙◌, ap, subst}
+use Rattle.std.specs.List.Sorted.{IsPermutation}
+use Rattle.std.proofs.lemmas.Bool.{cases_eq}
+use Rattle.std.proofs.lemmas.List.Sorted.{Contains-permutation, IsPermutation-sym}
+use Rattle.std.proofs.lemmas.Option.{none-some}
+use Rattle.waff_plan.specs.Work.{Work, IsNumber, IsAmongFirst, finish_of, issue_of, issue_after}
+use Rattle.waff_plan.specs.Pending.{Issue, AreFirst}
+use Rattle.waff_plan.proofs.IssueSteps.{AreOnce, AreTaken, ArePending, once_put}
+use Rattle.std.proofs.Common.{option_map}
+use Rattle.waff_model.specs.Tree.{Node}
+
+-- those of the first n messages that follow none
+pub record AreFirstUpTo (work : Work) (n : ℕ) (first : List Issue) : Type 0 where
+  pub number : (x : Issue) → Contains first x → IsAmongFirst n x.1
+  pub issue : (x : Issue) → Contains first x → x.0 ≡ work.release x.1
+  pub alone : (x : Issue) → Contains first x → work.follows x.1 ≡ None
+  pub all : (m : ℕ) → IsAmongFirst n m → work.follows m ≡ None → Contains first (work.release m, m)
+  pub once : AreOnce first
+  pub early : (x : Issue) → Contains first x → x.0 < 2 ^ 32
+
+pub first_none : (work : Work) → AreFirstUpTo work 0 []
+first_none work = record {
+  number = λ x there. absurd (omega (arith, there.1));
+  issue = λ x there. absurd (omega (arith, there.1));
+  alone = λ x there. absurd (omega (arith, there.1));
+  all = λ m among none. absurd (omega (arith, among.from, among.to));
+  once = λ m. omega arith;
+  early = λ x there. absurd (omega (arith, there.1));
+}
+
+-- what is in a list with one more is that one, or in the list
+pub put_cases : (x : Issue) (old new : List Issue) → IsPermutation (x ∷ old) new → (y : Issue) → Contains new y → (x ≡ y) ⊎ Contains old y
+put_cases x old new put y there = cases (Contains-permutation new (x ∷ old) y (IsPermutation-sym (x ∷ old) new put) there)
+  where
+    cases : Contains (x ∷ old) y → (x ≡ y) ⊎ Contains old y
+    cases (zero, within, at) = inl at
+    cases (suc k, within, at) = inr (k, omega (arith, within), at)
+
+pub put_new : (x : Issue) (old new : List Issue) → IsPermutation (x ∷ old) new → Contains new x
+put_new x old new put = Contains-permutation (x ∷ old) new x put (0, omega arith, refl)
+
+pub put_old : (x : Issue) (old new : List Issue) → IsPermutation (x ∷ old) new → (y : Issue) → Contains old y → Contains new y
+put_old x old new put y there = Contains-permutation (x ∷ old) new y put (suc there.0, omega (arith, there.1), there.2)
+
+module _ (work : Work) (m : ℕ) (from : 1 ≤ m) (old : List Issue) (are : AreFirstUpTo work (m - 1) old) where
+  -- one more message, which follows another
+  pub first_same : (f : ℕ) → work.follows m ≡ Some f → AreFirstUpTo work m old
+  first_same f follow = record {
+    number = λ x there. let number = are.number x there in record { from = number.from; to = omega (arith, number.to) };
+    issue = are.issue;
+    alone = are.alone;
+    all = λ n among none. elim (cases_eq n m) [
+      | inl here ↦ absurd (none-some f (sym none ∙ ap work.follows here ∙ follow))
+      | inr other ↦ are.all n (record { from = among.from; to = omega (arith, among.to, other) }) none
+    ];
+    once = are.once;
+    early = are.early;
+  }
+
+  -- one more message, which follows none
+  pub first_put : (new : List Issue) (release : ℕ) → release ≡ work.release m → work.follows m ≡ None → release < 2 ^ 32 → IsPermutation ((release, m) ∷ old) new
+      → AreFirstUpTo work m new
+  first_put new release is none early put =
+      let x : Issue = (release, m) in
+      record {
+        number = λ y there. elim (put_cases x old new put y there) [
+          | inl here ↦ subst (λ (z : Issue). IsAmongFirst m z.1) here (record { from = from; to = omega arith })
+          | inr old_y ↦ let number = are.number y old_y in record { from = number.from; to = omega (arith, number.to) }
+        ];
+        issue = λ y there. elim (put_cases x old new put y there) [
+          | inl here ↦ subst (λ (z : Issue). z.0 ≡ work.release z.1) here is
+          | inr old_y ↦ are.issue y old_y
+        ];
+        alone = λ y there. elim (put_cases x old new put y there) [
+          | inl here ↦ subst (λ (z : Issue). work.follows z.1 ≡ None) here none
+          | inr old_y ↦ are.alone y old_y
+        ];
+        all = λ n among alone. elim (cases_eq n m) [
+          | inl here ↦
+              let same : x ≡ (work.release n, n) = ap (λ r. (r, m)) is ∙ ap (λ k. (work.release k, k)) (sym here) in
+              subst (Contains new) same (put_new x old new put)
+          | inr other ↦
+              put_old x old new put (work.release n, n)
+              (are.all n (record { from = among.from; to = omega (arith, among.to, other) }) alone)
+        ];
+        once = once_put old new x put are.once (λ y there same. omega (arith, (are.number y there).to, same, from));
+        early = λ y there. elim (put_cases x old new put y there) [
+          | inl here ↦ subst (λ (z : Issue). z.0 < 2 ^ 32) here early
+          | inr old_y ↦ are.early y old_y
+        ];
+      }
+
+-- all messages that follow none
+pub first_all : (work : Work) (n : ℕ) (first : List Issue) → n ≡ work.count → AreFirstUpTo work n first → AreFirst work first
+first_all work n first is are = record {
+  number = λ x there. let number = are.number x there in record { from = number.from; to = omega (arith, number.to, is) };
+  issue = are.issue;
+  alone = are.alone;
+  all = λ m number none. are.all m (record { from = number.from; to = omega (arith, number.to, is) }) none;
+  once = are.once;
+  early = are.early;
+}
+
+-- at first none is taken, and those that follow none are pending
+pub taken_none : (tree : List Node) (assigned : List ℕ) (work : Work) (start : ℕ → ℕ) → AreTaken tree assigned work start []
+taken_none tree assigned work start = record {
+  number = λ m there. absurd (omega (arith, there.1));
+  closed = λ f m follow there. absurd (omega (arith, there.1));
+  at_once = λ m there. absurd (omega (arith, there.1));
+}
+
+pub pending_first : (work : Work) (start : ℕ → ℕ) (first : List Issue) → AreFirst work first → ArePending work start [] first
+pending_first work start first are = record {
+  number = are.number;
+  issue = λ x there. are.issue x there ∙ sym (at_release x.1 (are.alone x there));
+  apart = λ x there at. omega (arith, at.1);
+  after = λ x f there follow. absurd (none-some f (sym (are.alone x there) ∙ follow));
+  later = λ x i there at. absurd (omega (arith, at.1));
+  once = are.once;
+  all = λ m number apart after. due m number after (work.follows m) refl;
+}
+  where
+    at_release : (m : ℕ) → work.follows m ≡ None → issue_of work start m ≡ work.release m
+    at_release m none = ap (λ follows. issue_after (work.release m) (work.think m) (option_map (finish_of work start) follows)) none
+
+    due : (m : ℕ) → IsNumber work m → ((f : ℕ) → work.follows m ≡ Some f → Contains [] f) → (o : Option ℕ) → work.follows m ≡ o
+        → Contains first (issue_of work start m, m)
+    due m number after None none = subst (λ e. Contains first (e, m)) (sym (at_release m none)) (are.all m number none)
+    due m number after (Some f) follow = let there = after f follow in absurd (omega (arith, there.1))

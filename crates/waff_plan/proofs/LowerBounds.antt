@@ -1,0 +1,436 @@
+-- No plan that obeys is shorter than its share of the work, than what one client needs, or than what
+-- runs on one path of affinities.
+use Rattle.std.proofs.Common.{◌≡◌, ℕ, zero, suc, ◌+◌, ◌-◌, ◌*◌, ◌^◌, ◌<◌, ◌≤◌, inl, inr, true, false, Bool, cond, eqb, max, List, [], ◌∷◌, ◌++◌, All, map, length, get_or, set, sum_by, count_by, nat_le, nat_lt, Option, Some, None, IfSome, option_map, arith, refl, sym, ◌∙◌, ap, subst}
+use Rattle.std.specs.List.{range_with_len}
+use Rattle.std.proofs.lemmas.Bool.{cases_Bool, cases_eq, cases_lt, cond-true, cond-false, eq-eqb, ne_eqb}
+use Rattle.std.proofs.lemmas.List.{get_or_past, get_or-set_other, get_or-set_same}
+use Rattle.std.proofs.lemmas.List.FromFn.{get_or-map-range_with_len, length-map-range_with_len, map-range_with_len_more}
+use Rattle.std.proofs.lemmas.List.Recursion.{max_least, max_push}
+use Rattle.std.proofs.lemmas.List.Sums.{sum_by-cons}
+use Rattle.waff_model.specs.Tree.{IsRooted, IsTree, Node, AtOrAbove, parent_of}
+use Rattle.waff_model.proofs.TreeLemmas.{above_child, comparable, earlier, reflexive}
+use Rattle.waff_assign.specs.Order.{IsOrdered, affinity_of}
+use Rattle.waff_plan.specs.Apart.{AreApart}
+use Rattle.waff_plan.specs.Bound.{IsWorkers}
+use Rattle.waff_plan.specs.IssueLaws.{StartsIssued}
+use Rattle.waff_plan.specs.LowerBound.{NoneIsBelow, client_finish, cost_by, cost_in, finish_by, lower_bound_of, of_parent, own_cost, path_cost, share_in}
+use Rattle.waff_plan.specs.Obeys.{FollowsEarlier, Obeys}
+use Rattle.waff_plan.specs.Timing.{IsTiming, no_timing, work_of}
+use Rattle.waff_plan.specs.declared.timing.Timing.{Timing}
+use Rattle.waff_plan.specs.Work.{IsNumber, Work, finish_of, greatest, issue_after, length_of, numbers, total_of}
+use Rattle.waff_plan.specs.Workers.{IsWorkerPlan, running, runs_at}
+use Rattle.waff_plan.proofs.ApartLaws.{runs_from, runs_parts}
+use Rattle.waff_plan.proofs.Holding.{release-le-issue}
+use Rattle.waff_plan.proofs.Longest.{finish_of-le-length_of, greatest_more, length_of-le, sum_more}
+use Rattle.waff_plan.proofs.Shares.{share_is_within}
+use Rattle.waff_plan.proofs.Ticks.{sum_by-numbers-le, total_is_within_workers}
+
+-- a bound on each bounds the greatest
+greatest_within : (f : ℕ → ℕ) (a n bound : ℕ) → ((m : ℕ) → a ≤ m → m < a + n → f m ≤ bound) → greatest (map f (range_with_len a n)) ≤ bound
+greatest_within f a n bound h =
+    max_least greatest (λ x. x) refl (λ _ _. refl) (map f (range_with_len a n)) 0 bound
+    (λ i below.
+    let short : i < n = subst (λ k. i < k) (length-map-range_with_len f a n) below in
+    let at : get_or (map f (range_with_len a n)) i 0 ≡ f (a + i) = get_or-map-range_with_len f a n i (a + i) 0 short (omega arith) in
+    subst (λ x. x ≤ bound) (sym at) (h (a + i) (omega arith) (omega arith)))
+
+-- no order
+abbrev Unordered : ℕ → ℕ → Type 0
+Unordered i j = ⊥
+
+-- the share of a worker
+share_below : (workers : Option ℕ) (work : Work) (other : ℕ → ℕ) → IfSome workers IsWorkers → StartsIssued work other
+    → ((k t : ℕ) → workers ≡ Some k → running work other t ≤ k) → share_in workers (total_of work) ≤ length_of work other
+share_below None work other known issued within = omega arith
+share_below (Some k) work other known issued within =
+    let plan : IsWorkerPlan Unordered work k other = record {
+      obeys = record { issued = issued; ordered = λ i j h. absurd h };
+      within = λ t. within k t refl;
+    } in
+    share_is_within k (total_of work) (length_of work other) known.from (total_is_within_workers Unordered work k other plan)
+
+-- what follows others is issued no sooner than these let it
+issue_within : (work : Work) (other : ℕ → ℕ) (n release think s : ℕ) (o : Option ℕ)
+    → ((f : ℕ) → o ≡ Some f → finish_by work n f ≤ finish_of work other f)
+    → issue_after release think (option_map (finish_of work other) o) ≤ s → issue_after release think (option_map (finish_by work n) o) ≤ s
+issue_within work other n release think s None below issued = issued
+issue_within work other n release think s (Some f) below issued = omega (arith, below f refl, issued)
+
+-- what a client needs
+finish_within : (work : Work) (other : ℕ → ℕ) → FollowsEarlier work → StartsIssued work other → (n m : ℕ) → IsNumber work m
+    → finish_by work n m ≤ finish_of work other m
+finish_within work other follows issued zero m number =
+    omega (arith, release-le-issue Unordered work other m, issued m number)
+finish_within work other follows issued (suc n) m number =
+    omega (
+      arith,
+      issue_within work other n (work.release m) (work.think m) (other m) (work.follows m)
+          (λ f is.
+          let before = follows f m is in
+          finish_within work other follows issued n f (record { from = before.from; to = omega (arith, before.earlier, before.to) }))
+          (issued m number),
+    )
+
+clients_below : (work : Work) (other : ℕ → ℕ) → FollowsEarlier work → StartsIssued work other
+    → greatest (map (client_finish work) (numbers work)) ≤ length_of work other
+clients_below work other follows issued =
+    greatest_within (client_finish work) 1 work.count (length_of work other)
+    (λ m from below.
+    let number : IsNumber work m = record { from = from; to = omega (arith, below) } in
+    omega (arith, finish_within work other follows issued m m number, finish_of-le-length_of work other m number))
+
+-- the sum of sums
+sum_add : (f g : ℕ → ℕ) (xs : List ℕ) → sum_by (λ x. f x + g x) xs ≡ sum_by f xs + sum_by g xs
+sum_add f g [] = refl
+sum_add f g (x ∷ xs) =
+    omega (arith, sum_add f g xs, sum_by-cons (λ y. f y + g y) x xs, sum_by-cons f x xs, sum_by-cons g x xs)
+
+sum_none : (xs : List ℕ) → 0 ≡ sum_by (λ _. 0) xs
+sum_none [] = refl
+sum_none (x ∷ xs) = omega (arith, sum_none xs, sum_by-cons (λ _. 0) x xs)
+
+-- where at most one of the first n passes, at most one is counted
+none_counted : (p : ℕ → Bool) (n : ℕ) → ((i : ℕ) → 1 ≤ i → i ≤ n → p i ≡ true → ⊥) → count_by p (range_with_len 1 n) ≡ 0
+none_counted p zero none = refl
+none_counted p (suc n) none =
+    let here : cond {A = ℕ} (p (suc n)) 1 0 ≡ 0 = elim (cases_Bool (p (suc n))) [
+      | inl passes ↦ absurd (none (suc n) (omega arith) (omega arith) passes)
+      | inr fails ↦ cond-false (p (suc n)) 1 0 fails
+    ] in
+    let next : n + 1 ≡ suc n = omega arith in
+    let more : count_by p (range_with_len 1 (suc n)) ≡ count_by p (range_with_len 1 n) + cond {A = ℕ} (p (suc n)) 1 0
+    = subst (λ k. count_by p (range_with_len 1 k) ≡ count_by p (range_with_len 1 n) + cond {A = ℕ} (p k) 1 0) next (sum_more (λ x. cond (p x) 1 0) n) in
+    omega (arith, none_counted p n (λ i from to. none i from (omega (arith, to))), here, more)
+
+one_counted : (p : ℕ → Bool) (n : ℕ) → ((i j : ℕ) → 1 ≤ i → i < j → j ≤ n → p i ≡ true → p j ≡ true → ⊥) → count_by p (range_with_len 1 n) ≤ 1
+one_counted p zero apart = omega arith
+one_counted p (suc n) apart =
+    let next : n + 1 ≡ suc n = omega arith in
+    let more : count_by p (range_with_len 1 (suc n)) ≡ count_by p (range_with_len 1 n) + cond {A = ℕ} (p (suc n)) 1 0
+    = subst (λ k. count_by p (range_with_len 1 k) ≡ count_by p (range_with_len 1 n) + cond {A = ℕ} (p k) 1 0) next (sum_more (λ x. cond (p x) 1 0) n) in
+    elim (cases_Bool (p (suc n))) [
+      | inl passes ↦
+          let none = none_counted p n (λ i from to is. apart i (suc n) from (omega (arith, to)) (omega arith) is passes) in
+          let here : cond {A = ℕ} (p (suc n)) 1 0 ≡ 1 = cond-true (p (suc n)) 1 0 passes in
+          omega (arith, none, here, more)
+      | inr fails ↦
+          let old = one_counted p n (λ i j from less to. apart i j from less (omega (arith, to))) in
+          let here : cond {A = ℕ} (p (suc n)) 1 0 ≡ 0 = cond-false (p (suc n)) 1 0 fails in
+          omega (arith, old, here, more)
+    ]
+
+module _ (tree : List Node) (assigned : List ℕ) (work : Work) where
+  abbrev own_part : ℕ → ℕ → ℕ
+  own_part a m = cost_in assigned work a m
+
+  -- the cost of message m, if it runs in affinity a or at most n steps above it
+  abbrev part : ℕ → ℕ → ℕ → ℕ
+  part zero a m = own_part a m
+  part (suc n) a m = own_part a m + of_parent (λ p. part n p m) (parent_of tree a)
+
+  part_here : (a m : ℕ) → affinity_of assigned m ≡ a → own_part a m ≡ work.cost m
+  part_here a m same = cond-true (eqb (affinity_of assigned m) a) (work.cost m) 0 (eq-eqb (affinity_of assigned m) a same)
+
+  part_other : (a m : ℕ) → (affinity_of assigned m ≡ a → ⊥) → own_part a m ≡ 0
+  part_other a m other = cond-false (eqb (affinity_of assigned m) a) (work.cost m) 0 (ne_eqb (affinity_of assigned m) a other)
+
+  above_itself : (a m : ℕ) → affinity_of assigned m ≡ a → AtOrAbove tree (affinity_of assigned m) a
+  above_itself a m same = subst (λ x. AtOrAbove tree (affinity_of assigned m) x) same (reflexive tree (affinity_of assigned m))
+
+  -- the costs in an affinity and above it, message by message
+  parent_cost : (n : ℕ) (o : Option ℕ) → ((p : ℕ) → cost_by tree assigned work n p ≡ sum_by (λ m. part n p m) (numbers work))
+      → of_parent (cost_by tree assigned work n) o ≡ sum_by (λ m. of_parent (λ p. part n p m) o) (numbers work)
+  parent_cost n None each = sum_none (numbers work)
+  parent_cost n (Some p) each = each p
+
+  cost_is : (n a : ℕ) → cost_by tree assigned work n a ≡ sum_by (λ m. part n a m) (numbers work)
+  cost_is zero a = refl
+  cost_is (suc n) a =
+      let above = parent_cost n (parent_of tree a) (λ p. cost_is n p) in
+      let both = sum_add (own_part a) (λ m. of_parent (λ p. part n p m) (parent_of tree a)) (numbers work) in
+      omega (arith, above, both)
+
+  -- a message with a part runs in the affinity or above it
+  parent_above : (n a m : ℕ) (o : Option ℕ) → parent_of tree a ≡ o → ((p : ℕ) → 0 < part n p m → AtOrAbove tree (affinity_of assigned m) p)
+      → 0 < of_parent (λ p. part n p m) o → (p : ℕ) × (parent_of tree a ≡ Some p) × AtOrAbove tree (affinity_of assigned m) p
+  parent_above n a m None is above some = absurd (omega (arith, some))
+  parent_above n a m (Some p) is above some = (p, is, above p some)
+
+  part_above : (n a m : ℕ) → 0 < part n a m → AtOrAbove tree (affinity_of assigned m) a
+  part_above zero a m some = elim (cases_eq (affinity_of assigned m) a) [
+    | inl same ↦ above_itself a m same
+    | inr other ↦ absurd (omega (arith, some, part_other a m other))
+  ]
+  part_above (suc n) a m some = elim (cases_eq (affinity_of assigned m) a) [
+    | inl same ↦ above_itself a m same
+    | inr other ↦
+        let found = parent_above n a m (parent_of tree a) refl (λ p. part_above n p m) (omega (arith, some, part_other a m other)) in
+        above_child tree (affinity_of assigned m) a found.0 found.1 found.2
+  ]
+
+  -- and its part is its cost at most
+  parent_part : (n m : ℕ) (o : Option ℕ) → ((p : ℕ) → part n p m ≤ work.cost m) → of_parent (λ p. part n p m) o ≤ work.cost m
+  parent_part n m None below = omega arith
+  parent_part n m (Some p) below = below p
+
+  part_within : IsTree tree → (n a m : ℕ) → part n a m ≤ work.cost m
+  part_within is zero a m = elim (cases_eq (affinity_of assigned m) a) [
+    | inl same ↦ omega (arith, part_here a m same)
+    | inr other ↦ omega (arith, part_other a m other)
+  ]
+  part_within is (suc n) a m = elim (cases_eq (affinity_of assigned m) a) [
+    | inl same ↦ elim (cases_lt 0 (of_parent (λ p. part n p m) (parent_of tree a))) [
+      | inl some ↦
+          let found = parent_above n a m (parent_of tree a) refl (λ p. part_above n p m) some in
+          let low = earlier tree is.rooted (affinity_of assigned m) found.0 found.2 in
+          let lower = is.rooted.earlier a found.0 found.1 in
+          absurd (omega (arith, low, lower, same))
+      | inr none ↦ omega (arith, none, part_here a m same)
+    ]
+    | inr other ↦ omega (arith, part_other a m other, parent_part n m (parent_of tree a) (λ p. part_within is n p m))
+  ]
+
+  -- the messages in an affinity and above it, as work of its own
+  abbrev path_work : ℕ → ℕ → Work
+  path_work n a = record { count = work.count; cost = λ m. part n a m; release = λ m. 0; follows = λ m. None; think = λ m. 0 }
+
+  -- of them at most one runs at a tick
+  path_running : IsTree tree → length assigned ≡ work.count → (other : ℕ → ℕ) → AreApart (IsOrdered tree assigned) work other → (n a t : ℕ)
+      → running (path_work n a) other t ≤ 1
+  path_running is long other apart n a t =
+      one_counted (runs_at (path_work n a) other t) work.count (λ i j from less to i_runs j_runs.
+      let one = runs_parts (path_work n a) other t i i_runs in
+      let two = runs_parts (path_work n a) other t j j_runs in
+      let i_part = part_within is n a i in
+      let j_part = part_within is n a j in
+      apart i j (record {
+        ordered = record {
+          from = from;
+          earlier = less;
+          to = omega (arith, to, long);
+          excludes = comparable tree (affinity_of assigned i) (affinity_of assigned j) a
+              (part_above n a i (omega (arith, one.0, one.1))) (part_above n a j (omega (arith, two.0, two.1)));
+        };
+        together = (t, runs_from work other t i one.0 (omega (arith, one.1, i_part)), runs_from work other t j two.0 (omega (arith, two.1, j_part)));
+      }))
+
+  path_below : IsTree tree → length assigned ≡ work.count → (other : ℕ → ℕ) → AreApart (IsOrdered tree assigned) work other → (n a : ℕ)
+      → cost_by tree assigned work n a ≤ length_of work other
+  path_below is long other apart n a =
+      let plan : IsWorkerPlan Unordered (path_work n a) 1 other = record {
+        obeys = record { issued = λ m number. omega arith; ordered = λ i j h. absurd h };
+        within = path_running is long other apart n a;
+      } in
+      let total = total_is_within_workers Unordered (path_work n a) 1 other plan in
+      let shorter = length_of-le (path_work n a) other (length_of work other) (λ m number.
+      let known : IsNumber work m = record { from = number.from; to = number.to } in
+      omega (arith, part_within is n a m, finish_of-le-length_of work other m known)) in
+      omega (arith, cost_is n a, total, shorter)
+
+  paths_below : IsTree tree → length assigned ≡ work.count → (other : ℕ → ℕ) → AreApart (IsOrdered tree assigned) work other
+      → greatest (map (path_cost tree assigned work) (range_with_len 0 (length tree))) ≤ length_of work other
+  paths_below is long other apart =
+      greatest_within (path_cost tree assigned work) 0 (length tree) (length_of work other)
+      (λ a from below. path_below is long other apart a a)
+
+pub none_is_below : (workers : Option ℕ) (tree : List Node) (assigned : List ℕ) (work : Work) → NoneIsBelow workers tree assigned work
+none_is_below workers tree assigned work is long known follows start obeys =
+    omega (
+      arith,
+      share_below workers work start known obeys.issued obeys.within,
+      clients_below work start follows obeys.issued,
+      paths_below tree assigned work is long start obeys.apart,
+    )
+
+-- one more number from 0 on
+pub greatest_next : (f : ℕ → ℕ) (a : ℕ) → greatest (map f (range_with_len 0 (a + 1))) ≡ max (greatest (map f (range_with_len 0 a))) (f a)
+greatest_next f a =
+    ap greatest (map-range_with_len_more f 0 a a (omega arith))
+    ∙ max_push greatest (λ x. x) refl (λ _ _. refl) (map f (range_with_len 0 a)) (f a)
+
+same_map : (g h : ℕ → ℕ) (o : Option ℕ) → ((f : ℕ) → o ≡ Some f → g f ≡ h f) → option_map g o ≡ option_map h o
+same_map g h None same = refl
+same_map g h (Some f) same = ap Some (same f refl)
+
+-- what a client needs, one message after another
+module _ (work : Work) (follows : FollowsEarlier work) where
+  alone : (m : ℕ) (o : Option ℕ) → m ≤ 1 → work.follows m ≡ o → o ≡ None
+  alone m None first is = refl
+  alone m (Some f) first is = let before = follows f m is in absurd (omega (arith, first, before.from, before.earlier))
+
+  enough : (n k m : ℕ) → m ≤ n + 1 → m ≤ k + 1 → finish_by work n m ≡ finish_by work k m
+  enough zero zero m few also = refl
+  enough zero (suc k) m few also =
+      sym (ap (λ o. issue_after (work.release m) (work.think m) (option_map (finish_by work k) o) + work.cost m) (alone m (work.follows m) (omega (arith, few)) refl))
+  enough (suc n) zero m few also =
+      ap (λ o. issue_after (work.release m) (work.think m) (option_map (finish_by work n) o) + work.cost m) (alone m (work.follows m) (omega (arith, also)) refl)
+  enough (suc n) (suc k) m few also =
+      ap (λ o. issue_after (work.release m) (work.think m) o + work.cost m)
+      (same_map (finish_by work n) (finish_by work k) (work.follows m)
+      (λ f is. let before = follows f m is in enough n k f (omega (arith, before.earlier, few)) (omega (arith, before.earlier, also))))
+
+  -- by the message that it follows
+  pub client_is : (m : ℕ) → IsNumber work m
+      → client_finish work m ≡ issue_after (work.release m) (work.think m) (option_map (client_finish work) (work.follows m)) + work.cost m
+  client_is zero number = absurd (omega (arith, number.from))
+  client_is (suc k) number =
+      ap (λ o. issue_after (work.release (suc k)) (work.think (suc k)) o + work.cost (suc k))
+      (same_map (finish_by work k) (client_finish work) (work.follows (suc k))
+      (λ f is. let before = follows f (suc k) is in enough k f f (omega (arith, before.earlier)) (omega arith)))
+
+  pub client_alone : (m : ℕ) → IsNumber work m → work.follows m ≡ None → client_finish work m ≡ work.release m + work.cost m
+  client_alone m number none =
+      client_is m number ∙ ap (λ o. issue_after (work.release m) (work.think m) (option_map (client_finish work) o) + work.cost m) none
+
+  pub client_after : (m f : ℕ) → IsNumber work m → work.follows m ≡ Some f
+      → client_finish work m ≡ max (work.release m) (client_finish work f + work.think m) + work.cost m
+  client_after m f number some =
+      client_is m number ∙ ap (λ o. issue_after (work.release m) (work.think m) (option_map (client_finish work) o) + work.cost m) some
+
+-- the costs in an affinity and above it, by those of its parent
+module _ (tree : List Node) (assigned : List ℕ) (work : Work) (rooted : IsRooted tree) where
+  same_parent : (g h : ℕ → ℕ) (o : Option ℕ) → ((p : ℕ) → o ≡ Some p → g p ≡ h p) → of_parent g o ≡ of_parent h o
+  same_parent g h None same = refl
+  same_parent g h (Some p) same = same p refl
+
+  root_alone : (a : ℕ) (o : Option ℕ) → a ≤ 0 → parent_of tree a ≡ o → o ≡ None
+  root_alone a None first is = refl
+  root_alone a (Some p) first is = absurd (omega (arith, rooted.earlier a p is, first))
+
+  steps_enough : (n k a : ℕ) → a ≤ n → a ≤ k → cost_by tree assigned work n a ≡ cost_by tree assigned work k a
+  steps_enough zero zero a few also = refl
+  steps_enough zero (suc k) a few also =
+      let none : of_parent (cost_by tree assigned work k) (parent_of tree a) ≡ 0
+      = ap (of_parent (cost_by tree assigned work k)) (root_alone a (parent_of tree a) few refl) in
+      omega (arith, none)
+  steps_enough (suc n) zero a few also =
+      let none : of_parent (cost_by tree assigned work n) (parent_of tree a) ≡ 0
+      = ap (of_parent (cost_by tree assigned work n)) (root_alone a (parent_of tree a) also refl) in
+      omega (arith, none)
+  steps_enough (suc n) (suc k) a few also =
+      ap (λ above. own_cost assigned work a + above)
+      (same_parent (cost_by tree assigned work n) (cost_by tree assigned work k) (parent_of tree a)
+      (λ p is. let lower = rooted.earlier a p is in steps_enough n k p (omega (arith, lower, few)) (omega (arith, lower, also))))
+
+  pub path_is : (a : ℕ) → path_cost tree assigned work a ≡ own_cost assigned work a + of_parent (path_cost tree assigned work) (parent_of tree a)
+  path_is zero =
+      let none : of_parent (path_cost tree assigned work) (parent_of tree 0) ≡ 0 = ap (of_parent (path_cost tree assigned work)) rooted.root in
+      omega (arith, none)
+  path_is (suc k) =
+      ap (λ above. own_cost assigned work (suc k) + above)
+      (same_parent (cost_by tree assigned work k) (path_cost tree assigned work) (parent_of tree (suc k))
+      (λ p is. let lower = rooted.earlier (suc k) p is in steps_enough k p p (omega (arith, lower)) (omega arith)))
+
+-- neither is longer than all the work
+pub path_within : (tree : List Node) (assigned : List ℕ) (work : Work) → IsTree tree → (a : ℕ) → path_cost tree assigned work a ≤ total_of work
+path_within tree assigned work is a =
+    let parts = sum_by-numbers-le work (λ m. part tree assigned work a a m) work.cost (λ m number. part_within tree assigned work is a a m) in
+    omega (arith, cost_is tree assigned work a a, parts)
+
+-- a cost in an affinity, or none
+pub cost_in_here : (assigned : List ℕ) (work : Work) (a m : ℕ) → affinity_of assigned m ≡ a → cost_in assigned work a m ≡ work.cost m
+cost_in_here assigned work a m same = cond-true (eqb (affinity_of assigned m) a) (work.cost m) 0 (eq-eqb (affinity_of assigned m) a same)
+
+pub cost_in_other : (assigned : List ℕ) (work : Work) (a m : ℕ) → (affinity_of assigned m ≡ a → ⊥) → cost_in assigned work a m ≡ 0
+cost_in_other assigned work a m other = cond-false (eqb (affinity_of assigned m) a) (work.cost m) 0 (ne_eqb (affinity_of assigned m) a other)
+
+-- what a client needs is small
+pub finish_small : (work : Work) → FollowsEarlier work → ((m : ℕ) → IsNumber work m → (work.release m ≤ 2 ^ 30) × (work.think m ≤ 2 ^ 24) × (work.cost m ≤ 2 ^ 24))
+    → (n m : ℕ) → IsNumber work m → finish_by work n m ≤ 2 ^ 30 + m * 2 ^ 25
+finish_small work follows limits zero m number = let limit = limits m number in omega (arith, limit.0, limit.2, number.from)
+finish_small work follows limits (suc n) m number = by (work.follows m) refl (λ f known. finish_small work follows limits n f known)
+  where
+    by : (o : Option ℕ) → work.follows m ≡ o → ((f : ℕ) → IsNumber work f → finish_by work n f ≤ 2 ^ 30 + f * 2 ^ 25)
+        → issue_after (work.release m) (work.think m) (option_map (finish_by work n) o) + work.cost m ≤ 2 ^ 30 + m * 2 ^ 25
+    by None is small = let limit = limits m number in omega (arith, limit.0, limit.2, number.from)
+    by (Some f) is small =
+        let limit = limits m number in
+        let before = follows f m is in
+        let known : IsNumber work f = record { from = before.from; to = omega (arith, before.earlier, before.to) } in
+        omega (arith, limit.0, limit.1, limit.2, small f known, before.earlier)
+
+-- one more sum in its place, and one fewer of those that wait
+pub done_more : (f : ℕ → ℕ) (costs : List ℕ) (a cost : ℕ) → a < length costs → cost ≡ f a → ((p : ℕ) → p < a → get_or costs p 0 ≡ f p)
+    → (p : ℕ) → p < a + 1 → get_or (set costs a cost) p 0 ≡ f p
+done_more f costs a cost within is done p lt = elim (cases_eq p a) [
+  | inl same ↦ ap (λ x. get_or (set costs a cost) x 0) same ∙ get_or-set_same costs a cost 0 within ∙ is ∙ ap f (sym same)
+  | inr other ↦ get_or-set_other costs a p cost 0 other ∙ done p (omega (arith, lt, other))
+]
+
+pub rest_fewer : (g : ℕ → ℕ) (costs : List ℕ) (a cost n : ℕ) → ((p : ℕ) → a ≤ p → p < n → get_or costs p 0 ≡ g p)
+    → (p : ℕ) → a + 1 ≤ p → p < n → get_or (set costs a cost) p 0 ≡ g p
+rest_fewer g costs a cost n rest p from to =
+    get_or-set_other costs a p cost 0 (λ same. omega (arith, same, from)) ∙ rest p (omega (arith, from)) to
+
+-- the cost of one more message
+pub own_more : (assigned : List ℕ) (work : Work) (n a now : ℕ) (costs : List ℕ) → 1 ≤ n → affinity_of assigned n ≡ a → a < length costs
+    → ((b : ℕ) → b < length costs → get_or costs b 0 ≡ sum_by (cost_in assigned work b) (range_with_len 1 (n - 1)))
+    → now ≡ get_or costs a 0 + work.cost n
+    → (b : ℕ) → b < length costs → get_or (set costs a now) b 0 ≡ sum_by (cost_in assigned work b) (range_with_len 1 (n + 1 - 1))
+own_more assigned work n a now costs from here within so_far is b there =
+    let this : n - 1 + 1 ≡ n = omega (arith, from) in
+    let next : n - 1 + 1 ≡ n + 1 - 1 = omega (arith, from) in
+    let more = sum_more (cost_in assigned work b) (n - 1) in
+    let last : cost_in assigned work b (n - 1 + 1) ≡ cost_in assigned work b n = ap (cost_in assigned work b) this in
+    let whole : sum_by (cost_in assigned work b) (range_with_len 1 (n + 1 - 1)) ≡ sum_by (cost_in assigned work b) (range_with_len 1 (n - 1)) + cost_in assigned work b n
+    = ap (λ k. sum_by (cost_in assigned work b) (range_with_len 1 k)) (sym next) ∙ more ∙ ap (λ x. sum_by (cost_in assigned work b) (range_with_len 1 (n - 1)) + x) last in
+    elim (cases_eq b a) [
+      | inl same ↦
+          let put : get_or (set costs a now) b 0 ≡ now = ap (λ x. get_or (set costs a now) x 0) same ∙ get_or-set_same costs a now 0 within in
+          let old : get_or costs a 0 ≡ sum_by (cost_in assigned work b) (range_with_len 1 (n - 1)) = ap (λ x. get_or costs x 0) (sym same) ∙ so_far b there in
+          omega (arith, put, is, old, whole, cost_in_here assigned work b n (here ∙ sym same))
+      | inr other ↦
+          let kept : get_or (set costs a now) b 0 ≡ get_or costs b 0 = get_or-set_other costs a b now 0 other in
+          omega (arith, kept, so_far b there, whole, cost_in_other assigned work b n (λ same. other (sym same ∙ here)))
+    ]
+
+-- and is small
+pub small_more : (costs : List ℕ) (n a now cost : ℕ) → 1 ≤ n → a < length costs → ((b : ℕ) → b < length costs → get_or costs b 0 ≤ 2 ^ 32 * (n - 1))
+    → now ≡ get_or costs a 0 + cost → cost < 2 ^ 32 → (b : ℕ) → b < length costs → get_or (set costs a now) b 0 ≤ 2 ^ 32 * (n + 1 - 1)
+small_more costs n a now cost from within so_far is small b there = elim (cases_eq b a) [
+  | inl same ↦
+      let put : get_or (set costs a now) b 0 ≡ now = ap (λ x. get_or (set costs a now) x 0) same ∙ get_or-set_same costs a now 0 within in
+      omega (arith, put, is, so_far a within, small, from)
+  | inr other ↦ omega (arith, get_or-set_other costs a b now 0 other, so_far b there, from)
+]
+
+-- the timings of messages are small
+pub timing_limits : (timings : List Timing) → All IsTiming timings → (m : ℕ) → IsNumber (work_of timings) m
+    → ((work_of timings).release m ≤ 2 ^ 30) × ((work_of timings).think m ≤ 2 ^ 24) × ((work_of timings).cost m ≤ 2 ^ 24)
+timing_limits timings small m number =
+    let timing = small (m - 1) no_timing (omega (arith, number.from, number.to)) in
+    (omega (arith, timing.release), omega (arith, timing.think), omega (arith, timing.cost))
+
+-- the finishes of the first messages
+module _ (work : Work) (finishes : List ℕ) (are : finishes ≡ map (client_finish work) (range_with_len 1 (length finishes))) (few : length finishes ≤ work.count) where
+  pub finish_at : (i : ℕ) → i < length finishes → get_or finishes i 0 ≡ client_finish work (i + 1)
+  finish_at i within =
+      ap (λ xs. get_or xs i 0) are ∙ get_or-map-range_with_len (client_finish work) 1 (length finishes) i (i + 1) 0 within (omega arith)
+
+  pub each_small : FollowsEarlier work → ((m : ℕ) → IsNumber work m → (work.release m ≤ 2 ^ 30) × (work.think m ≤ 2 ^ 24) × (work.cost m ≤ 2 ^ 24))
+      → (i : ℕ) → get_or finishes i 0 ≤ 2 ^ 30 + length finishes * 2 ^ 25
+  each_small follows limits i = elim (cases_lt i (length finishes)) [
+    | inl within ↦
+        let number : IsNumber work (i + 1) = record { from = omega arith; to = omega (arith, within, few) } in
+        omega (arith, finish_at i within, finish_small work follows limits (i + 1) (i + 1) number, within)
+    | inr past ↦ omega (arith, get_or_past finishes i 0 past)
+  ]
+
+-- one more finish
+pub finishes_more : (work : Work) (n finish : ℕ) (old new : List ℕ) → 1 ≤ n → old ≡ map (client_finish work) (range_with_len 1 (n - 1)) → finish ≡ client_finish work n
+    → new ≡ old ++ finish ∷ [] → new ≡ map (client_finish work) (range_with_len 1 (n + 1 - 1))
+finishes_more work n finish old new from so_far is more =
+    let next : n + 1 - 1 ≡ n - 1 + 1 = omega (arith, from) in
+    rw (more, is, so_far, next) (sym (map-range_with_len_more (client_finish work) 1 (n - 1) n (omega (arith, from))))
+
+pub finishes_count : (work : Work) (n : ℕ) (finishes : List ℕ) → finishes ≡ map (client_finish work) (range_with_len 1 (n - 1)) → length finishes ≡ n - 1
+finishes_count work n finishes are = ap length are ∙ length-map-range_with_len (client_finish work) 1 (n - 1)
+
+pub longest_more : (work : Work) (n longest finish : ℕ) → 1 ≤ n → longest ≡ greatest (map (client_finish work) (range_with_len 1 (n - 1))) → finish ≡ client_finish work n
+    → max finish longest ≡ greatest (map (client_finish work) (range_with_len 1 (n + 1 - 1)))
+longest_more work n longest finish from so_far is =
+    let next : n - 1 + 1 ≡ n + 1 - 1 = omega (arith, from) in
+    let this : client_finish work (n - 1 + 1) ≡ client_finish work n = ap (client_finish work) (let same : n - 1 + 1 ≡ n = omega (arith, from) in same) in
+    let more : greatest (map (client_finish work) (range_with_len 1 (n + 1 - 1))) ≡ max (greatest (map (client_finish work) (range_with_len 1 (n - 1)))) (client_finish work (n - 1 + 1))
+    = ap (λ k. greatest (map (client_finish work) (range_with_len 1 k))) (sym next) ∙ greatest_more (client_finish work) (n - 1) in
+    omega (arith, more, this, so_far, is)

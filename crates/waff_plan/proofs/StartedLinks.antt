@@ -1,0 +1,101 @@
+-- The links of a plan in the order of starts, one message after another.
+use Rattle.std.proofs.Common.{◌≡◌, ℕ, ◌+◌, ◌-◌, ◌<◌, ◌≤◌, List, length, get_or, set, take, Contains, Option, None, arith, sym, ◌∙◌, ap, subst, inl, inr}
+use Rattle.std.proofs.lemmas.Bool.{cases_lt, cases_eq}
+use Rattle.std.proofs.lemmas.List.{get_or-map, get_or-set_other, get_or-set_same, get_or-take, get_or_default, length-map, length-take}
+use Rattle.waff_model.specs.Tree.{Node, Excludes}
+use Rattle.waff_assign.specs.Order.{Relation, affinity_of}
+use Rattle.waff_plan.specs.ByStart.{AreByStart, started_at, started_of}
+use Rattle.waff_plan.specs.Issues.{IsServedBefore}
+use Rattle.waff_plan.specs.Links.{AreLinks, IsLink}
+use Rattle.waff_plan.specs.Obeys.{EachRuns, Obeys}
+use Rattle.waff_plan.specs.Serving.{IsStartedBefore}
+use Rattle.waff_plan.specs.Work.{Work, IsAmongFirst, IsNumber}
+use Rattle.waff_plan.specs.declared.apart.Started.{Started}
+use Rattle.waff_plan.proofs.ApartLaws.{noted_earlier, noted_number, noted_other, number_here, numbers_to}
+use Rattle.waff_plan.proofs.StartOrder.{apart_finish, served_apart}
+
+-- the links of the messages at the first places
+abbrev pub AreFirstLinks : Relation → Work → (ℕ → ℕ) → List Started → List (Option ℕ) → ℕ → Type 0
+AreFirstLinks before work start started links p =
+    (q : ℕ) → q < p → IsLink before work start (started_at started q).number (get_or links ((started_at started q).number - 1) None)
+
+module _ (work : Work) (start : ℕ → ℕ) (started : List Started) (are : AreByStart work start started) where
+  abbrev nobody : Started
+  nobody = record { start = 0; number = 0 }
+
+  -- a message at one of the first places
+  first_there : (p q : ℕ) → q < p → p ≤ length started → Contains (numbers_to started p) (started_at started q).number
+  first_there p q less within =
+      let number = λ (m : Started). m.number in
+      let short : q < length (take p started) = omega (arith, less, within, length-take p started) in (
+        q,
+        omega (arith, short, length-map (take p started) number),
+        get_or-map number (take p started) q nobody (started_at started q).number short ∙ ap number (get_or-take p started q nobody less),
+      )
+
+  place_of_number : (m : ℕ) → IsNumber work m → (p : ℕ) × (p < length started) × ((started_at started p).number ≡ m)
+  place_of_number m number =
+      let there = are.each m number in
+      (there.0, there.1, ap (λ (x : Started). x.number) (get_or_default started there.0 nobody (started_of start m) there.1 ∙ there.2))
+
+  -- a message at a place starts no later than one at a later place
+  starts_sooner : (p q : ℕ) → q ≤ p → p < length started → start (started_at started q).number ≤ start (started_at started p).number
+  starts_sooner p q less within =
+      let one = (are.only p nobody within).start_is in
+      let other = (are.only q nobody (omega (arith, less, within))).start_is in
+      omega (arith, are.rising q p less within, one, other)
+
+  module _ (tree : List Node) (assigned : List ℕ) (same : length assigned ≡ work.count) (runs : EachRuns work)
+      (obeys : Obeys (IsServedBefore tree assigned work start) work start) (p : ℕ) (within : p < length started) where
+    abbrev here : ℕ
+    here = (started_at started p).number
+
+    -- the messages before it that exclude it start before it
+    pub noted_starts : (i : ℕ) → Contains (numbers_to started p) i × Excludes tree (affinity_of assigned i) (affinity_of assigned here)
+        → IsStartedBefore tree assigned start i here
+    noted_starts i both =
+        let first = noted_number work start started are p i both.0 in
+        let second = number_here work start started are p within in
+        let one : IsAmongFirst (length assigned) i = record { from = first.from; to = omega (arith, first.to, same) } in
+        let two : IsAmongFirst (length assigned) here = record { from = second.from; to = omega (arith, second.to, same) } in
+        let done = apart_finish tree assigned work same runs start (served_apart tree assigned work same runs start obeys) i here
+        (noted_other work start started are p i within both.0) one two both.1 (noted_earlier work start started are p i within both.0) in
+        record { first = one; second = two; started = omega (arith, done, runs i first); excludes = both.1 }
+
+    pub starts_noted : (i : ℕ) → IsStartedBefore tree assigned start i here
+        → Contains (numbers_to started p) i × Excludes tree (affinity_of assigned i) (affinity_of assigned here)
+    starts_noted i before =
+        let place = place_of_number i (record { from = before.first.from; to = omega (arith, before.first.to, same) }) in
+        elim (cases_lt place.0 p) [
+          | inl less ↦ (subst (Contains (numbers_to started p)) place.2 (first_there p place.0 less (omega (arith, within))), before.excludes)
+          | inr more ↦
+              let later : start here ≤ start i = subst (λ n. start here ≤ start n) place.2 (starts_sooner place.0 p more place.1) in
+              absurd (omega (arith, later, before.started))
+        ]
+
+  -- one more link
+  pub more_links : (before : Relation) (links : List (Option ℕ)) (p : ℕ) (link : Option ℕ) → p < length started → length links ≡ work.count
+      → AreFirstLinks before work start started links p → IsLink before work start (started_at started p).number link
+      → AreFirstLinks before work start started (set links ((started_at started p).number - 1) link) (p + 1)
+  more_links before links p link within count are_links is q less = elim (cases_eq q p) [
+    | inl same ↦
+        let number = number_here work start started are p within in
+        let read : get_or (set links ((started_at started p).number - 1) link) ((started_at started p).number - 1) None ≡ link
+        = get_or-set_same links ((started_at started p).number - 1) link None (omega (arith, number.from, number.to, count)) in
+        subst (λ k. IsLink before work start (started_at started k).number (get_or (set links ((started_at started p).number - 1) link) ((started_at started k).number - 1) None))
+        (sym same) (subst (IsLink before work start (started_at started p).number) (sym read) is)
+    | inr there ↦
+        let sooner : q < p = omega (arith, less, there) in
+        let number = number_here work start started are p within in
+        let other_number = number_here work start started are q (omega (arith, sooner, within)) in
+        let apart = are.once q p sooner within in
+        let read = get_or-set_other links ((started_at started p).number - 1) ((started_at started q).number - 1) link None
+        (λ one. apart (omega (arith, one, number.from, other_number.from))) in
+        subst (IsLink before work start (started_at started q).number) (sym read) (are_links q sooner)
+  ]
+
+  pub all_links : (before : Relation) (links : List (Option ℕ)) (p : ℕ) → length started ≤ p → AreFirstLinks before work start started links p
+      → AreLinks before work start work.count links
+  all_links before links p all are_links m from to =
+      let place = place_of_number m (record { from = from; to = to }) in
+      subst (λ k. IsLink before work start k (get_or links (k - 1) None)) place.2 (are_links place.0 (omega (arith, place.1, all)))

@@ -1,0 +1,229 @@
+-- The timings of the messages of a trace: what messages follow by their clients, and their limits.
+use Rattle.std.proofs.Common.{◌≡◌, ◌≢◌, ℕ, zero, suc, ◌-◌, ◌<◌, ◌≤◌, ◌⊎◌, inl, inr, max, true, false, List, length, Some, None, arith, refl, sym, ◌∙◌, ap, subst}
+use Rattle.std.specs.Str.{bytes_eq}
+use Rattle.std.proofs.Math.ListN.{get_or-map as read}
+use Rattle.std.proofs.lemmas.Bool.{cases_eq, cases_lt, cond_both, cond-false, cond-true, both_ways, false_from_ne_true}
+use Rattle.std.proofs.lemmas.List.{get_or_past, length-map}
+use Rattle.std.proofs.lemmas.List.FromFn.{get_or-map-range_with_len, length-map-range_with_len}
+use Rattle.std.proofs.lemmas.Option.{none-some}
+use Rattle.std.proofs.lemmas.Slice.Eq.{bytes_eq-Decides}
+use Rattle.waff_model.specs.Messages.{Arrivals, IsMessage, IsTrace, no_client}
+use Rattle.waff_model.specs.declared.limits.TheConstants.{MAX_RELEASE, MAX_THINK}
+use Rattle.waff_model.specs.declared.message.Message.{Message}
+use Rattle.waff_plan.specs.Work.{IsAmongFirst}
+use Rattle.waff_plan.specs.Obeys.{FollowsNone}
+use Rattle.waff_plan.specs.Clients.{client_of, last_of, one_before, IsTheOneBefore, FollowsClients}
+use Rattle.waff_plan.specs.Timing.{IsTiming, no_timing, some_number, timing_of, work_of}
+use Rattle.waff_plan.specs.Timetable.{AreTimings, clients_of, floor_of, message_of, no_message, timing_after, timing_at, timings_of}
+use Rattle.waff_plan.specs.declared.timing.Timing.{Timing}
+use Rattle.waff_plan.proofs.ClientLemmas.{client_follows_earlier, client_follows_once}
+use Rattle.waff_plan.proofs.FollowLemmas.{followed_some, some_number_is}
+
+-- the bytes are the same, or not
+same_bytes : (xs ys : List ℕ) → xs ≡ ys → bytes_eq xs ys ≡ true
+same_bytes xs ys same = (bytes_eq-Decides xs ys).1 same
+
+other_bytes : (xs ys : List ℕ) → xs ≢ ys → bytes_eq xs ys ≡ false
+other_bytes xs ys other = false_from_ne_true (bytes_eq xs ys) (λ is. other ((bytes_eq-Decides xs ys).0 is))
+
+are_other : (xs ys : List ℕ) → bytes_eq xs ys ≡ false → xs ≢ ys
+are_other xs ys differ same = both_ways (bytes_eq xs ys) differ (same_bytes xs ys same)
+
+-- i is the last of the first n messages that is of this client, or 0 and none is
+pub record IsLast (clients : List (List ℕ)) (client : List ℕ) (n i : ℕ) : Type 0 where
+  pub some : i ≢ 0 → IsAmongFirst n i × (client_of clients i ≡ client)
+  pub none : (k : ℕ) → i < k → k ≤ n → client_of clients k ≢ client
+
+pub last_of_is : (clients : List (List ℕ)) (client : List ℕ) (n : ℕ) → IsLast clients client n (last_of clients client n)
+last_of_is clients client zero = record {
+  some = λ some. absurd (some refl);
+  none = λ k after to. absurd (omega (arith, after, to));
+}
+last_of_is clients client (suc n) =
+    let before = last_of_is clients client n in
+    cond_both (bytes_eq (client_of clients (suc n)) client) (suc n) (last_of clients client n) (λ i. IsLast clients client (suc n) i)
+    (λ same. record {
+      some = λ some. (record { from = omega arith; to = omega arith }, (bytes_eq-Decides (client_of clients (suc n)) client).0 same);
+      none = λ k after to. absurd (omega (arith, after, to));
+    })
+    (λ other. record {
+      some = λ some. let found = before.some some in (record { from = found.0.from; to = omega (arith, found.0.to) }, found.1);
+      none = λ k after to. elim (cases_eq k (suc n)) [
+        | inl here ↦ λ same. are_other (client_of clients (suc n)) client other (ap (client_of clients) (sym here) ∙ same)
+        | inr earlier ↦ before.none k after (omega (arith, to, earlier))
+      ];
+    })
+
+-- there is one last message of a client
+pub last_is_one : (clients : List (List ℕ)) (client : List ℕ) (n i j : ℕ) → IsLast clients client n i → IsLast clients client n j → i ≡ j
+last_is_one clients client n i j one other = elim (cases_eq i j) [
+  | inl same ↦ same
+  | inr different ↦ elim (cases_lt i j) [
+    | inl less ↦ let found = other.some (omega (arith, less)) in absurd (one.none j less found.0.to found.1)
+    | inr more ↦
+        let less : j < i = omega (arith, more, different) in
+        let found = one.some (omega (arith, less)) in
+        absurd (other.none i less found.0.to found.1)
+  ]
+]
+
+-- the message before another of its client
+module _ (clients : List (List ℕ)) (i m : ℕ) (from : 1 ≤ m) (to : m ≤ length clients) where
+  client : List ℕ
+  client = client_of clients m
+
+  pub before_is : some_number (one_before clients m) ≡ Some i → IsTheOneBefore clients i m
+  before_is follow =
+      let is : one_before clients m ≡ i = some_number_is (one_before clients m) i follow in
+      let positive : i ≢ 0 = λ zero. none-some i (ap some_number (sym (is ∙ zero)) ∙ follow) in
+      cond_both (bytes_eq (client_of clients m) no_client) 0 (last_of clients (client_of clients m) (m - 1)) (λ x. x ≡ i → IsTheOneBefore clients i m)
+      (λ none zero. absurd (positive (sym zero)))
+      (λ some last.
+      let found = last_of_is clients (client_of clients m) (m - 1) in
+      let is_last : IsLast clients (client_of clients m) (m - 1) i = subst (λ x. IsLast clients (client_of clients m) (m - 1) x) last found in
+      let at = is_last.some positive in
+      record {
+        from = at.0.from;
+        earlier = omega (arith, at.0.to, from);
+        to = to;
+        some = are_other (client_of clients m) no_client some;
+        same = at.1;
+        last = λ n after before. is_last.none n after (omega (arith, before));
+      }) is
+
+  pub is_before : IsTheOneBefore clients i m → some_number (one_before clients m) ≡ Some i
+  is_before before =
+      let last : IsLast clients (client_of clients m) (m - 1) i = record {
+        some = λ some. (record { from = before.from; to = omega (arith, before.earlier) }, before.same);
+        none = λ k after within. before.last k after (omega (arith, within, from));
+      } in
+      let is : one_before clients m ≡ i
+      = cond-false (bytes_eq (client_of clients m) no_client) 0 (last_of clients (client_of clients m) (m - 1)) (other_bytes (client_of clients m) no_client before.some)
+      ∙ last_is_one clients (client_of clients m) (m - 1) (last_of clients (client_of clients m) (m - 1)) i (last_of_is clients (client_of clients m) (m - 1)) last in
+      ap some_number is ∙ followed_some i (omega (arith, before.from))
+
+-- the first message follows none
+first_alone : (clients : List (List ℕ)) → one_before clients 1 ≡ 0
+first_alone clients = cond_both (bytes_eq (client_of clients 1) no_client) 0 0 (λ x. x ≡ 0) (λ _. refl) (λ _. refl)
+
+-- a message that is of no client follows none
+pub none_before : (clients : List (List ℕ)) (m : ℕ) → client_of clients m ≡ no_client → one_before clients m ≡ 0
+none_before clients m none =
+    cond-true (bytes_eq (client_of clients m) no_client) 0 (last_of clients (client_of clients m) (m - 1)) (same_bytes (client_of clients m) no_client none)
+
+-- each message has a timing
+pub length-timings_of : (messages : List Message) → length (timings_of messages) ≡ length messages
+length-timings_of messages = length-map-range_with_len (timing_at messages) 1 (length messages)
+
+pub timing_is : (messages : List Message) (m : ℕ) → IsAmongFirst (length messages) m → timing_of (timings_of messages) m ≡ timing_at messages m
+timing_is messages m number =
+    get_or-map-range_with_len (timing_at messages) 1 (length messages) (m - 1) m no_timing (omega (arith, number.from, number.to)) (omega (arith, number.from))
+
+-- the client of a message
+pub client_is : (messages : List Message) (m : ℕ) → client_of (clients_of messages) m ≡ (message_of messages m).client
+client_is messages m = read (λ (x : Message). x.client) messages (m - 1) no_message
+
+-- what is no message follows none
+none_there : (messages : List Message) (m : ℕ) → (IsAmongFirst (length messages) m → ⊥) → some_number (timing_of (timings_of messages) m).follows ≡ None
+none_there messages zero not_there = elim (cases_lt 0 (length messages)) [
+  | inl some ↦
+      ap (λ (t : Timing). some_number t.follows) (timing_is messages 1 (record { from = omega arith; to = omega (arith, some) }))
+      ∙ ap some_number (first_alone (clients_of messages))
+  | inr none ↦
+      ap (λ (t : Timing). some_number t.follows) (get_or_past (timings_of messages) 0 no_timing (omega (arith, none, length-timings_of messages)))
+]
+none_there messages (suc m) not_there = elim (cases_lt m (length messages)) [
+  | inl within ↦ absurd (not_there (record { from = omega arith; to = omega (arith, within) }))
+  | inr past ↦
+      ap (λ (t : Timing). some_number t.follows) (get_or_past (timings_of messages) (suc m - 1) no_timing (omega (arith, past, length-timings_of messages)))
+]
+
+-- m is a message, or it is none
+among_or_not : (n m : ℕ) → IsAmongFirst n m ⊎ (IsAmongFirst n m → ⊥)
+among_or_not n m = elim (cases_lt 0 m) [
+  | inl from ↦ elim (cases_lt n m) [
+    | inl past ↦ inr (λ among. omega (arith, among.to, past))
+    | inr to ↦ inl (record { from = omega (arith, from); to = to })
+  ]
+  | inr none ↦ inr (λ among. omega (arith, among.from, none))
+]
+
+-- each message follows the one before it of its client
+pub timings_follow_clients : (messages : List Message) → FollowsClients (clients_of messages) (work_of (timings_of messages))
+timings_follow_clients messages = record {
+  count = length-timings_of messages ∙ sym long;
+  follows = λ i m. (
+    λ follow. elim (among_or_not (length messages) m) [
+      | inl number ↦
+          before_is (clients_of messages) i m number.from (omega (arith, number.to, long))
+          (sym (ap (λ (t : Timing). some_number t.follows) (timing_is messages m number)) ∙ follow)
+      | inr not_there ↦ absurd (none-some i (sym (none_there messages m not_there) ∙ follow))
+    ],
+    λ before.
+        let from : 1 ≤ m = omega (arith, before.from, before.earlier) in
+        let number : IsAmongFirst (length messages) m = record { from = from; to = omega (arith, before.to, long) } in
+        ap (λ (t : Timing). some_number t.follows) (timing_is messages m number) ∙ is_before (clients_of messages) i m from before.to before,
+  );
+}
+  where
+    long : length (clients_of messages) ≡ length messages
+    long = length-map messages (λ (x : Message). x.client)
+
+-- messages of no client follow none
+pub timings_alone : (messages : List Message) → ((m : ℕ) → IsAmongFirst (length messages) m → (message_of messages m).client ≡ no_client)
+    → FollowsNone (work_of (timings_of messages))
+timings_alone messages alone m = elim (among_or_not (length messages) m) [
+  | inl number ↦
+      ap (λ (t : Timing). some_number t.follows) (timing_is messages m number)
+      ∙ ap some_number (none_before (clients_of messages) m (client_is messages m ∙ alone m number))
+  | inr not_there ↦ none_there messages m not_there
+]
+
+max_none : (n : ℕ) → max n 0 ≡ n
+max_none n = omega arith
+
+-- the timing of a message of no client that waits for no think time
+pub timing_alone : (messages : List Message) (n : ℕ) (message : Message) → message_of messages n ≡ message → message.client ≡ no_client → message.think ≡ 0
+    → timing_at messages n ≡ record { cost = message.cost; release = message.release; follows = 0; think = 0 }
+timing_alone messages n message is none no_think =
+    let alone : one_before (clients_of messages) n ≡ 0
+    = none_before (clients_of messages) n (client_is messages n ∙ ap (λ (x : Message). x.client) is ∙ none) in
+    let of : Message → Timing = λ x. timing_after x 0 in
+    let with : ℕ → ℕ → Timing = λ think release. record { cost = message.cost; release = release; follows = 0; think = think } in
+    ap (timing_after (message_of messages n)) alone ∙ ap of is ∙ ap (λ t. with t (max message.release t)) no_think ∙ ap (with 0) (max_none message.release)
+
+-- without clients and thinks each message has its own release
+pub floor_alone : (messages : List Message) (m : ℕ) → IsAmongFirst (length messages) m → (message_of messages m).client ≡ no_client
+    → (message_of messages m).think ≡ 0 → (work_of (timings_of messages)).release m ≡ (message_of messages m).release
+floor_alone messages m number none no_think =
+    ap (λ (t : Timing). t.release) (timing_is messages m number ∙ timing_alone messages m (message_of messages m) refl none no_think)
+
+floor_small : (message : Message) (f : ℕ) → message.release ≤ MAX_RELEASE → message.think ≤ MAX_THINK → floor_of message f ≤ MAX_RELEASE
+floor_small message zero release think = omega (arith, release, think)
+floor_small message (suc f) release think = release
+
+module _ (trace : Arrivals) (is_trace : IsTrace trace) where
+  pub message_at : (m : ℕ) → IsAmongFirst (length trace.messages) m → IsMessage trace.version trace.sizes (message_of trace.messages m)
+  message_at m number = is_trace.messages (m - 1) no_message (omega (arith, number.from, number.to))
+
+  timing_small : (m : ℕ) → IsAmongFirst (length trace.messages) m → IsTiming (timing_at trace.messages m)
+  timing_small m number =
+      let message = message_at m number in
+      record {
+        some_cost = message.some_cost;
+        cost = message.within_cost;
+        release = floor_small (message_of trace.messages m) (one_before (clients_of trace.messages) m) message.within_release message.within_think;
+        think = message.within_think;
+      }
+
+  -- the timings of a trace are timings of its version
+  pub are_timings : AreTimings trace.version (timings_of trace.messages)
+  are_timings = record {
+    small = λ k d within.
+        let short : k < length trace.messages = omega (arith, within, length-timings_of trace.messages) in
+        subst IsTiming (sym (get_or-map-range_with_len (timing_at trace.messages) 1 (length trace.messages) k (suc k) d short (omega arith)))
+        (timing_small (suc k) (record { from = omega arith; to = omega (arith, short) }));
+    earlier = client_follows_earlier (clients_of trace.messages) (work_of (timings_of trace.messages)) (timings_follow_clients trace.messages);
+    once = client_follows_once (clients_of trace.messages) (work_of (timings_of trace.messages)) (timings_follow_clients trace.messages);
+    alone = λ early. timings_alone trace.messages (λ m number. (message_at m number).no_client early);
+  }

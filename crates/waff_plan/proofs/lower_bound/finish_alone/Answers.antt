@@ -1,0 +1,60 @@
+-- The finish of a message by that of the one that it follows.
+use Rattle.std.proofs.Common.{◌≡◌, ◌≢◌, ◌+◌, ◌-◌, ◌<◌, ◌≤◌, length, get_or, Some, None, arith, sym, ◌∙◌, ap}
+use Rattle.waff_plan.specs.LowerBound.{client_finish}
+use Rattle.waff_plan.specs.Timing.{some_number}
+use Rattle.waff_plan.specs.Timetable.{work_in}
+use Rattle.waff_plan.proofs.FollowLemmas.{followed_some}
+use Rattle.waff_plan.proofs.LowerBounds.{client_after, client_alone, each_small, finish_at, timing_limits}
+use Rattle.waff_plan.proofs.lower_bound.finish_alone.Goals as goal
+use Rattle.waff_plan.proofs.lower_bound.finish_alone.Goals.{then-before-eq0, else-before-eq0}
+
+pub overflow_add-finishes : goal.overflow_add-finishes
+overflow_add-finishes c =
+    let work = work_in c.args.plan.now in
+    let timings = c.len-messages.ensures.table.timings in
+    let limits = timing_limits c.args.plan.now.timings timings.small in
+    let small = each_small work c.args.finishes.now c.requires.finishes (omega (arith, c.requires.before, c.requires.number.to)) timings.earlier limits (c.follows-before.result - 1) in
+    omega (arith, small, c.think.ensures.small, c.requires.before, c.requires.number.to, c.len-messages.ensures.table.few)
+
+pub overflow_add-result : goal.overflow_add-result
+overflow_add-result c =
+    let work = work_in c.args.plan.now in
+    let timings = c.len-messages.ensures.table.timings in
+    let limits = timing_limits c.args.plan.now.timings timings.small in
+    let small = each_small work c.args.finishes.now c.requires.finishes (omega (arith, c.requires.before, c.requires.number.to)) timings.earlier limits (c.follows-before.result - 1) in
+    elim c.if-before-eq0.branch [
+      | then-before-eq0 w ↦ omega (arith, w.issue-is, w.release-issue.ensures.small, c.cost.ensures.small)
+      | else-before-eq0 w ↦
+          omega (
+            arith,
+            w.issue-is,
+            w.max-issue.ensures,
+            w.release.ensures.small,
+            w.think.ensures.small,
+            small,
+            c.cost.ensures.small,
+            c.requires.before,
+            c.requires.number.to,
+            c.len-messages.ensures.table.few,
+          )
+    ]
+
+pub returns : goal.returns
+returns c =
+    let work = work_in c.args.plan.now in
+    let n = c.args.n in
+    let f = c.follows-before.result in
+    let follows = c.len-messages.ensures.table.timings.earlier in
+    elim c.if-before-eq0.branch [
+      | then-before-eq0 w ↦
+          (let none : work.follows n ≡ None = ap some_number (sym c.follows-before.ensures.follows ∙ w.if-before-eq0.true) in
+          omega (arith, w.issue-is, w.release-issue.ensures.release, c.cost.ensures.cost, client_alone work follows n c.requires.number none))
+      | else-before-eq0 w ↦
+          (let not_none : f ≢ 0 = w.if-before-eq0.false in
+          let some : work.follows n ≡ Some f = ap some_number (sym c.follows-before.ensures.follows) ∙ followed_some f not_none in
+          let earlier = follows f n some in
+          let read : get_or c.args.finishes.now (f - 1) 0 ≡ client_finish work (f - 1 + 1)
+          = finish_at work c.args.finishes.now c.requires.finishes (omega (arith, c.requires.before, c.requires.number.to)) (f - 1) (omega (arith, earlier.from, earlier.earlier, c.requires.before)) in
+          let same : client_finish work (f - 1 + 1) ≡ client_finish work f = ap (client_finish work) (let one : f - 1 + 1 ≡ f = omega (arith, earlier.from) in one) in
+          omega (arith, w.issue-is, w.max-issue.ensures, w.release.ensures.release, w.think.ensures.think, c.cost.ensures.cost, read, same, client_after work follows n f c.requires.number some))
+    ]

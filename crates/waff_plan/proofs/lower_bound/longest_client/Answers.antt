@@ -1,0 +1,27 @@
+-- The finish of one message after another.
+use Rattle.std.proofs.Common.{◌≡◌, ◌+◌, ◌-◌, length, map, arith, sym, ◌∙◌, ap}
+use Rattle.std.specs.List.{range_with_len}
+use Rattle.waff_plan.specs.LowerBound.{client_finish}
+use Rattle.waff_plan.specs.Timetable.{work_in}
+use Rattle.waff_plan.proofs.LowerBounds.{finishes_count, finishes_more, longest_more}
+use Rattle.waff_plan.proofs.lower_bound.longest_client.Goals as goal
+
+pub finish_alone-finish-requires-clause-finishes : goal.finish_alone-finish-requires-clause-finishes
+finish_alone-finish-requires-clause-finishes c =
+    let work = work_in c.args.plan.now in
+    let are = c.loop-n.invariant.finishes in
+    rw c.deref.ensures.value (are ∙ ap (λ k. map (client_finish work) (range_with_len 1 k)) (sym (finishes_count work c.loop-n.n c.loop-n.finishes.items are)))
+
+pub finish_alone-finish-requires-clause-before : goal.finish_alone-finish-requires-clause-before
+finish_alone-finish-requires-clause-before c =
+    let count = finishes_count (work_in c.args.plan.now) c.loop-n.n c.loop-n.finishes.items c.loop-n.invariant.finishes in
+    rw c.deref.ensures.value (omega (arith, count, c.loop-n.auto.n))
+
+pub loop-n-preserved : goal.loop-n-preserved
+loop-n-preserved c =
+    let work = work_in c.args.plan.now in
+    let finish = c.finish_alone-finish.ensures in
+    record {
+      finishes = finishes_more work c.loop-n.n c.finish_alone-finish.result c.loop-n.finishes.items c.push.new.self.items c.loop-n.auto.n c.loop-n.invariant.finishes finish c.in_ok-push.ensures.items;
+      longest = c.max-longest.ensures ∙ longest_more work c.loop-n.n c.loop-n.longest c.finish_alone-finish.result c.loop-n.auto.n c.loop-n.invariant.longest finish;
+    }

@@ -1,0 +1,37 @@
+-- Messages by their starts, to find two that run at a common tick.
+use Rattle.std.specs.Prelude.{◌≡◌, ◌≢◌, ℕ, ◌<◌, ◌≤◌, nat_le, if◌then◌else◌, List, length, All, Contains}
+use Rattle.std.specs.Prelude.{Option, Some, None, slice_index_or}
+use Rattle.waff_plan.specs.Work.{Work, IsNumber, finish_of}
+use Rattle.waff_plan.specs.declared.apart.Started.{Started}
+use Rattle.waff_plan.specs.declared.latest.Latest.{Latest}
+
+-- message n with its start
+abbrev pub started_of : (ℕ → ℕ) → ℕ → Started
+started_of start n = record { start = start n; number = n }
+
+-- the message at a place, from 0
+abbrev pub started_at : List Started → ℕ → Started
+started_at started place = slice_index_or started place (record { start = 0; number = 0 })
+
+-- a message with its start
+pub record IsStart (work : Work) (start : ℕ → ℕ) (started : Started) : Type 0 where
+  pub number : IsNumber work started.number
+  pub start_is : start started.number ≡ started.start
+
+-- all messages, each once, with their starts, which do not fall
+pub record AreByStart (work : Work) (start : ℕ → ℕ) (started : List Started) : Type 0 where
+  pub each : (n : ℕ) → IsNumber work n → Contains started (started_of start n)
+  pub only : All (IsStart work start) started
+  pub once : (p q : ℕ) → p < q → q < length started
+      → (started_at started p).number ≢ (started_at started q).number
+  pub rising : (p q : ℕ) → p ≤ q → q < length started
+      → (started_at started p).start ≤ (started_at started q).start
+
+-- the finish of a message of the first `count`, and 0 of the others
+abbrev pub first_finish : Work → (ℕ → ℕ) → ℕ → ℕ → ℕ
+first_finish work start count i = if nat_le i count then finish_of work start i else 0
+
+-- message m runs when it starts, and the other message, where there is one, has not finished by then
+abbrev pub MeetsAtStart : Work → (ℕ → ℕ) → ℕ → Option Latest → Type 0
+MeetsAtStart work start m None = ⊥
+MeetsAtStart work start m (Some other) = (start m < finish_of work start m) × (start m < other.finish)

@@ -1,0 +1,38 @@
+-- What is before what in a plan, by the version of its trace: before the third, what comes first in
+-- the trace; in the third, what is issued or starts first in the plan itself.
+use Rattle.std.specs.Prelude.{ℕ, ◌<◌, List, length}
+use Rattle.waff_model.specs.Tree.{Node, Excludes}
+use Rattle.waff_model.specs.declared.message.Version.{Version}
+use Rattle.waff_model.specs.declared.message.Version.TheVariants.{V1, V2, V3}
+use Rattle.waff_assign.specs.Order.{Relation, IsOrdered, affinity_of}
+use Rattle.waff_plan.specs.Issues.{IsServedBefore}
+use Rattle.waff_plan.specs.Timetable.{Timetable, starts_in, work_in}
+use Rattle.waff_plan.specs.Work.{Work, IsAmongFirst}
+
+-- message i starts before message j, and their affinities exclude each other
+pub record IsStartedBefore (tree : List Node) (assigned : List ℕ) (start : ℕ → ℕ) (i j : ℕ)
+    : Type 0 where
+  pub first : IsAmongFirst (length assigned) i
+  pub second : IsAmongFirst (length assigned) j
+  pub started : start i < start j
+  pub excludes : Excludes tree (affinity_of assigned i) (affinity_of assigned j)
+
+-- the order in which messages that exclude each other are to be served
+abbrev pub served_before : Version → List Node → List ℕ → Work → (ℕ → ℕ) → Relation
+served_before V1 tree assigned work start = IsOrdered tree assigned
+served_before V2 tree assigned work start = IsOrdered tree assigned
+served_before V3 tree assigned work start = IsServedBefore tree assigned work start
+
+-- the order of a plan's chains: what holds back what, but for what follows what
+abbrev pub started_before : Version → List Node → List ℕ → (ℕ → ℕ) → Relation
+started_before V1 tree assigned start = IsOrdered tree assigned
+started_before V2 tree assigned start = IsOrdered tree assigned
+started_before V3 tree assigned start = IsStartedBefore tree assigned start
+
+-- both of a plan
+abbrev pub served_in : List Node → List ℕ → Timetable → Relation
+served_in tree assigned plan =
+    served_before plan.version tree assigned (work_in plan) (starts_in plan)
+
+abbrev pub started_in : List Node → List ℕ → Timetable → Relation
+started_in tree assigned plan = started_before plan.version tree assigned (starts_in plan)

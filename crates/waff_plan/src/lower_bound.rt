@@ -1,0 +1,130 @@
+//! A lower bound on the length of plans that obey in whatever order.
+
+ghost use Rattle.std.specs.Prelude.{◌≡◌, ◌+◌, ◌^◌, ◌<◌, ◌≤◌, ℕ, List, Option, IfOk, IfSome, length, map};
+ghost use Rattle.std.specs.Prelude.{slice_index_or};
+ghost use Rattle.std.specs.List.{range_with_len};
+ghost use Rattle.waff_model.specs.Tree.{Node};
+ghost use Rattle.waff_plan.specs.Bound.{IsWorkers};
+ghost use Rattle.waff_plan.specs.Planned.{planned_work};
+ghost use Rattle.waff_plan.specs.Timetable.{work_in};
+ghost use Rattle.waff_plan.specs.Work.{IsNumber, Work, greatest, numbers, total_of};
+ghost use Rattle.waff_plan.specs.LowerBound.{client_finish, lower_bound_of, own_cost, path_cost};
+ghost use Rattle.waff_plan.specs.LowerBound.{NoneIsBelow, share_in};
+
+use crate::{Plan, Planned};
+use std::alloc::{AllocError, Global};
+use waff_assign::Case;
+use waff_model::AffinityId;
+
+/// No plan that obeys is shorter than the lower bound, in whatever order it serves.
+pub fn none_is_below()
+    ensures { (workers : Option ℕ) (tree : List Node) (assigned : List ℕ) (work : Work)
+        → NoneIsBelow workers tree assigned work }
+{}
+
+/// The lower bound for the messages of a plan, for these workers or none: the greatest of a worker's
+/// share of all costs, of what a client needs for its messages, and of the costs on a path of
+/// affinities. The starts of the plan count for nothing.
+pub fn lower_bound(
+    alloc: Global,
+    planned: &Planned<'_>,
+    workers: Option<u32>,
+) -> Result<u64, AllocError>
+    requires { IfSome workers IsWorkers }
+    ensures { IfOk result (λ bound. bound ≡ lower_bound_of workers planned.now.case.tree.now
+        planned.now.case.assigned.now (planned_work planned.now)) }
+{
+    let plan = planned.plan;
+    let share = share(plan.total(), workers);
+    let clients = longest_client(alloc, plan)?;
+    let paths = longest_path(alloc, &planned.case, plan)?;
+    Ok(share.max(clients.max(paths)))
+}
+
+// The share of one of the workers, rounded up; 0 where there are none.
+fn share(total: u64, workers: Option<u32>) -> u64
+    requires known { IfSome workers IsWorkers }
+    requires small { total ≤ 2 ^ 52 }
+    ensures { result ≡ share_in workers total }
+{
+    match workers {
+        None => 0,
+        Some(k) => {
+            let k = u64::from(k);
+            total / k + (total % k).min(1)
+        }
+    }
+}
+
+// The greatest finish of a message where each waits for its client alone.
+fn longest_client(alloc: Global, plan: &Plan) -> Result<u64, AllocError>
+    ensures { IfOk result (λ longest. longest
+        ≡ greatest (map (client_finish (work_in plan.now)) (numbers (work_in plan.now)))) }
+{
+    let mut finishes = Vec::with_capacity(alloc, plan.len() as usize)?;
+    let mut longest = 0;
+    for n in 1..plan.len() + 1 {
+        let finish = finish_alone(plan, &finishes, n);
+        finishes.push(finish)?;
+        longest = finish.max(longest);
+    }
+    Ok(longest)
+}
+
+// The finish of message `n` where it waits for its client alone, by those of the messages before it.
+fn finish_alone(plan: &Plan, finishes: &[u64], n: u32) -> u64
+    requires number { IsNumber (work_in plan.now) n }
+    requires finishes { finishes.now
+        ≡ map (client_finish (work_in plan.now)) (range_with_len 1 (length finishes.now)) }
+    requires before { length finishes.now + 1 ≡ n }
+    ensures { result ≡ client_finish (work_in plan.now) n }
+{
+    let _messages = plan.len();
+    let before = plan.follows(n);
+    let issue = if before == 0 {
+        plan.release(n)
+    } else {
+        plan.release(n)
+            .max(finishes[before as usize - 1] + plan.think(n))
+    };
+    issue + plan.cost(n)
+}
+
+// The greatest sum of the costs in an affinity and above it.
+fn longest_path(alloc: Global, case: &Case<'_>, plan: &Plan) -> Result<u64, AllocError>
+    requires lengths { length plan.now.timings ≡ length case.now.assigned.now }
+    requires small { total_of (work_in plan.now) ≤ 2 ^ 52 }
+    ensures { IfOk result (λ longest. longest
+        ≡ greatest (map (path_cost case.now.tree.now case.now.assigned.now (work_in plan.now))
+        (range_with_len 0 (length case.now.tree.now)))) }
+{
+    let _affinities = case.tree.len();
+    let mut costs = own_costs(alloc, case, plan)?;
+    let mut longest = 0;
+    for a in 0..costs.len() {
+        let above = match case.tree.parent(AffinityId(a as u16)) {
+            Some(parent) => costs[parent.0 as usize],
+            None => 0,
+        };
+        let cost = costs[a] + above;
+        costs[a] = cost;
+        longest = cost.max(longest);
+    }
+    Ok(longest)
+}
+
+// The sum of the costs in each affinity.
+fn own_costs(alloc: Global, case: &Case<'_>, plan: &Plan) -> Result<Vec<u64>, AllocError>
+    requires lengths { length plan.now.timings ≡ length case.now.assigned.now }
+    ensures count { IfOk result (λ costs. length costs.items ≡ length case.now.tree.now) }
+    ensures each { IfOk result (λ costs. (a : ℕ) → a < length case.now.tree.now
+        → slice_index_or costs.items a 0 ≡ own_cost case.now.assigned.now (work_in plan.now) a) }
+{
+    let mut costs = vec![in alloc; 0; case.tree.len() as usize]?;
+    for n in 1..plan.len() + 1 {
+        let a = case.assigned.of(n).0 as usize;
+        let cost = costs[a] + plan.cost(n);
+        costs[a] = cost;
+    }
+    Ok(costs)
+}
