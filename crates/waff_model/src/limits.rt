@@ -25,7 +25,7 @@ pub const MAX_LARGE_UNIT: u32 = 4_294_967_295;
 pub const MAX_OWNERS: usize = 256;
 
 /// Messages of a trace, of any version.
-pub const MAX_MESSAGES: usize = 65_536;
+pub const MAX_MESSAGES: usize = 1_048_576;
 
 /// Messages of a trace of the first two versions.
 pub const MAX_EARLIER_MESSAGES: usize = 65_536;
