@@ -8,3 +8,4 @@ mod UsedLemmas
 mod PreorderLemmas
 mod RowLemmas
 mod PartLemmas
+mod ColourLemmas

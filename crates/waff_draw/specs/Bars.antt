@@ -6,11 +6,12 @@ use Rattle.std.specs.Str.{bytes_eq}
 use Rattle.waff_model.specs.Clients.{no_client}
 use Rattle.waff_assign.specs.Order.{affinity_name}
 use Rattle.waff_plan.specs.Work.{numbers}
+use Rattle.waff_draw.specs.Colours.{colour_of}
 use Rattle.waff_draw.specs.Kinds.{shown_row}
 use Rattle.waff_draw.specs.Lanes.{is_among}
 use Rattle.waff_draw.specs.Pieces.{bar_client, bar_end, bar_middle, bar_start, bar_ticks}
-use Rattle.waff_draw.specs.Scene.{Scene, client_in, finish_in, from_in, name_in, place_in, shown_start}
-use Rattle.waff_draw.specs.Scene.{shown_ticks, span_in, start_in, work_of_scene}
+use Rattle.waff_draw.specs.Scene.{Scene, client_in, coloured_in, finish_in, from_in, name_in}
+use Rattle.waff_draw.specs.Scene.{place_in, shown_start, shown_ticks, span_in, start_in, work_of_scene}
 use Rattle.waff_draw.specs.Xml.{xml_text}
 use Rattle.waff_draw.specs.declared.bars.Bar.{Bar}
 use Rattle.waff_draw.specs.declared.lanes.LaneKind.{LaneKind}
@@ -22,8 +23,8 @@ is_narrow span ticks = nat_lt (ticks * 1000) span
 -- how a bar of the chain is marked, and a thin one, which has no outline
 abbrev pub mark_of : Bool → Bool → List ℕ
 mark_of is_link is_thin =
-    if is_link then (if is_thin then codes " class='chain thin'" else codes " class='chain'") else
-    (if is_thin then codes " class='thin'" else codes "")
+    if is_link then (if is_thin then codes " chain thin" else codes " chain") else
+    (if is_thin then codes " thin" else codes "")
 
 -- how much of its lane is free above it and below: none round a thin bar of the chain
 abbrev pub margin_of : Bool → Bool → ℕ
@@ -36,7 +37,7 @@ for_client client = if bytes_eq client no_client then [] else bar_client ++ xml_
 -- a bar in its row, with what it tells of its message
 abbrev pub bar_text : Bar → List ℕ → List ℕ → List ℕ → List ℕ
 bar_text bar name affinity client =
-    bar_start (mark_of bar.is_link bar.is_thin) bar.left
+    bar_start bar.colour (mark_of bar.is_link bar.is_thin) bar.left
     (bar.row * 2000 + margin_of bar.is_link bar.is_thin) bar.width
     (2000 - 2 * margin_of bar.is_link bar.is_thin) bar.message
     ++ xml_text name ++ bar_middle ++ xml_text affinity
@@ -59,6 +60,7 @@ bar_at scene row n = record {
   start = start_in scene n;
   finish = finish_in scene n;
   is_link = is_among scene.plan.summary.chain n;
+  colour = colour_of (coloured_in scene) (name_in scene n);
   is_thin = is_narrow (span_in scene) (shown_ticks scene n);
 }
 

@@ -3,13 +3,15 @@ use Rattle.std.specs.Prelude.{◌≡◌, ℕ, ◌^◌, ◌<◌, ◌≤◌, All, 
 use Rattle.std.specs.Prelude.{slice_index, slice_index_or}
 use Rattle.waff_plan.specs.Timetable.{Timetable, timings_of}
 use Rattle.waff_draw.specs.Lanes.{is_among, row_of}
-use Rattle.waff_draw.specs.Scene.{Scene, end_in, from_in, lanes_in, length_in, work_of_scene}
+use Rattle.waff_draw.specs.Scene.{Scene, coloured_in, end_in, from_in, lanes_in, length_in}
+use Rattle.waff_draw.specs.Scene.{work_of_scene}
 use Rattle.waff_draw.specs.declared.lanes.Lane.{Lane}
 
 -- each message has its row; the lanes, the plan, its length and where the part of it ends are those
--- of the scene, with the row of each affinity and which numbers are on the chain
+-- of the scene, with the row of each affinity, which numbers are on the chain, and the names that
+-- have a colour
 pub record IsChart (scene : Scene) (lanes : List Lane) (plan : Timetable) (ticks end : ℕ)
-    (rows : List ℕ) (links : List Bool) : Type 0 where
+    (rows : List ℕ) (links : List Bool) (colours : List (List ℕ)) : Type 0 where
   pub messages : length scene.instance.trace.messages ≡ (work_of_scene scene).count
   pub given : length scene.plan.rows ≡ (work_of_scene scene).count
   pub shown : lanes ≡ lanes_in scene
@@ -27,3 +29,4 @@ pub record IsChart (scene : Scene) (lanes : List Lane) (plan : Timetable) (ticks
   pub link_count : (work_of_scene scene).count < length links
   pub each_link : (n : ℕ) → n < length links
       → slice_index_or links n false ≡ is_among scene.plan.summary.chain n
+  pub names : colours ≡ coloured_in scene

@@ -3,6 +3,7 @@ pub mod Parts
 pub mod Axis
 pub mod Xml
 pub mod Pieces
+pub mod Colours
 pub mod Scene
 pub mod Kinds
 pub mod Bars

@@ -36,6 +36,16 @@ lane_end = codes "</text></g>\n"
 unfoldable pub worker_name : ℕ → List ℕ
 worker_name worker = joined (codes "worker " ∷ decimal worker ∷ [])
 
+-- what a colour stands for, at this place from the left, as far as the name of the messages
+unfoldable pub colour_start : ℕ → ℕ → List ℕ
+colour_start left colour = joined (
+    codes "<svg x='" ∷ decimal left ∷ codes "' y='56' width='166' height='16'><rect class='n"
+    ∷ decimal colour ∷ codes "' y='2' width='12' height='12'/><text x='18' y='12'>" ∷ [])
+
+-- its end, behind the name
+unfoldable pub colour_end : List ℕ
+colour_end = codes "</text></svg>\n"
+
 -- a rule at this height, between the lanes of affinities and those of workers
 unfoldable pub rule_line : ℕ → List ℕ
 rule_line top = joined (codes "<path class='rule' d='M0 " ∷ decimal top ∷ codes "h1380'/>\n" ∷ [])
@@ -43,29 +53,29 @@ rule_line top = joined (codes "<path class='rule' d='M0 " ∷ decimal top ∷ co
 -- what the numbers along the axis are, above the lanes and below
 unfoldable pub axis_unit : ℕ → List ℕ
 axis_unit bottom = joined (
-    codes "<text x='232' y='72'>ticks</text><text x='232' y='" ∷ decimal bottom
+    codes "<text x='232' y='92'>ticks</text><text x='232' y='" ∷ decimal bottom
     ∷ codes "'>ticks</text>\n" ∷ [])
 
 -- a number of ticks at this place, above the lanes and below
 unfoldable pub tick_label : ℕ → ℕ → ℕ → List ℕ
 tick_label place bottom tick = joined (
-    codes "<text class='tick' x='" ∷ decimal place ∷ codes "' y='72'>" ∷ decimal tick
+    codes "<text class='tick' x='" ∷ decimal place ∷ codes "' y='92'>" ∷ decimal tick
     ∷ codes "</text><text class='tick' x='" ∷ decimal place ∷ codes "' y='" ∷ decimal bottom
     ∷ codes "'>" ∷ decimal tick ∷ codes "</text>\n" ∷ [])
 
 -- the beginning of the lines and bars, whose units are hundredths of a pixel
 unfoldable pub plan_start : List ℕ
-plan_start = codes "<g class='plan' transform='translate(320 80) scale(.01)'>\n"
+plan_start = codes "<g class='plan' transform='translate(320 100) scale(.01)'>\n"
 
 -- a line through all lanes
 unfoldable pub grid_line : ℕ → ℕ → List ℕ
 grid_line place height = joined (
     codes "<path d='M" ∷ decimal place ∷ codes " 0v" ∷ decimal height ∷ codes "'/>\n" ∷ [])
 
--- a bar with its mark, place and size, and what it tells as far as the name of its message
-unfoldable pub bar_start : List ℕ → ℕ → ℕ → ℕ → ℕ → ℕ → List ℕ
-bar_start mark left top width height message = joined (
-    codes "<rect" ∷ mark ∷ codes " x='" ∷ decimal left ∷ codes "' y='" ∷ decimal top
+-- a bar with its colour, mark, place and size, and what it tells as far as the name of its message
+unfoldable pub bar_start : ℕ → List ℕ → ℕ → ℕ → ℕ → ℕ → ℕ → List ℕ
+bar_start colour mark left top width height message = joined (
+    codes "<rect class='n" ∷ decimal colour ∷ mark ∷ codes "' x='" ∷ decimal left ∷ codes "' y='" ∷ decimal top
     ∷ codes "' width='" ∷ decimal width ∷ codes "' height='" ∷ decimal height
     ∷ codes "'><title>" ∷ decimal message ∷ codes " " ∷ [])
 

@@ -8,6 +8,7 @@ use Rattle.waff_plan.specs.Timetable.{clients_of}
 use Rattle.waff_plan.specs.Timing.{start_of}
 use Rattle.waff_plan.specs.Work.{Work, finish_of, length_of}
 use Rattle.waff_plan_text.specs.Given.{Given}
+use Rattle.waff_draw.specs.Colours.{coloured}
 use Rattle.waff_draw.specs.Lanes.{laned_of, lanes_of}
 use Rattle.waff_draw.specs.Parts.{end_of}
 use Rattle.waff_draw.specs.declared.lanes.Lane.{Lane}
@@ -84,6 +85,10 @@ workers_in scene = worker_count scene.plan.summary.workers
 
 abbrev pub rows_in : Scene → ℕ
 rows_in scene = length (lanes_in scene) + workers_in scene
+
+-- the names that have a colour
+abbrev pub coloured_in : Scene → List (List ℕ)
+coloured_in scene = coloured (map (λ message. message.name) scene.instance.trace.messages)
 
 -- the name of message n
 abbrev pub name_in : Scene → ℕ → List ℕ

@@ -8,8 +8,10 @@ use Rattle.waff_plan_text.specs.Spelling.{worker_field}
 use Rattle.waff_draw.specs.Axis.{line_at}
 use Rattle.waff_draw.specs.Bars.{bars_of}
 use Rattle.waff_draw.specs.Lanes.{lane_of}
-use Rattle.waff_draw.specs.Pieces.{axis_unit, grid_line, heading_start, lane_end, lane_start}
+use Rattle.waff_draw.specs.Pieces.{axis_unit, colour_end, colour_start, grid_line, heading_start}
+use Rattle.waff_draw.specs.Pieces.{lane_end, lane_start}
 use Rattle.waff_draw.specs.Pieces.{plan_start, rule_line, tick_label, top_start, worker_name}
+use Rattle.waff_draw.specs.Scene.{coloured_in}
 use Rattle.waff_draw.specs.Scene.{Scene, end_in, from_in, lanes_in, length_in, place_in, rows_in}
 use Rattle.waff_draw.specs.Scene.{span_in, tree_scene, work_of_scene, workers_in}
 use Rattle.waff_draw.specs.Xml.{xml_text}
@@ -19,13 +21,21 @@ use Rattle.waff_draw.specs.declared.pieces.TheConstants.{STYLE}
 
 -- what the bars are
 abbrev pub legend : List ℕ
-legend = codes "<text x='8' y='48'>A bar is a message from its start to its finish. "
-    ++ codes "The plan's chain has thick outlines; its bars narrower than a pixel fill the height "
-    ++ codes "of the lane.</text>\n"
+legend = codes "<text x='8' y='48'>A bar is a message from its start to its finish, in the colour of its "
+    ++ codes "name. The plan's chain is orange with thick outlines; its bars narrower than a pixel fill "
+    ++ codes "the height of the lane.</text>\n"
 
 -- the top of the document, for this many rows
 abbrev pub top_text : ℕ → List ℕ
-top_text rows = top_start (rows * 20 + 112) ++ STYLE.now ++ legend
+top_text rows = top_start (rows * 20 + 132) ++ STYLE.now ++ legend
+
+-- which name a colour stands for; bars of other names are grey
+abbrev pub colour_text : ℕ → List ℕ → List ℕ
+colour_text place name = colour_start (place * 170 + 8) (place + 1) ++ xml_text name ++ colour_end
+
+abbrev pub colours_text : List (List ℕ) → List ℕ
+colours_text names =
+    flat_map (λ place. colour_text place (slice_index_or names place [])) (range_with_len 0 (length names))
 
 -- what is told of the plan
 abbrev pub heading_text : ℕ → ℕ → Option ℕ → List ℕ
@@ -35,7 +45,7 @@ heading_text length total workers =
 -- a lane with its name, set in by depth, twelve steps at most
 abbrev pub lane_text : ℕ → ℕ → List ℕ → List ℕ
 lane_text row depth name =
-    lane_start (row * 20 + 80) (min depth 12 * 8 + 8) (row * 20 + 94) ++ name
+    lane_start (row * 20 + 100) (min depth 12 * 8 + 8) (row * 20 + 114) ++ name
     ++ lane_end
 
 -- the lane of an affinity
@@ -51,12 +61,12 @@ worker_lane first worker = lane_text (first + worker - 1) 0 (worker_name worker)
 
 -- the rule between so many lanes of affinities and those of workers, if there are workers
 abbrev pub rule_text : ℕ → ℕ → List ℕ
-rule_text first k = if nat_le 1 k then rule_line (first * 20 + 80) else []
+rule_text first k = if nat_le 1 k then rule_line (first * 20 + 100) else []
 
 -- a number of ticks where it stands between the left and the right of the lanes
 abbrev pub tick_text : Scene → ℕ → List ℕ
 tick_text scene tick =
-    tick_label ((tick - from_in scene) * 1000 / span_in scene + 320) (rows_in scene * 20 + 98) tick
+    tick_label ((tick - from_in scene) * 1000 / span_in scene + 320) (rows_in scene * 20 + 118) tick
 
 -- a line through all rows
 abbrev pub grid_text : Scene → ℕ → List ℕ
@@ -78,11 +88,12 @@ abbrev pub ground_text : Scene → List ℕ
 ground_text scene =
     top_text (rows_in scene)
     ++ heading_text (length_in scene) (total_of (work_of_scene scene)) scene.plan.summary.workers
+    ++ colours_text (coloured_in scene)
     ++ flat_map (affinity_lane scene.instance.tree (lanes_in scene))
     (range_with_len 0 (length (lanes_in scene)))
     ++ flat_map (worker_lane (length (lanes_in scene))) (range_with_len 1 (workers_in scene))
     ++ rule_text (length (lanes_in scene)) (workers_in scene)
-    ++ axis_unit (rows_in scene * 20 + 98)
+    ++ axis_unit (rows_in scene * 20 + 118)
     ++ each_line scene (tick_text scene)
     ++ plan_start
     ++ each_line scene (grid_text scene)

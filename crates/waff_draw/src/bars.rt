@@ -16,8 +16,8 @@ use crate::xml::push_xml;
 use std::alloc::AllocError;
 
 /// A bar: its message, its row, its left edge from that of the part and its width, both in hundredths
-/// of a pixel; the ticks at which the message starts and finishes, whether it is on the chain, and
-/// whether the bar is narrower than a pixel.
+/// of a pixel; the ticks at which the message starts and finishes, the number of its name's colour,
+/// whether it is on the chain, and whether the bar is narrower than a pixel.
 #[derive(Clone, Copy)]
 pub struct Bar {
     pub message: u32,
@@ -26,6 +26,7 @@ pub struct Bar {
     pub width: u128,
     pub start: u64,
     pub finish: u64,
+    pub colour: u32,
     pub is_link: bool,
     pub is_thin: bool,
 }
@@ -92,6 +93,7 @@ fn bar_of(chart: &Chart<'_>, row: u64, n: u32) -> Bar
         width: right.saturating_sub(left),
         start: chart.start(n),
         finish: chart.finish(n),
+        colour: chart.colour(n),
         is_link: chart.is_link(n),
         is_thin: is_narrow(chart.span(), ticks),
     }
@@ -109,9 +111,9 @@ fn mark_of(is_link: bool, is_thin: bool) -> &'static str
     ensures { result.now ≡ mark_of is_link is_thin }
 {
     match (is_link, is_thin) {
-        (true, true) => " class='chain thin'",
-        (true, false) => " class='chain'",
-        (false, true) => " class='thin'",
+        (true, true) => " chain thin",
+        (true, false) => " chain",
+        (false, true) => " thin",
         (false, false) => "",
     }
 }

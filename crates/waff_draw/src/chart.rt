@@ -1,6 +1,6 @@
 //! What a picture shows, made ready for drawing.
 
-ghost use Rattle.std.specs.Prelude.{◌≡◌, ◌^◌, ◌<◌, ◌≤◌, IfOk, IfSome, length};
+ghost use Rattle.std.specs.Prelude.{◌≡◌, ◌^◌, ◌<◌, ◌≤◌, [], IfOk, IfSome, length};
 ghost use Rattle.std.specs.Prelude.{slice_index_or};
 ghost use Rattle.waff_model.specs.Tree.{name_of};
 ghost use Rattle.waff_assign.specs.Case.{instance_of};
@@ -8,15 +8,17 @@ ghost use Rattle.waff_assign.specs.Order.{affinity_name, affinity_of};
 ghost use Rattle.waff_plan.specs.Bound.{IsWorkers};
 ghost use Rattle.waff_plan.specs.Work.{IsNumber, total_of};
 ghost use Rattle.waff_plan_text.specs.Given.{row_at};
+ghost use Rattle.waff_draw.specs.Colours.{colour_of};
 ghost use Rattle.waff_draw.specs.Kinds.{row_in, shown_row, worker_row};
 ghost use Rattle.waff_draw.specs.Lanes.{is_among, lane_of, row_of};
-ghost use Rattle.waff_draw.specs.Scene.{client_in, end_in, finish_in, from_in, lanes_in};
-ghost use Rattle.waff_draw.specs.Scene.{length_in};
+ghost use Rattle.waff_draw.specs.Scene.{client_in, coloured_in, end_in, finish_in, from_in};
+ghost use Rattle.waff_draw.specs.Scene.{lanes_in, length_in};
 ghost use Rattle.waff_draw.specs.Scene.{name_in, place_in, rows_in, scene_with, shown_start};
 ghost use Rattle.waff_draw.specs.Scene.{shown_ticks, span_in, start_in, work_of_scene, workers_in};
 ghost use Rattle.waff_draw.specs.Svg.{line_in};
 
 use crate::axis::line_at;
+use crate::colours::Colours;
 use crate::lanes::{Lane, LaneKind, lanes, rows};
 use crate::marks::marks;
 use crate::parts::Part;
@@ -31,8 +33,8 @@ use waff_plan_text::GivenPlan;
 /// A scene made ready for drawing: a plan that is given for the messages of a trace with their
 /// affinities, which part of it is shown, and whether the affinities above those that have a message
 /// have lanes too; the lanes of these and the row of each, the plan of
-/// its starts and its length in ticks, where the part ends, and whether each message is on the
-/// chain, by its number.
+/// its starts and its length in ticks, where the part ends, whether each message is on the chain, by
+/// its number, and the names that have a colour.
 pub(crate) struct Chart<'a> {
     case: Case<'a>,
     given: &'a GivenPlan,
@@ -44,6 +46,7 @@ pub(crate) struct Chart<'a> {
     end: u128,
     rows: Vec<u64>,
     links: Vec<bool>,
+    colours: Colours<'a>,
 }
 
 impl<'a> Model for Chart<'a> {
@@ -61,7 +64,7 @@ impl<'a> Model for Chart<'a> {
     ghost view = { λ c. scene_with (instance_of c.case) c.given.now c.part c.is_tree };
 
     ghost invariant = { λ c. IsChart (scene_with (instance_of c.case) c.given.now c.part c.is_tree)
-        c.lanes.items c.plan c.ticks c.end c.rows.items c.links.items };
+        c.lanes.items c.plan c.ticks c.end c.rows.items c.links.items c.colours };
 }
 
 // Written out, so that it is proved once for all that draw.
@@ -78,11 +81,13 @@ impl<'a> Drop for Chart<'a> {
             end: _,
             rows,
             links,
+            colours,
         } = self;
         drop(lanes);
         drop(plan);
         drop(rows);
         drop(links);
+        drop(colours);
     }
 }
 
@@ -105,6 +110,7 @@ impl<'a> Chart<'a> {
         let links = marks(alloc, case.trace.len() as usize + 1, given.chain())?;
         let plan = given.plan(alloc, case.trace)?;
         let ticks = plan.length();
+        let colours = Colours::new(alloc, case.trace)?;
         Ok(Chart {
             case: *case,
             given,
@@ -116,6 +122,7 @@ impl<'a> Chart<'a> {
             end: part.end(ticks),
             rows,
             links,
+            colours,
         })
     }
 
@@ -134,6 +141,30 @@ impl<'a> Chart<'a> {
     {
         let trace = self.case.trace;
         trace.message(n).name.as_str()
+    }
+
+    /// The number of the colour of its name, 0 where it has none.
+    pub(crate) fn colour(&self, n: u32) -> u32
+        requires { IsNumber (work_of_scene self.now) n }
+        ensures { result ≡ colour_of (coloured_in self.now) (name_in self.now n) }
+    {
+        self.colours.of(self.name(n))
+    }
+
+    /// How many names have a colour.
+    pub(crate) fn colour_count(&self) -> u64
+        ensures count { result ≡ length (coloured_in self.now) }
+        ensures few { result ≤ 2 ^ 32 }
+    {
+        self.colours.len() as u64
+    }
+
+    /// The name that has the colour at this place, from 0.
+    pub(crate) fn coloured_name(&self, place: u64) -> &str
+        requires { place < length (coloured_in self.now) }
+        ensures { result.now ≡ slice_index_or (coloured_in self.now) place [] }
+    {
+        self.colours.name(place as usize)
     }
 
     /// The name of its client, `-` where it is of none.

@@ -5,7 +5,7 @@
 //!   `marks`: which numbers a list has; `laws`: each has one lane, where its bars are, and the lanes
 //!   are in preorder; which ticks are shown, and where the axis has lines.
 //! - `parts`: the ticks that are shown; `chart`: what a picture shows, made ready for drawing.
-//! - `axis`: round numbers of ticks; `xml`: names in a document of markup.
+//! - `colours`: which names have a colour; `axis`: round numbers of ticks; `xml`: names in a document of markup.
 //! - `svg`: the text of the picture; `bars`: its bars; `pieces`: what both are made of.
 //! - `events`: the same as events of threads, for a viewer of traces.
 #![tactic(auto)]
@@ -13,6 +13,7 @@
 mod axis;
 mod bars;
 mod chart;
+mod colours;
 mod events;
 mod lanes;
 mod laws;

@@ -13,19 +13,20 @@ pub(crate) const STYLE: &str = "\
 <style>svg{background:#fff;font:12px sans-serif}text{fill:#222}.ground{fill:#fff}\
 .heading{font-size:16px;font-weight:bold}.tick{text-anchor:middle}\
 .lane rect{fill:#fff}.lane:nth-of-type(even) rect{fill:#f0f2f5}.rule{stroke:#222}\
-.plan rect{fill:#56b4e9;stroke:#0072b2;stroke-width:75}\
-.plan .thin{fill:#0072b2}.plan .chain{fill:#e69f00;stroke:#000;stroke-width:200}\
+.plan rect{stroke:#333;stroke-width:75}.n0{fill:#999}.n1{fill:#56b4e9}.n2{fill:#009e73}\
+.n3{fill:#cc79a7}.n4{fill:#f0e442}.n5{fill:#0072b2}.n6{fill:#d55e00}.n7{fill:#882255}\
+.n8{fill:#999933}.plan .thin{stroke:none}.plan .chain{fill:#e69f00;stroke:#000;stroke-width:200}\
 .plan path{stroke:#c8ccd2;stroke-width:100}\
 @media(prefers-color-scheme:dark){svg{background:#16181c}text{fill:#e8e8e8}.ground{fill:#16181c}\
 .lane rect{fill:#16181c}.lane:nth-of-type(even) rect{fill:#22262c}.rule{stroke:#e8e8e8}\
-.plan rect{fill:#0072b2;stroke:#56b4e9}.plan .thin{fill:#56b4e9}\
-.plan .chain{fill:#e69f00;stroke:#fff}.plan path{stroke:#454b54}}\
-.plan .thin{stroke:none}</style>\n";
+.plan rect{stroke:#ccc}.plan .chain{stroke:#fff}.plan path{stroke:#454b54}}\
+.plan .chain.thin{stroke:none}</style>\n";
 
 /// What the bars are.
 pub(crate) const LEGEND: &str = "\
-<text x='8' y='48'>A bar is a message from its start to its finish. The plan's chain has thick \
-outlines; its bars narrower than a pixel fill the height of the lane.</text>\n";
+<text x='8' y='48'>A bar is a message from its start to its finish, in the colour of its name. The \
+plan's chain is orange with thick outlines; its bars narrower than a pixel fill the height of the \
+lane.</text>\n";
 
 /// Appends the top of the document, of this height in pixels, and its ground.
 #[tactic(auto, unfolding(crate::specs::Pieces::top_start))]
@@ -97,7 +98,7 @@ pub(crate) fn push_axis_unit(text: &mut String, bottom: u64) -> Result<(), Alloc
 {
     writeln!(
         text,
-        "<text x='232' y='72'>ticks</text><text x='232' y='{bottom}'>ticks</text>"
+        "<text x='232' y='92'>ticks</text><text x='232' y='{bottom}'>ticks</text>"
     )
 }
 
@@ -113,7 +114,7 @@ pub(crate) fn push_tick_label(
 {
     writeln!(
         text,
-        "<text class='tick' x='{place}' y='72'>{tick}</text><text class='tick' x='{place}' y='{bottom}'>{tick}</text>"
+        "<text class='tick' x='{place}' y='92'>{tick}</text><text class='tick' x='{place}' y='{bottom}'>{tick}</text>"
     )
 }
 
@@ -122,7 +123,7 @@ pub(crate) fn push_tick_label(
 pub(crate) fn push_plan_start(text: &mut String) -> Result<(), AllocError>
     ensures { OnOk result (Adds text.old text.new pieces.plan_start) }
 {
-    text.push_str("<g class='plan' transform='translate(320 80) scale(.01)'>\n")
+    text.push_str("<g class='plan' transform='translate(320 100) scale(.01)'>\n")
 }
 
 /// Appends a line through all lanes.
@@ -133,7 +134,26 @@ pub(crate) fn push_grid_line(text: &mut String, place: u128, height: u64) -> Res
     writeln!(text, "<path d='M{place} 0v{height}'/>")
 }
 
-/// Appends a bar with its mark, place and size, as far as the name of its message.
+/// Appends what a colour stands for, as far as the name of the messages.
+#[tactic(auto, unfolding(crate::specs::Pieces::colour_start))]
+pub(crate) fn push_colour_start(text: &mut String, left: u64, colour: u64) -> Result<(), AllocError>
+    ensures { OnOk result (Adds text.old text.new (pieces.colour_start left colour)) }
+{
+    write!(
+        text,
+        "<svg x='{left}' y='56' width='166' height='16'><rect class='n{colour}' y='2' width='12' height='12'/><text x='18' y='12'>"
+    )
+}
+
+/// Appends its end.
+#[tactic(auto, unfolding(crate::specs::Pieces::colour_end))]
+pub(crate) fn push_colour_end(text: &mut String) -> Result<(), AllocError>
+    ensures { OnOk result (Adds text.old text.new pieces.colour_end) }
+{
+    text.push_str("</text></svg>\n")
+}
+
+/// Appends a bar with its colour, mark, place and size, as far as the name of its message.
 #[tactic(auto, unfolding(crate::specs::Pieces::bar_start))]
 pub(crate) fn push_bar_start(
     text: &mut String,
@@ -142,18 +162,19 @@ pub(crate) fn push_bar_start(
     height: u32,
     mark: &str,
 ) -> Result<(), AllocError>
-    ensures { OnOk result (Adds text.old text.new (pieces.bar_start
+    ensures { OnOk result (Adds text.old text.new (pieces.bar_start bar.now.colour
         mark.now bar.now.left top bar.now.width height bar.now.message)) }
 {
     let Bar {
         message,
         left,
         width,
+        colour,
         ..
     } = *bar;
     write!(
         text,
-        "<rect{mark} x='{left}' y='{top}' width='{width}' height='{height}'><title>{message} "
+        "<rect class='n{colour}{mark}' x='{left}' y='{top}' width='{width}' height='{height}'><title>{message} "
     )
 }
 

@@ -1,15 +1,16 @@
 //! The picture as a document in SVG.
 
-ghost use Rattle.std.specs.Prelude.{◌≡◌, ◌+◌, ◌*◌, ◌<◌, ◌≤◌, IfOk, OnOk, length, string_bytes};
+ghost use Rattle.std.specs.Prelude.{◌≡◌, ◌+◌, ◌*◌, ◌<◌, ◌≤◌, IfOk, OnOk, length, slice_index_or, string_bytes, []};
 ghost use Rattle.std.specs.List.{flat_map, range_with_len};
 ghost use Rattle.waff_assign.specs.Case.{instance_of};
 ghost use Rattle.waff_plan.specs.Work.{total_of};
 ghost use Rattle.waff_plan_text.specs.Lines.{Adds};
 ghost use Rattle.waff_plan_text.specs.Spelling.{worker_field};
 ghost use Rattle.waff_draw.specs.Pieces.{axis_unit};
-ghost use Rattle.waff_draw.specs.Scene.{end_in, from_in, lanes_in, length_in, rows_in};
+ghost use Rattle.waff_draw.specs.Scene.{coloured_in, end_in, from_in, lanes_in, length_in, rows_in};
 ghost use Rattle.waff_draw.specs.Scene.{scene_of, work_of_scene, workers_in};
-ghost use Rattle.waff_draw.specs.Svg.{affinity_lane, document_text, each_line, grid_text};
+ghost use Rattle.waff_draw.specs.Svg.{affinity_lane, colour_text, colours_text, document_text};
+ghost use Rattle.waff_draw.specs.Svg.{each_line, grid_text};
 ghost use Rattle.waff_draw.specs.Svg.{ground_text, heading_text, rule_text, svg_text, tick_text, top_text};
 ghost use Rattle.waff_draw.specs.Svg.{upto, worker_lane};
 
@@ -18,9 +19,9 @@ use crate::chart::Chart;
 use crate::lanes::LaneKind;
 use crate::parts::Part;
 use crate::pieces::{
-    LEGEND, STYLE, push_axis_unit, push_grid_line, push_heading_start, push_lane_end,
-    push_lane_start, push_plan_start, push_rule_line, push_tick_label, push_top_start,
-    push_worker_name,
+    LEGEND, STYLE, push_axis_unit, push_colour_end, push_colour_start, push_grid_line,
+    push_heading_start, push_lane_end, push_lane_start, push_plan_start, push_rule_line,
+    push_tick_label, push_top_start, push_worker_name,
 };
 use crate::xml::push_xml;
 use std::alloc::{AllocError, Global};
@@ -61,6 +62,7 @@ fn push_ground(text: &mut String, chart: &Chart<'_>) -> Result<(), AllocError>
 {
     push_top(text, chart)?;
     push_heading(text, chart)?;
+    push_colours(text, chart)?;
     push_affinity_lanes(text, chart)?;
     push_worker_lanes(text, chart)?;
     push_rule(text, chart)?;
@@ -74,7 +76,7 @@ fn push_ground(text: &mut String, chart: &Chart<'_>) -> Result<(), AllocError>
 fn push_top(text: &mut String, chart: &Chart<'_>) -> Result<(), AllocError>
     ensures { OnOk result (Adds text.old text.new (top_text (rows_in chart.now))) }
 {
-    push_top_start(text, chart.row_count() * 20 + 112)?;
+    push_top_start(text, chart.row_count() * 20 + 132)?;
     text.push_str(STYLE)?;
     text.push_str(LEGEND)
 }
@@ -101,6 +103,28 @@ fn push_workers(text: &mut String, workers: Option<u32>) -> Result<(), AllocErro
     }
 }
 
+/// Appends which names the colours stand for.
+fn push_colours(text: &mut String, chart: &Chart<'_>) -> Result<(), AllocError>
+    ensures { OnOk result (Adds text.old text.new (colours_text (coloured_in chart.now))) }
+{
+    for place in 0..chart.colour_count() {
+        push_colour(text, chart, place)?;
+    }
+    Ok(())
+}
+
+/// Appends which name the colour at a place stands for.
+fn push_colour(text: &mut String, chart: &Chart<'_>, place: u64) -> Result<(), AllocError>
+    requires { place < length (coloured_in chart.now) }
+    ensures { OnOk result (Adds text.old text.new
+        (colour_text place (slice_index_or (coloured_in chart.now) place []))) }
+{
+    let _colours = chart.colour_count();
+    push_colour_start(text, place * 170 + 8, place + 1)?;
+    push_xml(text, chart.coloured_name(place))?;
+    push_colour_end(text)
+}
+
 /// Appends the lanes of affinities.
 fn push_affinity_lanes(text: &mut String, chart: &Chart<'_>) -> Result<(), AllocError>
     ensures { OnOk result (Adds text.old text.new
@@ -121,7 +145,7 @@ fn push_affinity_lane(text: &mut String, chart: &Chart<'_>, row: u64) -> Result<
 {
     let _lanes = chart.lane_count();
     let left = chart.lane_depth(row).min(12) * 8 + 8;
-    push_lane_start(text, row * 20 + 80, left, row * 20 + 94)?;
+    push_lane_start(text, row * 20 + 100, left, row * 20 + 114)?;
     push_xml(text, chart.lane_name(row))?;
     push_lane_end(text)
 }
@@ -145,7 +169,7 @@ fn push_worker_lane(text: &mut String, chart: &Chart<'_>, worker: u32) -> Result
         (worker_lane (length (lanes_in chart.now)) worker)) }
 {
     let row = chart.lane_count() + u64::from(worker) - 1;
-    push_lane_start(text, row * 20 + 80, 8, row * 20 + 94)?;
+    push_lane_start(text, row * 20 + 100, 8, row * 20 + 114)?;
     push_worker_name(text, worker)?;
     push_lane_end(text)
 }
@@ -156,16 +180,16 @@ fn push_rule(text: &mut String, chart: &Chart<'_>) -> Result<(), AllocError>
         (rule_text (length (lanes_in chart.now)) (workers_in chart.now))) }
 {
     if chart.worker_count() >= 1 {
-        push_rule_line(text, chart.lane_count() * 20 + 80)?;
+        push_rule_line(text, chart.lane_count() * 20 + 100)?;
     }
     Ok(())
 }
 
 /// Appends what the numbers along the axis are.
 fn push_unit(text: &mut String, chart: &Chart<'_>) -> Result<(), AllocError>
-    ensures { OnOk result (Adds text.old text.new (axis_unit (rows_in chart.now * 20 + 98))) }
+    ensures { OnOk result (Adds text.old text.new (axis_unit (rows_in chart.now * 20 + 118))) }
 {
-    push_axis_unit(text, chart.row_count() * 20 + 98)
+    push_axis_unit(text, chart.row_count() * 20 + 118)
 }
 
 /// Appends the numbers of ticks along the axis, above the lanes and below.
@@ -186,7 +210,7 @@ fn push_tick(text: &mut String, chart: &Chart<'_>, tick: u128) -> Result<(), All
 {
     if tick <= chart.end() {
         let place = (tick - u128::from(chart.from())) * 1000 / chart.span() + 320;
-        push_tick_label(text, place, chart.row_count() * 20 + 98, tick)?;
+        push_tick_label(text, place, chart.row_count() * 20 + 118, tick)?;
     }
     Ok(())
 }

@@ -36,4 +36,5 @@ invariant_of-result c =
       each_link = λ n low.
           c.in_ok-links.ensures.each n (omega (arith, low, c.in_ok-links.ensures.count))
           ∙ ap (λ numbers. is_among numbers n) c.chain.ensures.chain;
+      names = c.in_ok-colours.ensures;
     }
