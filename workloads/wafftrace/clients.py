@@ -5,7 +5,7 @@ import operator
 from argparse import Namespace
 from collections.abc import Callable, Sequence
 
-from . import ahead, limits
+from . import limits
 from .logs import Refusal, Request, tell
 
 # The bytes of a name that is no client.
@@ -14,14 +14,12 @@ NONE = "-"
 
 def kind_of(asked: Namespace) -> str | None:
     """What a client is, None where a trace is to have none."""
-    kind: str = asked.clients or (asked.usual if ahead.CLIENTS else "none")
+    kind: str = asked.clients or asked.usual
     if kind == "none":
         for word, given in (("--loop", asked.loop), ("--depth", asked.depth)):
             if given:
                 raise Refusal(2, f"{word}: the trace has no clients")
         return None
-    if not ahead.CLIENTS:
-        raise Refusal(2, f"--clients {kind}: the traces of this program have no clients yet")
     return kind
 
 
