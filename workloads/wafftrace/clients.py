@@ -40,10 +40,12 @@ def deal(requests: list[Request], took: Took, depth: int | None) -> None:
         if it.client in measured:
             ends = lanes[it.client]
             lane = min(range(len(ends)), key=lambda n: (ends[n], n), default=0)
-            if not ends or ends[lane] > it.time:
+            # The times of a log are rounded down, to microseconds.
+            if not ends or ends[lane] >= it.time + 1000:
                 lane = len(ends)
                 ends.append(0)
-            ends[lane] = it.time + took(it)
+            # How long a request took that has no latency is not known, and a guess opens no lane.
+            ends[lane] = it.time + (0 if it.took is None else took(it))
         else:
             lane = count[it.client] % (depth or 1)
             count[it.client] += 1
