@@ -1,5 +1,5 @@
 -- What `least` and `over` tell of a plan, from what is known of all plans and of all printed ratios.
-use Rattle.std.proofs.Common.{◌≡◌, ℕ, ◌*◌, ◌≤◌, List, length, [], ◌∷◌, ◌++◌, Option, Some, None, IfSome, codes, decimal, arith, sym, ◌∙◌, ap}
+use Rattle.std.proofs.Common.{◌≡◌, ℕ, ◌*◌, ◌≤◌, length, [], ◌∷◌, ◌++◌, Option, Some, None, IfSome, codes, decimal, arith, sym, ◌∙◌, ap}
 use Rattle.std.proofs.lemmas.Fmt.{decimal_digit}
 use Rattle.std.proofs.Math.Nat.{mul-le-mul_left}
 use Rattle.waff_model.specs.Tree.{IsTree}

@@ -1,5 +1,5 @@
 -- What is known of a task: its messages follow earlier ones, and costs, releases and think times are within their limits.
-use Rattle.std.proofs.Common.{◌≡◌, ◌≢◌, ℕ, ◌-◌, ◌<◌, ◌≤◌, List, length, Some, arith, sym, ap, ◌∙◌, subst}
+use Rattle.std.proofs.Common.{◌≡◌, ℕ, ◌-◌, ◌≤◌, List, length, arith, sym, ap, ◌∙◌, subst}
 use Rattle.waff_model.specs.declared.limits.TheConstants.{MAX_MESSAGES, MAX_THINK}
 use Rattle.waff_model.proofs.TraceLemmas.{few_messages}
 use Rattle.waff_plan.specs.Obeys.{FollowsEarlier}

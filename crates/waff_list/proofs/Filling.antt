@@ -2,14 +2,14 @@
 use Rattle.std.proofs.Common.{◌≡◌, ◌≢◌, ℕ, suc, ◌+◌, ◌-◌, ◌<◌, ◌≤◌, ◌⊎◌, inl, inr, List, [], ◌∷◌, ◌++◌, length, map, drop, get_or, set, AllPairs, Contains, arith, refl, ap, sym, ◌∙◌, subst, get_or-set_other}
 use Rattle.std.specs.List.Sorted.{IsPermutation, IsNonDecreasingBy}
 use Rattle.std.proofs.Math.Seq.{drop-cons}
-use Rattle.std.proofs.lemmas.Bool.{cases_eq, cases_lt}
-use Rattle.std.proofs.lemmas.List.{get_or_default, get_or-drop, length-drop, drop_all, append_assoc}
-use Rattle.std.proofs.lemmas.List.Elements.{All-contains, Contains-append_left, Contains-append_right, Contains-append_cases, Contains-push}
+use Rattle.std.proofs.lemmas.Bool.{cases_eq}
+use Rattle.std.proofs.lemmas.List.{get_or_default, get_or-drop, length-drop, drop_all}
+use Rattle.std.proofs.lemmas.List.Elements.{Contains-append_left, Contains-append_right, Contains-append_cases, Contains-push}
 use Rattle.std.proofs.lemmas.List.Sorted.{IsPermutation-append_left, IsPermutation-append_right}
 use Rattle.waff_plan.specs.Obeys.{IsForward, FollowsNone}
 use Rattle.waff_plan.proofs.NoClients.{issue_is_release}
 use Rattle.waff_plan.specs.Timing.{start_of}
-use Rattle.waff_plan.specs.Work.{Work, IsNumber, IsAmongFirst, finish_of}
+use Rattle.waff_plan.specs.Work.{Work, IsNumber, IsAmongFirst}
 use Rattle.waff_list.specs.Choosing.{AreChosen}
 use Rattle.waff_list.specs.ListRule.{IsReady}
 use Rattle.waff_list.specs.Load.{Load, Placed, Pending, before_in, priority_in, first_in}

@@ -1,27 +1,23 @@
 -- At the beginning no message is placed and none has joined; those that follow none are issued at their releases.
-use Rattle.std.proofs.Common.{◌≡◌, ◌≢◌, ℕ, ◌+◌, ◌-◌, ◌^◌, ◌<◌, ◌≤◌, ◌⊎◌, inl, inr, List, [], ◌∷◌, ◌++◌, length, map, get_or, replicate, count_by, nat_eq, All, Contains, Option, Some, None, option_map, arith, refl, sym, ap, ◌∙◌, subst}
+use Rattle.std.proofs.Common.{◌≡◌, ℕ, ◌+◌, ◌-◌, ◌<◌, ◌≤◌, ◌⊎◌, inl, inr, List, [], ◌∷◌, length, map, replicate, count_by, nat_eq, Contains, Option, Some, None, option_map, arith, refl, sym, ap, ◌∙◌, subst}
 use Rattle.std.specs.List.Sorted.{IsPermutation}
 use Rattle.std.proofs.lemmas.Bool.{cases_eq, cases_lt}
-use Rattle.std.proofs.lemmas.List.{append-nil, get_or-replicate, get_or_past, length-replicate, nil_from_length}
+use Rattle.std.proofs.lemmas.List.{append-nil, get_or-replicate, get_or_past, length-replicate}
 use Rattle.std.proofs.lemmas.List.Elements.{All-cons, All-contains, All-contains_itself, All-nil, All-weaker}
 use Rattle.std.proofs.lemmas.List.Sorted.{All-permutation, IsPermutation-map}
-use Rattle.std.proofs.lemmas.Option.{none-some}
 use Rattle.waff_model.specs.Numbers.{IsAmongFirst}
-use Rattle.waff_assign.specs.Order.{affinity_of}
 use Rattle.waff_plan.specs.Timing.{start_of}
 use Rattle.waff_plan.specs.Work.{Work, IsNumber, finish_of, issue_after, issue_of}
 use Rattle.waff_order.specs.Joined.{HaveJoined, Joined}
 use Rattle.waff_order.specs.Needs.{needs_of}
 use Rattle.waff_list.specs.IssueJoining.{AreJoining, IsJoining}
 use Rattle.waff_list.specs.Issuing.{AreFirstIssues}
-use Rattle.waff_list.specs.Load.{Placed}
 use Rattle.waff_list.specs.Progress.{IsSmall}
 use Rattle.waff_list.specs.Serving.{AreNeedsByNumber, Service}
 use Rattle.waff_list.specs.Trails.{trails}
 use Rattle.waff_list.specs.Waiting.{AreDependents, AreEach, AreLeft, dependents_of, times}
 use Rattle.waff_list.specs.declared.dependents.Dependents.{Dependents}
 use Rattle.waff_list.specs.declared.work.TheConstants.{NEVER}
-use Rattle.waff_list.proofs.DependentLemmas.{dependents_none}
 use Rattle.waff_list.proofs.Each.{contains_map, each_more, each_moved, each_same, none_there}
 use Rattle.waff_list.proofs.FinishLemmas.{finishes_none}
 use Rattle.waff_list.proofs.IssueLemmas.{followed_by}

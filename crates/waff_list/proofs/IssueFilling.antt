@@ -1,16 +1,15 @@
 -- At a tick the messages that were taken out start in the order of their numbers, and the tick has been filled.
-use Rattle.std.proofs.Common.{◌≡◌, ◌≢◌, ℕ, suc, ◌+◌, ◌-◌, ◌<◌, ◌≤◌, ◌⊎◌, inl, inr, List, [], ◌∷◌, ◌++◌, length, map, drop, get_or, set, Contains, arith, refl, ap, sym, ◌∙◌, subst, get_or-set_other}
+use Rattle.std.proofs.Common.{◌≡◌, ◌≢◌, ℕ, suc, ◌+◌, ◌-◌, ◌<◌, ◌≤◌, ◌⊎◌, inl, inr, List, [], ◌∷◌, ◌++◌, length, drop, get_or, set, Contains, arith, refl, ap, sym, ◌∙◌, subst, get_or-set_other}
 use Rattle.std.specs.List.Sorted.{IsPermutation, IsNonDecreasingBy}
 use Rattle.std.proofs.Math.Seq.{drop-cons}
 use Rattle.std.proofs.lemmas.Bool.{cases_eq}
-use Rattle.std.proofs.lemmas.List.{drop_all, get_or_default, append_assoc}
+use Rattle.std.proofs.lemmas.List.{drop_all, get_or_default}
 use Rattle.std.proofs.lemmas.List.Elements.{Contains-append_left, Contains-append_right, Contains-push}
 use Rattle.std.proofs.lemmas.List.Sorted.{Contains-permutation, IsPermutation-append_left, IsPermutation-append_right, IsPermutation-sym, IsPermutation-trans}
-use Rattle.waff_plan.specs.Issues.{IsIssuedBefore}
 use Rattle.waff_plan.specs.Obeys.{FollowsEarlier}
 use Rattle.waff_plan.specs.Timing.{start_of}
-use Rattle.waff_plan.specs.Work.{Work, IsNumber, finish_of, issue_of}
-use Rattle.waff_list.specs.Issuing.{AreGathered, AreRanked, IsStartingBy, IsTakenNoLater, issue_kept, ranked_in}
+use Rattle.waff_plan.specs.Work.{IsNumber, issue_of}
+use Rattle.waff_list.specs.Issuing.{AreGathered, AreRanked, IsStartingBy, issue_kept, ranked_in}
 use Rattle.waff_list.specs.Load.{Placed}
 use Rattle.waff_list.specs.Serving.{IsProgressByIssue, IsServing, Joins, Service}
 use Rattle.waff_list.specs.Waiting.{AreEach, left_of}
@@ -19,7 +18,7 @@ use Rattle.waff_list.proofs.Each.{each_apart, each_moved}
 use Rattle.waff_list.proofs.Filling.{in_rest, there_at}
 use Rattle.waff_list.proofs.ServiceLemmas.{before_at, first_at, served_numbers}
 use Rattle.waff_list.proofs.ServicePlacing.{followed, starting_by_issue}
-use Rattle.waff_list.proofs.Starting.{is_ready, starts_filled, unplaced}
+use Rattle.waff_list.proofs.Starting.{is_ready, starts_filled}
 
 -- the first so many of these messages have been started
 pub record IsFillingBy (service : Service) (old : List ℕ) (placed : Placed) (finishes : List (ℕ × ℕ)) (idle left waiting : List ℕ) (joins : Joins) (ticks : List ℕ)

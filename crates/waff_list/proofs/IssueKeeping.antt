@@ -1,10 +1,10 @@
 -- What the planner in the order of issue keeps, in its own values: while messages join, and where all have joined.
-use Rattle.std.proofs.Common.{◌≡◌, ℕ, ◌<◌, ◌≤◌, List, ◌∷◌, ◌++◌, map, All, Contains, arith, sym, subst}
+use Rattle.std.proofs.Common.{◌≡◌, ℕ, ◌<◌, ◌≤◌, List, ◌++◌, map, All}
 use Rattle.std.specs.List.Sorted.{IsPermutation}
 use Rattle.std.proofs.lemmas.List.Sorted.{All-permutation, Contains-permutation, IsPermutation-append_right, IsPermutation-map, IsPermutation-sym}
 use Rattle.waff_plan.specs.Timing.{start_of}
 use Rattle.waff_plan.specs.Work.{Work, IsNumber, issue_of}
-use Rattle.waff_list.specs.IssueJoining.{AreJoining, IsJoining, IsJoiningBy}
+use Rattle.waff_list.specs.IssueJoining.{AreJoining, IsJoiningBy}
 use Rattle.waff_list.specs.IssuePlanning.{IsKeptByIssue, service_of}
 use Rattle.waff_list.specs.declared.client_task.ClientTask.{ClientTask}
 use Rattle.waff_list.specs.declared.progress.Progress.{Progress}

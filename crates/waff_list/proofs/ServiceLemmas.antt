@@ -20,7 +20,7 @@ use Rattle.waff_list.specs.Seating.{worker_of}
 use Rattle.waff_list.specs.Serving.{AreNeedsByNumber, AreServed, IsLastEvent, IsMadeByIssue, IsProgressByIssue, Service, served_at}
 use Rattle.waff_list.specs.Waiting.{AreFinishes}
 use Rattle.waff_list.specs.declared.work.TheConstants.{NEVER}
-use Rattle.waff_model.specs.declared.limits.TheConstants.{MAX_COST, MAX_RELEASE, MAX_THINK, MAX_TICK}
+use Rattle.waff_model.specs.declared.limits.TheConstants.{MAX_RELEASE, MAX_THINK, MAX_TICK}
 use Rattle.waff_list.proofs.Each.{contains_map, contains_mapped, each_there}
 use Rattle.waff_list.proofs.IssueLemmas.{issue_le}
 use Rattle.waff_list.proofs.IssuePlans.{follows_messages, served_to, taken_to}

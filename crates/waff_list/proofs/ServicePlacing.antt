@@ -1,13 +1,12 @@
 -- A message that has joined starts: what is kept of those that have joined stays, and the issue of what follows it becomes known.
-use Rattle.std.proofs.Common.{◌≡◌, ◌≢◌, ℕ, ◌+◌, ◌<◌, ◌≤◌, inl, inr, List, [], ◌∷◌, ◌++◌, map, get_or, Contains, Some, arith, refl, sym, ◌∙◌, ap, subst}
+use Rattle.std.proofs.Common.{◌≡◌, ℕ, ◌+◌, ◌<◌, ◌≤◌, inl, inr, List, [], ◌∷◌, ◌++◌, map, get_or, Contains, Some, arith, refl, sym, ◌∙◌, ap, subst}
 use Rattle.std.specs.List.Sorted.{IsPermutation}
-use Rattle.std.proofs.lemmas.Bool.{cases_eq}
 use Rattle.std.proofs.lemmas.List.{append_assoc}
 use Rattle.std.proofs.lemmas.List.Elements.{All-cons, All-contains, All-contains_itself, All-weaker, Contains-get_or}
 use Rattle.std.proofs.lemmas.List.Sorted.{All-permutation, IsPermutation-map}
 use Rattle.waff_plan.specs.Obeys.{FollowsEarlier}
 use Rattle.waff_plan.specs.Timing.{start_of}
-use Rattle.waff_plan.specs.Work.{Work, IsNumber, finish_of, issue_of}
+use Rattle.waff_plan.specs.Work.{Work, IsNumber, issue_of}
 use Rattle.waff_order.specs.Needs.{IsNeed}
 use Rattle.waff_list.specs.ListRule.{IsReady}
 use Rattle.waff_list.specs.Load.{Pending, Placed}
@@ -21,7 +20,7 @@ use Rattle.waff_list.proofs.IssuePlans.{follows_messages, issued_to}
 use Rattle.waff_list.proofs.Making.{IsMovedTo}
 use Rattle.waff_list.proofs.ServiceLemmas.{before_at, first_at, free_by_needs, need_is_served, needs_if_free, served_alike, served_numbers}
 use Rattle.waff_list.proofs.Starting.{IsStartingOf, late, more, is_ready, starts_issue, starts_issued, starts_more, starts_moved}
-use Rattle.waff_list.proofs.Uniqueness.{AreAlike, FollowsMessages}
+use Rattle.waff_list.proofs.Uniqueness.{FollowsMessages}
 
 module _ (service : Service) (follows : FollowsEarlier service.work) where
   abbrev work : Work

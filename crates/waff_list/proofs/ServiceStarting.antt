@@ -1,18 +1,18 @@
 -- One message more starts at a tick, and the message that follows it has its issue.
-use Rattle.std.proofs.Common.{◌≡◌, ◌≢◌, ℕ, ◌+◌, ◌-◌, ◌<◌, ◌≤◌, inl, inr, List, [], ◌∷◌, ◌++◌, map, max, set, Contains, Some, option_map, arith, refl, sym, ◌∙◌, ap, subst}
+use Rattle.std.proofs.Common.{◌≡◌, ◌≢◌, ℕ, ◌+◌, ◌-◌, ◌<◌, ◌≤◌, inl, inr, List, [], ◌∷◌, ◌++◌, map, max, set, Contains, option_map, arith, sym, ◌∙◌, ap, subst}
 use Rattle.std.specs.List.Sorted.{IsPermutation}
 use Rattle.std.proofs.lemmas.Bool.{cases_eq}
 use Rattle.std.proofs.lemmas.List.Sorted.{IsPermutation-append_left}
 use Rattle.waff_plan.specs.Obeys.{FollowsEarlier}
 use Rattle.waff_plan.specs.Timing.{start_of}
-use Rattle.waff_plan.specs.Work.{Work, IsNumber, IsAmongFirst, finish_of, issue_after, issue_of}
+use Rattle.waff_plan.specs.Work.{IsNumber, IsAmongFirst, finish_of, issue_after, issue_of}
 use Rattle.waff_list.specs.Issuing.{IsIssuedNext, IsNext, IsStartingBy}
-use Rattle.waff_list.specs.Load.{Pending, Placed}
+use Rattle.waff_list.specs.Load.{Placed}
 use Rattle.waff_list.specs.Seating.{worker_of}
 use Rattle.waff_list.specs.Serving.{AreIssues, IsServing, Joins, Service}
 use Rattle.waff_list.specs.declared.work.TheConstants.{NEVER}
 use Rattle.waff_list.proofs.Each.{each_moved}
-use Rattle.waff_list.proofs.ServicePlacing.{back, issues_more, issues_stay, more_served, moved, never, on_after, serving_after}
+use Rattle.waff_list.proofs.ServicePlacing.{back, issues_more, issues_stay, moved, never, on_after, serving_after}
 
 module _ (service : Service) (follows : FollowsEarlier service.work) where
   -- the workers that are idle, in another order

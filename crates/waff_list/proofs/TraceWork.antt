@@ -1,5 +1,5 @@
 -- The work of the messages of a trace, and the order of their needs.
-use Rattle.std.proofs.Common.{◌≡◌, ◌≢◌, ℕ, ◌+◌, ◌-◌, ◌<◌, ◌≤◌, inl, inr, List, length, get_or, map, All, arith, subst, sym, ap, ◌∙◌}
+use Rattle.std.proofs.Common.{◌≡◌, ◌≢◌, ℕ, ◌+◌, ◌-◌, inl, inr, List, length, get_or, map, All, arith, subst, sym, ap, ◌∙◌}
 use Rattle.std.proofs.Math.ListN.{get_or-map as read}
 use Rattle.std.proofs.Math.Path.{fun_ext}
 use Rattle.std.proofs.lemmas.Bool.{cases_lt}
@@ -7,7 +7,7 @@ use Rattle.std.proofs.lemmas.List.{get_or_past, length-map}
 use Rattle.waff_model.specs.declared.message.Message.{Message}
 use Rattle.waff_model.specs.declared.message.Version.TheVariants.{V3}
 use Rattle.waff_model.specs.Messages.{Arrivals, IsTrace}
-use Rattle.waff_plan.specs.Work.{Work, IsAmongFirst, IsNumber}
+use Rattle.waff_plan.specs.Work.{Work, IsAmongFirst}
 use Rattle.waff_plan.specs.Obeys.{IsForward, IsEarlier, FollowsNone}
 use Rattle.waff_plan.proofs.NoClients.{linked_before}
 use Rattle.waff_plan.proofs.TimingLemmas.{are_timings, floor_alone, length-timings_of, message_at}

@@ -1,14 +1,13 @@
 -- How many needs of a message that joins have not finished.
-use Rattle.std.proofs.Common.{◌≡◌, ◌≢◌, ℕ, ◌+◌, ◌-◌, ◌<◌, ◌≤◌, ◌⊎◌, cond, nat_eq, nat_lt, inl, inr, List, [], ◌∷◌, ◌++◌, length, map, set, sum_by, count_by, All, Contains, arith, refl, ap, sym, ◌∙◌, subst, get_or-set_same, get_or-set_other, length-set}
+use Rattle.std.proofs.Common.{◌≡◌, ◌≢◌, ℕ, ◌+◌, ◌-◌, ◌<◌, ◌≤◌, ◌⊎◌, cond, nat_eq, nat_lt, inl, inr, List, [], ◌∷◌, length, map, set, sum_by, count_by, All, Contains, arith, refl, ap, sym, ◌∙◌, subst, get_or-set_same, get_or-set_other, length-set}
 use Rattle.std.proofs.lemmas.Bool.{cases_eq, cases_lt, cond-true, cond-false, eq-eqb, ne_eqb, lt-ltb, le-ltb}
 use Rattle.std.proofs.lemmas.List.Elements.{All-contains, All-head, All-tail}
 use Rattle.std.proofs.lemmas.List.Sums.{sum_by-cons}
-use Rattle.waff_model.specs.Numbers.{IsAmongFirst}
 use Rattle.waff_plan.specs.Work.{Work, IsNumber, finish_of}
 use Rattle.waff_order.specs.Needs.{needs_of}
 use Rattle.waff_list.specs.IssueJoining.{unfinished}
 use Rattle.waff_list.specs.Seating.{worker_of}
-use Rattle.waff_list.specs.Waiting.{AreFinishes, AreLeft, AreManned, Runs, left_of, running_needs, times, unplaced_needs}
+use Rattle.waff_list.specs.Waiting.{AreFinishes, AreLeft, AreManned, Runs, left_of, times}
 use Rattle.waff_list.specs.declared.work.TheConstants.{NEVER}
 use Rattle.waff_list.proofs.CountLemmas.{sum_none, sum_some}
 use Rattle.waff_list.proofs.Each.{contains_map, times_append}

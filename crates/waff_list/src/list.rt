@@ -34,12 +34,7 @@ use waff_plan::{Chain, Plan};
 /// rule takes first starts. Of two messages that exclude each other the one that comes first in the trace is
 /// served first, and in a trace of the third version the one that is issued first. Of the messages that
 /// start at a tick the one of the lowest number takes the least worker that is free.
-pub fn list_plan(
-    alloc: Global,
-    case: Case,
-    rule: Rule,
-    k: u32,
-) -> Result<WorkerPlan, AllocError>
+pub fn list_plan(alloc: Global, case: Case, rule: Rule, k: u32) -> Result<WorkerPlan, AllocError>
     requires workers { IsWorkers k }
     ensures version { IfOk result (λ made. made.plan.version ≡ case.entry.trace.now.version) }
     ensures timings { IfOk result (λ made.

@@ -1,6 +1,6 @@
 -- No plan that obeys is shorter than its share of the work, than what one client needs, or than what
 -- runs on one path of affinities.
-use Rattle.std.proofs.Common.{◌≡◌, ℕ, zero, suc, ◌+◌, ◌-◌, ◌*◌, ◌^◌, ◌<◌, ◌≤◌, inl, inr, true, false, Bool, cond, eqb, max, List, [], ◌∷◌, ◌++◌, All, map, length, get_or, set, sum_by, count_by, nat_le, nat_lt, Option, Some, None, IfSome, option_map, arith, refl, sym, ◌∙◌, ap, subst}
+use Rattle.std.proofs.Common.{◌≡◌, ℕ, zero, suc, ◌+◌, ◌-◌, ◌*◌, ◌^◌, ◌<◌, ◌≤◌, inl, inr, true, Bool, cond, eqb, max, List, [], ◌∷◌, ◌++◌, All, map, length, get_or, set, sum_by, count_by, Option, Some, None, IfSome, option_map, arith, refl, sym, ◌∙◌, ap, subst}
 use Rattle.std.specs.List.{range_with_len}
 use Rattle.std.proofs.lemmas.Bool.{cases_Bool, cases_eq, cases_lt, cond-true, cond-false, eq-eqb, ne_eqb}
 use Rattle.std.proofs.lemmas.List.{get_or_past, get_or-set_other, get_or-set_same}
@@ -13,8 +13,8 @@ use Rattle.waff_assign.specs.Order.{IsOrdered, affinity_of}
 use Rattle.waff_plan.specs.Apart.{AreApart}
 use Rattle.waff_plan.specs.Bound.{IsWorkers}
 use Rattle.waff_plan.specs.IssueLaws.{StartsIssued}
-use Rattle.waff_plan.specs.LowerBound.{NoneIsBelow, client_finish, cost_by, cost_in, finish_by, lower_bound_of, of_parent, own_cost, path_cost, share_in}
-use Rattle.waff_plan.specs.Obeys.{FollowsEarlier, Obeys}
+use Rattle.waff_plan.specs.LowerBound.{NoneIsBelow, client_finish, cost_by, cost_in, finish_by, of_parent, own_cost, path_cost, share_in}
+use Rattle.waff_plan.specs.Obeys.{FollowsEarlier}
 use Rattle.waff_plan.specs.Timing.{IsTiming, no_timing, work_of}
 use Rattle.waff_plan.specs.declared.timing.Timing.{Timing}
 use Rattle.waff_plan.specs.Work.{IsNumber, Work, finish_of, greatest, issue_after, length_of, numbers, total_of}

@@ -1,5 +1,5 @@
 -- What messages waited for, by the links of work in which no message follows another.
-use Rattle.std.proofs.Common.{◌≡◌, ℕ, ◌-◌, ◌≤◌, List, get_or, Option, Some, None, inl, arith, refl}
+use Rattle.std.proofs.Common.{ℕ, ◌-◌, List, get_or, Option, Some, None, inl, arith, refl}
 use Rattle.waff_assign.specs.Order.{Relation}
 use Rattle.waff_plan.specs.ByStart.{AreByStart}
 use Rattle.waff_plan.specs.Links.{AreLinks, IsLink}

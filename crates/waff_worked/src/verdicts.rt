@@ -177,12 +177,18 @@ const CASES_OF_CLIENTS: &[(&str, [&str; 2], (&str, &str))] = &[
     (PLAN_H1_X3_TURNED, ["", ""], ("0 Tight", "tight\n")),
     (
         PLAN_H1_X3,
-        ["chain,1 4 3\nrelease,0\ncost,11\nbound,11,11", "chain,1\nrelease,0\ncost,4\nbound,11,4"],
+        [
+            "chain,1 4 3\nrelease,0\ncost,11\nbound,11,11",
+            "chain,1\nrelease,0\ncost,4\nbound,11,4",
+        ],
         ("0 Shortest", "shortest\n"),
     ),
     (
         PLAN_H1_X3_TURNED,
-        ["chain,1 3 4\nrelease,3\ncost,11\nbound,14,14", "chain,1\nrelease,0\ncost,4\nbound,14,4"],
+        [
+            "chain,1 3 4\nrelease,3\ncost,11\nbound,14,14",
+            "chain,1\nrelease,0\ncost,4\nbound,14,4",
+        ],
         ("0 Obeys", "obeys\n"),
     ),
     (
@@ -202,12 +208,18 @@ const CASES_OF_CLIENTS: &[(&str, [&str; 2], (&str, &str))] = &[
     ),
     (
         PLAN_H1_X3,
-        ["chain,1 4 3\nrelease,0\ncost,11\nbound,11,11", "chain,1 2\nrelease,0\ncost,7\nbound,11,7"],
+        [
+            "chain,1 4 3\nrelease,0\ncost,11\nbound,11,11",
+            "chain,1 2\nrelease,0\ncost,7\nbound,11,7",
+        ],
         ("1 NotAChain { place: 2 }", "notachain,2\n"),
     ),
     (
         PLAN_H1_X3,
-        ["chain,1 4 3\nrelease,0\ncost,11\nbound,11,11", "chain,3 4\nrelease,0\ncost,7\nbound,11,7"],
+        [
+            "chain,1 4 3\nrelease,0\ncost,11\nbound,11,11",
+            "chain,3 4\nrelease,0\ncost,7\nbound,11,7",
+        ],
         ("1 NotAChain { place: 2 }", "notachain,2\n"),
     ),
     (

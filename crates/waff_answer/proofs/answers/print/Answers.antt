@@ -1,4 +1,4 @@
-use Rattle.std.proofs.Common.{◌≡◌, List, drop, refl}
+use Rattle.std.proofs.Common.{◌≡◌, drop, refl}
 use Rattle.std.specs.Prelude.{option_map, slice_get, unwrap_or}
 use Rattle.waff_io.specs.Split.{after_mark, before_mark}
 use Rattle.waff_figures.specs.Sweep.{sweep_workers}

@@ -1,15 +1,12 @@
-use Rattle.std.proofs.Common.{◌≡◌, ℕ, suc, List, ◌+◌, ◌<◌, ◌≤◌, ◌⊎◌, inl, inr, ◌∷◌, length, drop, get_or, [], arith, refl, sym, ◌∙◌, ap, subst}
-use Rattle.std.specs.List.Sorted.{IsNonDecreasingBy, IsPermutation}
+use Rattle.std.proofs.Common.{◌≡◌, ℕ, suc, ◌+◌, ◌<◌, ◌≤◌, ◌⊎◌, inl, inr, ◌∷◌, length, drop, get_or, [], arith, refl, sym, ◌∙◌, ap, subst}
 use Rattle.std.proofs.lemmas.List.{get_or_read, nil_from_length}
 use Rattle.std.proofs.lemmas.List.Sorted.{IsNonDecreasingBy-from_sort, length_permutation}
-use Rattle.waff_plan.specs.Obeys.{FollowsEarlier}
 use Rattle.waff_plan.specs.Work.{IsNumber}
 use Rattle.waff_list.specs.Issuing.{AreGathered, AreRanked, issue_kept, ranked_in}
 use Rattle.waff_list.specs.IssuePlanning.{IsStarting, joins_in, service_of}
 use Rattle.waff_list.specs.Planning.{placed_in}
-use Rattle.waff_list.specs.declared.client_task.ClientTask.{ClientTask}
 use Rattle.waff_list.proofs.ClientTasks.{follows_of}
-use Rattle.waff_list.proofs.IssueFilling.{IsFillingBy, filling_none, filling_number, filling_turn, filling_split, filling_more, filling_all, filling_filled}
+use Rattle.waff_list.proofs.IssueFilling.{filling_none, filling_number, filling_turn, filling_split, filling_more, filling_all, filling_filled}
 use Rattle.waff_list.proofs.issuing.fill.Goals as goal
 use Rattle.waff_list.proofs.issuing.fill.Goals.{After-index}
 

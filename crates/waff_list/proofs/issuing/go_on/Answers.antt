@@ -1,11 +1,9 @@
-use Rattle.std.proofs.Common.{◌≡◌, ◌≢◌, ℕ, ◌+◌, ◌<◌, ◌≤◌, min, length, arith, refl, sym, ◌∙◌, ap, subst}
+use Rattle.std.proofs.Common.{arith, sym, ap, subst}
 use Rattle.waff_plan.specs.Timing.{start_of}
-use Rattle.waff_list.specs.IssuePlanning.{joins_in, service_of}
+use Rattle.waff_list.specs.IssuePlanning.{service_of}
 use Rattle.waff_list.specs.Load.{Placed}
 use Rattle.waff_list.specs.Planning.{placed_in}
-use Rattle.waff_list.specs.Serving.{IsLastEvent, IsNextEvent, IsProgressByIssue}
-use Rattle.waff_list.specs.declared.client_task.ClientTask.{ClientTask}
-use Rattle.waff_list.specs.declared.work.TheConstants.{NEVER}
+use Rattle.waff_list.specs.Serving.{IsNextEvent, IsProgressByIssue}
 use Rattle.waff_list.proofs.ClientTasks.{few_of, follows_of, small_of, thinks_of}
 use Rattle.waff_list.proofs.IssueEvents.{in_time_early, in_time_next, in_time_none, last_event, next_event, steps_fewer}
 use Rattle.waff_list.proofs.IssuePlans.{follows_messages}

@@ -18,7 +18,7 @@ use Rattle.waff_list.specs.Serving.{Service, served_at}
 use Rattle.waff_list.specs.Trails.{trail, trails}
 use Rattle.waff_list.specs.Waiting.{dependents_of, times}
 use Rattle.waff_list.specs.declared.work.TheConstants.{NEVER}
-use Rattle.waff_list.proofs.ServiceJoining.{h, issued_after, joining_after, list_is, needs_count, number, numbers, places, ranked_after, room}
+use Rattle.waff_list.proofs.ServiceJoining.{issued_after, joining_after, list_is, needs_count, number, numbers, places, ranked_after, room}
 use Rattle.waff_list.proofs.ClientTasks.{count_of}
 use Rattle.waff_list.proofs.issuing.join.Goals as goal
 use Rattle.waff_list.proofs.issuing.join.Goals.{After-of, After-len, After-of-needs}

@@ -1,7 +1,5 @@
-use Rattle.std.proofs.Common.{◌≡◌, ◌+◌, ◌<◌, ◌≤◌, ◌∷◌, length, arith, ap, subst, sym}
+use Rattle.std.proofs.Common.{◌∷◌, length, arith, ap}
 use Rattle.std.proofs.lemmas.List.Sorted.{length_permutation}
-use Rattle.waff_list.specs.IssueJoining.{AreTables, IsJoiningBy}
-use Rattle.waff_list.specs.IssuePlanning.{service_of}
 use Rattle.waff_list.proofs.IssueKeeping.{kept_moved, kept_of_joining}
 use Rattle.waff_list.proofs.issuing.join_all.Goals as goal
 

@@ -1,12 +1,9 @@
-use Rattle.std.proofs.Common.{◌≡◌, ℕ, List, [], length, replicate, sum_by, All, Contains, arith, refl, sym, ◌∙◌, ap, subst}
+use Rattle.std.proofs.Common.{◌≡◌, [], length, replicate, sum_by, Contains, arith, refl, sym, ◌∙◌, ap, subst}
 use Rattle.std.proofs.lemmas.List.{nil_from_length}
 use Rattle.std.proofs.lemmas.List.Elements.{All-nil}
 use Rattle.waff_plan.specs.Timing.{start_of}
-use Rattle.waff_list.specs.IssueJoining.{IsJoining}
-use Rattle.waff_list.specs.IssuePlanning.{IsPlanned, pending_by, service_of}
+use Rattle.waff_list.specs.IssuePlanning.{service_of}
 use Rattle.waff_list.specs.Issuing.{AreRanked, issue_kept}
-use Rattle.waff_list.specs.Planning.{placed_in}
-use Rattle.waff_list.specs.Trails.{trails}
 use Rattle.waff_list.specs.declared.work.TheConstants.{NEVER}
 use Rattle.waff_list.proofs.ClientTasks.{count_of, few_of, follows_of, small_of}
 use Rattle.waff_list.proofs.Each.{none_there}
@@ -60,8 +57,8 @@ go_on-done-requires-clause-joining c =
       joining = (
         nothing work.count,
         rw (starts, made.order, made.finishes, left, h.served, h.ready)
-        (joining_none work.count service refl (follows_messages work (follows_of task)) (small_of task) s.joining (h.joined task.spans.now c.requires.nested)
-        s.dependents (h.firsts ∙ ap (λ n. replicate n 0) second) h.links c.begin-done.new.issues c.in-Ok.ensures p.seats.items p.idle made.idle),
+            (joining_none work.count service refl (follows_messages work (follows_of task)) (small_of task) s.joining (h.joined task.spans.now c.requires.nested)
+            s.dependents (h.firsts ∙ ap (λ n. replicate n 0) second) h.links c.begin-done.new.issues c.in-Ok.ensures p.seats.items p.idle made.idle),
       );
       issued = λ m there. absurd (none_there m (subst (λ xs. Contains xs m) h.served there));
       ranked = subst (λ ranks. AreRanked service.priority (issue_kept s.issued.items) ranks) (sym h.ready) (All-nil _);

@@ -1,4 +1,4 @@
-use Rattle.std.proofs.Common.{◌≡◌, ℕ, ◌+◌, ◌-◌, ◌<◌, ◌≤◌, ◌⊎◌, inl, inr, List, [], ◌∷◌, ◌++◌, length, map, All, Contains, arith, refl, sym, ◌∙◌, ap, subst}
+use Rattle.std.proofs.Common.{◌≡◌, ℕ, ◌+◌, ◌-◌, ◌<◌, ◌≤◌, inl, inr, List, [], ◌∷◌, ◌++◌, length, map, All, Contains, arith, refl, sym, ◌∙◌, ap, subst}
 use Rattle.std.specs.List.Sorted.{IsPermutation}
 use Rattle.std.proofs.lemmas.List.{get_or_read, length-map}
 use Rattle.std.proofs.lemmas.List.Elements.{All-contains, All-contains_itself, All-weaker, Contains-append_cases}
@@ -8,7 +8,6 @@ use Rattle.waff_plan.specs.Timing.{start_of}
 use Rattle.waff_plan.specs.Work.{IsNumber}
 use Rattle.waff_list.specs.IssueJoining.{AreTables, AreTold, IsJoiningBy}
 use Rattle.waff_list.specs.IssuePlanning.{joins_in, pending_by, service_of}
-use Rattle.waff_list.specs.Load.{Placed}
 use Rattle.waff_list.specs.Planning.{placed_in}
 use Rattle.waff_list.specs.Seating.{worker_of}
 use Rattle.waff_list.specs.Serving.{IsServing, Service}
@@ -16,9 +15,8 @@ use Rattle.waff_list.specs.Trails.{AreLinked, trail, trails}
 use Rattle.waff_list.specs.Waiting.{AreManned, HaveFinished, Runs, dependents_of, left_of, times}
 use Rattle.waff_list.specs.declared.progress.Progress.{Progress}
 use Rattle.waff_list.specs.declared.serving.Serving.{Serving}
-use Rattle.waff_list.proofs.CountLemmas.{sum_some}
 use Rattle.waff_list.proofs.Each.{contains_first, contains_more, contains_rest_of, each_moved, manned_less, none_there, times_append}
-use Rattle.waff_list.proofs.ServiceWaking.{AreWoken, joining_next, ran_as, told_as, told_by, told_enough}
+use Rattle.waff_list.proofs.ServiceWaking.{joining_next, ran_as, told_as, told_by, told_enough}
 use Rattle.waff_list.proofs.Telling.{told_join, told_none}
 use Rattle.waff_list.proofs.issuing.wake.Goals as goal
 use Rattle.waff_list.proofs.issuing.wake.Goals.{In-Some}

@@ -1,4 +1,4 @@
-use Rattle.std.proofs.Common.{◌≡◌, ℕ, List, Result, Ok, Err, IfOk, subst}
+use Rattle.std.proofs.Common.{Result, Ok, Err, IfOk, subst}
 use Rattle.waff_plan.specs.Chain.{IsPrinted}
 use Rattle.waff_plan.specs.CostedChain.{CostedChain}
 use Rattle.waff_plan.specs.Serving.{started_in}

@@ -1,7 +1,6 @@
 -- One message after another, and all of them sorted.
-use Rattle.std.proofs.Common.{◌≡◌, ◌-◌, arith, of_calls, rules, refl, ap}
+use Rattle.std.proofs.Common.{◌≡◌, ◌-◌, arith, of_calls, rules}
 use Rattle.std.proofs.lemmas.Fn.{always_returns_same}
-use Rattle.waff_plan.specs.ByStart.{started_of}
 use Rattle.waff_plan.specs.Timetable.{starts_in, work_in}
 use Rattle.waff_plan.proofs.ApartLaws.{sorted_by_start, started_more}
 use Rattle.waff_plan.proofs.apart.by_start.Goals as goal

@@ -1,5 +1,5 @@
 -- The finish of a message by that of the one that it follows.
-use Rattle.std.proofs.Common.{◌≡◌, ◌≢◌, ◌+◌, ◌-◌, ◌<◌, ◌≤◌, length, get_or, Some, None, arith, sym, ◌∙◌, ap}
+use Rattle.std.proofs.Common.{◌≡◌, ◌≢◌, ◌+◌, ◌-◌, get_or, Some, None, arith, sym, ◌∙◌, ap}
 use Rattle.waff_plan.specs.LowerBound.{client_finish}
 use Rattle.waff_plan.specs.Timing.{some_number}
 use Rattle.waff_plan.specs.Timetable.{work_in}

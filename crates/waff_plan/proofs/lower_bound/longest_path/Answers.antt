@@ -1,5 +1,5 @@
 -- One affinity after another, each behind its parent.
-use Rattle.std.proofs.Common.{◌≡◌, ◌+◌, ◌<◌, length, get_or, arith, sym, ◌∙◌, ap}
+use Rattle.std.proofs.Common.{◌≡◌, ◌+◌, ◌<◌, length, arith, sym, ◌∙◌, ap}
 use Rattle.std.proofs.lemmas.List.{get_or_default, length-set}
 use Rattle.waff_model.specs.Tree.{parent_of}
 use Rattle.waff_plan.specs.LowerBound.{of_parent, own_cost, path_cost}

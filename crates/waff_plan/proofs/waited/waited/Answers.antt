@@ -1,4 +1,4 @@
-use Rattle.std.proofs.Common.{◌≡◌, IfOk, length, sym, ◌∙◌, subst}
+use Rattle.std.proofs.Common.{IfOk, length, sym, ◌∙◌, subst}
 use Rattle.waff_model.specs.declared.message.Version.{Version}
 use Rattle.waff_plan.specs.Waited.{AreWaitedFor}
 use Rattle.waff_plan.specs.Serving.{started_before}

@@ -1,17 +1,15 @@
 -- Each message waits for the latest of those that exclude it and start before it.
-use Rattle.std.proofs.Common.{◌≡◌, ℕ, ◌+◌, ◌-◌, ◌<◌, ◌≤◌, [], ◌∷◌, ◌++◌, length, set, arith, refl, sym, ◌∙◌, ap, subst}
+use Rattle.std.proofs.Common.{◌≡◌, ◌+◌, ◌-◌, ◌<◌, [], ◌∷◌, ◌++◌, length, set, arith, refl, sym, ◌∙◌, ap, subst}
 use Rattle.std.proofs.lemmas.List.{get_or_default, length-set}
 use Rattle.waff_model.specs.Preorder.{span_at}
-use Rattle.waff_model.specs.Tree.{Excludes}
 use Rattle.waff_assign.specs.Order.{affinity_of}
 use Rattle.waff_plan.specs.ByStart.{started_at}
 use Rattle.waff_plan.specs.Latest.{IsFound}
 use Rattle.waff_plan.specs.Links.{IsLink, link_of}
-use Rattle.waff_plan.specs.Obeys.{EachRuns}
 use Rattle.waff_plan.specs.Serving.{IsStartedBefore}
 use Rattle.waff_plan.specs.Table.{IsTable}
 use Rattle.waff_plan.specs.Timetable.{starts_in, work_in}
-use Rattle.waff_plan.specs.Work.{IsAmongFirst, IsNumber, finish_of, issue_of}
+use Rattle.waff_plan.specs.Work.{IsAmongFirst, finish_of, issue_of}
 use Rattle.waff_plan.specs.declared.apart.Started.{Started}
 use Rattle.waff_plan.proofs.ApartLaws.{noted_number, number_here, numbers_more, numbers_to}
 use Rattle.waff_plan.proofs.Followings.{found_alone, link_of_found}

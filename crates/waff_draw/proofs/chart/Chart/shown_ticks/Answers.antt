@@ -1,5 +1,5 @@
-use Rattle.std.proofs.Common.{◌≡◌, ◌-◌, min, arith, sym, ◌∙◌, ap}
-use Rattle.waff_draw.specs.Scene.{end_in, finish_in, shown_ticks}
+use Rattle.std.proofs.Common.{◌≡◌, ◌-◌, min, arith, ◌∙◌, ap}
+use Rattle.waff_draw.specs.Scene.{end_in, finish_in}
 use Rattle.waff_draw.proofs.chart.Chart.shown_ticks.Goals as goal
 use Rattle.waff_draw.proofs.chart.Chart.shown_ticks.Goals.{then-from-self, else-from-self}
 

@@ -1,4 +1,4 @@
-use Rattle.std.proofs.Common.{◌≤◌, length, arith, ap}
+use Rattle.std.proofs.Common.{length, arith, ap}
 use Rattle.waff_plan.proofs.TimingLemmas.{length-timings_of}
 use Rattle.waff_list.proofs.client_task.ClientTask.new.Goals as goal
 

@@ -1,4 +1,4 @@
-use Rattle.std.proofs.Common.{◌-◌, ◌<◌, ◌≤◌, length, arith, sym, subst}
+use Rattle.std.proofs.Common.{◌-◌, arith, sym, subst}
 use Rattle.waff_plan.specs.Timing.{IsTiming}
 use Rattle.waff_list.proofs.ClientTasks.{timings_are}
 use Rattle.waff_list.proofs.client_task.ClientTask.think.Goals as goal
