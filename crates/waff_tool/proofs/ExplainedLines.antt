@@ -53,8 +53,10 @@ first_begins (explained.Verdict (verdict.Finish message)) = refl
 first_begins (explained.Verdict verdict.Totals) = refl
 first_begins (explained.Verdict (verdict.NotAChain place)) = refl
 first_begins (explained.Verdict (verdict.Early message)) = refl
+first_begins (explained.Verdict (verdict.Client message)) = refl
 first_begins (explained.Verdict verdict.Obeys) = refl
 first_begins (explained.Verdict verdict.Shortest) = refl
+first_begins (explained.Verdict verdict.Tight) = refl
 first_begins (explained.Verdict verdict.WithinBound) = refl
 
 pub lines_are_no_first_lines : LinesAreNoFirstLines

@@ -1,5 +1,5 @@
 -- The order of a plan that obeys is one in which a job can be handed out.
-use Rattle.std.proofs.Common.{◌≡◌, ℕ, ◌+◌, ◌-◌, ◌<◌, ◌≤◌, inl, inr, List, length, get_or, AllPairs, arith, refl, sym, ◌∙◌, subst}
+use Rattle.std.proofs.Common.{◌≡◌, ℕ, zero, suc, ◌+◌, ◌-◌, ◌<◌, ◌≤◌, inl, inr, List, [], ◌∷◌, ◌++◌, length, get_or, AllPairs, arith, refl, sym, ◌∙◌, ap, subst}
 use Rattle.std.specs.List.{range_with_len}
 use Rattle.std.proofs.lemmas.Bool.{cases_order}
 use Rattle.std.proofs.lemmas.List.FromFn.{get_or-range_with_len, length-range_with_len}
@@ -61,6 +61,17 @@ plan_order_is_order tree assigned needs work start order are same runs keeps lis
                 absurd (not_after start i j (work.cost i) (runs i number) (keeps i j pair) (before other place j i more there at))
           ];
     }
+
+-- one number more
+numbers_on : (a n : ℕ) → range_with_len a (suc n) ≡ range_with_len a n ++ (a + n) ∷ []
+numbers_on a zero = ap (λ x. x ∷ []) (let e : a ≡ a + 0 = omega arith in e)
+numbers_on a (suc n) =
+    ap (λ xs. a ∷ xs)
+    (numbers_on (a + 1) n ∙ ap (λ x. range_with_len (a + 1) n ++ x ∷ []) (let e : a + 1 + n ≡ a + suc n = omega arith in e))
+
+pub numbers_more : (k n : ℕ) → 1 + k ≡ n → range_with_len 1 (k + 1) ≡ range_with_len 1 k ++ n ∷ []
+numbers_more k n is =
+    ap (range_with_len 1) (let e : k + 1 ≡ suc k = omega arith in e) ∙ numbers_on 1 k ∙ ap (λ x. range_with_len 1 k ++ x ∷ []) is
 
 -- in the order of the numbers message m stands at place m - 1
 stands_by_number : (count place m : ℕ) → StandsAt (range_with_len 1 count) place m → (m ≡ 1 + place) × (place < count)

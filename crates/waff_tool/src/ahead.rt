@@ -74,6 +74,8 @@ fn read_ahead(alloc: Global, trace: &[u8], plan: &[u8]) -> ReadAhead
 fn likely_version(trace: &[u8]) -> Version {
     if trace.starts_with(b"message,cost,ops") {
         Version::V1
+    } else if trace.starts_with(b"message,cost,release,client,think,ops") {
+        Version::V3
     } else {
         Version::V2
     }

@@ -31,8 +31,8 @@ use waff_core::{Job, JobError};
 use waff_inputs::{Accepted, ToolError, accept_over_layout, deliver, read_numbered};
 use waff_list::laws::needs_make_the_same_plans;
 use waff_list::{Rule, list_plan_by};
+use waff_model::Version;
 use waff_model::limits::MAX_SPACES;
-use waff_model::{Trace, Version};
 use waff_order::Needs;
 use waff_order::predecessors::needs;
 use waff_replay::{Open, replay, serial};
@@ -278,7 +278,7 @@ fn list_order(
 {
     let plan = list_plan_by(alloc, needs, &accepted.trace, Rule::Arrival, k)?;
     needs_make_the_same_plans();
-    let order = plan.order().iter().map(|n| *n).collect(alloc);
+    let order = Vec::from_slice(alloc, plan.order());
     drop(plan);
     order
 }

@@ -1,4 +1,3 @@
-use Rattle.std.proofs.Common.{◌∙◌}
 use Rattle.waff_assign.specs.Case.{instance_of}
 use Rattle.waff_plan.specs.Timing.{start_of}
 use Rattle.waff_tool.proofs.CertificateLemmas.{as_many, bounded, busy_served}

@@ -1,6 +1,8 @@
-use Rattle.std.proofs.Common.{◌≡◌, ℕ, List, map, length, sym, ◌∙◌, ap, subst}
+use Rattle.std.proofs.Common.{◌≡◌, ℕ, List, length, sym, ◌∙◌, ap, subst}
 use Rattle.std.proofs.lemmas.Result.{IfOk-weaker}
+use Rattle.waff_plan.specs.Timetable.{work_of_messages}
 use Rattle.waff_plan.specs.Timing.{start_of, work_of}
+use Rattle.waff_list.specs.Seats.{IsInOrder}
 use Rattle.waff_list.specs.Unique.{EachRuns}
 use Rattle.waff_list.specs.declared.rule.Rule.TheVariants.{Arrival}
 use Rattle.waff_list.proofs.TraceWork.{count_is, trace_is_small}
@@ -26,11 +28,14 @@ returns-clause-order c =
     let plan = c.needs_make_the_same_plans.ensures tree assigned needs work Arrival c.args.k start c.requires.needs c.in_ok-plan.ensures.follows in
     let order = plan_order_is_order tree assigned needs work start c.in_ok-plan.plan.order c.requires.needs same
     runs plan.within.obeys.ordered c.in_ok-plan.ensures.order in
-    order
+    IfOk-weaker c.from_slice-order.result _ _
+    (λ kept items. subst (λ (xs : List ℕ). IsOrder needs xs) (sym (items ∙ c.order.ensures.order)) order)
+    c.from_slice-order.ensures.items
 
 -- the plan follows the rule over the ordered pairs, as the needs make the same plans
 pub returns-clause-list : goal.returns-clause-list
 returns-clause-list c =
+    let trace = c.args.accepted.now.trace in
     let tree = c.args.accepted.now.layout.tree in
     let assigned = c.args.accepted.now.assigned in
     let timings = c.in_ok-plan.plan.plan.timings in
@@ -38,8 +43,11 @@ returns-clause-list c =
     let is = c.in_ok-plan.ensures.timings in
     let plan = c.needs_make_the_same_plans.ensures tree assigned c.args.needs.now (work_of timings) Arrival c.args.k start
     c.requires.needs c.in_ok-plan.ensures.follows in
-    record {
+    let listed = rw is at c.in_ok-plan.ensures.order in
+    IfOk-weaker c.from_slice-order.result _ _
+    (λ kept items. record {
       start = start;
       plan = rw is at plan;
-      listed = rw is at c.in_ok-plan.ensures.order;
-    }
+      listed = subst (λ (xs : List ℕ). IsInOrder (work_of_messages trace.messages) start xs) (sym (items ∙ c.order.ensures.order)) listed;
+    })
+    c.from_slice-order.ensures.items

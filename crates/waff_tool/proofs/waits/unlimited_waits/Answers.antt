@@ -15,8 +15,8 @@ invariant_of-planned c = record {
   lengths = as_many c.args.case.now.trace.now.messages _ _ c.in_ok-plan.ensures.timings c.args.case.now.lengths;
 }
 
-pub waiting_text-text-requires-clause-served : goal.waiting_text-text-requires-clause-served
-waiting_text-text-requires-clause-served c = λ third. c.in_ok-plan.ensures.least.obeys
+pub waiting_text-text-requires : goal.waiting_text-text-requires
+waiting_text-text-requires c = record { served = λ third. c.in_ok-plan.ensures.least.obeys }
 
 pub returns : goal.returns
 returns c =

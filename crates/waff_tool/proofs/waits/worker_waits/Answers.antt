@@ -17,13 +17,16 @@ invariant_of-planned c =
       lengths = as_many c.args.case.now.trace.now.messages _ _ timings c.args.case.now.lengths;
     }
 
-pub waiting_text-text-requires-clause-served : goal.waiting_text-text-requires-clause-served
-waiting_text-text-requires-clause-served c = λ third.
+pub waiting_text-text-requires : goal.waiting_text-text-requires
+waiting_text-text-requires c =
     let instance = instance_of c.args.case.now in
     let made = c.in_ok-made.ensures in
     let list = rw made.timings at made.follows in
-    rw (c.plan-plan.ensures.plan, made.version, made.timings)
-    (planned_obeys c.args.rule instance (Some c.args.k) (start_of c.in_ok-made.made.plan.starts) list)
+    record {
+      served = λ third.
+          rw (c.plan-plan.ensures.plan, made.version, made.timings)
+          (planned_obeys c.args.rule instance (Some c.args.k) (start_of c.in_ok-made.made.plan.starts) list);
+    }
 
 pub returns : goal.returns
 returns c =

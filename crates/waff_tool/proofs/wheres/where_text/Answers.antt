@@ -6,6 +6,6 @@ use Rattle.waff_tool.proofs.wheres.where_text.Goals as goal
 
 pub returns : goal.returns
 returns g c =
-    delivers (λ text. string_bytes text) (λ text. IsWhereText c.args.hierarchy.now c.args.trace.now c.args.grouping text)
+    delivers (λ text. string_bytes text) (λ text. IsWhereText c.args.hierarchy.now c.args.trace.now c.args.label text)
     (Refuses c.args.hierarchy.now c.args.trace.now) _ _ tt c.made_where_text.result c.deliver.result c.made_where_text.ensures tt
     c.deliver.ensures
