@@ -154,7 +154,7 @@ impl<'a> Chart<'a> {
     /// How many names have a colour.
     pub(crate) fn colour_count(&self) -> u64
         ensures count { result ≡ length (coloured_in self.now) }
-        ensures few { result ≤ 2 ^ 32 }
+        ensures few { result ≤ 8 }
     {
         self.colours.len() as u64
     }

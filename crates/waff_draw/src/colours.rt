@@ -1,6 +1,6 @@
 //! The colours of bars: the first eight names of messages have one each.
 
-ghost use Rattle.std.specs.Prelude.{◌≡◌, ◌<◌, [], IfOk, IfSome, OnOk, length, map, position, slice_index_or};
+ghost use Rattle.std.specs.Prelude.{◌≡◌, ◌<◌, ◌≤◌, [], IfOk, IfSome, OnOk, length, map, position, slice_index_or};
 ghost use Rattle.std.specs.Str.{bytes_eq};
 ghost use Rattle.waff_draw.specs.Colours.{colour_of, coloured, with_colour};
 
@@ -18,11 +18,13 @@ pub(crate) struct Colours<'a> {
 }
 
 impl<'a> Model for Colours<'a> {
-    ghost use Rattle.std.specs.Prelude.{List, ℕ, map};
+    ghost use Rattle.std.specs.Prelude.{◌≤◌, List, ℕ, length, map};
 
     ghost Value = { List (List ℕ) };
 
     ghost view = { λ c. map (λ name. name.now) c.names.items };
+
+    ghost invariant = { λ c. length c.names.items ≤ 8 };
 }
 
 impl<'a> Colours<'a> {
@@ -53,9 +55,14 @@ impl<'a> Colours<'a> {
     /// The place of a name among those that have a colour, from 0.
     fn place(&self, name: &str) -> Option<usize>
         ensures place { result ≡ position (bytes_eq name.now) self.now }
-        ensures within { IfSome result (λ place. place < length self.now) }
+        ensures few { IfSome result (λ place. place < 8) }
     {
-        self.names.iter().position(|other| *other == name)
+        for place in 0..self.len() {
+            if name == self.name(place) {
+                return Some(place);
+            }
+        }
+        None
     }
 
     /// The number of a name's colour, from 1, or 0 where it has none.
@@ -70,7 +77,8 @@ impl<'a> Colours<'a> {
 
     /// How many names have a colour.
     pub(crate) fn len(&self) -> usize
-        ensures { result ≡ length self.now }
+        ensures count { result ≡ length self.now }
+        ensures few { result ≤ 8 }
     {
         self.names.len()
     }
