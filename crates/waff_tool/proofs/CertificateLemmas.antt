@@ -12,15 +12,11 @@ use Rattle.waff_plan.specs.Chain.{IsPrinted}
 use Rattle.waff_plan.specs.Instances.{served_first, started_first, work_of_instance}
 use Rattle.waff_plan.specs.Issues.{IsServedBefore}
 use Rattle.waff_plan.specs.Serving.{served_before}
-use Rattle.waff_plan.specs.Timetable.{AreTimings, clients_of, timings_of}
-use Rattle.waff_plan.specs.Timing.{work_of}
+use Rattle.waff_plan.specs.Timetable.{AreTimings, timings_of}
 use Rattle.waff_plan.specs.declared.timing.Timing.{Timing}
 use Rattle.waff_plan.proofs.Chains.{chains_are_within_length, least_is_shortest, printed_is_as_long, printed_is_chain}
-use Rattle.waff_plan.proofs.ClientLemmas.{client_follows_earlier}
-use Rattle.waff_plan.proofs.Forward.{timings_forward}
 use Rattle.waff_plan.proofs.Ratios.{bound_is_within_ratio, bound_is_within_twice}
 use Rattle.waff_plan.proofs.ServingLemmas.{served_to_started, started_forward, started_to_served}
-use Rattle.waff_plan.proofs.TimingLemmas.{timings_follow_clients}
 use Rattle.waff_list.specs.Bound.{IsBusyPlan}
 use Rattle.waff_list.specs.ByIssue.{IsTakenByIssue}
 use Rattle.waff_list.specs.ListRule.{arrival}
@@ -32,13 +28,6 @@ use Rattle.waff_list.proofs.RuleLemmas.{busy_by_rule, busy_of}
 use Rattle.waff_list.proofs.TraceWork.{count_is}
 use Rattle.waff_figures.specs.Sweep.{IsPlanOf}
 use Rattle.waff_tool.specs.Certificates.{IsBounded, IsCertified}
-
--- the ordered pairs of messages with these affinities go forward
-pub pairs_forward : (tree : List Node) (assigned : List ℕ) (messages : List Message) → length assigned ≡ length messages
-    → IsForward (IsOrdered tree assigned) (work_of (timings_of messages))
-pairs_forward tree assigned messages same =
-    timings_forward tree assigned (timings_of messages) (same ∙ sym (count_is messages))
-    (client_follows_earlier (clients_of messages) (work_of (timings_of messages)) (timings_follow_clients messages))
 
 -- a plan of the messages has as many of them as have affinities
 pub as_many : (messages : List Message) (timings : List Timing) (assigned : List ℕ) → timings ≡ timings_of messages

@@ -1,49 +1,47 @@
 -- The plans that are printed pass the check.
-use Rattle.std.proofs.Common.{◌≡◌, ◌≢◌, ℕ, ◌+◌, ◌-◌, ◌*◌, ◌<◌, ◌≤◌, inl, inr, Bool, true, false, List, [], ◌∷◌, length, get_or, cond, count_by, Option, Some, None, IfSome, refl, sym, ap, ◌∙◌, arith, subst}
+use Rattle.std.proofs.Common.{◌≡◌, ◌≢◌, ℕ, ◌+◌, ◌-◌, ◌*◌, ◌<◌, ◌≤◌, inl, inr, Bool, true, false, List, [], ◌∷◌, length, get_or, slice_index, cond, eqb, count_by, Option, Some, None, IfSome, refl, sym, ap, ◌∙◌, arith, subst}
 use Rattle.std.specs.Prelude.{All, nat_le, nat_lt, ◌&&◌, sum_by, unwrap_or, option_map}
 use Rattle.std.specs.List.{range_with_len}
-use Rattle.std.proofs.lemmas.Bool.{and_from, and_parts, cases_lt, cases_order, le-leb, leb-true, lt-ltb, ltb-true}
-use Rattle.std.proofs.lemmas.List.{get_or-map, length-map}
+use Rattle.std.proofs.lemmas.Bool.{and_from, and_parts, cases_lt, cases_order, cond_both, le-leb, leb-true, lt-ltb, ltb-true}
+use Rattle.std.proofs.lemmas.List.{get_or_default}
 use Rattle.std.proofs.lemmas.List.Elements.{All-head, All-tail}
 use Rattle.std.proofs.lemmas.List.FromFn.{get_or-map-range_with_len, get_or-range_with_len, length-map-range_with_len, length-range_with_len}
 use Rattle.std.proofs.lemmas.List.Sums.{sum_by-cons}
 use Rattle.std.proofs.lemmas.Option.{slice_get-get_or}
 use Rattle.std.proofs.Math.Nat.{mul-le-mul}
-use Rattle.waff_model.specs.Messages.{Arrivals, IsMessage, IsTrace}
+use Rattle.waff_model.specs.Messages.{Arrivals, IsTrace}
 use Rattle.waff_model.proofs.TraceLemmas.{few_messages}
 use Rattle.waff_model.specs.Names.{is_name}
-use Rattle.waff_model.specs.Tree.{Node, name_of}
-use Rattle.waff_model.specs.declared.limits.TheConstants.{MAX_COST, MAX_MESSAGES, MAX_RELEASE, MAX_TICK, MAX_WORKERS}
-use Rattle.waff_model.specs.declared.message.Message.{Message}
+use Rattle.waff_model.specs.Tree.{IsTree, Node, name_of}
+use Rattle.waff_model.specs.declared.limits.TheConstants.{MAX_COST, MAX_MESSAGES, MAX_RELEASE, MAX_THINK, MAX_TICK, MAX_WORKERS}
 use Rattle.waff_model.specs.declared.message.Version.{Version}
-use Rattle.waff_model.specs.declared.message.Version.TheVariants.{V1}
+use Rattle.waff_model.specs.declared.message.Version.TheVariants.{V1, V2, V3}
 use Rattle.waff_read.proofs.FaultLaws.{trace_is_exact}
 use Rattle.waff_read.proofs.LimitLaws.{layout_is_within_limits, trace_is_within_limits}
 use Rattle.waff_read.proofs.NamedLaws.{affinities_are_named}
-use Rattle.waff_assign.specs.Instance.{Instance, before_in}
+use Rattle.waff_assign.specs.Instance.{Instance}
 use Rattle.waff_assign.specs.Order.{Relation, affinity_of}
 use Rattle.waff_assign.proofs.Knowing.{affinity_known}
 use Rattle.waff_plan.specs.Bound.{IsWorkers, left_side, right_side}
-use Rattle.waff_plan.specs.Chain.{IsChain, IsListed, chain_cost, chain_release}
-use Rattle.waff_plan.specs.Instances.{work_of_instance}
-use Rattle.waff_plan.specs.Obeys.{FollowsNone, IsForward}
+use Rattle.waff_plan.specs.Chain.{IsChain, IsListed, chain_cost, chain_release, gaps_after}
+use Rattle.waff_plan.specs.Instances.{served_first, started_first, work_of_instance}
+use Rattle.waff_plan.specs.Obeys.{FollowsNone, IsForward, Obeys}
 use Rattle.waff_plan.specs.Timetable.{timings_of, work_of_messages}
-use Rattle.waff_plan.specs.Timing.{no_timing, start_of, timing_of}
+use Rattle.waff_plan.specs.Timing.{no_timing, start_of}
 use Rattle.waff_plan.specs.Totals.{totals_of}
-use Rattle.waff_plan.specs.Work.{Work, IsNumber, finish_of, length_of, numbers, total_of}
+use Rattle.waff_plan.specs.Work.{IsAmongFirst, Work, IsNumber, finish_of, gap_after, gap_of, length_of, numbers, total_of}
 use Rattle.waff_plan.specs.Workers.{running, runs_at}
-use Rattle.waff_plan.specs.declared.timing.Timing.{Timing}
-use Rattle.waff_plan.proofs.Chains.{chains_are_within_length}
 use Rattle.waff_plan.proofs.Linkings.{chain_is_few, chain_is_numbers}
 use Rattle.waff_plan.proofs.Longest.{finish_of-le-length_of}
 use Rattle.waff_plan.proofs.NoClients.{chain_release_is_first}
-use Rattle.waff_plan.proofs.Ratios.{bound_is_within_ratio, bound_is_within_twice}
+use Rattle.waff_plan.proofs.ServingLemmas.{started_forward}
 use Rattle.waff_plan.proofs.Ticks.{sum_by-numbers-le}
+use Rattle.waff_plan.proofs.TimingLemmas.{are_timings, floor_alone, message_at}
 use Rattle.waff_list.specs.Seating.{worker_of}
 use Rattle.waff_list.specs.Seats.{ComesBefore, HoldsWorker, IsSeated}
 use Rattle.waff_list.specs.declared.rule.Rule.{Rule}
 use Rattle.waff_list.proofs.Pigeonhole.{runs_on_all}
-use Rattle.waff_list.proofs.RuleLemmas.{plan_by_priority}
+use Rattle.waff_list.proofs.TraceWork.{count_is, trace_is_small}
 use Rattle.waff_plan_text.specs.Given.{Given, IsGiven}
 use Rattle.waff_plan_text.specs.Laws.{IsTellable, plan_told, row_told}
 use Rattle.waff_plan_text.specs.PlanTexts.{plan_of}
@@ -51,18 +49,19 @@ use Rattle.waff_plan_text.specs.Rows.{IsWithinLimit}
 use Rattle.waff_plan_text.specs.Lines.{text_of}
 use Rattle.waff_plan_text.specs.Spelling.{no_worker, plan_lines, seat_of}
 use Rattle.waff_plan_text.proofs.WrittenPlans.{written_is_read}
+use Rattle.waff_check.specs.OwnPlans.{IsFoundShort, claim_told}
 use Rattle.waff_check.specs.Promises.{AreOneAtATime}
-use Rattle.waff_check.specs.Verdicts.{IsVerdict, claim_of}
+use Rattle.waff_check.specs.Verdicts.{Claim, IsClaim, IsVerdict, claim_of}
 use Rattle.waff_check.specs.declared.verdict.Verdict.{Verdict}
 use Rattle.waff_check.specs.declared.verdict.Verdict.TheVariants as verdict
 use Rattle.waff_check.proofs.OwnLaws.{own_plan_is_shortest, own_plan_is_within_bound}
 use Rattle.waff_check.proofs.PromiseLaws.{promises}
-use Rattle.waff_tool.specs.CheckText.{AcceptsPlan, IsCheckText}
 use Rattle.waff_inputs.specs.Inputs as inputs
 use Rattle.waff_inputs.specs.Known.{newest}
+use Rattle.waff_inputs.proofs.SameInput.{layout_tree}
+use Rattle.waff_tool.specs.CheckText.{AcceptsPlan, IsCheckText}
 use Rattle.waff_tool.specs.PlanText.{TellsLeastPlan, TellsWorkerPlan}
-use Rattle.waff_tool.specs.OwnPlans.{OwnPlanPasses, OwnWorkerPlanPasses}
-use Rattle.waff_tool.proofs.TextUniqueness.{goes_forward}
+use Rattle.waff_tool.specs.OwnPlans.{OwnPlanPasses, OwnWorkerPlanPasses, PassesShort}
 
 -- work within the limits of traces
 record IsModest (version : Version) (work : Work) : Type 0 where
@@ -70,43 +69,35 @@ record IsModest (version : Version) (work : Work) : Type 0 where
   some_cost : (m : ℕ) → IsNumber work m → 1 ≤ work.cost m
   cost : (m : ℕ) → IsNumber work m → work.cost m ≤ MAX_COST
   release : (m : ℕ) → IsNumber work m → work.release m ≤ MAX_RELEASE
-  alone : FollowsNone work
+  think : (m : ℕ) → IsNumber work m → work.think m ≤ MAX_THINK
+  alone : version ≡ V1 → FollowsNone work
   no_release : version ≡ V1 → (m : ℕ) → IsNumber work m → work.release m ≡ 0
 
-nobody : Message
-nobody = record { name = []; cost = 0; release = 0; client = []; think = 0; ops = [] }
+-- the first version is not the third
+first_is_early : (version : Version) → version ≡ V1 → version ≢ V3
+first_is_early version first third =
+    let equal : V1 ≡ V3 = sym first ∙ third in
+    cc
 
-timing_told : Message → Timing
-timing_told message = record { cost = message.cost; release = message.release }
-
-module _ (trace : Arrivals) (within : IsTrace trace) where
-  count_is : (work_of_messages trace.messages).count ≡ length trace.messages
-  count_is = length-map trace.messages (λ (message : Message). let t : Timing = record { cost = message.cost; release = message.release } in t)
-
-  message_at : (m : ℕ) → IsNumber (work_of_messages trace.messages) m → IsMessage trace.version trace.sizes (get_or trace.messages (m - 1) nobody)
-  message_at m number =
-      let from : 1 ≤ m = number.from in
-      let to : m ≤ (work_of_messages trace.messages).count = number.to in
-      within.messages (m - 1) nobody (omega (arith, count_is))
-
-  timing_at : (m : ℕ) → IsNumber (work_of_messages trace.messages) m → timing_of (timings_of trace.messages) m ≡ timing_told (get_or trace.messages (m - 1) nobody)
-  unfolding timing_told
-  timing_at m number =
-      let from : 1 ≤ m = number.from in
-      let to : m ≤ (work_of_messages trace.messages).count = number.to in
-      get_or-map (λ (message : Message). let t : Timing = record { cost = message.cost; release = message.release } in t) trace.messages (m - 1) nobody no_timing
-      (omega (arith, count_is))
-
-  modest : IsModest trace.version (work_of_messages trace.messages)
-  unfolding timing_told
-  modest = record {
-    few = omega (arith, count_is, few_messages trace within);
-    some_cost = λ m number. let h = message_at m number in subst (λ (t : Timing). 1 ≤ t.cost) (sym (timing_at m number)) h.some_cost;
-    cost = λ m number. let h = message_at m number in subst (λ (t : Timing). t.cost ≤ MAX_COST) (sym (timing_at m number)) h.within_cost;
-    release = λ m number. let h = message_at m number in subst (λ (t : Timing). t.release ≤ MAX_RELEASE) (sym (timing_at m number)) h.within_release;
-    alone = λ m. refl;
-    no_release = λ first m number. let h = message_at m number in subst (λ (t : Timing). t.release ≡ 0) (sym (timing_at m number)) (h.no_release first);
-  }
+modest : (trace : Arrivals) → IsTrace trace → IsModest trace.version (work_of_messages trace.messages)
+modest trace is_trace =
+    let messages = trace.messages in
+    let small = trace_is_small trace is_trace in
+    let are = are_timings trace is_trace in
+    let count = count_is messages in
+    record {
+      few = omega (arith, count, few_messages trace is_trace);
+      some_cost = small.some_cost;
+      cost = small.cost;
+      release = small.release;
+      think = λ m number. let timing = are.small (m - 1) no_timing (omega (arith, number.from, number.to)) in timing.think;
+      alone = λ first. are.alone (first_is_early trace.version first);
+      no_release = λ first m number.
+          let among : IsAmongFirst (length messages) m = record { from = number.from; to = omega (arith, number.to, count) } in
+          let message = message_at trace is_trace m among in
+          let early = first_is_early trace.version first in
+          floor_alone messages m among (message.no_client early) (message.no_think early) ∙ message.no_release first;
+    }
 
 -- sums of costs within the limit
 few_costs : (f : ℕ → ℕ) (xs : List ℕ) → All (λ m. f m ≤ MAX_COST) xs → sum_by f xs ≤ length xs * MAX_COST
@@ -115,6 +106,20 @@ few_costs f (x ∷ xs) each =
     let first : f x ≤ MAX_COST = All-head (λ m. f m ≤ MAX_COST) x xs each in
     let rest = few_costs f xs (All-tail (λ m. f m ≤ MAX_COST) x xs each) in
     omega (arith, first, rest, sum_by-cons f x xs)
+
+-- a gap is no longer than the think time
+gap_small : (think i : ℕ) (follows : Option ℕ) → gap_after think i follows ≤ think
+gap_small think i None = omega arith
+gap_small think i (Some f) = cond_both (eqb f i) think 0 (λ g. g ≤ think) (λ same. omega arith) (λ other. omega arith)
+
+-- gaps within the limit
+few_gaps : (work : Work) → ((m : ℕ) → IsNumber work m → work.think m ≤ MAX_THINK) → (m : ℕ) (rest : List ℕ) → All (IsNumber work) rest
+    → gaps_after work m rest ≤ length rest * MAX_THINK
+few_gaps work thinks m [] numbers = omega arith
+few_gaps work thinks m (next ∷ rest) numbers =
+    let gap : gap_of work m next ≤ work.think next = gap_small (work.think next) m (work.follows next) in
+    let think = thinks next (All-head (IsNumber work) next rest numbers) in
+    omega (arith, gap, think, few_gaps work thinks next rest (All-tail (IsNumber work) next rest numbers))
 
 module _ (version : Version) (before : Relation) (work : Work) (modest : IsModest version work) (forward : IsForward before work)
     (chain : List ℕ) (is_chain : IsChain before work chain) where
@@ -131,17 +136,22 @@ module _ (version : Version) (before : Relation) (work : Work) (modest : IsModes
       let few = chain_is_few before work forward chain is_chain in
       omega (arith, sum, few, modest.few)
 
-  release_of : (chain : List ℕ) → All (IsNumber work) chain → chain_release work chain ≤ MAX_RELEASE
+  release_of : (chain : List ℕ) → All (IsNumber work) chain → chain_release work chain ≤ MAX_RELEASE + length chain * MAX_THINK
   release_of [] numbers = omega arith
-  release_of (m ∷ rest) numbers = omega (arith, chain_release_is_first work modest.alone m rest, modest.release m (All-head (IsNumber work) m rest numbers))
+  release_of (m ∷ rest) numbers =
+      let first = modest.release m (All-head (IsNumber work) m rest numbers) in
+      omega (arith, first, few_gaps work modest.think m rest (All-tail (IsNumber work) m rest numbers))
 
   no_release_of : version ≡ V1 → (chain : List ℕ) → All (IsNumber work) chain → chain_release work chain ≡ 0
   no_release_of first [] numbers = refl
   no_release_of first (m ∷ rest) numbers =
-      chain_release_is_first work modest.alone m rest ∙ modest.no_release first m (All-head (IsNumber work) m rest numbers)
+      chain_release_is_first work (modest.alone first) m rest ∙ modest.no_release first m (All-head (IsNumber work) m rest numbers)
 
-  chain_release_within : chain_release work chain ≤ MAX_RELEASE
-  chain_release_within = release_of chain (chain_is_numbers before work chain is_chain)
+  chain_release_within : chain_release work chain ≤ MAX_RELEASE + MAX_MESSAGES * MAX_THINK
+  chain_release_within =
+      let release = release_of chain (chain_is_numbers before work chain is_chain) in
+      let few = chain_is_few before work forward chain is_chain in
+      omega (arith, release, few, modest.few)
 
   total_within : total_of work ≤ MAX_MESSAGES * MAX_COST
   total_within =
@@ -203,10 +213,10 @@ module _ (version : Version) (before : Relation) (work : Work) (modest : IsModes
       }
 
 -- of two tests at most as many pass both as pass the first
-cond_both : (a b : Bool) → cond {A = ℕ} (a && b) 1 0 ≤ cond a 1 0
-cond_both true true = omega arith
-cond_both true false = omega arith
-cond_both false b = omega arith
+both_pass : (a b : Bool) → cond {A = ℕ} (a && b) 1 0 ≤ cond a 1 0
+both_pass true true = omega arith
+both_pass true false = omega arith
+both_pass false b = omega arith
 
 -- the workers of a plan for k workers
 module _ (work : Work) (start worker : ℕ → ℕ) (some_cost : (m : ℕ) → IsNumber work m → 1 ≤ work.cost m)
@@ -277,7 +287,7 @@ module _ (work : Work) (start worker : ℕ → ℕ) (some_cost : (m : ℕ) → I
     few_run : count_by on_workers (range_with_len 1 work.count) ≤ running work start (start m)
     unfolding on_workers
     few_run = sum_by-numbers-le work (λ i. cond (runs_at work start (start m) i && nat_le (worker i) (worker m)) 1 0) (λ i. cond (runs_at work start (start m) i) 1 0)
-        (λ i i_number. cond_both (runs_at work start (start m) i) (nat_le (worker i) (worker m)))
+        (λ i i_number. both_pass (runs_at work start (start m) i) (nat_le (worker i) (worker m)))
 
     worker_within : worker m ≤ running work start (start m)
     worker_within = omega (arith, all_run, few_run)
@@ -312,6 +322,15 @@ abbrev lines_in : Instance → Option ℕ → (ℕ → ℕ) → (ℕ → Option 
 lines_in instance workers start worker chain =
     plan_lines instance.trace.version instance.tree instance.assigned (work_of_instance instance) workers start worker chain
 
+-- a verdict as good as can be is one of those that pass
+short_passes : (version : Version) (claim : Claim) (hierarchy_file trace_file text : List ℕ)
+    → ((v : Verdict) → IsVerdict claim v → IsCheckText hierarchy_file trace_file text v) → IsFoundShort version claim
+    → PassesShort version hierarchy_file trace_file text
+short_passes V1 claim hierarchy_file trace_file text prints short = prints verdict.Shortest short
+short_passes V2 claim hierarchy_file trace_file text prints short = prints verdict.Shortest short
+short_passes V3 claim hierarchy_file trace_file text prints (inl short) = inl (prints verdict.Shortest short)
+short_passes V3 claim hierarchy_file trace_file text prints (inr tight) = inr (prints verdict.Tight tight)
+
 -- what was accepted
 module _ (hierarchy_file trace_file : List ℕ) (instance : Instance) (accepts : inputs.Accepts hierarchy_file trace_file instance) where
   is_trace : IsTrace instance.trace
@@ -320,23 +339,48 @@ module _ (hierarchy_file trace_file : List ℕ) (instance : Instance) (accepts :
   within_limits : IsModest instance.trace.version (work_of_instance instance)
   within_limits = modest instance.trace is_trace
 
-  forward : IsForward (before_in instance) (work_of_instance instance)
-  forward = goes_forward hierarchy_file trace_file instance accepts
+  count_in : (work_of_instance instance).count ≡ length instance.trace.messages
+  count_in = count_is instance.trace.messages
 
-  -- the affinities of messages have names
-  named : (n : ℕ) → IsNumber (work_of_instance instance) n → is_name (name_of instance.tree (affinity_of instance.assigned n)) ≡ true
-  named n number =
-      let from : 1 ≤ n = number.from in
-      let to : n ≤ (work_of_instance instance).count = number.to in
+  -- each message runs
+  runs : (m : ℕ) → IsAmongFirst (length instance.assigned) m → 1 ≤ (work_of_instance instance).cost m
+  runs m among =
+      let to : m ≤ length instance.assigned = among.to in
+      within_limits.some_cost m (record { from = among.from; to = omega (arith, to, accepts.assignment.count, count_in) })
+
+  -- the order of the chains of a plan that obeys goes forward
+  forward : (start : ℕ → ℕ) → Obeys (served_first instance start) (work_of_instance instance) start
+      → IsForward (started_first instance start) (work_of_instance instance)
+  forward start obeys =
+      started_forward instance.tree instance.assigned (timings_of instance.trace.messages) start (count_in ∙ sym accepts.assignment.count)
+      instance.trace.version (are_timings instance.trace is_trace) (λ third. obeys)
+
+  -- the affinities of messages are those of the hierarchy
+  known : (n : ℕ) → 1 ≤ n → n ≤ length instance.trace.messages → affinity_of instance.assigned n < length accepts.layout.tree
+  known =
       let layout = accepts.layout in
       let reads = (trace_is_exact newest layout.spaces trace_file instance.trace).0 accepts.is_trace in
+      affinity_known layout (layout_is_within_limits hierarchy_file layout accepts.is_layout) instance.trace instance.assigned is_trace reads.sizes accepts.assignment
+
+  all_known : All (λ a. a < length instance.tree) instance.assigned
+  all_known k d within =
+      let count : length instance.assigned ≡ length instance.trace.messages = accepts.assignment.count in
+      let at : k + 1 - 1 ≡ k = omega arith in
+      let same : slice_index instance.assigned (k + 1 - 1) ≡ get_or instance.assigned k d
+      = ap (slice_index instance.assigned) at ∙ get_or_default instance.assigned k 0 d within in
+      subst (λ tree. get_or instance.assigned k d < length tree) accepts.tree
+      (subst (λ a. a < length accepts.layout.tree) same (known (k + 1) (omega arith) (omega (arith, within, count))))
+
+  -- and have names
+  named : (n : ℕ) → IsNumber (work_of_instance instance) n → is_name (name_of instance.tree (affinity_of instance.assigned n)) ≡ true
+  named n number =
+      let layout = accepts.layout in
       let a = affinity_of instance.assigned n in
       let no_node : Node = record { name = []; parent = None } in
-      let known = affinity_known layout (layout_is_within_limits hierarchy_file layout accepts.is_layout) instance.trace instance.assigned is_trace reads.sizes accepts.assignment n from
-      (omega (arith, count_is instance.trace is_trace)) in
+      let there = known n number.from (omega (arith, number.to, count_in)) in
       let is : name_of layout.tree a ≡ (get_or layout.tree a no_node).name =
-      ap (λ o. unwrap_or (option_map (λ (node : Node). node.name) o) []) (slice_get-get_or layout.tree a no_node known) in
-      subst (λ tree. is_name (name_of tree a) ≡ true) accepts.tree (ap is_name is ∙ affinities_are_named hierarchy_file layout accepts.is_layout a no_node known)
+      ap (λ o. unwrap_or (option_map (λ (node : Node). node.name) o) []) (slice_get-get_or layout.tree a no_node there) in
+      subst (λ tree. is_name (name_of tree a) ≡ true) accepts.tree (ap is_name is ∙ affinities_are_named hierarchy_file layout accepts.is_layout a no_node there)
 
   -- a plan that is told is read
   accepted_plan : (text : List ℕ) (workers : Option ℕ) (start : ℕ → ℕ) (worker : ℕ → Option ℕ) (chain : List ℕ) → IsFit instance workers start worker chain
@@ -347,42 +391,46 @@ module _ (hierarchy_file trace_file : List ℕ) (instance : Instance) (accepts :
       record {
         accepts = accepts;
         is_plan = ap (plan_of version (length instance.trace.messages)) lines
-            ∙ ap (λ n. plan_of version n (text_of (lines_in instance workers start worker chain))) (sym (count_is instance.trace is_trace))
+            ∙ ap (λ n. plan_of version n (text_of (lines_in instance workers start worker chain))) (sym count_in)
             ∙ written_is_read version instance.tree instance.assigned work workers start worker chain can;
       }
 
   -- and a verdict on it is what the check prints
-  checked : (text : List ℕ) (workers : Option ℕ) (start : ℕ → ℕ) (worker : ℕ → Option ℕ) (chain : List ℕ) → IsChain (before_in instance) (work_of_instance instance) chain
+  checked : (text : List ℕ) (workers : Option ℕ) (start : ℕ → ℕ) (worker : ℕ → Option ℕ) (chain : List ℕ)
+      → Obeys (served_first instance start) (work_of_instance instance) start → IsChain (started_first instance start) (work_of_instance instance) chain
       → IsFit instance workers start worker chain → AcceptsPlan hierarchy_file trace_file text instance (plan_in instance workers start worker chain)
-      → (v : Verdict) → IsVerdict (claim_of instance (plan_in instance workers start worker chain)) v → IsCheckText hierarchy_file trace_file text v
-  checked text workers start worker chain is_chain can read v is =
-      let before = before_in instance in
+      → (v : Verdict) → IsVerdict (claim_told instance workers start worker chain) v → IsCheckText hierarchy_file trace_file text v
+  checked text workers start worker chain obeys is_chain can read v is =
+      let before = started_first instance start in
       let work = work_of_instance instance in
       let plan = plan_in instance workers start worker chain in
       let claim = claim_of instance plan in
-      let given = given_of instance.trace.version before work within_limits forward chain is_chain instance.tree instance.assigned workers start worker can in
-      let rows = length-map-range_with_len (row_told instance.tree instance.assigned work start worker) 1 work.count ∙ count_is instance.trace is_trace in
+      let given = given_of instance.trace.version before work within_limits (forward start obeys) chain is_chain instance.tree instance.assigned workers start worker can in
+      let rows = length-map-range_with_len (row_told instance.tree instance.assigned work start worker) 1 work.count ∙ count_in in
+      let is_claim : IsClaim claim = record { lengths = sym accepts.assignment.count; rows = rows; known = all_known } in
+      let tree = subst IsTree accepts.tree (layout_tree hierarchy_file accepts.layout accepts.is_layout) in
       record {
         instance = instance;
         given = plan;
         accepts = read;
         verdict = is;
-        promises = promises claim (chains_are_within_length before work) (bound_is_within_twice before work) (bound_is_within_ratio before work) given rows v is;
+        promises = promises claim is_claim runs tree given v is;
       }
 
   -- that of a plan without workers
   own_plan_fits : (text : List ℕ) (told : TellsLeastPlan instance text) → IsFit instance None (start_of told.starts) no_worker told.chain
   own_plan_fits text told =
-      let before = before_in instance in
       let work = work_of_instance instance in
       let start = start_of told.starts in
+      let before = started_first instance start in
+      let onward = forward start told.certified.least.obeys in
       let is_chain = told.certified.is_chain in
       let version = instance.trace.version in
-      let cost = chain_cost_within version before work within_limits forward told.chain is_chain in
-      let release = chain_release_within version before work within_limits forward told.chain is_chain in
+      let cost = chain_cost_within version before work within_limits onward told.chain is_chain in
+      let release = chain_release_within version before work within_limits onward told.chain is_chain in
       let as_long = told.certified.as_long in
       let short : length_of work start ≤ MAX_TICK = omega (arith, as_long, cost, release) in
-      tellable version before work within_limits forward told.chain is_chain instance.tree instance.assigned None start no_worker
+      tellable version before work within_limits onward told.chain is_chain instance.tree instance.assigned None start no_worker
       named (λ n number. tt) tt short short (omega (arith, cost, release))
 
   pub own_plan_read : (text : List ℕ) (told : TellsLeastPlan instance text)
@@ -398,17 +446,18 @@ module _ (hierarchy_file trace_file : List ℕ) (instance : Instance) (accepts :
   own_worker_plan_fits : (rule : Rule) (k : ℕ) (text : List ℕ) → IsWorkers k → (told : TellsWorkerPlan rule k instance text)
       → IsFit instance (Some k) (start_of told.starts) (seat_of told.workers) told.chain
   own_worker_plan_fits rule k text workers told =
-      let before = before_in instance in
       let work = work_of_instance instance in
       let start = start_of told.starts in
+      let before = started_first instance start in
+      let onward = forward start told.bounded.obeys in
       let is_chain = told.bounded.is_chain in
       let version = instance.trace.version in
-      let cost = chain_cost_within version before work within_limits forward told.chain is_chain in
-      let release = chain_release_within version before work within_limits forward told.chain is_chain in
-      let total = total_within version before work within_limits forward told.chain is_chain in
+      let cost = chain_cost_within version before work within_limits onward told.chain is_chain in
+      let release = chain_release_within version before work within_limits onward told.chain is_chain in
+      let total = total_within version before work within_limits onward told.chain is_chain in
       let from : 1 ≤ k = workers.from in
       let to : k ≤ MAX_WORKERS = workers.to in
-      let releases : k * chain_release work told.chain ≤ MAX_WORKERS * MAX_RELEASE = mul-le-mul to release in
+      let releases : k * chain_release work told.chain ≤ MAX_WORKERS * (MAX_RELEASE + MAX_MESSAGES * MAX_THINK) = mul-le-mul to release in
       let fewer : k - 1 ≤ MAX_WORKERS - 1 = omega arith in
       let costs : (k - 1) * chain_cost work told.chain ≤ (MAX_WORKERS - 1) * (MAX_MESSAGES * MAX_COST) = mul-le-mul fewer cost in
       let right : right_side work k told.chain ≤ MAX_TICK = omega (arith, total, releases, costs) in
@@ -417,7 +466,7 @@ module _ (hierarchy_file trace_file : List ℕ) (instance : Instance) (accepts :
       let once : 1 * length_of work start ≤ k * length_of work start = mul-le-mul from (omega arith) in
       let short : length_of work start ≤ MAX_TICK = omega (arith, once, left) in
       let crew = crew_of rule k text told in
-      tellable version before work within_limits forward told.chain is_chain instance.tree instance.assigned (Some k) start (seat_of told.workers)
+      tellable version before work within_limits onward told.chain is_chain instance.tree instance.assigned (Some k) start (seat_of told.workers)
       named (λ n number. let one = crew.each n number in let last = one.1 in omega (arith, to, last)) workers short left right
 
   pub own_worker_plan_read : (rule : Rule) (k : ℕ) (text : List ℕ) → IsWorkers k → (told : TellsWorkerPlan rule k instance text)
@@ -429,23 +478,25 @@ pub own_plan_passes : (hierarchy_file trace_file text : List ℕ) → OwnPlanPas
 own_plan_passes hierarchy_file trace_file text p =
     let i = p.instance in
     let told = p.told in
+    let start = start_of told.starts in
+    let obeys = told.certified.least.obeys in
     let is_chain = told.certified.is_chain in
-    checked hierarchy_file trace_file i p.accepts text None (start_of told.starts) no_worker told.chain is_chain
-    (own_plan_fits hierarchy_file trace_file i p.accepts text told) (own_plan_read hierarchy_file trace_file i p.accepts text told) verdict.Shortest
-    (own_plan_is_shortest i (start_of told.starts) told.chain p.accepts.assignment.count
-    told.certified.least.obeys is_chain told.certified.as_long)
+    short_passes i.trace.version (claim_told i None start no_worker told.chain) hierarchy_file trace_file text
+    (checked hierarchy_file trace_file i p.accepts text None start no_worker told.chain obeys is_chain
+    (own_plan_fits hierarchy_file trace_file i p.accepts text told) (own_plan_read hierarchy_file trace_file i p.accepts text told))
+    (own_plan_is_shortest i start told.chain p.accepts.assignment.count obeys is_chain told.certified.as_long)
 
 pub own_worker_plan_passes : (rule : Rule) (hierarchy_file trace_file : List ℕ) (k : ℕ) (text : List ℕ) → OwnWorkerPlanPasses rule hierarchy_file trace_file k text
 own_worker_plan_passes rule hierarchy_file trace_file k text workers p =
     let i = p.instance in
     let told = p.told in
+    let start = start_of told.starts in
+    let obeys = told.bounded.obeys in
     let is_chain = told.bounded.is_chain in
-    let by = plan_by_priority rule (before_in i) (work_of_instance i) k (start_of told.starts) told.bounded.list in
-    let list = by.1 in
-    let passes = checked hierarchy_file trace_file i p.accepts text (Some k) (start_of told.starts) (seat_of told.workers) told.chain is_chain
+    let prints = checked hierarchy_file trace_file i p.accepts text (Some k) start (seat_of told.workers) told.chain obeys is_chain
     (own_worker_plan_fits hierarchy_file trace_file i p.accepts rule k text workers told) (own_worker_plan_read hierarchy_file trace_file i p.accepts rule k text workers told) in
-    elim (own_plan_is_within_bound i k (start_of told.starts) (seat_of told.workers) told.chain
-    p.accepts.assignment.count list.within (crew_of hierarchy_file trace_file i p.accepts rule k text told) is_chain told.bounded.bound) [
-      | inl shortest ↦ inl (passes verdict.Shortest shortest)
-      | inr within ↦ inr (passes verdict.WithinBound within)
+    elim (own_plan_is_within_bound i k start (seat_of told.workers) told.chain p.accepts.assignment.count
+    (record { obeys = obeys; within = told.bounded.at_once }) (crew_of hierarchy_file trace_file i p.accepts rule k text told) is_chain told.bounded.bound) [
+      | inl short ↦ inl (short_passes i.trace.version (claim_told i (Some k) start (seat_of told.workers) told.chain) hierarchy_file trace_file text prints short)
+      | inr within ↦ inr (prints verdict.WithinBound within)
     ]
