@@ -46,6 +46,7 @@ WORDS = (
     "rank {T} {H} {C} --workers 2",
     "where {H} {T}",
     "where {H} {T} --names",
+    "where {H} {T} --clients",
     "draw {H} {T} {P}",
     "draw {H} {T} {P} --as events",
     "draw {H} {T} {P} --from 2 --to 5",
@@ -54,6 +55,19 @@ WORDS = (
     "explain {H} {T} {P}",
     "explain {H} {T} {F}",
 )
+
+# The sample traces: without releases, with them, and with clients.
+TRACES = ("X1.csv", "X2.csv", "clients")
+
+# A trace with clients, whose affinities are those of the first sample.
+CLIENTS = b"""message,cost,release,client,think,ops
+m1,4,0,p,0,set f:0 5
+m2,3,0,q,0,set g:0 7
+m3,2,0,p,1,copy f:2 f:0
+m4,5,2,-,0,add g:4-5 1
+m5,1,0,q,2,swap f:2 g:0
+m6,2,0,p,0,add f:4 1
+"""
 
 # The replay on the most threads.
 CROWD = "replay {H} {T} --workers 16"
@@ -224,9 +238,14 @@ def read(*name):
         return file.read()
 
 
+def trace_of(name):
+    """A sample trace by its name."""
+    return CLIENTS if name == "clients" else read("examples", name)
+
+
 def samples(trace="X1.csv"):
     """The sample files by the letters that words name them with."""
-    return {"H": read("examples", "H1.toml"), "C": read("examples", "C1.toml"), "T": read("examples", trace)}
+    return {"H": read("examples", "H1.toml"), "C": read("examples", "C1.toml"), "T": trace_of(trace)}
 
 
 def known_words():

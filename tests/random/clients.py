@@ -242,6 +242,7 @@ class World:
         self.befores = [self.one_before(it) for it in self.all]
         names = range(len(tree.names))
         self.pairs = {(one, other) for one in names for other in names if tree.excludes(one, other)}
+        self.excluding = [[it for it in self.all if self.excludes(it, m)] for m in self.all]
 
     def excludes(self, one: int, other: int) -> bool:
         return one != other and (self.affinities[one], self.affinities[other]) in self.pairs
@@ -328,7 +329,7 @@ class Plan:
 
     def waited_for(self, m: int) -> list[int]:
         """The messages that exclude one and are issued before it."""
-        return [it for it in self.world.all if self.world.excludes(it, m) and self.issued_before(it, m)]
+        return [it for it in self.world.excluding[m] if self.issued_before(it, m)]
 
     def runs(self, m: int, tick: int) -> bool:
         start = self.starts[m]
@@ -390,7 +391,8 @@ def plan_of(world: World, workers: int | None, rule: str = "arrival") -> Plan:
     tick, tails = 0, world.tails()
     while None in plan.starts:
         ready = [m for m in world.all if plan.is_ready(m, tick)]
-        free = [it for it in range(1, (workers or 0) + 1) if not any(plan.runs(m, tick) and plan.workers[m] == it for m in world.all)]
+        busy = {plan.workers[m] for m in world.all if plan.runs(m, tick)}
+        free = [it for it in range(1, (workers or 0) + 1) if it not in busy]
         if workers is not None:
             # By the issues first; the other sort keeps the order of those with equal tails.
             ready.sort(key=lambda m: (plan.issued(m), m) if world.version == 3 else (m,))
@@ -445,13 +447,14 @@ def lines(found: list[str]) -> str:
     return "".join(it + "\n" for it in found)
 
 
-def plan_text(plan: Plan) -> str:
+def plan_text(plan: Plan, chain: list[int] | None = None) -> str:
+    """The text of a plan with this chain, the printed one where none is given. Only a plan that obeys has a printed one."""
     world = plan.world
     rows = ["message,affinity,start,finish,worker"]
     for m in world.all:
         rows.append(f"{m + 1},{world.tree.names[world.affinities[m]]},{plan.starts[m]},{plan.finish(m)},{plan.workers[m] or '-'}")
     rows.append(f"workers,{plan.count or '-'}")
-    for name, numbers in plan.summary(plan.chain()).items():
+    for name, numbers in plan.summary(plan.chain() if chain is None else chain).items():
         rows.append(f"{name}," + (" " if name == "chain" else ",").join(map(str, numbers)))
     return lines(rows)
 

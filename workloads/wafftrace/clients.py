@@ -5,7 +5,7 @@ import operator
 from argparse import Namespace
 from collections.abc import Callable, Sequence
 
-from . import ahead, limits
+from . import limits
 from .logs import Refusal, Request, tell
 
 # The bytes of a name that is no client.
@@ -14,14 +14,12 @@ NONE = "-"
 
 def kind_of(asked: Namespace) -> str | None:
     """What a client is, None where a trace is to have none."""
-    kind: str = asked.clients or (asked.usual if ahead.CLIENTS else "none")
+    kind: str = asked.clients or asked.usual
     if kind == "none":
         for word, given in (("--loop", asked.loop), ("--depth", asked.depth)):
             if given:
                 raise Refusal(2, f"{word}: the trace has no clients")
         return None
-    if not ahead.CLIENTS:
-        raise Refusal(2, f"--clients {kind}: the traces of this program have no clients yet")
     return kind
 
 
@@ -42,10 +40,12 @@ def deal(requests: list[Request], took: Took, depth: int | None) -> None:
         if it.client in measured:
             ends = lanes[it.client]
             lane = min(range(len(ends)), key=lambda n: (ends[n], n), default=0)
-            if not ends or ends[lane] > it.time:
+            # The times of a log are rounded down, to microseconds.
+            if not ends or ends[lane] >= it.time + 1000:
                 lane = len(ends)
                 ends.append(0)
-            ends[lane] = it.time + took(it)
+            # How long a request took that has no latency is not known, and a guess opens no lane.
+            ends[lane] = it.time + (0 if it.took is None else took(it))
         else:
             lane = count[it.client] % (depth or 1)
             count[it.client] += 1

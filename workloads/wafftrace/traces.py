@@ -9,14 +9,14 @@ from argparse import Namespace
 from collections.abc import Iterable, Iterator
 from dataclasses import dataclass, replace
 
-from . import ahead, clients, limits
+from . import clients, limits
 from .logs import Refusal, is_number, read_text, shown, tell
 
 # How many messages the windows of a trace may have in all.
 MOST_IN_WINDOWS = 20000000
 
-HEADERS = {"message,cost,ops": 1, "message,cost,release,ops": 2}
-WITH_CLIENTS = "message,cost,release,client,think,ops"
+# The headers of traces, and their versions.
+HEADERS = {"message,cost,ops": 1, "message,cost,release,ops": 2, "message,cost,release,client,think,ops": 3}
 RANGE = re.compile(r":([0-9]+)-([0-9]+)(?= |;|$)", re.ASCII)
 WORDS: dict[str, tuple[int | None, bool]] = {"set": (2, True), "add": (2, True), "read": (1, False), "copy": (2, False), "swap": (2, False)}
 
@@ -63,7 +63,7 @@ class Trace:
         return self.version > 2
 
     def text(self) -> str:
-        lines = [next(it for it, version in headers().items() if version == self.version)]
+        lines = [next(it for it, version in HEADERS.items() if version == self.version)]
         lines += [",".join(map(str, it.fields(self.version))) for it in self.messages]
         return "\n".join(lines) + "\n"
 
@@ -74,11 +74,6 @@ class Trace:
         return [it.release for it in self.messages]
 
 
-def headers() -> dict[str, int]:
-    """The headers of traces, and their versions."""
-    return HEADERS | {WITH_CLIENTS: 3} if ahead.CLIENTS else HEADERS
-
-
 def read_trace(name: str) -> Trace:
     """The trace of a file; a record that is none of a trace is refused."""
     text = read_text(name).removeprefix("\ufeff")
@@ -86,9 +81,9 @@ def read_trace(name: str) -> Trace:
     records = (it for it in csv.reader(io.StringIO(text, newline=""), strict=True) if it)
     try:
         header: list[str] = next(records, [])
-        version = headers().get(",".join(header))
+        version = HEADERS.get(",".join(header))
         if version is None:
-            raise Refusal(3, f"{called}: its first record is no header of a trace: {' or '.join(headers())}")
+            raise Refusal(3, f"{called}: its first record is no header of a trace: {' or '.join(HEADERS)}")
         fields = {1: 3, 2: 4, 3: 6}[version]
         messages = []
         for number, record in enumerate(records, 2):
@@ -267,9 +262,9 @@ def stats(asked: Namespace) -> str:
         "name,messages,cost",
         *tallied((it.name, it.cost) for it in messages),
     ]
-    if ahead.CLIENTS and not trace.has_clients:
+    if not trace.has_clients:
         tell("the trace has no clients: speed-ups are those of as many clients as messages")
-    elif trace.has_clients:
+    else:
         lines += ["client,messages,cost", *tallied((it.client, it.cost) for it in messages)]
     return "\n".join(lines) + "\n"
 

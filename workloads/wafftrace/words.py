@@ -11,7 +11,7 @@ from collections.abc import Callable
 from fractions import Fraction
 from typing import NoReturn
 
-from . import VERSION, ahead, blocks, clients, fio, gathering, hot, limits, model, plans, strace, traces
+from . import VERSION, blocks, clients, fio, gathering, hot, limits, model, plans, strace, traces
 from .logs import Refusal, is_number, tell
 
 # What is done for the words of a command: the text that it prints.
@@ -24,8 +24,8 @@ cost, since the plan adds the waits of its own tree and workers, and then they c
 together, take `--cost size`: `--base` microseconds and `--per-kib` for each KiB begun. Their values without the options are guesses;
 workloads/README.md shows how to measure them.
 
-What is left out: a trace has no order but that of what excludes each other. Two messages of one client run side by side in a plan
-where they did not in the log, unless their releases keep them apart."""
+What is left out: in a trace without clients there is no order but that of what excludes each other. Two messages of one client run side
+by side in a plan where they did not in the log, unless their releases keep them apart."""
 
 WINDOW_HELP = """\
 What a window does not show: the messages that were under way before it. Each window begins with no message that runs or waits, so
@@ -105,22 +105,18 @@ def imported(part: ArgumentParser) -> None:
 
 
 def of_clients(part: ArgumentParser, kinds: tuple[str, ...], usual: str, has_lanes: bool = False, has_depth: bool = False) -> None:
-    """The words about the clients of a trace, which are hidden as long as the program knows none. A client that has several requests
-    in flight has lanes (`has_lanes`)."""
-
-    def told(text: str) -> str:
-        return text if ahead.CLIENTS else argparse.SUPPRESS
-
+    """The words about the clients of a trace. A client that has several requests in flight has lanes (`has_lanes`)."""
     part.set_defaults(usual=usual, has_lanes=has_lanes, depth=None)
-    part.add_argument("--clients", choices=kinds, help=told(f"what a client is, which asks for one thing after another ({usual})"))
+    part.add_argument("--clients", choices=kinds, help=f"what a client is, which asks for one thing after another ({usual})")
     part.add_argument(
         "--loop", choices=["closed", "open"],
-        help=told("whether a client's request comes so long after the answer to the one before as it did (closed), or when it did (open)"),
+        help="whether a client's request comes so long after the answer to the one before as it did (closed, without this word too), or"
+        " when it did (open)",
     )
     if has_depth:
         part.add_argument(
             "--depth", type=number(1, limits.OPS, "number"), metavar="N",
-            help=told("how many requests of a job were in flight, where its log has no latencies (1)"),
+            help="how many requests of a job were in flight, where its log has no latencies (1)",
         )
 
 
@@ -211,11 +207,13 @@ def words_of_logs(part: Callable[..., ArgumentParser]) -> None:
 
 
 def words_of_traces(part: Callable[..., ArgumentParser]) -> None:
-    found = part("pace", "the trace with its releases divided, or without them", traces.pace)
+    found = part("pace", "the trace with its releases and think times divided, or without them", traces.pace)
     found.add_argument("trace", metavar="TRACE", help="the trace, a CSV file")
     either = found.add_mutually_exclusive_group(required=True)
-    either.add_argument("--speed", type=speed, metavar="N", help="divide each release by N (2, 0.5), rounded down")
-    either.add_argument("--at-once", action="store_true", help="leave the releases out")
+    either.add_argument("--speed", type=speed, metavar="N", help="divide each release and think time by N (2, 0.5), rounded down")
+    either.add_argument(
+        "--at-once", action="store_true", help="leave the releases out; of a trace with clients all releases and think times, and keep those"
+    )
 
     what = "a file for each window of a trace, with its releases from 0; prints their names (`windows` is the same)"
     found = part("window", what, traces.window, WINDOW_HELP, aliases=("windows",))

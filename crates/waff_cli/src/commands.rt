@@ -105,7 +105,7 @@ pub static COMMANDS: &[CommandWords] = &[
     },
     CommandWords {
         name: "plan",
-        about: "Prints a shortest plan, or a plan for a number of workers",
+        about: "Prints a plan without a limit on workers, or for a number of them",
         words: &[
             Word::File(HIERARCHY),
             Word::File(TRACE),

@@ -46,6 +46,10 @@ Example: waff plan hier.toml trace.csv | waff check hier.toml trace.csv -
 HIER is a hierarchy, a TOML file; TRACE a trace, a CSV file; PLAN what waff plan
 prints. One of them may be -, standard input.
 
+A trace with clients has the header message,cost,release,client,think,ops. A
+client issues a message at its release, but no sooner than a think time after
+its last one has finished. What is issued first is served first.
+
 Without words waff reads standard input, a hierarchy, a line ---, and a trace,
 and prints the plan of both.";
 
@@ -83,12 +87,16 @@ Then a line each:
   workers   K, or -
   total     the sum of all costs
   length    the last finish
-  chain     messages of which each excludes the one before
-  release   of a trace with releases: that of the first of the chain
+  chain     messages of which each excludes the one before, or is the next of
+            its client
+  release   of a trace with releases: that of the first of the chain; of one with
+            clients also the think times between messages of the chain
   cost      the cost of the chain
   bound     two numbers, the left never above the right: without --workers the
             length, and release + cost; with --workers K * length, and
-            total + K * release + (K - 1) * cost"
+            total + K * release + (K - 1) * cost
+Without --workers no plan is shorter; where the trace has clients, none that
+serves the messages in the same order."
 );
 
 /// What the long help of `waff check` ends with.
@@ -103,12 +111,19 @@ One line. A fault of the plan:
   affinity     a message has another affinity than its own
   finish       a finish is not the start plus the cost
   totals       the summary has another sum
-  notachain    a message of the chain does not exclude the one before
-  early        a message starts before its release
+  notachain    a message of the chain does not exclude the one before, and is not
+               the next of its client
+  early        a message starts before its release, or before its client has
+               thought for the first time
+  client       a message starts before its client has thought after the answer
+               to the one before
 No fault:
   shortest     no plan is shorter
-  withinbound  at most twice as long as any plan for so many workers
+  tight        no plan is shorter that serves the messages in the same order
+  withinbound  at most twice as long as any plan for so many workers; where the
+               trace has clients, as any that serves in the same order
   obeys        nothing more is known
+The verdicts client and tight are of traces with clients alone.
 waff explain says the same in words.",
     "\
 Exit status:
@@ -123,7 +138,8 @@ Example: waff explain hier.toml trace.csv plan.csv
 
 The line that the other commands print, then:
   where    the file, and the place in it
-  message  each message that a verdict names
+  message  each message that a verdict names, where the trace has clients with
+           its client, think time and issue
   found    what stands there
   why      of an overlap: the way in the tree from the lower affinity to the
            other
@@ -152,7 +168,7 @@ Example: waff compare classical.toml hier.toml trace.csv --workers 8
 
 A line for each hierarchy:
   model        classical or hierarchical
-  length       of its shortest plan
+  length       of its plan without a limit on workers
   release      of a trace with releases: that of that plan's chain
   chain        the cost of that plan's chain
   list         the length of its plan for K workers
@@ -181,7 +197,9 @@ A line each:
   waits     the ticks that messages wait in all
   mean      the mean latency, from a release to the finish
   p50, p99  a latency that 50 and 99 of 100 messages do not pass
-  latency   the greatest latency",
+  latency   the greatest latency
+Where the trace has clients, waits and latencies are from a message's issue: the
+later of its release and a think time after its client's last one has finished.",
     "\
 Exit status:
   0  no fault in the plan
@@ -204,7 +222,9 @@ A line for each number of workers (without --workers 1, 2, 3, 4, 6, 8, 12, 16,
   waits     the ticks that messages wait in all
   mean      the mean latency, from a release to the finish
   p50, p99  a latency that 50 and 99 of 100 messages do not pass
-  latency   the greatest latency"
+  latency   the greatest latency
+Where the trace has clients, waits and latencies are from a message's issue: the
+later of its release and a think time after its client's last one has finished."
 );
 
 /// What the long help of `waff where` ends with.
@@ -218,12 +238,13 @@ A line for each affinity:
   messages  how many messages run in it
   cost      their cost
   below     the cost of those in it or below it
-  chain     the cost of those in it on the chain of the shortest plan
+  chain     the cost of those in it on the chain of the plan without a limit on
+            workers
 With --names a line for each name of messages:
   name      the name
   messages  how many have it
   cost      their cost
-  chain     the cost of those on the chain of the shortest plan
+  chain     the cost of those on that chain
 With --clients a line for each client, with the same columns:
   client    the client; - for messages of none"
 );
@@ -233,8 +254,8 @@ const WAITS: &str = with_statuses!(
     "\
 Example: waff waits hier.toml trace.csv --workers 8
 
-A line for each pair of affinities of which one waits for the other, in the
-shortest plan, or in that for K workers:
+A line for each pair of affinities of which one waits for the other, in the plan
+without a limit on workers, or in that for K workers:
   affinity  that of the messages that wait
   for       that of the messages they wait for; - for a worker
   messages  how many wait so
@@ -280,12 +301,14 @@ A line for each hierarchy:
   hierarchy   its number, from 1
   model       classical or hierarchical
   affinities  how many it has
-  length      of its shortest plan
+  length      of its plan without a limit on workers
   list        the length of its plan for K workers
   least       no plan for K workers is shorter than this
   over        list / least, rounded up
   waits       the ticks that messages wait in all
   mean        the mean latency, from a release to the finish
   p50, p99    a latency that 50 and 99 of 100 messages do not pass
-  latency     the greatest latency"
+  latency     the greatest latency
+Where the trace has clients, waits and latencies are from a message's issue: the
+later of its release and a think time after its client's last one has finished."
 );

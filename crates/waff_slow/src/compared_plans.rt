@@ -18,12 +18,12 @@ use waff_plan::{Chain, Plan};
 use waff_read::{read_hierarchy, read_trace};
 
 /// Numbers of workers.
-const WORKERS: [u32; 4] = [1, 2, 3, 64];
+pub const WORKERS: [u32; 4] = [1, 2, 3, 64];
 
-const RULES: [Rule; 2] = [Rule::Arrival, Rule::Longest];
+pub const RULES: [Rule; 2] = [Rule::Arrival, Rule::Longest];
 
 /// When each message of the plan starts.
-fn starts(alloc: Global, plan: &Plan) -> Result<Vec<u64>, AllocError> {
+pub fn starts(alloc: Global, plan: &Plan) -> Result<Vec<u64>, AllocError> {
     let mut starts = Vec::new(alloc);
     for m in 1..plan.len() + 1 {
         starts.push(plan.start(m))?;
@@ -149,6 +149,7 @@ fn lead_as_far(rt: &impl Abort, alloc: Global, work: &Work, needed: &[u64], tree
 fn agree(rt: &impl Abort, alloc: Global, number: u32, hierarchy: &str, trace: &str) {
     let layout = read_hierarchy(alloc, hierarchy.as_bytes()).expect(rt, "a hierarchy");
     let trace = read_trace(alloc, &layout, Version::V3, trace.as_bytes()).expect(rt, "a trace");
+    assert!(rt; trace.version() != Version::V3);
     let assigned = assign(alloc, &layout, &trace).expect(rt, "affinities");
     let needs = needs(alloc, layout.tree(), &assigned).expect(rt, "needs");
     let pairs = ordered(alloc, layout.tree(), &assigned).expect(rt, "pairs");

@@ -155,12 +155,12 @@ fn busy(started: &[Started], tick: u64) -> u64 {
 }
 
 /// How many workers run nothing at this tick.
-fn free(started: &[Started], tick: u64, k: u32) -> u32 {
+pub fn free(started: &[Started], tick: u64, k: u32) -> u32 {
     k.saturating_sub(busy(started, tick).count_ones())
 }
 
 /// The least worker that runs nothing at this tick.
-fn free_worker(started: &[Started], tick: u64, k: u32) -> Option<u32> {
+pub fn free_worker(started: &[Started], tick: u64, k: u32) -> Option<u32> {
     let busy = busy(started, tick);
     for worker in (1u32..).take(k as usize) {
         if !has(busy, worker) {

@@ -39,9 +39,34 @@ pub fn random_trace(alloc: Global, dice: &mut Dice, releases: bool) -> Result<St
     Ok(text)
 }
 
+/// A random trace of few clients, with releases and think times.
+pub fn random_clients(alloc: Global, dice: &mut Dice) -> Result<String, AllocError> {
+    let mut text = String::from_str(alloc, V3)?;
+    let most = 1 + dice.below(4);
+    for _ in 0..MESSAGES {
+        let release = dice.below(60) * dice.below(2);
+        let think = dice.below(20) * dice.below(2);
+        let client = match dice.below(most) {
+            0 => "a",
+            1 => "b",
+            2 => "-",
+            _ => "c.1",
+        };
+        write!(
+            text,
+            "\nm,{},{release},{client},{think},",
+            1 + dice.below(9)
+        )?;
+        push_ops(&mut text, dice)?;
+    }
+    Ok(text)
+}
+
 const V1: &str = "message,cost,ops";
 
 const V2: &str = "message,cost,release,ops";
+
+const V3: &str = "message,cost,release,client,think,ops";
 
 /// Begins a line with a name, a cost and, if it has one, a release.
 fn push_times(text: &mut String, dice: &mut Dice, releases: bool) -> Result<(), AllocError> {

@@ -50,7 +50,7 @@ pub use rates::rate_text;
 pub use replays::replay_text;
 pub use sweeps::sweep_text;
 pub use waff_draw::Part;
-pub use waff_figures::{Grouping, sweep_workers};
+pub use waff_figures::{Grouping, Label, sweep_workers};
 pub use waff_inputs::{MAX_RANKED, ToolError, fault_status, fault_text};
 pub use waff_io::{ReadFault, read_whole, split_input};
 pub use waff_list::Rule;

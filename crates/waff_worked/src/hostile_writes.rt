@@ -13,10 +13,10 @@ use waff_samples::{
     STATE_H1_X1, X1,
 };
 use waff_tool::{
-    Grouping, Part, Picture, ReadFault, ToolError, assign_text, assign_text_by_threads, check_text,
-    compare_text, compare_text_by_threads, draw_text, explain_text, needs_text, plan_text,
-    plan_text_by, rank_text, rate_text, read_whole, replay_text, sweep_text, sweep_workers,
-    waits_text, where_text,
+    Grouping, Label, Part, Picture, ReadFault, ToolError, assign_text, assign_text_by_threads,
+    check_text, compare_text, compare_text_by_threads, draw_text, explain_text, needs_text,
+    plan_text, plan_text_by, rank_text, rate_text, read_whole, replay_text, sweep_text,
+    sweep_workers, waits_text, where_text,
 };
 
 /// The calls that write a text.
@@ -106,8 +106,8 @@ fn write_text<R: Threads + Wait + Sync>(
                 writer,
             )
         }
-        Call::Affinities => where_text(rt, alloc, hierarchy, trace, Grouping::Affinity, writer),
-        Call::Names => where_text(rt, alloc, hierarchy, trace, Grouping::Name, writer),
+        Call::Affinities => where_text(rt, alloc, hierarchy, trace, None, writer),
+        Call::Names => where_text(rt, alloc, hierarchy, trace, Some(Label::Name), writer),
         Call::Waits => {
             let (workers, rule, grouping) = (Some(2), Rule::Arrival, Grouping::Name);
             waits_text(rt, alloc, hierarchy, trace, workers, rule, grouping, writer)

@@ -9,7 +9,7 @@ use std::process::Abort;
 use std::thread::Threads;
 use waff_list::Rule;
 use waff_samples::{H1, X1, X2};
-use waff_tool::{Grouping, sweep_text, sweep_workers, where_text};
+use waff_tool::{Label, sweep_text, sweep_workers, where_text};
 
 /// The sweep of the first trace under the hierarchical sample.
 pub const SWEEP_H1_X1: &str = "workers,length,speedup,busy,least,over,waits,mean,p50,p99,latency\n\
@@ -147,12 +147,16 @@ fn by_the_longest_tails(rt: HostRuntime) {
 #[test]
 fn of_places(rt: HostRuntime) {
     let (hierarchy, trace) = (H1.as_bytes(), X1.as_bytes());
-    for (grouping, text) in [
-        (Grouping::Affinity, WHERE_H1_X1),
-        (Grouping::Name, WHERE_H1_X1_NAMES),
+    for (label, text) in [
+        (None, WHERE_H1_X1),
+        (Some(Label::Name), WHERE_H1_X1_NAMES),
+        (
+            Some(Label::Client),
+            "client,messages,cost,chain\n-,6,17,9\n",
+        ),
     ] {
         let mut written = Vec::new(rt.alloc());
-        where_text(&rt, rt.alloc(), hierarchy, trace, grouping, &mut written).expect(&rt, "a text");
+        where_text(&rt, rt.alloc(), hierarchy, trace, label, &mut written).expect(&rt, "a text");
         are_same(&rt, written.as_slice(), text.as_bytes());
     }
 }

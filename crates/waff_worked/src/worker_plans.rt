@@ -82,6 +82,7 @@ fn is_told(rt: &impl Abort, alloc: Global, trace: &str, rule: Rule, k: u32, want
 {
     let layout = read_hierarchy(alloc, H1.as_bytes()).expect(rt, "a hierarchy");
     let trace = read_trace(alloc, &layout, Version::V3, trace.as_bytes()).expect(rt, "a trace");
+    assert!(rt; trace.version() != Version::V3);
     let assigned = assign(alloc, &layout, &trace).expect(rt, "affinities");
     let needs = needs(alloc, layout.tree(), &assigned).expect(rt, "needs");
     let made = list_plan_by(alloc, &needs, &trace, rule, k).expect(rt, "a plan");
