@@ -216,8 +216,9 @@ fn earlier(found: Option<u64>, tick: u64, now: u64) -> Option<u64> {
 /// The tail of each message: its cost, and the think time and the tail of the next one of its client.
 pub fn tails(alloc: Global, requests: &[Request]) -> Result<Vec<u64>, AllocError> {
     let mut tails = Vec::new(alloc);
+    let count = u32::try_from(requests.len()).unwrap_or(u32::MAX);
     for (back, _) in (0u32..).zip(requests) {
-        let m = (requests.len() as u32).wrapping_sub(back);
+        let m = count.wrapping_sub(back);
         let mut behind: u64 = 0;
         for (it, tail) in requests.iter().rev().zip(&tails) {
             if it.before == m {

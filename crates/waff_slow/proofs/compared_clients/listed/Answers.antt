@@ -1,4 +1,3 @@
-use Rattle.std.proofs.Common.{◌∙◌}
 use Rattle.waff_plan.specs.Timing.{start_of}
 use Rattle.waff_slow.proofs.ClientPlans.{as_many, plan_obeys}
 use Rattle.waff_slow.proofs.compared_clients.listed.Goals as goal

@@ -1,4 +1,3 @@
-use Rattle.std.proofs.Common.{◌∙◌}
 use Rattle.waff_slow.proofs.ClientPlans.{as_many}
 use Rattle.waff_slow.proofs.compared_clients.unlimited.Goals as goal
 
