@@ -86,6 +86,7 @@ fn is_told(rt: &impl Abort, alloc: Global, trace: &str, rule: Rule, k: u32, want
     let assigned = assign(alloc, &layout, &trace).expect(rt, "affinities");
     let needs = needs(alloc, layout.tree(), &assigned).expect(rt, "needs");
     let made = list_plan_by(alloc, &needs, &trace, rule, k).expect(rt, "a plan");
+    assert!(rt; made.plan().len() == assigned.len());
     let chain = list_chain(alloc, layout.tree(), &assigned, &made).expect(rt, "a chain");
     let told = told(alloc, &made, &chain).expect(rt, "words");
     is_same(rt, told.as_str(), wanted);
