@@ -150,7 +150,7 @@ pub static COMMANDS: &[CommandWords] = &[
     },
     CommandWords {
         name: "where",
-        about: "Prints where the time goes, by affinity, or by name or client of messages",
+        about: "Prints where the time goes, by affinity, by name or by client",
         words: &[
             Word::File(HIERARCHY),
             Word::File(TRACE),

@@ -89,8 +89,8 @@ Then a line each:
   length    the last finish
   chain     messages of which each excludes the one before, or is the next of
             its client
-  release   of a trace with releases: that of the first of the chain; of one with
-            clients also the think times between messages of the chain
+  release   of a trace with releases: that of the first of the chain; of one
+            with clients also the think times between messages of the chain
   cost      the cost of the chain
   bound     two numbers, the left never above the right: without --workers the
             length, and release + cost; with --workers K * length, and
@@ -111,8 +111,8 @@ One line. A fault of the plan:
   affinity     a message has another affinity than its own
   finish       a finish is not the start plus the cost
   totals       the summary has another sum
-  notachain    a message of the chain does not exclude the one before, and is not
-               the next of its client
+  notachain    a message of the chain does not exclude the one before, and is
+               not the next of its client
   early        a message starts before its release, or before its client has
                thought for the first time
   client       a message starts before its client has thought after the answer
@@ -198,8 +198,7 @@ A line each:
   mean      the mean latency, from a release to the finish
   p50, p99  a latency that 50 and 99 of 100 messages do not pass
   latency   the greatest latency
-Where the trace has clients, waits and latencies are from a message's issue: the
-later of its release and a think time after its client's last one has finished.",
+With clients, waits and latencies count from the issue.",
     "\
 Exit status:
   0  no fault in the plan
@@ -223,8 +222,7 @@ A line for each number of workers (without --workers 1, 2, 3, 4, 6, 8, 12, 16,
   mean      the mean latency, from a release to the finish
   p50, p99  a latency that 50 and 99 of 100 messages do not pass
   latency   the greatest latency
-Where the trace has clients, waits and latencies are from a message's issue: the
-later of its release and a think time after its client's last one has finished."
+With clients, waits and latencies count from the issue."
 );
 
 /// What the long help of `waff where` ends with.
@@ -309,6 +307,5 @@ A line for each hierarchy:
   mean        the mean latency, from a release to the finish
   p50, p99    a latency that 50 and 99 of 100 messages do not pass
   latency     the greatest latency
-Where the trace has clients, waits and latencies are from a message's issue: the
-later of its release and a think time after its client's last one has finished."
+With clients, waits and latencies count from the issue."
 );
