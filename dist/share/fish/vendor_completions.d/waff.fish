@@ -5,7 +5,7 @@ complete -c waff -f -n __fish_use_subcommand -a check -d 'Prints the first fault
 complete -c waff -f -n __fish_use_subcommand -a explain -d 'Explains the first fault, or the verdict on the plan, in plain words'
 complete -c waff -f -n __fish_use_subcommand -a rate -d 'Prints how good a plan is, whoever made it'
 complete -c waff -f -n __fish_use_subcommand -a sweep -d 'Prints how long the trace takes, by the number of workers'
-complete -c waff -f -n __fish_use_subcommand -a where -d 'Prints where the time goes, by affinity, or by name or client of messages'
+complete -c waff -f -n __fish_use_subcommand -a where -d 'Prints where the time goes, by affinity, by name or by client'
 complete -c waff -f -n __fish_use_subcommand -a waits -d 'Prints who waits for whom, and how long'
 complete -c waff -f -n __fish_use_subcommand -a needs -d 'Prints for which earlier messages each message has to wait'
 complete -c waff -f -n __fish_use_subcommand -a draw -d 'Prints a picture of a plan'
