@@ -47,6 +47,7 @@ fn lowest_of_ops(layout: &Layout, ops: &Ops) -> AffinityId
 }
 
 /// The lowest affinity that covers what the operation names.
+#[inline(always)]
 fn lowest_of_op(layout: &Layout, op: Op) -> AffinityId
     requires { All (IsCell layout.now.spaces) (cells_of_op op) }
     ensures lowest { IsLowest layout.now (Contains (cells_of_op op)) result.0 }

@@ -1,7 +1,6 @@
 -- Messages as records of a trace.
 use Rattle.std.specs.Prelude.{ℕ, ◌+◌, List, Option, Some, None, option_map, ok_or, Result, Ok, Err}
 use Rattle.std.specs.Prelude.{codes, nat_le, nat_lt, Bool, false, ◌&&◌, if◌then◌else◌}
-use Rattle.std.specs.Borrow.{Bor}
 use Rattle.std.specs.Str.{bytes_eq}
 use Rattle.waff_model.specs.Layout.{Space}
 use Rattle.waff_model.specs.Messages.{no_client}
@@ -128,11 +127,6 @@ release_of (Some text) = ok_or (number_within 0 MAX_RELEASE text) fault.Release
 abbrev pub client_of : Option Field → Result Field TraceFault
 client_of None = Ok no_client
 client_of (Some text) = if is_name text then Ok text else Err fault.Client
-
--- the name of a client as it was borrowed
-abbrev pub borrowed : Result (Bor Field) TraceFault → Result Field TraceFault
-borrowed (Ok text) = Ok text.now
-borrowed (Err e) = Err e
 
 -- a think time, which is 0 where there is no field for it
 abbrev pub think_of : Option Field → Result ℕ TraceFault

@@ -163,6 +163,7 @@ fn read_cost(text: &str) -> Result<u32, TraceFault>
 }
 
 // A release in ticks, 0 where there is no field for it.
+#[inline]
 fn read_release(text: Option<&str>) -> Result<u32, TraceFault>
     ensures { result ≡ messages.release_of (option_map (λ s. s.now) text.entry) }
 {
@@ -175,23 +176,26 @@ fn read_release(text: Option<&str>) -> Result<u32, TraceFault>
     }
 }
 
-// The name of a client, `-` where there is no field for it.
-fn read_client<'a>(text: Option<&'a str>) -> Result<&'a str, TraceFault>
-    ensures { messages.borrowed result ≡ messages.client_of (option_map (λ s. s.now) text.entry) }
+// The client that a field names, none where there is no field for it.
+#[inline]
+fn read_client(alloc: Global, text: Option<&str>) -> Result<Client, Stop<TraceFault>>
+    ensures { Gives (λ client.
+        client) result (messages.client_of (option_map (λ s. s.now) text.entry)) }
 {
     match text {
-        None => Ok("-"),
+        None => Ok(Client::none()),
         Some(text) => {
             if is_name(text) {
-                Ok(text)
+                Ok(Client::of(alloc, text)?)
             } else {
-                Err(TraceFault::Client)
+                Err(Stop::Fault(TraceFault::Client))
             }
         }
     }
 }
 
 // A think time in ticks, 0 where there is no field for it.
+#[inline]
 fn read_think(text: Option<&str>) -> Result<u32, TraceFault>
     ensures { result ≡ messages.think_of (option_map (λ s. s.now) text.entry) }
 {
@@ -242,10 +246,7 @@ fn message_of_columns(
         Ok(release) => release,
         Err(fault) => return Err(Stop::Fault(fault)),
     };
-    let client = match read_client(columns.client) {
-        Ok(client) => client,
-        Err(fault) => return Err(Stop::Fault(fault)),
-    };
+    let client = read_client(alloc, columns.client)?;
     let think = match read_think(columns.think) {
         Ok(think) => think,
         Err(fault) => return Err(Stop::Fault(fault)),
@@ -254,7 +255,7 @@ fn message_of_columns(
         name: Text::of(alloc, columns.name)?,
         cost,
         release,
-        client: Client::of(alloc, client)?,
+        client,
         think,
         ops,
     })
