@@ -1,5 +1,5 @@
 -- The versions of traces, and the limits that go by them.
-use Rattle.std.specs.Prelude.{ℕ}
+use Rattle.std.specs.Prelude.{ℕ, Bool, true, false}
 use Rattle.waff_model.specs.declared.limits.TheConstants.{MAX_EARLIER_MESSAGES, MAX_EARLIER_OPS}
 use Rattle.waff_model.specs.declared.limits.TheConstants.{MAX_MESSAGES, MAX_OPS}
 use Rattle.waff_model.specs.declared.message.Version.{Version}
@@ -10,6 +10,12 @@ abbrev pub number : Version → ℕ
 number V1 = 1
 number V2 = 2
 number V3 = 3
+
+-- the third version has clients
+abbrev pub has_clients : Version → Bool
+has_clients V1 = false
+has_clients V2 = false
+has_clients V3 = true
 
 -- how many messages a trace may have
 abbrev pub max_messages : Version → ℕ

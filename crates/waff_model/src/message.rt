@@ -29,6 +29,16 @@ impl Version {
         }
     }
 
+    /// Whether messages of the version have clients and think times, and pieces may be ranges.
+    pub fn has_clients(self) -> bool
+        ensures { result ≡ versions.has_clients self }
+    {
+        match self {
+            Version::V1 | Version::V2 => false,
+            Version::V3 => true,
+        }
+    }
+
     /// How many messages a trace of the version may have.
     pub fn max_messages(self) -> usize
         ensures { result ≡ versions.max_messages self }
