@@ -8,8 +8,8 @@ ghost use Rattle.waff_plan.specs.Bound.{IsWorkers};
 ghost use Rattle.waff_plan.specs.Planned.{planned_starts, planned_work};
 ghost use Rattle.waff_plan.specs.Timetable.{starts_in, work_in};
 ghost use Rattle.waff_plan.specs.Work.{IsAmongFirst, Work, greatest, numbers};
-ghost use Rattle.waff_figures.specs.Figures.{AreFigures, FiguresAreOne, latencies_of, latency_of};
-ghost use Rattle.waff_figures.specs.Figures.{waits_of};
+ghost use Rattle.waff_figures.specs.Figures.{AreFigures, FiguresAreOne, LatenciesAddUp};
+ghost use Rattle.waff_figures.specs.Figures.{latencies_of, latency_of, waits_of};
 ghost use Rattle.waff_figures.specs.Least.{LeastIsLowerBound, OneIsShortest, OverIsUpperBound};
 ghost use Rattle.waff_figures.specs.Least.{least_in, least_of};
 
@@ -167,8 +167,13 @@ fn sorted_latencies(alloc: Global, plan: &Plan) -> Result<Vec<u64>, AllocError>
     Ok(latencies)
 }
 
-/// Two figures of plans with the same starts are equal: a function that does nothing and whose
-/// contract is the law. Those below only call other laws.
+/// Where no message starts before its issue, the latencies are the waits and the costs: a function that
+/// does nothing and whose contract is the law.
+pub fn latencies_add_up()
+    ensures sum { (work : Work) → LatenciesAddUp work }
+{}
+
+/// Two figures of plans with the same starts are equal. The laws below only call others.
 pub fn figures_are_one()
     ensures equal { (work : Work) → FiguresAreOne work }
 {}
