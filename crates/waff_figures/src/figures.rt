@@ -15,7 +15,6 @@ ghost use Rattle.waff_figures.specs.Least.{least_in, least_of};
 
 use crate::percentile::percentile;
 use std::alloc::{AllocError, Global};
-use waff_model::Version;
 use waff_plan::laws::{least_is_shortest, none_is_shorter};
 use waff_plan::lower_bound::{lower_bound, none_is_below};
 use waff_plan::{Plan, Planned};
@@ -91,10 +90,10 @@ fn least(
         least ≡ least_in workers (instance_of planned.now.case) shortest) }
 {
     let plan = planned.plan;
-    match plan.version() {
-        Version::V1 => Ok(least_in_order(workers, plan.total(), shortest)),
-        Version::V2 => Ok(least_in_order(workers, plan.total(), shortest)),
-        Version::V3 => lower_bound(alloc, planned, workers),
+    if plan.version().has_clients() {
+        lower_bound(alloc, planned, workers)
+    } else {
+        Ok(least_in_order(workers, plan.total(), shortest))
     }
 }
 
