@@ -2,7 +2,7 @@
 use Rattle.std.proofs.Common.{◌≡◌, ℕ, zero, suc, ◌+◌, ◌<◌, Bool, true, false, inl, inr, cond, flat_map, ◌==◌, ◌||◌, List, [], ◌∷◌, ◌++◌, Option, Some, None, length, get_or, set, arith, refl, sym, ◌∙◌, ap, subst, get_or-set_other, get_or-set_same}
 use Rattle.std.specs.List.{range_with_len}
 use Rattle.std.proofs.lemmas.Bool.{cases_eq}
-use Rattle.std.proofs.lemmas.List.{flat_map_more}
+use Rattle.std.proofs.lemmas.List.{append-nil, flat_map_more}
 use Rattle.std.proofs.lemmas.List.Folds.{list_any-append}
 use Rattle.waff_model.specs.Tree.{IsRooted, Node, parent_of}
 use Rattle.waff_model.proofs.TreeLemmas.{some_of}
@@ -10,7 +10,6 @@ use Rattle.waff_plan.proofs.Longest.{range_with_len_more}
 use Rattle.waff_draw.specs.Lanes.{is_among, way_to}
 use Rattle.waff_draw.proofs.LaneLemmas.{Tells, or_none, other_tests, same_tests}
 use Rattle.waff_draw.proofs.PathLemmas.{path_step}
-use Rattle.waff_draw.proofs.TextLemmas.{append_none}
 
 -- the way to an affinity that may be missing
 abbrev pub way_from : List Node → Option ℕ → List ℕ
@@ -50,10 +49,6 @@ marked_step marks a above way low is n =
           ap (λ b. b || w) (get_or-set_other marks a n true false other)
           ∙ ap (λ b. m || b) (sym (parts ∙ or_none w (a == n) (other_tests a n (λ e. other (sym e)))))
     ]
-
-pub or_false : (b : Bool) → (b || false) ≡ b
-or_false true = refl
-or_false false = refl
 
 -- how many affinities are no later than this one
 abbrev pub steps_from : Option ℕ → ℕ
@@ -98,4 +93,4 @@ tells_else tree assigned a marks unused tells n low =
     tells n low
     ∙ sym (ap (λ ns. is_among ns n) (ways_more tree assigned a)
     ∙ ap (λ b. is_among (so_far ++ cond b (way_to tree a) []) n) unused
-    ∙ ap (λ ns. is_among ns n) (append_none so_far))
+    ∙ ap (λ ns. is_among ns n) (append-nil so_far))

@@ -1,17 +1,11 @@
--- The colours of bars: the first eight names of messages have one each.
-use Rattle.std.specs.Prelude.{ℕ, ◌+◌, ◌&&◌, Bool, List, [], ◌∷◌, ◌++◌, Option, Some, None}
-use Rattle.std.specs.Prelude.{if◌then◌else◌, fold, is_some, length, nat_lt, not, position}
+-- The colours of bars: the first eight distinct names of messages have one each.
+use Rattle.std.specs.Prelude.{ℕ, ◌+◌, List, Option, Some, None, position, take}
 use Rattle.std.specs.Str.{bytes_eq}
+use Rattle.waff_model.specs.DistinctNames.{distinct_names}
 
--- a name goes after the others where it is not among them and a colour is left
-abbrev pub with_colour : List (List ℕ) → List ℕ → List (List ℕ)
-with_colour names name =
-    if nat_lt (length names) 8 && not (is_some (position (bytes_eq name) names))
-    then names ++ name ∷ [] else names
-
--- the names that have a colour, in the order in which they first appear
+-- the names that have a colour: the first eight of the distinct ones
 abbrev pub coloured : List (List ℕ) → List (List ℕ)
-coloured names = fold with_colour [] names
+coloured names = take 8 (distinct_names names)
 
 -- the number of a colour by the place of its name, 0 for the names that have none
 abbrev pub colour_at : Option ℕ → ℕ

@@ -6,8 +6,8 @@ use Rattle.std.specs.List.{flat_map, range_with_len}
 use Rattle.serde_json.specs.Data.{string}
 use Rattle.serde_json.specs.Written.{compact_text}
 use Rattle.waff_model.specs.Tree.{Node, name_of}
+use Rattle.waff_model.specs.Versions.{has_clients}
 use Rattle.waff_model.specs.declared.message.Version.{Version}
-use Rattle.waff_model.specs.declared.message.Version.TheVariants.{V1, V2, V3}
 use Rattle.waff_assign.specs.Order.{affinity_name}
 use Rattle.waff_plan.specs.Work.{numbers}
 use Rattle.waff_draw.specs.Kinds.{process_of, shown_row}
@@ -79,11 +79,9 @@ thread_text process thread name =
 abbrev pub client_entry : List ℕ → List ℕ
 client_entry client = codes ",\"client\":" ++ client
 
--- that of a message of a trace of the third version, `-` too
+-- that of a message, `-` too, where the version of the trace has clients
 abbrev pub client_text : Version → List ℕ → List ℕ
-client_text V1 client = []
-client_text V2 client = []
-client_text V3 client = client_entry (quoted client)
+client_text version client = if has_clients version then client_entry (quoted client) else []
 
 -- a message of this name that runs in the affinity of that name, for this client
 abbrev pub event_text : Version → Event → List ℕ → List ℕ → List ℕ → List ℕ

@@ -1,6 +1,7 @@
 -- What a picture shows: a plan that is given for an instance, or a part of it.
 use Rattle.std.specs.Prelude.{ℕ, ◌+◌, ◌-◌, ◌*◌, ◌/◌, max, min, Bool, false, true, List, []}
 use Rattle.std.specs.Prelude.{Option, Some, None, length, map, nat_lt, slice_index_or}
+use Rattle.waff_model.specs.DistinctNames.{message_names}
 use Rattle.waff_assign.specs.Instance.{Instance}
 use Rattle.waff_plan.specs.Clients.{client_of}
 use Rattle.waff_plan.specs.Instances.{work_of_instance}
@@ -88,11 +89,11 @@ rows_in scene = length (lanes_in scene) + workers_in scene
 
 -- the names that have a colour
 abbrev pub coloured_in : Scene → List (List ℕ)
-coloured_in scene = coloured (map (λ message. message.name) scene.instance.trace.messages)
+coloured_in scene = coloured (message_names scene.instance.trace.messages)
 
 -- the name of message n
 abbrev pub name_in : Scene → ℕ → List ℕ
-name_in scene n = slice_index_or (map (λ message. message.name) scene.instance.trace.messages) (n - 1) []
+name_in scene n = slice_index_or (message_names scene.instance.trace.messages) (n - 1) []
 
 -- that of its client, `-` where it is of none
 abbrev pub client_in : Scene → ℕ → List ℕ

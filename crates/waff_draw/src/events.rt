@@ -275,7 +275,7 @@ fn push_number(text: &mut String, number: u64) -> Result<(), AllocError>
     write!(text, "{number}")
 }
 
-/// Appends the client of a message, where the trace is of the third version.
+/// Appends the client of a message, where the version of the trace has clients.
 fn push_client(
     alloc: Global,
     text: &mut String,
@@ -284,14 +284,11 @@ fn push_client(
 ) -> Result<(), AllocError>
     ensures { OnOk result (Adds text.old text.new (client_text version client.now)) }
 {
-    match version {
-        Version::V1 => Ok(()),
-        Version::V2 => Ok(()),
-        Version::V3 => {
-            let client = json(alloc, client)?;
-            push_client_entry(text, client.as_str())
-        }
+    if version.has_clients() {
+        let client = json(alloc, client)?;
+        push_client_entry(text, client.as_str())?;
     }
+    Ok(())
 }
 
 /// Appends the client of a message, which is given as JSON.

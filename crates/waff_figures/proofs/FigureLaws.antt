@@ -5,12 +5,12 @@ use Rattle.waff_plan.specs.Unique.{AreSame}
 use Rattle.waff_plan.specs.Work.{Work, finish_of, greatest, issue_of, numbers}
 use Rattle.waff_plan.proofs.IssuePlans.{same_issue}
 use Rattle.waff_plan.proofs.Uniqueness.{same_length}
-use Rattle.waff_figures.specs.Figures.{AreFigures, FiguresAreOne, latencies_of, latency_of, waits_of}
+use Rattle.waff_figures.specs.Figures.{AreFigures, FiguresAreOne, LatenciesAddUp, latencies_of, latency_of, waits_of}
 use Rattle.waff_figures.specs.Percentile.{IsPercentile}
 use Rattle.waff_figures.specs.declared.figures.Figures.{Figures}
 use Rattle.waff_figures.proofs.PercentileLemmas.{percentile_is_one}
 use Rattle.waff_figures.proofs.RowLemmas.{map_range_same}
-use Rattle.waff_figures.proofs.SumLemmas.{sum_same}
+use Rattle.waff_figures.proofs.SumLemmas.{sum_both, sum_same}
 
 module _ (work : Work) (follows : FollowsEarlier work) (start other : ℕ → ℕ) (same : AreSame work start other) where
   at : (m : ℕ) → 1 ≤ m → m < 1 + work.count → start m ≡ other m
@@ -89,3 +89,12 @@ of_one_plan limit work bound start one other h k =
 pub figures_are_one : (work : Work) → FiguresAreOne work
 figures_are_one work limit least start other one another follows same h k =
     of_one_plan limit work least start one another h (figures_moved work follows start other same limit least another k)
+
+pub latencies_add_up : (work : Work) → LatenciesAddUp work
+latencies_add_up work limit bound start figures issued are =
+    let wait : ℕ → ℕ = λ m. start m - issue_of work start m in
+    let each = sum_same (latency_of work start) (λ m. wait m + work.cost m) 1 work.count (λ m from to.
+    let after : issue_of work start m ≤ start m = issued m (record { from = from; to = omega (arith, to) }) in
+    omega (arith, after)) in
+    are.latencies ∙ each ∙ sum_both wait work.cost (numbers work)
+    ∙ sym (ap (λ x. x + figures.total) are.waits ∙ ap (λ x. waits_of work start + x) are.total)

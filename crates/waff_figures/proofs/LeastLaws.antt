@@ -3,6 +3,7 @@ use Rattle.std.proofs.Common.{◌≡◌, ℕ, ◌*◌, ◌≤◌, length, [], �
 use Rattle.std.proofs.lemmas.Fmt.{decimal_digit}
 use Rattle.std.proofs.Math.Nat.{mul-le-mul_left}
 use Rattle.waff_model.specs.Tree.{IsTree}
+use Rattle.waff_model.specs.Versions.{has_clients}
 use Rattle.waff_model.specs.declared.message.Version.{Version}
 use Rattle.waff_model.specs.declared.message.Version.TheVariants.{V1, V2, V3}
 use Rattle.waff_assign.specs.Instance.{Instance, before_in}
@@ -18,7 +19,7 @@ use Rattle.waff_plan.specs.Work.{Work, length_of, total_of}
 use Rattle.waff_plan.proofs.ClientLemmas.{client_follows_earlier}
 use Rattle.waff_plan.proofs.TimingLemmas.{length-timings_of, timings_follow_clients}
 use Rattle.waff_plan_text.specs.Ratio.{RatioUpIsUpperBound, hundredths_field}
-use Rattle.waff_figures.specs.Least.{IsRivalIn, LeastIsLowerBound, ObeysFor, OneIsShortest, OverIsUpperBound, least_by, least_of}
+use Rattle.waff_figures.specs.Least.{IsRivalWhere, LeastIsLowerBound, ObeysFor, OneIsShortest, OverIsUpperBound, least_of, least_where}
 
 -- in the order of the trace
 least_in_order : (limit : Option ℕ) (before : Relation) (work : Work) → LeastIsShortest before work → NoneIsShorter before work → (start other : ℕ → ℕ)
@@ -40,8 +41,8 @@ module _ (instance : Instance) (shortest : LeastIsShortest (before_in instance) 
 
   by_version : (version : Version) (limit : Option ℕ) (start other : ℕ → ℕ) → IfSome limit IsWorkers → IsTree instance.tree
       → length instance.assigned ≡ length instance.trace.messages
-      → IsLeast (served_before version instance.tree instance.assigned work start) work start → IsRivalIn version limit instance other
-      → least_by version limit instance (length_of work start) ≤ length_of work other
+      → IsLeast (served_before version instance.tree instance.assigned work start) work start → IsRivalWhere (has_clients version) limit instance other
+      → least_where (has_clients version) limit instance (length_of work start) ≤ length_of work other
   by_version V1 limit start other known tree count least rival = least_in_order limit (before_in instance) work shortest shared start other known least rival
   by_version V2 limit start other known tree count least rival = least_in_order limit (before_in instance) work shortest shared start other known least rival
   by_version V3 limit start other known tree count least rival =

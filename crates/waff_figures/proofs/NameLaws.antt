@@ -3,6 +3,7 @@ use Rattle.std.proofs.Common.{◌≡◌, ℕ, zero, suc, ◌+◌, ◌-◌, ◌<�
 use Rattle.std.specs.List.{list_any, range_with_len}
 use Rattle.std.specs.List.Sorted.{IsStrictlyIncreasing}
 use Rattle.std.specs.Str.{bytes_eq}
+use Rattle.std.proofs.Math.Bool.{or-false}
 use Rattle.std.proofs.lemmas.Bool.{cases_Bool, cases_lt, false≢true}
 use Rattle.std.proofs.lemmas.Slice.Eq.{bytes_eq-Decides}
 use Rattle.std.proofs.lemmas.List.{get_or-take, get_or_append_left, get_or_push, length-take-le, length_push, take_all}
@@ -10,10 +11,12 @@ use Rattle.std.proofs.lemmas.List.Elements.{All-append, All-cons, All-nil, All-t
 use Rattle.std.proofs.lemmas.List.Folds.{list_any-append, list_any_at}
 use Rattle.std.proofs.lemmas.List.FromFn.{get_or-range_with_len, length-range_with_len}
 use Rattle.std.proofs.lemmas.List.Sums.{fold_more, sum_by-cons, sum_by_push}
+use Rattle.waff_model.specs.DistinctNames.{distinct_names, with_name}
 use Rattle.waff_plan.specs.Chain.{IsAmongFirst}
 use Rattle.waff_plan.specs.Work.{Work, numbers}
-use Rattle.waff_figures.specs.ByName.{distinct_names, is_named, with_name}
+use Rattle.waff_figures.specs.ByName.{is_named}
 use Rattle.waff_figures.proofs.AddingUp.{sum_of_ones}
+use Rattle.waff_figures.proofs.SumLemmas.{once_picked, sum_all_same, sum_both, sum_nothing}
 use Rattle.waff_figures.specs.Laws.{IsFirstOf, NameIsOnce, NamesAddUp, NamesInOrder}
 
 -- a name is among the others once, or not at all
@@ -52,13 +55,9 @@ any_with ks n x d = elim (cases_Bool (list_any (bytes_eq n) ks)) [
       ∙ joined (list_any (bytes_eq x) ks) (bytes_eq x n) d
 ]
 
-or_false : (b : Bool) → (b || false) ≡ b
-or_false true = refl
-or_false false = refl
-
 any_fold : (x : List ℕ) (ks ns : List (List ℕ))
     → list_any (bytes_eq x) (fold with_name ks ns) ≡ (list_any (bytes_eq x) ks || list_any (bytes_eq x) ns)
-any_fold x ks [] = sym (or_false (list_any (bytes_eq x) ks))
+any_fold x ks [] = sym (or-false (list_any (bytes_eq x) ks))
 any_fold x ks (n ∷ ns) = any_fold x (with_name ks n) ns ∙ any_with ks n x (list_any (bytes_eq x) ns)
 
 -- a name is among the distinct ones where a message has it
@@ -95,51 +94,6 @@ pub name_is_once : (names : List (List ℕ)) → NameIsOnce names
 name_is_once names name =
     once_fold name [] names refl ∙ ap (λ b. cond {A = ℕ} b 1 0) (any_distinct name names)
 
--- a name that passes once counts once
-none_counts : (p : List ℕ → Bool) (t : ℕ) (ks : List (List ℕ)) → count_by p ks ≡ 0 → sum_by (λ k. cond (p k) t 0) ks ≡ 0
-none_counts p t [] none = refl
-none_counts p t (k ∷ ks) none =
-    let counted = sum_by-cons (λ x. cond {A = ℕ} (p x) 1 0) k ks in
-    let summed = sum_by-cons (λ x. cond (p x) t 0) k ks in
-    elim (cases_Bool (p k)) [
-      | inl pass ↦
-          let one : cond {A = ℕ} (p k) 1 0 ≡ 1 = ap (λ b. cond {A = ℕ} b 1 0) pass in
-          absurd (omega (arith, counted, one, none))
-      | inr fail ↦
-          let no : cond {A = ℕ} (p k) 1 0 ≡ 0 = ap (λ b. cond {A = ℕ} b 1 0) fail in
-          let nothing : cond (p k) t 0 ≡ 0 = ap (λ b. cond b t 0) fail in
-          let rest : count_by p ks ≡ 0 = omega (arith, counted, no, none) in
-          omega (arith, summed, nothing, none_counts p t ks rest)
-    ]
-
-one_counts : (p : List ℕ → Bool) (t : ℕ) (ks : List (List ℕ)) → count_by p ks ≡ 1 → sum_by (λ k. cond (p k) t 0) ks ≡ t
-one_counts p t [] one = absurd (omega (arith, one))
-one_counts p t (k ∷ ks) one =
-    let counted = sum_by-cons (λ x. cond {A = ℕ} (p x) 1 0) k ks in
-    let summed = sum_by-cons (λ x. cond (p x) t 0) k ks in
-    elim (cases_Bool (p k)) [
-      | inl pass ↦
-          let here : cond {A = ℕ} (p k) 1 0 ≡ 1 = ap (λ b. cond {A = ℕ} b 1 0) pass in
-          let all : cond (p k) t 0 ≡ t = ap (λ b. cond b t 0) pass in
-          let rest : count_by p ks ≡ 0 = omega (arith, counted, here, one) in
-          omega (arith, summed, all, none_counts p t ks rest)
-      | inr fail ↦
-          let no : cond {A = ℕ} (p k) 1 0 ≡ 0 = ap (λ b. cond {A = ℕ} b 1 0) fail in
-          let nothing : cond (p k) t 0 ≡ 0 = ap (λ b. cond b t 0) fail in
-          let rest : count_by p ks ≡ 1 = omega (arith, counted, no, one) in
-          omega (arith, summed, nothing, one_counts p t ks rest)
-    ]
-
--- a sum of sums, and of nothing
-sum_split : {X : Type 0} (f g h : X → ℕ) → ((x : X) → f x ≡ g x + h x) → (xs : List X) → sum_by f xs ≡ sum_by g xs + sum_by h xs
-sum_split f g h parts [] = refl
-sum_split f g h parts (x ∷ xs) =
-    omega (arith, parts x, sum_split f g h parts xs, sum_by-cons f x xs, sum_by-cons g x xs, sum_by-cons h x xs)
-
-sum_nothing : {X : Type 0} (f : X → ℕ) → ((x : X) → f x ≡ 0) → (xs : List X) → sum_by f xs ≡ 0
-sum_nothing f none [] = refl
-sum_nothing f none (x ∷ xs) = omega (arith, none x, sum_nothing f none xs, sum_by-cons f x xs)
-
 module _ (names : List (List ℕ)) where
   -- a message is of one name alone
   of_one_name : (term : ℕ → ℕ) (m : ℕ) → IsAmongFirst (length names) m
@@ -148,7 +102,7 @@ module _ (names : List (List ℕ)) where
       let x = get_or names (m - 1) [] in
       let has : list_any (bytes_eq x) names ≡ true
       = list_any_at (bytes_eq x) names (m - 1) [] (omega (arith, is.from, is.to)) ((bytes_eq-Decides x x).1 refl) in
-      one_counts (bytes_eq x) (term m) (distinct_names names) (name_is_once names x ∙ ap (λ b. cond {A = ℕ} b 1 0) has)
+      once_picked (bytes_eq x) (term m) (distinct_names names) (name_is_once names x ∙ ap (λ b. cond {A = ℕ} b 1 0) has)
 
   -- the terms of the messages, name by name
   pub by_name : (term : ℕ → ℕ) (messages : List ℕ) → All (IsAmongFirst (length names)) messages
@@ -157,8 +111,9 @@ module _ (names : List (List ℕ)) where
       sum_nothing (λ name. sum_by (λ m. cond (is_named names name m) (term m) 0) []) (λ name. refl) (distinct_names names)
   by_name term (m ∷ ms) are =
       let each : List ℕ → ℕ → ℕ = λ name n. cond (is_named names name n) (term n) 0 in
-      let parts = sum_split (λ name. sum_by (each name) (m ∷ ms)) (λ name. each name m) (λ name. sum_by (each name) ms)
-      (λ name. sum_by-cons (each name) m ms) (distinct_names names) in
+      let parts = sum_all_same (λ name. sum_by (each name) (m ∷ ms)) (λ name. each name m + sum_by (each name) ms) (distinct_names names)
+      (λ k d low. sum_by-cons (each (get_or (distinct_names names) k d)) m ms)
+      ∙ sum_both (λ name. each name m) (λ name. sum_by (each name) ms) (distinct_names names) in
       omega (
         arith,
         parts,

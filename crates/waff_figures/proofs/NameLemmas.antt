@@ -1,17 +1,18 @@
 -- Names numbered in the order in which they first appear.
-use Rattle.std.proofs.Common.{◌≡◌, ℕ, ◌+◌, ◌-◌, ◌<◌, ◌≤◌, Bool, true, false, inl, inr, cond, ◌==◌, List, [], ◌∷◌, ◌++◌, length, get_or, map, take, Some, slice_get, option_map, ◌||◌, Bor, arith, refl, sym, ◌∙◌, ap, subst}
+use Rattle.std.proofs.Common.{◌≡◌, ℕ, ◌+◌, ◌-◌, ◌<◌, ◌≤◌, true, false, inl, inr, cond, ◌==◌, List, [], ◌∷◌, ◌++◌, length, get_or, take, Some, slice_get, option_map, arith, refl, sym, ◌∙◌, ap, subst}
 use Rattle.std.specs.List.{list_any}
 use Rattle.std.specs.Str.{bytes_eq}
 use Rattle.std.proofs.lemmas.Bool.{cases_eq, cases_lt, cases_Bool}
 use Rattle.std.proofs.lemmas.Bool.Decides.{nat_tests}
-use Rattle.std.proofs.lemmas.List.{length-map, map_push, get_or_push, get_or_append_left, length_push}
+use Rattle.std.proofs.lemmas.List.{length-map, get_or_push, get_or_append_left, length_push}
 use Rattle.std.proofs.lemmas.List.Folds.{list_any_at}
 use Rattle.std.proofs.lemmas.List.Sums.{fold_more}
 use Rattle.std.proofs.lemmas.Option.{get_or_from_slice_get, slice_get-map}
-use Rattle.indexmap.specs.IndexSet.{insert_key}
 use Rattle.std.proofs.lemmas.Slice.Eq.{bytes_eq-Decides}
+use Rattle.waff_model.specs.DistinctNames.{distinct_names, with_name}
 use Rattle.waff_model.specs.declared.message.Message.{Message}
-use Rattle.waff_figures.specs.ByName.{AreApart, AreNumbered, distinct_names, is_named, label_of, labels_of, with_name}
+use Rattle.waff_model.proofs.DistinctNameLemmas.{message_name_at}
+use Rattle.waff_figures.specs.ByName.{AreApart, AreNumbered, is_named, label_of, labels_of}
 use Rattle.waff_figures.specs.declared.grouping.Label.{Label}
 use Rattle.waff_figures.specs.declared.grouping.Label.TheVariants.{Client, Name}
 use Rattle.waff_figures.specs.Tally.{is_in}
@@ -24,9 +25,7 @@ labels_length Client messages = length-map messages (λ (m : Message). m.client)
 -- that of the message at a place
 pub label_there : (label : Label) (messages : List Message) (place : ℕ) (message : Message) → slice_get messages place ≡ Some message
     → get_or (labels_of label messages) place [] ≡ label_of label message
-label_there Name messages place message at =
-    get_or_from_slice_get (labels_of Name messages) place message.name []
-    (slice_get-map (λ (m : Message). m.name) messages place ∙ ap (λ o. option_map (λ (m : Message). m.name) o) at)
+label_there Name messages place message at = message_name_at messages place message at
 label_there Client messages place message at =
     get_or_from_slice_get (labels_of Client messages) place message.client []
     (slice_get-map (λ (m : Message). m.client) messages place ∙ ap (λ o. option_map (λ (m : Message). m.client) o) at)
@@ -135,27 +134,3 @@ place_tells names keys places are g m low from to =
             | inr differ ↦ differ
           ])
     ]
-
-list_any-map : {X Y : Type 0} (p : Y → Bool) (f : X → Y) (xs : List X) → list_any p (map f xs) ≡ list_any (λ x. p (f x)) xs
-list_any-map p f [] = refl
-list_any-map p f (x ∷ xs) = ap (λ b. p (f x) || b) (list_any-map p f xs)
-
--- the texts of a set once a name is inserted
-pub names_inserted : (keys : List (Bor (List ℕ))) (name : Bor (List ℕ))
-    → map (λ x. x.now) (insert_key (λ x y. bytes_eq x.now y.now) keys name) ≡ with_name (map (λ x. x.now) keys) name.now
-names_inserted keys name = elim (cases_Bool (list_any (λ k. bytes_eq name.now k.now) keys)) [
-  | inl there ↦
-      ap (λ b. map (λ x. x.now) (cond b keys (keys ++ name ∷ []))) there
-      ∙ sym (ap (λ b. cond b (map (λ x. x.now) keys) (map (λ x. x.now) keys ++ name.now ∷ [])) (list_any-map (bytes_eq name.now) (λ x. x.now) keys ∙ there))
-  | inr new ↦
-      ap (λ b. map (λ x. x.now) (cond b keys (keys ++ name ∷ []))) new
-      ∙ map_push (λ x. x.now) keys name
-      ∙ sym (ap (λ b. cond b (map (λ x. x.now) keys) (map (λ x. x.now) keys ++ name.now ∷ [])) (list_any-map (bytes_eq name.now) (λ x. x.now) keys ∙ new))
-]
-
--- the text of a key at a place
-pub name_at : (keys : List (Bor (List ℕ))) (place : ℕ) (key : Bor (List ℕ)) → slice_get keys place ≡ Some key
-    → get_or (map (λ x. x.now) keys) place [] ≡ key.now
-name_at keys place key at =
-    get_or_from_slice_get (map (λ x. x.now) keys) place key.now []
-    (slice_get-map (λ x. x.now) keys place ∙ ap (λ o. option_map (λ x. x.now) o) at)

@@ -1,7 +1,7 @@
 -- Sums over the messages and over the affinities.
-use Rattle.std.proofs.Common.{◌≡◌, ℕ, zero, suc, ◌+◌, ◌<◌, ◌≤◌, Bool, inl, inr, cond, ◌==◌, List, [], ◌∷◌, sum_by, arith, refl, ap}
+use Rattle.std.proofs.Common.{◌≡◌, ℕ, zero, suc, ◌+◌, ◌<◌, ◌≤◌, Bool, inl, inr, cond, ◌==◌, List, [], ◌∷◌, length, get_or, count_by, sum_by, arith, refl, ap}
 use Rattle.std.specs.List.{range_with_len}
-use Rattle.std.proofs.lemmas.Bool.{cases_eq}
+use Rattle.std.proofs.lemmas.Bool.{cases_Bool, cases_eq}
 use Rattle.std.proofs.lemmas.Bool.Decides.{nat_tests}
 use Rattle.std.proofs.lemmas.List.Sums.{sum_by-cons}
 
@@ -25,11 +25,53 @@ sum_within f g a (suc n) h =
     = sum_within f g (a + 1) n (λ m low high. h m (omega arith) (omega arith)) in
     omega (arith, first, rest, sum_by-cons f a (range_with_len (a + 1) n), sum_by-cons g a (range_with_len (a + 1) n))
 
--- the sum of sums
-pub sum_both : (f g : ℕ → ℕ) (xs : List ℕ) → sum_by (λ m. f m + g m) xs ≡ sum_by f xs + sum_by g xs
+-- sums over any list
+pub sum_all_same : {X : Type 0} (f g : X → ℕ) (xs : List X) → ((k : ℕ) (d : X) → k < length xs → f (get_or xs k d) ≡ g (get_or xs k d)) → sum_by f xs ≡ sum_by g xs
+sum_all_same f g [] same = refl
+sum_all_same f g (x ∷ xs) same =
+    let first : f x ≡ g x = same 0 x (omega arith) in
+    let rest : sum_by f xs ≡ sum_by g xs = sum_all_same f g xs (λ k d low. same (suc k) d (omega (arith, low))) in
+    omega (arith, first, rest, sum_by-cons f x xs, sum_by-cons g x xs)
+
+pub sum_both : {X : Type 0} (f g : X → ℕ) (xs : List X) → sum_by (λ x. f x + g x) xs ≡ sum_by f xs + sum_by g xs
 sum_both f g [] = refl
-sum_both f g (x ∷ xs) =
-    omega (arith, sum_both f g xs, sum_by-cons (λ m. f m + g m) x xs, sum_by-cons f x xs, sum_by-cons g x xs)
+sum_both f g (x ∷ xs) = omega (arith, sum_both f g xs, sum_by-cons (λ y. f y + g y) x xs, sum_by-cons f x xs, sum_by-cons g x xs)
+
+pub sum_nothing : {X : Type 0} (f : X → ℕ) → ((x : X) → f x ≡ 0) → (xs : List X) → sum_by f xs ≡ 0
+sum_nothing f none [] = refl
+sum_nothing f none (x ∷ xs) = omega (arith, none x, sum_nothing f none xs, sum_by-cons f x xs)
+
+abbrev one_if : Bool → ℕ
+one_if b = cond b 1 0
+
+none_picked : {X : Type 0} (p : X → Bool) (y : ℕ) (xs : List X) → count_by p xs ≡ 0 → sum_by (λ x. cond (p x) y 0) xs ≡ 0
+none_picked p y [] none = refl
+none_picked p y (x ∷ xs) none = elim (cases_Bool (p x)) [
+  | inl pass ↦
+      let first : one_if (p x) ≡ 1 = ap one_if pass in
+      absurd (omega (arith, none, first, sum_by-cons (λ z. one_if (p z)) x xs))
+  | inr fails ↦
+      let first : one_if (p x) ≡ 0 = ap one_if fails in
+      let this : cond (p x) y 0 ≡ 0 = ap (λ b. cond b y 0) fails in
+      let rest = none_picked p y xs (omega (arith, none, first, sum_by-cons (λ z. one_if (p z)) x xs)) in
+      omega (arith, this, rest, sum_by-cons (λ z. cond (p z) y 0) x xs)
+]
+
+-- what is picked once counts once
+pub once_picked : {X : Type 0} (p : X → Bool) (y : ℕ) (xs : List X) → count_by p xs ≡ 1 → sum_by (λ x. cond (p x) y 0) xs ≡ y
+once_picked p y [] once = absurd (omega (arith, once))
+once_picked p y (x ∷ xs) once = elim (cases_Bool (p x)) [
+  | inl pass ↦
+      let first : one_if (p x) ≡ 1 = ap one_if pass in
+      let this : cond (p x) y 0 ≡ y = ap (λ b. cond b y 0) pass in
+      let rest = none_picked p y xs (omega (arith, once, first, sum_by-cons (λ z. one_if (p z)) x xs)) in
+      omega (arith, this, rest, sum_by-cons (λ z. cond (p z) y 0) x xs)
+  | inr fails ↦
+      let first : one_if (p x) ≡ 0 = ap one_if fails in
+      let this : cond (p x) y 0 ≡ 0 = ap (λ b. cond b y 0) fails in
+      let rest = once_picked p y xs (omega (arith, once, first, sum_by-cons (λ z. one_if (p z)) x xs)) in
+      omega (arith, this, rest, sum_by-cons (λ z. cond (p z) y 0) x xs)
+]
 
 -- no term counts
 pub sum_none : (f : ℕ → ℕ) (a n : ℕ) → ((m : ℕ) → a ≤ m → m < a + n → f m ≡ 0) → sum_by f (range_with_len a n) ≡ 0

@@ -13,7 +13,7 @@ use Rattle.waff_plan.specs.Serving.{started_before}
 use Rattle.waff_plan.specs.Waited.{AreWaitedFor, IsWaitedFor}
 use Rattle.waff_plan.specs.Work.{Work, IsAmongFirst, finish_of, issue_of}
 use Rattle.waff_plan.proofs.Longest.{range_with_len_more}
-use Rattle.waff_figures.specs.Waits.{ComesFirst, IsWaitAmong, wait_of, waits_in}
+use Rattle.waff_figures.specs.Waits.{ComesFirst, IsWaitAmong, ready_of, wait_of, waits_in}
 use Rattle.waff_figures.specs.declared.waits.Wait.{Wait}
 
 abbrev wait : ℕ → Option ℕ → ℕ → Wait
@@ -110,6 +110,21 @@ module _ (work : Work) (start : ℕ → ℕ) (links : List (Option ℕ)) where
   upto_more n m next =
       ap (λ k. waits_upto k) (sym next) ∙ ap (λ ms. flat_map waits_at ms) (range_with_len_more 1 n m (omega (arith, next)))
       ∙ sym (flat_map_more waits_at [] (range_with_len 1 n) m)
+
+  -- each of them is of some ticks
+  some_at : (m : ℕ) (on : Option ℕ) (ticks : ℕ) (ws : List Wait) → All (λ w. 0 < w.ticks) ws → All (λ w. 0 < w.ticks) (ws ++ wait_of m on ticks)
+  some_at m on ticks ws old = wait_pushed (All (λ w. 0 < w.ticks)) ws m on ticks old (λ some. All-push (λ (w : Wait). 0 < w.ticks) ws (wait m on ticks) old some)
+
+  pub some_upto : (n : ℕ) → All (λ w. 0 < w.ticks) (waits_upto n)
+  some_upto zero = All-nil (λ (w : Wait). 0 < w.ticks)
+  some_upto (suc n) =
+      let m = suc n in
+      let link = get_or links (m - 1) None in
+      let ready = ready_of work start m link in
+      let first = wait_of m link (ready - issue_of work start m) in
+      subst (All (λ w. 0 < w.ticks))
+      (append_assoc (waits_upto n) first (wait_of m None (start m - ready)) ∙ sym (upto_more n m (omega arith)))
+      (some_at m None (start m - ready) (waits_upto n ++ first) (some_at m link (ready - issue_of work start m) (waits_upto n) (some_upto n)))
 
   pub upto_so_far : (count n : ℕ) → n ≤ count → ((m : ℕ) → 1 ≤ m → m ≤ count → IfSome (get_or links (m - 1) None) (IsAmongFirst count))
       → AreSoFar count n (waits_upto n)

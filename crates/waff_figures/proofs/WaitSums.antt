@@ -1,20 +1,21 @@
 -- Waits add up.
-use Rattle.std.proofs.Common.{◌≡◌, ℕ, zero, suc, ◌+◌, ◌-◌, ◌<◌, ◌≤◌, inl, inr, cond, ltb, ◌==◌, Bool, true, false, List, [], ◌∷◌, length, get_or, filter, sum_by, count_by, All, Option, Some, None, arith, refl, sym, ◌∙◌, ap}
+use Rattle.std.proofs.Common.{◌≡◌, ℕ, zero, suc, ◌+◌, ◌-◌, ◌<◌, ◌≤◌, inl, inr, cond, ltb, ◌==◌, Bool, true, false, List, [], ◌∷◌, get_or, filter, sum_by, count_by, All, Option, Some, None, option_map, arith, refl, sym, ◌∙◌, ap, subst}
 use Rattle.std.specs.List.{range_with_len}
-use Rattle.std.proofs.lemmas.Bool.{cases_Bool, cond_both, ltb-false}
+use Rattle.std.proofs.lemmas.Bool.{cond_both, ltb-false}
 use Rattle.std.proofs.lemmas.Bool.Decides.{nat_tests}
+use Rattle.std.proofs.lemmas.List.Elements.{All-cons, All-nil, All-tail}
 use Rattle.std.proofs.lemmas.List.Sums.{sum_by-append, sum_by-cons}
 use Rattle.waff_plan.specs.Obeys.{Obeys}
 use Rattle.waff_plan.specs.Waited.{IsWaitedFor}
-use Rattle.waff_plan.specs.Work.{Work, IsNumber, finish_of, issue_of, numbers}
+use Rattle.waff_plan.specs.Work.{Work, IsNumber, finish_of, issue_after, issue_of, numbers}
 use Rattle.waff_plan.proofs.Longest.{sum_more}
 use Rattle.waff_figures.specs.Waits.{AreWaits, ready_of, wait_of, waits_in}
-use Rattle.waff_figures.specs.WaitLaws.{ReadyIsGreatest, TicksAddUp, WaitsAddUp}
+use Rattle.waff_figures.specs.WaitLaws.{OwnClientIsNoWait, ReadyIsGreatest, TicksAddUp, WaitsAddUp}
 use Rattle.waff_figures.specs.WaitRows.{same_kind}
 use Rattle.waff_figures.specs.declared.wait_rows.Row.{Row}
 use Rattle.waff_figures.specs.declared.waits.Wait.{Wait}
-use Rattle.waff_figures.proofs.SumLemmas.{sum_one, sum_same}
-use Rattle.waff_figures.proofs.WaitLemmas.{upto_more, waits_at, waits_upto}
+use Rattle.waff_figures.proofs.SumLemmas.{once_picked, sum_all_same, sum_both, sum_nothing, sum_one, sum_same}
+use Rattle.waff_figures.proofs.WaitLemmas.{some_upto, upto_more, waits_at, waits_upto}
 
 pub ready_is_greatest : (before : ℕ → ℕ → Type 0) (work : Work) (start : ℕ → ℕ) → ReadyIsGreatest before work start
 ready_is_greatest before work start m None is = record { issued = omega arith; finished = is; one = inl refl }
@@ -112,53 +113,27 @@ module _ (before : ℕ → ℕ → Type 0) (work : Work) (start : ℕ → ℕ) (
 pub waits_add_up : (before : ℕ → ℕ → Type 0) (work : Work) (start : ℕ → ℕ) → WaitsAddUp before work start
 waits_add_up before work start waits m are obeys number = one_adds_up before work start waits are obeys m number
 
--- sums over any list
-sum_all_same : {X : Type 0} (f g : X → ℕ) (xs : List X) → ((k : ℕ) (d : X) → k < length xs → f (get_or xs k d) ≡ g (get_or xs k d)) → sum_by f xs ≡ sum_by g xs
-sum_all_same f g [] same = refl
-sum_all_same f g (x ∷ xs) same =
-    let first : f x ≡ g x = same 0 x (omega arith) in
-    let rest : sum_by f xs ≡ sum_by g xs = sum_all_same f g xs (λ k d low. same (suc k) d (omega (arith, low))) in
-    omega (arith, first, rest, sum_by-cons f x xs, sum_by-cons g x xs)
+-- a list of waits of some ticks each has none of a message whose waits add up to nothing
+none_of : (m : ℕ) (waits : List Wait) → All (λ wait. 0 < wait.ticks) waits → sum_by (of_message m) waits ≡ 0 → All (λ wait. wait.message ≡ m → ⊥) waits
+none_of m [] some none = All-nil (λ (wait : Wait). wait.message ≡ m → ⊥)
+none_of m (w ∷ ws) some none =
+    let cons = sum_by-cons (of_message m) w ws in
+    let ticks : 0 < w.ticks = some 0 w (omega arith) in
+    let first : of_message m w ≡ 0 = omega (arith, cons, none) in
+    All-cons (λ (wait : Wait). wait.message ≡ m → ⊥) w ws
+    (λ same.
+    let here : (w.message == m) ≡ true = grind (arith, nat_tests, same) in
+    let all : of_message m w ≡ w.ticks = ap (λ b. cond b w.ticks 0) here in
+    omega (arith, first, ticks, all))
+    (none_of m ws (All-tail (λ (wait : Wait). 0 < wait.ticks) w ws some) (omega (arith, cons, none)))
 
-sum_nothing : {X : Type 0} (xs : List X) → sum_by (λ (x : X). 0) xs ≡ 0
-sum_nothing {X} [] = refl
-sum_nothing {X} (x ∷ xs) = let rest = sum_nothing xs in let cons = sum_by-cons (λ (y : X). 0) x xs in omega (arith, rest, cons)
-
-sum_of_both : {X : Type 0} (f g : X → ℕ) (xs : List X) → sum_by (λ x. f x + g x) xs ≡ sum_by f xs + sum_by g xs
-sum_of_both f g [] = refl
-sum_of_both f g (x ∷ xs) = omega (arith, sum_of_both f g xs, sum_by-cons (λ y. f y + g y) x xs, sum_by-cons f x xs, sum_by-cons g x xs)
-
-abbrev one_if : Bool → ℕ
-one_if b = cond b 1 0
-
-none_picked : {X : Type 0} (p : X → Bool) (y : ℕ) (xs : List X) → count_by p xs ≡ 0 → sum_by (λ x. cond (p x) y 0) xs ≡ 0
-none_picked p y [] none = refl
-none_picked p y (x ∷ xs) none = elim (cases_Bool (p x)) [
-  | inl pass ↦
-      let first : one_if (p x) ≡ 1 = ap one_if pass in
-      absurd (omega (arith, none, first, sum_by-cons (λ z. one_if (p z)) x xs))
-  | inr fails ↦
-      let first : one_if (p x) ≡ 0 = ap one_if fails in
-      let this : cond (p x) y 0 ≡ 0 = ap (λ b. cond b y 0) fails in
-      let rest = none_picked p y xs (omega (arith, none, first, sum_by-cons (λ z. one_if (p z)) x xs)) in
-      omega (arith, this, rest, sum_by-cons (λ z. cond (p z) y 0) x xs)
-]
-
--- what is picked once counts once
-once_picked : {X : Type 0} (p : X → Bool) (y : ℕ) (xs : List X) → count_by p xs ≡ 1 → sum_by (λ x. cond (p x) y 0) xs ≡ y
-once_picked p y [] once = absurd (omega (arith, once))
-once_picked p y (x ∷ xs) once = elim (cases_Bool (p x)) [
-  | inl pass ↦
-      let first : one_if (p x) ≡ 1 = ap one_if pass in
-      let this : cond (p x) y 0 ≡ y = ap (λ b. cond b y 0) pass in
-      let rest = none_picked p y xs (omega (arith, once, first, sum_by-cons (λ z. one_if (p z)) x xs)) in
-      omega (arith, this, rest, sum_by-cons (λ z. cond (p z) y 0) x xs)
-  | inr fails ↦
-      let first : one_if (p x) ≡ 0 = ap one_if fails in
-      let this : cond (p x) y 0 ≡ 0 = ap (λ b. cond b y 0) fails in
-      let rest = once_picked p y xs (omega (arith, once, first, sum_by-cons (λ z. one_if (p z)) x xs)) in
-      omega (arith, this, rest, sum_by-cons (λ z. cond (p z) y 0) x xs)
-]
+pub own_client_is_no_wait : (before : ℕ → ℕ → Type 0) (work : Work) (start : ℕ → ℕ) → OwnClientIsNoWait before work start
+own_client_is_no_wait before work start waits i m are obeys number follows at_once =
+    let issued : issue_of work start m ≡ issue_after (work.release m) (work.think m) (Some (finish_of work start i))
+    = ap (λ f. issue_after (work.release m) (work.think m) (option_map (finish_of work start) f)) follows in
+    let all = one_adds_up before work start waits are obeys m number in
+    none_of m waits (subst (All (λ wait. 0 < wait.ticks)) (sym are.waits_are) (some_upto work start are.links work.count))
+    (omega (arith, all, issued, at_once))
 
 filtered_sum : {X : Type 0} (p : X → Bool) (f : X → ℕ) (x : X) (xs : List X) → sum_by f (filter p (x ∷ xs)) ≡ cond (p x) (f x) 0 + sum_by f (filter p xs)
 filtered_sum p f x xs =
@@ -169,11 +144,11 @@ filtered_sum p f x xs =
 -- where each is in one part, the parts add up to all
 parts_add_up : {X Y : Type 0} (p : Y → X → Bool) (f : X → ℕ) (parts : List Y) (xs : List X) → All (λ x. count_by (λ y. p y x) parts ≡ 1) xs
     → sum_by (λ y. sum_by f (filter (p y) xs)) parts ≡ sum_by f xs
-parts_add_up p f parts [] once = sum_nothing parts
+parts_add_up p f parts [] once = sum_nothing (λ y. sum_by f (filter (p y) [])) (λ y. refl) parts
 parts_add_up p f parts (x ∷ xs) once =
     let split = sum_all_same (λ y. sum_by f (filter (p y) (x ∷ xs))) (λ y. cond (p y x) (f x) 0 + sum_by f (filter (p y) xs)) parts
     (λ k d low. filtered_sum (p (get_or parts k d)) f x xs) in
-    let both = sum_of_both (λ y. cond (p y x) (f x) 0) (λ y. sum_by f (filter (p y) xs)) parts in
+    let both = sum_both (λ y. cond (p y x) (f x) 0) (λ y. sum_by f (filter (p y) xs)) parts in
     let this = once_picked (λ y. p y x) (f x) parts (once 0 x (omega arith)) in
     let rest = parts_add_up p f parts xs (λ k d low. once (suc k) d (omega (arith, low))) in
     omega (arith, split, both, this, rest, sum_by-cons f x xs)

@@ -1,4 +1,4 @@
--- Where the time goes, by affinity (own).
+-- Where the time goes, by affinity.
 use Rattle.std.specs.Prelude.{◌≡◌, ℕ, ◌==◌, ◌<◌, ◌↔◌, Bool, IsTrue, List, [], ◌∷◌, Option, Some}
 use Rattle.std.specs.Prelude.{None, length, map, slice_index, slice_index_or, codes, decimal}
 use Rattle.std.specs.List.{range_with_len}

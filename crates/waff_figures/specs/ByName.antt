@@ -1,8 +1,9 @@
--- Where the time goes, by the labels of messages: their names, or their clients (own).
-use Rattle.std.specs.Prelude.{◌≡◌, ℕ, ◌-◌, ◌<◌, ◌≤◌, Bool, List, [], ◌∷◌, ◌++◌, if◌then◌else◌, fold, map}
+-- Where the time goes, by the labels of messages: their names, or their clients.
+use Rattle.std.specs.Prelude.{◌≡◌, ℕ, ◌-◌, ◌<◌, ◌≤◌, Bool, List, [], ◌∷◌, map}
 use Rattle.std.specs.Prelude.{slice_index_or, codes, decimal, length, take}
-use Rattle.std.specs.List.{list_any}
 use Rattle.std.specs.Str.{bytes_eq}
+pub use Rattle.waff_model.specs.DistinctNames.{message_names}
+use Rattle.waff_model.specs.DistinctNames.{distinct_names}
 use Rattle.waff_model.specs.declared.message.Message.{Message}
 use Rattle.waff_plan.specs.Timetable.{clients_of}
 use Rattle.waff_plan.specs.Work.{Work}
@@ -10,10 +11,6 @@ use Rattle.waff_figures.specs.Tally.{no_tally, tally_of}
 use Rattle.waff_figures.specs.declared.grouping.Label.{Label}
 use Rattle.waff_figures.specs.declared.grouping.Label.TheVariants.{Name, Client}
 use Rattle.waff_figures.specs.declared.tally.Tally.{Tally}
-
--- the names of messages, in the order of arrival
-abbrev pub message_names : List Message → List (List ℕ)
-message_names messages = map (λ message. message.name) messages
 
 -- the label of a message: its name, or that of its client
 abbrev pub label_of : Label → Message → List ℕ
@@ -24,14 +21,6 @@ label_of Client message = message.client
 abbrev pub labels_of : Label → List Message → List (List ℕ)
 labels_of Name messages = message_names messages
 labels_of Client messages = clients_of messages
-
--- a name goes after the others where it is not among them
-abbrev pub with_name : List (List ℕ) → List ℕ → List (List ℕ)
-with_name names name = if list_any (bytes_eq name) names then names else names ++ name ∷ []
-
--- the distinct ones, in the order in which they first appear
-abbrev pub distinct_names : List (List ℕ) → List (List ℕ)
-distinct_names names = fold with_name [] names
 
 -- whether message m has this name
 abbrev pub is_named : List (List ℕ) → List ℕ → ℕ → Bool

@@ -1,6 +1,6 @@
--- What is told of one plan (own).
-use Rattle.std.specs.Prelude.{◌≡◌, ℕ, ◌-◌, List, Option, map, sum_by}
-use Rattle.waff_plan.specs.Obeys.{FollowsEarlier}
+-- What is told of one plan.
+use Rattle.std.specs.Prelude.{◌≡◌, ℕ, ◌+◌, ◌-◌, List, Option, map, sum_by}
+use Rattle.waff_plan.specs.Obeys.{FollowsEarlier, StartsIssued}
 use Rattle.waff_plan.specs.Unique.{AreSame}
 use Rattle.waff_plan.specs.Work.{Work, finish_of, greatest, issue_of, length_of, numbers, total_of}
 use Rattle.waff_figures.specs.Percentile.{IsPercentile}
@@ -33,6 +33,13 @@ pub record AreFigures (limit : Option ℕ) (work : Work) (bound : ℕ) (start : 
   pub p50 : IsPercentile 50 (latencies_of work start) figures.p50
   pub p99 : IsPercentile 99 (latencies_of work start) figures.p99
   pub latency : figures.latency ≡ greatest (latencies_of work start)
+
+-- where no message starts before its issue, the latencies are the waits and the costs
+abbrev pub LatenciesAddUp : Work → Type 0
+LatenciesAddUp work =
+    (limit : Option ℕ) (bound : ℕ) (start : ℕ → ℕ) (figures : Figures) → StartsIssued work start
+    → AreFigures limit work bound start figures
+    → figures.latencies ≡ figures.waits + figures.total
 
 -- two figures of plans with the same starts are equal
 abbrev pub FiguresAreOne : Work → Type 0

@@ -4,11 +4,12 @@ use Rattle.std.specs.Prelude.{slice_index, slice_index_or, sum_by}
 use Rattle.std.specs.List.{list_any, range_with_len}
 use Rattle.std.specs.List.Sorted.{IsStrictlyIncreasing}
 use Rattle.std.specs.Str.{bytes_eq}
+use Rattle.waff_model.specs.DistinctNames.{distinct_names}
 use Rattle.waff_model.specs.Tree.{Node}
 use Rattle.waff_plan.specs.Work.{Work, total_of}
 use Rattle.waff_plan.specs.Chain.{chain_cost}
 use Rattle.waff_figures.specs.ByAffinity.{runs_in}
-use Rattle.waff_figures.specs.ByName.{distinct_names, is_named}
+use Rattle.waff_figures.specs.ByName.{is_named}
 use Rattle.waff_figures.specs.Tally.{tally_of}
 
 -- the messages of the affinities add up to all messages

@@ -1,9 +1,8 @@
--- What `least` and `over` tell of a plan, beside all plans for as many workers (own).
-use Rattle.std.specs.Prelude.{◌≡◌, ℕ, ◌*◌, ◌/◌, ◌^◌, ◌<◌, ◌≤◌, List, Option, Some, None, IfSome, codes}
-use Rattle.std.specs.Prelude.{length}
+-- What `least` and `over` tell of a plan, beside all plans for as many workers.
+use Rattle.std.specs.Prelude.{◌≡◌, ℕ, ◌*◌, ◌/◌, ◌^◌, ◌<◌, ◌≤◌, Bool, true, false, List, Option, Some}
+use Rattle.std.specs.Prelude.{None, IfSome, codes, length}
 use Rattle.waff_model.specs.Tree.{IsTree}
-use Rattle.waff_model.specs.declared.message.Version.{Version}
-use Rattle.waff_model.specs.declared.message.Version.TheVariants.{V1, V2, V3}
+use Rattle.waff_model.specs.Versions.{has_clients}
 use Rattle.waff_assign.specs.Instance.{Instance, before_in}
 use Rattle.waff_assign.specs.Order.{Relation}
 use Rattle.waff_plan.specs.Bound.{IsWorkers}
@@ -22,18 +21,16 @@ abbrev pub ObeysFor : Option ℕ → Relation → Work → (ℕ → ℕ) → Typ
 ObeysFor None before work start = Obeys before work start
 ObeysFor (Some k) before work start = IsWorkerPlan before work k start
 
--- the plans for as many workers that a plan is told beside: in the first two versions those that obey
--- the order of the trace, in the third those that obey in whatever order
-abbrev pub IsRivalIn : Version → Option ℕ → Instance → (ℕ → ℕ) → Type 0
-IsRivalIn V1 limit instance other =
+-- the plans for as many workers that a plan is told beside: where messages have clients those that obey
+-- in whatever order, else those that obey the order of the trace
+abbrev pub IsRivalWhere : Bool → Option ℕ → Instance → (ℕ → ℕ) → Type 0
+IsRivalWhere false limit instance other =
     ObeysFor limit (before_in instance) (work_of_instance instance) other
-IsRivalIn V2 limit instance other =
-    ObeysFor limit (before_in instance) (work_of_instance instance) other
-IsRivalIn V3 limit instance other =
+IsRivalWhere true limit instance other =
     ObeysInSomeOrder instance.tree instance.assigned (work_of_instance instance) limit other
 
 abbrev pub IsRival : Option ℕ → Instance → (ℕ → ℕ) → Type 0
-IsRival limit instance other = IsRivalIn instance.trace.version limit instance other
+IsRival limit instance other = IsRivalWhere (has_clients instance.trace.version) limit instance other
 
 -- none of them is shorter than this
 abbrev pub IsLowerBound : Option ℕ → Instance → ℕ → Type 0
@@ -46,18 +43,17 @@ abbrev pub least_of : Option ℕ → ℕ → ℕ → ℕ
 least_of None total shortest = shortest
 least_of (Some k) total shortest = least_for k total shortest
 
--- such a number of ticks, where the unlimited plan is this long: in the first two versions by that
--- length, in the third by what workers, clients and paths of affinities need in whatever order
-abbrev pub least_by : Version → Option ℕ → Instance → ℕ → ℕ
-least_by V1 limit instance shortest =
+-- such a number of ticks, where the unlimited plan is this long: where messages have clients by what
+-- workers, clients and paths of affinities need in whatever order, else by that length
+abbrev pub least_where : Bool → Option ℕ → Instance → ℕ → ℕ
+least_where false limit instance shortest =
     least_of limit (total_of (work_of_instance instance)) shortest
-least_by V2 limit instance shortest =
-    least_of limit (total_of (work_of_instance instance)) shortest
-least_by V3 limit instance shortest =
+least_where true limit instance shortest =
     lower_bound_of limit instance.tree instance.assigned (work_of_instance instance)
 
 abbrev pub least_in : Option ℕ → Instance → ℕ → ℕ
-least_in limit instance shortest = least_by instance.trace.version limit instance shortest
+least_in limit instance shortest =
+    least_where (has_clients instance.trace.version) limit instance shortest
 
 -- `least` is such a bound
 abbrev pub LeastIsLowerBound : Instance → Type 0

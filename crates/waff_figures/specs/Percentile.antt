@@ -1,4 +1,4 @@
--- Percentiles of a list of numbers (own).
+-- Percentiles of a list of numbers.
 use Rattle.std.specs.Prelude.{◌≡◌, ℕ, ◌*◌, ◌≤◌, List, count_by, length, nat_le}
 
 -- how many of the numbers are at most this one

@@ -1,4 +1,4 @@
--- The lines that tell how good one plan is (own).
+-- The lines that tell how good one plan is.
 use Rattle.std.specs.Prelude.{ℕ, List, [], ◌∷◌, codes, decimal}
 use Rattle.waff_plan_text.specs.Spelling.{worker_field}
 use Rattle.waff_plan_text.specs.Ratio.{ratio_field}

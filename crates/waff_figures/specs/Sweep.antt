@@ -1,7 +1,7 @@
--- The lines of a sweep: how long the trace takes, by the number of workers (own).
-use Rattle.std.specs.Prelude.{◌≡◌, ◌≢◌, ℕ, ◌*◌, List, [], ◌∷◌, ◌++◌, Option, Some, None, All, map}
+-- The lines of a sweep: how long the trace takes, by the number of workers.
+use Rattle.std.specs.Prelude.{◌≡◌, ℕ, ◌*◌, false, List, [], ◌∷◌, ◌++◌, Option, Some, None, All, map}
 use Rattle.std.specs.Prelude.{codes, decimal}
-use Rattle.waff_model.specs.declared.message.Version.TheVariants.{V3}
+use Rattle.waff_model.specs.Versions.{has_clients}
 use Rattle.waff_assign.specs.Instance.{Instance}
 use Rattle.waff_assign.specs.declared.case.Case.{Case}
 use Rattle.waff_plan.specs.Instances.{work_of_instance}
@@ -56,10 +56,10 @@ sweep_row figures =
 abbrev pub sweep_lines : List Figures → Figures → List (List (List ℕ))
 sweep_lines listed unlimited = sweep_header ∷ map sweep_row listed ++ sweep_row unlimited ∷ []
 
--- the needs of the messages of a case of one of the first two versions
+-- the needs of the messages of a case without clients
 pub record AreNeedsOf (case : Case) (needs : List (List ℕ)) : Type 0 where
   pub are : AreNeeds case.tree.now case.assigned.now needs
-  pub earlier_version : case.trace.now.version ≢ V3
+  pub no_clients : has_clients case.trace.now.version ≡ false
 
 -- a plan by this rule for k workers, in the order in which it is to serve messages
 abbrev pub IsPlanOf : Rule → Instance → ℕ → (ℕ → ℕ) → Type 0

@@ -1,4 +1,4 @@
--- What is told of some of the messages (own).
+-- What is told of some of the messages.
 use Rattle.std.specs.Prelude.{ℕ, ◌-◌, ◌==◌, Bool, List, if◌then◌else◌, count_by, slice_index}
 use Rattle.std.specs.Prelude.{sum_by}
 use Rattle.waff_plan.specs.Work.{Work, numbers}

@@ -1,6 +1,6 @@
 -- What holds of the waits of all plans: they add up, and they leave no choice.
-use Rattle.std.specs.Prelude.{◌≡◌, ℕ, ◌-◌, ◌==◌, ◌≤◌, ◌⊎◌, Bool, List, Option, if◌then◌else◌, sum_by}
-use Rattle.std.specs.Prelude.{length}
+use Rattle.std.specs.Prelude.{◌≡◌, ◌≢◌, ℕ, ◌+◌, ◌-◌, ◌==◌, ◌≤◌, ◌⊎◌, All, Bool, List, Option, Some}
+use Rattle.std.specs.Prelude.{if◌then◌else◌, length, sum_by}
 use Rattle.std.specs.Cmp.{IsEquivalence}
 use Rattle.waff_model.specs.Tree.{Node}
 use Rattle.waff_model.specs.declared.message.Version.{Version}
@@ -37,6 +37,14 @@ WaitsAddUp before work start =
     → AreWaits before work start waits → Obeys before work start → IsNumber work m
     → sum_by (λ wait. if wait.message == m then wait.ticks else 0) waits
     ≡ start m - issue_of work start m
+
+-- waiting for the own client is no wait: a message that starts its think time after the finish of the
+-- message that it follows waits for nobody
+abbrev pub OwnClientIsNoWait : Relation → Work → (ℕ → ℕ) → Type 0
+OwnClientIsNoWait before work start =
+    (waits : List Wait) (i m : ℕ) → AreWaits before work start waits → Obeys before work start
+    → IsNumber work m → work.follows m ≡ Some i → start m ≡ finish_of work start i + work.think m
+    → All (λ wait. wait.message ≢ m) waits
 
 -- the ticks of all rows add up to how long all messages wait
 abbrev pub TicksAddUp : Relation → Work → (ℕ → ℕ) → Type 0

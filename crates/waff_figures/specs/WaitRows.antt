@@ -1,4 +1,4 @@
--- Waits of one kind told in one row (own).
+-- Waits of one kind told in one row.
 use Rattle.std.specs.Prelude.{◌≡◌, ℕ, ◌-◌, ◌+◌, ◌<◌, ◌⊎◌, ◌==◌, max, Bool, true, false, ◌&&◌, List, [], ◌∷◌, ◌++◌}
 use Rattle.std.specs.Prelude.{Option, Some, All, count_by, filter, length, map, option_map}
 use Rattle.std.specs.Prelude.{slice_get, slice_index_or, slice_set, sum_by}

@@ -1,4 +1,4 @@
--- The lines that tell who waits for whom (own).
+-- The lines that tell who waits for whom.
 use Rattle.std.specs.Prelude.{ℕ, ◌-◌, ◌==◌, ◌&&◌, Bool, List, [], ◌∷◌, Option, Some, None, map}
 use Rattle.std.specs.Prelude.{slice_index_or, codes, decimal}
 use Rattle.std.specs.Str.{bytes_eq}

@@ -1,4 +1,4 @@
--- Who waits for whom in a plan (own).
+-- Who waits for whom in a plan.
 use Rattle.std.specs.Prelude.{◌≡◌, ℕ, ◌-◌, ◌<◌, ◌⊎◌, List, [], ◌∷◌, ◌++◌, Option, Some, None, IsSome}
 use Rattle.std.specs.Prelude.{IfSome, if◌then◌else◌, nat_lt, slice_index_or}
 use Rattle.std.specs.List.{flat_map}

@@ -12,8 +12,8 @@ use crate::grouped::Grouped;
 use crate::grouping::Label;
 use crate::names::names_of;
 use crate::tally::{Tally, tallies};
-use indexmap::IndexSet;
 use std::alloc::{AllocError, Global};
+use waff_model::DistinctNames;
 use waff_plan::Planned;
 
 /// The text that tells for each label of messages how many have it, and the sums of their costs.
@@ -42,13 +42,13 @@ pub fn names_text(
 fn tallied_text(
     alloc: Global,
     label: Label,
-    names: &IndexSet<&str>,
+    names: &DistinctNames<'_>,
     tallies: &[Tally],
 ) -> Result<String, AllocError>
-    requires { length tallies.now ≡ length names.now.keys }
+    requires { length tallies.now ≡ length names.now }
     ensures { IfOk result (λ text. string_bytes text ≡ text_of (label_header label
-        ∷ map (tallied_name_row (map (λ name. name.now) names.now.keys) tallies.now)
-        (range_with_len 0 (length names.now.keys)))) }
+        ∷ map (tallied_name_row names.now tallies.now)
+        (range_with_len 0 (length names.now)))) }
 {
     let mut text = String::new(alloc);
     push_header(&mut text, label)?;
@@ -67,15 +67,18 @@ fn push_header(text: &mut String, label: Label) -> Result<(), AllocError>
 }
 
 /// Appends the lines of all labels.
-fn push_rows(text: &mut String, names: &IndexSet<&str>, tallies: &[Tally]) -> Result<(), AllocError>
-    requires { length tallies.now ≡ length names.now.keys }
+fn push_rows(
+    text: &mut String,
+    names: &DistinctNames<'_>,
+    tallies: &[Tally],
+) -> Result<(), AllocError>
+    requires { length tallies.now ≡ length names.now }
     ensures { OnOk result (Adds text.old text.new
-        (text_of (map (tallied_name_row (map (λ name. name.now) names.now.keys) tallies.now)
-        (range_with_len 0 (length names.now.keys))))) }
+        (text_of (map (tallied_name_row names.now tallies.now)
+        (range_with_len 0 (length names.now))))) }
 {
     for place in 0..tallies.len() {
-        let name = names.get_index(place).unwrap();
-        push_row(text, name, &tallies[place])?;
+        push_row(text, names.name(place), &tallies[place])?;
     }
     Ok(())
 }

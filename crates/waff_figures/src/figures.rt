@@ -8,14 +8,13 @@ ghost use Rattle.waff_plan.specs.Bound.{IsWorkers};
 ghost use Rattle.waff_plan.specs.Planned.{planned_starts, planned_work};
 ghost use Rattle.waff_plan.specs.Timetable.{starts_in, work_in};
 ghost use Rattle.waff_plan.specs.Work.{IsAmongFirst, Work, greatest, numbers};
-ghost use Rattle.waff_figures.specs.Figures.{AreFigures, FiguresAreOne, latencies_of, latency_of};
-ghost use Rattle.waff_figures.specs.Figures.{waits_of};
+ghost use Rattle.waff_figures.specs.Figures.{AreFigures, FiguresAreOne, LatenciesAddUp};
+ghost use Rattle.waff_figures.specs.Figures.{latencies_of, latency_of, waits_of};
 ghost use Rattle.waff_figures.specs.Least.{LeastIsLowerBound, OneIsShortest, OverIsUpperBound};
 ghost use Rattle.waff_figures.specs.Least.{least_in, least_of};
 
 use crate::percentile::percentile;
 use std::alloc::{AllocError, Global};
-use waff_model::Version;
 use waff_plan::laws::{least_is_shortest, none_is_shorter};
 use waff_plan::lower_bound::{lower_bound, none_is_below};
 use waff_plan::{Plan, Planned};
@@ -91,10 +90,10 @@ fn least(
         least ≡ least_in workers (instance_of planned.now.case) shortest) }
 {
     let plan = planned.plan;
-    match plan.version() {
-        Version::V1 => Ok(least_in_order(workers, plan.total(), shortest)),
-        Version::V2 => Ok(least_in_order(workers, plan.total(), shortest)),
-        Version::V3 => lower_bound(alloc, planned, workers),
+    if plan.version().has_clients() {
+        lower_bound(alloc, planned, workers)
+    } else {
+        Ok(least_in_order(workers, plan.total(), shortest))
     }
 }
 
@@ -167,8 +166,13 @@ fn sorted_latencies(alloc: Global, plan: &Plan) -> Result<Vec<u64>, AllocError>
     Ok(latencies)
 }
 
-/// Two figures of plans with the same starts are equal: a function that does nothing and whose
-/// contract is the law. Those below only call other laws.
+/// Where no message starts before its issue, the latencies are the waits and the costs: a function that
+/// does nothing and whose contract is the law.
+pub fn latencies_add_up()
+    ensures sum { (work : Work) → LatenciesAddUp work }
+{}
+
+/// Two figures of plans with the same starts are equal. The laws below only call others.
 pub fn figures_are_one()
     ensures equal { (work : Work) → FiguresAreOne work }
 {}

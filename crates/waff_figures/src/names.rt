@@ -1,19 +1,18 @@
 //! The distinct labels of messages.
 
-ghost use Rattle.std.specs.Prelude.{◌≡◌, ◌<◌, ◌≤◌, ℕ, All, IfOk, length, map, slice_index_or, []};
-ghost use Rattle.waff_figures.specs.ByName.{AreNumbered, distinct_names, is_named, label_of};
-ghost use Rattle.waff_figures.specs.ByName.{labels_of};
+ghost use Rattle.std.specs.Prelude.{◌≡◌, ◌<◌, ◌≤◌, ℕ, All, IfOk, length, slice_index_or, []};
+ghost use Rattle.waff_model.specs.DistinctNames.{distinct_names};
+ghost use Rattle.waff_figures.specs.ByName.{AreNumbered, is_named, label_of, labels_of};
 ghost use Rattle.waff_figures.specs.Tally.{is_in};
 
 use crate::grouping::Label;
-use indexmap::IndexSet;
 use std::alloc::{AllocError, Global};
-use waff_model::{Message, Trace};
+use waff_model::{DistinctNames, Message, Trace};
 
 /// The distinct labels in the order in which they first appear, and for each message the place of
 /// its label, from 0.
 pub(crate) struct Names<'a> {
-    pub names: IndexSet<&'a str>,
+    pub names: DistinctNames<'a>,
     pub places: Vec<u32>,
 }
 
@@ -28,37 +27,37 @@ impl<'a> Drop for Names<'a> {
 
 /// The labels of the messages of a trace.
 pub(crate) fn names_of(alloc: Global, trace: &Trace, label: Label) -> Result<Names<'_>, AllocError>
-    ensures names { IfOk result (λ found. map (λ name. name.now) found.names.keys
-        ≡ distinct_names (labels_of label trace.now.messages)) }
+    ensures names { IfOk result (λ found.
+        found.names ≡ distinct_names (labels_of label trace.now.messages)) }
     ensures places { IfOk result (λ found. length found.places.items ≡ length trace.now.messages) }
     ensures known { IfOk result (λ found.
-        All (λ place. place < length found.names.keys) found.places.items) }
+        All (λ place. place < length found.names) found.places.items) }
     ensures each { IfOk result (λ found. (g m : ℕ)
-        → g < length found.names.keys → 1 ≤ m → m ≤ length trace.now.messages
+        → g < length found.names → 1 ≤ m → m ≤ length trace.now.messages
         → is_in found.places.items g m ≡ is_named (labels_of label trace.now.messages)
-        (slice_index_or (map (λ name. name.now) found.names.keys) g []) m) }
+        (slice_index_or found.names g []) m) }
 {
-    let mut names = IndexSet::new(alloc);
+    let mut names = DistinctNames::new(alloc);
     let places = places_of(alloc, trace, label, &mut names)?;
     Ok(Names { names, places })
 }
 
-/// For each message the place of its label among the distinct ones, which go into an empty set.
+/// For each message the place of its label among the distinct ones, which are put where none is yet.
 fn places_of<'a>(
     alloc: Global,
     trace: &'a Trace,
     label: Label,
-    names: &mut IndexSet<&'a str>,
+    names: &mut DistinctNames<'a>,
 ) -> Result<Vec<u32>, AllocError>
-    requires none { names.old.keys ≡ [] }
+    requires none { names.old ≡ [] }
     ensures count { IfOk result (λ places. length places.items ≡ length trace.now.messages) }
     ensures numbered { IfOk result (λ places. AreNumbered (labels_of label trace.now.messages)
-        (map (λ name. name.now) names.new.keys) places.items) }
+        names.new places.items) }
 {
     let mut places = Vec::with_capacity(alloc, trace.len() as usize)?;
     for n in 1..trace.len() + 1 {
         let name = label_of(trace.message(n), label);
-        let (place, _) = names.insert_full(name)?;
+        let place = names.put(name)?;
         places.push_reserved(place as u32);
     }
     Ok(places)

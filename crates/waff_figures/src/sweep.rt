@@ -1,7 +1,6 @@
 //! The sweep over numbers of workers.
 
-ghost use Rattle.std.specs.Prelude.{◌≡◌, ◌≢◌, All, IfOk, IfSome, OnOk, Some, map, string_bytes};
-ghost use Rattle.waff_model.specs.declared.message.Version.TheVariants.{V3};
+ghost use Rattle.std.specs.Prelude.{◌≡◌, All, IfOk, IfSome, OnOk, Some, map, string_bytes};
 ghost use Rattle.waff_assign.specs.Case.{instance_of};
 ghost use Rattle.waff_plan.specs.Bound.{IsWorkers};
 ghost use Rattle.waff_plan.specs.Obeys.{IsLeast};
@@ -19,7 +18,6 @@ use std::alloc::{AllocError, Global};
 use waff_assign::Case;
 use waff_list::laws::needs_make_the_same_plans;
 use waff_list::{Rule, WorkerPlan, list_plan, list_plan_by};
-use waff_model::Version;
 use waff_order::Needs;
 use waff_order::predecessors::needs;
 use waff_plan::Planned;
@@ -37,7 +35,8 @@ pub fn sweep_workers() -> &'static [u32]
 }
 
 /// The figures of the list plans by this rule for these numbers of workers, in their order, where
-/// this is the unlimited plan.
+/// this is the unlimited plan. Without clients all these plans are in the order of the trace and have
+/// the same needs.
 pub fn list_figures(
     alloc: Global,
     unlimited: &Planned<'_>,
@@ -51,28 +50,9 @@ pub fn list_figures(
         (length_of (planned_work unlimited.now) (planned_starts unlimited.now))
         workers.now listed.items) }
 {
-    match unlimited.plan.version() {
-        Version::V1 => figures_in_order(alloc, unlimited, rule, workers),
-        Version::V2 => figures_in_order(alloc, unlimited, rule, workers),
-        Version::V3 => figures_by(alloc, unlimited, None, rule, workers),
+    if unlimited.plan.version().has_clients() {
+        return figures_by(alloc, unlimited, None, rule, workers);
     }
-}
-
-/// The same figures of a trace that is served in its own order: all these plans have the same needs.
-fn figures_in_order(
-    alloc: Global,
-    unlimited: &Planned<'_>,
-    rule: Rule,
-    workers: &[u32],
-) -> Result<Vec<Figures>, AllocError>
-    requires earlier_version { unlimited.now.plan.now.version ≢ V3 }
-    requires least { IsLeast (planned_order unlimited.now) (planned_work unlimited.now)
-        (planned_starts unlimited.now) }
-    requires workers { All IsWorkers workers.now }
-    ensures { IfOk result (λ listed. AreListed rule (instance_of unlimited.now.case)
-        (length_of (planned_work unlimited.now) (planned_starts unlimited.now))
-        workers.now listed.items) }
-{
     let needs = needs(alloc, unlimited.case.tree, unlimited.case.assigned)?;
     figures_by(alloc, unlimited, Some(&needs), rule, workers)
 }
@@ -164,30 +144,12 @@ fn planned_for(
         (work_in made.plan) k (starts_in made.plan)) }
 {
     match needs {
-        Some(needs) => planned_by(alloc, case, needs, rule, k),
+        Some(needs) => {
+            needs_make_the_same_plans();
+            list_plan_by(alloc, needs, case.trace, rule, k)
+        }
         None => list_plan(alloc, case, rule, k),
     }
-}
-
-/// The same plan, by the needs.
-fn planned_by(
-    alloc: Global,
-    case: Case<'_>,
-    needs: &Needs,
-    rule: Rule,
-    k: u32,
-) -> Result<WorkerPlan, AllocError>
-    requires needs { AreNeedsOf case needs.now }
-    requires workers { IsWorkers k }
-    ensures version { IfOk result (λ made. made.plan.version ≡ case.entry.trace.now.version) }
-    ensures timings { IfOk result (λ made.
-        made.plan.timings ≡ timings_of case.entry.trace.now.messages) }
-    ensures follows { IfOk result (λ made. IsPlanServed case.entry.trace.now.version rule
-        case.entry.tree.now case.entry.assigned.now
-        (work_in made.plan) k (starts_in made.plan)) }
-{
-    needs_make_the_same_plans();
-    list_plan_by(alloc, needs, case.trace, rule, k)
 }
 
 /// The text of the figures of the list plans and of the unlimited plan.

@@ -7,7 +7,8 @@ ghost use Rattle.waff_model.specs.Tree.{Node};
 ghost use Rattle.waff_model.specs.declared.message.Version.{Version};
 ghost use Rattle.waff_plan.specs.Serving.{started_before};
 ghost use Rattle.waff_plan.specs.Work.{Work};
-ghost use Rattle.waff_figures.specs.WaitLaws.{ReadyIsGreatest, RowsAreOne, TicksAddUp, WaitsAddUp};
+ghost use Rattle.waff_figures.specs.WaitLaws.{OwnClientIsNoWait, ReadyIsGreatest, RowsAreOne};
+ghost use Rattle.waff_figures.specs.WaitLaws.{TicksAddUp, WaitsAddUp};
 
 /// A message waits for another one until the greatest of its issue and the finishes of the messages
 /// that exclude it and are served before it.
@@ -20,6 +21,12 @@ pub fn ready_is_greatest()
 pub fn waits_add_up()
     ensures { (version : Version) (tree : List Node) (assigned : List ℕ) (work : Work)
         (start : ℕ → ℕ) → WaitsAddUp (started_before version tree assigned start) work start }
+{}
+
+/// In a plan that obeys, a message that starts as soon as its client may issue it waits for nobody.
+pub fn own_client_is_no_wait()
+    ensures { (version : Version) (tree : List Node) (assigned : List ℕ) (work : Work)
+        (start : ℕ → ℕ) → OwnClientIsNoWait (started_before version tree assigned start) work start }
 {}
 
 /// In a plan that obeys, the ticks of all rows add up to how long all messages wait.

@@ -15,3 +15,4 @@ pub mod TakeLemmas
 pub mod SpanLemmas
 pub mod OpCells
 pub mod Members
+pub mod DistinctNameLemmas

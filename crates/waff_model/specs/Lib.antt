@@ -1,4 +1,5 @@
 pub mod Names
+pub mod DistinctNames
 pub mod Texts
 pub mod Refusals
 pub mod Tree

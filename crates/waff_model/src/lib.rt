@@ -8,8 +8,8 @@
 //!   affinity owns each cell; `parcels`: where a cell stands among the cells of its owner.
 //! - `trace`, `message`, `op`, `ops` over `packed_op`: messages with their costs, releases (in
 //!   ticks) and operations on cells.
-//! - `cell`, `client`, `kind`, `name`, `texts`: the small parts; `limits`: the limits of hierarchies, traces
-//!   and plans; `format`: which of them hold of spaces.
+//! - `cell`, `client`, `kind`, `name`, `texts`: the small parts; `distinct_names`: names, each once;
+//!   `limits`: the limits of hierarchies, traces and plans; `format`: which of them hold of spaces.
 //! - `laws`: what holds of the parcels of all layouts.
 //!
 //! A tree keeps for each affinity its span in preorder. So *at or above* is two comparisons, and the
@@ -21,6 +21,7 @@
 
 mod cell;
 mod client;
+mod distinct_names;
 mod format;
 mod kind;
 pub mod laws;
@@ -43,6 +44,7 @@ mod tree;
 
 pub use cell::Cell;
 pub use client::Client;
+pub use distinct_names::DistinctNames;
 pub use format::Format;
 pub use kind::Kind;
 pub use layout::Layout;

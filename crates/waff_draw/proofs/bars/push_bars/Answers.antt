@@ -1,9 +1,10 @@
 use Rattle.std.proofs.Common.{◌≡◌, ℕ, ◌-◌, ◌++◌, flat_map, string_bytes, sym, ◌∙◌, ap, arith}
 use Rattle.std.specs.List.{range_with_len}
+use Rattle.std.proofs.lemmas.List.{append-nil}
 use Rattle.waff_draw.specs.Bars.{bar_where}
 use Rattle.waff_draw.specs.Kinds.{shown_row}
 use Rattle.waff_draw.specs.Scene.{work_of_scene}
-use Rattle.waff_draw.proofs.TextLemmas.{append_none, more_numbers}
+use Rattle.waff_draw.proofs.TextLemmas.{more_numbers}
 use Rattle.waff_draw.proofs.bars.push_bars.Goals as goal
 use Rattle.waff_draw.proofs.bars.push_bars.Goals.{in-Some+in_ok-push_bar, in_default}
 
@@ -19,7 +20,7 @@ loop-n-preserved c =
           ap (λ t. string_bytes t) w.text-is ∙ w.in_ok-push_bar.ensures
           ∙ ap (λ r. before ++ bar_where scene n r) (sym w.in-Some.is ∙ c.shown_row.ensures)
       | in_default w ↦
-          ap (λ t. string_bytes t) w.text-is ∙ sym (append_none before)
+          ap (λ t. string_bytes t) w.text-is ∙ sym (append-nil before)
           ∙ ap (λ r. before ++ bar_where scene n r) (sym w.in_default.is ∙ c.shown_row.ensures)
     ] in
     more_numbers (λ (m : ℕ). bar_where scene m (shown_row scene c.args.kind m)) n (string_bytes c.args.text.now) before (string_bytes c.match-shown_row.text)

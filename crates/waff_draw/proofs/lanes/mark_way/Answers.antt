@@ -1,8 +1,9 @@
 use Rattle.std.proofs.Common.{◌≡◌, ◌<◌, ◌||◌, ℕ, suc, Option, Some, None, true, false, get_or, length, set, arith, refl, sym, ◌∙◌, ap, length-set}
 use Rattle.std.specs.Prelude.{option_map}
+use Rattle.std.proofs.Math.Bool.{or-false}
 use Rattle.waff_model.specs.Tree.{parent_of}
 use Rattle.waff_draw.specs.Lanes.{is_among, way_to}
-use Rattle.waff_draw.proofs.WayLemmas.{marked_step, or_false, steps_from, steps_less, way_from, way_step}
+use Rattle.waff_draw.proofs.WayLemmas.{marked_step, steps_from, steps_less, way_from, way_step}
 use Rattle.waff_draw.proofs.lanes.mark_way.Goals as goal
 
 pub loop-next-init : goal.loop-next-init
@@ -52,6 +53,6 @@ returns-clause-each c n =
     let tree = c.args.tree.now in
     let marks = c.loop-next.marks in
     let none : option_map (λ a. a.0) c.loop-next.next ≡ None = ap (option_map (λ a. a.0)) c.in_default.is in
-    sym (or_false (get_or marks n false))
+    sym (or-false (get_or marks n false))
     ∙ sym (ap (λ (o : Option ℕ). get_or marks n false || is_among (way_from tree o) n) none)
     ∙ c.loop-next.invariant.each n

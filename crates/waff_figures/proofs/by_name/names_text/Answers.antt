@@ -1,11 +1,11 @@
-use Rattle.std.proofs.Common.{◌≡◌, ℕ, ◌<◌, ◌∷◌, Bor, List, [], length, get_or, map, string_bytes, arith, sym, ◌∙◌, ap, subst}
+use Rattle.std.proofs.Common.{◌≡◌, ℕ, ◌<◌, ◌∷◌, [], length, get_or, map, string_bytes, arith, ◌∙◌, ap, subst}
 use Rattle.std.specs.List.{range_with_len}
-use Rattle.std.proofs.lemmas.List.{length-map}
 use Rattle.std.proofs.lemmas.Result.{IfOk-weaker}
+use Rattle.waff_model.specs.DistinctNames.{distinct_names}
 use Rattle.waff_plan.specs.Timing.{work_of}
 use Rattle.waff_plan.proofs.TimingLemmas.{length-timings_of}
 use Rattle.waff_plan_text.specs.Lines.{text_of}
-use Rattle.waff_figures.specs.ByName.{distinct_names, is_named, label_header, labels_of, name_row, named_row, tallied_name_row}
+use Rattle.waff_figures.specs.ByName.{is_named, label_header, labels_of, name_row, named_row, tallied_name_row}
 use Rattle.waff_figures.specs.Tally.{is_in, no_tally, tally_of}
 use Rattle.waff_figures.proofs.RowLemmas.{map_by_places, map_range_same, tally_same}
 use Rattle.waff_figures.proofs.by_name.names_text.Goals as goal
@@ -16,27 +16,24 @@ returns c =
     let names = labels_of c.args.label c.args.planned.now.case.trace.now.messages in
     let work = work_of c.args.planned.now.plan.now.timings in
     let chain = c.args.chain.now in
-    let keys = c.in_ok-found.found.names.keys in
-    let texts : List (List ℕ) = map (λ (x : Bor (List ℕ)). x.now) keys in
+    let texts = c.in_ok-found.found.names in
     let places = c.in_ok-found.found.places.items in
     let tallies = c.in_ok-tallies.tallies.items in
-    let long : length texts ≡ length keys = length-map keys (λ (x : Bor (List ℕ)). x.now) in
     let count : work.count ≡ length c.args.planned.now.case.trace.now.messages = ap length c.args.planned.now.timings ∙ length-timings_of c.args.planned.now.case.trace.now.messages in
-    let tally : (p : ℕ) → p < length keys → get_or tallies p no_tally ≡ tally_of work chain (is_named names (get_or texts p []))
+    let tally : (p : ℕ) → p < length texts → get_or tallies p no_tally ≡ tally_of work chain (is_named names (get_or texts p []))
     = λ p low.
     subst (λ gs. get_or tallies p no_tally ≡ tally_of work chain (is_in gs p)) c.as_slice.ensures.value
-    (c.in_ok-tallies.ensures.each p (omega (arith, low, c.len.ensures.len)))
+    (c.in_ok-tallies.ensures.each p (omega (arith, low, c.len.ensures)))
     ∙ tally_same work chain (is_in places p) (is_named names (get_or texts p [])) c.requires.chain.each
     (λ m from to. c.in_ok-found.ensures.each p m low from (omega (arith, to, count))) in
-    let rows : map (tallied_name_row texts tallies) (range_with_len 0 (length keys)) ≡ map (name_row names work chain) (distinct_names names)
-    = map_range_same (tallied_name_row texts tallies) (λ p. name_row names work chain (get_or texts p [])) 0 (length keys)
+    let rows : map (tallied_name_row texts tallies) (range_with_len 0 (length texts)) ≡ map (name_row names work chain) (distinct_names names)
+    = map_range_same (tallied_name_row texts tallies) (λ p. name_row names work chain (get_or texts p [])) 0 (length texts)
     (λ p from to. ap (λ t. named_row (get_or texts p []) t) (tally p (omega (arith, to))))
-    ∙ ap (λ n. map (λ p. name_row names work chain (get_or texts p [])) (range_with_len 0 n)) (sym long)
     ∙ map_by_places (name_row names work chain) texts []
     ∙ ap (map (name_row names work chain)) c.in_ok-found.ensures.names in
     IfOk-weaker c.tallied_text.result
-    (λ text. string_bytes text ≡ text_of (header ∷ map (tallied_name_row texts c.as_slice-2.result.now) (range_with_len 0 (length keys)))) _
+    (λ text. string_bytes text ≡ text_of (header ∷ map (tallied_name_row texts c.as_slice-2.result.now) (range_with_len 0 (length texts)))) _
     (λ text is.
-    is ∙ ap (λ ts. text_of (header ∷ map (tallied_name_row texts ts) (range_with_len 0 (length keys)))) c.as_slice-2.ensures.value
+    is ∙ ap (λ ts. text_of (header ∷ map (tallied_name_row texts ts) (range_with_len 0 (length texts)))) c.as_slice-2.ensures.value
     ∙ ap (λ rs. text_of (header ∷ rs)) rows)
     c.tallied_text.ensures

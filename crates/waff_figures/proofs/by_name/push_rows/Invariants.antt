@@ -7,4 +7,4 @@ use Rattle.waff_figures.proofs.by_name.push_rows.Given as goal
 abbrev pub invariant-loop-place : goal.invariant-loop-place
 invariant-loop-place l =
     string_bytes l.text ≡ string_bytes l.initial.text
-    ++ text_of (map (tallied_name_row (map (λ name. name.now) l.names.keys) l.tallies) (range_with_len 0 l.place))
+    ++ text_of (map (tallied_name_row l.names l.tallies) (range_with_len 0 l.place))

@@ -1,6 +1,7 @@
-use Rattle.std.proofs.Common.{ℕ, ◌<◌, ◌≤◌, List, length, get_or, map, Bor, arith, sym, ◌∙◌, ap, subst}
-use Rattle.std.proofs.lemmas.List.{get_or_default, length-map, take_all}
-use Rattle.waff_figures.specs.ByName.{distinct_names, labels_of}
+use Rattle.std.proofs.Common.{◌<◌, ◌≤◌, length, arith, sym, ◌∙◌, ap, subst}
+use Rattle.std.proofs.lemmas.List.{get_or_default, take_all}
+use Rattle.waff_model.specs.DistinctNames.{distinct_names}
+use Rattle.waff_figures.specs.ByName.{labels_of}
 use Rattle.waff_figures.proofs.NameLemmas.{labels_length, place_tells}
 use Rattle.waff_figures.proofs.names.names_of.Goals as goal
 
@@ -14,15 +15,11 @@ returns-clause-names c =
 
 pub returns-clause-known : goal.returns-clause-known
 returns-clause-known c = λ k d low.
-    let keys = c.places_of.new.names.keys in
+    let names = c.places_of.new.names in
     let places = c.in_ok-places.places.items in
-    subst (λ place. place < length keys) (sym (get_or_default places k d 0 low))
-    (subst (λ n. get_or places k 0 < n) (length-map keys (λ (x : Bor (List ℕ)). x.now)) (c.in_ok-places.ensures.numbered.within k low))
+    subst (λ place. place < length names) (sym (get_or_default places k d 0 low)) (c.in_ok-places.ensures.numbered.within k low)
 
 pub returns-clause-each : goal.returns-clause-each
 returns-clause-each c = λ g m low from to.
-    let keys = c.places_of.new.names.keys in
-    place_tells (labels_of c.args.label c.args.trace.now.messages) (map (λ (x : Bor (List ℕ)). x.now) keys) c.in_ok-places.places.items
-    c.in_ok-places.ensures.numbered g m
-    (subst (λ k. g < k) (sym (length-map keys (λ (x : Bor (List ℕ)). x.now))) low) from
-    (omega (arith, to, c.in_ok-places.ensures.count))
+    place_tells (labels_of c.args.label c.args.trace.now.messages) c.places_of.new.names c.in_ok-places.places.items
+    c.in_ok-places.ensures.numbered g m low from (omega (arith, to, c.in_ok-places.ensures.count))

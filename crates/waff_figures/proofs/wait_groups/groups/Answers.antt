@@ -23,7 +23,7 @@ returns-in_ok-found-in-Name-clause-tell c =
     let n = length assigned in
     let names = message_names c.args.case.now.trace.now.messages in
     let places = c.in_ok-found-in-Name.found.places.items in
-    let keys = c.in_ok-found-in-Name.found.names.keys in
+    let keys = c.in_ok-found-in-Name.found.names in
     let number : ℕ → ℕ = λ m. get_or places (m - 1) 0 in
     IfOk-weaker c.numbered_groups.result
     (λ groups. groups.items ≡ map (λ m. (get_or c.as_slice.result.now (m - 1) 0, affinity_of assigned m)) (range_with_len 1 n))
@@ -32,8 +32,8 @@ returns-in_ok-found-in-Name-clause-tell c =
     let are_numbered = subst (λ ps. groups.items ≡ map (λ m. (get_or ps (m - 1) 0, affinity_of assigned m)) (range_with_len 1 n)) c.as_slice.ensures.value are in
     groups_tell number (affinity_of assigned) groups.items n are_numbered i j first second
     ∙ ap (λ b. b && same_affinity assigned i j)
-    (names_tell names (map (λ name. name.now) keys) places n (length keys) (c.in_ok-found-in-Name.ensures.places ∙ sym c.args.case.now.lengths) c.in_ok-found-in-Name.ensures.known
-    (subst (λ k. (g m : ℕ) → g < length keys → 1 ≤ m → m ≤ k → is_in places g m ≡ is_named names (get_or (map (λ name. name.now) keys) g []) m)
+    (names_tell names keys places n (length keys) (c.in_ok-found-in-Name.ensures.places ∙ sym c.args.case.now.lengths) c.in_ok-found-in-Name.ensures.known
+    (subst (λ k. (g m : ℕ) → g < length keys → 1 ≤ m → m ≤ k → is_in places g m ≡ is_named names (get_or keys g []) m)
     (sym c.args.case.now.lengths) c.in_ok-found-in-Name.ensures.each) i j first second)
     ∙ ap (λ b. are_alike b assigned names i j) (sym c.in-Name.is))
     c.numbered_groups.ensures
