@@ -1,5 +1,5 @@
 -- Texts made piece by piece.
-use Rattle.std.proofs.Common.{◌≡◌, ℕ, zero, suc, ◌<◌, get_or, length, ◌+◌, ◌-◌, ◌≤◌, List, [], ◌∷◌, ◌++◌, refl, append_assoc, sym, ◌∙◌, ap, arith}
+use Rattle.std.proofs.Common.{◌≡◌, ℕ, ◌+◌, ◌-◌, ◌≤◌, List, [], ◌∷◌, ◌++◌, refl, append_assoc, sym, ◌∙◌, ap, arith}
 use Rattle.std.specs.List.{flat_map, range_with_len}
 use Rattle.std.proofs.lemmas.List.{flat_map_more}
 use Rattle.waff_plan.proofs.Longest.{range_with_len_more}
@@ -8,12 +8,6 @@ use Rattle.waff_plan.proofs.Longest.{range_with_len_more}
 pub append_none : {X : Type 0} → (xs : List X) → xs ++ [] ≡ xs
 append_none [] = refl
 append_none (x ∷ xs) = ap (λ ys. x ∷ ys) (append_none xs)
-
--- an element does not rest on what stands for a missing one
-pub get_or-any : {X : Type 0} → (xs : List X) (i : ℕ) → i < length xs → (d e : X) → get_or xs i d ≡ get_or xs i e
-get_or-any [] i within d e = absurd (omega (arith, within))
-get_or-any (x ∷ xs) zero within d e = refl
-get_or-any (x ∷ xs) (suc i) within d e = get_or-any xs i (omega (arith, within)) d e
 
 -- what stood before, the pieces of n numbers from a, and that of the next
 pub more_from : (piece : ℕ → List ℕ) (a n m : ℕ) (before so_far now : List ℕ) → a + n ≡ m
