@@ -2,35 +2,18 @@
 -- layout.
 use Rattle.std.proofs.Common.{◌≡◌, ◌≢◌, ℕ, ◌+◌, ◌-◌, ◌<◌, ◌≤◌, List, [], ◌∷◌, ◌++◌, Some, length, get_or, All, slice_get, arith, sym, ◌∙◌, ap, subst, ⊎_elim}
 use Rattle.std.proofs.lemmas.Bool.{cases_eq}
-use Rattle.std.proofs.lemmas.List.{length-append, length-map, map_push, get_or_push, get_or_append_left}
+use Rattle.std.proofs.lemmas.List.{length-map, map_push, get_or_push, get_or_append_left}
 use Rattle.std.proofs.lemmas.List.Elements.{All-push}
 use Rattle.std.proofs.lemmas.Option.{same_Some}
-use Rattle.waff_model.specs.Cells.{cells_of, cells_of_op, LiesIn}
+use Rattle.waff_model.specs.Cells.{LiesIn}
 use Rattle.waff_model.specs.Layout.{Hierarchy, Space, IsCell, size_at}
 use Rattle.waff_model.specs.Messages.{sizes_of}
 use Rattle.waff_model.specs.declared.cell.Cell.{Cell}
 use Rattle.waff_model.specs.declared.message.Message.{Message}
-use Rattle.waff_model.specs.declared.op.Op.{Op}
-use Rattle.waff_model.specs.declared.op.Op.TheVariants.{Set, Add, Copy, Swap, Read}
 use Rattle.waff_model.specs.declared.tree.AffinityId.{AffinityId}
 use Rattle.waff_model.proofs.TraceLemmas.{slice_index-sizes_of}
 use Rattle.waff_assign.specs.Order.{numbers_of, affinity_of}
 use Rattle.waff_assign.specs.Lowest.{IsInFootprint, IsLowest}
-
--- an operation names a cell
-cells_of_op_some : (op : Op) → 0 < length (cells_of_op op)
-cells_of_op_some (Set cell value) = omega arith
-cells_of_op_some (Add cell value) = omega arith
-cells_of_op_some (Copy cell source) = omega arith
-cells_of_op_some (Swap cell other) = omega arith
-cells_of_op_some (Read cell) = omega arith
-
--- operations name a cell
-pub cells_of_some : (ops : List Op) → 1 ≤ length ops → 0 < length (cells_of ops)
-cells_of_some [] none = absurd (omega arith)
-cells_of_some (op ∷ ops) some =
-    let first = cells_of_op_some op in
-    omega (arith, length-append (cells_of_op op) (cells_of ops))
 
 -- cells that lie in spaces of these sizes are cells of a layout with these sizes
 pub cells_of_layout : (sizes : List ℕ) (spaces : List Space) (cells : List Cell) → sizes ≡ sizes_of spaces

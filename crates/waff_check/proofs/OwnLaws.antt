@@ -91,11 +91,6 @@ no_workers : (work : Work) (start : ℕ → ℕ) (told : ℕ → Option ℕ) →
 no_workers work start told tells n wrong =
     subst (λ w. IsMisplaced work start told None n w) (tells n wrong.number) wrong.wrong
 
--- messages of a plan that obeys the order of its version are apart
-ordered_apart : (tree : List Node) (assigned : List ℕ) (work : Work) (start : ℕ → ℕ) → Obeys (IsOrdered tree assigned) work start
-    → AreApart (IsOrdered tree assigned) work start
-ordered_apart tree assigned work start obeys i j pair = apart_where_finished work start i j (obeys.ordered i j pair.ordered) pair.together
-
 issued_apart : (tree : List Node) (assigned : List ℕ) (work : Work) (start : ℕ → ℕ) → length assigned ≡ work.count
     → Obeys (IsServedBefore tree assigned work start) work start → AreApart (IsOrdered tree assigned) work start
 issued_apart tree assigned work start long obeys i j pair =

@@ -39,9 +39,6 @@ tells_more marks numbers m within tells n inside =
           ∙ sym (parts ∙ or_none (is_among numbers n) (m == n) (other_tests m n (λ e. other (sym e))))
     ]
 
-pub tells_none : (count : ℕ) (marks : List Bool) → ((n : ℕ) → n < length marks → get_or marks n false ≡ false) → Tells marks []
-tells_none count marks h = h
-
 -- the rows are those of the lanes from this one on
 abbrev pub AreRows : ℕ → List Lane → List ℕ → Type 0
 AreRows row lanes rows = (a : ℕ) → a < length rows → get_or rows a 0 ≡ row_from row (drop row lanes) a

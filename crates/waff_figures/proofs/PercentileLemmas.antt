@@ -40,13 +40,6 @@ counts_no_later (x ∷ xs) (suc i) bound high =
     let rest : count_within xs bound ≤ i = counts_no_later xs i bound (λ k from to. high (suc k) (omega arith) (omega arith)) in
     omega (arith, one, rest, count_step x bound xs)
 
--- of no number
-pub percentile_of_none : (p : ℕ) (numbers : List ℕ) → length numbers ≡ 0 → IsPercentile p numbers 0
-percentile_of_none p numbers none = record {
-  covers = subst (λ n. p * n ≤ 100 * count_within numbers 0) (sym none) (omega arith);
-  least = λ other covers. omega arith;
-}
-
 -- the number in whose place as many stand as have to be covered
 pub percentile_at : (p : ℕ) (numbers : List ℕ) (covered : ℕ) → IsNonDecreasing numbers → 1 ≤ covered → covered ≤ length numbers
     → p * length numbers ≤ 100 * covered → 100 * (covered - 1) < p * length numbers → IsPercentile p numbers (get_or numbers (covered - 1) 0)

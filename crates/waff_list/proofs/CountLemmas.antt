@@ -76,21 +76,6 @@ rises_by_one xs rising zero inside = omega arith
 rises_by_one xs rising (suc k) inside =
     omega (arith, rises_by_one xs rising k (omega arith), rising k (omega arith), ap (λ i. get_or xs i 0) (next k))
 
--- messages that rise from 1 are fewer than the least number above them
-rises_from_one : (xs : List ℕ) → IsStrictlyIncreasing xs → ((x : ℕ) → Contains xs x → 1 ≤ x) → (k : ℕ) → k < length xs → k + 1 ≤ get_or xs k 0
-rises_from_one xs rising from zero inside = from (get_or xs 0 0) (Contains-get_or xs 0 0 inside)
-rises_from_one xs rising from (suc k) inside =
-    omega (arith, rises_from_one xs rising from k (omega arith), rising k (omega arith), ap (λ i. get_or xs i 0) (next k))
-
-pub rising_fewer : (xs : List ℕ) (n : ℕ) → IsStrictlyIncreasing xs → ((x : ℕ) → Contains xs x → (1 ≤ x) × (x < n)) → 1 ≤ n → length xs < n
-rising_fewer xs n rising within some = elim (cases_lt (length xs) 1) [
-  | inl empty ↦ omega arith
-  | inr one ↦
-      let last = rises_from_one xs rising (λ x there. (within x there).0) (length xs - 1) (omega arith) in
-      let less = within (get_or xs (length xs - 1) 0) (Contains-get_or xs (length xs - 1) 0 (omega arith)) in
-      omega (arith, last, less.1)
-]
-
 pub rising_length : (xs : List ℕ) (n : ℕ) → IsStrictlyIncreasing xs → ((x : ℕ) → Contains xs x → x < n) → length xs ≤ n
 rising_length xs n rising below = elim (cases_lt (length xs) 1) [
   | inl empty ↦ omega arith

@@ -76,10 +76,6 @@ module _ (Passes : ℕ → Type 0) (xs : List ℕ) (h : AreEach Passes xs) where
   pub each_same : (Now : ℕ → Type 0) → ((y : ℕ) → Passes y → Now y) → ((y : ℕ) → Now y → Passes y) → AreEach Now xs
   each_same Now kept back = record { only = λ y there. kept y (h.only y there); each = λ y now. h.each y (back y now) }
 
--- the first is not one of the others, and what is in one part is not in the other
-pub each_other : (Passes : ℕ → Type 0) (x : ℕ) (xs : List ℕ) → AreEach Passes (x ∷ xs) → Contains xs x → ⊥
-each_other Passes x xs h there = omega (arith, h.each x (h.only x (contains_first x xs)), times_cons_same xs x, times_some x xs there)
-
 pub each_apart : (Passes : ℕ → Type 0) (xs ys : List ℕ) → AreEach Passes (xs ++ ys) → (x : ℕ) → Contains xs x → Contains ys x → ⊥
 each_apart Passes xs ys h x first second =
     omega (arith, h.each x (h.only x (Contains-append_left xs ys x first)), times_append x xs ys, times_some x xs first, times_some x ys second)

@@ -11,7 +11,7 @@ use Rattle.waff_list.specs.Rules.{IsPlanBy}
 use Rattle.waff_list.specs.Unique.{EachRuns, TakeTheSame, RulePlanIsOne}
 use Rattle.waff_list.specs.declared.rule.Rule.{Rule}
 use Rattle.waff_list.specs.declared.rule.Rule.TheVariants.{Arrival, Longest}
-use Rattle.waff_list.proofs.PathPlans.{plan_over_pairs, plan_over_needs}
+use Rattle.waff_list.proofs.PathPlans.{plan_over_pairs}
 use Rattle.waff_list.proofs.TailLemmas.{ahead_of, tails_are_one, paths_share_tails}
 use Rattle.waff_list.proofs.Uniqueness.{order_of_priority, list_plan_is_one}
 
@@ -32,13 +32,6 @@ rule_over_pairs tree assigned needs work Arrival k start are h = plan_over_pairs
 rule_over_pairs tree assigned needs work Longest k start are (tail, tails, h) =
     let shared = paths_share_tails tree assigned needs work tail are in
     (tail, shared.0 tails, plan_over_pairs tree assigned needs work (IsTakenFirst tail) k start are h)
-
-pub rule_over_needs : (tree : List Node) (assigned : List ℕ) (needs : List (List ℕ)) (work : Work) (rule : Rule) (k : ℕ) (start : ℕ → ℕ) → AreNeeds tree assigned needs
-    → IsPlanBy rule (IsOrdered tree assigned) work k start → IsPlanBy rule (Path (IsNeed needs)) work k start
-rule_over_needs tree assigned needs work Arrival k start are h = plan_over_needs tree assigned needs work (IsTakenFirst arrival) k start are h
-rule_over_needs tree assigned needs work Longest k start are (tail, tails, h) =
-    let shared = paths_share_tails tree assigned needs work tail are in
-    (tail, shared.1 tails, plan_over_needs tree assigned needs work (IsTakenFirst tail) k start are h)
 
 -- a relation takes first what it takes first
 pub same_first : (work : Work) (first : Relation) → TakeTheSame work first first

@@ -1,6 +1,6 @@
 -- The tails of messages while they are made, from the last message to the first. A message that has not had its turn holds the greatest
 -- tail of those that it is before, of the ones that have.
-use Rattle.std.proofs.Common.{◌≡◌, ◌≢◌, ℕ, ◌+◌, ◌-◌, ◌*◌, ◌^◌, ◌<◌, ◌≤◌, ◌⊎◌, inl, inr, max, List, [], ◌∷◌, ◌++◌, length, get_or, set, take, All, Contains, arith, refl, sym, ◌∙◌, ap, subst, get_or-set_same, get_or-set_other}
+use Rattle.std.proofs.Common.{◌≡◌, ◌≢◌, ℕ, ◌+◌, ◌-◌, ◌*◌, ◌^◌, ◌<◌, ◌≤◌, ◌⊎◌, inl, inr, max, List, [], ◌∷◌, ◌++◌, length, get_or, set, take, All, Contains, arith, sym, ◌∙◌, ap, subst, get_or-set_same, get_or-set_other}
 use Rattle.std.proofs.lemmas.Bool.{cases_eq, cases_lt, cases_order}
 use Rattle.std.proofs.lemmas.List.{get_or_default, length-set, take_more}
 use Rattle.std.proofs.lemmas.List.Elements.{Contains-append_left, Contains-push, Contains-push_cases}
@@ -134,15 +134,6 @@ module _ (before : Relation) (work : Work) (forward : (i j : ℕ) → before i j
       let at : k + 1 - 1 ≡ k = omega arith in
       let is : get_or tails (k + 1 - 1) 0 ≡ get_or tails k d = ap (λ i. get_or tails i 0) at ∙ get_or_default tails k 0 d within in
       omega arith
-
--- no tail has been raised yet
-pub raised_none : (tails : List ℕ) (tail : ℕ) → AreRaised tails [] tail tails
-raised_none tails tail = record {
-  count = refl;
-  each = λ m there. absurd (omega (arith, there.1));
-  kept = λ m. omega arith;
-  one = λ m from. inl refl;
-}
 
 -- the tail of one message more has been raised
 module _ (old new messages : List ℕ) (tail at : ℕ) (inside : at < length messages) (from : 1 ≤ get_or messages at 0) (to : get_or messages at 0 ≤ length new)

@@ -27,9 +27,6 @@ space_read (first ∷ spaces) (suc s) within space is =
     let later = space_read spaces s (omega (arith, within)) space is in
     record { size = later.size; owner = later.owner }
 
-pub space_of_cell : (spaces : List Space) (cell : Cell) → IsCell spaces cell → (space : Space) → space ≡ get_or spaces cell.space space → IsRead spaces cell.space space
-space_of_cell spaces cell is_cell = space_read spaces cell.space (space_below spaces cell.space cell.index is_cell)
-
 owner_below : {format : Format} (tree : List Node) (spaces : List Space) (s i : ℕ) → All (IsSpace format tree) spaces → i < size_at spaces s → owner_of spaces (record { space = s; index = i }) < length tree
 owner_below tree [] s i each within = absurd (omega arith)
 owner_below tree (space ∷ spaces) zero i each within =

@@ -1,6 +1,6 @@
 -- Where no message stands in a table, when some are put there or taken.
 use Rattle.std.proofs.Common.{◌≡◌, ℕ, ◌+◌, ◌*◌, ◌/◌, ◌<◌, ◌≤◌, inl, inr, Bool, true, false, List, length, get_or, set, replicate, arith, sym, ◌∙◌, ap}
-use Rattle.std.proofs.lemmas.Bool.{cases_eq, cases_lt, false≢true}
+use Rattle.std.proofs.lemmas.Bool.{cases_eq, cases_lt}
 use Rattle.std.proofs.lemmas.List.{get_or-set_same, get_or-set_other, get_or-replicate, get_or_past, length-set, length-replicate}
 use Rattle.waff_model.specs.Blocks.{AreBelow, AreFilled}
 use Rattle.waff_model.specs.Spans.{map_in, messages_in}
@@ -12,26 +12,6 @@ none_at n p = elim (cases_lt p n) [
   | inl within ↦ get_or-replicate n p 0 0 within
   | inr past ↦ get_or_past (replicate n 0) p 0 (omega (arith, length-replicate {A = ℕ} n 0))
 ]
-
-pub filled_none : (count blocks : ℕ) → count ≤ 64 * blocks → AreFilled (replicate count 0) (replicate blocks false)
-filled_none count blocks room = record {
-  room = omega (arith, room, length-replicate {A = ℕ} count 0, length-replicate blocks false);
-  none = λ p empty. none_at count p;
-}
-
-pub filled_put : (messages : List ℕ) (filled : List Bool) (p m : ℕ) → p < length messages → AreFilled messages filled
-    → AreFilled (set messages p m) (set filled (p / 64) true)
-filled_put messages filled p m within h = record {
-  room = omega (arith, h.room, length-set messages p m, length-set filled (p / 64) true);
-  none = λ q empty. elim (cases_eq (q / 64) (p / 64)) [
-    | inl same ↦
-        let here : get_or (set filled (p / 64) true) (p / 64) true ≡ true = get_or-set_same filled (p / 64) true true (omega (arith, h.room)) in
-        absurd (false≢true (sym empty ∙ ap (λ x. get_or (set filled (p / 64) true) x true) same ∙ here))
-    | inr other ↦
-        get_or-set_other messages p q m 0 (λ same. other (ap (λ x. x / 64) same))
-        ∙ h.none q (sym (get_or-set_other filled (p / 64) (q / 64) true true other) ∙ empty)
-  ];
-}
 
 module _ (messages : List ℕ) (from to : ℕ) where
   -- the messages at the places from `from` up to `to` have gone

@@ -121,18 +121,6 @@ gather-length {F} {A} {B} rank f (a ∷ xs) = by (f a) (gather rank f xs) (gathe
     by (Err e) (Ok bs) q = tt
     by (Err d) (Err e) q = tt
 
--- what holds of each value that is walked to, and is kept by lists, holds of the list
-pub walk-if : {F A B S : Type 0} (f : S → A → Result B F) (next : S → A → S) (P : B → Type 0) (Q : List B → Type 0) → Q []
-    → ((b : B) (bs : List B) → P b → Q bs → Q (b ∷ bs)) → ((s : S) (a : A) → IfOk (f s a) P) → (s : S) (xs : List A) → IfOk (walk f next s xs) Q
-unfolding walk
-walk-if f next P Q empty more each s [] = empty
-walk-if {F} {A} {B} f next P Q empty more each s (a ∷ xs) = by (f s a) (walk f next (next s a) xs) (each s a) (walk-if f next P Q empty more each (next s a) xs)
-  where
-    by : (r : Result B F) (rs : Result (List B) F) → IfOk r P → IfOk rs Q → IfOk (r >>= (λ b. rs >>= (λ bs. Ok (b ∷ bs)))) Q
-    by (Ok b) (Ok bs) p q = more b bs p q
-    by (Ok b) (Err e) p q = tt
-    by (Err d) rs p q = tt
-
 -- what holds of both of two values holds of the pair
 pub pair-if : {F A B : Type 0} (rank : F → ℕ) (P : A → Type 0) (Q : B → Type 0) (a : Result A F) (b : Result B F) → IfOk a P → IfOk b Q
     → IfOk (pair rank a b) (λ p. P p.0 × Q p.1)

@@ -1,6 +1,6 @@
 -- Laws of the parts of a text, and of numbers.
 use Rattle.std.proofs.Common.{◌≡◌, ℕ, ◌+◌, ◌-◌, ◌*◌, ◌^◌, ◌<◌, ◌≤◌, ◌⊎◌, inl, inr, List, [], ◌∷◌, length, take, drop, get_or, Bool, true, false, cond, Some, None, position, refl, sym, ap, ◌∙◌, arith}
-use Rattle.std.specs.Prelude.{◌==◌, nat_lt, if◌then◌else◌, Option, option_map}
+use Rattle.std.specs.Prelude.{◌==◌, nat_lt, if◌then◌else◌}
 use Rattle.std.specs.Char.{digit_value, is_ascii_digit}
 use Rattle.std.specs.Int.{IsInRange}
 use Rattle.std.specs.Str.Parse.{digits_value}
@@ -12,7 +12,7 @@ use Rattle.std.proofs.lemmas.List.Splits.{slice_split_none, slice_split_first}
 use Rattle.std.proofs.lemmas.List.Quantifiers.{position-Some}
 use Rattle.std.proofs.lemmas.List.Sums.{fails_before_first, position_or_len_is}
 use Rattle.std.proofs.lemmas.Str.{digit_value_digit}
-use Rattle.waff_parse.specs.Fields.{Field, three_of, two_of}
+use Rattle.waff_parse.specs.Fields.{two_of}
 use Rattle.waff_parse.specs.Texts.{parts, small}
 
 -- the first place of a byte
@@ -88,11 +88,3 @@ pub parts-not-two : (c : ℕ) (text first others second more : List ℕ) → par
 parts-not-two c text first others second more one two =
     let some = parts-cons c more in
     rw (one, two, some.2) refl
-
--- one part more than two is three
-pub one-more : (first : Field) (rest : List Field) (two : Option (Field × Field)) → two ≡ two_of rest
-    → three_of (first ∷ rest) ≡ option_map (λ p. (first, p.0, p.1)) two
-one-more first [] two is = rw is refl
-one-more first (a ∷ []) two is = rw is refl
-one-more first (a ∷ b ∷ []) two is = rw is refl
-one-more first (a ∷ b ∷ c ∷ more) two is = rw is refl

@@ -1,7 +1,7 @@
 -- The messages that follow others, one message after another.
-use Rattle.std.proofs.Common.{◌≡◌, ◌≢◌, ℕ, zero, suc, ◌-◌, ◌<◌, ◌≤◌, inl, inr, List, length, get_or, set, replicate, Some, None, arith, refl, sym, ◌∙◌, ap}
+use Rattle.std.proofs.Common.{◌≡◌, ◌≢◌, ℕ, zero, suc, ◌-◌, ◌<◌, ◌≤◌, inl, inr, List, length, get_or, set, Some, None, arith, refl, sym, ◌∙◌, ap}
 use Rattle.std.proofs.lemmas.Bool.{cases_eq}
-use Rattle.std.proofs.lemmas.List.{get_or-set_same, get_or-set_other, get_or-replicate}
+use Rattle.std.proofs.lemmas.List.{get_or-set_same, get_or-set_other}
 use Rattle.std.proofs.lemmas.Option.{none-some, same_Some}
 use Rattle.waff_plan.specs.Work.{Work}
 use Rattle.waff_plan.specs.Obeys.{FollowsEarlier, FollowsOnce}
@@ -19,15 +19,6 @@ followed_none n none = ap some_number none
 pub some_number_is : (n i : ℕ) → some_number n ≡ Some i → n ≡ i
 some_number_is zero i is = absurd (none-some i is)
 some_number_is (suc n) i is = same_Some (suc n) i is
-
--- at first none is known to follow another
-pub followers_none : (work : Work) (n : ℕ) → work.count ≤ n → AreFollowers work 0 (replicate n 0)
-followers_none work n room i number =
-    let none : get_or {A = ℕ} (replicate n 0) (i - 1) 0 ≡ 0 = get_or-replicate n (i - 1) 0 0 (omega (arith, number.from, number.to, room)) in
-    record {
-      follows = λ some. absurd (some none);
-      all = λ m among follow. absurd (omega (arith, among.from, among.to));
-    }
 
 module _ (work : Work) (earlier : FollowsEarlier work) (once : FollowsOnce work) (followers : List ℕ) (m : ℕ) (from : 1 ≤ m) (are : AreFollowers work (m - 1) followers) where
   -- one more message, which follows none

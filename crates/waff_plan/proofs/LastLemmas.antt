@@ -20,20 +20,6 @@ last_of_more clients client (suc n) from =
     let back : n ≡ suc n - 1 = omega arith in
     ap (λ k. cond (bytes_eq (client_of clients (suc n)) client) (suc n) (last_of clients client k)) back
 
--- none is last of a client at first
-pub last_none : {S : Type 0} (clients : List (List ℕ)) (last : hash.HashMap (Bor (List ℕ)) ℕ S)
-    → ((name : List ℕ) → hash.get_by (λ k. bytes_eq name k.now) last ≡ None) → AreLast clients 0 last
-last_none clients last none client some = none client
-
--- one more message, which is of no client
-pub last_same : {S : Type 0} (clients : List (List ℕ)) (n : ℕ) (last : hash.HashMap (Bor (List ℕ)) ℕ S) → 1 ≤ n → client_of clients n ≡ no_client
-    → AreLast clients (n - 1) last → AreLast clients n last
-last_same clients n last from none are client some =
-    let other : bytes_eq (client_of clients n) client ≡ false
-    = false_from_ne_true (bytes_eq (client_of clients n) client) (λ is. some (sym ((bytes_eq-Decides (client_of clients n) client).0 is) ∙ none)) in
-    are client some
-    ∙ ap some_number (sym (last_of_more clients client n from ∙ cond-false (bytes_eq (client_of clients n) client) n (last_of clients client (n - 1)) other))
-
 -- one more message, which is of this client
 pub last_noted : {S : Type 0} (clients : List (List ℕ)) (n : ℕ) (name : List ℕ) (last new : hash.HashMap (Bor (List ℕ)) ℕ S) → 1 ≤ n
     → client_of clients n ≡ name

@@ -74,12 +74,6 @@ walked_more before work start forward m walked None h released = (released, h.1)
 walked_more before work start forward m walked (Some i) h is_link =
     (forward.first i m is_link.0.one, (is_link.0, is_link.1, h.1))
 
--- a link leads to a message with an earlier place
-pub link_is_earlier : (before : Relation) (work : Work) (start : ℕ → ℕ) → (forward : IsForward before work) → (m : ℕ) (link : Option ℕ) → IsNumber work m
-    → IsLink before work start m link → MatchOption link (0 < forward.place m) (λ i. forward.place i < forward.place m)
-link_is_earlier before work start forward m None number is_link = forward.from m number
-link_is_earlier before work start forward m (Some i) number is_link = forward.earlier i m is_link.0.one
-
 -- the messages of a chain are messages
 links_are_numbers : (before : Relation) (work : Work) (m : ℕ) (rest : List ℕ) → LinksOn before work m rest → All (IsNumber work) (m ∷ rest)
 links_are_numbers before work m [] h = All-cons (IsNumber work) m [] h (All-nil (IsNumber work))

@@ -141,18 +141,9 @@ kept-none n list more long few = sym (take_at list more (n + 1) (omega arith))
 pub kept-of-none : (most : ℕ) → ◌≡◌ {A = Result (List Op) TraceFault} (Ok []) (Ok (take (most + 1) []))
 kept-of-none most = ap Ok (sym (take_all (most + 1) [] (omega arith)))
 
--- nothing more
-pub kept-all : (n : ℕ) (list : List Op) → length list ≤ n + 1 → list ≡ take (n + 1) (list ++ [])
-kept-all n list few = sym (ap (take (n + 1)) (append-nil list) ∙ take_all (n + 1) list few)
-
 -- the operations on cells from one on
 abbrev pub ops_from : Deed → ℕ → ℕ → ℕ → List Op
 ops_from what space index n = map (λ index. op_on what (cell_at space index)) (range_with_len index n)
-
-pub ops_from-end : (what : Deed) (space index last : ℕ) → last < index → ops_from what space index (last + 1 - index) ≡ []
-ops_from-end what space index last past =
-    let none : last + 1 - index ≡ 0 = omega arith in
-    rw none refl
 
 pub ops_from-more : (what : Deed) (space index last : ℕ) (list : List Op) → index ≤ last
     → (list ++ op_on what (cell_at space index) ∷ []) ++ ops_from what space (index + 1) (last + 1 - (index + 1)) ≡ list ++ ops_from what space index (last + 1 - index)

@@ -205,11 +205,6 @@ unfolding behind
 behind-push place [] message = refl
 behind-push place (first ∷ more) message = behind-push (next_place place first) more message
 
-pub behind-at : (place : Place) (messages : List Message) → (behind place messages).at ≡ place.at + length messages
-unfolding behind
-behind-at place [] = omega arith
-behind-at place (first ∷ more) = omega (arith, behind-at (next_place place first) more)
-
 pub behind-ops : (place : Place) (messages : List Message) → (behind place messages).ops ≡ place.ops + ops_in messages
 unfolding behind
 behind-ops place [] = omega arith
