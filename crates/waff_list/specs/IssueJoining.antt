@@ -1,23 +1,7 @@
 -- From one tick to the next, in the order of issue: messages finish, those that need them are told, and
 -- messages that are issued join.
-use Rattle.std.specs.Prelude.{
-  ◌≡◌,
-  ℕ,
-  ◌+◌,
-  ◌≤◌,
-  ◌<◌,
-  ◌⊎◌,
-  List,
-  ◌++◌,
-  length,
-  map,
-  All,
-  AllPairs,
-  Contains,
-  count_by,
-  nat_lt,
-  sum_by,
-}
+use Rattle.std.specs.Prelude.{◌≡◌, ℕ, ◌+◌, ◌≤◌, ◌<◌, List, ◌++◌, length, map, All, AllPairs}
+use Rattle.std.specs.Prelude.{Contains, count_by, nat_lt, sum_by}
 use Rattle.waff_assign.specs.Order.{affinity_of}
 use Rattle.waff_plan.specs.Issues.{IsIssuedBefore}
 use Rattle.waff_plan.specs.Timing.{start_of}

@@ -1,7 +1,7 @@
 -- What the planner in the order of issue keeps, in its own values.
-use Rattle.std.specs.Prelude.{◌≡◌, ℕ, ◌+◌, ◌≤◌, List, ◌++◌, map}
+use Rattle.std.specs.Prelude.{◌≡◌, ℕ, ◌≤◌, List, ◌++◌, map}
 use Rattle.waff_plan.specs.Timing.{start_of, work_of}
-use Rattle.waff_plan.specs.Work.{Work, IsNumber, issue_of}
+use Rattle.waff_plan.specs.Work.{IsNumber, issue_of}
 use Rattle.waff_list.specs.Issuing.{AreRanked, IsSomeServing, IsStartingBy, issue_kept}
 use Rattle.waff_list.specs.Load.{Pending, priority_of}
 use Rattle.waff_list.specs.Planning.{placed_in}

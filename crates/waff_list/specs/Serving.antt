@@ -1,9 +1,8 @@
 -- A list plan in the order of issue while it is made. The order of service is known as far as messages
 -- have been issued: a message joins it when it is issued, and its needs are told among those that
 -- joined before it.
-use Rattle.std.specs.Prelude.{◌≡◌, ℕ, ◌-◌, ◌<◌, ◌≤◌, ◌⊎◌, List, [], ◌∷◌, ◌++◌, length, map, All, AllPairs}
+use Rattle.std.specs.Prelude.{◌≡◌, ℕ, ◌-◌, ◌<◌, ◌≤◌, ◌⊎◌, List, [], ◌++◌, length, map, All, AllPairs}
 use Rattle.std.specs.Prelude.{Contains, slice_index}
-use Rattle.std.specs.List.Sorted.{IsPermutation}
 use Rattle.waff_model.specs.Numbers.{IsAmongFirst}
 use Rattle.waff_model.specs.Tree.{Node}
 use Rattle.waff_model.specs.declared.limits.TheConstants.{MAX_TICK}
@@ -119,9 +118,3 @@ pub record IsMadeByIssue (service : Service) (placed : Placed) : Type 0 where
   pub seated : AreSeated service.work (start_of placed.starts) (worker_of placed.seats)
   pub known : All (IsAmongFirst service.workers) placed.seats
   pub listed : IsInOrder service.work (start_of placed.starts) placed.order
-
--- r, the least of a heap of issues, has left it
-pub record LeavesIssue (old : List (ℕ × ℕ)) (r : ℕ × ℕ) (new : List (ℕ × ℕ)) : Type 0 where
-  pub rest : IsPermutation old (r ∷ new)
-  pub least : (s : ℕ × ℕ) → Contains new s
-      → (r.0 < s.0) ⊎ ((r.0 ≡ s.0) × (r.1 ≤ s.1))

@@ -23,6 +23,12 @@ pub record LeavesLeast (old : List ℕ) (m : ℕ) (new : List ℕ) : Type 0 wher
   pub rest : IsPermutation old (m ∷ new)
   pub least : (x : ℕ) → Contains new x → m ≤ x
 
+-- r, the first of those that are due, has left them
+pub record LeavesDue (old : List (ℕ × ℕ)) (r : ℕ × ℕ) (new : List (ℕ × ℕ)) : Type 0 where
+  pub rest : IsPermutation old (r ∷ new)
+  pub least : (s : ℕ × ℕ) → Contains new s
+      → (r.0 < s.0) ⊎ ((r.0 ≡ s.0) × (r.1 ≤ s.1))
+
 -- m, which is taken before all others, has left those that are ready
 pub record LeavesFirst (old : Ready) (m : ℕ) (new : Ready) : Type 0 where
   pub rest : IsPermutation old.messages (m ∷ new.messages)

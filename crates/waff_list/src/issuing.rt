@@ -2,8 +2,9 @@
 //! that are issued join the order of service, and ready messages start on the workers that are free,
 //! those first that are taken first.
 
-ghost use Rattle.std.specs.Prelude.{◌≡◌, ◌+◌, ◌-◌, ◌^◌, ◌<◌, ◌≤◌, ◌↔◌, ◌⊎◌, ℕ, List, [], ◌∷◌, ◌++◌};
+ghost use Rattle.std.specs.Prelude.{◌≡◌, ◌≢◌, ◌+◌, ◌-◌, ◌^◌, ◌<◌, ◌≤◌, ◌↔◌, ◌⊎◌, ℕ, List, [], ◌∷◌, ◌++◌};
 ghost use Rattle.std.specs.Prelude.{All, Contains, IfOk, IsTrue, OnOk, length, map, slice_set};
+ghost use Rattle.std.specs.List.Sorted.{IsPermutation};
 ghost use Rattle.waff_model.specs.Numbers.{IsAmongFirst};
 ghost use Rattle.waff_model.specs.Preorder.{AreNested};
 ghost use Rattle.waff_plan.specs.Timing.{start_of};
@@ -19,7 +20,7 @@ ghost use Rattle.waff_list.specs.Waiting.{Grows, dependents_of, left_of, times};
 
 use crate::client_task::ClientTask;
 use crate::dependents::Dependents;
-use crate::issues::Issues;
+use crate::due::Due;
 use crate::progress::Progress;
 use crate::serving::Serving;
 use crate::takers::Takers;
@@ -54,7 +55,7 @@ pub(crate) fn make_by_issue(alloc: Global, task: &ClientTask) -> Result<Progress
 }
 
 /// The messages that follow none are issued at their releases.
-fn begin(task: &ClientTask, issues: &mut Issues) -> Result<(), AllocError>
+fn begin(task: &ClientTask, issues: &mut Due) -> Result<(), AllocError>
     requires { issues.old ≡ [] }
     ensures { OnOk result (AreFirstIssues (service_of task.now).work
         ((service_of task.now).work.count + 1) issues.new) }
@@ -150,8 +151,25 @@ fn join(
         &mut serving.dependents,
     )?;
     serving.left[m as usize - 1] = left;
+    push_ready(task, m, issue, left, &mut serving.ready)?;
+    Ok(())
+}
+
+/// Message `m`, issued at this tick, is ready where none of its needs is left.
+fn push_ready(
+    task: &ClientTask,
+    m: u32,
+    issue: u64,
+    left: u32,
+    ready: &mut Takers,
+) -> Result<(), AllocError>
+    requires number { IsNumber (service_of task.now).work m }
+    ensures ready { OnOk result (left ≡ 0 → IsPermutation
+        (((service_of task.now).priority m, (issue, m)) ∷ ready.old) ready.new) }
+    ensures waits { OnOk result (left ≢ 0 → ready.new ≡ ready.old) }
+{
     if left == 0 {
-        serving.ready.push(task.priority(m), issue, m)?;
+        ready.push(task.priority(m), issue, m)?;
     }
     Ok(())
 }
@@ -286,7 +304,7 @@ fn start(
 }
 
 /// Message `m` finishes at this tick: the one that follows it has its issue.
-fn issue_next(task: &ClientTask, m: u32, finish: u64, issues: &mut Issues) -> Result<(), AllocError>
+fn issue_next(task: &ClientTask, m: u32, finish: u64, issues: &mut Due) -> Result<(), AllocError>
     requires tick { finish + 2 ^ 32 < 2 ^ 64 }
     requires number { IsNumber (service_of task.now).work m }
     ensures { OnOk result (IsIssuedNext (service_of task.now).work
@@ -318,7 +336,7 @@ fn wake(
         → IsKeptByIssue task.now progress.old serving.old now now
         → IsJoiningBy task.now progress.new serving.new serving.new.issues next) }
 {
-    while let Some(m) = progress.finishes.pop_by(next) {
+    while let Some((_, m)) = progress.finishes.pop_by(next) {
         progress.idle.push(progress.seats[m as usize - 1])?;
         tell_all(
             task,
@@ -380,8 +398,6 @@ fn tell(
 {
     let at = m as usize - 1;
     left[at] -= 1;
-    if left[at] == 0 {
-        ready.push(task.priority(m), issued[at], m)?;
-    }
+    push_ready(task, m, issued[at], left[at], ready)?;
     Ok(())
 }

@@ -7,14 +7,14 @@
 //! - `list`: the plans and their printed chain; `rule`: the two rules; `worker_plan`: plans for k
 //!   workers.
 //! - `planner`, over `task` (the messages with their needs, and the `dependents` of each),
-//!   `progress` (the plan while it is made), `finishes` (when the messages that run finish), `idle`
-//!   (the workers that are free), `waiting` (how many needs of each message have not finished, and
-//!   the `candidates`, those that are ready, by their priorities), `chosen` (those that start at a
-//!   tick), `releases` and `ticks` (when something happens), `work` (costs and releases).
+//!   `progress` (the plan while it is made), `due` (when the messages that run finish), `idle` (the
+//!   workers that are free), `waiting` (how many needs of each message have not finished, and the
+//!   `candidates`, those that are ready, by their priorities), `chosen` (those that start at a tick),
+//!   `releases` and `ticks` (when something happens), `work` (costs and releases).
 //! - `list_by_issue`: the plans of clients' messages, in the order in which they issue them.
 //! - `issuing`, over `client_task` (the messages with what each follows), `serving` (those that have
-//!   joined the order of service, and their needs), `issues` (those that are still to join, by the ticks
-//!   at which they are issued) and `takers` (those that are ready, by their priorities and issues).
+//!   joined the order of service, their needs, and those that are still to join, by the ticks at which
+//!   they are `due`) and `takers` (those that are ready, by their priorities and issues).
 //! - `tails`, `tails_by_client`: the tail of each message, which is its priority under the rule of the
 //!   longest tail.
 //! - `laws`: the bound, and that needs make the same plans as all pairs; `tail_laws`: what tails
@@ -26,10 +26,9 @@ mod candidates;
 mod chosen;
 mod client_task;
 mod dependents;
-mod finishes;
+mod due;
 mod idle;
 pub mod issue_laws;
-mod issues;
 mod issuing;
 pub mod laws;
 mod list;

@@ -16,7 +16,7 @@ ghost use Rattle.waff_list.specs.Planning.{AreCounted, Wakes, load_of, pending_i
 ghost use Rattle.waff_list.specs.Planning.{task_work};
 
 use crate::chosen::Chosen;
-use crate::finishes::Finishes;
+use crate::due::Due;
 use crate::idle::Idle;
 use crate::progress::Progress;
 use crate::releases::Releases;
@@ -155,7 +155,7 @@ fn wake(
     now: u64,
     next: u64,
     seats: &[u32],
-    finishes: &mut Finishes,
+    finishes: &mut Due,
     idle: &mut Idle,
     waiting: &mut Waiting,
 ) -> Result<(), AllocError>
@@ -170,7 +170,7 @@ fn wake(
     ensures manned { OnOk result ((workers : ℕ) → AreManned workers seats.now finishes.old idle.old
         → AreManned workers seats.now finishes.new idle.new) }
 {
-    while let Some(m) = finishes.pop_by(next) {
+    while let Some((_, m)) = finishes.pop_by(next) {
         idle.push(seats[m as usize - 1])?;
         tell_all(task, m, now, waiting)?;
     }

@@ -5,7 +5,7 @@ ghost use Rattle.std.specs.Prelude.{IfOk, OnOk};
 ghost use Rattle.waff_model.specs.Numbers.{IsAmongFirst};
 ghost use Rattle.waff_list.specs.Waiting.{AreEach};
 
-use crate::finishes::Finishes;
+use crate::due::Due;
 use crate::idle::Idle;
 use crate::work::NEVER;
 use std::alloc::{AllocError, Global};
@@ -18,7 +18,7 @@ pub(crate) struct Progress {
     /// The worker of each message, 0 where it is not placed yet.
     pub seats: Vec<u32>,
     /// The messages that run, the first to finish first.
-    pub finishes: Finishes,
+    pub finishes: Due,
     /// The workers that are free, the least first.
     pub idle: Idle,
     /// The messages that are placed, in the order of their starts.
@@ -41,7 +41,7 @@ impl Progress {
         Ok(Progress {
             starts: vec![in alloc; NEVER; count]?,
             seats: vec![in alloc; 0; count]?,
-            finishes: Finishes::new(alloc),
+            finishes: Due::new(alloc),
             idle: Idle::all(alloc, workers)?,
             order: Vec::with_capacity(alloc, count)?,
         })

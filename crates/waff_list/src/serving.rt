@@ -6,7 +6,7 @@ ghost use Rattle.waff_model.specs.declared.preorder.Span.{Span};
 ghost use Rattle.waff_order.specs.Joined.{HaveJoined};
 
 use crate::dependents::Dependents;
-use crate::issues::Issues;
+use crate::due::Due;
 use crate::takers::Takers;
 use std::alloc::{AllocError, Global};
 use waff_model::Tree;
@@ -22,7 +22,7 @@ pub(crate) struct Serving {
     /// The messages that need each message, by number.
     pub dependents: Dependents,
     /// The messages that are still to join, as far as it is known when they are issued.
-    pub issues: Issues,
+    pub issues: Due,
     /// The tick at which each message that has joined was issued, by number.
     pub issued: Vec<u64>,
     /// How many needs of each message have not finished, by number.
@@ -50,7 +50,7 @@ impl Serving {
             joining: Joining::none(alloc, tree, count)?,
             served: Vec::with_capacity(alloc, count)?,
             dependents: Dependents::none(alloc, messages)?,
-            issues: Issues::new(alloc),
+            issues: Due::new(alloc),
             issued: vec![in alloc; 0; count]?,
             left: vec![in alloc; 0; count]?,
             ready: Takers::none(alloc),

@@ -5,12 +5,12 @@ ghost use Rattle.waff_plan.specs.Work.{Work};
 ghost use Rattle.waff_list.specs.Progress.{IsSmall, IsNextTick, IsLastTick};
 ghost use Rattle.waff_list.specs.Waiting.{AreReleases, ArePassed};
 
-use crate::finishes::Finishes;
+use crate::due::Due;
 use crate::releases::Releases;
 use crate::work::NEVER;
 
 /// The least tick after `now` at which a message finishes or is released.
-pub(crate) fn next_tick(releases: &Releases, finishes: &Finishes, now: u64) -> Option<u64>
+pub(crate) fn next_tick(releases: &Releases, finishes: &Due, now: u64) -> Option<u64>
     requires { now < NEVER }
     ensures { (work : Work) → IsSmall work → AreReleases work releases.now.sorted.items
         → ArePassed releases.now.sorted.items releases.now.passed now

@@ -3,11 +3,15 @@ use Rattle.std.proofs.Common.{◌≡◌, ◌≢◌, ℕ, ◌+◌, inl, inr, Opti
 use Rattle.std.proofs.lemmas.Bool.{cases_eq, cond_both, ltb-true, ltb-false}
 use Rattle.std.proofs.lemmas.Option.{none-some, same_Some}
 use Rattle.waff_assign.specs.Order.{Relation}
-use Rattle.waff_plan.specs.Work.{Work, finish_of, gap_after, gap_of, holds_until}
+use Rattle.waff_plan.specs.Waited.{IsWaitedFor}
+use Rattle.waff_plan.specs.Waits.{IsWait, wait_of}
+use Rattle.waff_plan.specs.Work.{Work, finish_of, gap_after, gap_of, holds_until, issue_of}
 use Rattle.waff_plan.specs.Obeys.{IsLinked}
 use Rattle.waff_plan.specs.Latest.{IsFound, is_later, later_of}
 use Rattle.waff_plan.specs.Links.{IsLink, followed_of, link_of}
 use Rattle.waff_plan.specs.declared.latest.Latest.{Latest}
+use Rattle.waff_plan.specs.declared.waits.Since.{Since}
+use Rattle.waff_plan.specs.declared.waits.Since.TheVariants.{Release, Issue}
 use Rattle.waff_plan.proofs.Holding.{gap_other, gap_same}
 use Rattle.waff_plan.proofs.Latests.{found_again, found_same, is_later_false, is_later_true}
 
@@ -115,7 +119,7 @@ module _ (before : Relation) (work : Work) (start : ℕ → ℕ) (m : ℕ) where
         })
 
   -- where m follows none it is the latest message before it
-  pub found_alone : (latest : Option Latest) → work.follows m ≡ None → IsFound (λ i. before i m) (finish_of work start) latest
+  found_alone : (latest : Option Latest) → work.follows m ≡ None → IsFound (λ i. before i m) (finish_of work start) latest
       → IsFound (λ i. IsLinked before work i m) holds latest
   found_alone latest alone found =
       found_same (λ i. before i m) (λ i. IsLinked before work i m) holds latest (λ i pair. inl pair)
@@ -126,15 +130,26 @@ module _ (before : Relation) (work : Work) (start : ℕ → ℕ) (m : ℕ) where
   later_none None = refl
   later_none (Some l) = refl
 
-  pub found_linked : (o : Option ℕ) → work.follows m ≡ o → (latest : Option Latest) → IsFound (λ i. before i m) (finish_of work start) latest
+  found_linked : (o : Option ℕ) → work.follows m ≡ o → (latest : Option Latest) → IsFound (λ i. before i m) (finish_of work start) latest
       → IsFound (λ i. IsLinked before work i m) holds (later_of latest (followed_of work start m o))
   found_linked None alone latest found = subst (λ x. IsFound (λ i. IsLinked before work i m) holds x) (sym (later_none latest)) (found_alone latest alone found)
   found_linked (Some f) follow latest found = found_follow f follow latest found
 
   -- and the link of m, where that is after its release
-  pub link_of_found : (latest : Option Latest) → IsFound (λ i. IsLinked before work i m) holds latest → IsLink before work start m (link_of latest (work.release m))
+  link_of_found : (latest : Option Latest) → IsFound (λ i. IsLinked before work i m) holds latest → IsLink before work start m (link_of latest (work.release m))
   link_of_found None none = λ i linked. absurd (none i linked)
   link_of_found (Some l) found =
       cond_both (ltb (work.release m) l.finish) (Some l.number) None (λ link. IsLink before work start m link)
       (λ waits. (found.number, omega (arith, ltb-true (work.release m) l.finish waits, found.finish_is)))
       (λ released i linked. omega (arith, ltb-false (work.release m) l.finish released, found.finish_is, found.number.latest i linked))
+
+  -- what m waits for, where the latest message before it is found
+  pub is_wait : (since : Since) (latest : Option Latest) → IsFound (λ i. before i m) (finish_of work start) latest
+      → IsWait since before work start m (wait_of since work start m latest)
+  is_wait Release latest found =
+      link_of_found (later_of latest (followed_of work start m (work.follows m))) (found_linked (work.follows m) refl latest found)
+  is_wait Issue None none = λ i pair. absurd (none i pair)
+  is_wait Issue (Some l) found =
+      cond_both (ltb (issue_of work start m) l.finish) (Some l.number) None (λ link. IsWaitedFor before work start m link)
+      (λ waits. (found.number, omega (arith, ltb-true (issue_of work start m) l.finish waits, found.finish_is)))
+      (λ issued i pair. omega (arith, ltb-false (issue_of work start m) l.finish issued, found.finish_is, found.number.latest i pair))

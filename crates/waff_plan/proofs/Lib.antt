@@ -26,7 +26,6 @@ mod OrderKept
 pub mod Linkings
 mod Followings
 mod StartedLinks
-mod WaitedFor
 pub mod Ratios
 pub mod ApartLaws
 pub mod Uniqueness

@@ -1,57 +1,34 @@
 -- The links of a plan, one message after another, and the chain that they make from its end.
-use Rattle.std.proofs.Common.{◌≡◌, ℕ, ◌+◌, ◌-◌, ◌<◌, ◌≤◌, List, [], ◌∷◌, ◌++◌, length, get_or, ltb, Option, Some, None, MatchOption, All, arith, inl, inr, subst, sym, ◌∙◌}
-use Rattle.std.proofs.lemmas.Bool.{cases_eq, cond_both, ltb-true, ltb-false}
+use Rattle.std.proofs.Common.{◌≡◌, ℕ, ◌+◌, ◌-◌, ◌<◌, ◌≤◌, List, [], ◌∷◌, ◌++◌, length, get_or, Option, Some, None, MatchOption, All, arith, inl, inr, subst, sym, ◌∙◌}
+use Rattle.std.proofs.lemmas.Bool.{cases_eq}
 use Rattle.std.proofs.lemmas.List.{get_or_append_left, get_or_default, get_or_push}
 use Rattle.std.proofs.lemmas.List.Elements.{All-nil, All-cons}
-use Rattle.waff_model.specs.Tree.{Node, Excludes}
+use Rattle.waff_model.specs.Tree.{Node}
 use Rattle.waff_assign.specs.Order.{Relation, affinity_of, IsOrdered}
-use Rattle.waff_plan.specs.Work.{Work, IsNumber, IsAmongFirst, finish_of, holds_until}
-use Rattle.waff_plan.specs.Obeys.{IsLinked, IsForward, FollowsNone}
+use Rattle.waff_plan.specs.Work.{Work, IsNumber}
+use Rattle.waff_plan.specs.Obeys.{IsForward}
 use Rattle.waff_plan.specs.Chain.{LinksOn, IsChain, LeadsToEnd, IsPrinted}
-use Rattle.waff_plan.proofs.Tables.{IsLatestOfFirst}
-use Rattle.waff_plan.specs.Links.{IsLink, AreLinks, link_of}
+use Rattle.waff_plan.specs.Latest.{IsFound}
+use Rattle.waff_plan.specs.Links.{IsLink, AreLinks}
 use Rattle.waff_plan.specs.declared.latest.Latest.{Latest}
 use Rattle.waff_plan.proofs.Chains.{first_is_number}
-use Rattle.waff_plan.proofs.NoClients.{linked_before, holds_is_finish}
+use Rattle.waff_plan.proofs.Latests.{found_same}
+use Rattle.waff_plan.proofs.Tables.{IsLatestOfFirst}
 
--- the latest message that excludes m is its link, where it finishes after the release of m
-pub is_link : (tree : List Node) (assigned : List ℕ) (work : Work) (start : ℕ → ℕ) (m : ℕ) (latest : Option Latest) → FollowsNone work
-    → 1 ≤ m → m ≤ length assigned
-    → IsLatestOfFirst tree assigned (finish_of work start) (m - 1) (affinity_of assigned m) latest
-    → IsLink (IsOrdered tree assigned) work start m (link_of latest (work.release m))
-is_link tree assigned work start m latest follows from to found = link_from latest found
-  where
-    among : (i : ℕ) → IsLinked (IsOrdered tree assigned) work i m → IsAmongFirst (m - 1) i × Excludes tree (affinity_of assigned i) (affinity_of assigned m)
-    among i linked =
-        let h = linked_before work follows (IsOrdered tree assigned) i m linked in
-        (record { from = h.from; to = omega (arith, h.earlier) }, h.excludes)
-
-    hold : (i : ℕ) → holds_until work start m i ≡ finish_of work start i
-    hold i = holds_is_finish work follows start i m
-
-    link_from : (latest : Option Latest) → IsLatestOfFirst tree assigned (finish_of work start) (m - 1) (affinity_of assigned m) latest
-        → IsLink (IsOrdered tree assigned) work start m (link_of latest (work.release m))
-    link_from None none = λ i linked. absurd (none i (among i linked))
-    link_from (Some latest) found =
-        let release = work.release m in
-        let one = found.number.one in
-        cond_both (ltb release latest.finish) (Some latest.number) None (λ link. IsLink (IsOrdered tree assigned) work start m link)
-        (λ waits. (
-          record {
-            one = inl (record { from = one.0.from; earlier = omega (arith, one.0.from, one.0.to); to = to; excludes = one.1 });
-            latest = λ i linked. omega (arith, hold i, hold latest.number, found.number.latest i (among i linked));
-            lowest = λ i linked same. found.number.lowest i (among i linked) (omega (arith, hold i, hold latest.number, same));
-          },
-          omega (arith, ltb-true release latest.finish waits, found.finish_is, hold latest.number),
-        ))
-        (λ released i linked. omega (arith, ltb-false release latest.finish released, found.finish_is, hold i, found.number.latest i (among i linked)))
+-- the latest of the messages before m by number that exclude it is the latest that is ordered before it
+pub found_ordered : (tree : List Node) (assigned : List ℕ) (finish : ℕ → ℕ) (m : ℕ) (latest : Option Latest) → 1 ≤ m → m ≤ length assigned
+    → IsLatestOfFirst tree assigned finish (m - 1) (affinity_of assigned m) latest → IsFound (λ i. IsOrdered tree assigned i m) finish latest
+found_ordered tree assigned finish m latest from to found =
+    found_same _ (λ i. IsOrdered tree assigned i m) finish latest
+    (λ i h. record { from = h.0.from; earlier = omega (arith, h.0.to, from); to = to; excludes = h.1 })
+    (λ i h. (record { from = h.from; to = omega (arith, h.earlier) }, h.excludes)) found
 
 -- one more link
-pub links_more : (before : Relation) (work : Work) (start : ℕ → ℕ) (m : ℕ) (links : List (Option ℕ)) (link : Option ℕ) → 1 ≤ m
-    → length links ≡ m - 1 → AreLinks before work start (m - 1) links → IsLink before work start m link
-    → AreLinks before work start (m + 1 - 1) (links ++ link ∷ [])
-links_more before work start m links link from count h is_link i i_from i_to = elim (cases_eq i m) [
-  | inl last ↦ rw (get_or_push links link None (i - 1) (omega arith), last) is_link
+pub links_more : (Is : ℕ → Option ℕ → Type 0) (m : ℕ) (links : List (Option ℕ)) (link : Option ℕ) → 1 ≤ m → length links ≡ m - 1
+    → ((i : ℕ) → 1 ≤ i → i ≤ m - 1 → Is i (get_or links (i - 1) None)) → Is m link
+    → (i : ℕ) → 1 ≤ i → i ≤ m + 1 - 1 → Is i (get_or (links ++ link ∷ []) (i - 1) None)
+links_more Is m links link from count h is i i_from i_to = elim (cases_eq i m) [
+  | inl last ↦ rw (get_or_push links link None (i - 1) (omega arith), last) is
   | inr other ↦ rw (get_or_append_left links (link ∷ []) None (i - 1) (omega arith)) (h i i_from (omega arith))
 ]
 

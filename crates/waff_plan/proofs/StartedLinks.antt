@@ -3,10 +3,9 @@ use Rattle.std.proofs.Common.{◌≡◌, ℕ, ◌+◌, ◌-◌, ◌<◌, ◌≤�
 use Rattle.std.proofs.lemmas.Bool.{cases_lt, cases_eq}
 use Rattle.std.proofs.lemmas.List.{get_or-map, get_or-set_other, get_or-set_same, get_or-take, get_or_default, length-map, length-take}
 use Rattle.waff_model.specs.Tree.{Node, Excludes}
-use Rattle.waff_assign.specs.Order.{Relation, affinity_of}
+use Rattle.waff_assign.specs.Order.{affinity_of}
 use Rattle.waff_plan.specs.ByStart.{AreByStart, started_at, started_of}
 use Rattle.waff_plan.specs.Issues.{IsServedBefore}
-use Rattle.waff_plan.specs.Links.{AreLinks, IsLink}
 use Rattle.waff_plan.specs.Obeys.{EachRuns, Obeys}
 use Rattle.waff_plan.specs.Serving.{IsStartedBefore}
 use Rattle.waff_plan.specs.Work.{Work, IsAmongFirst, IsNumber}
@@ -15,9 +14,8 @@ use Rattle.waff_plan.proofs.ApartLaws.{noted_earlier, noted_number, noted_other,
 use Rattle.waff_plan.proofs.StartOrder.{apart_finish, served_apart}
 
 -- the links of the messages at the first places
-abbrev pub AreFirstLinks : Relation → Work → (ℕ → ℕ) → List Started → List (Option ℕ) → ℕ → Type 0
-AreFirstLinks before work start started links p =
-    (q : ℕ) → q < p → IsLink before work start (started_at started q).number (get_or links ((started_at started q).number - 1) None)
+abbrev pub AreFirstLinks : (ℕ → Option ℕ → Type 0) → List Started → List (Option ℕ) → ℕ → Type 0
+AreFirstLinks Is started links p = (q : ℕ) → q < p → Is (started_at started q).number (get_or links ((started_at started q).number - 1) None)
 
 module _ (work : Work) (start : ℕ → ℕ) (started : List Started) (are : AreByStart work start started) where
   abbrev nobody : Started
@@ -74,16 +72,16 @@ module _ (work : Work) (start : ℕ → ℕ) (started : List Started) (are : Are
         ]
 
   -- one more link
-  pub more_links : (before : Relation) (links : List (Option ℕ)) (p : ℕ) (link : Option ℕ) → p < length started → length links ≡ work.count
-      → AreFirstLinks before work start started links p → IsLink before work start (started_at started p).number link
-      → AreFirstLinks before work start started (set links ((started_at started p).number - 1) link) (p + 1)
-  more_links before links p link within count are_links is q less = elim (cases_eq q p) [
+  pub more_links : (Is : ℕ → Option ℕ → Type 0) (links : List (Option ℕ)) (p : ℕ) (link : Option ℕ) → p < length started → length links ≡ work.count
+      → AreFirstLinks Is started links p → Is (started_at started p).number link
+      → AreFirstLinks Is started (set links ((started_at started p).number - 1) link) (p + 1)
+  more_links Is links p link within count are_links is q less = elim (cases_eq q p) [
     | inl same ↦
         let number = number_here work start started are p within in
         let read : get_or (set links ((started_at started p).number - 1) link) ((started_at started p).number - 1) None ≡ link
         = get_or-set_same links ((started_at started p).number - 1) link None (omega (arith, number.from, number.to, count)) in
-        subst (λ k. IsLink before work start (started_at started k).number (get_or (set links ((started_at started p).number - 1) link) ((started_at started k).number - 1) None))
-        (sym same) (subst (IsLink before work start (started_at started p).number) (sym read) is)
+        subst (λ k. Is (started_at started k).number (get_or (set links ((started_at started p).number - 1) link) ((started_at started k).number - 1) None))
+        (sym same) (subst (Is (started_at started p).number) (sym read) is)
     | inr there ↦
         let sooner : q < p = omega (arith, less, there) in
         let number = number_here work start started are p within in
@@ -91,11 +89,11 @@ module _ (work : Work) (start : ℕ → ℕ) (started : List Started) (are : Are
         let apart = are.once q p sooner within in
         let read = get_or-set_other links ((started_at started p).number - 1) ((started_at started q).number - 1) link None
         (λ one. apart (omega (arith, one, number.from, other_number.from))) in
-        subst (IsLink before work start (started_at started q).number) (sym read) (are_links q sooner)
+        subst (Is (started_at started q).number) (sym read) (are_links q sooner)
   ]
 
-  pub all_links : (before : Relation) (links : List (Option ℕ)) (p : ℕ) → length started ≤ p → AreFirstLinks before work start started links p
-      → AreLinks before work start work.count links
-  all_links before links p all are_links m from to =
+  pub all_links : (Is : ℕ → Option ℕ → Type 0) (links : List (Option ℕ)) (p : ℕ) → length started ≤ p → AreFirstLinks Is started links p
+      → (m : ℕ) → 1 ≤ m → m ≤ work.count → Is m (get_or links (m - 1) None)
+  all_links Is links p all are_links m from to =
       let place = place_of_number m (record { from = from; to = to }) in
-      subst (λ k. IsLink before work start k (get_or links (k - 1) None)) place.2 (are_links place.0 (omega (arith, place.1, all)))
+      subst (λ k. Is k (get_or links (k - 1) None)) place.2 (are_links place.0 (omega (arith, place.1, all)))

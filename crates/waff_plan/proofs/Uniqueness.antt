@@ -3,13 +3,18 @@ use Rattle.std.proofs.Common.{◌≡◌, ℕ, ◌+◌, ◌*◌, ◌≤◌, ◌�
 use Rattle.waff_assign.specs.Order.{Relation}
 use Rattle.waff_plan.specs.Work.{Work, IsNumber, finish_of, holds_until, length_of, total_of}
 use Rattle.waff_plan.specs.Bound.{right_side}
+use Rattle.waff_plan.specs.IssueLaws.{IsLawful}
 use Rattle.waff_plan.specs.Obeys.{IsLinked, IsForward}
 use Rattle.waff_plan.specs.Chain.{IsLatest, LeadsToEnd, IsPrinted, chain_cost, chain_release}
 use Rattle.waff_plan.specs.Totals.{totals_of}
 use Rattle.waff_plan.specs.declared.totals.Totals.{Totals}
 use Rattle.waff_plan.specs.Unique.{AreSame, LeastIsOne, PrintedIsOne}
+use Rattle.waff_plan.proofs.Chains.{chains_are_within_length, least_is_shortest, printed_is_as_long, printed_is_chain}
 use Rattle.waff_plan.proofs.Holding.{holds-same}
 use Rattle.waff_plan.proofs.Longest.{finish_of-le-length_of, length_of-le}
+use Rattle.waff_plan.proofs.Ratios.{bound_is_within_ratio, bound_is_within_twice}
+use Rattle.waff_plan.proofs.Shares.{none_is_shorter}
+use Rattle.waff_plan.proofs.Ticks.{total_is_within_workers}
 
 pub least_is_one : (before : Relation) (work : Work) → LeastIsOne before work
 least_is_one before work start other first second m number =
@@ -161,3 +166,18 @@ module _ (before : Relation) (work : Work) (start other : ℕ → ℕ) (forward 
 pub printed_is_one : (before : Relation) (work : Work) → IsForward before work → PrintedIsOne before work
 printed_is_one before work forward start other chain other_chain same printed printed_other =
     one_chain before work other forward chain other_chain (printed_of_same before work start other forward same chain printed) printed_other
+
+-- the laws of plans hold in each order that goes forward
+pub lawful : (before : Relation) (work : Work) → IsForward before work → IsLawful before work
+lawful before work forward = record {
+  chains = chains_are_within_length before work;
+  shortest = least_is_shortest before work;
+  is_chain = printed_is_chain before work forward;
+  as_long = printed_is_as_long before work forward;
+  total = total_is_within_workers before work;
+  none_shorter = none_is_shorter before work;
+  twice = bound_is_within_twice before work;
+  ratio = bound_is_within_ratio before work;
+  one_least = least_is_one before work;
+  one_printed = printed_is_one before work forward;
+}

@@ -20,6 +20,7 @@ pub mod Found
 pub mod Table
 pub mod Links
 pub mod Waited
+pub mod Waits
 pub mod CostedChain
 pub mod Bound
 pub mod Totals

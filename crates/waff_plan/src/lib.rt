@@ -14,8 +14,8 @@
 //! - `issued`, over `followers` and `pending`: the unlimited plan in the order in which clients issue
 //!   messages.
 //! - `table`, over `last`: the latest message that excludes another, by spans in preorder.
-//! - `printed`, over `links` and `linked`: the printed chain; `waited`: what messages waited for;
-//!   `totals`: what the summary of a plan tells.
+//! - `printed`, over `links` and `linked`: the printed chain; `waited`: what messages waited for; both
+//!   over `waits`; `totals`: what the summary of a plan tells.
 //! - `ordered`: whether a plan keeps the order of the messages; `apart`: whether it has two that run
 //!   at a common tick though they exclude each other.
 //! - `lower_bound`: a length below which no plan obeys, in whatever order.
@@ -46,6 +46,7 @@ mod totals;
 pub mod unique;
 pub mod unlimited;
 pub mod waited;
+mod waits;
 
 pub use linked::Chain;
 pub use planned::Planned;

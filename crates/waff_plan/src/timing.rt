@@ -1,7 +1,6 @@
 //! The timings of messages.
 
-ghost use Rattle.std.specs.Prelude.{◌≡◌, ◌≢◌, ℕ, ◌-◌, ◌≤◌, List, length, IfOk, OnOk};
-ghost use Rattle.waff_model.specs.declared.message.Version.TheVariants.{V3};
+ghost use Rattle.std.specs.Prelude.{◌≡◌, ℕ, ◌-◌, ◌≤◌, List, length, IfOk, OnOk};
 ghost use Rattle.waff_plan.specs.Clients.{client_of, one_before};
 ghost use Rattle.waff_plan.specs.LastMessages.{AreLast};
 ghost use Rattle.waff_plan.specs.Timetable.{AreTimings, timing_after, timings_of};
@@ -9,7 +8,7 @@ ghost use Rattle.waff_plan.specs.Timetable.{AreTimings, timing_after, timings_of
 use std::alloc::{AllocError, Global};
 use std::collections::HashMap;
 use waff_model::limits::MAX_MESSAGES;
-use waff_model::{Message, Trace, Version};
+use waff_model::{Message, Trace};
 
 /// How long a message runs, and when it may start.
 #[derive(Clone, Copy)]
@@ -31,35 +30,6 @@ pub fn timings(alloc: Global, trace: &Trace) -> Result<Vec<Timing>, AllocError>
     ensures few { length trace.now.messages ≤ MAX_MESSAGES }
 {
     let _messages = trace.len();
-    match trace.version() {
-        Version::V1 => timings_alone(alloc, trace),
-        Version::V2 => timings_alone(alloc, trace),
-        Version::V3 => timings_by_client(alloc, trace),
-    }
-}
-
-/// The timings of messages that are of no client.
-fn timings_alone(alloc: Global, trace: &Trace) -> Result<Vec<Timing>, AllocError>
-    requires alone { trace.now.version ≢ V3 }
-    ensures each { IfOk result (λ timings. timings.items ≡ timings_of trace.now.messages) }
-{
-    let mut timings = Vec::with_capacity(alloc, trace.len() as usize)?;
-    for n in 1..trace.len() + 1 {
-        let message = trace.message(n);
-        timings.push_reserved(Timing {
-            cost: message.cost,
-            release: message.release,
-            follows: 0,
-            think: 0,
-        });
-    }
-    Ok(timings)
-}
-
-/// The timings of messages of clients.
-fn timings_by_client(alloc: Global, trace: &Trace) -> Result<Vec<Timing>, AllocError>
-    ensures each { IfOk result (λ timings. timings.items ≡ timings_of trace.now.messages) }
-{
     let mut last = HashMap::new(alloc);
     let mut timings = Vec::with_capacity(alloc, trace.len() as usize)?;
     for n in 1..trace.len() + 1 {

@@ -1,5 +1,4 @@
-use Rattle.std.proofs.Common.{◌≡◌, ◌≢◌, ℕ, ◌+◌, ◌-◌, ◌^◌, ◌<◌, ◌≤◌, List, [], ◌∷◌, ◌++◌, length, map, set, sum_by, All, Contains, arith, refl, sym, ◌∙◌, ap, subst}
-use Rattle.std.specs.List.Sorted.{IsPermutation}
+use Rattle.std.proofs.Common.{◌≡◌, ℕ, ◌+◌, ◌-◌, ◌^◌, ◌<◌, ◌≤◌, List, [], ◌∷◌, ◌++◌, length, map, set, sum_by, All, Contains, arith, sym, ◌∙◌, ap, subst}
 use Rattle.std.proofs.lemmas.List.{length-map, length-set, length_push, map_push}
 use Rattle.std.proofs.lemmas.List.Elements.{All-contains_itself, All-get_or, All-weaker}
 use Rattle.std.proofs.lemmas.List.Sums.{sum_by-append}
@@ -171,30 +170,21 @@ index_mut-requires-2 c =
     let g = c.requires.joining.joining.1 in
     omega (arith, is.from, is.to, g.left.count, g.told.count, c.args.serving.now.left.ok.0)
 
-pub priority-requires : goal.priority-requires
-priority-requires c = (its_number (goal.at.priority-requires c).After-of).from
+pub push_ready-requires : goal.push_ready-requires
+push_ready-requires c = record { number = its_number (goal.at.push_ready-requires c).After-of }
 
-pub returns-in_ok-push-2-clause-tables : goal.returns-in_ok-push-2-clause-tables
-returns-in_ok-push-2-clause-tables c =
-    let d = (goal.at.returns-in_ok-push-2-clause-tables c).After-of-needs in
+pub returns-clause-tables : goal.returns-clause-tables
+returns-clause-tables c =
+    let d = (goal.at.returns-clause-tables c).After-of-needs in
     record {
       linked = c.in_ok-left.ensures.linked;
       links = omega (arith, c.in_ok-left.ensures.more, c.requires.tables.links, more_needs d);
       issued = length-set c.args.serving.now.issued.items (c.args.m - 1) c.args.issue ∙ c.requires.tables.issued;
     }
 
-pub returns-else-left-eq0-clause-tables : goal.returns-else-left-eq0-clause-tables
-returns-else-left-eq0-clause-tables c =
-    let d = (goal.at.returns-else-left-eq0-clause-tables c).After-of-needs in
-    record {
-      linked = c.in_ok-left.ensures.linked;
-      links = omega (arith, c.in_ok-left.ensures.more, c.requires.tables.links, more_needs d);
-      issued = length-set c.args.serving.now.issued.items (c.args.m - 1) c.args.issue ∙ c.requires.tables.issued;
-    }
-
-pub returns-in_ok-push-2-clause-joined : goal.returns-in_ok-push-2-clause-joined
-returns-in_ok-push-2-clause-joined c =
-    let at = (goal.at.returns-in_ok-push-2-clause-joined c) in
+pub returns-clause-joined : goal.returns-clause-joined
+returns-clause-joined c =
+    let at = (goal.at.returns-clause-joined c) in
     let d = at.After-of-needs in
     let task = c.args.task.now in
     let p = c.args.progress.now in
@@ -213,51 +203,9 @@ returns-in_ok-push-2-clause-joined c =
     let is = c.in_ok-left.ensures.left
     ∙ ap (λ xs. unfinished service.work (start_of xs) now (map (served_at c.as_slice-2.result.now) c.of-needs.result.now)) c.as_slice.ensures.value
     ∙ ap (λ xs. unfinished service.work (start_of p.starts.items) now xs) names in
-    let ranks = c.push-then-left-eq0.new.self in
-    let none : value ≡ 0 = c.if-left-eq0.true in
-    let last : value ≡ 0 → IsPermutation ((service.priority m, (issue, m)) ∷ s.ready) ranks
-    = λ over. subst (λ r. IsPermutation ((r, (issue, m)) ∷ s.ready) ranks) c.priority.ensures c.in_ok-push-2.ensures in
-    let waits : value ≢ 0 → ranks ≡ s.ready = λ some. absurd (some none) in
-    let items : c.push.new.self.items ≡ s.served.items ++ m ∷ [] = c.in_ok-push.ensures.items in
-    let needs = set g.joining.0 (m - 1) (map (served_at (s.served.items ++ m ∷ [])) listed.0) in
-    let after = joining_after task p s now issue m early begun g c.requires.due c.requires.first c.join.new.self listed.0 listed.1 whole value is ranks last waits (trails c.depend.new.dependents)
-    c.in_ok-left.ensures.grows
-    (λ i from. c.in_ok-left.ensures.added i from ∙ ap (λ xs. times m (dependents_of (trails s.dependents) i) + times i xs) names) in
-    record {
-      joining = (
-        needs,
-        subst (λ ys. IsJoining service (placed_in p) (record { finishes = p.finishes; idle = p.idle; left = set s.left.items (m - 1) value; ready = ranked_in ranks })
-            (record { served = ys; joined = c.join.new.self; dependents = trails c.depend.new.dependents; issues = s.issues }) needs now) (sym items) after,
-      );
-      issued = λ x there. issued_after task p s now issue m early begun g c.requires.due c.requires.first c.join.new.self listed.0 listed.1 whole value is ranks last waits c.requires.tables.issued x
-          (subst (λ ys. Contains ys x) items there);
-      ranked = ranked_after task p s now issue m early begun g c.requires.due c.requires.first c.join.new.self listed.0 listed.1 whole value is ranks last waits c.requires.tables.issued;
-    }
-
-pub returns-else-left-eq0-clause-joined : goal.returns-else-left-eq0-clause-joined
-returns-else-left-eq0-clause-joined c =
-    let at = (goal.at.returns-else-left-eq0-clause-joined c) in
-    let d = at.After-of-needs in
-    let task = c.args.task.now in
-    let p = c.args.progress.now in
-    let s = c.args.serving.now in
-    let now = c.args.now in
-    let issue = c.args.issue in
-    let m = c.args.m in
-    let service = service_of task in
-    let early = short at.After-of in
-    let begun = c.requires.begun in
-    let g = c.requires.joining in
-    let value = c.in_ok-left.left in
-    let listed = c.in_ok-join.ensures.listed in
-    let whole = have at.After-of-needs in
-    let names = names_are d c.as_slice-2.result.now (c.as_slice-2.ensures.value ∙ c.in_ok-push.ensures.items) in
-    let is = c.in_ok-left.ensures.left
-    ∙ ap (λ xs. unfinished service.work (start_of xs) now (map (served_at c.as_slice-2.result.now) c.of-needs.result.now)) c.as_slice.ensures.value
-    ∙ ap (λ xs. unfinished service.work (start_of p.starts.items) now xs) names in
-    let ranks = s.ready in
-    let last : value ≡ 0 → IsPermutation ((service.priority m, (issue, m)) ∷ s.ready) ranks = λ over. absurd (c.if-left-eq0.false over) in
-    let waits : value ≢ 0 → ranks ≡ s.ready = λ some. refl in
+    let ranks = c.push_ready.new.ready in
+    let last = c.in_ok-push_ready.ensures.ready in
+    let waits = c.in_ok-push_ready.ensures.waits in
     let items : c.push.new.self.items ≡ s.served.items ++ m ∷ [] = c.in_ok-push.ensures.items in
     let needs = set g.joining.0 (m - 1) (map (served_at (s.served.items ++ m ∷ [])) listed.0) in
     let after = joining_after task p s now issue m early begun g c.requires.due c.requires.first c.join.new.self listed.0 listed.1 whole value is ranks last waits (trails c.depend.new.dependents)

@@ -1,8 +1,7 @@
-use Rattle.std.proofs.Common.{◌≡◌, ◌≢◌, ◌-◌, ◌<◌, ◌∷◌, length, set, arith, ◌∙◌, ap, subst, get_or-set_same}
-use Rattle.std.specs.List.Sorted.{IsPermutation}
+use Rattle.std.proofs.Common.{◌≡◌, inl, inr, ◌-◌, ◌<◌, length, set, arith, ◌∙◌, ap, get_or-set_same}
+use Rattle.std.proofs.lemmas.Bool.{cases_eq}
 use Rattle.std.proofs.lemmas.List.{get_or_read, length-set}
 use Rattle.waff_list.specs.IssuePlanning.{service_of}
-use Rattle.waff_list.specs.Issuing.{issue_kept}
 use Rattle.waff_list.specs.Waiting.{left_of}
 use Rattle.waff_list.proofs.Telling.{told_last, told_other}
 use Rattle.waff_list.proofs.issuing.tell.Goals as goal
@@ -21,23 +20,18 @@ again c =
     get_or_read (set left at less) at c.index.result.now (omega (arith, inside, length-set left at less)) c.index.ensures 0
     ∙ get_or-set_same left at less 0 inside ∙ ap (λ n. n - 1) (read c)
 
-pub returns-in_ok-push : goal.returns-in_ok-push
-returns-in_ok-push c =
-    let i = (goal.at.returns-in_ok-push c).After-index in
+pub returns : goal.returns
+returns c =
+    let i = (goal.at.returns c).After-index in
     let service = service_of c.args.task.now in
     let left = c.args.left.now.items in
     let issued = c.args.issued.now in
     let m = c.args.m in
-    let last : left_of left m ≡ 1 = omega (arith, again i, c.if-index-eq0.true, c.requires.some) in
-    let pushed : IsPermutation ((service.priority m, (issue_kept issued m, m)) ∷ c.args.ready.now) c.push.new.self
-    = subst (λ p. IsPermutation ((p, (issue_kept issued m, m)) ∷ c.args.ready.now) c.push.new.self) c.priority.ensures c.in_ok-push.ensures in
-    rw (read i) (told_last service.work service.priority issued left c.args.ready.now m c.requires.number c.requires.left c.requires.some c.push.new.self last pushed)
-
-pub returns-else-index-eq0 : goal.returns-else-index-eq0
-returns-else-index-eq0 c =
-    let i = (goal.at.returns-else-index-eq0 c).After-index in
-    let service = service_of c.args.task.now in
-    let left = c.args.left.now.items in
-    let m = c.args.m in
-    let more : left_of left m ≢ 1 = λ last. c.if-index-eq0.false (omega (arith, again i, last)) in
-    rw (read i) (told_other service.work service.priority c.args.issued.now left c.args.ready.now m c.requires.number c.requires.left c.requires.some more)
+    rw (read i) (elim (cases_eq c.index.result.now 0) [
+      | inl none ↦
+          told_last service.work service.priority issued left c.args.ready.now m c.requires.number c.requires.left c.requires.some c.push_ready.new.ready
+          (omega (arith, again i, none, c.requires.some)) (c.in_ok-push_ready.ensures.ready none)
+      | inr some ↦
+          rw (c.in_ok-push_ready.ensures.waits some)
+          (told_other service.work service.priority issued left c.args.ready.now m c.requires.number c.requires.left c.requires.some (λ last. some (omega (arith, again i, last))))
+    ])

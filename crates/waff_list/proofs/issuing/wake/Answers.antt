@@ -33,10 +33,10 @@ served c = c.requires.kept.1.serving.1
 
 -- the message that is taken out ran
 abbrev popped : In-Some → ℕ × ℕ
-popped c = (c.in-Some.ensures.0, c.in-Some.m)
+popped c = (c.in-Some.field-0-0, c.in-Some.m)
 
 was : (c : In-Some) → (r : ℕ × ℕ) → Contains (popped c ∷ c.pop_by.new.self) r → Contains c.loop-m.progress.finishes r
-was c r there = Contains-permutation (popped c ∷ c.pop_by.new.self) c.loop-m.progress.finishes r (IsPermutation-sym c.loop-m.progress.finishes (popped c ∷ c.pop_by.new.self) c.in-Some.ensures.2) there
+was c r there = Contains-permutation (popped c ∷ c.pop_by.new.self) c.loop-m.progress.finishes r (IsPermutation-sym c.loop-m.progress.finishes (popped c ∷ c.pop_by.new.self) c.in-Some.ensures.1.rest) there
 
 number : (c : In-Some) → IsNumber (service c).work c.in-Some.m
 number c = (All-contains (Runs (service c).work (start_of c.args.progress.now.starts.items) c.requires.kept.0) c.args.progress.now.finishes (popped c) (served c).finishes.only
@@ -52,7 +52,7 @@ inside c =
     omega (arith, (number c).from, (number c).to, seats)
 
 part : (c : In-Some) → (d : ℕ) → told_by (trails (first c).dependents) d c.pop_by.new.self + times d (names c) ≡ told_by (trails (first c).dependents) d c.loop-m.progress.finishes
-part c d = sum_by_popped (λ (r : ℕ × ℕ). times d (dependents_of (trails (first c).dependents) r.1)) (popped c) c.loop-m.progress.finishes c.pop_by.new.self c.in-Some.ensures.2
+part c d = sum_by_popped (λ (r : ℕ × ℕ). times d (dependents_of (trails (first c).dependents) r.1)) (popped c) c.loop-m.progress.finishes c.pop_by.new.self c.in-Some.ensures.1.rest
 
 pub loop-m-init : goal.loop-m-init
 loop-m-init c = (
@@ -118,7 +118,7 @@ tell_all-requires-clause-enough c =
 pub loop-m-smaller : goal.loop-m-smaller
 loop-m-smaller c =
     let pair = popped (goal.at.loop-m-smaller c).In-Some in
-    let long : length (pair ∷ c.pop_by.new.self) ≡ length c.loop-m.progress.finishes = length_permutation c.loop-m.progress.finishes (pair ∷ c.pop_by.new.self) c.in-Some.ensures.2 in
+    let long : length (pair ∷ c.pop_by.new.self) ≡ length c.loop-m.progress.finishes = length_permutation c.loop-m.progress.finishes (pair ∷ c.pop_by.new.self) c.in-Some.ensures.1.rest in
     let less : length c.pop_by.new.self < length c.loop-m.progress.finishes = omega (arith, long) in
     less
 
@@ -153,16 +153,16 @@ loop-m-preserved c =
         parts = λ d. omega (arith, h.parts d, part f d, times_append d told (names f));
         kept = λ (r : ℕ × ℕ) there. elim (h.kept r there) [
           | inl done ↦ inl done
-          | inr ran ↦ elim (contains_rest_of pair r new (Contains-permutation old (pair ∷ new) r c.in-Some.ensures.2 ran)) [
+          | inr ran ↦ elim (contains_rest_of pair r new (Contains-permutation old (pair ∷ new) r c.in-Some.ensures.1.rest ran)) [
             | inl still ↦ inr still
-            | inr same ↦ inl (omega (arith, ap (λ (s : ℕ × ℕ). s.0) same, c.in-Some.ensures.1))
+            | inr same ↦ inl (omega (arith, ap (λ (s : ℕ × ℕ). s.0) same, c.in-Some.ensures.0))
           ]
         ];
         only = λ (r : ℕ × ℕ) there. h.only r (was f r (contains_more pair r new there));
         manned = λ workers at_first.
             let run = λ (r : ℕ × ℕ). worker_of seats r.1 in
             each_moved (IsAmongFirst workers) (c.loop-m.progress.idle ++ map run old) (h.manned workers at_first) (c.push.new.self ++ map run new)
-            (manned_less run c.loop-m.progress.idle old pair new c.push.new.self c.in-Some.ensures.2 pushed);
+            (manned_less run c.loop-m.progress.idle old pair new c.push.new.self c.in-Some.ensures.1.rest pushed);
         serving = ap (λ (t : Serving). told_as t (record {
           joining = t.joining;
           served = t.served;

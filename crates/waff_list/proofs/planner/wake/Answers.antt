@@ -11,10 +11,10 @@ use Rattle.waff_list.proofs.planner.wake.Goals.{In-Some}
 
 -- the message that is taken out ran
 abbrev popped : In-Some → ℕ × ℕ
-popped c = (c.in-Some.ensures.0, c.in-Some.m)
+popped c = (c.in-Some.field-0-0, c.in-Some.m)
 
 was : (c : In-Some) → (r : ℕ × ℕ) → Contains (popped c ∷ c.pop_by.new.self) r → Contains c.loop-m.finishes r
-was c r there = Contains-permutation (popped c ∷ c.pop_by.new.self) c.loop-m.finishes r (IsPermutation-sym c.loop-m.finishes (popped c ∷ c.pop_by.new.self) c.in-Some.ensures.2) there
+was c r there = Contains-permutation (popped c ∷ c.pop_by.new.self) c.loop-m.finishes r (IsPermutation-sym c.loop-m.finishes (popped c ∷ c.pop_by.new.self) c.in-Some.ensures.1.rest) there
 
 number : (c : In-Some) → IsAmongFirst (length c.args.task.now.needs.now) c.in-Some.m
 number c = All-contains (λ (r : ℕ × ℕ). IsAmongFirst (length c.args.task.now.needs.now) r.1) c.args.finishes.now (popped c) c.requires.counted.numbers
@@ -34,13 +34,13 @@ tell_all-requires-clause-number c = number (goal.at.tell_all-requires-clause-num
 pub tell_all-requires-clause-counts : goal.tell_all-requires-clause-counts
 tell_all-requires-clause-counts c = λ d from to.
     let xs = needs_of c.args.task.now.needs.now d in
-    let part = sum_by_popped (λ (r : ℕ × ℕ). times r.1 xs) (popped (goal.at.tell_all-requires-clause-counts c).In-Some) c.loop-m.finishes c.pop_by.new.self c.in-Some.ensures.2 in
+    let part = sum_by_popped (λ (r : ℕ × ℕ). times r.1 xs) (popped (goal.at.tell_all-requires-clause-counts c).In-Some) c.loop-m.finishes c.pop_by.new.self c.in-Some.ensures.1.rest in
     omega (arith, part, c.loop-m.invariant.counts d from to, c.requires.counted.counts d from to)
 
 pub loop-m-smaller : goal.loop-m-smaller
 loop-m-smaller c =
     let pair = popped (goal.at.loop-m-smaller c).In-Some in
-    let long : length (pair ∷ c.pop_by.new.self) ≡ length c.loop-m.finishes = length_permutation c.loop-m.finishes (pair ∷ c.pop_by.new.self) c.in-Some.ensures.2 in
+    let long : length (pair ∷ c.pop_by.new.self) ≡ length c.loop-m.finishes = length_permutation c.loop-m.finishes (pair ∷ c.pop_by.new.self) c.in-Some.ensures.1.rest in
     let less : length c.pop_by.new.self < length c.loop-m.finishes = omega (arith, long) in
     less
 
@@ -56,7 +56,7 @@ loop-m-preserved c =
     record {
       counts = λ d from to.
           let xs = needs_of c.args.task.now.needs.now d in
-          let part = sum_by_popped (λ (r : ℕ × ℕ). times r.1 xs) pair old new c.in-Some.ensures.2 in
+          let part = sum_by_popped (λ (r : ℕ × ℕ). times r.1 xs) pair old new c.in-Some.ensures.1.rest in
           omega (arith, part, h.counts d from to, told.counts d from to);
       wakes = record {
         count = told.wakes.count ∙ h.wakes.count;
@@ -65,16 +65,16 @@ loop-m-preserved c =
       };
       kept = λ (r : ℕ × ℕ) there. elim (h.kept r there) [
         | inl done ↦ inl done
-        | inr ran ↦ elim (contains_rest_of pair r new (Contains-permutation old (pair ∷ new) r c.in-Some.ensures.2 ran)) [
+        | inr ran ↦ elim (contains_rest_of pair r new (Contains-permutation old (pair ∷ new) r c.in-Some.ensures.1.rest ran)) [
           | inl still ↦ inr still
-          | inr same ↦ inl (omega (arith, ap (λ (s : ℕ × ℕ). s.0) same, c.in-Some.ensures.1))
+          | inr same ↦ inl (omega (arith, ap (λ (s : ℕ × ℕ). s.0) same, c.in-Some.ensures.0))
         ]
       ];
       only = λ (r : ℕ × ℕ) there. h.only r (was f r (contains_more pair r new there));
       manned = λ workers at_first.
           let run = λ (r : ℕ × ℕ). worker_of seats r.1 in
           each_moved (IsAmongFirst workers) (c.loop-m.idle ++ map run old) (h.manned workers at_first) (c.push.new.self ++ map run new)
-          (manned_less run c.loop-m.idle old pair new c.push.new.self c.in-Some.ensures.2 c.in_ok-push.ensures);
+          (manned_less run c.loop-m.idle old pair new c.push.new.self c.in-Some.ensures.1.rest c.in_ok-push.ensures);
     }
 
 pub returns-clause-finished : goal.returns-clause-finished

@@ -1,5 +1,5 @@
 -- One message after another, and all of them sorted.
-use Rattle.std.proofs.Common.{◌≡◌, ◌-◌, arith, of_calls, rules}
+use Rattle.std.proofs.Common.{◌≡◌, arith, of_calls, rules}
 use Rattle.std.proofs.lemmas.Fn.{always_returns_same}
 use Rattle.waff_plan.specs.Timetable.{starts_in, work_in}
 use Rattle.waff_plan.proofs.ApartLaws.{sorted_by_start, started_more}

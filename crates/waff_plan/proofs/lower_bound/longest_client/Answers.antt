@@ -1,5 +1,5 @@
 -- The finish of one message after another.
-use Rattle.std.proofs.Common.{◌-◌, map, arith, sym, ◌∙◌, ap}
+use Rattle.std.proofs.Common.{map, arith, sym, ◌∙◌, ap}
 use Rattle.std.specs.List.{range_with_len}
 use Rattle.waff_plan.specs.LowerBound.{client_finish}
 use Rattle.waff_plan.specs.Timetable.{work_in}

@@ -1,15 +1,16 @@
 -- Each message starts after the latest of the noted ones that exclude it.
-use Rattle.std.proofs.Common.{◌≡◌, ◌+◌, ◌-◌, ◌<◌, ◌≤◌, [], ◌∷◌, ◌++◌, length, IfSome, arith, sym, ◌∙◌, ap, subst}
+use Rattle.std.proofs.Common.{◌≡◌, ◌+◌, ◌-◌, ◌<◌, ◌≤◌, [], ◌∷◌, ◌++◌, IfSome, arith, sym, ◌∙◌, ap, subst}
 use Rattle.std.specs.List.{range_with_len}
 use Rattle.waff_model.specs.Preorder.{span_at}
+use Rattle.waff_assign.specs.Order.{affinity_of}
 use Rattle.waff_plan.specs.Work.{finish_of}
 use Rattle.waff_plan.specs.Table.{IsTable}
 use Rattle.waff_plan.specs.Timetable.{work_in, starts_in}
 use Rattle.waff_plan.proofs.OrderKept.{after_latest, keeps_more, noted_before, starts_after}
 use Rattle.waff_plan.proofs.Longest.{range_with_len_more}
-use Rattle.waff_plan.proofs.Tables.{found_at}
+use Rattle.waff_plan.proofs.Tables.{IsLatestOfFirst, found_at}
 use Rattle.waff_plan.proofs.ordered.keeps_order.Goals as goal
-use Rattle.waff_plan.proofs.ordered.keeps_order.Goals.{then-m-count, else-m-count}
+use Rattle.waff_plan.proofs.ordered.keeps_order.Goals.{After-latest, then-m-count, else-m-count}
 
 pub loop-m-init : goal.loop-m-init
 loop-m-init c = record {
@@ -21,23 +22,22 @@ loop-m-init c = record {
   spans = c.in_ok-table.ensures.count ∙ c.len.ensures.count;
 }
 
+-- the latest of the noted messages that exclude m
+found : (c : After-latest) → IsLatestOfFirst c.args.tree.now c.args.assigned.now (finish_of (work_in c.args.plan.now) (starts_in c.args.plan.now)) (noted_before c.args.count c.loop-m.m)
+    (affinity_of c.args.assigned.now c.loop-m.m) c.latest.result
+found c =
+    found_at c.args.tree.now c.spans-spans.result.now c.args.assigned.now _ (noted_before c.args.count c.loop-m.m) c.loop-m.m c.of.result.0 c.loop-m.table c.latest.result
+    c.spans-spans.ensures c.requires.known (omega (arith, c.loop-m.auto.m)) (omega (arith, c.len-m-end.ensures.count, c.loop-m-test.true)) c.of.ensures c.loop-m.invariant.table c.latest.ensures
+
 pub returns-then-not-is_finished_by : goal.returns-then-not-is_finished_by
 returns-then-not-is_finished_by c =
-    let tree = c.args.tree.now in
-    let assigned = c.args.assigned.now in
-    let work = work_in c.args.plan.now in
     let start = starts_in c.args.plan.now in
-    let spans = c.spans-spans.result.now in
-    let count = c.args.count in
-    let m = c.loop-m.m in
-    let kept = c.loop-m.invariant in
-    let from : 1 ≤ m = c.loop-m.auto.m in
-    let to : m ≤ length assigned = omega (arith, c.len-m-end.ensures.count, c.loop-m-test.true) in
-    let found = found_at tree spans assigned (finish_of work start) (noted_before count m) m c.of.result.0 c.loop-m.table c.latest.result
-    c.spans-spans.ensures c.requires.known (omega arith) to c.of.ensures kept.table c.latest.ensures in (
+    let m = c.loop-m.m in (
       λ t. absurd (cc t),
       λ order. (
-          let late : IfSome c.latest.result (λ l. l.finish ≤ start m) = after_latest tree assigned work start count m c.latest.result to found order in
+          let late : IfSome c.latest.result (λ l. l.finish ≤ start m)
+          = after_latest c.args.tree.now c.args.assigned.now (work_in c.args.plan.now) start c.args.count m c.latest.result
+          (omega (arith, c.len-m-end.ensures.count, c.loop-m-test.true)) (found (goal.at.returns-then-not-is_finished_by c).After-latest) order in
           absurd (cc (c.is_finished_by.ensures.1 (rw c.start.ensures.start late), c.if-not-is_finished_by.true))
           ),
     )
@@ -53,11 +53,8 @@ loop-m-preserved c =
     let m = c.loop-m.m in
     let kept = c.loop-m.invariant in
     let from : 1 ≤ m = c.loop-m.auto.m in
-    let to : m ≤ length assigned = omega (arith, c.len-m-end.ensures.count, c.loop-m-test.true) in
-    let found = found_at tree spans assigned (finish_of work start) (noted_before count m) m c.of.result.0 c.loop-m.table c.latest.result
-    c.spans-spans.ensures c.requires.known (omega arith) to c.of.ensures kept.table c.latest.ensures in
     let late : IfSome c.latest.result (λ l. l.finish ≤ start m) = rw (sym c.start.ensures.start) (c.is_finished_by.ensures.0 c.if-not-is_finished_by.false) in
-    let more = keeps_more tree assigned work start count m kept.kept (starts_after tree assigned work start count m c.latest.result found late) in
+    let more = keeps_more tree assigned work start count m kept.kept (starts_after tree assigned work start count m c.latest.result (found (goal.at.loop-m-preserved c).After-latest) late) in
     elim c.if-m-count.branch [
       | then-m-count w ↦ (
           let within : m ≤ count = omega (arith, w.if-m-count.true) in

@@ -3,7 +3,7 @@ use Rattle.std.specs.BinaryHeap.{heap_items}
 use Rattle.std.specs.List.Sorted.{IsPermutation}
 use Rattle.std.specs.declared.cmp.Reverse.{Reverse}
 use Rattle.std.proofs.lemmas.List.Sorted.{IsPermutation-map}
-use Rattle.waff_list.proofs.finishes.Finishes.push.Goals as goal
+use Rattle.waff_list.proofs.due.Due.push.Goals as goal
 
 pub returns : goal.returns
 returns c =

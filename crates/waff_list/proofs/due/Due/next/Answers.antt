@@ -4,7 +4,7 @@ use Rattle.std.specs.declared.cmp.Reverse.{Reverse}
 use Rattle.std.proofs.lemmas.List.Elements.{All-map, All-weaker, All-from_recursion}
 use Rattle.waff_list.proofs.OrderingLemmas.{not_less_first}
 use Rattle.waff_list.proofs.Each.{contains_map}
-use Rattle.waff_list.proofs.finishes.Finishes.next.Goals as goal
+use Rattle.waff_list.proofs.due.Due.next.Goals as goal
 
 pub returns-in-Some-clause-least : goal.returns-in-Some-clause-least
 returns-in-Some-clause-least c =

@@ -2,17 +2,16 @@ use Rattle.std.proofs.Common.{◌≡◌, length}
 use Rattle.waff_plan.specs.Serving.{IsStartedBefore}
 use Rattle.waff_plan.specs.Table.{IsTable}
 use Rattle.waff_plan.specs.Timetable.{work_in, starts_in}
+use Rattle.waff_plan.specs.Waits.{IsWait}
 use Rattle.waff_plan.specs.Work.{finish_of}
 use Rattle.waff_plan.proofs.ApartLaws.{numbers_to}
 use Rattle.waff_plan.proofs.StartedLinks.{AreFirstLinks}
-use Rattle.waff_plan.proofs.WaitedFor.{alone_in}
-use Rattle.waff_plan.proofs.waited.waited_by_start.Given as goal
+use Rattle.waff_plan.proofs.waits.waits_by_start.Given as goal
 
 abbrev pub invariant-loop-place : goal.invariant-loop-place
 invariant-loop-place l = record {
-  count : length l.waited.items ≡ length l.plan.timings;
-  links : AreFirstLinks (IsStartedBefore l.tree l.assigned (starts_in l.plan)) (alone_in (work_in l.plan) (starts_in l.plan)) (starts_in l.plan)
-      l.started.items l.waited.items l.place;
+  count : length l.waits.items ≡ length l.plan.timings;
+  waits : AreFirstLinks (IsWait l.since (IsStartedBefore l.tree l.assigned (starts_in l.plan)) (work_in l.plan) (starts_in l.plan)) l.started.items l.waits.items l.place;
   table : IsTable l.spans l.assigned (finish_of (work_in l.plan) (starts_in l.plan)) (numbers_to l.started.items l.place) l.table;
   spans : length l.table.own ≡ length l.tree;
 }

@@ -1,0 +1,173 @@
+//! For each message of a plan the one that it waited for, since its release or since its issue.
+
+ghost use Rattle.std.specs.Prelude.{◌≡◌, ◌<◌, length, All, IfOk};
+ghost use Rattle.waff_model.specs.declared.message.Version.TheVariants.{V3};
+ghost use Rattle.waff_assign.specs.Order.{IsOrdered};
+ghost use Rattle.waff_plan.specs.Issues.{IsServedBefore};
+ghost use Rattle.waff_plan.specs.Latest.{later_of};
+ghost use Rattle.waff_plan.specs.Links.{followed_of, link_of};
+ghost use Rattle.waff_plan.specs.Obeys.{Obeys};
+ghost use Rattle.waff_plan.specs.Serving.{IsStartedBefore, served_in, started_in};
+ghost use Rattle.waff_plan.specs.Timetable.{work_in, starts_in};
+ghost use Rattle.waff_plan.specs.Waits.{AreWaits, wait_of};
+ghost use Rattle.waff_plan.specs.Work.{IsNumber};
+
+use crate::Plan;
+use crate::apart::by_start;
+use crate::latest::{Latest, is_later};
+use crate::table::Table;
+use std::alloc::{AllocError, Global};
+use waff_assign::Assigned;
+use waff_model::{Tree, Version};
+
+/// From when on a message waits.
+#[derive(Clone, Copy)]
+pub(crate) enum Since {
+    /// From its release on, for the message that it follows too.
+    Release,
+    /// From its issue on: what its client does counts in the issue alone.
+    Issue,
+}
+
+/// For each message the one that it waited for. A plan of a trace with clients has to obey.
+pub(crate) fn waits(
+    alloc: Global,
+    tree: &Tree,
+    assigned: &Assigned,
+    plan: &Plan,
+    since: Since,
+) -> Result<Vec<Option<u32>>, AllocError>
+    requires lengths { length plan.now.timings ≡ length assigned.now }
+    requires known { All (λ a. a < length tree.now) assigned.now }
+    requires served { plan.now.version ≡ V3 → Obeys (served_in tree.now assigned.now plan.now)
+        (work_in plan.now) (starts_in plan.now) }
+    ensures count { IfOk result (λ waits. length waits.items ≡ length plan.now.timings) }
+    ensures waits { IfOk result (λ waits.
+        AreWaits since (started_in tree.now assigned.now plan.now)
+        (work_in plan.now) (starts_in plan.now)
+        (length plan.now.timings) waits.items) }
+{
+    match plan.version() {
+        Version::V1 => waits_by_number(alloc, tree, assigned, plan, since),
+        Version::V2 => waits_by_number(alloc, tree, assigned, plan, since),
+        Version::V3 => waits_by_start(alloc, tree, assigned, plan, since),
+    }
+}
+
+/// What messages waited for in the order of the trace.
+fn waits_by_number(
+    alloc: Global,
+    tree: &Tree,
+    assigned: &Assigned,
+    plan: &Plan,
+    since: Since,
+) -> Result<Vec<Option<u32>>, AllocError>
+    requires lengths { length plan.now.timings ≡ length assigned.now }
+    requires known { All (λ a. a < length tree.now) assigned.now }
+    ensures count { IfOk result (λ waits. length waits.items ≡ length plan.now.timings) }
+    ensures waits { IfOk result (λ waits. AreWaits since (IsOrdered tree.now assigned.now)
+        (work_in plan.now) (starts_in plan.now)
+        (length plan.now.timings) waits.items) }
+{
+    let spans = tree.spans();
+    let mut table = Table::new(alloc, tree.len() as usize)?;
+    let mut waits = Vec::with_capacity(alloc, plan.len() as usize)?;
+    for m in 1..plan.len() + 1 {
+        let span = spans[assigned.of(m).0 as usize];
+        let wait = wait(plan, m, table.latest(span), since);
+        let finish = plan.finish(m);
+        table.note(span, Latest { finish, number: m });
+        waits.push_reserved(wait);
+    }
+    Ok(waits)
+}
+
+/// What messages of clients waited for, in the order of their starts: of messages that exclude each
+/// other no two start at the same tick.
+fn waits_by_start(
+    alloc: Global,
+    tree: &Tree,
+    assigned: &Assigned,
+    plan: &Plan,
+    since: Since,
+) -> Result<Vec<Option<u32>>, AllocError>
+    requires lengths { length plan.now.timings ≡ length assigned.now }
+    requires known { All (λ a. a < length tree.now) assigned.now }
+    requires served { Obeys (IsServedBefore tree.now assigned.now
+        (work_in plan.now) (starts_in plan.now)) (work_in plan.now) (starts_in plan.now) }
+    ensures count { IfOk result (λ waits. length waits.items ≡ length plan.now.timings) }
+    ensures waits { IfOk result (λ waits.
+        AreWaits since (IsStartedBefore tree.now assigned.now (starts_in plan.now))
+        (work_in plan.now) (starts_in plan.now)
+        (length plan.now.timings) waits.items) }
+{
+    let spans = tree.spans();
+    let started = by_start(alloc, plan)?;
+    let mut table = Table::new(alloc, tree.len() as usize)?;
+    let mut waits = vec![in alloc; None; plan.len() as usize]?;
+    for place in 0..started.len() {
+        let m = started[place].number;
+        let span = spans[assigned.of(m).0 as usize];
+        waits[m as usize - 1] = wait(plan, m, table.latest(span), since);
+        let finish = plan.finish(m);
+        table.note(span, Latest { finish, number: m });
+    }
+    Ok(waits)
+}
+
+/// What message `m` waited for, where this is the latest of those before it that exclude it.
+fn wait(plan: &Plan, m: u32, latest: Option<Latest>, since: Since) -> Option<u32>
+    requires number { IsNumber (work_in plan.now) m }
+    ensures { result ≡ wait_of since (work_in plan.now) (starts_in plan.now) m latest }
+{
+    match since {
+        Since::Release => waited_for(later(latest, followed(plan, m)), plan.release(m)),
+        Since::Issue => waited_for(latest, plan.issue(m)),
+    }
+}
+
+/// The message that message `m` follows, where it follows one, with the tick until which it holds
+/// back `m`.
+fn followed(plan: &Plan, m: u32) -> Option<Latest>
+    requires number { IsNumber (work_in plan.now) m }
+    ensures { result ≡ followed_of (work_in plan.now) (starts_in plan.now) m
+        ((work_in plan.now).follows m) }
+{
+    match plan.follows(m) {
+        0 => None,
+        before => {
+            let finish = plan.finish(before) + plan.think(m);
+            Some(Latest {
+                finish,
+                number: before,
+            })
+        }
+    }
+}
+
+/// The later of the two, where they are there.
+fn later(one: Option<Latest>, other: Option<Latest>) -> Option<Latest>
+    ensures { result ≡ later_of one other }
+{
+    match (one, other) {
+        (None, other) => other,
+        (Some(one), None) => Some(one),
+        (Some(one), Some(other)) => {
+            if is_later(one, other) {
+                Some(other)
+            } else {
+                Some(one)
+            }
+        }
+    }
+}
+
+/// The latest message, where it finishes after the release.
+fn waited_for(latest: Option<Latest>, release: u64) -> Option<u32>
+    ensures { result ≡ link_of latest release }
+{
+    match latest {
+        Some(latest) if release < latest.finish => Some(latest.number),
+        _ => None,
+    }
+}
