@@ -29,6 +29,7 @@ fn cell_in(spaces: &SpaceTable<'_>, space: u32, index: Option<u64>) -> Result<Ce
 }
 
 /// The cell of a name and an index. What a space is called is a name.
+#[inline(always)]
 pub(crate) fn named_cell(
     spaces: &SpaceTable<'_>,
     name: &str,
