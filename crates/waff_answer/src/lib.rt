@@ -3,6 +3,7 @@
 //! - `answers`: which command answers what is asked, of which files; what is written of it.
 //! - `ending`: the answer on the output, or the line of an error on the error stream, and the exit
 //!   status.
+//! - `unique`: what is asked of files has one answer.
 //!
 //! The words of a question and its files are read by `waff_cli`, the texts are those of `waff_tool`.
 //! What is answered, and how the program ends, one clause says: that of `answer`.
@@ -10,5 +11,7 @@
 
 mod answers;
 mod ending;
+mod unique;
 
 pub use ending::answer;
+pub use unique::answer_is_one;

@@ -85,12 +85,8 @@ fn arg<'a>(alloc: Global, word: Word) -> Arg<'a> {
             "How many threads, from 1 to 16; else one per processor",
         ),
         Word::Rule => rule(alloc),
-        Word::Names(help) => option(alloc, "names", help).action(ArgAction::SetTrue),
-        Word::Clients => option(
-            alloc,
-            "clients",
-            "A line for each client; not with --names",
-        ).action(ArgAction::SetTrue),
+        Word::Names(help) => flag(alloc, "names", help),
+        Word::Clients => flag(alloc, "clients", "A line for each client; not with --names"),
         Word::Picture => picture(alloc),
         Word::From => tick(alloc, "from", "The tick at which the part begins").default_value("0"),
         Word::To => tick(
@@ -117,6 +113,11 @@ fn file<'a>(alloc: Global, word: FileWord) -> Arg<'a> {
 /// An option of this name.
 fn option<'a>(alloc: Global, name: &'static str, help: &'static str) -> Arg<'a> {
     Arg::new(alloc, name).long(name).help(help)
+}
+
+/// An option that takes no word.
+fn flag<'a>(alloc: Global, name: &'static str, help: &'static str) -> Arg<'a> {
+    option(alloc, name, help).action(ArgAction::SetTrue)
 }
 
 /// How many workers there are, this many at most.

@@ -28,6 +28,10 @@ pub record AreHeadedLines (text : List ℕ) : Type 0 where
   pub headed : All IsHeadedLine lines
   pub whole : concat lines ≡ text
 
+-- a text is parted into such lines in one way, so no line holds what reads as another
+abbrev pub LinesAreOne : Type 0
+LinesAreOne = (text : List ℕ) (one other : AreHeadedLines text) → one.lines ≡ other.lines
+
 -- at how many places of a format a value stands: one for each `{`
 abbrev pub places : List ℕ → ℕ
 places format = count_by (λ byte. byte == 123) format

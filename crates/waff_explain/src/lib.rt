@@ -15,7 +15,8 @@
 //! `words` has the lines, each with its head, and `said` the values that stand in them. `walk`
 //! goes over the records of CSV and tells where each stands. What is refused is the matter of the
 //! readers, which decide: these words look at the refused bytes again and tell what the readers saw.
-//! What was accepted is lent to them. Each line begins with one of the heads (`AreHeadedLines`).
+//! What was accepted is lent to them. Each line begins with one of the heads and ends with its only
+//! line feed (`AreHeadedLines`).
 #![tactic(auto)]
 
 mod affinities;
@@ -41,3 +42,4 @@ pub use plan_texts::plan_text_words;
 pub use sizes::sizes_words;
 pub use traces::trace_words;
 pub use verdicts::verdict_words;
+pub use words::lines_are_one;

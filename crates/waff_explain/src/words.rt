@@ -1,7 +1,8 @@
 //! The lines of an explanation, which grow in number.
 
 ghost use Rattle.std.specs.Prelude.{◌≡◌, Some, IfOk, List, ℕ, length, string_bytes};
-ghost use Rattle.waff_explain.specs.Lines.{IsHeadedLine, AreHeadedLines, head_text, places};
+ghost use Rattle.waff_explain.specs.Lines.{IsHeadedLine, AreHeadedLines, LinesAreOne, head_text};
+ghost use Rattle.waff_explain.specs.Lines.{places};
 
 use crate::said::Said;
 use std::alloc::{AllocError, Global};
@@ -146,3 +147,9 @@ fn line_of(alloc: Global, head: Head, said: Sentence<'_>) -> Result<String, Allo
     let (shown, _) = cut(said.as_str(), '\n');
     format!(in alloc; "{head}{shown}\n")
 }
+
+/// The text of an explanation is parted into its lines in one way: a function that does nothing and
+/// whose contract is the law.
+pub fn lines_are_one()
+    ensures { LinesAreOne }
+{}

@@ -5,18 +5,18 @@ pub mod CheckUniqueness
 mod ComparisonLemmas
 mod ComparisonRefusals
 mod ExplainedFaults
-mod ExplainedLaws
+pub mod ExplainedLaws
 mod ExplainedLines
-mod FigureUniqueness
+pub mod FigureUniqueness
 mod LineLaws
-mod NeedsTexts
+pub mod NeedsTexts
 mod OrderLemmas
 mod OwnPlanLaws
-mod RankLaws
+pub mod RankLaws
 mod RankLemmas
-mod RateLaws
+pub mod RateLaws
 mod ReplayRefusals
 mod ResultLemmas
 mod StateLines
-mod TextUniqueness
-mod WaitsTexts
+pub mod TextUniqueness
+pub mod WaitsTexts
