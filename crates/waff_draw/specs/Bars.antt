@@ -16,9 +16,9 @@ use Rattle.waff_draw.specs.Xml.{xml_text}
 use Rattle.waff_draw.specs.declared.bars.Bar.{Bar}
 use Rattle.waff_draw.specs.declared.lanes.LaneKind.{LaneKind}
 
--- whether so many ticks are narrower than a pixel where these are a thousand wide
+-- whether so many ticks are narrower than four pixels where these are a thousand wide
 abbrev pub is_narrow : ℕ → ℕ → Bool
-is_narrow span ticks = nat_lt (ticks * 1000) span
+is_narrow span ticks = nat_lt (ticks * 250) span
 
 -- how a bar of the chain is marked, and a thin one, which has no outline
 abbrev pub mark_of : Bool → Bool → List ℕ

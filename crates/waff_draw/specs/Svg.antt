@@ -22,7 +22,7 @@ use Rattle.waff_draw.specs.declared.pieces.TheConstants.{STYLE}
 -- what the bars are
 abbrev pub legend : List ℕ
 legend = codes "<text x='8' y='48'>A bar is a message from its start to its finish, in the colour of its "
-    ++ codes "name. The plan's chain is orange with thick outlines; its bars narrower than a pixel fill "
+    ++ codes "name, or grey. The plan's chain is orange: wide bars have thick outlines, narrow ones fill "
     ++ codes "the height of the lane.</text>\n"
 
 -- the top of the document, for this many rows

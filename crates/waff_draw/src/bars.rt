@@ -17,7 +17,7 @@ use std::alloc::AllocError;
 
 /// A bar: its message, its row, its left edge from that of the part and its width, both in hundredths
 /// of a pixel; the ticks at which the message starts and finishes, the number of its name's colour,
-/// whether it is on the chain, and whether the bar is narrower than a pixel.
+/// whether it is on the chain, and whether the bar is narrower than four pixels.
 #[derive(Clone, Copy)]
 pub struct Bar {
     pub message: u32,
@@ -99,11 +99,11 @@ fn bar_of(chart: &Chart<'_>, row: u64, n: u32) -> Bar
     }
 }
 
-/// Whether so many ticks are narrower than a pixel where these are a thousand wide.
+/// Whether so many ticks are narrower than four pixels where these are a thousand wide.
 fn is_narrow(span: u128, ticks: u64) -> bool
     ensures { result ≡ is_narrow span ticks }
 {
-    u128::from(ticks) * 1000 < span
+    u128::from(ticks) * 250 < span
 }
 
 /// How a bar of the chain is marked, and a thin one.

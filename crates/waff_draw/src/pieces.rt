@@ -12,21 +12,21 @@ use waff_plan_text::Ratio;
 pub(crate) const STYLE: &str = "\
 <style>svg{background:#fff;font:12px sans-serif}text{fill:#222}.ground{fill:#fff}\
 .heading{font-size:16px;font-weight:bold}.tick{text-anchor:middle}\
-.lane rect{fill:#fff}.lane:nth-of-type(even) rect{fill:#f0f2f5}.rule{stroke:#222}\
+.lane rect{fill:#fff}.lane:nth-child(even) rect{fill:#f0f2f5}.rule{stroke:#222}\
 .plan rect{stroke:#333;stroke-width:75}.n0{fill:#999}.n1{fill:#56b4e9}.n2{fill:#009e73}\
-.n3{fill:#cc79a7}.n4{fill:#f0e442}.n5{fill:#0072b2}.n6{fill:#d55e00}.n7{fill:#882255}\
+.n3{fill:#cc79a7}.n4{fill:#f0e442}.n5{fill:#0072b2}.n6{fill:#8c564b}.n7{fill:#882255}\
 .n8{fill:#999933}.plan .thin{stroke:none}.plan .chain{fill:#e69f00;stroke:#000;stroke-width:200}\
 .plan path{stroke:#c8ccd2;stroke-width:100}\
 @media(prefers-color-scheme:dark){svg{background:#16181c}text{fill:#e8e8e8}.ground{fill:#16181c}\
-.lane rect{fill:#16181c}.lane:nth-of-type(even) rect{fill:#22262c}.rule{stroke:#e8e8e8}\
+.lane rect{fill:#16181c}.lane:nth-child(even) rect{fill:#22262c}.rule{stroke:#e8e8e8}\
 .plan rect{stroke:#ccc}.plan .chain{stroke:#fff}.plan path{stroke:#454b54}}\
 .plan .chain.thin{stroke:none}</style>\n";
 
 /// What the bars are.
 pub(crate) const LEGEND: &str = "\
-<text x='8' y='48'>A bar is a message from its start to its finish, in the colour of its name. The \
-plan's chain is orange with thick outlines; its bars narrower than a pixel fill the height of the \
-lane.</text>\n";
+<text x='8' y='48'>A bar is a message from its start to its finish, in the colour of its name, or \
+grey. The plan's chain is orange: wide bars have thick outlines, narrow ones fill the height of \
+the lane.</text>\n";
 
 /// Appends the top of the document, of this height in pixels, and its ground.
 #[tactic(auto, unfolding(crate::specs::Pieces::top_start))]
