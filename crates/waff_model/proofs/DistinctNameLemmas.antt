@@ -1,5 +1,5 @@
 -- The keys of a table of names as texts, and the names of messages.
-use Rattle.std.proofs.Common.{◌≡◌, ℕ, ◌+◌, ◌<◌, ◌≤◌, Bool, true, false, inl, inr, cond, List, [], ◌∷◌, ◌++◌, length, get_or, map, take, Some, slice_get, option_map, ◌||◌, Bor, arith, refl, sym, ◌∙◌, ap}
+use Rattle.std.proofs.Common.{◌≡◌, ℕ, Bool, inl, inr, cond, List, [], ◌∷◌, ◌++◌, get_or, map, Some, slice_get, option_map, ◌||◌, Bor, refl, sym, ◌∙◌, ap}
 use Rattle.std.specs.List.{list_any}
 use Rattle.std.specs.Str.{bytes_eq}
 use Rattle.std.proofs.lemmas.Bool.{cases_Bool}
