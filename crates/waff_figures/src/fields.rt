@@ -24,16 +24,23 @@ impl fmt::Display for WorkerField {
     }
 }
 
-/// How much of the time workers are busy: their number, the total and the length.
+/// How much of the time workers are busy.
 #[derive(Clone, Copy)]
-pub(crate) struct BusyField(pub(crate) Option<u32>, pub(crate) u64, pub(crate) u64);
+pub(crate) struct BusyField {
+    pub(crate) workers: Option<u32>,
+    pub(crate) total: u64,
+    pub(crate) length: u64,
+}
 
 impl fmt::Display for BusyField {
-    ghost output = { λ busy. Some (busy_field busy.0 busy.1 busy.2) };
+    ghost output = { λ busy. Some (busy_field busy.workers busy.total busy.length) };
 
     fn fmt<W: fmt::Write>(&self, f: &mut fmt::Formatter<W>) -> fmt::Result {
-        match self.0 {
-            Some(k) => write!(f, "{}", Ratio(self.1, u128::from(k) * u128::from(self.2))),
+        match self.workers {
+            Some(k) => {
+                let time = u128::from(k) * u128::from(self.length);
+                write!(f, "{}", Ratio(self.total, time))
+            }
             None => write!(f, "-"),
         }
     }

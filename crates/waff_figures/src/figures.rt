@@ -69,7 +69,7 @@ pub fn figures_of(
         total: plan.total(),
         length: plan.length(),
         least,
-        waits: waits(plan),
+        waits: sum_of_waits(plan),
         latencies: sum_of_latencies(plan),
         p50: percentile(sorted.as_slice(), 50),
         p99: percentile(sorted.as_slice(), 99),
@@ -109,7 +109,7 @@ fn least_in_order(workers: Option<u32>, total: u64, shortest: u64) -> u64
 }
 
 /// How long the messages wait in all, from their issues to their starts.
-fn waits(plan: &Plan) -> u128
+fn sum_of_waits(plan: &Plan) -> u128
     ensures { result ≡ waits_of (work_in plan.now) (starts_in plan.now) }
 {
     let mut waits = 0;

@@ -1,8 +1,8 @@
 //! How good one plan is.
 
-ghost use Rattle.std.specs.Prelude.{OnOk, drop, take};
+ghost use Rattle.std.specs.Prelude.{OnOk};
 ghost use Rattle.waff_plan_text.specs.Lines.{Adds, text_of};
-ghost use Rattle.waff_figures.specs.Rate.{rate_lines};
+ghost use Rattle.waff_figures.specs.Rate.{rate_lines, size_lines, speed_lines, wait_lines};
 
 use crate::fields::{BusyField, WorkerField};
 use crate::figures::Figures;
@@ -19,20 +19,20 @@ pub fn push_rate(text: &mut String, figures: &Figures) -> Result<(), AllocError>
     push_waits(text, figures)
 }
 
-/// Appends the lines of how much is run: the first three.
+/// Appends the lines of how much is run.
 fn push_sizes(text: &mut String, figures: &Figures) -> Result<(), AllocError>
     ensures { OnOk result (Adds text.old text.new
-        (text_of (take 3 (rate_lines figures.now)))) }
+        (text_of (size_lines figures.now))) }
 {
     let Figures { total, length, .. } = *figures;
     let workers = WorkerField(figures.workers);
     writeln!(text, "workers,{workers}\ntotal,{total}\nlength,{length}")
 }
 
-/// Appends the lines of how fast it is run: the next four.
+/// Appends the lines of how fast it is run.
 fn push_speeds(text: &mut String, figures: &Figures) -> Result<(), AllocError>
     ensures { OnOk result (Adds text.old text.new
-        (text_of (take 4 (drop 3 (rate_lines figures.now))))) }
+        (text_of (speed_lines figures.now))) }
 {
     let Figures {
         total,
@@ -41,7 +41,11 @@ fn push_speeds(text: &mut String, figures: &Figures) -> Result<(), AllocError>
         ..
     } = *figures;
     let speedup = Ratio(total, u128::from(length));
-    let busy = BusyField(figures.workers, total, length);
+    let busy = BusyField {
+        workers: figures.workers,
+        total,
+        length,
+    };
     let over = RatioUp(length, least);
     writeln!(
         text,
@@ -49,10 +53,10 @@ fn push_speeds(text: &mut String, figures: &Figures) -> Result<(), AllocError>
     )
 }
 
-/// Appends the lines of how long messages wait and take: the last five.
+/// Appends the lines of how long messages wait and take.
 fn push_waits(text: &mut String, figures: &Figures) -> Result<(), AllocError>
     ensures { OnOk result (Adds text.old text.new
-        (text_of (drop 7 (rate_lines figures.now)))) }
+        (text_of (wait_lines figures.now))) }
 {
     let Figures {
         waits,

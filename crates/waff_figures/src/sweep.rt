@@ -191,7 +191,11 @@ fn push_row(text: &mut String, figures: &Figures) -> Result<(), AllocError>
         ..
     } = *figures;
     let speedup = Ratio(total, u128::from(length));
-    let busy = BusyField(workers, total, length);
+    let busy = BusyField {
+        workers,
+        total,
+        length,
+    };
     let workers = WorkerField(workers);
     let quality = QualityFields(*figures);
     writeln!(text, "{workers},{length},{speedup},{busy},{quality}")

@@ -16,7 +16,7 @@ returns c =
       total = c.total.ensures.total;
       length = c.length.ensures.length;
       least = c.in_ok-least.ensures;
-      waits = c.waits.ensures;
+      waits = c.sum_of_waits.ensures;
       latencies = c.sum_of_latencies.ensures;
       p50 = percentile_permuted 50 latencies sorted c.percentile.result c.in_ok-sorted.ensures.same
           (subst (λ xs. IsPercentile 50 xs c.percentile.result) c.as_slice.ensures.value c.percentile.ensures);

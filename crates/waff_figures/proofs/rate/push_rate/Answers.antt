@@ -1,8 +1,8 @@
-use Rattle.std.proofs.Common.{◌≡◌, List, ℕ, ◌++◌, drop, string_bytes, take, append_assoc, sym, ◌∙◌, ap}
+use Rattle.std.proofs.Common.{◌≡◌, List, ℕ, ◌++◌, string_bytes, append_assoc, sym, ◌∙◌, ap}
 use Rattle.std.proofs.lemmas.List.Concat.{flat_map-append}
 use Rattle.std.proofs.lemmas.Result.{on_ok_weaker}
 use Rattle.waff_plan_text.specs.Lines.{line_text, text_of}
-use Rattle.waff_figures.specs.Rate.{rate_lines}
+use Rattle.waff_figures.specs.Rate.{size_lines, speed_lines, wait_lines}
 use Rattle.waff_figures.proofs.rate.push_rate.Goals as goal
 
 -- what stood before, lines, and lines behind them
@@ -12,11 +12,11 @@ lines_behind old one two a b h k =
 
 pub returns : goal.returns
 returns c =
-    let lines = rate_lines c.args.figures.now in
+    let figures = c.args.figures.now in
     let old = string_bytes c.args.text.now in
     let one = string_bytes c.push_sizes.new.text in
     let two = string_bytes c.push_speeds.new.text in
-    let next = lines_behind old one two (take 3 lines) (take 4 (drop 3 lines)) c.in_ok-push_sizes.ensures c.in_ok-push_speeds.ensures in
+    let next = lines_behind old one two (size_lines figures) (speed_lines figures) c.in_ok-push_sizes.ensures c.in_ok-push_speeds.ensures in
     on_ok_weaker c.push_waits.result
-    (λ done. lines_behind old two (string_bytes c.push_waits.new.text) (take 3 lines ++ take 4 (drop 3 lines)) (drop 7 lines) next done)
+    (λ done. lines_behind old two (string_bytes c.push_waits.new.text) (size_lines figures ++ speed_lines figures) (wait_lines figures) next done)
     c.push_waits.ensures

@@ -3,7 +3,7 @@ use Rattle.std.specs.List.{range_with_len}
 use Rattle.waff_plan.specs.Timing.{start_of, work_of}
 use Rattle.waff_plan.specs.Work.{issue_of}
 use Rattle.waff_plan.proofs.Longest.{sum_more}
-use Rattle.waff_figures.proofs.figures.waits.Goals as goal
+use Rattle.waff_figures.proofs.figures.sum_of_waits.Goals as goal
 
 pub loop-n-preserved : goal.loop-n-preserved
 loop-n-preserved c =

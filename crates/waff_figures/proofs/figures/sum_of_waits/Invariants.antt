@@ -3,7 +3,7 @@ use Rattle.std.specs.List.{range_with_len}
 use Rattle.waff_plan.specs.Timing.{start_of, work_of}
 use Rattle.waff_plan.specs.Work.{issue_of}
 use Rattle.waff_model.specs.declared.limits.TheConstants.{MAX_TICK}
-use Rattle.waff_figures.proofs.figures.waits.Given as goal
+use Rattle.waff_figures.proofs.figures.sum_of_waits.Given as goal
 
 abbrev pub invariant-loop-n : goal.invariant-loop-n
 invariant-loop-n l = record {
