@@ -157,9 +157,10 @@ pub fn list(
         };
         let mut taken = 0;
         for _ in 0..free(&started, now, k) {
-            if let Some(m) = first(requests, &started, priorities, now, taken) {
-                taken |= only(m);
-            }
+            let Some(m) = first(requests, &started, priorities, now, taken) else {
+                break;
+            };
+            taken |= only(m);
         }
         start(&mut started, requests, taken, k, now)?;
         tick = next(requests, &started, now);

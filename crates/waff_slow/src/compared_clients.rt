@@ -4,9 +4,10 @@ ghost use Rattle.std.specs.Prelude.{◌≡◌, IfOk, length};
 ghost use Rattle.waff_plan.specs.Bound.{IsWorkers};
 
 use crate::by_issue::{Request, requests};
-use crate::compared_plans::{RULES, WORKERS, starts};
+use crate::compared_plans::{RULES, WORKERS, is_filled, is_within_bound, starts};
 use crate::dice::Dice;
 use crate::plans::greatest;
+use crate::same::{are_same, are_same_numbers, is_same};
 use crate::traces::{HIERARCHIES, TRACES, random_clients};
 use crate::{by_issue, lists};
 use std::alloc::{AllocError, Global};
@@ -21,25 +22,30 @@ use waff_read::{read_hierarchy, read_trace};
 
 /// A plan without a limit, with its printed chain.
 #[derive(Drop)]
-struct ShownPlan {
-    plan: Plan,
-    chain: Chain,
+pub struct ShownPlan {
+    pub plan: Plan,
+    pub chain: Chain,
 }
 
 /// A plan for k workers, with its printed chain.
 #[derive(Drop)]
-struct ShownListPlan {
-    made: WorkerPlan,
-    chain: Chain,
+pub struct ShownListPlan {
+    pub made: WorkerPlan,
+    pub chain: Chain,
 }
 
-fn unlimited(alloc: Global, case: &Case<'_>) -> Result<ShownPlan, AllocError> {
+pub fn unlimited(alloc: Global, case: &Case<'_>) -> Result<ShownPlan, AllocError> {
     let plan = plan(alloc, case.tree, case.assigned, case.trace)?;
     let chain = chain(alloc, case.tree, case.assigned, &plan)?;
     Ok(ShownPlan { plan, chain })
 }
 
-fn listed(alloc: Global, case: &Case<'_>, rule: Rule, k: u32) -> Result<ShownListPlan, AllocError>
+pub fn listed(
+    alloc: Global,
+    case: &Case<'_>,
+    rule: Rule,
+    k: u32,
+) -> Result<ShownListPlan, AllocError>
     requires { IsWorkers k }
     ensures { IfOk result (λ found. found.made.workers ≡ k) }
 {
@@ -60,22 +66,30 @@ fn is_of(
     chain: &Chain,
 ) {
     let found = starts(alloc, plan).expect(rt, "starts");
-    assert_eq!(rt; found.as_slice(), wanted, "trace {number}");
-    let mut finishes = Vec::new(alloc);
-    for (it, start) in requests.iter().zip(wanted) {
-        finishes
-            .push(start.saturating_add(it.cost))
-            .expect(rt, "finishes");
-    }
-    let last = greatest(&finishes, u64::MAX);
-    let length = last.map_or(0, |(_, finish)| finish);
-    assert!(rt; plan.length() == length, "trace {number}: {length}");
-    let last = last.map(|(m, _)| m);
+    are_same(rt, number, "starts", &found, wanted);
+    let (last, length) = end(alloc, requests, wanted).expect(rt, "finishes");
+    is_same(rt, number, "length", plan.length(), length);
     let wanted = by_issue::chain(alloc, requests, wanted, last).expect(rt, "a chain");
-    assert_eq!(rt; chain.messages(), wanted.as_slice(), "trace {number}");
-    let wanted = by_issue::cost_and_release(requests, wanted.as_slice());
-    let found = (chain.cost(), chain.release());
-    assert!(rt; found == wanted, "trace {number}: {found:?}");
+    are_same_numbers(rt, number, "chain", chain.messages(), &wanted);
+    let (cost, release) = by_issue::cost_and_release(requests, &wanted);
+    is_same(rt, number, "cost", chain.cost(), cost);
+    is_same(rt, number, "release", chain.release(), release);
+}
+
+/// The first message that finishes last, and its finish, where the messages start at these ticks.
+fn end(
+    alloc: Global,
+    requests: &[Request],
+    starts: &[u64],
+) -> Result<(Option<u32>, u64), AllocError> {
+    let mut finishes = Vec::new(alloc);
+    for (it, start) in requests.iter().zip(starts) {
+        finishes.push(start.saturating_add(it.cost))?;
+    }
+    match greatest(&finishes, u64::MAX) {
+        Some((last, finish)) => Ok((Some(last), finish)),
+        None => Ok((None, 0)),
+    }
 }
 
 /// The plan without a limit is that for as many workers as messages, and its chain is as long.
@@ -99,7 +113,7 @@ fn is_unlimited(
         &found.chain,
     );
     let length = found.chain.release().saturating_add(found.chain.cost());
-    assert!(rt; found.plan.length() == length, "trace {number}: {length}");
+    is_same(rt, number, "chain", found.plan.length(), length);
 }
 
 /// The plan has to be the list plan by this rule, within the bound of its chain.
@@ -131,20 +145,11 @@ fn is_listed(
         made.plan(),
         &found.chain,
     );
-    let seats = lists::seats(alloc, &started, requests.len()).expect(rt, "seats");
-    assert_eq!(rt; made.seats(), seats.as_slice(), "trace {number}");
-    let order = lists::order(alloc, &started).expect(rt, "an order");
-    assert_eq!(rt; made.order(), order.as_slice(), "trace {number}");
+    is_filled(rt, alloc, number, made, &started);
     let total = requests
         .iter()
         .fold(0, |sum: u64, it| sum.saturating_add(it.cost));
-    let (cost, release) = (found.chain.cost(), found.chain.release());
-    let workers = u64::from(k);
-    let right = total
-        .saturating_add(workers.saturating_mul(release))
-        .saturating_add(workers.saturating_sub(1).saturating_mul(cost));
-    let left = workers.saturating_mul(made.plan().length());
-    assert!(rt; left <= right, "trace {number}: {left}, {right}");
+    is_within_bound(rt, number, made, total, &found.chain);
 }
 
 /// All plans of the trace have to be those of the slow programs.

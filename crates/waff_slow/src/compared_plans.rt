@@ -1,19 +1,19 @@
 //! Plans of random traces, beside those of the plain slow programs.
 
+use crate::compared_clients::{listed, unlimited};
 use crate::dice::Dice;
 use crate::lists::{Started, finished};
 use crate::pairs::{depth, needed, ordered, paths};
 use crate::plans::{Work, times_of};
+use crate::same::{are_same, are_same_numbers, is_at_most, is_same};
 use crate::traces::{HIERARCHIES, MESSAGES, TRACES, random_trace};
 use crate::{lists, plans};
 use std::alloc::{AllocError, Global};
 use std::process::Abort;
-use waff_assign::assign;
-use waff_list::{Rule, WorkerPlan, list_chain, list_plan_by};
+use waff_assign::{Case, assign};
+use waff_list::{Rule, WorkerPlan};
 use waff_model::{Tree, Version};
 use waff_order::predecessors::needs;
-use waff_plan::printed::chain;
-use waff_plan::unlimited::plan;
 use waff_plan::{Chain, Plan};
 use waff_read::{read_hierarchy, read_trace};
 
@@ -34,19 +34,17 @@ pub fn starts(alloc: Global, plan: &Plan) -> Result<Vec<u64>, AllocError> {
 /// The plan has to be that of these starts, and the chain the printed one.
 fn is_of(rt: &impl Abort, alloc: Global, work: &Work, wanted: &[u64], plan: &Plan, chain: &Chain) {
     let found = starts(alloc, plan).expect(rt, "starts");
-    assert_eq!(rt; found.as_slice(), wanted, "trace {}", work.number);
+    are_same(rt, work.number, "starts", &found, wanted);
     let finishes = plans::finishes(alloc, &work.times, wanted).expect(rt, "finishes");
     let length = finishes
         .iter()
         .fold(0, |most: u64, finish| most.max(*finish));
-    assert!(rt; plan.length() == length, "trace {}: {length}", work.number);
+    is_same(rt, work.number, "length", plan.length(), length);
     let wanted = plans::chain(alloc, work, wanted).expect(rt, "a chain");
-    assert_eq!(rt;
-        chain.messages(),
-        wanted.as_slice(),
-        "trace {}",
-        work.number
-    );
+    are_same_numbers(rt, work.number, "chain", chain.messages(), &wanted);
+    let (cost, release) = plans::cost_and_release(work, &wanted);
+    is_same(rt, work.number, "cost", chain.cost(), cost);
+    is_same(rt, work.number, "release", chain.release(), release);
 }
 
 /// The messages in the order in which k workers start them by this rule.
@@ -73,58 +71,78 @@ fn is_list(
     let starts = lists::starts(alloc, &started_by_all, work.times.len()).expect(rt, "starts");
     let again = started(alloc, needed, rule, made.workers()).expect(rt, "a plan");
     let again = lists::starts(alloc, &again, work.times.len()).expect(rt, "starts");
-    assert_eq!(rt;
-        again.as_slice(),
-        starts.as_slice(),
-        "trace {}",
-        work.number
-    );
+    are_same(rt, work.number, "starts by needs", &again, &starts);
     is_of(rt, alloc, work, &starts, made.plan(), chain);
-    let order = lists::order(alloc, &started_by_all).expect(rt, "an order");
-    assert_eq!(rt; made.order(), order.as_slice(), "trace {}", work.number);
-    let seats = lists::seats(alloc, &started_by_all, work.times.len()).expect(rt, "seats");
-    assert_eq!(rt; made.seats(), seats.as_slice(), "trace {}", work.number);
+    is_filled(rt, alloc, work.number, made, &started_by_all);
     obeys(rt, work, &started_by_all, made.workers());
-    is_within_bound(rt, work, made, chain);
+    let total = work
+        .times
+        .iter()
+        .fold(0, |sum: u64, it| sum.saturating_add(it.cost));
+    is_within_bound(rt, work.number, made, total, chain);
+}
+
+/// The messages have to start in this order, each on its worker.
+pub fn is_filled(
+    rt: &impl Abort,
+    alloc: Global,
+    number: u32,
+    made: &WorkerPlan,
+    started: &[Started],
+) {
+    let order = lists::order(alloc, started).expect(rt, "an order");
+    are_same_numbers(rt, number, "order", made.order(), &order);
+    let seats = lists::seats(alloc, started, started.len()).expect(rt, "seats");
+    are_same_numbers(rt, number, "workers", made.seats(), &seats);
 }
 
 /// No message may start before its release or before one for which it waits has finished, and no
 /// more than k may run at once.
 fn obeys(rt: &impl Abort, work: &Work, started: &[Started], k: u32) {
     for it in started {
-        let at = it.message.wrapping_sub(1) as usize;
-        let (set, release) = match (work.pairs.get(at), work.times.get(at)) {
-            (Some(set), Some(times)) => (*set, times.release),
-            _ => (u64::MAX, u64::MAX),
-        };
-        let waits = set & !finished(started, it.start) == 0 && release <= it.start;
-        assert!(rt; waits, "trace {}: {}", work.number, it.message);
-        let running = started
-            .iter()
-            .filter(|other| other.start <= it.start && it.start < other.finish)
-            .count();
         assert!(rt;
-            running <= k as usize,
+            waits(work, started, *it),
             "trace {}: {}",
             work.number,
-            it.start
+            it.message
+        );
+        is_at_most(
+            rt,
+            work.number,
+            "running",
+            running(started, it.start),
+            u64::from(k),
         );
     }
 }
 
-/// The plan has to be within the bound of its chain.
-fn is_within_bound(rt: &impl Abort, work: &Work, made: &WorkerPlan, chain: &Chain) {
-    let k = u64::from(made.workers());
-    let total = work
-        .times
+/// Whether a message starts at its release or later, when all for which it waits have finished.
+fn waits(work: &Work, started: &[Started], it: Started) -> bool {
+    let at = it.message.wrapping_sub(1) as usize;
+    match (work.pairs.get(at), work.times.get(at)) {
+        (Some(set), Some(times)) => {
+            *set & !finished(started, it.start) == 0 && times.release <= it.start
+        }
+        _ => false,
+    }
+}
+
+/// How many messages run at this tick.
+fn running(started: &[Started], tick: u64) -> u64 {
+    started
         .iter()
-        .fold(0, |sum: u64, it| sum.saturating_add(it.cost));
-    let (cost, release) = plans::cost_and_release(work, chain.messages());
+        .filter(|it| it.start <= tick && tick < it.finish)
+        .count() as u64
+}
+
+/// The plan of messages of this total has to be within the bound of its chain.
+pub fn is_within_bound(rt: &impl Abort, number: u32, made: &WorkerPlan, total: u64, chain: &Chain) {
+    let k = u64::from(made.workers());
     let right = total
-        .saturating_add(k.saturating_mul(release))
-        .saturating_add(k.saturating_sub(1).saturating_mul(cost));
+        .saturating_add(k.saturating_mul(chain.release()))
+        .saturating_add(k.saturating_sub(1).saturating_mul(chain.cost()));
     let left = k.saturating_mul(made.plan().length());
-    assert!(rt; left <= right, "trace {}: {left}, {right}", work.number);
+    is_at_most(rt, number, "bound", left, right);
 }
 
 /// The messages from which paths through the needs lead to a message have to be those from which
@@ -132,17 +150,19 @@ fn is_within_bound(rt: &impl Abort, work: &Work, made: &WorkerPlan, chain: &Chai
 fn lead_as_far(rt: &impl Abort, alloc: Global, work: &Work, needed: &[u64], tree: &Tree) {
     let found = paths(alloc, needed).expect(rt, "paths");
     let wanted = paths(alloc, &work.pairs).expect(rt, "paths");
-    assert_eq!(rt;
-        found.as_slice(),
-        wanted.as_slice(),
-        "trace {}",
-        work.number
-    );
+    are_same(rt, work.number, "paths", &found, &wanted);
     let count = needed
         .iter()
         .fold(0, |sum: u32, set| sum.saturating_add(set.count_ones()));
     let most = u64::from(MESSAGES) * (u64::from(depth(tree)) + 1);
-    assert!(rt; u64::from(count) <= most, "trace {}: {count}", work.number);
+    is_at_most(rt, work.number, "needs", u64::from(count), most);
+}
+
+/// The plan without a limit has to be the least one.
+fn is_least(rt: &impl Abort, alloc: Global, work: &Work, case: &Case<'_>) {
+    let found = unlimited(alloc, case).expect(rt, "a plan");
+    let starts = plans::least(alloc, work).expect(rt, "starts");
+    is_of(rt, alloc, work, &starts, &found.plan, &found.chain);
 }
 
 /// All plans of the trace have to be those of the slow programs.
@@ -164,20 +184,17 @@ fn agree(rt: &impl Abort, alloc: Global, number: u32, hierarchy: &str, trace: &s
         times: times_of(alloc, &trace).expect(rt, "times"),
     };
     lead_as_far(rt, alloc, &work, &needed.pairs, layout.tree());
-    let plan = plan(alloc, layout.tree(), &assigned, &trace).expect(rt, "a plan");
-    let chain = chain(alloc, layout.tree(), &assigned, &plan).expect(rt, "a chain");
-    let starts = plans::least(alloc, &work).expect(rt, "starts");
-    is_of(rt, alloc, &work, &starts, &plan, &chain);
-    drop(plan);
-    drop(chain);
+    let case = Case {
+        tree: layout.tree(),
+        assigned: &assigned,
+        trace: &trace,
+    };
+    is_least(rt, alloc, &work, &case);
     for k in WORKERS {
         assert!(rt; 1 <= k && k <= 64);
         for rule in RULES {
-            let made = list_plan_by(alloc, &needs, &trace, rule, k).expect(rt, "a plan");
-            let chain = list_chain(alloc, layout.tree(), &assigned, &made).expect(rt, "a chain");
-            is_list(rt, alloc, (&work, &needed), rule, &made, &chain);
-            drop(made);
-            drop(chain);
+            let found = listed(alloc, &case, rule, k).expect(rt, "a plan");
+            is_list(rt, alloc, (&work, &needed), rule, &found.made, &found.chain);
         }
     }
     drop(needs);

@@ -5,7 +5,7 @@
 //! - `plans`: the least plan and the printed chain; `lists`: the list plan by any priority, and tails.
 //! - `by_issue`: plans of clients' messages, found anew at each tick, with their chains and tails.
 //! - `machine`: the core machine; `cells`: what operations do.
-//! - `compared_plans`, `compared_clients`, `compared_machines`: the comparisons.
+//! - `compared_plans`, `compared_clients`, `compared_machines`: the comparisons, by `same`.
 #![tactic(auto)]
 
 #[cfg(test)]
@@ -28,5 +28,7 @@ mod machine;
 mod pairs;
 #[cfg(test)]
 mod plans;
+#[cfg(test)]
+mod same;
 #[cfg(test)]
 mod traces;
