@@ -1,5 +1,5 @@
 -- Of the same files what is asked has one exit status and one text.
-use Rattle.std.proofs.Common.{◌≡◌, ◌∙◌, ℕ, List, None, ap, drop, sym}
+use Rattle.std.proofs.Common.{◌∙◌, ℕ, List, None, ap, drop, sym}
 use Rattle.std.specs.Prelude.{option_map, slice_get, unwrap_or}
 use Rattle.waff_io.specs.Split.{after_mark, before_mark}
 use Rattle.waff_figures.specs.Sweep.{sweep_workers}
