@@ -231,6 +231,17 @@ def tallied(keys: Iterable[tuple[str, int]]) -> Iterator[str]:
     return (f"{key},{count},{cost}" for key, (count, cost) in found.items())
 
 
+def ratio(number: int, by: int) -> str:
+    """A quotient with two digits after the point, or with so many that two are not the zeros before them; rounded down."""
+    if by == 0:
+        return "-"
+    places = 2
+    while 0 < number * 10**places < 10 * by:
+        places += 1
+    found = number * 10**places // by
+    return f"{found // 10**places}.{found % 10**places:0{places}}"
+
+
 def stats(asked: Namespace) -> str:
     """What a trace has, and how much of it is over the limits of waff."""
     trace = read_trace(asked.trace)
@@ -251,7 +262,7 @@ def stats(asked: Namespace) -> str:
         f"cells,{sum(spaces.values())}",
         f"cost,{cost}",
         f"release,{last}",
-        f"load,{cost // last}.{100 * cost // last % 100:02}" if last else "load,-",
+        f"load,{ratio(cost, last)}",
         f"over-messages,{max(0, len(messages) - most_messages)}",
         f"over-operations,{sum(count > most_ops for count in counts)}",
         f"over-cost,{sum(not 1 <= it.cost <= limits.COST for it in messages)}",
