@@ -314,7 +314,8 @@ def words() -> ArgumentParser:
 def run(asked: Namespace) -> str:
     tree, trace = read_tree(asked.hier), read_trace(asked.trace)
     affinities = [affinity for affinity, _ in affinities_of(tree, trace, asked.trace)]
-    order = (Issues if trace.has_clients else Numbers)(tree, affinities, trace, asked.tick)
+    kind: type[Issues] | type[Numbers] = Issues if trace.has_clients else Numbers
+    order = kind(tree, affinities, trace, asked.tick)
     cells = Cells(asked.folder, tree.sizes, asked.cell)
     done = Run(order, [cells.ops(it.ops) for it in trace.messages])
     done.run(asked.workers)

@@ -139,13 +139,22 @@ def pace(asked: Namespace) -> str:
 def sort(asked: Namespace) -> str:
     """The trace in the order of its releases, or where it has clients of its starts as recorded; those that are equal keep theirs."""
     trace = read_trace(asked.trace)
-    order = sorted(zip(trace.starts(), trace.messages, strict=True), key=lambda it: it[0])
-    return Trace(trace.version, [it for _, it in order]).text()
+    return Trace(trace.version, [it for _, it in in_order(timed_of(trace))]).text()
 
 
-# The first tick of a window, and its messages, each with when it came.
+# Messages, each with when it came.
 Timed = list[tuple[int, Message]]
+# The first tick of a window, and its messages.
 Windows = Iterator[tuple[int, Timed]]
+
+
+def timed_of(trace: Trace) -> Timed:
+    return list(zip(trace.starts(), trace.messages, strict=True))
+
+
+def in_order(messages: Timed) -> Timed:
+    """The messages in the order in which they came."""
+    return sorted(messages, key=lambda it: it[0])
 
 
 def windows_of_messages(messages: Timed, width: int, every: int) -> Windows:
@@ -202,7 +211,8 @@ def window(asked: Namespace) -> str:
     prefix = prefix_of(asked.out)
     lines = ["file,messages,from"]
     most = limits.MESSAGES if trace.has_clients else limits.EARLIER_MESSAGES
-    timed = list(zip(trace.starts(), trace.messages, strict=True))
+    # Where think times or costs are not those of the log any more, clients are ahead of others that were before them there.
+    timed = in_order(timed_of(trace)) if trace.has_clients else timed_of(trace)
     for number, (start, messages) in enumerate(parts(timed, width, every), 1):
         name = f"{prefix}{number:05}.csv"
         if len(messages) > most:

@@ -74,8 +74,8 @@ ORDERS: dict[str, Callable[[Figures], tuple[int, ...]]] = {
 
 def order(by: str, over: str) -> Callable[[Row], tuple[int, ...]]:
     """The order of trees by the sums, or the worst, of their figures for each number of workers."""
-    taken = max if over == "worst" else sum
-    return lambda row: tuple(taken(it) for it in zip(*map(ORDERS[by], row), strict=True))
+    is_worst = over == "worst"
+    return lambda row: tuple(max(it) if is_worst else sum(it) for it in zip(*map(ORDERS[by], row), strict=True))
 
 
 def order_of(row: Row, trace: Trace) -> str:

@@ -30,8 +30,9 @@ by side in a plan where they did not in the log, unless their releases keep them
 
 WINDOW_HELP = """\
 What a window does not show: the messages that were under way before it. Each window begins with no message that runs or waits, so
-that its first ones start sooner than in the whole trace, and its waits and latencies are less. The wider the windows are beside the
-latencies, the less that is: take two widths, and compare. Windows that overlap (`--every`) count messages more than once."""
+that its first ones start sooner than in the whole trace, and mostly its waits and latencies are less. The wider the windows are beside the
+latencies, the less that is: take two widths, and compare. Windows that overlap (`--every`) count messages more than once. The messages
+of a trace with clients are taken in the order in which they were issued in the log, which may be another one than that of the trace."""
 
 GATHER_HELP = """\
 A line for each line of the answers: how many windows, their messages, and the sums of length, list, least and waits. The mean is
