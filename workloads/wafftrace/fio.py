@@ -78,9 +78,10 @@ class Reader:
     def actions(self, log: Lines, lines: list[str], has_times: bool, latencies: Latencies | None, start: int) -> None:
         now = start
         for number, line in enumerate(lines[1:], 2):
-            if HEADER.fullmatch(line.strip()):
+            if HEADER.search(line):
                 log.notes["headers of other jobs, whose lines may be mixed with those before (each job has a log of its own)"] += 1
-                continue
+                if HEADER.fullmatch(line.strip()):
+                    continue
             words = line.split()
             if has_times:
                 if not words or not is_number(words[0]):
