@@ -62,16 +62,19 @@ class Reader:
         """Adds the requests of a log whose job started so many nanoseconds after the others."""
         lines = read_lines(name)
         log = Lines(name, len(lines))
-        first = len(self.requests)
+        first, has_times = len(self.requests), True
         if lines:
             header = HEADER.fullmatch(lines[0].strip())
             if header is None:
                 raise Refusal(3, f"{log.name}: no iolog: its first line is not `fio version 2 iolog` or `.. 3 ..`")
-            self.actions(log, lines, header[1] == "3", latencies, start)
+            has_times = header[1] == "3"
+            self.actions(log, lines, has_times, latencies, start)
             log.without["the header"] = 1
         for it in self.requests[first:]:
             it.client = client
         log.report()
+        if not has_times:
+            tell(f"{log.name}: version 2 has waits and no times, so that requests come as soon as they can")
         if latencies and (left := sum(len(it) for it in latencies.waiting.values())):
             tell(f"{latencies.lines.name}: latencies of no request: {left}")
 
