@@ -62,25 +62,29 @@ class Reader:
         """Adds the requests of a log whose job started so many nanoseconds after the others."""
         lines = read_lines(name)
         log = Lines(name, len(lines))
-        first = len(self.requests)
+        first, has_times = len(self.requests), True
         if lines:
             header = HEADER.fullmatch(lines[0].strip())
             if header is None:
                 raise Refusal(3, f"{log.name}: no iolog: its first line is not `fio version 2 iolog` or `.. 3 ..`")
-            self.actions(log, lines, header[1] == "3", latencies, start)
+            has_times = header[1] == "3"
+            self.actions(log, lines, has_times, latencies, start)
             log.without["the header"] = 1
         for it in self.requests[first:]:
             it.client = client
         log.report()
+        if not has_times:
+            tell(f"{log.name}: version 2 has waits and no times, so that requests come as soon as they can")
         if latencies and (left := sum(len(it) for it in latencies.waiting.values())):
             tell(f"{latencies.lines.name}: latencies of no request: {left}")
 
     def actions(self, log: Lines, lines: list[str], has_times: bool, latencies: Latencies | None, start: int) -> None:
         now = start
         for number, line in enumerate(lines[1:], 2):
-            if HEADER.fullmatch(line.strip()):
+            if HEADER.search(line):
                 log.notes["headers of other jobs, whose lines may be mixed with those before (each job has a log of its own)"] += 1
-                continue
+                if HEADER.fullmatch(line.strip()):
+                    continue
             words = line.split()
             if has_times:
                 if not words or not is_number(words[0]):

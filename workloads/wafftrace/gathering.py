@@ -3,9 +3,12 @@
 import csv
 import os
 import re
+import shlex
 from argparse import Namespace
+from collections.abc import Iterator
 from dataclasses import dataclass
 
+from .calls import Job, answers
 from .logs import Refusal, is_number, read_text, shown
 
 # The columns of an answer that name a line, those that add up, and those of which the median and the worst window count.
@@ -34,9 +37,14 @@ def stem(path: str) -> str:
 
 
 def read_table(name: str, *headers: str) -> list[Row]:
+    """The rows of a file that is a table with one of these headers."""
+    return table(read_text(name), name, *headers)
+
+
+def table(text: str, name: str, *headers: str) -> list[Row]:
     """The rows of a table with one of these headers."""
     try:
-        lines = [it for it in csv.reader(read_text(name).splitlines(), strict=True) if it]
+        lines = [it for it in csv.reader(text.splitlines(), strict=True) if it]
     except csv.Error as fault:
         raise Refusal(3, f"{shown(name)}: no CSV: {fault}") from None
     if not lines or ",".join(lines[0]) not in headers:
@@ -59,25 +67,54 @@ def files_of(names: list[str]) -> list[str]:
     return found
 
 
-def gathered(table: str, names: list[str]) -> list[Window]:
-    """The windows of a table, each with its answer: the file that is named as the window, but for what stands behind the last point."""
-    answers: dict[str, str] = {}
+# The name of an answer, and its text.
+Answer = tuple[str, str]
+
+
+def read_answers(windows: list[Row], names: list[str]) -> Iterator[Answer]:
+    """The answer of each window: the file that is named as the window, but for what stands behind the last point."""
+    found: dict[str, str] = {}
     for name in files_of(names):
-        if stem(name) in answers:
+        if stem(name) in found:
             raise Refusal(3, f"two answers of {shown(stem(name))}")
-        answers[stem(name)] = name
-    found = []
-    for row in read_table(table, WINDOWS):
-        name = answers.pop(stem(row["file"]), None)
-        if name is None:
+        found[stem(name)] = name
+    for row in windows:
+        name = found.pop(stem(row["file"]), "")
+        if not name:
             raise Refusal(3, f"no answer of {shown(row['file'])}: wanted is a file {shown(stem(row['file']))}, with any ending")
+        yield name, read_text(name)
+    if found:
+        raise Refusal(3, f"{shown(next(iter(found.values())))}: an answer of no window of the table")
+
+
+def asked_for(asked: Namespace, windows: list[Row]) -> Iterator[Answer]:
+    """The answer of each window where the program is called."""
+    try:
+        words = shlex.split(asked.call)
+    except ValueError as fault:
+        raise Refusal(2, f"--call {shown(asked.call)}: {fault}") from None
+    if words[:1] not in (["sweep"], ["rank"]) or "{}" not in words:
+        raise Refusal(2, f"--call {shown(asked.call)}: wanted are the words of a sweep or a rank, and {{}} where the window stands")
+    names = [row["file"] for row in windows]
+    return zip(names, answers(asked, [job(words, name) for name in names]), strict=True)
+
+
+def job(words: list[str], window: str) -> Job:
+    """A call for a window. Whoever runs it may stand in another folder."""
+    filled = [window if it == "{}" else it for it in words]
+    return [os.path.abspath(it) if os.path.isfile(it) else it for it in filled]
+
+
+def gathered(asked: Namespace) -> list[Window]:
+    """The windows of a table, each with its answer."""
+    rows = read_table(asked.windows, WINDOWS)
+    found: list[Window] = []
+    for row, (name, text) in zip(rows, asked_for(asked, rows) if asked.call else read_answers(rows, asked.answers), strict=True):
         if not is_number(row["messages"]):
-            raise Refusal(3, f"{shown(table)}: no number of messages: {shown(row['messages'])}")
-        found.append(Window(int(row["messages"]), read_table(name, SWEEP, RANK)))
+            raise Refusal(3, f"{shown(asked.windows)}: no number of messages: {shown(row['messages'])}")
+        found.append(Window(int(row["messages"]), table(text, name, SWEEP, RANK)))
         if [list(it) for it in found[-1].rows] != [list(it) for it in found[0].rows] or keys(found[-1]) != keys(found[0]):
             raise Refusal(3, f"{shown(name)}: its lines are not those of the first answer")
-    if answers:
-        raise Refusal(3, f"{shown(next(iter(answers.values())))}: an answer of no window of {shown(table)}")
     return found
 
 
@@ -131,7 +168,9 @@ def line_of(rows: list[Row], messages: list[int]) -> dict[str, object]:
 
 def gather(asked: Namespace) -> str:
     """A line for each line of the answers: what the windows come to together."""
-    windows = gathered(asked.windows, asked.answers)
+    if bool(asked.call) == bool(asked.answers):
+        raise Refusal(2, "gather: wanted is either an ANSWER for each window, or --call")
+    windows = gathered(asked)
     if not windows or not windows[0].rows:
         raise Refusal(3, f"{shown(asked.windows)}: no window with an answer of a line or more")
     messages = [it.messages for it in windows]

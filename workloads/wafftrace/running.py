@@ -271,19 +271,23 @@ class Run:
 
 
 def in_ticks(run: Run, tree: Tree, affinities: list[str], trace: Trace, nanoseconds: int) -> tuple[list[int], list[int]]:
-    """The starts and costs of messages in whole ticks: rounded down, each cost at least a tick, and a start moved behind what it
-    waited for where rounding would have it before."""
+    """The starts and costs of messages in whole ticks: rounded down, each cost at least a tick and at most what a trace may have, and a
+    start moved behind what it waited for where rounding would have it before."""
     starts, finishes = [0] * len(run.starts), [0] * len(run.starts)
     free: dict[int, int] = {}
-    seen, own = Seen(tree), ones_before(trace)
+    seen, own, cut = Seen(tree), ones_before(trace), 0
     for message in sorted(range(len(run.starts)), key=lambda it: (run.starts[it], it)):
         after = [finish for finish, _ in seen.last(affinities[message])] + [free.get(run.workers[message], 0)]
         if message in own:
             after.append(finishes[own[message]] + trace.messages[message].think)
         starts[message] = max(run.starts[message] // nanoseconds, *after)
         finishes[message] = max(run.finishes[message] // nanoseconds, starts[message] + 1)
+        cut += finishes[message] - starts[message] > limits.COST
+        finishes[message] = min(finishes[message], starts[message] + limits.COST)
         free[run.workers[message]] = finishes[message]
         seen.add(affinities[message], finishes[message], message)
+    if cut:
+        tell(f"messages that took more than {limits.COST} ticks, which are told as that: {cut} (a larger --tick tells them)")
     return starts, [finish - start for start, finish in zip(starts, finishes, strict=True)]
 
 
@@ -310,13 +314,12 @@ def words() -> ArgumentParser:
 def run(asked: Namespace) -> str:
     tree, trace = read_tree(asked.hier), read_trace(asked.trace)
     affinities = [affinity for affinity, _ in affinities_of(tree, trace, asked.trace)]
-    order = (Issues if trace.has_clients else Numbers)(tree, affinities, trace, asked.tick)
+    kind: type[Issues] | type[Numbers] = Issues if trace.has_clients else Numbers
+    order = kind(tree, affinities, trace, asked.tick)
     cells = Cells(asked.folder, tree.sizes, asked.cell)
     done = Run(order, [cells.ops(it.ops) for it in trace.messages])
     done.run(asked.workers)
     starts, costs = in_ticks(done, tree, affinities, trace, asked.tick)
-    if max(costs, default=0) > limits.COST:
-        raise Refusal(3, f"a message took {max(costs)} ticks, and a cost is at most {limits.COST}: a larger --tick")
     measured = [replace(it, cost=cost) for it, cost in zip(trace.messages, costs, strict=True)]
     if asked.measured:
         write_file(asked.measured, Trace(trace.version, measured).text())

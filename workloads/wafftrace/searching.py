@@ -181,7 +181,7 @@ def bounds_of(tree: Tree, spaces: list[str]) -> dict[str, str]:
     """For each of these spaces the highest affinity above all of it that another space is mapped to, as that of a volume as a whole: it
     stays above it."""
     fixed = {owner for space, (_, owners) in tree.maps.items() if space not in spaces for owner in owners}
-    found = {}
+    found: dict[str, str] = {}
     for space in spaces:
         above = [it for it in tree.way(tree.lowest(tree.maps[space][1])) if it in fixed]
         found |= {space: above[-1]} if above else {}

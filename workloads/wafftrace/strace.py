@@ -66,9 +66,8 @@ def unescaped(text: str) -> str:
 
 def absolute(path: str | None) -> str | None:
     """A path that strace shows of a descriptor; None where it is none (a pipe, a socket)."""
-    if path is None or not path.startswith("/"):
-        return None
-    return unescaped(path).removesuffix(" (deleted)")
+    found = unescaped(path) if path else ""
+    return found.removesuffix(" (deleted)") if found.startswith("/") else None
 
 
 # What stands for each file that is not of the volume.
@@ -468,9 +467,11 @@ class Reader:
         if call.result == 0:
             target = None
         for found, at, kind, took in ((source, at_source, "read", first), (target, at_target, "write", second)):
-            if found and at is None:
+            if found is None:
+                continue
+            if at is None:
                 self.sequential(call, kind, call.result, took, found)
-            elif found:
+            else:
                 self.moved(call, found, kind, at, call.result, took)
 
     def copy_range(self, call: Call) -> bool:

@@ -139,13 +139,22 @@ def pace(asked: Namespace) -> str:
 def sort(asked: Namespace) -> str:
     """The trace in the order of its releases, or where it has clients of its starts as recorded; those that are equal keep theirs."""
     trace = read_trace(asked.trace)
-    order = sorted(zip(trace.starts(), trace.messages, strict=True), key=lambda it: it[0])
-    return Trace(trace.version, [it for _, it in order]).text()
+    return Trace(trace.version, [it for _, it in in_order(timed_of(trace))]).text()
 
 
-# The first tick of a window, and its messages, each with when it came.
+# Messages, each with when it came.
 Timed = list[tuple[int, Message]]
+# The first tick of a window, and its messages.
 Windows = Iterator[tuple[int, Timed]]
+
+
+def timed_of(trace: Trace) -> Timed:
+    return list(zip(trace.starts(), trace.messages, strict=True))
+
+
+def in_order(messages: Timed) -> Timed:
+    """The messages in the order in which they came."""
+    return sorted(messages, key=lambda it: it[0])
 
 
 def windows_of_messages(messages: Timed, width: int, every: int) -> Windows:
@@ -202,7 +211,8 @@ def window(asked: Namespace) -> str:
     prefix = prefix_of(asked.out)
     lines = ["file,messages,from"]
     most = limits.MESSAGES if trace.has_clients else limits.EARLIER_MESSAGES
-    timed = list(zip(trace.starts(), trace.messages, strict=True))
+    # Where think times or costs are not those of the log any more, clients are ahead of others that were before them there.
+    timed = in_order(timed_of(trace)) if trace.has_clients else timed_of(trace)
     for number, (start, messages) in enumerate(parts(timed, width, every), 1):
         name = f"{prefix}{number:05}.csv"
         if len(messages) > most:
@@ -231,6 +241,17 @@ def tallied(keys: Iterable[tuple[str, int]]) -> Iterator[str]:
     return (f"{key},{count},{cost}" for key, (count, cost) in found.items())
 
 
+def ratio(number: int, by: int) -> str:
+    """A quotient with two digits after the point, or with so many that two are not the zeros before them; rounded down."""
+    if by == 0:
+        return "-"
+    places = 2
+    while 0 < number * 10**places < 10 * by:
+        places += 1
+    found = number * 10**places // by
+    return f"{found // 10**places}.{found % 10**places:0{places}}"
+
+
 def stats(asked: Namespace) -> str:
     """What a trace has, and how much of it is over the limits of waff."""
     trace = read_trace(asked.trace)
@@ -251,7 +272,7 @@ def stats(asked: Namespace) -> str:
         f"cells,{sum(spaces.values())}",
         f"cost,{cost}",
         f"release,{last}",
-        f"load,{cost // last}.{100 * cost // last % 100:02}" if last else "load,-",
+        f"load,{ratio(cost, last)}",
         f"over-messages,{max(0, len(messages) - most_messages)}",
         f"over-operations,{sum(count > most_ops for count in counts)}",
         f"over-cost,{sum(not 1 <= it.cost <= limits.COST for it in messages)}",

@@ -5,21 +5,18 @@ import csv
 import itertools
 import os
 import re
-import shlex
-import subprocess
 import tempfile
 from argparse import ArgumentParser, Namespace
 from collections.abc import Callable
-from concurrent.futures import ThreadPoolExecutor
 
 from . import limits
+from .calls import Job, answers, words_of_calls
 from .hierarchy import Tree, read_tree
 from .logs import Refusal, shown, tell
 from .searching import Figures, Row, search
 from .traces import Trace, read_trace, write_file
 from .words import Words, number, run_words
 
-ROOT = os.path.dirname(os.path.dirname(os.path.dirname(os.path.realpath(__file__))))
 STRIPES = (1, 2, 4, 8, 16, 32)
 UNITS = tuple(1 << n for n in range(11))
 MOST_TREES = 1000
@@ -77,8 +74,8 @@ ORDERS: dict[str, Callable[[Figures], tuple[int, ...]]] = {
 
 def order(by: str, over: str) -> Callable[[Row], tuple[int, ...]]:
     """The order of trees by the sums, or the worst, of their figures for each number of workers."""
-    taken = max if over == "worst" else sum
-    return lambda row: tuple(taken(it) for it in zip(*map(ORDERS[by], row), strict=True))
+    is_worst = over == "worst"
+    return lambda row: tuple(max(it) if is_worst else sum(it) for it in zip(*map(ORDERS[by], row), strict=True))
 
 
 def order_of(row: Row, trace: Trace) -> str:
@@ -108,7 +105,7 @@ def rank(asked: Namespace, trees: list[Tree]) -> list[Row]:
         for name, tree in zip(names, trees, strict=True):
             write_file(name, tree.text())
         jobs = [job(asked, workers, part) for workers in asked.workers for part in parts(names)]
-        texts = told_by_runner(asked, jobs) if asked.runner else told_here(asked, jobs)
+        texts = answers(asked, jobs)
     figures = [Figures.of(row) for text in texts for row in csv.DictReader(text.splitlines())]
     if len(figures) != len(trees) * len(asked.workers):
         raise Refusal(3, f"{len(figures)} trees were told of, and {len(trees) * len(asked.workers)} were asked for")
@@ -121,39 +118,9 @@ def parts(names: list[str]) -> list[list[str]]:
     return [names[at : at + size] for at in range(0, len(names), size)]
 
 
-def job(asked: Namespace, workers: int, names: list[str]) -> list[str]:
+def job(asked: Namespace, workers: int, names: list[str]) -> Job:
     """The words of a call that ranks the trees of these files."""
-    program = os.path.abspath(asked.program) if os.sep in asked.program else asked.program
-    words = [program, "rank", "--workers", str(workers), "--rule", asked.rule, "--", os.path.abspath(asked.trace)]
-    return [*words, *names]
-
-
-def told_here(asked: Namespace, jobs: list[list[str]]) -> list[str]:
-    """What calls tell, in their order: as many run at once as there are processors."""
-
-    def call(words: list[str]) -> subprocess.CompletedProcess[str]:
-        return subprocess.run(words, capture_output=True, text=True, check=False, stdin=subprocess.DEVNULL)
-
-    try:
-        with ThreadPoolExecutor(os.cpu_count()) as pool:
-            done = list(pool.map(call, jobs))
-    except OSError as fault:
-        raise Refusal(4, f"{shown(asked.program)}: {fault.strerror}") from None
-    for it in done:
-        if it.returncode != 0:
-            raise Refusal(3, f"the program refuses: {shown(it.stderr.strip())}")
-    return [it.stdout for it in done]
-
-
-def told_by_runner(asked: Namespace, jobs: list[list[str]]) -> list[str]:
-    """What calls tell, in their order, where a command of the shell runs them: it takes a line for each on standard input."""
-    with tempfile.TemporaryFile("w+") as lines:
-        lines.writelines(shlex.join(words) + "\n" for words in jobs)
-        lines.seek(0)
-        done = subprocess.run(asked.runner, shell=True, stdin=lines, capture_output=True, text=True, check=False)
-    if done.returncode != 0:
-        raise Refusal(3, f"{shown(asked.runner)}: {shown(done.stderr.strip() or f'status {done.returncode}')}")
-    return re.split(r"(?m)^(?=hierarchy,)", done.stdout)[1:]
+    return ["rank", "--workers", str(workers), "--rule", asked.rule, "--", os.path.abspath(asked.trace), *names]
 
 
 def numbers(word: str) -> list[int]:
@@ -203,15 +170,8 @@ def words() -> ArgumentParser:
         " two together, each time as is best, until nothing gains; tells each change",
     )
     top.add_argument("--write", metavar="FILE", help="write the best tree to this file")
-    top.add_argument(
-        "--with", metavar="COMMAND", dest="runner",
-        help="a command of the shell that runs the calls of the program: it gets a line of shell for each, and prints what they print,"
-        " in their order (`parallel -k`); without it they run here, as many at once as there are processors",
-    )
+    words_of_calls(top)
     top.add_argument("--folder", metavar="DIR", help="where the trees that are tried are written (a folder of their own in it)")
-    top.add_argument(
-        "--program", metavar="FILE", default=os.environ.get("WAFF", os.path.join(ROOT, "waff")), help="the proved program"
-    )
     return top
 
 

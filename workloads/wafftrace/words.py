@@ -12,6 +12,7 @@ from fractions import Fraction
 from typing import NoReturn
 
 from . import VERSION, blocks, clients, fio, gathering, hot, limits, model, plans, strace, traces
+from .calls import words_of_calls
 from .logs import Refusal, is_number, tell
 
 # What is done for the words of a command: the text that it prints.
@@ -29,8 +30,9 @@ by side in a plan where they did not in the log, unless their releases keep them
 
 WINDOW_HELP = """\
 What a window does not show: the messages that were under way before it. Each window begins with no message that runs or waits, so
-that its first ones start sooner than in the whole trace, and its waits and latencies are less. The wider the windows are beside the
-latencies, the less that is: take two widths, and compare. Windows that overlap (`--every`) count messages more than once."""
+that its first ones start sooner than in the whole trace, and mostly its waits and latencies are less. The wider the windows are beside the
+latencies, the less that is: take two widths, and compare. Windows that overlap (`--every`) count messages more than once. The messages
+of a trace with clients are taken in the order in which they were issued in the log, which may be another one than that of the trace."""
 
 GATHER_HELP = """\
 A line for each line of the answers: how many windows, their messages, and the sums of length, list, least and waits. The mean is
@@ -233,9 +235,15 @@ def words_of_traces(part: Callable[..., ArgumentParser]) -> None:
     found = part("gather", what, gathering.gather, GATHER_HELP)
     found.add_argument("windows", metavar="WINDOWS", help="what `waff-trace window` printed")
     found.add_argument(
-        "answers", metavar="ANSWER", nargs="+",
+        "answers", metavar="ANSWER", nargs="*",
         help="the answers, or folders of them: that of a window is named like it, but for what stands behind the last point",
     )
+    found.add_argument(
+        "--call", metavar="WORDS",
+        help="call the program for each window in place of reading answers, with the words of a sweep or a rank; {} is the window"
+        " (`sweep tree.toml {} --workers 8`)",
+    )
+    words_of_calls(found)
 
     found = part("sort", "the trace in the order of its releases", traces.sort)
     found.add_argument("trace", metavar="TRACE", help="the trace, a CSV file")

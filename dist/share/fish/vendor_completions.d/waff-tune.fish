@@ -11,5 +11,5 @@ complete -c waff-tune -l rule -x -a 'arrival longest' -d 'the rule of the plans 
 complete -c waff-tune -l search -d 'search for a tree instead: change the unit, the number of stripes or the affinities of one space after another, or of two together, each time as is best, until nothing gains; tells each change'
 complete -c waff-tune -l write -r -d 'write the best tree to this file'
 complete -c waff-tune -l with -x -d 'a command of the shell that runs the calls of the program: it gets a line of shell for each, and prints what they print, in their order (`parallel -k`); without it they run here, as many at once as there are processors'
-complete -c waff-tune -l folder -r -d 'where the trees that are tried are written (a folder of their own in it)'
 complete -c waff-tune -l program -r -d 'the proved program'
+complete -c waff-tune -l folder -r -d 'where the trees that are tried are written (a folder of their own in it)'
