@@ -7,6 +7,7 @@ import shlex
 from argparse import Namespace
 from collections.abc import Iterator
 from dataclasses import dataclass
+from itertools import pairwise
 
 from .calls import Job, answers
 from .logs import Refusal, is_number, read_text, shown
@@ -19,6 +20,9 @@ PERCENTILES = ("p50", "p99", "latency")
 WINDOWS = "file,messages,from"
 SWEEP = "workers,length,speedup,busy,least,over,waits,mean,p50,p99,latency"
 RANK = "hierarchy,model,affinities,length,list,least,over,waits,mean,p50,p99,latency"
+
+# An option of these commands, whose value is the next word.
+OPTION = re.compile(r"-[a-z]|--[a-z]+")
 
 Row = dict[str, str]
 
@@ -100,9 +104,11 @@ def asked_for(asked: Namespace, windows: list[Row]) -> Iterator[Answer]:
 
 
 def job(words: list[str], window: str) -> Job:
-    """A call for a window. Whoever runs it may stand in another folder."""
+    """A call for a window. Whoever runs it may stand in another folder, so files have their whole names. The command is no file, nor is
+    what stands behind an option."""
     filled = [window if it == "{}" else it for it in words]
-    return [os.path.abspath(it) if os.path.isfile(it) else it for it in filled]
+    others = ((it, os.path.isfile(it) and not OPTION.fullmatch(before)) for before, it in pairwise(filled))
+    return [filled[0], *(os.path.abspath(it) if is_file else it for it, is_file in others)]
 
 
 def gathered(asked: Namespace) -> list[Window]:
