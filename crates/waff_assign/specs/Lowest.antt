@@ -22,6 +22,12 @@ pub record IsLowest (layout : Hierarchy) (Has : Cell → Type 0) (a : ℕ) : Typ
   pub covers : Covers layout Has a
   pub lowest : (other : ℕ) → Covers layout Has other → AtOrAbove layout.tree other a
 
+-- a is the lowest affinity that covers the footprint of message n
+abbrev pub IsLowestOf : Hierarchy → List Message → ℕ → ℕ → Type 0
+IsLowestOf layout messages n a =
+    (message : Message) → slice_get messages (n - 1) ≡ Some message
+    → IsLowest layout (IsInFootprint message.ops) a
+
 -- each message is assigned the lowest affinity that covers its footprint
 abbrev pub AreLowest : Hierarchy → List Message → List ℕ → Type 0
 AreLowest layout messages assigned =

@@ -1,14 +1,17 @@
 //! The assignment of affinities to messages.
 
 ghost use Rattle.std.specs.Prelude.{◌≡◌, ◌<◌, ◌≤◌, ◌++◌, length, All, Contains, IfOk, OnOk};
-ghost use Rattle.waff_assign.specs.Lowest.{IsAssignment, IsInFootprint, IsLowest};
+ghost use Rattle.waff_assign.specs.Lowest.{IsAssignment, IsInFootprint, IsLowest, IsLowestOf};
 ghost use Rattle.waff_model.specs.Cells.{cells_of, cells_of_op};
 ghost use Rattle.waff_model.specs.Layout.{IsCell};
 ghost use Rattle.waff_model.specs.Messages.{sizes_of};
+ghost use Rattle.waff_model.specs.Numbers.{IsAmongFirst};
 
 use crate::Assigned;
 use crate::covering::lowest_above;
+use rayon::prelude::*;
 use std::alloc::{AllocError, Global};
+use std::thread::Threads;
 use waff_model::{AffinityId, Cell, Layout, Op, Ops, Trace};
 
 /// The affinity of each message: the lowest that covers its footprint.
@@ -19,10 +22,44 @@ pub fn assign(alloc: Global, layout: &Layout, trace: &Trace) -> Result<Assigned,
 {
     let mut affinities = Vec::with_capacity(alloc, trace.len() as usize)?;
     for n in 1..trace.len() + 1 {
-        let affinity = lowest_of_ops(layout, &trace.message(n).ops);
-        affinities.push_reserved(affinity);
+        affinities.push_reserved(lowest_of_message(layout, trace, n));
     }
     Ok(Assigned::new(affinities))
+}
+
+/// The affinity of each message, as `assign` finds it, but by several threads where there are many.
+pub fn assign_by_threads<R: Threads + Sync>(
+    rt: &R,
+    alloc: Global,
+    layout: &Layout,
+    trace: &Trace,
+) -> Result<Assigned, AllocError>
+    requires fits { trace.now.sizes ≡ sizes_of layout.now.spaces }
+    ensures assignment { IfOk result (IsAssignment layout.now trace.now.messages) }
+    ensures known { IfOk result (All (λ a. a < length layout.now.tree)) }
+{
+    let affinities = (1..trace.len() + 1)
+        .into_par_iter()
+        .map(
+            |n: u32| -> AffinityId
+                requires fits { trace.now.sizes ≡ sizes_of layout.now.spaces }
+                requires number { IsAmongFirst (length trace.now.messages) n }
+                ensures lowest { IsLowestOf layout.entry.now trace.entry.now.messages n result.0 }
+                ensures within { result.0 < length layout.entry.now.tree }
+            { lowest_of_message(layout, trace, n) },
+        )
+        .collect(rt, alloc)?;
+    Ok(Assigned::new(affinities))
+}
+
+/// The lowest affinity that covers the footprint of message `n`.
+fn lowest_of_message(layout: &Layout, trace: &Trace, n: u32) -> AffinityId
+    requires fits { trace.now.sizes ≡ sizes_of layout.now.spaces }
+    requires number { IsAmongFirst (length trace.now.messages) n }
+    ensures lowest { IsLowestOf layout.now trace.now.messages n result.0 }
+    ensures within { result.0 < length layout.now.tree }
+{
+    lowest_of_ops(layout, &trace.message(n).ops)
 }
 
 /// The lowest affinity that covers what the operations, of which there is one at least, name. At the

@@ -20,7 +20,7 @@ mod order;
 pub mod unique;
 
 pub use assigned::Assigned;
-pub use assignment::assign;
+pub use assignment::{assign, assign_by_threads};
 pub use case::Case;
 pub use covering::lowest;
 pub use footprints::footprint;

@@ -2,18 +2,18 @@
 ghost use Rattle.std.specs.Prelude.{◌≡◌, ◌≢◌, ◌<◌, Ok, ℕ, All, IfErr, IfOk, List, length};
 ghost use Rattle.waff_model.specs.Messages.{sizes_of};
 ghost use Rattle.waff_read.specs.Hierarchies.{hierarchy_of};
-ghost use Rattle.waff_read.specs.Traces.{GivesTrace};
 ghost use Rattle.waff_assign.specs.Case.{instance_of};
+ghost use Rattle.waff_assign.specs.Lowest.{IsAssignment};
 ghost use Rattle.waff_inputs.specs.Inputs.{Accepts, Refuses, RefusesHierarchy, instance_under};
 ghost use Rattle.waff_inputs.specs.Known.{trace_of};
 
 use crate::fault::ToolError;
 use crate::traces::{read_trace, read_trace_by_threads};
-use std::alloc::Global;
+use std::alloc::{AllocError, Global};
 use std::thread::Threads;
-use waff_assign::{Assigned, Case, assign};
+use waff_assign::{Assigned, Case, assign, assign_by_threads};
 use waff_model::{Layout, Trace};
-use waff_read::{TraceError, read_hierarchy};
+use waff_read::read_hierarchy;
 
 /// A hierarchy, a trace over it, and the affinity of each message.
 #[derive(Drop)]
@@ -67,11 +67,19 @@ pub fn accept(alloc: Global, hierarchy: &[u8], trace: &[u8]) -> Result<Accepted,
         Ok(layout) => layout,
         Err(fault) => return Err(ToolError::of_hierarchy(1, fault)),
     };
-    let read = read_trace(alloc, &layout, trace);
-    with_trace(alloc, layout, read)
+    match read_trace(alloc, &layout, trace) {
+        Ok(trace) => {
+            let assigned = assign(alloc, &layout, &trace);
+            with_affinities(layout, trace, assigned)
+        }
+        Err(fault) => {
+            drop(layout);
+            Err(ToolError::from(fault))
+        }
+    }
 }
 
-/// Reads the files as `accept` does, the trace by several threads where it is long.
+/// Reads the files as `accept` does, but a long trace by several threads.
 pub fn accept_by_threads<R: Threads + Sync>(
     rt: &R,
     alloc: Global,
@@ -106,30 +114,11 @@ pub fn accept_over_layout<R: Threads + Sync>(
         → hierarchy_of hierarchy_file ≡ Ok layout → Refuses hierarchy_file trace.now e) }
     ensures nothing { IfErr result (λ e. e ≢ ToolError.Write) }
 {
-    let read = read_trace_by_threads(rt, alloc, &layout, trace);
-    with_trace(alloc, layout, read)
-}
-
-/// The hierarchy and the trace that was read, with the affinity of each message.
-fn with_trace(
-    alloc: Global,
-    layout: Layout,
-    read: Result<Trace, TraceError>,
-) -> Result<Accepted, ToolError>
-    requires fits { IfOk read (λ trace. trace.sizes ≡ sizes_of layout.spaces) }
-    ensures accepted { IfOk result (λ a. (hierarchy_file trace_file : List ℕ)
-        → hierarchy_of hierarchy_file ≡ Ok layout
-        → GivesTrace read (trace_of layout.spaces trace_file)
-        → Accepts hierarchy_file trace_file (instance_under a.layout a.assigned a.trace)) }
-    ensures layout { IfOk result (λ a. a.layout ≡ layout) }
-    ensures refused { IfErr result (λ e. (hierarchy_file trace_file : List ℕ)
-        → hierarchy_of hierarchy_file ≡ Ok layout
-        → GivesTrace read (trace_of layout.spaces trace_file)
-        → Refuses hierarchy_file trace_file e) }
-    ensures nothing { IfErr result (λ e. e ≢ ToolError.Write) }
-{
-    match read {
-        Ok(trace) => with_affinities(alloc, layout, trace),
+    match read_trace_by_threads(rt, alloc, &layout, trace) {
+        Ok(trace) => {
+            let assigned = assign_by_threads(rt, alloc, &layout, &trace);
+            with_affinities(layout, trace, assigned)
+        }
         Err(fault) => {
             drop(layout);
             Err(ToolError::from(fault))
@@ -138,15 +127,21 @@ fn with_trace(
 }
 
 /// The hierarchy and the trace, with the affinity of each message.
-fn with_affinities(alloc: Global, layout: Layout, trace: Trace) -> Result<Accepted, ToolError>
+fn with_affinities(
+    layout: Layout,
+    trace: Trace,
+    assigned: Result<Assigned, AllocError>,
+) -> Result<Accepted, ToolError>
     requires fits { trace.sizes ≡ sizes_of layout.spaces }
+    requires assignment { IfOk assigned (IsAssignment layout trace.messages) }
+    requires known { IfOk assigned (All (λ a. a < length layout.tree)) }
     ensures accepted { IfOk result (λ a. (hierarchy_file trace_file : List ℕ)
         → hierarchy_of hierarchy_file ≡ Ok layout → trace_of layout.spaces trace_file ≡ Ok trace
         → Accepts hierarchy_file trace_file (instance_under a.layout a.assigned a.trace)) }
     ensures layout { IfOk result (λ a. a.layout ≡ layout) }
     ensures memory { IfErr result (λ e. e ≡ ToolError.Memory) }
 {
-    match assign(alloc, &layout, &trace) {
+    match assigned {
         Ok(assigned) => Ok(Accepted {
             layout,
             trace,
