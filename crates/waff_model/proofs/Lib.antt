@@ -16,3 +16,4 @@ pub mod SpanLemmas
 pub mod OpCells
 pub mod Members
 pub mod DistinctNameLemmas
+mod PartLemmas

@@ -1,10 +1,12 @@
 -- A trace with one message more.
-use Rattle.std.proofs.Common.{◌≡◌, ℕ, zero, suc, ◌+◌, ◌<◌, ◌≤◌, ◌==◌, Bool, true, List, [], ◌∷◌, ◌++◌, length, slice_index, arith, length-append, subst, refl, eq-eqb}
+use Rattle.std.proofs.Common.{◌≡◌, ℕ, zero, suc, ◌+◌, ◌<◌, ◌≤◌, ◌==◌, Bool, true, List, [], ◌∷◌, ◌++◌, length, slice_get, slice_index, take, get_or, Some, ap, ◌∙◌, arith, length-append, subst, refl, eq-eqb}
 use Rattle.std.specs.List.{list_all, zip}
 use Rattle.std.proofs.lemmas.Bool.{and_parts}
 use Rattle.std.proofs.lemmas.Bool.Decides.{nat_tests}
 use Rattle.std.proofs.lemmas.List.Elements.{All-push}
-use Rattle.std.proofs.lemmas.List.Sums.{sum_by-append}
+use Rattle.std.proofs.lemmas.List.{take_more}
+use Rattle.std.proofs.lemmas.List.Sums.{sum_by-append, sum_by_more_le}
+use Rattle.std.proofs.lemmas.Option.{get_or_from_slice_get, slice_get_within}
 use Rattle.waff_model.specs.Versions.{max_messages, max_ops}
 use Rattle.waff_model.specs.declared.limits.TheConstants.{MAX_ALL_OPS, MAX_MESSAGES, MAX_OPS}
 use Rattle.waff_model.specs.declared.message.Version.{Version}
@@ -36,6 +38,17 @@ is_trace-push trace message is_trace is_message room room_ops = record {
   few = omega (arith, length-append trace.messages (message ∷ []), room);
   few_ops = omega (arith, sum_by-append (λ (m : Message). length m.ops) trace.messages (message ∷ []), room_ops);
 }
+
+-- the operations of one message more, of which all messages have no fewer
+pub ops_in-more : (messages : List Message) (i : ℕ) (message : Message) → slice_get messages i ≡ Some message
+    → (ops_in (take (i + 1) messages) ≡ ops_in (take i messages) + length message.ops) × (ops_in (take (i + 1) messages) ≤ ops_in messages)
+ops_in-more messages i message at =
+    let ops : Message → ℕ = λ m. length m.ops in
+    let inside = slice_get_within messages i message at in
+    let here : get_or messages i message ≡ message = get_or_from_slice_get messages i message message at in
+    let next : take (i + 1) messages ≡ take i messages ++ message ∷ [] = take_more messages i message inside ∙ ap (λ m. take i messages ++ m ∷ []) here in
+    let more : ops_in (take (i + 1) messages) ≡ ops_in (take i messages) + length message.ops = omega (arith, ap ops_in next, sum_by-append ops (take i messages) (message ∷ [])) in
+    (more, omega (arith, more, sum_by_more_le ops messages i message inside, ap ops here))
 
 abbrev has_size : ℕ × Space → Bool
 has_size pair = pair.0 == pair.1.size

@@ -6,7 +6,7 @@
 //!   for the crates that plan and order.
 //! - `layout`, over `layout_rows` (what it is made of, and why that is refused) and `space`: which
 //!   affinity owns each cell; `parcels`: where a cell stands among the cells of its owner.
-//! - `trace`, `message`, `op`, `ops` over `packed_op`: messages with their costs, releases (in
+//! - `trace`, over `parts`, `message`, `op`, `ops` over `packed_op`: messages with their costs, releases (in
 //!   ticks) and operations on cells.
 //! - `cell`, `client`, `kind`, `name`, `texts`: the small parts; `distinct_names`: names, each once;
 //!   `limits`: the limits of hierarchies, traces and plans; `format`: which of them hold of spaces.
@@ -35,6 +35,7 @@ mod op;
 mod ops;
 mod packed_op;
 mod parcels;
+mod parts;
 mod preorder;
 mod space;
 pub mod spans;
@@ -53,6 +54,7 @@ pub use message::{Message, Version};
 pub use name::{Text, is_name};
 pub use op::{Op, Verb};
 pub use ops::Ops;
+pub use parts::Parts;
 pub use preorder::Span;
 pub use texts::Texts;
 pub use trace::Trace;

@@ -10,6 +10,7 @@ ghost use Rattle.waff_model.specs.declared.limits.TheConstants.{MAX_ALL_OPS, MAX
 
 use crate::layout::Layout;
 use crate::message::{Message, Version};
+use crate::parts::Parts;
 use crate::space::Space;
 use std::alloc::{AllocError, Global};
 use std::marker::Model;
@@ -18,7 +19,7 @@ use std::marker::Model;
 pub struct Trace {
     version: Version,
     sizes: Vec<u32>,
-    messages: Vec<Message>,
+    messages: Parts,
 }
 
 impl Model for Trace {
@@ -29,13 +30,13 @@ impl Model for Trace {
     ghost view = { λ t. record {
       version = t.version;
       sizes = t.sizes.items;
-      messages = t.messages.items;
+      messages = t.messages;
     } };
 
     ghost invariant = { λ t. IsTrace (record {
       version = t.version;
       sizes = t.sizes.items;
-      messages = t.messages.items;
+      messages = t.messages;
     }) };
 }
 
@@ -74,7 +75,7 @@ impl Trace {
         ensures { IfOk result (λ t.
             t ≡ record { version = version; sizes = sizes_of layout.now.spaces; messages = [] }) }
     {
-        Trace::of_messages(alloc, layout, version, Vec::new(alloc))
+        Trace::of_messages(alloc, layout, version, Parts::of(alloc, Vec::new(alloc)))
     }
 
     /// The trace of these messages, for cells of the layout.
@@ -82,15 +83,15 @@ impl Trace {
         alloc: Global,
         layout: &Layout,
         version: Version,
-        messages: Vec<Message>,
+        messages: Parts,
     ) -> Result<Self, AllocError>
-        requires messages { All (IsMessage version (sizes_of layout.now.spaces)) messages.items }
-        requires few { length messages.items ≤ max_messages version }
-        requires few_ops { ops_in messages.items ≤ MAX_ALL_OPS }
+        requires messages { All (IsMessage version (sizes_of layout.now.spaces)) messages }
+        requires few { length messages ≤ max_messages version }
+        requires few_ops { ops_in messages ≤ MAX_ALL_OPS }
         ensures { IfOk result (λ t. t ≡ record {
           version = version;
           sizes = sizes_of layout.now.spaces;
-          messages = messages.items;
+          messages = messages;
         }) }
     {
         match sizes(alloc, layout.spaces()) {
@@ -149,7 +150,7 @@ impl Trace {
         let mut count = 0;
         let mut place = 0;
         while place < self.messages.len() {
-            count += self.messages[place].ops.len();
+            count += self.messages.get(place).ops.len();
             place += 1;
         }
         count
@@ -161,7 +162,7 @@ impl Trace {
         ensures message { slice_get self.now.messages (number - 1) ≡ Some result.now }
         ensures within { IsMessage self.now.version self.now.sizes result.now }
     {
-        &self.messages[number as usize - 1]
+        self.messages.get(number as usize - 1)
     }
 }
 

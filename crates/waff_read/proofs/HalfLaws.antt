@@ -165,11 +165,11 @@ spells-append version spaces text first second ms ns all parts h k both few room
 pub spells-both : (version : Version) (spaces : List Space) (text first second : List ℕ) (ms ns : List Message) (read : Option Messages)
     → records_of text ≡ records_of first ++ records_of second
     → Spells version spaces first ms → Spells version spaces second ns
-    → IfSome read (λ all. all.list.items ≡ ms ++ ns) → IfSome read (λ all. length all.list.items ≤ max_messages version) → IfSome read (λ all. ops_in all.list.items ≤ MAX_ALL_OPS)
-    → IfSome read (λ all. Spells version spaces text all.list.items)
+    → IfSome read (λ all. all.list ≡ ms ++ ns) → IfSome read (λ all. length all.list ≤ max_messages version) → IfSome read (λ all. ops_in all.list ≤ MAX_ALL_OPS)
+    → IfSome read (λ all. Spells version spaces text all.list)
 spells-both version spaces text first second ms ns None parts h k both few room = tt
 spells-both version spaces text first second ms ns (Some all) parts h k both few room =
-    spells-append version spaces text first second ms ns all.list.items parts h k both few room
+    spells-append version spaces text first second ms ns all.list parts h k both few room
 
 -- a list of no length
 nothing : {A : Type 0} (xs : List A) → length xs ≡ 0 → xs ≡ []

@@ -17,7 +17,7 @@ use std::alloc::Global;
 use std::thread;
 use std::thread::Threads;
 use waff_model::limits::MAX_ALL_OPS;
-use waff_model::{Layout, Trace, Version};
+use waff_model::{Layout, Parts, Trace, Version};
 use waff_parse::text_rows;
 
 /// A text of fewer bytes is read by one thread.
@@ -34,8 +34,8 @@ fn read_part(
     text: &[u8],
 ) -> Option<Messages>
     ensures messages { IfSome result (λ read.
-        traces.Spells version spaces.now text.now read.list.items) }
-    ensures ops { IfSome result (λ read. read.ops ≡ ops_in read.list.items) }
+        traces.Spells version spaces.now text.now read.list) }
+    ensures ops { IfSome result (λ read. read.ops ≡ ops_in read.list) }
 {
     let mut rdr = text_rows(alloc, text);
     let mut row = StringRecord::new(alloc);
@@ -43,13 +43,13 @@ fn read_part(
 }
 
 // The messages of two parts, one behind the other; none where they or their operations are too many.
-fn joined(version: Version, mut first: Messages, mut second: Messages) -> Option<Messages>
-    requires first { first.ops ≡ ops_in first.list.items }
-    requires second { second.ops ≡ ops_in second.list.items }
-    ensures both { IfSome result (λ all. all.list.items ≡ first.list.items ++ second.list.items) }
-    ensures few { IfSome result (λ all. length all.list.items ≤ max_messages version) }
-    ensures few_ops { IfSome result (λ all. ops_in all.list.items ≤ MAX_ALL_OPS) }
-    ensures ops { IfSome result (λ all. all.ops ≡ ops_in all.list.items) }
+fn joined(version: Version, first: Messages, second: Messages) -> Option<Messages>
+    requires first { first.ops ≡ ops_in first.list }
+    requires second { second.ops ≡ ops_in second.list }
+    ensures both { IfSome result (λ all. all.list ≡ first.list ++ second.list) }
+    ensures few { IfSome result (λ all. length all.list ≤ max_messages version) }
+    ensures few_ops { IfSome result (λ all. ops_in all.list ≤ MAX_ALL_OPS) }
+    ensures ops { IfSome result (λ all. all.ops ≡ ops_in all.list) }
 {
     if version.max_messages() < first.list.len().saturating_add(second.list.len()) {
         return None;
@@ -58,8 +58,7 @@ fn joined(version: Version, mut first: Messages, mut second: Messages) -> Option
     if MAX_ALL_OPS < ops {
         return None;
     }
-    let mut list = first.list;
-    list.append(&mut second.list).ok()?;
+    let list = Parts::joined(first.list, second.list).ok()?;
     Some(Messages { list, ops })
 }
 
@@ -74,8 +73,8 @@ fn read_halves<R: Threads + Sync>(
     halvings: u32,
 ) -> Option<Messages>
     ensures messages { IfSome result (λ read.
-        traces.Spells version spaces.now text.now read.list.items) }
-    ensures ops { IfSome result (λ read. read.ops ≡ ops_in read.list.items) }
+        traces.Spells version spaces.now text.now read.list) }
+    ensures ops { IfSome result (λ read. read.ops ≡ ops_in read.list) }
 {
     if halvings == 0 {
         return read_part(alloc, spaces, version, text);
@@ -84,14 +83,14 @@ fn read_halves<R: Threads + Sync>(
     let front = move || -> Option<Messages>
         requires { IsSync R.row × (1 ≤ halvings) }
         ensures messages { IfSome result (λ read.
-            traces.Spells version spaces.entry.now first.entry.now read.list.items) }
-        ensures ops { IfSome result (λ read. read.ops ≡ ops_in read.list.items) }
+            traces.Spells version spaces.entry.now first.entry.now read.list) }
+        ensures ops { IfSome result (λ read. read.ops ≡ ops_in read.list) }
     { read_halves(rt, alloc, spaces, version, first, halvings - 1) };
     let back = move || -> Option<Messages>
         requires { IsSync R.row × (1 ≤ halvings) }
         ensures messages { IfSome result (λ read.
-            traces.Spells version spaces.entry.now second.entry.now read.list.items) }
-        ensures ops { IfSome result (λ read. read.ops ≡ ops_in read.list.items) }
+            traces.Spells version spaces.entry.now second.entry.now read.list) }
+        ensures ops { IfSome result (λ read. read.ops ≡ ops_in read.list) }
     { read_halves(rt, alloc, spaces, version, second, halvings - 1) };
     let (first, second) = thread::join(rt, front, back);
     joined(version, first?, second?)

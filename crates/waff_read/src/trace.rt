@@ -13,7 +13,7 @@ use crate::space_table::SpaceTable;
 use crate::trace_fault::{TraceError, TraceFault};
 use csv::{Reader, StringRecord};
 use std::alloc::Global;
-use waff_model::{Layout, Message, Trace, Version};
+use waff_model::{Layout, Message, Parts, Trace, Version};
 use waff_parse::{Stop, next_text, text_rows};
 
 // Reads the header, which is the first record.
@@ -68,7 +68,7 @@ fn next_message(
 /// Messages that were read, and how many operations they have.
 #[derive(Drop)]
 pub(crate) struct Messages {
-    pub(crate) list: Vec<Message>,
+    pub(crate) list: Parts,
     pub(crate) ops: usize,
 }
 
@@ -81,9 +81,9 @@ pub(crate) fn read_messages(
     row: &mut StringRecord,
 ) -> Result<Messages, Stop<TraceError>>
     requires { Reads rdr.old }
-    ensures messages { Gives (λ read. read.list.items) result
+    ensures messages { Gives (λ read. read.list) result
         (traces.messages_at version spaces.now first_place (records_left rdr.old)) }
-    ensures ops { IfOk result (λ read. read.ops ≡ ops_in read.list.items) }
+    ensures ops { IfOk result (λ read. read.ops ≡ ops_in read.list) }
 {
     let mut list = Vec::new(alloc);
     let mut place = Place::first();
@@ -92,7 +92,7 @@ pub(crate) fn read_messages(
         list.push(message)?;
     }
     Ok(Messages {
-        list,
+        list: Parts::of(alloc, list),
         ops: place.ops,
     })
 }

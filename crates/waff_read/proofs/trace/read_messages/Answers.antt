@@ -52,10 +52,10 @@ loop-list-preserved c =
 pub returns-clause-messages : goal.returns-clause-messages
 returns-clause-messages c =
     let none = rw c.in_default.is at c.in_ok-message.ensures.message in
-    whole-messages c.args.version c.args.spaces.now c.loop-list.place c.loop-list.list.items (records_left c.loop-list.rdr) (records_left c.args.rdr.now)
-    none c.loop-list.invariant.messages
+    rw c.of.ensures (whole-messages c.args.version c.args.spaces.now c.loop-list.place c.loop-list.list.items (records_left c.loop-list.rdr) (records_left c.args.rdr.now)
+    none c.loop-list.invariant.messages)
 
 pub returns-clause-ops : goal.returns-clause-ops
 returns-clause-ops c =
     let here = ap (λ (p : Place). p.ops) c.loop-list.invariant.place in
-    omega (arith, here, behind-ops first_place c.loop-list.list.items)
+    rw c.of.ensures (omega (arith, here, behind-ops first_place c.loop-list.list.items))

@@ -8,12 +8,12 @@ use Rattle.waff_read.proofs.trace.read_records.Goals as goal
 pub of_messages-requires-clause-messages : goal.of_messages-requires-clause-messages
 of_messages-requires-clause-messages c =
     rw c.layout.ensures
-    (messages-fit c.in_ok-version.version c.args.spaces.now first_place (records_left c.read_header.new.rdr) c.in_ok-messages.messages.list.items c.in_ok-messages.ensures.messages)
+    (messages-fit c.in_ok-version.version c.args.spaces.now first_place (records_left c.read_header.new.rdr) c.in_ok-messages.messages.list c.in_ok-messages.ensures.messages)
 
 pub of_messages-requires-clause-few : goal.of_messages-requires-clause-few
 of_messages-requires-clause-few c =
-    omega (arith, messages-few c.in_ok-version.version c.args.spaces.now first_place (records_left c.read_header.new.rdr) c.in_ok-messages.messages.list.items c.in_ok-messages.ensures.messages (omega arith))
+    omega (arith, messages-few c.in_ok-version.version c.args.spaces.now first_place (records_left c.read_header.new.rdr) c.in_ok-messages.messages.list c.in_ok-messages.ensures.messages (omega arith))
 
 pub of_messages-requires-clause-few_ops : goal.of_messages-requires-clause-few_ops
 of_messages-requires-clause-few_ops c =
-    omega (arith, ops-few c.in_ok-version.version c.args.spaces.now first_place (records_left c.read_header.new.rdr) c.in_ok-messages.messages.list.items c.in_ok-messages.ensures.messages (omega arith))
+    omega (arith, ops-few c.in_ok-version.version c.args.spaces.now first_place (records_left c.read_header.new.rdr) c.in_ok-messages.messages.list c.in_ok-messages.ensures.messages (omega arith))

@@ -8,7 +8,7 @@ use Rattle.waff_model.proofs.trace.Trace.push.Goals as goal
 pub invariant_of-self-2 : goal.invariant_of-self-2
 invariant_of-self-2 c =
     let here = sym c.self.view_is in
-    rw c.in_ok-push.ensures.items (is_trace-push _ c.args.message c.self.invariant
+    rw c.in_ok-push.ensures.pushed (is_trace-push _ c.args.message c.self.invariant
     (subst (λ (t : Arrivals). IsMessage t.version t.sizes c.args.message) here c.requires.message)
     (subst (λ (t : Arrivals). length t.messages < max_messages t.version) here c.requires.room)
     (subst (λ (t : Arrivals). ops_in t.messages + length c.args.message.ops ≤ MAX_ALL_OPS) here c.requires.few_ops))
