@@ -16,8 +16,8 @@ module _ {X A : Type 0} (f : X → List A) (parts : List X) (last : List A) (pla
       let within_all = length-flat_map-take f parts i part inside in
       let same : length (f (get_or parts i part)) ≡ length (f part) = ap (λ p. length (f p)) (sym here) in
       let found : get_or (flat_map f parts) place a ≡ a =
-          ap (λ n. get_or (flat_map f parts) n a) (sym is) ∙ get_or-flat_map f parts i left part a inside (omega (arith, within, same))
-          ∙ (ap (λ p. get_or (f p) left a) (sym here) ∙ sym at) in
+      ap (λ n. get_or (flat_map f parts) n a) (sym is) ∙ get_or-flat_map f parts i left part a inside (omega (arith, within, same))
+      ∙ (ap (λ p. get_or (f p) left a) (sym here) ∙ sym at) in
       let front : place < length (flat_map f parts) = omega (arith, is, within, same, within_all) in
       slice_get-get_or (flat_map f parts ++ last) place a (omega (arith, front, length-append (flat_map f parts) last))
       ∙ ap (λ x. Some x) (get_or_append_left (flat_map f parts) last a place front ∙ found)

@@ -49,7 +49,9 @@ impl Parts {
     {
         let len = first.len + second.len;
         let Parts {
-            mut front, last, ..
+            mut front,
+            last,
+            ..
         } = first;
         front.push(last)?;
         let Parts {
