@@ -1,9 +1,10 @@
-//! Long traces, which are read by several threads.
+//! Long traces, which several threads read and assign.
 
 use std::alloc::{AllocError, Global};
 use std::process::Abort;
 use std::thread::Threads;
-use waff_model::{Cell, Layout, Op, Trace, Version};
+use waff_assign::{Assigned, assign_by_threads};
+use waff_model::{Cell, Layout, Op, Trace, Tree, Version};
 use waff_read::{TraceError, read_hierarchy, read_trace_by_threads};
 use waff_samples::H1;
 
@@ -41,6 +42,31 @@ fn have_their_messages_in_order(rt: HostRuntime) {
     for n in 1..65537 {
         is_reader(&rt, &trace, n);
     }
+    drop(trace);
+    drop(layout);
+}
+
+/// Message `n` has to be assigned the owner of its cell: `A0` and `A1` take turns, two cells each.
+fn is_assigned(rt: &impl Abort, tree: &Tree, assigned: &Assigned, n: u32) {
+    assert!(rt; 1 <= n && n <= assigned.len(), "{n}");
+    let affinity = assigned.of(n);
+    assert!(rt; u32::from(affinity.0) < tree.len(), "{n}");
+    let wanted = if n % 4 < 2 { "A0" } else { "A1" };
+    assert!(rt; tree.name(affinity) == wanted, "{n}");
+}
+
+#[test]
+fn have_the_owners_of_their_cells(rt: HostRuntime) {
+    let layout = read_hierarchy(rt.alloc(), H1.as_bytes()).expect(&rt, "a hierarchy");
+    let text = readers(rt.alloc(), 65536).expect(&rt, "a text");
+    let trace = read_trace_by_threads(&rt, rt.alloc(), &layout, Version::V3, text.as_bytes());
+    let trace = trace.expect(&rt, "a trace");
+    let assigned = assign_by_threads(&rt, rt.alloc(), &layout, &trace).expect(&rt, "affinities");
+    assert!(rt; assigned.len() == 65536);
+    for n in 1..65537 {
+        is_assigned(&rt, layout.tree(), &assigned, n);
+    }
+    drop(assigned);
     drop(trace);
     drop(layout);
 }
