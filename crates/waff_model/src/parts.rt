@@ -8,8 +8,8 @@ use crate::message::Message;
 use std::alloc::{AllocError, Global};
 use std::marker::Model;
 
-/// Messages in parts, one behind the other. What several threads read is not copied into one list:
-/// that would take as long as to read it.
+/// Messages in parts, one behind the other, so that those that several threads read need not be
+/// copied into one list.
 #[derive(Drop)]
 pub struct Parts {
     front: Vec<Vec<Message>>,
