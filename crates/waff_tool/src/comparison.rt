@@ -15,7 +15,7 @@ use std::alloc::{AllocError, Global};
 use std::io::Write;
 use std::thread;
 use std::thread::Threads;
-use waff_assign::{Assigned, Case, assign};
+use waff_assign::{Assigned, Case, assign, assign_by_threads};
 use waff_inputs::{ToolError, deliver, read_numbered, read_trace, read_trace_by_threads};
 use waff_model::{Kind, Layout, Trace};
 use waff_order::refines;
@@ -327,7 +327,7 @@ fn measure_by_threads<R: Threads + Sync>(
     requires workers { IsWorkers k }
     ensures { IfOk result (AreAssignedAndMeasured layout.now trace.now k) }
 {
-    let assigned = assign(alloc, layout, trace)?;
+    let assigned = assign_by_threads(rt, alloc, layout, trace)?;
     let case = Case {
         tree: layout.tree(),
         assigned: &assigned,
