@@ -19,7 +19,7 @@ use crate::measures::kind_name;
 use std::alloc::{AllocError, Global};
 use std::io::Write;
 use std::thread::Threads;
-use waff_assign::{Case, assign};
+use waff_assign::{Case, assign_by_threads};
 use waff_figures::{Figures, QualityFields, list_figures_for};
 use waff_inputs::{MAX_RANKED, ToolError, deliver, read_numbered, read_trace_by_threads};
 use waff_list::Rule;
@@ -181,7 +181,7 @@ fn rank<R: Threads + Sync>(
 {
     match read_trace_by_threads(rt, alloc, layout, trace) {
         Ok(trace) => {
-            let ranked = rank_assigned(alloc, layout, &trace, k, rule);
+            let ranked = rank_assigned(rt, alloc, layout, &trace, k, rule);
             drop(trace);
             ranked.map_err(ToolError::from)
         }
@@ -190,7 +190,8 @@ fn rank<R: Threads + Sync>(
 }
 
 /// What is told of the trace that was read under a hierarchy.
-fn rank_assigned(
+fn rank_assigned<R: Threads + Sync>(
+    rt: &R,
     alloc: Global,
     layout: &Layout,
     trace: &Trace,
@@ -203,7 +204,7 @@ fn rank_assigned(
         → trace_of layout.now.spaces trace_file ≡ Ok trace.now
         → IsRanked rule trace_file k file ranked) }
 {
-    let assigned = assign(alloc, layout, trace)?;
+    let assigned = assign_by_threads(rt, alloc, layout, trace)?;
     let case = Case {
         tree: layout.tree(),
         assigned: &assigned,

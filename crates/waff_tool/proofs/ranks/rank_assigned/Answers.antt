@@ -4,7 +4,7 @@ use Rattle.waff_assign.specs.Instance.{Instance}
 use Rattle.waff_tool.proofs.ranks.rank_assigned.Goals as goal
 
 pub returns : goal.returns
-returns c =
+returns g c =
     let instance : Instance = record { tree = c.tree.result.now; assigned = c.in_ok-assigned.assigned; trace = c.args.trace.now } in
     IfOk-weaker c.rank_planned-ranked.result _ _
     (λ ranked under file trace_file is_layout is_trace. record {
