@@ -1,5 +1,5 @@
 -- The message at a place of parts, one behind the other.
-use Rattle.std.proofs.Common.{◌≡◌, ℕ, zero, suc, ◌+◌, ◌-◌, ◌<◌, ◌≤◌, List, [], ◌∷◌, ◌++◌, Some, length, take, get_or, arith, ap, sym, ◌∙◌, length-append}
+use Rattle.std.proofs.Common.{◌≡◌, ℕ, ◌+◌, ◌-◌, ◌<◌, ◌≤◌, List, [], ◌∷◌, ◌++◌, Some, length, take, get_or, arith, ap, sym, ◌∙◌, length-append}
 use Rattle.std.specs.List.{flat_map, slice_get}
 use Rattle.std.proofs.lemmas.Grind.{flat_map-append, take_at_read}
 use Rattle.std.proofs.lemmas.List.{append-nil, get_or_append_left, get_or-append-add, take_all}

@@ -1,6 +1,6 @@
 //! The reader of traces.
 
-ghost use Rattle.std.specs.Prelude.{◌≡◌, ◌+◌, Ok, Err, drop, IfOk, OnOk};
+ghost use Rattle.std.specs.Prelude.{◌≡◌, Ok, Err, drop, IfOk, OnOk};
 ghost use Rattle.waff_model.specs.Messages.{ops_in, sizes_of};
 ghost use Rattle.waff_parse.specs.Rows.{Reads, records_left};
 ghost use Rattle.waff_parse.specs.Stopping.{Gives};
