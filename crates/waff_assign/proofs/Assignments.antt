@@ -1,10 +1,8 @@
 -- The affinities of messages, one message after another, and the cells of a message as cells of the
 -- layout.
-use Rattle.std.proofs.Common.{◌≡◌, ◌≢◌, ℕ, zero, suc, refl, ◌+◌, ◌-◌, ◌<◌, ◌≤◌, List, [], ◌∷◌, ◌++◌, Some, length, get_or, All, slice_get, arith, sym, ◌∙◌, ap, subst, ⊎_elim}
-use Rattle.std.proofs.lemmas.Bool.{cases_eq}
-use Rattle.std.proofs.lemmas.List.{length-map, map_push, get_or_push, get_or_append_left}
-use Rattle.std.proofs.lemmas.List.Elements.{All-push}
+use Rattle.std.proofs.Common.{◌≡◌, ℕ, zero, suc, refl, ◌+◌, ◌-◌, ◌<◌, ◌≤◌, List, [], ◌∷◌, ◌++◌, length, get_or, All, slice_get, arith, ◌∙◌, ap, subst}
 use Rattle.std.proofs.lemmas.Option.{slice_get_within}
+use Rattle.std.proofs.lemmas.Slice.Zip.{all_zipped_more}
 use Rattle.std.specs.List.{AllZip, range_with_len}
 use Rattle.waff_model.specs.Cells.{LiesIn}
 use Rattle.waff_model.specs.Layout.{Hierarchy, Space, IsCell, size_at}
@@ -13,8 +11,8 @@ use Rattle.waff_model.specs.declared.cell.Cell.{Cell}
 use Rattle.waff_model.specs.declared.message.Message.{Message}
 use Rattle.waff_model.specs.declared.tree.AffinityId.{AffinityId}
 use Rattle.waff_model.proofs.TraceLemmas.{slice_index-sizes_of}
-use Rattle.waff_assign.specs.Order.{numbers_of, affinity_of}
-use Rattle.waff_assign.specs.Lowest.{IsAssignment, IsInFootprint, IsLowest, IsLowestOf}
+use Rattle.waff_assign.specs.Order.{numbers_of}
+use Rattle.waff_assign.specs.Lowest.{IsAssignment, IsLowestOf}
 
 -- cells that lie in spaces of these sizes are cells of a layout with these sizes
 pub cells_of_layout : (sizes : List ℕ) (spaces : List Space) (cells : List Cell) → sizes ≡ sizes_of spaces
@@ -24,44 +22,30 @@ cells_of_layout sizes spaces cells same lie k d within =
     let size : get_or sizes cell.space 0 ≡ size_at spaces cell.space = ap (λ xs. get_or xs cell.space 0) same ∙ slice_index-sizes_of spaces cell.space in
     subst (λ n. cell.index < n) size (lie k d within)
 
--- the first n messages are assigned the lowest affinities that cover their footprints
-pub record AreLowestUpTo (layout : Hierarchy) (messages : List Message) (assigned : List ℕ) (n : ℕ) : Type 0 where
-  pub each : (m : ℕ) (message : Message) → 1 ≤ m → m ≤ n → slice_get messages (m - 1) ≡ Some message
-      → IsLowest layout (IsInFootprint message.ops) (affinity_of assigned m)
+-- what messages of these numbers are assigned: affinities of the tree, each the lowest that covers the message's footprint
+abbrev pub AreAssigned : Hierarchy → List Message → List ℕ → List AffinityId → Type 0
+AreAssigned layout messages numbers affinities = AllZip (λ n (a : AffinityId). IsLowestOf layout messages n a.0 × a.0 < length layout.tree) numbers affinities
 
-pub lowest_up_to_more : (layout : Hierarchy) (messages : List Message) (affinities : List AffinityId) (n : ℕ) (a : AffinityId)
-    → length affinities ≡ n → AreLowestUpTo layout messages (numbers_of affinities) n
-    → IsLowestOf layout messages (n + 1) a.0 → AreLowestUpTo layout messages (numbers_of (affinities ++ a ∷ [])) (n + 1)
-lowest_up_to_more layout messages affinities n a count h lowest =
-    let numbers = numbers_of affinities in
-    let same : numbers_of (affinities ++ a ∷ []) ≡ numbers ++ a.0 ∷ [] = map_push (λ (x : AffinityId). x.0) affinities a in
-    let long : length numbers ≡ n = length-map affinities (λ (x : AffinityId). x.0) ∙ count in
-    record {
-      each = λ m other from to at.
-          ⊎_elim {C = IsLowest layout (IsInFootprint other.ops) (affinity_of (numbers_of (affinities ++ a ∷ [])) m)}
-          (λ (last : m ≡ n + 1).
-          let affinity : a.0 ≡ affinity_of (numbers_of (affinities ++ a ∷ [])) m
-          = sym (ap (λ xs. get_or xs (m - 1) 0) same ∙ get_or_push numbers a.0 0 (m - 1) (omega arith)) in
-          subst (λ b. IsLowest layout (IsInFootprint other.ops) b) affinity
-          (lowest other (ap (λ k. slice_get messages (k - 1)) (sym last) ∙ at)))
-          (λ (not_last : m ≢ n + 1).
-          let within : m ≤ n = omega arith in
-          let affinity : affinity_of numbers m ≡ affinity_of (numbers_of (affinities ++ a ∷ [])) m
-          = sym (ap (λ xs. get_or xs (m - 1) 0) same ∙ get_or_append_left numbers (a.0 ∷ []) 0 (m - 1) (omega arith)) in
-          subst (λ b. IsLowest layout (IsInFootprint other.ops) b) affinity (h.each m other from within at))
-          (cases_eq m (n + 1));
-    }
+numbers_more : (from count : ℕ) → range_with_len from (suc count) ≡ range_with_len from count ++ (from + count) ∷ []
+numbers_more from zero = let same : from ≡ from + 0 = omega arith in ap (λ n. n ∷ []) same
+numbers_more from (suc count) =
+    let same : from + 1 + count ≡ from + suc count = omega arith in
+    ap (λ ns. from ∷ ns) (subst (λ k. range_with_len (from + 1) (suc count) ≡ range_with_len (from + 1) count ++ k ∷ []) same (numbers_more (from + 1) count))
 
--- one more affinity of the tree
-pub known_more : (count : ℕ) (affinities : List AffinityId) (a : AffinityId) → a.0 < count
-    → All (λ x. x < count) (numbers_of affinities) → All (λ x. x < count) (numbers_of (affinities ++ a ∷ []))
-known_more count affinities a within known =
-    subst (λ xs. All (λ x. x < count) xs) (sym (map_push (λ (x : AffinityId). x.0) affinities a))
-    (All-push (λ x. x < count) (numbers_of affinities) a.0 known within)
+-- one more message
+pub assigned_more : (layout : Hierarchy) (messages : List Message) (affinities : List AffinityId) (n : ℕ) (a : AffinityId) → 1 ≤ n
+    → AreAssigned layout messages (range_with_len 1 (n - 1)) affinities → IsLowestOf layout messages n a.0 → a.0 < length layout.tree
+    → AreAssigned layout messages (range_with_len 1 (n + 1 - 1)) (affinities ++ a ∷ [])
+assigned_more layout messages affinities n a from each lowest within =
+    let more : range_with_len 1 (n + 1 - 1) ≡ range_with_len 1 (n - 1) ++ n ∷ []
+    = let long : n + 1 - 1 ≡ suc (n - 1) = omega arith in
+    let last : 1 + (n - 1) ≡ n = omega arith in
+    ap (range_with_len 1) long ∙ numbers_more 1 (n - 1) ∙ ap (λ k. range_with_len 1 (n - 1) ++ k ∷ []) last in
+    rw more (all_zipped_more (λ n (a : AffinityId). IsLowestOf layout messages n a.0 × a.0 < length layout.tree) (range_with_len 1 (n - 1)) affinities n a each (lowest, within))
 
 -- what the messages from one number on are assigned, each the lowest affinity that covers its footprint
 assigned_each : (layout : Hierarchy) (messages : List Message) (from count : ℕ) (affinities : List AffinityId)
-    → AllZip (λ n (a : AffinityId). IsLowestOf layout messages n a.0 × a.0 < length layout.tree) (range_with_len from count) affinities
+    → AreAssigned layout messages (range_with_len from count) affinities
     → (length (numbers_of affinities) ≡ count) × ((k d : ℕ) → k < count
     → IsLowestOf layout messages (from + k) (get_or (numbers_of affinities) k d) × get_or (numbers_of affinities) k d < length layout.tree)
 assigned_each layout messages from zero [] each = (refl, λ k d within. absurd (omega arith))
@@ -82,19 +66,24 @@ assigned_each layout messages from (suc count) (a ∷ more) each =
         subst (λ n. IsLowestOf layout messages n (get_or (numbers_of more) k d) × get_or (numbers_of more) k d < length layout.tree) same
         (later k d (omega arith))
 
--- the assignment of all messages, to affinities of the tree, as a list of numbers and one of their affinities tell
-pub assignment_of_each : (layout : Hierarchy) (messages : List Message) (from to : ℕ) (numbers : List ℕ) (found affinities : List AffinityId)
-    → from ≡ 1 → to ≡ length messages + 1 → numbers ≡ range_with_len from (to - from) → affinities ≡ found
-    → AllZip (λ n (a : AffinityId). IsLowestOf layout messages n a.0 × a.0 < length layout.tree) numbers found
+-- the assignment of all messages, to affinities of the tree
+pub assignment_of_all : (layout : Hierarchy) (messages : List Message) (count : ℕ) (affinities : List AffinityId) → count ≡ length messages
+    → AreAssigned layout messages (range_with_len 1 count) affinities
     → IsAssignment layout messages (numbers_of affinities) × All (λ a. a < length layout.tree) (numbers_of affinities)
-assignment_of_each layout messages from to numbers found affinities first past are same each =
-    let whole : numbers ≡ range_with_len 1 (length messages) = are ∙ rw first (ap (range_with_len 1) (omega (arith, past))) in
-    let all = assigned_each layout messages 1 (length messages) affinities (rw (whole, ← same) at each) in (
+assignment_of_all layout messages count affinities whole each =
+    let all = assigned_each layout messages 1 count affinities each in (
       record {
-        count = all.0;
-        lowest = λ n message some at.
+        count = all.0 ∙ whole;
+        lowest = λ n from message at.
             let here : 1 + (n - 1) ≡ n = omega arith in
-            (all.1 (n - 1) 0 (slice_get_within messages (n - 1) message at)).0 message (ap (λ k. slice_get messages (k - 1)) here ∙ at);
+            (all.1 (n - 1) 0 (omega (arith, whole, slice_get_within messages (n - 1) message at))).0 message (ap (λ k. slice_get messages (k - 1)) here ∙ at);
       },
       λ k d within. (all.1 k d (omega (arith, within, all.0))).1,
     )
+
+-- the same, as a list of numbers and one of their affinities tell
+pub assignment_of_each : (layout : Hierarchy) (messages : List Message) (from to : ℕ) (numbers : List ℕ) (found affinities : List AffinityId)
+    → from ≡ 1 → to ≡ length messages + 1 → numbers ≡ range_with_len from (to - from) → affinities ≡ found → AreAssigned layout messages numbers found
+    → IsAssignment layout messages (numbers_of affinities) × All (λ a. a < length layout.tree) (numbers_of affinities)
+assignment_of_each layout messages from to numbers found affinities first past are same each =
+    assignment_of_all layout messages (to - from) affinities (omega (arith, first, past)) (rw (are ∙ ap (λ n. range_with_len n (to - from)) first, ← same) at each)

@@ -60,6 +60,6 @@ module _ (layout : Hierarchy) (is : IsLayout layout) where
         let has : Contains trace.messages message = (n - 1, slice_get_within trace.messages (n - 1) message at, get_or_from_slice_get trace.messages (n - 1) message message at) in
         let fits = All-contains (IsMessage trace.version trace.sizes) trace.messages message within.messages has in
         lowest_known message (affinity_of assigned n) (cells_of_layout trace.sizes layout.spaces (cells_of message.ops) sizes fits.cells)
-        (assignment.lowest n message from at)
+        (assignment.lowest n from message at)
     | inr (past, none) ↦ absurd (omega arith)
   ]

@@ -23,7 +23,7 @@ lowest_at : (layout : Hierarchy) (messages : List Message) (assigned : List ℕ)
 lowest_at layout messages assigned h k message at =
     let place : k + 1 - 1 ≡ k = omega arith in
     subst (λ i. IsLowest layout (IsInFootprint message.ops) (get_or assigned i 0)) place
-    (h.lowest (k + 1) message (omega arith) (subst (λ i. slice_get messages i ≡ Some message) (sym place) at))
+    (h.lowest (k + 1) (omega arith) message (subst (λ i. slice_get messages i ≡ Some message) (sym place) at))
 
 -- at each place two assignments agree
 same_affinity : (layout : Hierarchy) (messages : List Message) (assigned other : List ℕ) → IsTree layout.tree

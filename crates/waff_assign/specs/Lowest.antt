@@ -31,8 +31,7 @@ IsLowestOf layout messages n a =
 -- each message is assigned the lowest affinity that covers its footprint
 abbrev pub AreLowest : Hierarchy → List Message → List ℕ → Type 0
 AreLowest layout messages assigned =
-    (n : ℕ) (message : Message) → 1 ≤ n → slice_get messages (n - 1) ≡ Some message
-    → IsLowest layout (IsInFootprint message.ops) (affinity_of assigned n)
+    (n : ℕ) → 1 ≤ n → IsLowestOf layout messages n (affinity_of assigned n)
 
 -- the assignment of a trace: an affinity for each message, the lowest that covers its footprint
 pub record IsAssignment (layout : Hierarchy)

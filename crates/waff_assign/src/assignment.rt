@@ -90,11 +90,15 @@ fn lowest_of_op(layout: &Layout, op: Op) -> AffinityId
     ensures lowest { IsLowest layout.now (Contains (cells_of_op op)) result.0 }
     ensures within { result.0 < length layout.now.tree }
 {
-    let (cell, other) = op.cells();
-    let low = layout.owner(cell);
-    match other {
-        Some(other) => lowest_above(layout.tree(), low, layout.owner(other)),
-        None => low,
+    match op {
+        Op::Set { cell, .. } | Op::Add { cell, .. } | Op::Read { cell } => layout.owner(cell),
+        Op::Copy {
+            cell,
+            source: other,
+        }
+        | Op::Swap { cell, other } => {
+            lowest_above(layout.tree(), layout.owner(cell), layout.owner(other))
+        }
     }
 }
 
@@ -112,10 +116,16 @@ pub(crate) fn push_cells(cells: &mut Vec<Cell>, ops: &Ops) -> Result<(), AllocEr
 fn push_cells_of_op(cells: &mut Vec<Cell>, op: Op) -> Result<(), AllocError>
     ensures { OnOk result (cells.new.items ≡ cells.old.items ++ cells_of_op op) }
 {
-    let (cell, other) = op.cells();
-    cells.push(cell)?;
-    if let Some(other) = other {
-        cells.push(other)?;
+    match op {
+        Op::Set { cell, .. } | Op::Add { cell, .. } | Op::Read { cell } => cells.push(cell)?,
+        Op::Copy {
+            cell,
+            source: other,
+        }
+        | Op::Swap { cell, other } => {
+            cells.push(cell)?;
+            cells.push(other)?;
+        }
     }
     Ok(())
 }

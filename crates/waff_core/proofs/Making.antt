@@ -41,7 +41,7 @@ lowest_of layout messages assigned lowest n from to =
           let message = there.0 in
           let same : ops_of (operations messages) n ≡ message.ops
           = ops_of-at (operations messages) n from ∙ operations_at messages (n - 1) message there.2 in
-          subst (λ (ops : List Op). IsLowest layout (IsInFootprint ops) (affinity_of assigned n)) (sym same) (lowest n message from there.2)
+          subst (λ (ops : List Op). IsLowest layout (IsInFootprint ops) (affinity_of assigned n)) (sym same) (lowest n from message there.2)
       | inr past ↦ absurd (omega (arith, past.0))
     ]
 

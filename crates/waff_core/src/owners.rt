@@ -59,11 +59,17 @@ fn push_owners_of_op(owners: &mut OwnerSet, table: &ParcelTable, op: Op) -> Resu
     ensures added { OnOk result (AreAdded (owners_in table.now.spaces (cells_of_op op))
         owners.old.owners owners.new.owners) }
 {
-    let (cell, other) = op.cells();
-    let first = table.owner(cell);
-    owners.insert(first)?;
-    match other {
-        Some(other) => owners.insert(table.owner(other)),
-        None => Ok(()),
+    match op {
+        Op::Set { cell, .. } | Op::Add { cell, .. } | Op::Read { cell } => {
+            owners.insert(table.owner(cell))
+        }
+        Op::Copy {
+            cell,
+            source: other,
+        }
+        | Op::Swap { cell, other } => {
+            owners.insert(table.owner(cell))?;
+            owners.insert(table.owner(other))
+        }
     }
 }

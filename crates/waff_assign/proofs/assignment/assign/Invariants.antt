@@ -1,12 +1,11 @@
-use Rattle.std.proofs.Common.{◌≡◌, ◌-◌, ◌<◌, length, vec_capacity, All}
-use Rattle.waff_assign.specs.Order.{numbers_of}
-use Rattle.waff_assign.proofs.Assignments.{AreLowestUpTo}
+use Rattle.std.proofs.Common.{◌≡◌, ◌-◌, length, vec_capacity}
+use Rattle.std.specs.List.{range_with_len}
+use Rattle.waff_assign.proofs.Assignments.{AreAssigned}
 use Rattle.waff_assign.proofs.assignment.assign.Given as goal
 
 abbrev pub invariant-loop-n : goal.invariant-loop-n
 invariant-loop-n l = record {
   count : length l.affinities.items ≡ l.n - 1;
-  lowest : AreLowestUpTo l.layout l.trace.messages (numbers_of l.affinities.items) (l.n - 1);
-  known : All (λ a. a < length l.layout.tree) (numbers_of l.affinities.items);
+  each : AreAssigned l.layout l.trace.messages (range_with_len 1 (l.n - 1)) l.affinities.items;
   room : vec_capacity l.affinities ≡ length l.trace.messages;
 }
