@@ -1,5 +1,5 @@
 pub mod Phases
-pub mod Places
+pub mod Marking
 pub mod Settling
 pub mod Sound
 pub mod Clearings

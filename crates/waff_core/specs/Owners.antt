@@ -1,6 +1,6 @@
 -- The owners of footprints.
-use Rattle.std.specs.Prelude.{◌≡◌, ◌↔◌, ◌⊎◌, ℕ, ◌+◌, ◌*◌, ◌<◌, ◌≤◌, List, length, map, All, Contains}
-use Rattle.std.specs.Prelude.{slice_index_or}
+use Rattle.std.specs.Prelude.{◌≡◌, ◌↔◌, ◌⊎◌, ℕ, ◌+◌, ◌*◌, ◌≤◌, List, length, map, All, Contains}
+use Rattle.std.specs.Prelude.{Bool, false, IsTrue, slice_index_or}
 use Rattle.waff_model.specs.Layout.{Hierarchy, Space, IsLayout, owner_of}
 use Rattle.waff_model.specs.Messages.{Arrivals, IsTrace}
 use Rattle.waff_model.specs.declared.cell.Cell.{Cell}
@@ -32,10 +32,9 @@ pub record Found : Type 0 where
   pub count : ℕ
   pub owners : List ℕ
 
--- each of these owners has its place noted
-abbrev pub ArePlaces : List ℕ → List ℕ → Type 0
-ArePlaces places owners = (k : ℕ) → k < length owners
-    → slice_index_or places (slice_index_or owners k 0) 0 ≡ k
+-- these owners are marked, and no other affinity
+abbrev pub AreMarked : List Bool → List ℕ → Type 0
+AreMarked marks owners = (a : ℕ) → IsTrue (slice_index_or marks a false) ↔ Contains owners a
 
 -- what a job keeps beside what it is given, if the order is one: the table of the layout, the
 -- owners of the footprints, and a copy of the order

@@ -1,7 +1,7 @@
 //! Sets of owners, in the order in which they come.
 
-ghost use Rattle.std.specs.Prelude.{◌≡◌, ◌↔◌, ◌∷◌, ◌<◌, [], Contains, IsTrue, IfOk, OnOk};
-ghost use Rattle.waff_core.specs.Owners.{AreAdded};
+ghost use Rattle.std.specs.Prelude.{◌≡◌, ◌∷◌, ◌<◌, [], IfOk, OnOk};
+ghost use Rattle.waff_core.specs.Owners.{AreAdded, AreMarked};
 
 use std::alloc::{AllocError, Global};
 use std::marker::Model;
@@ -11,19 +11,19 @@ use waff_model::AffinityId;
 #[derive(Drop)]
 pub(crate) struct OwnerSet {
     owners: Vec<u16>,
-    /// For each affinity its place in the list, from 0; of one that is not in it, any number.
-    places: Vec<usize>,
+    /// For each affinity, whether it is in the list.
+    marks: Vec<bool>,
 }
 
 impl Model for OwnerSet {
     ghost use Rattle.std.specs.Prelude.{length};
-    ghost use Rattle.waff_core.specs.Owners.{ArePlaces, Found};
+    ghost use Rattle.waff_core.specs.Owners.{AreMarked, Found};
 
     ghost Value = { Found };
 
-    ghost view = { λ s. record { count = length s.places.items; owners = s.owners.items } };
+    ghost view = { λ s. record { count = length s.marks.items; owners = s.owners.items } };
 
-    ghost invariant = { λ s. ArePlaces s.places.items s.owners.items };
+    ghost invariant = { λ s. AreMarked s.marks.items s.owners.items };
 }
 
 impl OwnerSet {
@@ -31,10 +31,10 @@ impl OwnerSet {
     pub fn none(alloc: Global, count: usize) -> Result<Self, AllocError>
         ensures { IfOk result (λ set. set.count ≡ count) }
     {
-        let places = vec![in alloc; 0; count]?;
+        let marks = vec![in alloc; false; count]?;
         Ok(OwnerSet {
             owners: Vec::new(alloc),
-            places,
+            marks,
         })
     }
 
@@ -43,6 +43,7 @@ impl OwnerSet {
         ensures count { self.new.count ≡ self.old.count }
         ensures none { self.new.owners ≡ [] }
     {
+        unmark(&mut self.marks, self.owners.as_slice());
         self.owners.clear();
     }
 
@@ -52,22 +53,11 @@ impl OwnerSet {
         ensures count { self.new.count ≡ self.old.count }
         ensures added { OnOk result (AreAdded (a.0 ∷ []) self.old.owners self.new.owners) }
     {
-        if !self.has(a) {
-            self.places[a.0 as usize] = self.owners.len();
+        if !self.marks[a.0 as usize] {
             self.owners.push(a.0)?;
+            self.marks[a.0 as usize] = true;
         }
         Ok(())
-    }
-
-    /// Whether the affinity is in the set.
-    fn has(&self, a: AffinityId) -> bool
-        requires known { a.0 < self.now.count }
-        ensures { IsTrue result ↔ Contains self.now.owners a.0 }
-    {
-        match self.owners.get(self.places[a.0 as usize]) {
-            Some(found) => *found == a.0,
-            None => false,
-        }
     }
 
     /// The affinities.
@@ -75,5 +65,15 @@ impl OwnerSet {
         ensures { result.now ≡ self.now.owners }
     {
         self.owners.as_slice()
+    }
+}
+
+/// Takes the marks of these affinities away.
+fn unmark(marks: &mut [bool], owners: &[u16])
+    requires { AreMarked marks.old owners.now }
+    ensures { AreMarked marks.new [] }
+{
+    for at in 0..owners.len() {
+        marks[owners[at] as usize] = false;
     }
 }
