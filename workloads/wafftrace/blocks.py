@@ -4,8 +4,8 @@ import re
 from argparse import Namespace
 from dataclasses import dataclass
 
-from .logs import Data, Lines, Meta, Refusal, Request, is_number, read_lines
-from .model import Devices
+from .logs import Data, File, Lines, Meta, Refusal, Request, is_number, read_lines
+from .model import Devices, Found
 
 SECTOR = 512
 
@@ -69,7 +69,7 @@ class BlkReader(Reader):
             if event is None:
                 summary = summary or SUMMARY.match(line) is not None
                 if SUMMARY.match(line) or (SUMMARY_LINE.match(line) and (summary or line.startswith("Input file "))):
-                    self.log.without["the summary"] += 1
+                    self.log.without["lines of the summary"] += 1
                 elif not line.strip():
                     self.log.without["blank lines"] += 1
                 else:
@@ -77,7 +77,7 @@ class BlkReader(Reader):
                 continue
             self.event(event)
         if self.issued:
-            self.log.without["requests that were not completed"] += len(self.issued)
+            self.log.without["requests without completion"] += len(self.issued)
 
     def event(self, event: re.Match[str]) -> None:
         major, minor, seconds, nanoseconds, process, action, flags, sector, sectors = event.groups()
@@ -102,7 +102,7 @@ class BlkReader(Reader):
 
     def complete(self, device: str, issue: Issue, end: int, sector: str | None) -> None:
         found, sectors, took = kind_of(issue.flags), issue.sectors, end - issue.time
-        self.log.without["issues, which are told with their completions"] += 1
+        self.log.without["issues (each counts where it completes)"] += 1
         if not sector or not sectors or not int(sectors):
             if "F" in issue.flags:
                 self.flush(issue.time, took, device, issue.process)
@@ -114,40 +114,65 @@ class BlkReader(Reader):
             self.data(issue.time, took, *found, device, int(sector) * SECTOR, int(sectors) * SECTOR, issue.process)
 
 
-def read_blkparse(asked: Namespace) -> tuple[Devices, list[Request]]:
+def read_blkparse(asked: Namespace) -> Found:
     lines = read_lines(asked.log)
     log = Lines(asked.log, len(lines))
     reader = BlkReader(log)
     reader.read(lines)
-    log.report()
-    return reader.store, reader.requests
+    return Found(reader.store, reader.requests, [log])
 
 
-def read_msr(asked: Namespace) -> tuple[Devices, list[Request]]:
+# A line in the form that most have.
+MSR = re.compile(r"([0-9]{1,18}),([^,]*),([0-9]{1,18}),(Read|Write),([0-9]{1,18}),([0-9]{1,18}),([0-9]{1,18})", re.ASCII)
+
+
+class MsrReader(Reader):
     """Lines of Timestamp, Hostname, DiskNumber, Type, Offset, Size, ResponseTime; both times are in 100 nanoseconds."""
-    lines = read_lines(asked.log)
-    log = Lines(asked.log, len(lines))
-    reader = Reader()
-    for number, line in enumerate(lines, 1):
-        fields = line.strip().split(",")
-        if number == 1 and fields[0].strip().lower() == "timestamp":
-            log.without["the header"] += 1
-            continue
-        if not line.strip():
-            log.without["blank lines"] += 1
-            continue
-        kind = fields[3].strip().lower() if len(fields) == 7 else ""
-        if kind not in ("read", "write") or not all(is_number(fields[n].strip()) for n in (0, 2, 4, 5, 6)):
-            log.not_understood(number, line)
-            continue
-        time, offset, length, took = int(fields[0]) * 100, int(fields[4]), int(fields[5]), int(fields[6]) * 100
-        device = re.sub(r"[^A-Za-z0-9_-]", "_", fields[1].strip())[:16] + "-" + fields[2].strip()
-        log.at(time)
+
+    def __init__(self, log: Lines) -> None:
+        super().__init__()
+        self.log = log
+        self.known: dict[tuple[str, str], File] = {}
+
+    def read(self, lines: list[str]) -> None:
+        for number, line in enumerate(lines, 1):
+            usual = MSR.fullmatch(line)
+            if usual is not None:
+                self.request(number, usual.groups())
+                continue
+            fields = tuple(it.strip() for it in line.split(","))
+            if number == 1 and fields[0].lower() == "timestamp":
+                self.log.without["headers"] += 1
+            elif not line.strip():
+                self.log.without["blank lines"] += 1
+            elif len(fields) == 7 and fields[3].lower() in ("read", "write") and all(is_number(fields[n]) for n in (0, 2, 4, 5, 6)):
+                self.request(number, fields)
+            else:
+                self.log.not_understood(number, line)
+
+    def request(self, number: int, fields: tuple[str, ...]) -> None:
+        when, host, disk, kind, at, size, response = fields
+        time, offset, length = int(when) * 100, int(at), int(size)
+        self.log.at(time)
         if length == 0:
-            log.without["a length of 0"] += 1
-        elif len(device) > 20:
-            raise Refusal(3, f"{log.name}:{number}: the number of the disk is too long")
-        else:
-            reader.data(time, took, kind, kind, device, offset, length)
-    log.report()
-    return reader.store, reader.requests
+            self.log.without["requests for no bytes"] += 1
+            return
+        file = self.known.get((host, disk)) or self.device(number, host, disk)
+        if offset + length > file.end:
+            file.end = offset + length
+        name = "read" if kind[0] in "rR" else "write"
+        self.requests.append(Data(time, int(response) * 100, name, name, file, offset, length))
+
+    def device(self, number: int, host: str, disk: str) -> File:
+        name = re.sub(r"[^A-Za-z0-9_-]", "_", host.strip())[:16] + "-" + disk
+        if len(name) > 20:
+            raise Refusal(3, f"{self.log.name}:{number}: the number of the disk is too long")
+        found = self.known[host, disk] = self.store.device(name)
+        return found
+
+
+def read_msr(asked: Namespace) -> Found:
+    lines = read_lines(asked.log)
+    reader = MsrReader(Lines(asked.log, len(lines)))
+    reader.read(lines)
+    return Found(reader.store, reader.requests, [reader.log])

@@ -1,12 +1,14 @@
 """Clients of a trace: threads, processes or jobs that ask for one thing after another, and when they do."""
 
 import collections
+import heapq
 import operator
 from argparse import Namespace
-from collections.abc import Callable, Sequence
+from collections.abc import Callable, Iterable, Sequence
 
 from . import limits
-from .logs import Refusal, Request, tell
+from .logs import Data, Refusal, Request, tell
+from .prices import keeping_thinks
 
 # The bytes of a name that is no client.
 NONE = "-"
@@ -15,11 +17,17 @@ NONE = "-"
 def kind_of(asked: Namespace) -> str | None:
     """What a client is, None where a trace is to have none."""
     kind: str = asked.clients or asked.usual
+    asked.family_depth = None
+    if kind.startswith("family:"):
+        kind, depth = "family", kind.removeprefix("family:")
+        asked.family_depth = int(depth)
     if kind == "none":
         for word, given in (("--loop", asked.loop), ("--depth", asked.depth)):
             if given:
                 raise Refusal(2, f"{word}: the trace has no clients")
         return None
+    if asked.trace_version == "2":
+        raise Refusal(2, "--trace-version 2: a trace of version 2 has no clients (--clients none)")
     return kind
 
 
@@ -27,29 +35,50 @@ def kind_of(asked: Namespace) -> str | None:
 Took = Callable[[Request], int]
 
 
-def deal(requests: list[Request], took: Took, depth: int | None) -> None:
+def deal(requests: list[Request], took: Took, depth: int | None, slack: int) -> None:
     """Gives each request a lane of its client, which is a client of its own: the one that is free longest, of two as long the one of
-    the lower number, or a new one where none is free. Those of a client without latencies go to so many lanes in turn."""
+    the lower number, or a new one where none is free. Those of a client without latencies go to so many lanes in turn. The times of a log
+    are rounded down by less than `slack` nanoseconds, so that a request may seem to begin before the one before it has ended. What
+    follows in the same call stays in its lane."""
     measured = {it.client for it in requests if it.took is not None}
     if depth is not None and measured:
         raise Refusal(2, "--depth: the latencies of the log tell how many requests were in flight")
     requests.sort(key=operator.attrgetter("time"))
     lanes: dict[str, list[int]] = collections.defaultdict(list)
+    latest: dict[str, int] = {}
     count: collections.Counter[str] = collections.Counter()
+    names: dict[tuple[str, int], str] = {}
     for it in requests:
         if it.client in measured:
             ends = lanes[it.client]
-            lane = min(range(len(ends)), key=lambda n: (ends[n], n), default=0)
-            # The times of a log are rounded down, to microseconds.
-            if not ends or ends[lane] >= it.time + 1000:
+            lane = latest[it.client] if it.follows else ends.index(min(ends)) if ends else 0
+            begun = ends[lane] if it.follows else it.time
+            if not ends or not it.follows and ends[lane] >= it.time + slack:
                 lane = len(ends)
                 ends.append(0)
             # How long a request took that has no latency is not known, and a guess opens no lane.
-            ends[lane] = it.time + (0 if it.took is None else took(it))
+            ends[lane] = begun + (0 if it.took is None else took(it))
+            latest[it.client] = lane
         else:
             lane = count[it.client] % (depth or 1)
             count[it.client] += 1
-        it.client = f"{it.client}.{lane + 1}"
+        name = names.get((it.client, lane))
+        if name is None:
+            name = names[it.client, lane] = f"{it.client}.{lane + 1}"
+        it.client = name
+
+
+def loop_of(asked: Namespace, kind: str | None, requests: list[Request], took: Took) -> "Loop | None":
+    """When the requests come, whose clients get their lanes; None for a trace of version 2. Without clients all come when they came in the
+    log."""
+    if kind is None and asked.trace_version == "2":
+        return None
+    if kind is None:
+        for it in requests:
+            it.client = NONE
+    elif asked.has_lanes:
+        deal(requests, took, asked.depth, asked.slack)
+    return Loop(kind is not None and asked.loop != "open", took, asked.tick)
 
 
 class Loop:
@@ -60,24 +89,79 @@ class Loop:
         self.is_closed = is_closed
         self.took = took
         self.tick = tick
+        # How many think times were cut, and the longest one, in nanoseconds.
         self.cut = 0
-        # The time at which each client's last request began, and the one at which it ended.
+        self.longest = 0
+        # The time at which each client's last request began, and the one at which it ended; and the clients that have a message.
         self.last: dict[str, tuple[int, int]] = {}
+        self.begun: set[str] = set()
 
     def of(self, it: Request, release: int) -> tuple[int, int]:
         """The release and the think time of the next request. What one call asks for at once is done in turn."""
-        before = self.last.get(it.client)
-        begun = before[1] if before and before[0] == it.time else it.time
-        self.last[it.client] = it.time, begun + self.took(it)
-        if before is None or not self.is_closed:
+        if not self.is_closed:
             return release, 0
-        think = max(0, it.time - before[1]) // self.tick
-        self.cut += think > limits.THINK
-        return 0, min(think, limits.THINK)
+        client, time = it.client, it.time
+        before = self.last.get(client)
+        took = it.took if it.took is not None else self.took(it)
+        if before is None or client not in self.begun:
+            if isinstance(it, Data) or it.ops:
+                self.begun.add(client)
+            self.last[client] = time, (before[1] if before and before[0] == time else time) + took
+            return release, 0
+        began, end = before
+        self.last[client] = time, (end if began == time else time) + took
+        if time <= end:
+            return 0, 0
+        think = time - end
+        if think > self.longest:
+            self.longest = think
+        ticks = think // self.tick
+        if ticks > limits.THINK:
+            self.cut += 1
+            return 0, limits.THINK
+        return 0, ticks
 
     def warn(self) -> None:
         if self.cut:
-            tell(f"think times above {limits.THINK} ticks, which were cut to that: {self.cut} (a larger --tick keeps them)")
+            tell(f"think times above {limits.THINK} ticks, which were cut to that: {self.cut} (--tick {keeping_thinks(self.longest)} keeps them)")
+
+
+# Of each client when it began, and its last message ended.
+Spans = dict[str, tuple[int, int]]
+
+
+def spans(messages: Iterable[tuple[str, int, int]]) -> Spans:
+    """The spans of the clients of these messages, each with its client, start and end."""
+    found: Spans = {}
+    for client, start, end in messages:
+        if client != NONE:
+            first, last = found.get(client, (start, end))
+            found[client] = min(first, start), max(last, end)
+    return found
+
+
+def most_at_once(found: Iterable[tuple[int, int]]) -> int:
+    """How many clients were under way at once at most. One that ends when another one begins is not under way any more."""
+    # The ends before the beginnings of the same tick, but for one that begins and ends there.
+    most = now = 0
+    for _, step in sorted((time, step) for first, last in found for time, step in ((first, 1), (max(last, first + 1), -1))):
+        now += step
+        most = max(most, now)
+    return most
+
+
+def places(found: Spans, most: int) -> dict[str, tuple[int, str]]:
+    """Gives each client one of so many places, in the order in which they began: the one that is free longest. Tells how much later it
+    begins for that, and the name of the place's first client."""
+    free: list[tuple[int, int, str]] = []
+    answer: dict[str, tuple[int, str]] = {}
+    for number, (client, (first, last)) in enumerate(sorted(found.items(), key=lambda it: it[1])):
+        is_taken = bool(free) and (free[0][0] <= first or len(free) >= most)
+        before, at, name = heapq.heappop(free) if is_taken else (first, number, client)
+        later = max(0, before - first)
+        answer[client] = later, name
+        heapq.heappush(free, (last + later, at, name))
+    return answer
 
 
 def starts(clients: Sequence[tuple[str, int, int, int]]) -> list[int]:

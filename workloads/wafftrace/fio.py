@@ -9,8 +9,8 @@ import re
 from argparse import Namespace
 from fractions import Fraction
 
-from .logs import Data, File, Lines, Meta, Refusal, Request, is_number, read_lines, shown, tell
-from .model import VOLUME, Volume
+from .logs import Data, File, Lines, Meta, Refusal, Request, is_number, read_lines, shown, stem_of
+from .model import VOLUME, Found, Volume
 
 HEADER = re.compile(r"fio version ([23]) iolog")
 KINDS = {"read": "read", "write": "write", "trim": "free"}
@@ -20,28 +20,57 @@ JOB_NAME = 20
 FLUSHES = {"sync": "sync", "datasync": "sync", "sync_file_range": "sync"}
 
 
+# A line of either log in the form that most have.
+ACTION = re.compile(r"([0-9]{1,18}) (\S+) (read|write|trim) ([0-9]{1,18}) ([0-9]{1,18})", re.ASCII)
+LATENCY = re.compile(r"[0-9]{1,18}, ([0-9]{1,18}), ([0-9]{1,18}, [0-9]{1,18}, [0-9]{1,18}), [^,]*", re.ASCII)
+
+
 class Latencies:
-    """The latencies of a log, by direction and size, and by offset where the log has it, in the order of the log."""
+    """The latencies of a log, by direction and size, and by offset where the log has it (as `0, 4096, 8192`), in the order of the log."""
 
     def __init__(self, name: str) -> None:
-        self.waiting: dict[tuple[str, str, str | None], collections.deque[int]] = collections.defaultdict(collections.deque)
         lines = read_lines(name)
         self.lines = Lines(name, len(lines))
-        for number, line in enumerate(lines, 1):
-            fields = line.replace(" ", "").split(",")
-            if len(fields) < 4 or not all(is_number(it) for it in fields[:4]):
-                self.lines.not_understood(number, line)
-                continue
-            # Time, latency, direction, size; then the offset (with log_offset=1), and the priority.
-            offset = fields[4] if len(fields) >= 6 else None
-            self.waiting[fields[2], fields[3], offset].append(int(fields[1]))
-        self.lines.report()
+        # The lines that are not read yet, from a place on: mostly the next one is that of the next request.
+        self.unread = lines
+        self.place = 0
+        # Those that were read, and which no request had yet, the first one first.
+        self.waiting: dict[str, collections.deque[str]] = {}
 
-    def take(self, action: str, offset: str, length: str) -> int | None:
+    def parsed(self, number: int, line: str) -> tuple[str, str] | None:
+        """The latency and the key of a line in another form than most have; None where it is not understood."""
+        fields = line.replace(" ", "").split(",")
+        if len(fields) < 4 or not all(is_number(it) for it in fields[:4]):
+            self.lines.not_understood(number, line)
+            return None
+        # Time, latency, direction, size; then the offset (with log_offset=1), and the priority.
+        return fields[1], f"{fields[2]}, {fields[3]}, {fields[4] if len(fields) >= 6 else '-'}"
+
+    def take(self, direction: str, offset: str, length: str) -> int | None:
         """The latency of the next such request, in nanoseconds; None where there is none."""
-        direction = DIRECTIONS[action]
-        queue = self.waiting.get((direction, length, offset)) or self.waiting.get((direction, length, None))
-        return queue.popleft() if queue else None
+        key = f"{direction}, {length}, {offset}"
+        unread, match = self.unread, LATENCY.fullmatch
+        if self.waiting:
+            found = self.waiting.get(key) or self.waiting.get(f"{direction}, {length}, -")
+            if found:
+                return int(found.popleft())
+        while self.place < len(unread):
+            line = unread[self.place]
+            self.place += 1
+            usual = match(line)
+            read = usual.groups() if usual is not None else self.parsed(self.place, line)
+            if read is None:
+                continue
+            took, told = read
+            if told == key or told == f"{direction}, {length}, -":
+                return int(took)
+            self.waiting.setdefault(told, collections.deque()).append(took)
+        return None
+
+    def left(self) -> int:
+        """How many latencies no request had. The rest of the log is read for that."""
+        self.take("", "", "")
+        return sum(map(len, self.waiting.values()))
 
 
 class Reader:
@@ -50,6 +79,8 @@ class Reader:
     def __init__(self) -> None:
         self.store = Volume()
         self.requests: list[Request] = []
+        self.logs: list[Lines] = []
+        self.beside: list[Lines] = []
         self.known: dict[str, File] = {}
 
     def file(self, name: str) -> File:
@@ -62,25 +93,34 @@ class Reader:
         """Adds the requests of a log whose job started so many nanoseconds after the others."""
         lines = read_lines(name)
         log = Lines(name, len(lines))
-        first, has_times = len(self.requests), True
+        has_times = True
         if lines:
             header = HEADER.fullmatch(lines[0].strip())
             if header is None:
                 raise Refusal(3, f"{log.name}: no iolog: its first line is not `fio version 2 iolog` or `.. 3 ..`")
             has_times = header[1] == "3"
-            self.actions(log, lines, has_times, latencies, start)
-            log.without["the header"] = 1
-        for it in self.requests[first:]:
-            it.client = client
-        log.report()
+            self.actions(log, lines, has_times, latencies, start, client)
+            log.without["headers"] = 1
+        self.logs.append(log)
         if not has_times:
-            tell(f"{log.name}: version 2 has waits and no times, so that requests come as soon as they can")
-        if latencies and (left := sum(len(it) for it in latencies.waiting.values())):
-            tell(f"{latencies.lines.name}: latencies of no request: {left}")
+            log.said.append("version 2 has waits and no times, so that requests come as soon as they can")
+        if latencies:
+            latencies.lines.without["latencies of no request"] += latencies.left()
+            self.beside.append(latencies.lines)
 
-    def actions(self, log: Lines, lines: list[str], has_times: bool, latencies: Latencies | None, start: int) -> None:
-        now = start
+    def actions(self, log: Lines, lines: list[str], has_times: bool, latencies: Latencies | None, start: int, client: str) -> None:
+        now, match = start, ACTION.fullmatch
         for number, line in enumerate(lines[1:], 2):
+            usual = match(line) if has_times else None
+            if usual is not None:
+                time, name, action, offset, length = usual.groups()
+                now = start + int(time) * 1000
+                if log.latest is not None and now < log.latest:
+                    log.at(now)
+                else:
+                    log.latest = now
+                self.data(log, now, name, action, offset, length, latencies, client)
+                continue
             if HEADER.search(line):
                 log.notes["headers of other jobs, whose lines may be mixed with those before (each job has a log of its own)"] += 1
                 if HEADER.fullmatch(line.strip()):
@@ -95,34 +135,42 @@ class Reader:
             if len(words) == 4 and is_number(words[2]) and is_number(words[3]):
                 if words[1] == "wait" and not has_times:
                     now += int(words[2]) * 1000
-                    log.without["wait"] += 1
-                elif not self.request(log, now, words, latencies):
+                    log.without["waits"] += 1
+                elif not self.request(log, now, words, latencies, client):
                     log.not_understood(number, line)
             elif len(words) == 2 and words[1] in ("add", "close"):
                 self.file(words[0])
-                log.without[words[1]] += 1
+                log.without[{"add": "names of files", "close": "closes of files"}[words[1]]] += 1
             elif len(words) == 2 and words[1] == "open":
-                self.requests.append(Meta(now, None, "open", [("read", VOLUME, "inode", self.file(words[0]).inode)]))
+                self.requests.append(Meta(now, None, "open", [("read", VOLUME, "inode", self.file(words[0]).inode)], (), client))
             else:
                 log.not_understood(number, line)
 
-    def request(self, log: Lines, now: int, words: list[str], latencies: Latencies | None) -> bool:
+    def request(self, log: Lines, now: int, words: list[str], latencies: Latencies | None, client: str) -> bool:
         """Adds what an action with an offset and a length asks for. False where it is no such action."""
         name, action, offset, length = words
-        file = self.file(name)
         if action in FLUSHES:
-            self.requests.append(Meta(now, None, FLUSHES[action], [("read", VOLUME, "inode", file.inode)]))
+            self.requests.append(Meta(now, None, FLUSHES[action], [("read", VOLUME, "inode", self.file(name).inode)], (), client))
             return True
         if action not in KINDS:
+            self.file(name)
             return False
-        if int(length) == 0:
-            log.without["a length of 0"] += 1
-            return True
-        took = latencies.take(action, offset, length) if latencies else None
-        start, size = int(offset), int(length)
-        file.end = max(file.end, start + size)
-        self.requests.append(Data(now, took, action, KINDS[action], file, start, size))
+        self.data(log, now, name, action, offset, length, latencies, client)
         return True
+
+    def data(
+        self, log: Lines, now: int, name: str, action: str, offset: str, length: str, latencies: Latencies | None, client: str
+    ) -> None:
+        """Adds a read, a write or a trim."""
+        file = self.known.get(name) or self.file(name)
+        start, size = int(offset), int(length)
+        if size == 0:
+            log.without["requests for no bytes"] += 1
+            return
+        took = latencies.take(DIRECTIONS[action], offset, length) if latencies else None
+        if start + size > file.end:
+            file.end = start + size
+        self.requests.append(Data(now, took, action, KINDS[action], file, start, size, None, client))
 
 
 def starts_of(asked: Namespace) -> dict[str, int]:
@@ -141,22 +189,23 @@ def jobs_of(logs: list[str]) -> list[str]:
     number."""
     found: list[str] = []
     for log in logs:
-        stem = re.sub(r"[^A-Za-z0-9_.-]", "_", os.path.splitext(os.path.basename(log))[0]).strip("-")[:JOB_NAME] or "job"
+        stem = re.sub(r"[^A-Za-z0-9_.-]", "_", os.path.splitext(stem_of(log))[0]).strip("-")[:JOB_NAME] or "job"
         names = (stem, *(f"{stem}_{number}" for number in range(2, len(logs) + 1)))
         found.append(next(it for it in names if it not in found))
     return found
 
 
-def read(asked: Namespace) -> tuple[Volume, list[Request]]:
-    """The volume and the requests of the logs. `asked.latencies` has as many files as there are logs, or none."""
+def read(asked: Namespace) -> Found:
+    """What the logs tell. `asked.latencies` has as many files as there are logs, or none."""
     if not asked.logs:
         raise Refusal(2, "fio: no LOG is given (--latencies takes all names behind it, so the logs stand before it)")
     if asked.latencies and len(asked.latencies) != len(asked.logs):
         raise Refusal(2, f"fio: {len(asked.logs)} logs and {len(asked.latencies)} logs of latencies: one is wanted for each, NAME_clat.N.log of job N")
     starts = starts_of(asked)
-    if len(asked.logs) > 1 and not asked.starts:
-        tell("the times of each log are from the start of its own job, and all jobs are taken to start together (--starts)")
     reader = Reader()
     for place, (name, job) in enumerate(zip(asked.logs, jobs_of(asked.logs), strict=True)):
         reader.read(name, Latencies(asked.latencies[place]) if asked.latencies else None, starts[name], job)
-    return reader.store, reader.requests
+    found = Found(reader.store, reader.requests, reader.logs, reader.beside)
+    if len(asked.logs) > 1 and not asked.starts:
+        found.said.append("the times of each log are from the start of its own job, and all jobs are taken to start together (--starts)")
+    return found

@@ -12,14 +12,14 @@ from itertools import pairwise
 from .calls import Job, answers
 from .logs import Refusal, is_number, read_text, shown
 
-# The columns of an answer that name a line, those that add up, and those of which the median and the worst window count.
+# The columns of an answer that name a line, by the first one, and those that it has to have beside them.
 KEYS = {"workers": ("workers",), "hierarchy": ("hierarchy", "model", "affinities")}
+NEEDED = {"workers": ("length",), "hierarchy": ("list",)}
+# The columns that add up, those that are means, and what these are weighted by; of all others the median and the worst window count.
 SUMS = ("length", "list", "least", "waits")
-PERCENTILES = ("p50", "p99", "latency")
+MEANS = {"mean": "messages", "speedup": "lengths", "busy": "lengths"}
 
 WINDOWS = "file,messages,from"
-SWEEP = "workers,length,speedup,busy,least,over,waits,mean,p50,p99,latency"
-RANK = "hierarchy,model,affinities,length,list,least,over,waits,mean,p50,p99,latency"
 
 # An option of these commands, whose value is the next word.
 OPTION = re.compile(r"-[a-z]|--[a-z]+")
@@ -40,23 +40,38 @@ def stem(path: str) -> str:
     return os.path.splitext(os.path.basename(path))[0]
 
 
-def read_table(name: str, *headers: str) -> list[Row]:
-    """The rows of a file that is a table with one of these headers."""
-    return table(read_text(name), name, *headers)
+def table_of_windows(name: str) -> list[Row]:
+    """The rows of a file that `waff-trace window` printed."""
+    header, rows = table(read_text(name), name)
+    if header != WINDOWS.split(","):
+        raise Refusal(3, f"{shown(name)}: its first line is not {WINDOWS}")
+    return rows
 
 
-def table(text: str, name: str, *headers: str) -> list[Row]:
-    """The rows of a table with one of these headers."""
+def answer(text: str, name: str) -> list[Row]:
+    """The rows of an answer, whose columns are known by their names."""
+    header, rows = table(text, name)
+    kind = header[0] if header else ""
+    if kind not in KEYS or tuple(header[: len(KEYS[kind])]) != KEYS[kind]:
+        raise Refusal(3, f"{shown(name)}: its first line is not that of a sweep (workers,length ..) or of a rank ({','.join(KEYS['hierarchy'])} ..)")
+    for column in NEEDED[kind]:
+        if column not in header:
+            raise Refusal(3, f"{shown(name)}: it has no column {column}")
+    if len({*header}) < len(header):
+        raise Refusal(3, f"{shown(name)}: two columns of one name")
+    return rows
+
+
+def table(text: str, name: str) -> tuple[list[str], list[Row]]:
+    """The first line and the rows of a table."""
     try:
         lines = [it for it in csv.reader(text.splitlines(), strict=True) if it]
     except csv.Error as fault:
         raise Refusal(3, f"{shown(name)}: no CSV: {fault}") from None
-    if not lines or ",".join(lines[0]) not in headers:
-        raise Refusal(3, f"{shown(name)}: its first line is not {' or '.join(headers)}")
     for number, line in enumerate(lines, 1):
         if len(line) != len(lines[0]):
             raise Refusal(3, f"{shown(name)}: line {number} has {len(line)} fields in place of {len(lines[0])}")
-    return [dict(zip(lines[0], line, strict=True)) for line in lines[1:]]
+    return lines[0] if lines else [], [dict(zip(lines[0], line, strict=True)) for line in lines[1:]]
 
 
 def files_of(names: list[str]) -> list[str]:
@@ -113,12 +128,12 @@ def job(words: list[str], window: str) -> Job:
 
 def gathered(asked: Namespace) -> list[Window]:
     """The windows of a table, each with its answer."""
-    rows = read_table(asked.windows, WINDOWS)
+    rows = table_of_windows(asked.windows)
     found: list[Window] = []
     for row, (name, text) in zip(rows, asked_for(asked, rows) if asked.call else read_answers(rows, asked.answers), strict=True):
         if not is_number(row["messages"]):
             raise Refusal(3, f"{shown(asked.windows)}: no number of messages: {shown(row['messages'])}")
-        found.append(Window(int(row["messages"]), table(text, name, SWEEP, RANK)))
+        found.append(Window(int(row["messages"]), answer(text, name)))
         if [list(it) for it in found[-1].rows] != [list(it) for it in found[0].rows] or keys(found[-1]) != keys(found[0]):
             raise Refusal(3, f"{shown(name)}: its lines are not those of the first answer")
     return found
@@ -160,15 +175,15 @@ def line_of(rows: list[Row], messages: list[int]) -> dict[str, object]:
     for name in list(rows[0])[len(found) - 2 :]:
         if name in SUMS:
             found[name] = sum(whole(rows, name))
-        elif name in PERCENTILES:
-            ordered = sorted(whole(rows, name))
-            found |= {name: ordered[(len(ordered) - 1) // 2], f"{name}-worst": ordered[-1]}
-        elif name == "over":
+        elif name == "over" and "least" in rows[0]:
             length, least = sum(whole(rows, of_workers)), sum(whole(rows, "least"))
             ratio = -(-100 * length // least) if least else 100
             found[name] = f"{ratio // 100}.{ratio % 100:02}"
+        elif name in MEANS or not all(is_number(row[name]) for row in rows):
+            found[name] = mean(rows, name, whole(rows, of_workers) if MEANS.get(name) == "lengths" else messages)
         else:
-            found[name] = mean(rows, name, messages if name == "mean" else whole(rows, of_workers))
+            ordered = sorted(whole(rows, name))
+            found |= {name: ordered[(len(ordered) - 1) // 2], f"{name}-worst": ordered[-1]}
     return found
 
 

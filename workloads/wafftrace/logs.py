@@ -1,12 +1,26 @@
 """What all readers of logs share: refusals, files, the lines that were read, and the requests that they tell of."""
 
 import collections
+import gzip
+import io
 import os
+import re
+import subprocess
 import sys
+import zlib
+from collections.abc import Iterable, Iterator, Sequence
 from dataclasses import dataclass
+
+# How a file begins that these have packed.
+GZIP = b"\x1f\x8b"
+ZSTD = b"\x28\xb5\x2f\xfd"
 
 SHOWN = 3
 SHOWN_CHARACTERS = 100
+
+# One line in so many that is not understood is told apart, or ends the import.
+VERY_FEW = 1000
+FEW = 10
 
 
 class Refusal(Exception):
@@ -17,17 +31,83 @@ class Refusal(Exception):
         self.status = status
 
 
-def read_text(name: str) -> str:
-    """The text of a file, or of standard input for `-`. Bytes that are no UTF-8 are kept as they are."""
+def read_bytes(name: str) -> bytes:
+    """What is in a file, or in standard input for `-`."""
     try:
         if name == "-" and sys.stdin is None:
             raise Refusal(4, "standard input: it is closed")
         if name == "-":
-            return sys.stdin.buffer.read().decode("utf-8", "surrogateescape")
+            return sys.stdin.buffer.read()
         with open(name, "rb") as file:
-            return file.read().decode("utf-8", "surrogateescape")
+            return file.read()
     except OSError as fault:
         raise Refusal(4, f"{shown(name)}: {fault.strerror}") from None
+
+
+def read_head(name: str) -> bytes:
+    """The first four bytes of a file, also where gzip packed it; of standard input none."""
+    try:
+        with open(name, "rb") if name != "-" else io.BytesIO() as file:
+            first = file.read(4)
+        if not first.startswith(GZIP):
+            return first
+        with gzip.open(name) as packed:
+            return packed.read(4)
+    except (EOFError, zlib.error, gzip.BadGzipFile):
+        return b""
+    except OSError as fault:
+        raise Refusal(4, f"{shown(name)}: {fault.strerror}") from None
+
+
+def unpacked(name: str, packed: bytes) -> bytes:
+    """What was read, where gzip or zstd made it smaller."""
+    called = "standard input" if name == "-" else shown(name)
+    if packed.startswith(GZIP):
+        try:
+            return gzip.decompress(packed)
+        except (OSError, EOFError, zlib.error) as fault:
+            raise Refusal(3, f"{called}: gzip made it, and it cannot be read: {fault}") from None
+    if packed.startswith(ZSTD):
+        try:
+            done = subprocess.run(["zstd", "-dcq"], input=packed, capture_output=True, check=False)
+        except OSError as fault:
+            raise Refusal(4, f"{called}: zstd made it, and no `zstd` can be run to read it: {fault.strerror}") from None
+        if done.returncode != 0:
+            raise Refusal(3, f"{called}: zstd made it, and it cannot be read: {shown(done.stderr.decode(errors='replace').strip())}")
+        return done.stdout
+    return packed
+
+
+def stream_of_lines(name: str) -> Iterator[str]:
+    """The lines of a file that is too large to be kept, one after another, as `read_lines` has them."""
+    called = "standard input" if name == "-" else shown(name)
+    try:
+        if name == "-" and sys.stdin is None:
+            raise Refusal(4, "standard input: it is closed")
+        with io.BufferedReader(io.FileIO(sys.stdin.fileno() if name == "-" else name, closefd=name != "-"), 1 << 20) as file:
+            is_packed = file.peek(4).startswith((GZIP, ZSTD))
+            lines: Iterable[bytes] = unpacked(name, file.read()).splitlines(keepends=True) if is_packed else file
+            for line in lines:
+                yield line.removesuffix(b"\n").removesuffix(b"\r").decode("utf-8", "surrogateescape")
+    except OSError as fault:
+        raise Refusal(4, f"{called}: {fault.strerror}") from None
+
+
+def read_text(name: str) -> str:
+    """The text of a file, or of standard input for `-`, also where gzip or zstd packed it. Bytes that are no UTF-8 are kept as they
+    are."""
+    return unpacked(name, read_bytes(name)).decode("utf-8", "surrogateescape")
+
+
+def as_name(text: str, most: int = 20) -> str:
+    """A name that a client may have, made of another one."""
+    return re.sub(r"[^A-Za-z0-9_.-]", "_", text).strip("-")[:most] or "log"
+
+
+def stem_of(name: str) -> str:
+    """The name of a file without its folder, and without the ending of what is packed."""
+    found = os.path.basename(name)
+    return found.removesuffix(".gz").removesuffix(".zst") or found
 
 
 def is_number(word: str) -> bool:
@@ -62,19 +142,40 @@ def named(text: str) -> str:
     return text if text.isprintable() and "\\" not in text else "".join(map(character, text))
 
 
+def counted(number: int, what: str) -> str:
+    """So many of something, whose word is in the plural."""
+    if number != 1:
+        return f"{number:,} {what}"
+    word, blank, rest = what.partition(" ")
+    for many, one in (("ies", "y"), ("sses", "ss"), ("s", "")):
+        if word.endswith(many):
+            return f"1 {word.removesuffix(many)}{one}{blank}{rest}"
+    return f"1 {what}"
+
+
+def seconds(nanoseconds: int) -> str:
+    """A time in seconds, without the zeros at its end."""
+    return f"{nanoseconds // 10**9:,}.{nanoseconds % 10**9:09}".rstrip("0").removesuffix(".")
+
+
 class Lines:
-    """The lines of one log: how many there are, what became of those that no message comes of, and what else is to be told.
-    `wanted` says how such a log is recorded."""
+    """The lines of one log: how many there are, what became of those that no message comes of (`without`), and what else is to be told
+    (`notes`). `wanted` says how such a log is recorded."""
 
     def __init__(self, name: str, count: int, wanted: str = "") -> None:
         self.name = "standard input" if name == "-" else named(name)
         self.count = count
+        # What its lines are called.
+        self.what = "lines"
         self.wanted = wanted
         self.notes: collections.Counter[str] = collections.Counter()
+        self.said: list[str] = []
         self.strange: list[tuple[int, str]] = []
         self.strange_count = 0
         self.without: collections.Counter[str] = collections.Counter()
+        # How many lines are at an earlier time than one before, and by how much at most, in nanoseconds.
         self.backwards = 0
+        self.back = 0
         self.latest: int | None = None
 
     def not_understood(self, number: int, line: str) -> None:
@@ -86,24 +187,42 @@ class Lines:
         """Notes the time of the next line, so that a clock that goes backwards is told."""
         if self.latest is not None and time < self.latest:
             self.backwards += 1
+            self.back = max(self.back, self.latest - time)
         else:
             self.latest = time
 
     def report(self) -> None:
-        """Tells on standard error what became of the lines. A log of which no line was understood is refused."""
-        tell(f"{self.name}: {self.count} lines")
+        """Tells on standard error what became of the lines that no message comes of."""
         for why, count in sorted((+self.without).items(), key=lambda item: (-item[1], item[0])):
-            tell(f"{self.name}: no message comes of {why}: {count}")
-        for what, count in sorted(self.notes.items()):
-            tell(f"{self.name}: {what}: {count}")
+            tell(f"{self.name}: left out: {counted(count, why)}")
+        for what, count in sorted((+self.notes).items()):
+            tell(f"{self.name}: {counted(count, what)}")
+        for text in self.said:
+            tell(f"{self.name}: {text}")
         if self.backwards:
-            tell(f"{self.name}: lines at an earlier time than one before them: {self.backwards}; the trace is sorted by time")
+            told = counted(self.backwards, "lines at an earlier time than one before")
+            tell(f"{self.name}: {told}, by {seconds(self.back)} s at most: the trace is sorted by time")
         if self.strange_count:
-            tell(f"{self.name}: lines that are not understood: {self.strange_count}")
+            tell(f"{self.name}: left out: {counted(self.strange_count, f'{self.what} not understood')}")
             for number, line in self.strange:
                 tell(f"{self.name}:{number}: {shown(line)}")
         if self.strange_count and self.strange_count + self.without["blank lines"] == self.count:
-            raise Refusal(3, f"{self.name}: no line of it is understood{f': {self.wanted}' if self.wanted else ''}")
+            raise Refusal(3, f"{self.name}: none of its {self.what} is understood{f': {self.wanted}' if self.wanted else ''}")
+
+    def lost(self) -> str:
+        """How much of the log is not understood."""
+        return f"{self.strange_count:,} of {self.count:,} ({100 * self.strange_count / max(1, self.count):.2g} %)"
+
+
+def warn_of_lost(logs: list[Lines], is_partial: bool) -> None:
+    """The last line, where more than one line in a thousand of a log is not understood. With more than one in ten no trace is made, but
+    where a part of the log is asked for."""
+    for log in logs:
+        if log.strange_count * FEW > log.count and not is_partial:
+            raise Refusal(3, f"{log.name}: {log.what} not understood: {log.lost()}, more than 1 in {FEW}: no trace is made (--partial makes one of the others)")
+    for log in logs:
+        if log.strange_count * VERY_FEW > log.count:
+            tell(f"WARNING: {log.name}: {log.what} not understood, which the trace is without: {log.lost()}")
 
 
 def tell(text: str) -> None:
@@ -125,6 +244,7 @@ class File:
     size: int | None = None
     end: int = 0
     base: int = 0
+    volume: str = "Vol"
 
 
 @dataclass(slots=True)
@@ -132,7 +252,8 @@ class Data:
     """A request for bytes of a file or a device, in the order of the log, and whose it is. Times are in nanoseconds.
 
     `took` is None where the log has no latency; `kind` is read, write or free; `fresh` is the number of the first byte that the
-    request is known to be the first to write, None where there is none.
+    request is known to be the first to write, None where there is none. `later` says that its blocks are taken by another request,
+    `follows` that the request is of the same call as the one before of its client.
     """
 
     time: int
@@ -144,6 +265,8 @@ class Data:
     length: int
     fresh: int | None = None
     client: str = "-"
+    later: bool = False
+    follows: bool = False
 
 
 # Data that is given back or taken: the file, its first byte, the one behind its last, and free or alloc.
@@ -153,14 +276,15 @@ Blocks = tuple[File, int, int, str]
 @dataclass(slots=True)
 class Meta:
     """A request for what is no data: operations, each a word (read, set or add), a volume or device, one of its spaces, and the
-    number of the directory or inode."""
+    number of the directory or inode. One without operations makes no message: its client waits for the answer all the same."""
 
     time: int
     took: int | None
     name: str
     ops: list[tuple[str, str, str, int]]
-    blocks: Blocks | None = None
+    blocks: Sequence[Blocks] = ()
     client: str = "-"
+    follows: bool = False
 
 
 Request = Data | Meta

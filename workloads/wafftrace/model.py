@@ -5,13 +5,15 @@ import csv
 import io
 import operator
 from argparse import Namespace
-from collections.abc import Callable, Iterable, Iterator
+from collections.abc import Iterable, Iterator
+from dataclasses import dataclass, field
 from typing import Protocol
 
 from . import limits
 from .clients import Loop
 from .hierarchy import Tree
-from .logs import Data, File, Meta, Refusal, Request, named, tell
+from .logs import Data, File, Lines, Meta, Refusal, Request, counted, named, seconds, tell
+from .prices import Costs, upwards
 
 LEAST_CELL = 4096
 SECTOR = 512
@@ -30,10 +32,6 @@ def power_from(number: int) -> int:
     return 1 << max(0, number - 1).bit_length()
 
 
-def upwards(number: int, step: int) -> int:
-    return -(-number // step)
-
-
 class Store(Protocol):
     """What a log is of: its files, and how they are laid out as cells."""
 
@@ -49,8 +47,8 @@ class Store(Protocol):
     def place(self, cell: int, unit: int) -> dict[str, int]:
         """Places the files, in cells and units of so many bytes and cells. Tells how many cells there are, by their spaces."""
 
-    def index(self, space: str, number: int) -> int:
-        """The cell of a directory or an inode."""
+    def index(self, store: str, space: str, number: int) -> int:
+        """The cell of a directory or an inode of a volume."""
 
     def cells(self, cell: int) -> Iterator[tuple[str, int, int, str]]:
         """Which cells are whose: space, first and last cell, and name."""
@@ -59,10 +57,31 @@ class Store(Protocol):
         """The hierarchy for these spaces, and what each is of."""
 
 
+@dataclass(slots=True)
+class Found:
+    """What logs tell: the requests of a store, the lines of the logs themselves and of those beside them, and what else is to be told."""
+
+    store: Store
+    requests: list[Request]
+    logs: list[Lines]
+    beside: list[Lines] = field(default_factory=list)
+    said: list[str] = field(default_factory=list)
+
+    def report(self, messages: int) -> None:
+        """Tells what was kept, then what was left out."""
+        lines = counted(sum(it.count for it in self.logs), self.logs[0].what)
+        name = f"{self.logs[0].name}: " if len(self.logs) == 1 else ""
+        tell(f"{name}kept {counted(messages, 'messages')} of {lines}{f' in {len(self.logs)} logs' if not name else ''}")
+        for log in [*self.logs, *self.beside]:
+            log.report()
+        for text in self.said:
+            tell(text)
+
+
 class Log(Protocol):
     """The reader of a form of logs, by the words of its command."""
 
-    def __call__(self, asked: Namespace) -> tuple[Store, list[Request]]: ...
+    def __call__(self, asked: Namespace) -> Found: ...
 
 
 class Volume:
@@ -70,12 +89,13 @@ class Volume:
 
     has_map = True
 
-    def __init__(self) -> None:
+    def __init__(self, name: str = VOLUME) -> None:
+        self.name = name
         self.files: list[File] = []
         self.directories = 0
 
     def new_file(self, name: str) -> File:
-        file = File(name, len(self.files))
+        file = File(name, len(self.files), volume=self.name)
         self.files.append(file)
         return file
 
@@ -87,7 +107,7 @@ class Volume:
         return file.directory
 
     def data_space(self, file: File) -> str:
-        return VOLUME + ".data"
+        return self.name + ".data"
 
     def block(self, requests: Iterable[Request]) -> int:
         return LEAST_CELL
@@ -105,14 +125,14 @@ class Volume:
         self.inodes_a_cell = power_from(upwards(len(self.files), INODE_CELLS))
         self.directories_a_cell = power_from(upwards(self.directories, DIRECTORY_CELLS))
         return {
-            VOLUME + ".vol": 1,
-            VOLUME + ".dir": max(1, upwards(self.directories, self.directories_a_cell)),
-            VOLUME + ".inode": max(1, upwards(len(self.files), self.inodes_a_cell)),
-            VOLUME + ".data": data,
-            VOLUME + ".map": upwards(data, unit),
+            self.name + ".vol": 1,
+            self.name + ".dir": max(1, upwards(self.directories, self.directories_a_cell)),
+            self.name + ".inode": max(1, upwards(len(self.files), self.inodes_a_cell)),
+            self.name + ".data": data,
+            self.name + ".map": upwards(data, unit),
         }
 
-    def index(self, space: str, number: int) -> int:
+    def index(self, store: str, space: str, number: int) -> int:
         """The cell of a directory or an inode."""
         if space == "dir":
             return number // self.directories_a_cell
@@ -121,30 +141,66 @@ class Volume:
     def cells(self, cell: int) -> Iterator[tuple[str, int, int, str]]:
         for file in self.files:
             if file.end:
-                yield VOLUME + ".data", file.base // cell, (file.base + file.end - 1) // cell, file.name
+                yield self.name + ".data", file.base // cell, (file.base + file.end - 1) // cell, file.name
         for space, numbers in (
             ("inode", [(file.inode, file.name) for file in self.files]),
             ("dir", sorted((file.directory, file.name) for file in self.files if file.directory is not None)),
         ):
             for number, name in numbers:
-                index = self.index(space, number)
-                yield f"{VOLUME}.{space}", index, index, name
+                index = self.index(self.name, space, number)
+                yield f"{self.name}.{space}", index, index, name
 
     def tree(self, spaces: dict[str, int], stripes: int, unit: int) -> tuple[Tree, dict[str, str]]:
-        root, above, below = VOLUME, VOLUME + ".Logical", VOLUME + ".VBN"
-        logical = [f"{VOLUME}.S{n}" for n in range(stripes)]
-        ranges = [f"{VOLUME}.R{n}" for n in range(stripes)]
+        root, above, below = self.name, self.name + ".Logical", self.name + ".VBN"
+        logical = [f"{self.name}.S{n}" for n in range(stripes)]
+        ranges = [f"{self.name}.R{n}" for n in range(stripes)]
         parents: dict[str, str | None] = {"Serial": None, root: "Serial", above: root, **dict.fromkeys(logical, above)}
         parents |= {below: root, **dict.fromkeys(ranges, below)}
         tables = {
-            VOLUME + ".vol": (1, [root], "the volume's own blocks"),
-            VOLUME + ".dir": (1, [above], "directories"),
-            VOLUME + ".inode": (1, logical, "inodes"),
-            VOLUME + ".data": (unit, logical, "user data"),
-            VOLUME + ".map": (1, ranges, "the map of free blocks: a cell for each unit of the data"),
+            self.name + ".vol": (1, [root], "the volume's own blocks"),
+            self.name + ".dir": (1, [above], "directories"),
+            self.name + ".inode": (1, logical, "inodes"),
+            self.name + ".data": (unit, logical, "user data"),
+            self.name + ".map": (1, ranges, "the map of free blocks: a cell for each unit of the data"),
         }
         maps = {space: (unit, owners) for space, (unit, owners, _) in tables.items()}
         return Tree("hierarchical", parents, spaces, maps), {space: what for space, (_, _, what) in tables.items()}
+
+
+class Volumes:
+    """Several volumes."""
+
+    has_map = True
+
+    def __init__(self, volumes: list[Volume]) -> None:
+        self.volumes = {it.name: it for it in volumes}
+
+    def data_space(self, file: File) -> str:
+        return file.volume + ".data"
+
+    def block(self, requests: Iterable[Request]) -> int:
+        return LEAST_CELL
+
+    def place(self, cell: int, unit: int) -> dict[str, int]:
+        return {space: size for it in self.volumes.values() for space, size in it.place(cell, unit).items()}
+
+    def index(self, store: str, space: str, number: int) -> int:
+        return self.volumes[store].index(store, space, number)
+
+    def cells(self, cell: int) -> Iterator[tuple[str, int, int, str]]:
+        for it in self.volumes.values():
+            yield from it.cells(cell)
+
+    def tree(self, spaces: dict[str, int], stripes: int, unit: int) -> tuple[Tree, dict[str, str]]:
+        parents: dict[str, str | None] = {}
+        maps: dict[str, tuple[int, list[str]]] = {}
+        remarks: dict[str, str] = {}
+        for it in self.volumes.values():
+            tree, told = it.tree(spaces, stripes, unit)
+            parents |= tree.parents
+            maps |= tree.maps
+            remarks |= told
+        return Tree("hierarchical", parents, spaces, maps), remarks
 
 
 class Devices:
@@ -173,7 +229,7 @@ class Devices:
             spaces[file.name + ".data"] = max(1, upwards(file.end, cell))
         return spaces or {"dev": 1}
 
-    def index(self, space: str, number: int) -> int:
+    def index(self, store: str, space: str, number: int) -> int:
         return 0
 
     def cells(self, cell: int) -> Iterator[tuple[str, int, int, str]]:
@@ -234,30 +290,6 @@ class Shape:
         return (at + it.length - 1) // self.cell - at // self.cell + 1
 
 
-def cost_of(options: Namespace, measured: bool) -> Callable[[int | None, int], int]:
-    """A function that tells the cost of a request in ticks, of its latency if that is `measured`, or of its bytes."""
-    tick: int = options.tick
-    by_size = size_of(options)
-
-    def cost(took: int | None, length: int) -> int:
-        return max(1, upwards(by_size(length) if took is None or not measured else took, tick))
-
-    return cost
-
-
-def size_of(options: Namespace) -> Callable[[int], int]:
-    """A function that tells what so many bytes cost, in nanoseconds."""
-    base: int = options.base
-    kib: int = options.per_kib
-    return lambda length: base + kib * upwards(length, 1024)
-
-
-def took_of(options: Namespace) -> Callable[[Request], int]:
-    """A function that tells how long a request took, in nanoseconds: its latency, or what its bytes cost where the log has none."""
-    by_size = size_of(options)
-    return lambda it: it.took if it.took is not None else by_size(it.length if isinstance(it, Data) else 0)
-
-
 def shares(total: int, weights: list[int]) -> list[int]:
     """A cost divided by weights, so that the parts add up to it and each is at least 1."""
     whole, before, sum_so_far = sum(weights), 0, 0
@@ -290,14 +322,14 @@ class Messages:
     """The lines of a trace, made of the requests in the order of their times. Their costs are those that were measured, or those of
     their sizes. With a `loop` the trace has clients."""
 
-    def __init__(self, store: Store, shape: Shape, options: Namespace, measured: bool, loop: Loop | None) -> None:
+    def __init__(self, store: Store, shape: Shape, options: Namespace, costs: Costs, loop: Loop | None) -> None:
         self.store = store
         self.cell = shape.cell
         self.unit = shape.unit
         self.most = shape.most
         self.options = options
-        self.measured = measured
-        self.cost = cost_of(options, measured)
+        self.measured = costs.measured
+        self.costs = costs
         self.loop = loop
         self.lines = ["message,cost,release,client,think,ops" if loop else "message,cost,release,ops"]
         self.client = "-"
@@ -306,28 +338,36 @@ class Messages:
         self.guessed: collections.Counter[str] = collections.Counter()
         self.number = 0
         self.spaces: dict[File, str] = {}
+        # Whether requests take or give back blocks, and each write does.
+        self.takes = store.has_map and options.blocks != "none"
+        self.takes_all = self.takes and options.blocks == "all"
 
     def add(self, requests: list[Request]) -> None:
         requests.sort(key=operator.attrgetter("time"))
         start = requests[0].time if requests else 0
-        tick = self.options.tick
+        tick, loop, measured = self.options.tick, self.loop, self.measured
         for request in requests:
-            self.release = self.latest = (request.time - start) // tick
-            if self.loop:
+            self.release = (request.time - start) // tick
+            if loop:
                 self.client = request.client
-                self.release, self.think = self.loop.of(request, self.release)
-            self.number += 1
-            if self.measured and request.took is None:
-                self.guessed[request.name] += 1
+                self.release, self.think = loop.of(request, self.release)
             if isinstance(request, Data):
+                self.number += 1
+                if measured and request.took is None:
+                    self.guessed[request.name] += 1
                 self.data(request)
-            else:
+            elif request.ops:
+                self.number += 1
+                if measured and request.took is None:
+                    self.guessed[request.name] += 1
                 self.meta(request)
 
     def line(self, name: str, cost: int, ops: str) -> None:
         if cost > limits.COST:
             self.cut_costs += 1
             cost = limits.COST
+        if self.release > self.latest:
+            self.latest = self.release
         if self.loop is None:
             self.lines.append(f"{name},{cost},{self.release},{ops}")
             return
@@ -350,13 +390,20 @@ class Messages:
             space = self.spaces[file] = self.store.data_space(file)
         at = file.base + it.offset
         first, last = at // self.cell, (at + it.length - 1) // self.cell
-        cost = self.cost(it.took, it.length)
-        head, tail = {"read": ("read ", ""), "write": ("set ", f" {self.number}"), "free": ("set ", " 0")}[it.kind]
-        blocks = self.taken(it, first, last)
-        if first == last and not blocks:
-            self.line(it.name, cost, self.operations(head, space, first, first, tail))
+        cost = self.costs.of(it.name, it.took, it.length)
+        head, tail = "read " if it.kind == "read" else "set ", "" if it.kind == "read" else " 0" if it.kind == "free" else f" {self.number}"
+        blocks = self.taken(it, first, last) if self.takes and (it.fresh is not None or it.kind == "free" or self.takes_all) else None
+        if blocks is None and last - first < self.most:
+            if self.loop is None or cost > limits.COST:
+                self.line(it.name, cost, self.operations(head, space, first, last, tail))
+                return
+            # The usual one, without a call for each of its parts.
+            self.count += last - first + 1
+            self.latest = max(self.latest, self.release)
+            cells = f"{first}{tail}" if first == last else f"{first}-{last}{tail}"
+            self.lines.append(f"{it.name},{cost},{self.release},{self.client},{self.think},{head}{space}:{cells}")
             return
-        cost, after = self.blocks(cost, *blocks) if blocks else (cost, [])
+        cost, after = self.blocks(cost, file.volume, [blocks]) if blocks else (cost, [])
         runs = pieces(first, last, self.most)
         parts = shares(cost, [end - begin + 1 for begin, end in runs])
         for (begin, end), part in zip(runs, parts, strict=True):
@@ -366,12 +413,12 @@ class Messages:
 
     def taken(self, it: Data, first: int, last: int) -> tuple[str, int, int] | None:
         """The blocks that a request takes or gives back, as `blocks` wants them; None where it does not."""
-        if not self.store.has_map or self.options.blocks == "none":
+        if it.later:
             return None
         if it.kind == "free":
             return "free", first, last
         if it.kind == "write":
-            if self.options.blocks == "all":
+            if self.takes_all:
                 return "alloc", first, last
             if it.fresh is not None:
                 first = upwards(it.place.base + it.fresh, self.cell)
@@ -379,28 +426,37 @@ class Messages:
                     return "alloc", first, last
         return None
 
-    def blocks(self, cost: int, name: str, first: int, last: int) -> tuple[int, list[Line]]:
-        """What is left of a cost behind the messages for the blocks of these cells, and these messages."""
+    def blocks(self, cost: int, volume: str, every: list[tuple[str, int, int]]) -> tuple[int, list[Line]]:
+        """What is left of a cost behind the messages for the blocks of these cells of a volume, and these messages."""
         share = max(1, cost // BLOCKS_SHARE)
-        runs = pieces(first // self.unit, last // self.unit, self.most)
-        parts = shares(share, [end - begin + 1 for begin, end in runs])
+        wanted: list[tuple[str, int, int]] = []
+        for name, begin, end in sorted((name, first // self.unit, last // self.unit) for name, first, last in every):
+            if wanted and wanted[-1][0] == name and begin <= wanted[-1][2] + 1:
+                wanted[-1] = name, wanted[-1][1], max(end, wanted[-1][2])
+            else:
+                wanted.append((name, begin, end))
+        runs = [(name, *it) for name, first, last in wanted for it in pieces(first, last, self.most)]
+        parts = shares(share, [end - begin + 1 for _, begin, end in runs])
         lines = [
-            (name, part, self.operations("add ", VOLUME + ".map", begin, end, " 1"))
-            for (begin, end), part in zip(runs, parts, strict=True)
+            (name, part, self.operations("add ", volume + ".map", begin, end, " 1"))
+            for (name, begin, end), part in zip(runs, parts, strict=True)
         ]
         return max(1, cost - share), lines
 
     def meta(self, it: Meta) -> None:
-        cost = self.cost(it.took, 0)
+        cost = self.costs.of(it.name, it.took, 0)
         after: list[Line] = []
         if it.blocks and self.options.blocks != "none":
-            file, first, end, name = it.blocks
-            first, last = upwards(file.base + first, self.cell), (file.base + end - 1) // self.cell
-            if first <= last:
-                cost, after = self.blocks(cost, name, first, last)
+            runs = []
+            for file, begin, end, name in it.blocks:
+                first, last = upwards(file.base + begin, self.cell), (file.base + end - 1) // self.cell
+                if first <= last:
+                    runs.append((name, first, last))
+            if runs:
+                cost, after = self.blocks(cost, it.blocks[0][0].volume, runs)
         words = []
         for word, store, space, number in it.ops:
-            cell = f"{store}.{space}:{self.store.index(space, number)}"
+            cell = f"{store}.{space}:{self.store.index(store, space, number)}"
             words.append({"read": f"read {cell}", "set": f"set {cell} {self.number}", "add": f"add {cell} 1"}[word])
         words = list(dict.fromkeys(words))
         self.count += len(words)
@@ -432,7 +488,17 @@ def tree_text(store: Store, shape: Shape, stripes: int) -> str:
     return tree.text()
 
 
-def warn(messages: Messages, shape: Shape) -> None:
+def refuse_clock(messages: Messages, logs: list[Lines]) -> None:
+    """Refuses logs in which a clock goes back so far that waff would refuse the trace."""
+    tick: int = messages.options.tick
+    for log in logs:
+        back = log.back // tick
+        if messages.latest > limits.RELEASE and (back > limits.RELEASE or messages.latest - back <= limits.RELEASE):
+            told = f"the last release is {messages.latest:,}, above {limits.RELEASE:,}"
+            raise Refusal(3, f"{log.name}: its clock goes back by {seconds(log.back)} s, so that {told}: part the log there")
+
+
+def warn(messages: Messages, shape: Shape, logs: list[Lines]) -> None:
     """Tells what of the trace waff would refuse, and what was cut so that it does not."""
     if shape.is_large and shape.count > limits.CELLS:
         tell(f"{shape.count} cells: the hierarchy is of format 2, and `waff replay` takes at most {limits.CELLS} (a larger --cell)")
@@ -440,6 +506,8 @@ def warn(messages: Messages, shape: Shape) -> None:
     if messages.guessed:
         names = ", ".join(f"{name} {times}" for name, times in sorted(messages.guessed.items()))
         tell(f"requests without a latency, which cost what their size says: {messages.guessed.total()} ({names})")
+    if advice := messages.costs.advice():
+        tell(advice)
     if messages.cut_costs:
         tell(f"costs above {limits.COST} ticks, which were cut to that: {messages.cut_costs} (a larger --tick keeps them)")
     most = limits.MESSAGES if messages.loop else limits.EARLIER_MESSAGES
@@ -449,5 +517,6 @@ def warn(messages: Messages, shape: Shape) -> None:
         messages.loop.warn()
         if messages.count > limits.ALL_OPS:
             tell(f"{messages.count} operations are more than the {limits.ALL_OPS} that waff takes: a larger --cell, or `waff-trace window`")
+    refuse_clock(messages, logs)
     if messages.latest > limits.RELEASE:
         tell(f"the last release, {messages.latest}, is above {limits.RELEASE}: a larger --tick, or `waff-trace window`")

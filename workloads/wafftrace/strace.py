@@ -1,51 +1,49 @@
 """Logs of `strace -f -ttt -T`: processes, their descriptors, the files and directories behind these, and offsets in them."""
 
 import collections
+import fnmatch
 import os
 import posixpath
 import re
 from argparse import Namespace
-from collections.abc import Callable, Iterator, Sequence
+from collections.abc import Callable
 from dataclasses import dataclass
 from functools import partial
 from typing import TypeGuard
 
-from .logs import Blocks, Data, File, Lines, Meta, Refusal, Request, is_number, named, read_lines, tell
-from .model import VOLUME, Volume
+from .logs import Blocks, Data, File, Lines, Meta, Refusal, Request, as_name, is_number, named, read_lines, shown
+from .model import VOLUME, Found, Volume
+from .processes import (
+    FORKED,
+    FORKS,
+    PATH_SHOWN,
+    RESUMED,
+    UNFINISHED,
+    Birth,
+    Children,
+    Event,
+    Open,
+    Process,
+    Source,
+    Who,
+    births_of,
+    merged,
+    nanoseconds,
+    parted,
+)
 
-# A line: who, when, perhaps an instruction pointer (-i) or the number of a call (-n), and what.
-HEAD = re.compile(
-    r"(?:\[pid +(\d{1,9})\] +|(\d{1,9}) +)?(\d{1,12})\.(\d{6}|\d{9}) (?:\[(?: *\d{1,4}|[0-9a-f?]{8,16})\] )*(.*)", re.ASCII
-)
-# What stands behind the arguments of a call: its result, perhaps the path of a descriptor (-y, -yy), and how long it took.
-PATH_SHOWN = r"<([^<>]*)(?:<[^<>]*>)?>"
-TAIL = re.compile(
-    rf"(-?\d{{1,18}}|\?|0x[0-9a-f]{{1,16}})(?:{PATH_SHOWN})?([^<>]*?)(?: <(\d{{1,9}})\.(\d{{6}}|\d{{9}})>)?$", re.ASCII
-)
 TEXT = r'"((?:[^"\\]|\\.)*)"'
-# The arguments up to the bracket behind them: what stands in quotes, and the paths of descriptors, may have brackets.
-ARGUMENTS = re.compile(r'(?:[^"<)]|"(?:[^"\\]|\\.)*"(?:\.\.\.)?|<[^<>]*>|<|\)(?! += ))*\) += ', re.ASCII)
 DESCRIPTOR = re.compile(rf"(\d{{1,9}})(?:{PATH_SHOWN})?", re.ASCII)
 PATH = re.compile(rf"(?:(AT_FDCWD|\d{{1,9}})(?:{PATH_SHOWN})?, )?" + TEXT, re.ASCII)
 SIZE = re.compile(r"st_size=(\d{1,18})", re.ASCII)
 ESCAPED = re.compile(r"\\(x[0-9a-f]{2}|[0-7]{1,3}|.)", re.ASCII)
 LETTERS = {"n": "\n", "t": "\t", "r": "\r", "v": "\v", "f": "\f"}
-FORKS = ("clone", "clone3", "fork", "vfork")
-FORKED = re.compile(r"(?:clone3?|v?fork)\(", re.ASCII)
 FLAGS_WANTED = "strace -f -ttt -T -o LOG"
 
-# What strace says on standard error, which may come in the middle of a line of a log that goes there too.
-ATTACHED = re.compile(r"strace: Process (\d{1,9}) attached", re.ASCII)
-
-UNFINISHED = "<unfinished ...>"
-RESUMED = " resumed>"
 NO_FILES = ("/dev/", "/proc/", "/sys/")
-NOT_OPENED = "calls on descriptors that are no file which the log opens (pipes, sockets, what was open before)"
-
-
-def nanoseconds(seconds: str, digits: str) -> int:
-    """Seconds with six or nine digits after the point, in nanoseconds."""
-    return int(seconds + digits) * (1000 if len(digits) == 6 else 1)
+SAY_FOLDER = "--cwd FOLDER says where the log begins; strace -y logs all folders"
+IN_NO_FOLDER = f"calls on names in folders not known ({SAY_FOLDER})"
+NOT_OPENED = "calls on descriptors of no file that the log opens (pipes, sockets, what was open before: strace -y)"
 
 
 def unescaped(text: str) -> str:
@@ -75,53 +73,6 @@ ELSEWHERE = File("", 0)
 
 
 @dataclass(slots=True)
-class Open:
-    """An open file with its offset, which descriptors share."""
-
-    path: str
-    file: File
-    append: bool
-    offset: int = 0
-
-
-@dataclass(slots=True)
-class Who:
-    """What may be the client of a process's requests, by the words of `--clients`: a thread, a process, or a child of the log's first
-    process with all that comes of it (`is_first` is that of the first process itself)."""
-
-    thread: str
-    process: str
-    family: str
-    is_first: bool
-
-    def child(self, name: str, flags: str) -> "Who":
-        if "CLONE_THREAD" in flags:
-            return Who(name, self.process, self.family, self.is_first)
-        return Who(name, name, name if self.is_first else self.family, False)
-
-
-@dataclass(slots=True)
-class Process:
-    """Who a process is, and what it has: descriptors (a table that threads share), those that a new program does not get, a directory (a list of
-    one, which threads share), and a call that is not finished: its time and its text."""
-
-    who: Who
-    files: dict[int, Open]
-    closing: set[int]
-    directory: list[str | None]
-    pending: tuple[int, str] | None = None
-
-    def child(self, name: str, flags: str) -> "Process":
-        shares_files = "CLONE_FILES" in flags
-        return Process(
-            self.who.child(name, flags),
-            self.files if shares_files else dict(self.files),
-            self.closing if shares_files else set(self.closing),
-            self.directory if "CLONE_FS" in flags else list(self.directory),
-        )
-
-
-@dataclass(slots=True)
 class Call:
     """A call that has returned: its result, the path of it where that is a descriptor and strace shows it, its times in nanoseconds."""
 
@@ -138,73 +89,20 @@ class Call:
         return int(words[1]) if len(words) > place and is_number(words[1]) else None
 
 
-@dataclass(slots=True)
-class Event:
-    """A line of the log: whose it is, its time in nanoseconds, and what it tells. `pid` is None where it tells that strace has
-    attached itself to a process."""
-
-    number: int
-    line: str
-    pid: str | None
-    time: int
-    rest: str
-
-
-@dataclass(slots=True)
-class Birth:
-    """A call that made a process: whose call, its arguments, and the places of the events with which it began and returned."""
-
-    parent: str
-    args: str
-    begun: int
-    returned: int
-
-
-def births_of(events: Sequence[Event]) -> dict[str, collections.deque[Birth]]:
-    """For each process the calls that made one of this number, in their order."""
-    found: dict[str, collections.deque[Birth]] = collections.defaultdict(collections.deque)
-    begun: dict[str, tuple[int, str]] = {}
-    for at, event in enumerate(events):
-        pid, rest = event.pid, event.rest
-        if pid is None or "clone" not in rest and "fork" not in rest:
-            continue
-        first = at
-        if rest.startswith("<... "):
-            # The first process of a log on standard error has no number at first.
-            half = begun.pop(pid, None) or begun.pop("", None)
-            if half is None:
-                continue
-            first, text = half
-            rest = text + rest[rest.find(RESUMED) + len(RESUMED) :]
-        elif not FORKED.match(rest):
-            continue
-        elif rest.endswith(UNFINISHED):
-            begun[pid] = at, rest[: -len(UNFINISHED)]
-            continue
-        args, tail = parted(rest)
-        if tail and tail[1].isdecimal() and int(tail[1]):
-            found[str(int(tail[1]))].append(Birth(pid, args, first, at))
-    return found
-
-
-def parted(args: str) -> tuple[str, re.Match[str] | None]:
-    """The arguments of a call, and what stands behind them, as TAIL finds it."""
-    at = args.rfind(" = ")
-    tail = TAIL.match(args, at + 3) if at >= 0 and args[:at].rstrip().endswith(")") else None
-    if tail is None:
-        behind = ARGUMENTS.match(args)
-        if behind is None:
-            return args, None
-        at, tail = behind.end() - 3, TAIL.match(args, behind.end())
-    return args[:at], tail
-
-
 class Reader:
-    def __init__(self, log: Lines, under: str | None, directory: str | None, clients: str | None) -> None:
+    def __init__(self, log: Lines, under: str | None, directory: str, is_told: bool, clients: str | None) -> None:
+        """`directory` is where the first process was started, which was told or is taken to be so."""
         self.log = log
         self.clients = clients
+        # Of families, which process each request is of.
+        self.families: list[tuple[int, Who]] = []
+        self.children = Children()
         self.under = under
+        outside = f"outside of {named(under)}" if under else "in /dev, /proc or /sys"
+        self.elsewhere = f"calls on files {outside}"
         self.directory = directory
+        self.assumed = None if is_told else directory
+        self.in_assumed = f"calls on names in the first process's folder, taken to be {named(directory)} ({SAY_FOLDER})"
         self.store = Volume()
         self.requests: list[Request] = []
         self.paths: dict[str, File] = {}
@@ -212,6 +110,9 @@ class Reader:
         self.processes: dict[str, Process] = {}
         self.births: dict[str, collections.deque[Birth]] = {}
         self.attached: set[str] = set()
+        # The boxes of which the process without a number has one later, and which.
+        self.with_number_later: set[str] = set()
+        self.first_numbers: dict[str, str] = {}
         # How many processes of a number have ended; a number may come again.
         self.ended: collections.Counter[str] = collections.Counter()
         self.has_first = False
@@ -219,8 +120,8 @@ class Reader:
 
     # Lines
 
-    def read(self, lines: list[str]) -> None:
-        events = list(self.events(lines))
+    def read(self, events: list[Event], with_number_later: set[str]) -> None:
+        self.with_number_later = with_number_later
         first = next((event for event in events if event.pid is not None), None)
         if first and first.time == 0:
             raise Refusal(3, f"{self.log.name}: its times are from line to line (-r): record it with `{FLAGS_WANTED}`")
@@ -229,90 +130,80 @@ class Reader:
             if event.pid is None:
                 self.attached.add(event.rest)
                 continue
-            self.log.at(event.time)
+            event.source.log.at(event.time)
             if not self.event(at, event.pid, event):
-                self.log.not_understood(event.number, event.line)
+                event.source.log.not_understood(event.number, event.line)
         pending = {id(it): it for it in self.processes.values() if it.pending is not None}
         if pending:
-            self.log.without["calls that were not finished"] += len(pending)
+            self.log.without["calls that did not return"] += len(pending)
         if self.idle:
             most = ", ".join(f"{name} {count}" for name, count in self.idle.most_common(6))
             others = len(self.idle) - 6
-            self.log.without[f"calls that are not modelled ({most}{f' and {others} others' if others > 0 else ''})"] = sum(
+            self.log.without[f"calls without data of files ({most}{f' and {others} others' if others > 0 else ''})"] = sum(
                 self.idle.values()
             )
-
-    def events(self, lines: list[str]) -> Iterator[Event]:
-        """What the lines tell, in their order."""
-        begun = ""
-        for number, line in enumerate(lines, 1):
-            line, begun = begun + line, ""
-            if "strace: Process " in line:
-                attached = ATTACHED.search(line)
-                if attached:
-                    self.log.without["attached processes"] += 1
-                    begun = line[: attached.start()]
-                    yield Event(number, line, None, 0, attached[1])
-                    continue
-            head = HEAD.match(line)
-            if head is None:
-                self.log.not_understood(number, line)
-                continue
-            alone, first, seconds, digits, rest = head.groups()
-            yield Event(number, line, alone or first or "", nanoseconds(seconds, digits), rest)
 
     def event(self, at: int, pid: str, event: Event) -> bool:
         """Takes what a line tells of a process. False where it is not understood."""
         time, rest = event.time, event.rest
         process = self.processes.get(pid)
+        is_new = process is None
         if process is None:
-            process = self.processes[pid] = self.newcomer(pid, at)
+            process = self.processes[pid] = self.newcomer(pid, event.source.box, at)
         if rest.endswith(UNFINISHED):
             if process.pending is not None:
-                self.log.without["calls that were not finished"] += 1
+                self.log.without["calls that did not return"] += 1
             process.pending = time, rest[: -len(UNFINISHED)]
-            self.log.without["first parts of calls, which are told with their second parts"] += 1
+            self.log.without["beginnings of calls (<unfinished ...>: each call counts where it resumes)"] += 1
             return "(" in rest
         if rest.startswith("<... "):
             if process.pending is None:
-                return False
+                self.log.without["calls that began before the log"] += is_new
+                return is_new
             time, begun = process.pending
             process.pending = None
             rest = begun + rest[rest.find(RESUMED) + len(RESUMED) :]
         elif rest.startswith(("+++ ", "--- ")):
             self.log.without["signals and ends of processes"] += 1
             if rest.startswith("+++ "):
+                self.children.ended(process.who)
                 if process.pending is not None:
-                    self.log.without["calls that were not finished"] += 1
+                    self.log.without["calls that did not return"] += 1
                 del self.processes[pid]
                 self.ended[pid] += 1
             return True
         return self.call(at, process, time, rest)
 
-    def newcomer(self, pid: str, at: int) -> Process:
+    def newcomer(self, pid: str, box: str, at: int) -> Process:
         """A process that was not seen: the child of a call that has begun and returns later in the log; the first one, which a
         log on standard error gives no number as long as it is alone; the child of the only call that makes one and never
         returns; or else one from before the log."""
         births = self.births.get(pid)
         if births and births[0].begun < at:
             birth = births.popleft()
-            parent = self.processes.get(birth.parent) or self.newcomer(birth.parent, at)
-            return parent.child(self.name(pid), birth.args)
-        if "" in self.processes and pid not in self.attached:
-            return self.processes[""]
-        forking = [(it, it.pending[1]) for it in self.processes.values() if it.pending is not None and FORKED.match(it.pending[1])]
+            parent = self.processes.get(birth.parent) or self.newcomer(birth.parent, box, at)
+            return self.born(parent.child(self.name(pid), birth.args))
+        first = self.processes.get(box) if box in self.with_number_later and pid not in self.attached else None
+        if first and self.first_numbers.setdefault(box, pid) == pid:
+            return first
+        pending = [(it, it.pending[1]) for it in self.processes.values() if it.pending is not None and it.box == box]
+        forking = [(it, text) for it, text in pending if FORKED.match(text)]
         if len(forking) == 1 and not births:
             parent, text = forking[0]
-            return parent.child(self.name(pid), text)
+            return self.born(parent.child(self.name(pid), text))
         if forking:
-            self.log.notes["processes whose parent is not known: names that begin in their folders are of other files"] += 1
+            self.log.notes[f"processes whose parent is not known: names in their folders are not known ({SAY_FOLDER})"] += 1
         is_first, self.has_first = not self.has_first, True
-        name = self.name(pid)
-        return Process(Who(name, name, name, is_first), {}, set(), [self.directory])
+        name = self.name(pid, "main" if pid == box else "")
+        return Process(Who(name, name, (name,), is_first), {}, set(), [None if forking else self.directory], box)
 
-    def name(self, pid: str) -> str:
-        """What a process is called: its number, and which of this number it is if that came again."""
-        return (pid or "main") + (f".{self.ended[pid] + 1}" if self.ended[pid] else "")
+    def born(self, child: Process) -> Process:
+        self.children.born(child.who)
+        return child
+
+    def name(self, pid: str, alone: str = "") -> str:
+        """What a process is called: its number, or how one without a number is, and which of this number it is if that came again."""
+        return pid + alone + (f".{self.ended[pid] + 1}" if self.ended[pid] else "")
 
     def call(self, at: int, process: Process, time: int, rest: str) -> bool:
         name, bracket, args = rest.partition("(")
@@ -333,6 +224,14 @@ class Reader:
                 return True
             return handler(self, Call(process, args, answer, absolute(path), time, took)) is not False
         return True
+
+    def name_families(self, depth: int | None, log: Lines) -> None:
+        """Gives each request its family, when all processes are known."""
+        found = self.children.depth() if depth is None else depth
+        for at, who in self.families:
+            self.requests[at].client = who.family(found)
+        if depth is None:
+            log.said.append(f"a family is what comes of a process {found} below the first one (--clients family:DEPTH says how far)")
 
     # Paths and descriptors
 
@@ -367,6 +266,7 @@ class Reader:
     def file(self, path: str) -> File:
         file = self.paths.get(path)
         if file is None:
+            self.log.notes[f"names in folders not known, which are files of their own ({SAY_FOLDER})"] += path != "." and not path.startswith("/")
             file = self.paths[path] = self.store.new_file(path)
             self.folders.add(posixpath.dirname(path))
         return file
@@ -388,7 +288,7 @@ class Reader:
         if found is None:
             self.log.without[NOT_OPENED] += 1
         elif found.file is ELSEWHERE:
-            self.log.without["calls on files elsewhere"] += 1
+            self.count_outside(found.path)
             return None
         return found
 
@@ -404,20 +304,32 @@ class Reader:
 
     def meta(self, call: Call, name: str, *ops: tuple[str, str, int], blocks: Blocks | None = None) -> None:
         found = [(word, VOLUME, space, number) for word, space, number in ops]
-        self.requests.append(Meta(call.time, call.took, name, found, blocks, self.client(call)))
+        self.requests.append(Meta(call.time, call.took, name, found, (blocks,) if blocks else (), self.client(call)))
 
     def client(self, call: Call) -> str:
         if self.clients is None:
             return "-"
         who = call.process.who
-        return {"thread": who.thread, "process": who.process, "family": who.family}[self.clients]
+        if self.clients == "family":
+            self.families.append((len(self.requests), who))
+            return who.thread
+        return who.thread if self.clients == "thread" else who.process
 
     def is_inside(self, path: str | None) -> TypeGuard[str]:
         """Whether a path is of the volume; one that is not is counted."""
         if path is None or self.is_outside(path):
-            self.log.without["calls on files elsewhere"] += 1
+            self.count_outside(path)
             return False
         return True
+
+    def count_outside(self, path: str | None) -> None:
+        """Counts a call on what is no file of the volume, apart where that may be so only since its folder is not known."""
+        if path is not None and not path.startswith("/"):
+            self.log.without[IN_NO_FOLDER] += 1
+        elif path is not None and self.assumed is not None and (path == self.assumed or path.startswith(self.assumed + "/")):
+            self.log.without[self.in_assumed] += 1
+        else:
+            self.log.without[self.elsewhere] += 1
 
     # Data
 
@@ -425,7 +337,7 @@ class Reader:
         """A request for bytes that a call has read or written."""
         file = found.file
         if length == 0:
-            self.requests.append(Meta(call.time, took, kind, [("read", VOLUME, "inode", file.inode)], None, self.client(call)))
+            self.requests.append(Meta(call.time, took, kind, [("read", VOLUME, "inode", file.inode)], (), self.client(call)))
             return
         end = at + length
         fresh: int | None = None
@@ -519,7 +431,7 @@ class Reader:
         self.put(call, call.result, found, "O_CLOEXEC" in flags)
         file = found.file
         if file is ELSEWHERE:
-            self.log.without["calls on files elsewhere"] += 1
+            self.count_outside(path)
         elif is_made:
             file.size = 0
             self.meta(call, "create", ("add", "dir", self.parent(path)), ("set", "inode", file.inode))
@@ -716,10 +628,11 @@ class Reader:
     def fork(self, at: int, process: Process, args: str, answer: int) -> None:
         """A call that makes a process has returned. Where lines of the child came before, it is there, and perhaps gone."""
         self.idle["fork"] += 1
-        births = self.births.get(str(answer))
+        child = process.box + str(answer)
+        births = self.births.get(child)
         if births and births[0].returned == at:
             births.popleft()
-            self.processes[str(answer)] = process.child(self.name(str(answer)), args)
+            self.processes[child] = self.born(process.child(self.name(child), args))
 
     def new_program(self, call: Call) -> None:
         self.idle["execve"] += 1
@@ -786,15 +699,42 @@ CALLS = {name: handler for handler, names in TABLE.items() for name in names.spl
 CALLS |= {name: partial(Reader.at_offset, kind=kind, place=place) for name, (kind, place) in AT_OFFSET.items()}
 
 
-def read(asked: Namespace) -> tuple[Volume, list[Request]]:
-    """The volume and the requests of the log."""
-    lines = read_lines(asked.log)
-    log = Lines(asked.log, len(lines), f"record it with `{FLAGS_WANTED}`")
-    directory = os.path.abspath(asked.cwd) if asked.cwd else None
-    under = posixpath.normpath(posixpath.join(directory or os.getcwd(), asked.under)) if asked.under else None
-    reader = Reader(log, under, directory, asked.clients)
-    reader.read(lines)
-    log.report()
+def boxes_of(asked: Namespace) -> dict[str, str]:
+    """What stands before the numbers of the processes of each log."""
+    boxes = dict.fromkeys(asked.logs, "")
+    for word in asked.box or ():
+        pattern, _, name = word.rpartition("=")
+        logs = [it for it in asked.logs if it == pattern or fnmatch.fnmatchcase(it, pattern)]
+        if not logs or name != as_name(name):
+            raise Refusal(2, f"--box {shown(word)}: wanted is LOG=NAME, of a LOG that is given and a NAME of up to 20 letters and digits")
+        boxes |= dict.fromkeys(logs, f"{name}.")
+    return boxes
+
+
+def folder_of(asked: Namespace) -> str:
+    """The folder in which the first process was started, which is the current one where none is told."""
+    try:
+        return os.path.abspath(asked.cwd or ".")
+    except OSError as fault:
+        raise Refusal(4, f"the current folder: {fault.strerror}") from None
+
+
+def read(asked: Namespace) -> Found:
+    """What the logs tell: files of one box or more, as one log in the order of time."""
+    if not asked.logs:
+        raise Refusal(2, "strace: no LOG is given (--box takes all words behind it, so the logs stand before it)")
+    wanted = f"record it with `{FLAGS_WANTED}`"
+    boxes, texts = boxes_of(asked), [read_lines(it) for it in asked.logs]
+    sources = [Source(Lines(name, len(lines), wanted), boxes[name]) for name, lines in zip(asked.logs, texts, strict=True)]
+    logs = [it.log for it in sources]
+    whole = logs[0] if len(logs) == 1 else Lines(f"{len(logs)} logs", sum(it.count for it in logs))
+    directory = folder_of(asked)
+    under = posixpath.normpath(posixpath.join(directory, asked.under)) if asked.under else None
+    reader = Reader(whole, under, directory, asked.cwd is not None, asked.clients)
+    reader.read(*merged(sources, texts))
+    if asked.clients == "family":
+        reader.name_families(asked.family_depth, whole)
+    found = Found(reader.store, reader.requests, [whole], logs if len(logs) > 1 else [])
     if under and not reader.requests:
-        tell(f"no call of the log is on a file in {named(under)} or below it (--under)")
-    return reader.store, reader.requests
+        found.said.append(f"no call of the log is on a file in {named(under)} or below it (--under)")
+    return found

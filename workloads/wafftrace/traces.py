@@ -3,11 +3,13 @@
 import collections
 import csv
 import io
+import operator
 import os
 import re
 from argparse import Namespace
 from collections.abc import Iterable, Iterator
-from dataclasses import dataclass, replace
+from dataclasses import dataclass
+from fractions import Fraction
 
 from . import clients, limits
 from .logs import Refusal, is_number, read_text, shown, tell
@@ -17,6 +19,7 @@ MOST_IN_WINDOWS = 20000000
 
 # The headers of traces, and their versions.
 HEADERS = {"message,cost,ops": 1, "message,cost,release,ops": 2, "message,cost,release,client,think,ops": 3}
+FIELDS = {1: 3, 2: 4, 3: 6}
 RANGE = re.compile(r":([0-9]+)-([0-9]+)(?= |;|$)", re.ASCII)
 WORDS: dict[str, tuple[int | None, bool]] = {"set": (2, True), "add": (2, True), "read": (1, False), "copy": (2, False), "swap": (2, False)}
 
@@ -33,11 +36,11 @@ class Message:
     client: str = clients.NONE
     think: int = 0
 
-    def fields(self, version: int) -> list[object]:
+    def line(self, version: int) -> str:
         """Its record in a trace of this version."""
-        found: list[object] = [self.name, self.cost]
-        found += [self.release] if version > 1 else []
-        return [*found, self.client, self.think, self.ops] if version > 2 else [*found, self.ops]
+        if version == 3:
+            return f"{self.name},{self.cost},{self.release},{self.client},{self.think},{self.ops}"
+        return f"{self.name},{self.cost},{self.release},{self.ops}" if version == 2 else f"{self.name},{self.cost},{self.ops}"
 
     def count(self) -> int:
         """How many operations it has; a range is one for each of its cells. They are spelled right."""
@@ -63,8 +66,7 @@ class Trace:
         return self.version > 2
 
     def text(self) -> str:
-        lines = [next(it for it, version in HEADERS.items() if version == self.version)]
-        lines += [",".join(map(str, it.fields(self.version))) for it in self.messages]
+        lines = [header_of(self.version), *(it.line(self.version) for it in self.messages)]
         return "\n".join(lines) + "\n"
 
     def starts(self) -> list[int]:
@@ -74,28 +76,119 @@ class Trace:
         return [it.release for it in self.messages]
 
 
-def read_trace(name: str) -> Trace:
-    """The trace of a file; a record that is none of a trace is refused."""
+def header_of(version: int) -> str:
+    return next(it for it, number in HEADERS.items() if number == version)
+
+
+# A record as it is written in a line without quotes, by the version of the trace.
+NAME = r'([^,"\r\n]*)'
+NUMBER = r"([0-9]{1,18})"
+LINES = {
+    1: re.compile(f"{NAME},{NUMBER},{NAME}"),
+    2: re.compile(f"{NAME},{NUMBER},{NUMBER},{NAME}"),
+    3: re.compile(f"{NAME},{NUMBER},{NUMBER},{NAME},{NUMBER},{NAME}"),
+}
+ROWS = {version: re.compile(f"^{it.pattern}$", re.M) for version, it in LINES.items()}
+# The characters of a part of a long text.
+PART = 1 << 20
+# Of a line what stays without releases and think times.
+AT_ONCE = {
+    1: (re.compile(f"^({NAME},{NUMBER},)(?=[^,\n]*$)", re.M), r"\1"),
+    2: (re.compile(f"^({NAME},{NUMBER},){NUMBER},(?=[^,\n]*$)", re.M), r"\1"),
+    3: (re.compile(f"^({NAME},{NUMBER},){NUMBER},{NAME},{NUMBER},(?=[^,\n]*$)", re.M), r"\g<1>0,\5,0,"),
+}
+# The fields of a record.
+Record = tuple[str, ...]
+
+
+@dataclass(slots=True)
+class Opened:
+    """A file that is a trace: its name as it is told, its version, what stands behind its header if no field of it is in quotes, and its
+    records, of which one that is none is refused when it is met."""
+
+    called: str
+    version: int
+    plain: str | None
+    records: Iterator[Record]
+
+
+def records_of(name: str) -> tuple[int, Iterator[Record]]:
+    """The version of the trace of a file, and its records as texts, whose numbers are numbers."""
+    found = opened(name)
+    return found.version, found.records
+
+
+def opened(name: str) -> Opened:
     text = read_text(name).removeprefix("\ufeff")
     called = "standard input" if name == "-" else shown(name)
     records = (it for it in csv.reader(io.StringIO(text, newline=""), strict=True) if it)
     try:
         header: list[str] = next(records, [])
-        version = HEADERS.get(",".join(header))
-        if version is None:
-            raise Refusal(3, f"{called}: its first record is no header of a trace: {' or '.join(HEADERS)}")
-        fields = {1: 3, 2: 4, 3: 6}[version]
-        messages = []
-        for number, record in enumerate(records, 2):
-            if len(record) != fields or not all(is_number(it) for at, it in enumerate(record[1:-1]) if at != 2):
-                raise Refusal(3, f"{called}: record {number} is no message of {fields} fields")
-            message = Message(record[0], int(record[1]), int(record[2]) if version > 1 else 0, record[-1])
-            if version > 2:
-                message.client, message.think = record[3], int(record[4])
-            messages.append(message)
     except (csv.Error, ValueError) as fault:
         raise Refusal(3, f"{called}: no CSV: {fault}") from None
-    return Trace(version, messages)
+    version = HEADERS.get(",".join(header))
+    if version is None:
+        raise Refusal(3, f"{called}: its first record is no header of a trace: {' or '.join(HEADERS)}")
+    if '"' in text or "\r" in text:
+        return Opened(called, version, None, by_csv(called, version, records))
+    # The header is the first line that is not empty.
+    plain = text.lstrip("\n").partition("\n")[2]
+    return Opened(called, version, plain, by_lines(called, version, plain))
+
+
+def by_lines(called: str, version: int, plain: str) -> Iterator[Record]:
+    """The records of a text without quotes, a line each."""
+    number = 1
+    for part in parts_of(plain):
+        rows: list[Record] = ROWS[version].findall(part)
+        if len(rows) != part.count("\n") + (not part.endswith("\n")):
+            lines = [line for line in part.split("\n") if line]
+            rows = [record_of(called, version, at, line) for at, line in enumerate(lines, number + 1)]
+        number += len(rows)
+        yield from rows
+
+
+def by_csv(called: str, version: int, records: Iterator[list[str]]) -> Iterator[Record]:
+    """The records of any text."""
+    numbers = {1: (1,), 2: (1, 2), 3: (1, 2, 4)}[version]
+    try:
+        for number, record in enumerate(records, 2):
+            if len(record) != FIELDS[version] or not all(is_number(record[at]) for at in numbers):
+                raise no_message(called, number, version)
+            yield tuple(record)
+    except (csv.Error, ValueError) as fault:
+        raise Refusal(3, f"{called}: no CSV: {fault}") from None
+
+
+def parts_of(plain: str) -> Iterator[str]:
+    """A long text in parts of whole lines."""
+    begun = 0
+    while begun < len(plain):
+        end = plain.find("\n", begun + PART) + 1 or len(plain)
+        yield plain[begun:end]
+        begun = end
+
+
+def record_of(called: str, version: int, number: int, line: str) -> Record:
+    """The record of a line without quotes."""
+    found = LINES[version].fullmatch(line)
+    if found is None:
+        raise no_message(called, number, version)
+    return found.groups()
+
+
+def no_message(called: str, number: int, version: int) -> Refusal:
+    return Refusal(3, f"{called}: record {number} is no message of {FIELDS[version]} fields")
+
+
+def read_trace(name: str) -> Trace:
+    """The trace of a file; a record that is none of a trace is refused."""
+    version, records = records_of(name)
+    if version == 1:
+        return Trace(version, [Message(it[0], int(it[1]), 0, it[2]) for it in records])
+    if version == 2:
+        return Trace(version, [Message(it[0], int(it[1]), int(it[2]), it[3]) for it in records])
+    return Trace(version, [Message(it[0], int(it[1]), int(it[2]), it[5], it[3], int(it[4])) for it in records])
 
 
 # Cells of a space: the first and the last.
@@ -122,69 +215,132 @@ def cells(called: str, number: int, ops: str, version: int) -> list[Cells]:
 
 def pace(asked: Namespace) -> str:
     """The trace with its releases and think times divided by the speed, rounded down; or without them."""
-    trace = read_trace(asked.trace)
+    if asked.most and not asked.at_once:
+        raise Refusal(2, "--most: wanted is --at-once beside it")
+    found = opened(asked.trace)
+    version, records = found.version, found.records
     if asked.at_once:
-        trace.version = 3 if trace.has_clients else 1
-        for it in trace.messages:
-            it.release = it.think = 0
-    elif not trace.has_releases:
+        if not asked.most and found.plain is not None and found.plain.endswith("\n") and not found.plain.startswith("\n"):
+            pattern, kept = AT_ONCE[version]
+            text, count = pattern.subn(kept, found.plain)
+            if count == found.plain.count("\n"):
+                return f"{header_of(3 if version == 3 else 1)}\n{text}"
+        return "\n".join(few_at_once(version, list(records), asked.most) if asked.most else at_once(version, records)) + "\n"
+    if version == 1:
         raise Refusal(3, f"{shown(asked.trace)}: it has no releases")
+    return "\n".join(paced(version, records, asked.speed)) + "\n"
+
+
+def at_once(version: int, records: Iterable[Record]) -> Iterator[str]:
+    """A trace without releases and think times."""
+    yield header_of(3 if version == 3 else 1)
+    if version == 3:
+        for name, cost, _, client, _, ops in records:
+            yield f"{name},{cost},0,{client},0,{ops}"
     else:
-        for it in trace.messages:
-            it.release = it.release * asked.speed.denominator // asked.speed.numerator
-            it.think = it.think * asked.speed.denominator // asked.speed.numerator
-    return trace.text()
+        for it in records:
+            yield f"{it[0]},{it[1]},{it[-1]}"
+
+
+def paced(version: int, records: Iterable[Record], speed: Fraction) -> Iterator[str]:
+    """A trace that is so many times as fast."""
+    times, by = speed.denominator, speed.numerator
+    yield header_of(version)
+    if version == 3:
+        # The same times come often.
+        known: dict[str, int] = {}
+        for name, cost, release, client, think, ops in records:
+            for it in (release, think):
+                if it not in known:
+                    known[it] = int(it) * times // by
+            yield f"{name},{cost},{known[release]},{client},{known[think]},{ops}"
+    else:
+        for name, cost, release, ops in records:
+            yield f"{name},{cost},{int(release) * times // by},{ops}"
+
+
+def few_at_once(version: int, records: list[Record], most: int) -> Iterator[str]:
+    """A trace without releases and think times, of which so many clients at most are under way at once. A client that began in the log when
+    another one had ended comes behind that one: the two are one client, which is called as the first of them."""
+    if version != 3:
+        raise Refusal(3, "--most: the trace has no clients")
+    starts = clients.starts([(it[3], int(it[1]), int(it[2]), int(it[4])) for it in records])
+    spans = clients.spans((it[3], start, start + int(it[1])) for it, start in zip(records, starts, strict=True))
+    places = clients.places(spans, most)
+    # Each client is moved to when its place is free.
+    order = sorted(range(len(records)), key=lambda at: starts[at] + places.get(records[at][3], (0, ""))[0])
+    yield header_of(version)
+    for at in order:
+        name, cost, _, client, _, ops = records[at]
+        yield f"{name},{cost},0,{places[client][1] if client in places else client},0,{ops}"
+
+
+# A message: when it came, its client, and its line.
+Entry = tuple[int, str, str]
+# The first tick of a window, and its messages.
+Windows = Iterator[tuple[int, list[Entry]]]
+
+
+def entries_of(name: str) -> tuple[int, list[Entry]]:
+    """The version of a trace, and its messages in the order of the trace, each with when it came as it was recorded."""
+    version, records = records_of(name)
+    if version < 3:
+        return version, [(int(it[2]) if version == 2 else 0, clients.NONE, ",".join(it)) for it in records]
+    found: list[Entry] = []
+    ends: dict[str, int] = {}
+    names: dict[str, str] = {}
+    for it in records:
+        client = names.setdefault(it[3], it[3])
+        start = max(int(it[2]), ends.get(client, 0) + int(it[4]))
+        if client != clients.NONE:
+            ends[client] = start + int(it[1])
+        found.append((start, client, ",".join(it)))
+    return version, found
 
 
 def sort(asked: Namespace) -> str:
     """The trace in the order of its releases, or where it has clients of its starts as recorded; those that are equal keep theirs."""
-    trace = read_trace(asked.trace)
-    return Trace(trace.version, [it for _, it in in_order(timed_of(trace))]).text()
+    version, entries = entries_of(asked.trace)
+    entries.sort(key=operator.itemgetter(0))
+    return "\n".join([header_of(version), *(line for _, _, line in entries)]) + "\n"
 
 
-# Messages, each with when it came.
-Timed = list[tuple[int, Message]]
-# The first tick of a window, and its messages.
-Windows = Iterator[tuple[int, Timed]]
-
-
-def timed_of(trace: Trace) -> Timed:
-    return list(zip(trace.starts(), trace.messages, strict=True))
-
-
-def in_order(messages: Timed) -> Timed:
-    """The messages in the order in which they came."""
-    return sorted(messages, key=lambda it: it[0])
-
-
-def windows_of_messages(messages: Timed, width: int, every: int) -> Windows:
+def windows_of_messages(messages: list[Entry], width: int, every: int) -> Windows:
     """The windows of so many messages, each from the first that came on."""
     for first in range(0, len(messages), every):
         found = messages[first : first + width]
-        yield min((start for start, _ in found), default=0), found
+        yield min((it[0] for it in found), default=0), found
 
 
-def windows_of_ticks(messages: Timed, width: int, every: int) -> Windows:
+def windows_of_ticks(messages: list[Entry], width: int, every: int) -> Windows:
     """The windows of so many ticks: a message is in each one in which it came."""
-    found: dict[int, Timed] = collections.defaultdict(list)
-    for start, it in messages:
-        last = start // every
-        first = max(0, -(-(start - width + 1) // every))
+    found: dict[int, list[Entry]] = collections.defaultdict(list)
+    for it in messages:
+        last = it[0] // every
+        first = max(0, -(-(it[0] - width + 1) // every))
         for number in range(first, last + 1):
-            found[number].append((start, it))
+            found[number].append(it)
     for number in sorted(found):
         yield number * every, found[number]
 
 
-def moved(messages: Timed, begin: int, has_clients: bool) -> Iterator[Message]:
-    """The messages of a window that begins at this tick. The first one of a client comes when it came, whatever was before."""
+def moved(messages: list[Entry], begin: int, version: int) -> Iterator[str]:
+    """The lines of a window that begins at this tick. The first message of a client comes when it came, whatever was before."""
     known: set[str] = set()
-    for start, it in messages:
-        if has_clients and (it.client == clients.NONE or it.client not in known):
-            known.add(it.client)
-            yield replace(it, release=start - begin, think=0)
+    for start, client, line in messages:
+        if version == 1:
+            yield line
+        elif version == 2:
+            name, cost, release, ops = line.split(",", 3)
+            yield f"{name},{cost},{max(0, int(release) - begin)},{ops}"
+        elif client in known:
+            name, cost, release, _, think, ops = line.split(",", 5)
+            yield line if release == "0" else f"{name},{cost},{max(0, int(release) - begin)},{client},{think},{ops}"
         else:
-            yield replace(it, release=max(0, it.release - begin))
+            if client != clients.NONE:
+                known.add(client)
+            name, cost, _, _, _, ops = line.split(",", 5)
+            yield f"{name},{cost},{start - begin},{client},0,{ops}"
 
 
 def prefix_of(out: str) -> str:
@@ -200,104 +356,27 @@ def prefix_of(out: str) -> str:
 
 def window(asked: Namespace) -> str:
     """Writes a trace for each window, with its releases from 0, and answers the names of the files."""
-    trace = read_trace(asked.trace)
+    version, entries = entries_of(asked.trace)
     width = asked.messages or asked.ticks
     every = asked.every or width
-    if asked.ticks and not trace.has_releases:
+    if asked.ticks and version == 1:
         raise Refusal(3, f"{shown(asked.trace)}: it has no releases")
-    if len(trace.messages) * max(1, width // every) > MOST_IN_WINDOWS:
+    if len(entries) * max(1, width // every) > MOST_IN_WINDOWS:
         raise Refusal(2, f"--every {every}: more than {MOST_IN_WINDOWS} messages in all windows")
     parts = windows_of_messages if asked.messages else windows_of_ticks
     prefix = prefix_of(asked.out)
     lines = ["file,messages,from"]
-    most = limits.MESSAGES if trace.has_clients else limits.EARLIER_MESSAGES
+    most = limits.MESSAGES if version == 3 else limits.EARLIER_MESSAGES
     # Where think times or costs are not those of the log any more, clients are ahead of others that were before them there.
-    timed = in_order(timed_of(trace)) if trace.has_clients else timed_of(trace)
-    for number, (start, messages) in enumerate(parts(timed, width, every), 1):
+    if version == 3:
+        entries.sort(key=operator.itemgetter(0))
+    for number, (start, messages) in enumerate(parts(entries, width, every), 1):
         name = f"{prefix}{number:05}.csv"
         if len(messages) > most:
             tell(f"{shown(name)}: {len(messages)} messages are more than the {most} that waff takes")
-        write_file(name, Trace(trace.version, list(moved(messages, start, trace.has_clients))).text())
+        write_file(name, "\n".join([header_of(version), *moved(messages, start, version)]) + "\n")
         lines.append(f"{name},{len(messages)},{start}")
     return "\n".join(lines) + "\n"
-
-
-def union(ranges: Iterable[tuple[int, int]]) -> int:
-    """How many numbers are in these ranges, each of a first and a last one."""
-    count, end = 0, -1
-    for first, last in sorted(ranges):
-        count += max(0, last - max(end, first - 1))
-        end = max(end, last)
-    return count
-
-
-def tallied(keys: Iterable[tuple[str, int]]) -> Iterator[str]:
-    """A line for each of the first words: how often it stands there, and the sum of what stands beside it."""
-    found: dict[str, list[int]] = collections.defaultdict(lambda: [0, 0])
-    for key, cost in keys:
-        entry = found[key]
-        entry[0] += 1
-        entry[1] += cost
-    return (f"{key},{count},{cost}" for key, (count, cost) in found.items())
-
-
-def ratio(number: int, by: int) -> str:
-    """A quotient with two digits after the point, or with so many that two are not the zeros before them; rounded down."""
-    if by == 0:
-        return "-"
-    places = 2
-    while 0 < number * 10**places < 10 * by:
-        places += 1
-    found = number * 10**places // by
-    return f"{found // 10**places}.{found % 10**places:0{places}}"
-
-
-def stats(asked: Namespace) -> str:
-    """What a trace has, and how much of it is over the limits of waff."""
-    trace = read_trace(asked.trace)
-    called, messages = shown(asked.trace), trace.messages
-    touched: dict[str, set[tuple[int, int]]] = collections.defaultdict(set)
-    for number, it in enumerate(messages, 2):
-        for space, first, end in cells(called, number, it.ops, trace.version):
-            touched[space].add((first, end))
-    spaces = {space: union(ranges) for space, ranges in sorted(touched.items())}
-    counts = [it.count() for it in messages]
-    cost, last = sum(it.cost for it in messages), max(trace.starts(), default=0)
-    most_messages, most_ops = limits.EARLIER_MESSAGES, limits.EARLIER_OPS
-    if trace.has_clients:
-        most_messages, most_ops = limits.MESSAGES, limits.OPS
-    lines = [
-        f"messages,{len(messages)}",
-        f"operations,{sum(counts)}",
-        f"cells,{sum(spaces.values())}",
-        f"cost,{cost}",
-        f"release,{last}",
-        f"load,{ratio(cost, last)}",
-        f"over-messages,{max(0, len(messages) - most_messages)}",
-        f"over-operations,{sum(count > most_ops for count in counts)}",
-        f"over-cost,{sum(not 1 <= it.cost <= limits.COST for it in messages)}",
-        f"over-release,{sum(it.release > limits.RELEASE for it in messages)}",
-        *(stats_of_clients(trace, sum(counts)) if trace.has_clients else ()),
-        "space,cells",
-        *(f"{space},{count}" for space, count in spaces.items()),
-        "name,messages,cost",
-        *tallied((it.name, it.cost) for it in messages),
-    ]
-    if not trace.has_clients:
-        tell("the trace has no clients: speed-ups are those of as many clients as messages")
-    else:
-        lines += ["client,messages,cost", *tallied((it.client, it.cost) for it in messages)]
-    return "\n".join(lines) + "\n"
-
-
-def stats_of_clients(trace: Trace, operations: int) -> list[str]:
-    """What is told of a trace with clients alone."""
-    return [
-        f"over-all-operations,{max(0, operations - limits.ALL_OPS)}",
-        f"over-think,{sum(it.think > limits.THINK for it in trace.messages)}",
-        f"clients,{len({it.client for it in trace.messages} - {clients.NONE})}",
-        f"think,{sum(it.think for it in trace.messages)}",
-    ]
 
 
 def write_file(name: str | os.PathLike[str], text: str) -> None:
@@ -306,5 +385,3 @@ def write_file(name: str | os.PathLike[str], text: str) -> None:
             file.write(text)
     except OSError as fault:
         raise Refusal(4, f"{shown(os.fspath(name))}: {fault.strerror}") from None
-
-

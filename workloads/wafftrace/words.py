@@ -1,8 +1,11 @@
 """The words of the command line, and what is done for them."""
 
 import argparse
+import collections
 import errno
+import gc
 import io
+import operator
 import os
 import re
 import sys
@@ -11,9 +14,9 @@ from collections.abc import Callable
 from fractions import Fraction
 from typing import NoReturn
 
-from . import VERSION, blocks, clients, fio, gathering, hot, limits, model, plans, strace, traces
+from . import VERSION, blocks, clients, counting, fio, gathering, hot, limits, model, nfs, plans, prices, strace, traces
 from .calls import words_of_calls
-from .logs import Refusal, is_number, tell
+from .logs import Data, Refusal, Request, is_number, tell, warn_of_lost
 
 # What is done for the words of a command: the text that it prints.
 Run = Callable[[Namespace], str]
@@ -22,11 +25,16 @@ COST_HELP = """\
 What a cost is: the time for which a message holds its affinity and a worker. `--cost latency` takes the latency of the log,
 which is that only where the request did not wait: in a queue, for a lock, for the disk. A latency that includes waiting is no
 cost, since the plan adds the waits of its own tree and workers, and then they count twice. Where requests were in flight
-together, take `--cost size`: `--base` microseconds and `--per-kib` for each KiB begun. Their values without the options are guesses;
-workloads/README.md shows how to measure them.
+together, take `--cost size`: `--base` microseconds and `--per-kib` for each KiB begun. Their values without the options were measured on
+one machine, for reads from memory; workloads/README.md shows how to measure yours. `--cost table` takes prices by kind from a file.
 
 What is left out: in a trace without clients there is no order but that of what excludes each other. Two messages of one client run side
 by side in a plan where they did not in the log, unless their releases keep them apart."""
+
+NFS_HELP = """\
+The text has names, and no data. Make it with the command that `waff-trace nfs --how CAPTURE` prints, and hand it over:
+`waff-trace nfs --how CAPTURE | sh | waff-trace nfs -`. A latency is the time from a call's last byte to its reply's, at the place of the
+capture. Those of calls that were in flight together overlap, and as costs they count a queue twice: take `--cost table` or `size` for plans."""
 
 WINDOW_HELP = """\
 What a window does not show: the messages that were under way before it. Each window begins with no message that runs or waits, so
@@ -36,8 +44,9 @@ of a trace with clients are taken in the order in which they were issued in the 
 
 GATHER_HELP = """\
 A line for each line of the answers: how many windows, their messages, and the sums of length, list, least and waits. The mean is
-weighted by messages, speedup and busy by lengths. p50, p99 and latency are those of the median window (of an even number, the lower one
-of the two in the middle), and with `-worst` those of the worst one; they are no percentiles of all messages. Each window begins with no
+weighted by messages, speedup and busy by lengths. p50, p99, latency and any column of whole numbers that is not known by its name are
+those of the median window (of an even number, the lower one of the two in the middle), and with `-worst` those of the worst one; they are
+no percentiles of all messages. Others that are not known are means weighted by messages. Each window begins with no
 message under way, so waits and latencies are less than those of the whole trace (`waff-trace window --help`)."""
 
 
@@ -91,25 +100,50 @@ def imported(part: ArgumentParser) -> None:
     part.add_argument(
         "--map", metavar="FILE", help="write which cells are whose to this file (space, first and last cell, path or device)"
     )
+    part.add_argument(
+        "--partial", action="store_true", help="make a trace also where more than one line in ten of a log is not understood"
+    )
     of_cells(part)
     part.add_argument("--tick", type=tick, metavar="MICROSECONDS", default=1000, help="microseconds in a tick (1)")
+    part.set_defaults(prefers_size=False)
     part.add_argument(
-        "--cost", choices=["latency", "size"], default="latency", help="cost by the latency in the log (latency), or by the size"
+        "--cost", choices=["latency", "size", "table"],
+        help="cost by the latency in the log (latency, without this word too), by the size, or by the table of --prices",
     )
     part.add_argument(
-        "--base", type=nanoseconds, metavar="MICROSECONDS", default=10000,
-        help="cost by size: of each request (10, a guess)",
+        "--base", type=nanoseconds, metavar="MICROSECONDS", default=prices.BASE,
+        help="cost by size: of each request (0.6, which was measured on one machine)",
     )
     part.add_argument(
-        "--per-kib", type=nanoseconds, metavar="MICROSECONDS", default=1000,
-        help="cost by size: of each KiB begun (1, a guess)",
+        "--per-kib", type=nanoseconds, metavar="MICROSECONDS", default=prices.PER_KIB,
+        help="cost by size: of each KiB begun (0.2, which was measured on one machine)",
     )
+    part.add_argument(
+        "--prices", metavar="FILE",
+        help="cost by a table: a CSV file of name,base,per_kib in microseconds, with a row `*` for all other names",
+    )
+
+
+def kind_of(kinds: tuple[str, ...]) -> Callable[[str], str]:
+    def read(word: str) -> str:
+        if word in kinds or "family" in kinds and re.fullmatch(r"family:[1-9][0-9]{0,2}", word):
+            return word
+        raise argparse.ArgumentTypeError(f"{word!r} is none of {', '.join(kinds)}{' (family:DEPTH, from 1 on)' if 'family' in kinds else ''}")
+
+    return read
 
 
 def of_clients(part: ArgumentParser, kinds: tuple[str, ...], usual: str, has_lanes: bool = False, has_depth: bool = False) -> None:
     """The words about the clients of a trace. A client that has several requests in flight has lanes (`has_lanes`)."""
-    part.set_defaults(usual=usual, has_lanes=has_lanes, depth=None)
-    part.add_argument("--clients", choices=kinds, help=f"what a client is, which asks for one thing after another ({usual})")
+    part.set_defaults(usual=usual, has_lanes=has_lanes, depth=None, slack=1000, overlaps=overlap_of_clients if has_lanes else never)
+    shown_kinds = ",".join("family[:DEPTH]" if it == "family" else it for it in kinds)
+    part.add_argument(
+        "--clients", type=kind_of(kinds), metavar=f"{{{shown_kinds}}}", help=f"what a client is, which asks for one thing after another ({usual})"
+    )
+    part.add_argument(
+        "--trace-version", choices=["2", "3"],
+        help="the version of the trace: 3, without this word too, or 2, which has no clients and no ranges (--clients none)",
+    )
     part.add_argument(
         "--loop", choices=["closed", "open"],
         help="whether a client's request comes so long after the answer to the one before as it did (closed, without this word too), or"
@@ -120,6 +154,27 @@ def of_clients(part: ArgumentParser, kinds: tuple[str, ...], usual: str, has_lan
             "--depth", type=number(1, limits.OPS, "number"), metavar="N",
             help="how many requests of a job were in flight, where its log has no latencies (1)",
         )
+
+
+def never(requests: list[Request]) -> bool:
+    """A thread waits for each of its answers."""
+    return False
+
+
+def overlap_of_clients(requests: list[Request]) -> bool:
+    """Whether requests of a job, a process or a host were in flight together."""
+    by_client: dict[str, list[Request]] = collections.defaultdict(list)
+    for it in requests:
+        by_client[it.client].append(it)
+    return any(map(prices.do_overlap, by_client.values()))
+
+
+def overlap_of_devices(requests: list[Request]) -> bool:
+    """Whether requests of a device were in flight together."""
+    by_device: dict[str, list[Request]] = collections.defaultdict(list)
+    for it in requests:
+        by_device[it.place.name if isinstance(it, Data) else ""].append(it)
+    return any(map(prices.do_overlap, by_device.values()))
 
 
 def of_cells(part: ArgumentParser) -> None:
@@ -190,9 +245,15 @@ def words_of_logs(part: Callable[..., ArgumentParser]) -> None:
     of_clients(found, ("job", "none"), "job", has_lanes=True, has_depth=True)
 
     found = part("strace", "the trace of a log of `strace -f -ttt -T -o LOG`", of_log(strace.read), COST_HELP)
-    found.add_argument("log", metavar="LOG", help="the log; `-` is standard input")
-    found.add_argument("--under", metavar="DIRECTORY", help="take only files in this directory or below it")
-    found.add_argument("--cwd", metavar="DIRECTORY", help="where the first process was started, for names that begin there")
+    found.add_argument(
+        "logs", nargs="*", metavar="LOG", help="the log, or several that are one in the order of time, as of `strace -ff`; `-` is standard input"
+    )
+    found.add_argument(
+        "--box", nargs="+", metavar="LOG=NAME",
+        help="the box that a log is of, where the logs are of several: its processes are clients of their own; LOG may have a `*`",
+    )
+    found.add_argument("--under", metavar="FOLDER", help="take only files in this folder or below it")
+    found.add_argument("--cwd", metavar="FOLDER", help="where the first process was started, for names that begin there; the current folder")
     imported(found)
     of_volume(found)
     of_clients(found, ("thread", "process", "family", "none"), "thread")
@@ -201,11 +262,35 @@ def words_of_logs(part: Callable[..., ArgumentParser]) -> None:
     found.add_argument("log", metavar="LOG", help="the text; `-` is standard input")
     imported(found)
     of_clients(found, ("process", "none"), "none", has_lanes=True)
+    found.set_defaults(overlaps=overlap_of_devices, prefers_size=True)
 
     found = part("msr", "the trace of a log in the form of SNIA's MSR Cambridge set", of_log(blocks.read_msr), COST_HELP)
     found.add_argument("log", metavar="CSV", help="the log; `-` is standard input")
     imported(found)
     of_clients(found, ("none",), "none")
+    found.set_defaults(overlaps=overlap_of_devices)
+
+
+    found = part("nfs", "the trace of a capture of NFS, by the text that tshark makes of it", of_nfs, NFS_HELP)
+    found.add_argument("text", metavar="TEXT", nargs="?", help="the text that the command of --how prints; `-` is standard input")
+    found.add_argument("--how", metavar="CAPTURE", help="print the line of shell that makes the text of a capture")
+    found.add_argument("--port", type=number(1, 65535, "port"), metavar="N", default=2049, help="with --how: the server's port (2049)")
+    found.add_argument(
+        "--alloc", choices=["write", "commit"], default="write",
+        help="when what is written without being stable takes blocks: at once (write, without this word too), or at its COMMIT",
+    )
+    found.add_argument("--entries", action="store_true", help="a READDIRPLUS reads the inodes of its entries too")
+    imported(found)
+    of_volume(found)
+    of_clients(found, ("host", "mount", "uid", "none"), "host", has_lanes=True)
+    found.set_defaults(slack=1)
+
+
+def of_nfs(asked: Namespace) -> str:
+    """The line of shell, or the trace of a text."""
+    if (asked.how is None) == (asked.text is None):
+        raise Refusal(2, "nfs: wanted is either TEXT or --how CAPTURE")
+    return nfs.how(asked) if asked.how is not None else of_log(nfs.read)(asked)
 
 
 def words_of_traces(part: Callable[..., ArgumentParser]) -> None:
@@ -215,6 +300,11 @@ def words_of_traces(part: Callable[..., ArgumentParser]) -> None:
     either.add_argument("--speed", type=speed, metavar="N", help="divide each release and think time by N (2, 0.5), rounded down")
     either.add_argument(
         "--at-once", action="store_true", help="leave the releases out; of a trace with clients all releases and think times, and keep those"
+    )
+
+    found.add_argument(
+        "--most", type=number(1, 1 << 20, "number"), metavar="N",
+        help="with --at-once: so many clients at once at most; a client that began after others had ended comes behind one of them",
     )
 
     what = "a file for each window of a trace, with its releases from 0; prints their names (`windows` is the same)"
@@ -248,7 +338,7 @@ def words_of_traces(part: Callable[..., ArgumentParser]) -> None:
     found = part("sort", "the trace in the order of its releases", traces.sort)
     found.add_argument("trace", metavar="TRACE", help="the trace, a CSV file")
 
-    found = part("stats", "what a trace has, and how much of it is over the limits of waff", traces.stats)
+    found = part("stats", "what a trace has, and how much of it is over the limits of waff", counting.stats)
     found.add_argument("trace", metavar="TRACE", help="the trace, a CSV file")
 
     found = part("hot", "which files and names the time of affinities is of", hot.hot)
@@ -271,21 +361,22 @@ def of_log(read: model.Log) -> Run:
 
     def run(asked: Namespace) -> str:
         kind = asked.clients = clients.kind_of(asked)
-        store, requests = read(asked)
+        found = read(asked)
+        store, requests = found.store, found.requests
         if not requests:
+            found.report(0)
             raise Refusal(3, "the log has no request that is kept, so there is no trace")
-        measured = asked.cost == "latency" and any(it.took is not None for it in requests)
-        if asked.cost == "latency" and not measured:
-            tell("the log has no latencies: costs are those of sizes")
-        took = model.took_of(asked)
-        if kind and asked.has_lanes:
-            clients.deal(requests, took, asked.depth)
-        loop = clients.Loop(asked.loop != "open", took, asked.tick) if kind else None
+        table = prices.prices_of(asked)
+        measured = is_measured(asked, found)
+        took = prices.took_of(table)
+        loop = clients.loop_of(asked, kind, requests, took)
         shape = model.Shape(store, requests, asked, limits.OPS if loop else limits.EARLIER_OPS)
-        messages = model.Messages(store, shape, asked, measured, loop)
+        messages = model.Messages(store, shape, asked, prices.Costs(table, measured, asked.tick), loop)
         messages.add(requests)
         text = model.tree_text(store, shape, asked.stripes)
-        model.warn(messages, shape)
+        found.report(len(messages.lines) - 1)
+        model.warn(messages, shape, found.logs)
+        warn_of_lost([*found.logs, *found.beside], asked.partial)
         if asked.tree:
             traces.write_file(asked.tree, text)
         if asked.map:
@@ -293,6 +384,23 @@ def of_log(read: model.Log) -> Run:
         return model.trace_text(messages)
 
     return run
+
+
+def is_measured(asked: Namespace, found: model.Found) -> bool:
+    """Whether costs are latencies. Those of requests that were in flight together are told, and are none where sizes are better."""
+    if asked.cost not in (None, "latency"):
+        return False
+    if all(it.took is None for it in found.requests):
+        found.said.append("the log has no latencies: costs are those of sizes")
+        return False
+    found.requests.sort(key=operator.attrgetter("time"))
+    if not asked.overlaps(found.requests):
+        return True
+    if asked.cost is None and asked.prefers_size:
+        found.said.append("latencies are of requests that were in flight together, so costs are those of sizes (--cost latency takes them)")
+        return False
+    found.said.append("latencies are of requests that were in flight together, and a plan adds waits of its own: --cost size is better")
+    return True
 
 
 def write_out(text: str) -> None:
@@ -310,6 +418,8 @@ def run_words(given: list[str], parser: Callable[[], ArgumentParser], run: Run) 
         sys.stderr = open(os.devnull, "w")
     if isinstance(sys.stderr, io.TextIOWrapper):
         sys.stderr.reconfigure(errors="backslashreplace")
+    # What is read is kept to the end, and nothing of it is a circle.
+    gc.disable()
     try:
         if sys.stdout is None:
             raise Refusal(4, "standard output: it is closed")
