@@ -1,53 +1,46 @@
 -- What is known of a task: its messages follow earlier ones, and costs, releases and think times are within their limits.
-use Rattle.std.proofs.Common.{◌≡◌, ℕ, ◌-◌, ◌≤◌, List, length, arith, sym, ap, ◌∙◌, subst}
-use Rattle.waff_model.specs.declared.limits.TheConstants.{MAX_MESSAGES, MAX_THINK}
-use Rattle.waff_model.proofs.TraceLemmas.{few_messages}
-use Rattle.waff_plan.specs.Obeys.{FollowsEarlier}
-use Rattle.waff_plan.specs.Pending.{AreFollowers}
-use Rattle.waff_plan.specs.Timetable.{AreTimings}
-use Rattle.waff_plan.specs.Timing.{no_timing}
-use Rattle.waff_plan.specs.Work.{Work, IsNumber}
-use Rattle.waff_plan.proofs.TimingLemmas.{are_timings, length-timings_of}
-use Rattle.waff_list.specs.Clients.{listed_for}
-use Rattle.waff_list.specs.IssuePlanning.{service_of}
-use Rattle.waff_list.specs.Issuing.{IsNext}
+use Rattle.std.proofs.Common.{◌≡◌, ◌≢◌, ℕ, zero, suc, ◌+◌, ◌-◌, ◌^◌, ◌<◌, ◌≤◌, ◌⊎◌, inl, inr, List, length, arith}
+use Rattle.waff_model.specs.declared.limits.TheConstants.{MAX_THINK}
+use Rattle.waff_plan.specs.Timing.{no_timing, start_of, timing_of, work_of}
+use Rattle.waff_plan.specs.Work.{Work, IsNumber, issue_of}
+use Rattle.waff_plan.proofs.FollowLemmas.{followed_some}
 use Rattle.waff_list.specs.Progress.{IsSmall}
-use Rattle.waff_list.specs.declared.client_task.ClientTask.{ClientTask}
+use Rattle.waff_list.specs.Tasks.{HasIssue}
+use Rattle.waff_plan.specs.declared.due.TheConstants.{NEVER}
+use Rattle.waff_list.specs.declared.task.Task.{Task}
+use Rattle.waff_list.proofs.IssueLemmas.{followed_by}
 use Rattle.waff_list.proofs.TraceWork.{small_timings}
 
--- the message that follows another, by the list of those that do
-pub next_is : (work : Work) (nexts : List ℕ) → FollowsEarlier work → AreFollowers work work.count nexts → (m : ℕ) → IsNumber work m → IsNext work m (listed_for nexts m)
-next_is work nexts earlier are m number =
-    let follower = are m number in
-    record {
-      follows = λ some.
-          let is = follower.follows some in
-          let before = earlier m (listed_for nexts m) is in
-          (record { from = omega (arith, some); to = before.to }, is);
-      alone = λ i i_number is. sym (follower.all i (record { from = i_number.from; to = i_number.to }) is);
-    }
-
-module _ (task : ClientTask) where
-  abbrev work : Work
-  work = (service_of task).work
-
-  pub timings_are : AreTimings task.case.trace.now.version task.timings.items
-  timings_are = subst (AreTimings task.case.trace.now.version) (sym task.timed) (are_timings task.case.trace.now task.messages)
-
-  pub count_of : work.count ≡ length task.case.trace.now.messages
-  count_of = ap length task.timed ∙ length-timings_of task.case.trace.now.messages
-
-  pub follows_of : FollowsEarlier work
-  follows_of = timings_are.earlier
-
-  pub next_of : (m : ℕ) → IsNumber work m → IsNext work m (listed_for task.nexts.items m)
-  next_of = next_is work task.nexts.items follows_of task.followers
-
-  pub few_of : work.count ≤ MAX_MESSAGES
-  few_of = omega (arith, count_of, few_messages task.case.trace.now task.messages)
+module _ (task : Task) where
+  abbrev pub work : Work
+  work = work_of task.timings.items
 
   pub small_of : IsSmall work
-  small_of = small_timings task.timings.items timings_are.small
+  small_of = small_timings task.timings.items task.small
 
   pub thinks_of : (m : ℕ) → IsNumber work m → work.think m ≤ MAX_THINK
-  thinks_of m number = let timing = timings_are.small (m - 1) no_timing (omega (arith, number.from, number.to)) in timing.think
+  thinks_of m number = let timing = task.small (m - 1) no_timing (omega (arith, number.from, number.to)) in timing.think
+
+  -- where the issue of a message is known, it can be told
+  pub has_issue : (starts : List ℕ) (now m : ℕ) → length starts ≡ work.count → now + 2 ^ 33 < NEVER → ((i : ℕ) → IsNumber work i → (start_of starts i ≤ now) ⊎ (start_of starts i ≡ NEVER))
+      → IsNumber work m → issue_of work (start_of starts) m < NEVER → HasIssue task.timings.items starts m
+  has_issue starts now m count short placed number known =
+      let f = (timing_of task.timings.items m).follows in
+      record {
+        number = record { from = number.from; to = number.to };
+        small = task.small;
+        count = count;
+        follows = within f (λ some. (task.earlier f m (followed_some f some)).earlier) number.to;
+        early = λ some.
+            let is = followed_some f some in
+            let earlier = task.earlier f m is in
+            let after = followed_by work (start_of starts) m (issue_of work (start_of starts) m) f (omega arith) is in
+            elim (placed f (record { from = earlier.from; to = omega (arith, earlier.earlier, earlier.to) })) [
+              | inl begun ↦ omega (arith, begun, short)
+              | inr never ↦ absurd (omega (arith, never, after, known))
+            ];
+      }
+    where
+      within : (f : ℕ) → (f ≢ 0 → f < m) → m ≤ length task.timings.items → f ≤ length task.timings.items
+      within zero less to = omega arith
+      within (suc n) less to = omega (arith, less (λ is. omega (arith, is)), to)

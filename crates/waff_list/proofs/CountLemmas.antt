@@ -5,11 +5,11 @@ use Rattle.std.proofs.lemmas.List.{get_or-map, length-map}
 use Rattle.std.proofs.lemmas.List.Elements.{All-head, All-tail, All-weaker, All-contains, All-contains_itself, Contains-get_or}
 use Rattle.std.proofs.lemmas.List.Sorted.{sum_by_pushed}
 use Rattle.std.specs.List.Sorted.{IsPermutation, IsStrictlyIncreasing}
-use Rattle.std.proofs.lemmas.List.Sums.{sum_by-cons, sum_by-le, get_or-le-sum_by, count_by_more_yes, count_by_more_no, sum_by_more_le}
+use Rattle.std.proofs.lemmas.List.Sums.{sum_by-cons, sum_by-le, get_or-le-sum_by, count_by_more_yes, count_by_more_no}
 use Rattle.waff_plan.specs.Work.{Work, IsNumber, finish_of}
 use Rattle.waff_order.specs.Needs.{needs_of, IsNeed}
-use Rattle.waff_list.specs.Waiting.{Runs, AreFinishes, AreLeft, FallAlike, left_of, times}
-use Rattle.waff_list.specs.declared.work.TheConstants.{NEVER}
+use Rattle.waff_list.specs.Waiting.{Runs, AreFinishes, AreLeft, left_of, times}
+use Rattle.waff_plan.specs.declared.due.TheConstants.{NEVER}
 
 -- where no element adds to a sum, it is 0
 pub sum_none : {X : Type 0} (f : X → ℕ) (xs : List X) → ((x : X) → Contains xs x → f x ≡ 0) → sum_by f xs ≡ 0
@@ -60,13 +60,6 @@ times_here m xs at d inside is = count_by_more_yes (λ x. nat_eq x m) xs at d in
 pub times_other : (m : ℕ) (xs : List ℕ) (at d : ℕ) → at < length xs → get_or xs at d ≢ m → times m (take (at + 1) xs) ≡ times m (take at xs)
 times_other m xs at d inside other = count_by_more_no (λ x. nat_eq x m) xs at d inside (ne_eqb (get_or xs at d) m other)
 
--- the places before one at which a message stands list it less often than the whole
-pub times_left : (m : ℕ) (xs : List ℕ) (at d : ℕ) → at < length xs → get_or xs at d ≡ m → times m (take at xs) < times m xs
-times_left m xs at d inside is =
-    let more = sum_by_more_le (λ x. cond (nat_eq x m) 1 0) xs at d inside in
-    let one : cond {A = ℕ} (nat_eq (get_or xs at d) m) 1 0 ≡ 1 = cond-true (nat_eq (get_or xs at d) m) 1 0 (eq-eqb (get_or xs at d) m is) in
-    omega (arith, more, one)
-
 next : (k : ℕ) → k + 1 ≡ suc k
 next k = omega arith
 
@@ -110,14 +103,6 @@ placed_less start later x was is (y ∷ ys) h =
       sum_by-cons (λ i. cond (nat_eq (later i) NEVER) 1 0) y ys,
       sum_by-cons (λ i. cond (nat_eq i x) 1 0) y ys,
     )
-
--- the counts fall as the needs that run do
-pub left_fall : (needs : List (List ℕ)) (start : ℕ → ℕ) (finishes finishes_after : List (ℕ × ℕ)) (left left_after : List ℕ) → AreLeft needs start finishes left
-    → FallAlike needs finishes left finishes_after left_after → length left_after ≡ length left → AreLeft needs start finishes_after left_after
-left_fall needs start finishes finishes_after left left_after h fall count = record {
-  count = count ∙ h.count;
-  counts = λ m from to. omega (arith, fall m from to, h.counts m from to);
-}
 
 module _ (needs : List (List ℕ)) (work : Work) (need_number : (i j : ℕ) → IsNeed needs i j → IsNumber work i) (same : length needs ≡ work.count) where
   need_of : (i m : ℕ) → 1 ≤ m → Contains (needs_of needs m) i → IsNeed needs i m

@@ -1,241 +1,179 @@
--- The chosen messages start, one after another, on the workers that were taken for them.
-use Rattle.std.proofs.Common.{◌≡◌, ◌≢◌, ℕ, suc, ◌+◌, ◌-◌, ◌<◌, ◌≤◌, ◌⊎◌, inl, inr, List, [], ◌∷◌, ◌++◌, length, map, drop, get_or, set, AllPairs, Contains, arith, refl, ap, sym, ◌∙◌, subst, get_or-set_other}
+-- At a tick the messages that were taken out start in the order of their numbers, and the tick has been filled.
+use Rattle.std.proofs.Common.{◌≡◌, ◌≢◌, ℕ, suc, ◌+◌, ◌-◌, ◌^◌, ◌<◌, ◌≤◌, ◌⊎◌, inl, inr, List, [], ◌∷◌, ◌++◌, length, drop, get_or, set, Contains, arith, refl, ap, sym, ◌∙◌, subst, get_or-set_other}
 use Rattle.std.specs.List.Sorted.{IsPermutation, IsNonDecreasingBy}
 use Rattle.std.proofs.Math.Seq.{drop-cons}
 use Rattle.std.proofs.lemmas.Bool.{cases_eq}
-use Rattle.std.proofs.lemmas.List.{get_or_default, get_or-drop, length-drop, drop_all}
-use Rattle.std.proofs.lemmas.List.Elements.{Contains-append_left, Contains-append_right, Contains-append_cases, Contains-push}
-use Rattle.std.proofs.lemmas.List.Sorted.{IsPermutation-append_left, IsPermutation-append_right}
-use Rattle.waff_plan.specs.Obeys.{IsForward, FollowsNone}
-use Rattle.waff_plan.proofs.NoClients.{issue_is_release}
+use Rattle.std.proofs.lemmas.List.{append_assoc, drop_all, get_or-drop, get_or_default, length-drop}
+use Rattle.std.proofs.lemmas.List.Elements.{All-contains_itself, All-weaker, Contains-append_left, Contains-append_right, Contains-push}
+use Rattle.std.proofs.lemmas.List.Sorted.{Contains-permutation, IsPermutation-append_left, IsPermutation-append_right, IsPermutation-sym, IsPermutation-trans}
+use Rattle.waff_model.specs.declared.limits.TheConstants.{MAX_THINK}
+use Rattle.waff_plan.specs.Obeys.{FollowsEarlier}
+use Rattle.waff_plan.specs.Pending.{IsFollower}
 use Rattle.waff_plan.specs.Timing.{start_of}
-use Rattle.waff_plan.specs.Work.{Work, IsNumber, IsAmongFirst}
-use Rattle.waff_list.specs.Choosing.{AreChosen}
-use Rattle.waff_list.specs.ListRule.{IsReady}
-use Rattle.waff_list.specs.Load.{Load, Placed, Pending, before_in, priority_in, first_in}
-use Rattle.waff_list.specs.Progress.{IsProgress, IsProgressOf, IsKept, GoesOn}
-use Rattle.waff_list.specs.Seating.{worker_of}
-use Rattle.waff_list.specs.Waiting.{Ready, AreFinishes, AreLeft, IsUp, IsReleased}
-use Rattle.waff_list.specs.declared.work.TheConstants.{NEVER}
-use Rattle.waff_list.proofs.CountLemmas.{left_place, left_finished, left_over}
-use Rattle.waff_list.proofs.Each.{contains_first, each_moved, each_same, each_apart}
-use Rattle.waff_list.proofs.Starting.{IsStartingOf, is_ready, unplaced, late, starts_moved, starts_more, starts_filled}
-use Rattle.waff_list.proofs.Uniqueness.{FollowsMessages, alike_same, numbers_of, followed_of, not_itself, onward}
+use Rattle.waff_plan.specs.Work.{IsNumber, issue_of}
+use Rattle.waff_plan.specs.declared.due.TheConstants.{NEVER}
+use Rattle.waff_list.specs.Issuing.{AreIssues, AreServed, IsIssuedNext}
+use Rattle.waff_list.specs.Orders.{IsServiceOrder, TakesFirst}
+use Rattle.waff_list.specs.Placed.{Placed}
+use Rattle.waff_list.specs.Plannable.{IsKept, IsPlannedTo, Plannable}
+use Rattle.waff_list.specs.Progress.{IsSmall}
+use Rattle.waff_list.specs.Ready.{AreGathered, AreRanked, IsFree, ranked_in}
+use Rattle.waff_list.specs.Waiting.{AreEach}
+use Rattle.waff_list.proofs.Each.{contains_map, each_apart, each_moved}
+use Rattle.waff_list.proofs.Keeping.{starting_in_order}
+use Rattle.waff_list.proofs.Placing.{IsFilling, filling_after, followed}
+use Rattle.waff_list.proofs.Starting.{is_ready, starts_filled}
+use Rattle.waff_list.proofs.Uniqueness.{FollowsMessages}
+
+-- where one leaves, all in all are the same
+pub parted_more : (old xs ys : List ℕ) (x : ℕ) (rest : List ℕ) → IsPermutation old (xs ++ ys) → IsPermutation ys (x ∷ rest) → IsPermutation old ((xs ++ x ∷ []) ++ rest)
+parted_more old xs ys x rest same leaves = subst (λ zs. IsPermutation old zs) (sym (append_assoc xs (x ∷ []) rest))
+    (IsPermutation-trans old (xs ++ ys) (xs ++ x ∷ rest) same (IsPermutation-append_right xs ys (x ∷ rest) leaves))
 
 -- the element of a list at an index is in it, and in the rest of it from there on
-pub there_at : (xs : List ℕ) (i d : ℕ) → i < length xs → Contains xs (get_or xs i d)
+there_at : (xs : List ℕ) (i d : ℕ) → i < length xs → Contains xs (get_or xs i d)
 there_at xs i d inside = (i, inside, get_or_default xs i (get_or xs i d) d inside)
 
-pub in_rest : (at : ℕ) (xs : List ℕ) (i d : ℕ) → at ≤ i → i < length xs → Contains (drop at xs) (get_or xs i d)
+in_rest : (at : ℕ) (xs : List ℕ) (i d : ℕ) → at ≤ i → i < length xs → Contains (drop at xs) (get_or xs i d)
 in_rest at xs i d late inside =
     let long : length (drop at xs) ≡ length xs - at = length-drop at xs in
     let place : at + (i - at) ≡ i = omega arith in
     (i - at, omega arith, get_or-drop at xs (i - at) (get_or xs i d) ∙ ap (λ j. get_or xs j (get_or xs i d)) place ∙ get_or_default xs i (get_or xs i d) d inside)
 
-of_rest : (at : ℕ) (xs : List ℕ) (x : ℕ) → Contains (drop at xs) x → (i : ℕ) × (at ≤ i) × (i < length xs) × (get_or xs i x ≡ x)
-of_rest at xs x (k, inside, is) =
-    let long : length (drop at xs) ≡ length xs - at = length-drop at xs in
-    (at + k, omega arith, omega arith, sym (get_or-drop at xs k x) ∙ is)
-
--- what is kept while the chosen messages are placed, and what was placed before stays placed
-pub record IsFilling (load : Load) (old : List ℕ) (placed : Placed) (pending : Pending) (now turn : ℕ) : Type 0 where
-  pub on : IsStartingOf (before_in load) (first_in load) load.work load.workers placed pending.finishes pending.idle pending.ready now turn
-  pub stay : (m : ℕ) → IsNumber load.work m → start_of old m ≤ now → start_of placed.starts m ≡ start_of old m
-  pub left : AreLeft load.needs (start_of placed.starts) pending.finishes pending.left
-
--- the first so many of the chosen messages have been placed
-pub record IsStarting (load : Load) (old : List ℕ) (placed : Placed) (pending : Pending) (now : ℕ) (messages workers : List ℕ) (at : ℕ) : Type 0 where
+-- the first so many of these messages have been started
+pub record IsStartedTo (p : Plannable) (old : List ℕ) (placed : Placed) (finishes : List (ℕ × ℕ)) (idle left : List ℕ) (trails : List (List ℕ)) (issues : List (ℕ × ℕ))
+    (was ranks : List (ℕ × (ℕ × ℕ))) (issued : List ℕ) (needs : List (List ℕ)) (now : ℕ) (messages : List ℕ) (at : ℕ) : Type 0 where
   pub turn : ℕ
-  pub on : IsFilling load old placed
-      (record { finishes = pending.finishes; idle = drop at workers ++ pending.idle; left = pending.left; ready = drop at messages ++ pending.ready }) now turn
+  pub on : IsFilling p old placed finishes idle left (drop at messages ++ ranked_in ranks) trails issues was issued needs now turn
   pub turns : (i d : ℕ) → at ≤ i → i < length messages → turn ≤ get_or messages i d
-  pub started : (m : ℕ) → IsNumber load.work m → start_of placed.starts m ≡ now → Contains messages m
+  pub begun : (m : ℕ) → IsNumber p.work m → start_of placed.starts m ≡ now → Contains messages m
 
-module _ (load : Load) (forward : IsForward (before_in load) load.work) (none : FollowsNone load.work) (same : length load.needs ≡ load.work.count) where
-  abbrev work : Work
-  work = load.work
-
-  need_number : (i j : ℕ) → before_in load i j → IsNumber work i
-  need_number i j need = forward.first i j (inl need)
-
-  followed : FollowsMessages work
-  followed = followed_of (before_in load) work forward
-
-  numbers : (i j : ℕ) → before_in load i j → IsNumber work i × IsNumber work j
-  numbers = numbers_of (before_in load) work forward
-
-  -- the messages that need nothing more and are released are those that are ready
-  module _ (placed : Placed) (now turn end : ℕ) (finishes : List (ℕ × ℕ)) (left : List ℕ) (short : now < NEVER) (progress : IsProgressOf (before_in load) (first_in load) work load.workers placed now turn end)
-      (run : AreFinishes work (start_of placed.starts) now finishes) (are : AreLeft load.needs (start_of placed.starts) finishes left) where
-    ready_if_up : (m : ℕ) → IsUp work (IsReleased work now) left m → IsReady (before_in load) work (start_of placed.starts) now m
-    ready_if_up m up = record {
-      number = up.number;
-      issued = omega (arith, up.released, issue_is_release work none (start_of placed.starts) m);
-      free = left_finished load.needs work need_number same (start_of placed.starts) now finishes left short run are m up.number progress.settled.placed up.over;
+-- at the beginning none has
+pub started_none : (p : Plannable) → IsServiceOrder p.work p.order → FollowsMessages p.work → (placed : Placed) (finishes : List (ℕ × ℕ)) (idle left : List ℕ) (trails : List (List ℕ)) (issues : List (ℕ × ℕ))
+    (was ranks : List (ℕ × (ℕ × ℕ))) (issued : List ℕ) (needs : List (List ℕ)) (now most : ℕ) (taken messages : List ℕ) → now < NEVER
+    → IsPlannedTo p placed now 1 now → AreServed p.work (start_of placed.starts) now issued → AreIssues p.work (start_of placed.starts) now issues
+    → IsKept p placed (record { finishes = finishes; idle = idle; left = left; ready = ranked_in was }) trails issued needs now
+    → AreRanked p.priority (p.order.key (start_of placed.starts)) was
+    → AreGathered was most taken ranks → IsPermutation taken messages
+    → IsStartedTo p placed.starts placed finishes idle left trails issues was ranks issued needs now messages 0
+started_none p order followed placed finishes idle left trails issues was ranks issued needs now most taken messages short planned served known h ranked gathered sorted =
+    let waiting = ranked_in ranks in
+    let start = start_of placed.starts in
+    let ready : AreEach (IsFree p.work left) (placed.order ++ (messages ++ waiting))
+    = each_moved (IsFree p.work left) (placed.order ++ ranked_in was) h.ready (placed.order ++ (messages ++ waiting))
+    (IsPermutation-append_right placed.order (ranked_in was) (messages ++ waiting)
+    (IsPermutation-trans (ranked_in was) (taken ++ waiting) (messages ++ waiting) gathered.parted (IsPermutation-append_left waiting taken messages sorted))) in
+    let on = starting_in_order p order placed (record { finishes = finishes; idle = idle; left = left; ready = ranked_in was }) trails issued needs now 1 short (omega arith) served planned h in
+    record {
+      turn = 1;
+      on = record {
+        to = omega arith;
+        planned = planned;
+        served = served;
+        known = known;
+        kept = record {
+          count = h.count;
+          knows = h.knows;
+          noted = h.noted;
+          left = h.left;
+          finishes = h.finishes;
+          manned = h.manned;
+          ready = ready;
+        };
+        ranked = ranked;
+        early = All-weaker (Contains was) (λ (r : ℕ × (ℕ × ℕ)). issue_of p.work start r.1.1 ≤ now)
+            (λ (r : ℕ × (ℕ × ℕ)) listed.
+            (is_ready p.work p.workers followed (p.order.before start) (TakesFirst p.priority (p.order.key start)) (order.numbers start) placed finishes now 1 idle (ranked_in was) on r.1.1
+            (contains_map (λ (s : ℕ × (ℕ × ℕ)). s.1.1) was r listed)).issued) was (All-contains_itself was);
+        stay = λ m number early. refl;
+      };
+      turns = λ i d late inside.
+          let m = get_or messages i d in
+          (ready.only m (Contains-append_right placed.order (messages ++ waiting) m (Contains-append_left messages waiting m (there_at messages i d inside)))).0.from;
+      begun = λ m number is. absurd (omega (arith, planned.settled.turns m number is, number.from));
     }
 
-    up_if_ready : (m : ℕ) → IsReady (before_in load) work (start_of placed.starts) now m → IsUp work (IsReleased work now) left m
-    up_if_ready m ready = record {
-      number = ready.number;
-      over = left_over load.needs work need_number same (start_of placed.starts) now finishes left short run are m ready.number ready.free;
-      released = omega (arith, ready.issued, issue_is_release work none (start_of placed.starts) m);
-    }
+module _ (p : Plannable) (order : IsServiceOrder p.work p.order) (follows : FollowsEarlier p.work) (small : IsSmall p.work) (thinks : (m : ℕ) → IsNumber p.work m → p.work.think m ≤ MAX_THINK)
+    (old : List ℕ) (placed : Placed) (finishes : List (ℕ × ℕ)) (idle left : List ℕ) (trails : List (List ℕ)) (issues : List (ℕ × ℕ)) (was ranks : List (ℕ × (ℕ × ℕ))) (issued : List ℕ)
+    (needs : List (List ℕ)) (now : ℕ) (messages : List ℕ) (at : ℕ) (h : IsStartedTo p old placed finishes idle left trails issues was ranks issued needs now messages at) where
+  module _ (inside : at < length messages) where
+    abbrev message : ℕ
+    message = get_or messages at 0
 
-  -- a message is placed on the least worker that is idle
-  module _ (old : List ℕ) (placed : Placed) (finishes : List (ℕ × ℕ)) (idle left ready : List ℕ) (now turn m w : ℕ)
-      (h : IsFilling load old placed (record { finishes = finishes; idle = w ∷ idle; left = left; ready = m ∷ ready }) now turn)
-      (short : now < NEVER) (cost : 1 ≤ work.cost m) (up_to : turn ≤ m) (smallest : (v : ℕ) → Contains idle v → w ≤ v) where
-    abbrev more_there : Placed
-    more_there = record { starts = set placed.starts (m - 1) now; seats = set placed.seats (m - 1) w; order = placed.order ++ m ∷ [] }
+    abbrev rest : List ℕ
+    rest = drop (suc at) messages ++ ranked_in ranks
 
-    pub filling_place : (finishes_after : List (ℕ × ℕ)) → IsPermutation ((now + work.cost m, m) ∷ finishes) finishes_after
-        → IsFilling load old more_there (record { finishes = finishes_after; idle = idle; left = left; ready = ready }) now (m + 1)
-    filling_place finishes_after pushed =
-        let first = first_in load in
-        let before = before_in load in
-        let moved = starts_moved work load.workers followed before first numbers placed finishes now turn idle ready m w h.on short cost up_to smallest in
-        let unplaced = late work load.workers followed before first numbers placed finishes now turn idle ready m w h.on short cost up_to smallest in
-        let here : start_of more_there.starts m ≡ now = moved.here in
-        let never : start_of placed.starts m ≡ NEVER = elim (h.on.progress.settled.placed m (is_ready work load.workers followed before first numbers placed finishes now turn (w ∷ idle) (m ∷ ready) h.on m (contains_first m ready)).number) [ inl early ↦ absurd (omega (arith, early, unplaced)) | inr is ↦ is ] in
-        record {
-          on = starts_more work load.workers followed before first numbers placed finishes now turn idle ready m w h.on short cost up_to smallest
-              before first (λ i j pair. (numbers i j pair).1) (alike_same work before first _ _ now) finishes_after pushed;
-          stay = λ i i_number early.
-              let is = h.stay i i_number early in
-              moved.others i i_number.from (λ again. omega (arith, is, early, unplaced, ap (start_of placed.starts) again)) ∙ is;
-          left = left_place load.needs work need_number same (start_of placed.starts) (start_of more_there.starts) m (now + work.cost m) finishes finishes_after left never
-              (λ again. omega (arith, here, again)) moved.others pushed h.left;
-        }
+    -- the next message is the first of those that are left
+    split : IsFilling p old placed finishes idle left (message ∷ rest) trails issues was issued needs now h.turn
+    split = subst (λ xs. IsFilling p old placed finishes idle left (xs ++ ranked_in ranks) trails issues was issued needs now h.turn) (drop-cons messages at 0 inside) h.on
 
-  -- at the beginning none of the chosen messages has been placed
-  module _ (placed : Placed) (finishes : List (ℕ × ℕ)) (old_idle left : List ℕ) (old_ready : Ready) (idle : List ℕ) (ready : Ready) (now : ℕ) (messages workers : List ℕ)
-      (chosen : AreChosen old_ready old_idle messages workers ready idle) where
-    pub starting_none : now < NEVER → IsProgress load placed now 1 now → IsKept load placed (record { finishes = finishes; idle = old_idle; left = left; ready = old_ready.messages }) now
-        → IsStarting load placed.starts placed (record { finishes = finishes; idle = idle; left = left; ready = ready.messages }) now messages workers 0
-    starting_none short progress h =
-        let run = map (λ (r : ℕ × ℕ). worker_of placed.seats r.1) finishes in
-        let all_up = each_moved (IsUp work (IsReleased work now) left) (placed.order ++ old_ready.messages) h.ready (placed.order ++ (messages ++ ready.messages))
-        (IsPermutation-append_right placed.order old_ready.messages (messages ++ ready.messages) chosen.parted) in
-        let all_ready = each_same (IsUp work (IsReleased work now) left) (placed.order ++ (messages ++ ready.messages)) all_up (IsReady (before_in load) work (start_of placed.starts) now)
-        (ready_if_up placed now 1 now finishes left short progress h.finishes h.left) (up_if_ready placed now 1 now finishes left short progress h.finishes h.left) in
-        record {
-          turn = 1;
-          on = record {
-            on = record {
-              to = omega arith;
-              progress = progress;
-              finishes = h.finishes;
-              manned = each_moved (IsAmongFirst load.workers) (old_idle ++ run) h.manned ((workers ++ idle) ++ run)
-                  (IsPermutation-append_left run old_idle (workers ++ idle) chosen.manned);
-              ready = all_ready;
-            };
-            stay = λ m number early. refl;
-            left = h.left;
-          };
-          turns = λ i d late inside.
-              let m = get_or messages i d in
-              let is = all_ready.only m (Contains-append_right placed.order (messages ++ ready.messages) m (Contains-append_left messages ready.messages m (there_at messages i d inside))) in
-              is.number.from;
-          started = λ m number is. absurd (omega (arith, progress.settled.turns m number is, number.from));
-        }
+    -- it is one of the trace
+    pub started_number : IsNumber p.work message
+    started_number = (split.kept.ready.only message (Contains-append_right placed.order (message ∷ rest) message (0, omega arith, refl))).0
 
-  module _ (old : List ℕ) (placed : Placed) (pending : Pending) (now : ℕ) (messages workers : List ℕ) (at : ℕ)
-      (count : length workers ≡ length messages) (h : IsStarting load old placed pending now messages workers at) where
-    module _ (up : IsNonDecreasingBy (λ m. m) messages) (rising : AllPairs (λ v w. v ≤ w) workers)
-        (least : (v w : ℕ) → Contains workers v → Contains pending.idle w → v ≤ w) (inside : at < length messages) where
-      abbrev message : ℕ
-      message = get_or messages at 0
+    -- one more has
+    module _ (short : now + 2 ^ 33 < NEVER) (up : IsNonDecreasingBy (λ m. m) messages) (w : ℕ) (free : List ℕ) (popped : IsPermutation idle (w ∷ free)) (smallest : (v : ℕ) → Contains free v → w ≤ v)
+        (after : List (ℕ × ℕ)) (pushed : IsPermutation ((now + p.work.cost message, message) ∷ finishes) after)
+        (next : ℕ) (new : List (ℕ × ℕ)) (is : IsFollower p.work p.work.count message next) (told : IsIssuedNext p.work (start_of (set placed.starts (message - 1) now)) next issues new) where
+      abbrev pub more : Placed
+      more = record { starts = set placed.starts (message - 1) now; seats = set placed.seats (message - 1) w; order = placed.order ++ message ∷ [] }
 
-      abbrev worker : ℕ
-      worker = get_or workers at 0
+      on_after : IsFilling p old more after free left rest trails new was issued needs now (message + 1)
+      on_after = filling_after p order follows small thinks old placed finishes idle free rest left trails issues was issued needs now h.turn message w short (h.turns at 0 (omega arith) inside) popped smallest split after pushed next new is told
 
-      abbrev idle_after : List ℕ
-      idle_after = drop (suc at) workers ++ pending.idle
-
-      abbrev ready_after : List ℕ
-      ready_after = drop (suc at) messages ++ pending.ready
-
-      split : IsFilling load old placed (record { finishes = pending.finishes; idle = worker ∷ idle_after; left = pending.left; ready = message ∷ ready_after }) now h.turn
-      split = subst (λ xs. IsFilling load old placed
-          (record { finishes = pending.finishes; idle = xs ++ pending.idle; left = pending.left; ready = message ∷ ready_after }) now h.turn)
-          (drop-cons workers at 0 (omega arith))
-          (subst (λ xs. IsFilling load old placed
-          (record { finishes = pending.finishes; idle = drop at workers ++ pending.idle; left = pending.left; ready = xs ++ pending.ready }) now h.turn)
-          (drop-cons messages at 0 inside) h.on)
-
-      -- the message is one of the trace
-      pub message_known : IsNumber work message
-      message_known = (split.on.ready.only message (Contains-append_right placed.order (message ∷ ready_after) message (contains_first message ready_after))).number
-
-      -- the worker is the least of those that are left
-      is_least : (v : ℕ) → Contains idle_after v → worker ≤ v
-      is_least v there = elim (Contains-append_cases (drop (suc at) workers) pending.idle v there) [
-        | inl taken ↦
-            let one = of_rest (suc at) workers v taken in
-            let less = rising at one.0 v (omega (arith, one.1)) one.2 in
-            omega (arith, less, one.3, get_or_default workers at v 0 (omega arith))
-        | inr still ↦ least worker v (there_at workers at 0 (omega arith)) still
-      ]
-
-      pub starting_more : (more : List (ℕ × ℕ)) → now < NEVER → 1 ≤ work.cost message → IsPermutation ((now + work.cost message, message) ∷ pending.finishes) more
-          → IsStarting load old (record { starts = set placed.starts (message - 1) now; seats = set placed.seats (message - 1) worker; order = placed.order ++ message ∷ [] })
-          (record { finishes = more; idle = pending.idle; left = pending.left; ready = pending.ready }) now messages workers (suc at)
-      starting_more more short cost pushed =
-          let number = message_known in
-          let first_turn = h.turns at 0 (omega arith) inside in
-          let on = filling_place old placed pending.finishes idle_after pending.left ready_after now h.turn message worker split short cost first_turn is_least more pushed in
+      pub started_more : IsStartedTo p old more after free left trails new was ranks issued needs now messages (suc at)
+      started_more =
+          let ready : AreEach (IsFree p.work left) ((placed.order ++ message ∷ []) ++ rest) = on_after.kept.ready in
           record {
             turn = message + 1;
-            on = on;
+            on = on_after;
             turns = λ i d late within.
                 let m = get_or messages i d in
                 let no_more = up at i d (omega arith) within in
-                let other : message ≢ m = λ again. each_apart (IsReady (before_in load) work (start_of (set placed.starts (message - 1) now)) now) (placed.order ++ message ∷ []) ready_after on.on.ready message
+                let other : message ≢ m = λ again. each_apart (IsFree p.work left) (placed.order ++ message ∷ []) rest ready message
                 (Contains-push placed.order message)
-                (Contains-append_left (drop (suc at) messages) pending.ready message (subst (λ x. Contains (drop (suc at) messages) x) (sym again) (in_rest (suc at) messages i d late within))) in
+                (Contains-append_left (drop (suc at) messages) (ranked_in ranks) message (subst (λ x. Contains (drop (suc at) messages) x) (sym again) (in_rest (suc at) messages i d late within))) in
                 omega (arith, no_more, get_or_default messages at d 0 inside, other);
-            started = λ m m_number is. elim (cases_eq m message) [
-              | inl new ↦ rw new (there_at messages at 0 inside)
+            begun = λ m m_number begins. elim (cases_eq m message) [
+              | inl same ↦ rw same (there_at messages at 0 inside)
               | inr other ↦
+                  let number = started_number in
                   let apart : m - 1 ≢ message - 1 = omega (arith, m_number.from, number.from, other) in
-                  h.started m m_number (sym (get_or-set_other placed.starts (message - 1) (m - 1) now 0 apart) ∙ is)
+                  h.begun m m_number (sym (get_or-set_other placed.starts (message - 1) (m - 1) now 0 apart) ∙ begins)
             ];
           }
 
-    -- all chosen messages have been placed
-    module _ (end : length messages ≤ at) where
-      all_started : IsFilling load old placed pending now h.turn
-      all_started = subst (λ xs. IsFilling load old placed (record { finishes = pending.finishes; idle = xs ++ pending.idle; left = pending.left; ready = pending.ready }) now h.turn)
-          (drop_all at workers (omega arith))
-          (subst (λ xs. IsFilling load old placed (record { finishes = pending.finishes; idle = drop at workers ++ pending.idle; left = pending.left; ready = xs ++ pending.ready }) now h.turn)
-          (drop_all at messages end) h.on)
+  -- all have
+  module _ (end : length messages ≤ at) where
+    pub started_all : IsFilling p old placed finishes idle left (ranked_in ranks) trails issues was issued needs now h.turn
+    started_all = subst (λ xs. IsFilling p old placed finishes idle left (xs ++ ranked_in ranks) trails issues was issued needs now h.turn) (drop_all at messages end) h.on
 
-      module _ (short : now < NEVER) where
-        pub kept_filled : IsKept load placed pending now
-        kept_filled =
-            let on = all_started.on in
-            record {
-              finishes = on.finishes;
-              manned = on.manned;
-              left = all_started.left;
-              ready = each_same (IsReady (before_in load) work (start_of placed.starts) now) (placed.order ++ pending.ready) on.ready (IsUp work (IsReleased work now) pending.left)
-                  (up_if_ready placed now h.turn now pending.finishes pending.left short on.progress on.finishes all_started.left)
-                  (ready_if_up placed now h.turn now pending.finishes pending.left short on.progress on.finishes all_started.left);
-            }
-
-        module _ (over : (pending.idle ≡ []) ⊎ (pending.ready ≡ []))
-            (first : (m other : ℕ) → Contains messages m → Contains pending.ready other → (other ≡ m) ⊎ first_in load m other) where
-          -- no message that is ready and waits is taken before one that starts at now
-          not_before : (m other : ℕ) → Contains pending.ready m → IsNumber work other → first_in load m other → start_of placed.starts other ≢ now
-          not_before m other there number before is = elim (first other m (h.started other number is) there) [
-            | inl same_one ↦
-                let waits = unplaced work load.workers followed (before_in load) (first_in load) numbers placed pending.finishes now h.turn pending.idle pending.ready all_started.on m there in
-                omega (arith, waits, is, ap (start_of placed.starts) same_one)
-            | inr next ↦ not_itself (priority_in load) m (onward (priority_in load) m other m before next)
+    module _ (short : now < NEVER) (most : ℕ) (taken : List ℕ) (gathered : AreGathered was most taken ranks) (sorted : IsPermutation taken messages) where
+      -- no message that is ready and waits is taken before one that starts at now
+      not_before : (m other : ℕ) → Contains (ranked_in ranks) m → IsNumber p.work other → TakesFirst p.priority (p.order.key (start_of placed.starts)) m other → start_of placed.starts other ≢ now
+      not_before m other behind number first is =
+          let listed = Contains-permutation messages taken other (IsPermutation-sym taken messages sorted) (h.begun other number is) in
+          elim (gathered.first p.priority (p.order.key (start_of placed.starts)) h.on.ranked other m listed behind) [
+            | inl higher ↦ elim first [
+              | inl before ↦ omega (arith, higher, before)
+              | inr (level, sooner) ↦ omega (arith, higher, level)
+            ]
+            | inr (same, later) ↦ elim first [
+              | inl before ↦ omega (arith, same, before)
+              | inr (level, inl sooner) ↦ elim later [
+                | inl less ↦ omega (arith, sooner, less)
+                | inr both ↦ omega (arith, sooner, both.0)
+              ]
+              | inr (level, inr both) ↦ elim later [
+                | inl less ↦ omega (arith, both.0, less)
+                | inr too ↦ omega (arith, both.1, too.1)
+              ]
+            ]
           ]
 
-          pub filled : GoesOn load old placed now (work.count + 1) (now + 1)
-          filled = record {
-            progress = starts_filled work load.workers followed (before_in load) (first_in load) numbers placed pending.finishes now h.turn pending.idle pending.ready all_started.on over not_before;
-            kept = all_started.stay;
-          }
+      pub started_filled : (idle ≡ []) ⊎ (ranked_in ranks ≡ []) → IsPlannedTo p placed now (p.work.count + 1) (now + 1)
+      started_filled over =
+          let all = started_all in
+          let on = starting_in_order p order placed (record { finishes = finishes; idle = idle; left = left; ready = ranked_in ranks }) trails issued needs now h.turn short all.to all.served all.planned all.kept in
+          starts_filled p.work p.workers (followed p order follows small thinks) (p.order.before (start_of placed.starts)) (TakesFirst p.priority (p.order.key (start_of placed.starts))) (order.numbers (start_of placed.starts))
+          placed finishes now h.turn idle (ranked_in ranks) on over not_before

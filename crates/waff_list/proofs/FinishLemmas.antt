@@ -6,7 +6,7 @@ use Rattle.std.proofs.lemmas.List.Elements.{All-nil, All-cons, All-contains, All
 use Rattle.std.proofs.lemmas.List.Sorted.{Contains-permutation, All-permutation}
 use Rattle.waff_plan.specs.Work.{Work, IsNumber, finish_of}
 use Rattle.waff_list.specs.Waiting.{Runs, AreFinishes, HaveFinished}
-use Rattle.waff_list.specs.declared.work.TheConstants.{NEVER}
+use Rattle.waff_plan.specs.declared.due.TheConstants.{NEVER}
 
 -- none runs at the beginning
 pub finishes_none : (work : Work) (start : ℕ → ℕ) → ((m : ℕ) → IsNumber work m → start m ≡ NEVER) → AreFinishes work start 0 []

@@ -1,66 +1,54 @@
--- At the beginning no message is placed and none has joined; those that follow none are issued at their releases.
-use Rattle.std.proofs.Common.{◌≡◌, ℕ, ◌+◌, ◌-◌, ◌<◌, ◌≤◌, ◌⊎◌, inl, inr, List, [], ◌∷◌, length, map, replicate, count_by, nat_eq, Contains, Option, Some, None, option_map, arith, refl, sym, ap, ◌∙◌, subst}
-use Rattle.std.specs.List.Sorted.{IsPermutation}
-use Rattle.std.proofs.lemmas.Bool.{cases_eq, cases_lt}
-use Rattle.std.proofs.lemmas.List.{append-nil, get_or-replicate, get_or_past, length-replicate}
-use Rattle.std.proofs.lemmas.List.Elements.{All-cons, All-contains, All-contains_itself, All-nil, All-weaker}
-use Rattle.std.proofs.lemmas.List.Sorted.{All-permutation, IsPermutation-map}
+-- At the beginning no message is placed and none is issued; those that follow none are issued at their releases.
+use Rattle.std.proofs.Common.{◌≡◌, ℕ, ◌-◌, ◌<◌, ◌≤◌, ◌⊎◌, inl, inr, List, [], ◌∷◌, cond, ◌==◌, length, map, replicate, count_by, Contains, Option, Some, None, option_map, arith, refl, sym, ap, ◌∙◌, subst}
+use Rattle.std.proofs.lemmas.Bool.{cases_lt}
+use Rattle.std.proofs.lemmas.List.{append-nil, get_or-map, get_or-replicate, get_or_past, length-replicate}
+use Rattle.std.proofs.lemmas.List.Elements.{All-contains_itself, All-nil, All-weaker}
+use Rattle.std.proofs.lemmas.List.Sums.{sum_by-cons}
 use Rattle.waff_model.specs.Numbers.{IsAmongFirst}
-use Rattle.waff_plan.specs.Timing.{start_of}
+use Rattle.waff_plan.specs.Pending.{AreFirst}
+use Rattle.waff_plan.specs.Timing.{start_of, work_of}
 use Rattle.waff_plan.specs.Work.{Work, IsNumber, finish_of, issue_after, issue_of}
-use Rattle.waff_order.specs.Joined.{HaveJoined, Joined}
-use Rattle.waff_order.specs.Needs.{needs_of}
-use Rattle.waff_list.specs.IssueJoining.{AreJoining, IsJoining}
-use Rattle.waff_list.specs.Issuing.{AreFirstIssues}
+use Rattle.waff_order.specs.Joined.{Joined}
+use Rattle.waff_order.specs.Needs.{IsNeed, needs_of}
+use Rattle.waff_list.specs.Issuing.{AreJoining, AreNeedsByNumber}
+use Rattle.waff_list.specs.Orders.{TakesFirst}
+use Rattle.waff_list.specs.Plannable.{AreLeftBut, Plannable}
+use Rattle.waff_list.specs.Planning.{AreIssuing, Fits, IsNoneIssued, IsPlanned, IsWaiting, plannable_of}
 use Rattle.waff_list.specs.Progress.{IsSmall}
-use Rattle.waff_list.specs.Serving.{AreNeedsByNumber, Service}
+use Rattle.waff_list.specs.Ready.{AreRanked}
+use Rattle.waff_list.specs.Telling.{basis_of, order_by, priority_in}
 use Rattle.waff_list.specs.Trails.{trails}
-use Rattle.waff_list.specs.Waiting.{AreDependents, AreEach, AreLeft, dependents_of, times}
+use Rattle.waff_list.specs.Waiting.{AreDependents, AreEach, dependents_of, left_of, times}
 use Rattle.waff_list.specs.declared.dependents.Dependents.{Dependents}
-use Rattle.waff_list.specs.declared.work.TheConstants.{NEVER}
-use Rattle.waff_list.proofs.Each.{contains_map, each_more, each_moved, each_same, none_there}
+use Rattle.waff_list.specs.declared.progress.Progress.{Progress}
+use Rattle.waff_list.specs.declared.task.Task.{Task}
+use Rattle.waff_list.specs.declared.waiting.Waiting.{Waiting}
+use Rattle.waff_plan.specs.declared.due.TheConstants.{NEVER}
+use Rattle.waff_list.proofs.ClientTasks.{small_of}
+use Rattle.waff_list.proofs.CountLemmas.{left_none, times_some}
+use Rattle.waff_list.proofs.Each.{contains_map, contains_mapped, each_same, none_there}
 use Rattle.waff_list.proofs.FinishLemmas.{finishes_none}
 use Rattle.waff_list.proofs.IssueLemmas.{followed_by}
+use Rattle.waff_list.proofs.IssuePlans.{follows_messages}
+use Rattle.waff_list.proofs.Making.{progress_none}
+use Rattle.waff_list.proofs.Orders.{known_count, known_numbers, knows_of, service_order}
 use Rattle.waff_list.proofs.TrailLemmas.{no_trail, trails_none}
 use Rattle.waff_list.proofs.Uniqueness.{FollowsMessages}
 
--- before the first message there is none
-pub first_none : (work : Work) → AreFirstIssues work 1 []
-first_none work = record {
-  each = record { only = λ m there. absurd (none_there m there); each = λ m is. absurd (omega (arith, is.0.from, is.1)) };
-  ticks = All-nil (λ (r : ℕ × ℕ). work.release r.1 ≡ r.0);
+times_map : {X : Type 0} (f : X → ℕ) (m : ℕ) (xs : List X) → times m (map f xs) ≡ count_by (λ x. f x == m) xs
+times_map f m [] = refl
+times_map f m (x ∷ xs) = omega (arith, sum_by-cons (λ z. cond (z == m) 1 0) (f x) (map f xs), sum_by-cons (λ z. cond (f z == m) 1 0) x xs, times_map f m xs)
+
+-- the messages that follow none, each once
+first_each : (work : Work) (first : List (ℕ × ℕ)) → AreFirst work (issue_of work) first → AreEach (λ m. IsNumber work m × (work.follows m ≡ None)) (map (λ (r : ℕ × ℕ). r.1) first)
+first_each work first are = record {
+  only = λ m there.
+      let r = contains_mapped (λ (r : ℕ × ℕ). r.1) first m there in
+      subst (λ n. IsNumber work n × (work.follows n ≡ None)) r.2 (are.number r.0 r.1, are.alone r.0 r.1);
+  each = λ m is.
+      let listed = times_some m (map (λ (r : ℕ × ℕ). r.1) first) (contains_map (λ (r : ℕ × ℕ). r.1) first (issue_of work (λ i. 0) m, m) (are.all (λ i. 0) m is.0 is.1)) in
+      omega (arith, are.once m, times_map (λ (r : ℕ × ℕ). r.1) m first, listed);
 }
-
-module _ (work : Work) (n : ℕ) (number : IsNumber work n) (issues : List (ℕ × ℕ)) (h : AreFirstIssues work n issues) where
-  abbrev First : ℕ → ℕ → Type 0
-  First before m = IsNumber work m × (m < before) × (work.follows m ≡ None)
-
-  -- one that follows none
-  pub first_more : work.follows n ≡ None → (new : List (ℕ × ℕ)) → IsPermutation ((work.release n, n) ∷ issues) new → AreFirstIssues work (n + 1) new
-  first_more none new pushed =
-      let Ticks : ℕ × ℕ → Type 0 = λ (r : ℕ × ℕ). work.release r.1 ≡ r.0 in
-      record {
-        each = each_moved (First (n + 1)) (n ∷ map (λ (r : ℕ × ℕ). r.1) issues)
-            (each_more (First n) (map (λ (r : ℕ × ℕ). r.1) issues) h.each (First (n + 1)) n
-            (λ listed. let was = h.each.only n listed in omega (arith, was.1))
-            (number, omega arith, none)
-            (λ m is. (is.0, omega (arith, is.1), is.2))
-            (λ m is other. (is.0, omega (arith, is.1, other), is.2)))
-            (map (λ (r : ℕ × ℕ). r.1) new) (IsPermutation-map (λ (r : ℕ × ℕ). r.1) ((work.release n, n) ∷ issues) new pushed);
-        ticks = All-permutation Ticks ((work.release n, n) ∷ issues) new pushed (All-cons Ticks (work.release n, n) issues refl h.ticks);
-      }
-
-  -- one that follows another
-  pub first_other : (work.follows n ≡ None → ⊥) → AreFirstIssues work (n + 1) issues
-  first_other some = record {
-    each = each_same (First n) (map (λ (r : ℕ × ℕ). r.1) issues) h.each (First (n + 1))
-        (λ m is. (is.0, omega (arith, is.1), is.2))
-        (λ m is. elim (cases_eq m n) [
-          | inl same ↦ absurd (some (subst (λ x. work.follows x ≡ None) same is.2))
-          | inr other ↦ (is.0, omega (arith, is.1, other), is.2)
-        ]);
-    ticks = h.ticks;
-  }
 
 none_or : (follows : Option ℕ) → (follows ≡ None) ⊎ ((f : ℕ) × (follows ≡ Some f))
 none_or None = inl refl
@@ -72,20 +60,16 @@ issue_of_first work start m none = ap (λ f. issue_after (work.release m) (work.
 
 module _ (work : Work) (followed : FollowsMessages work) (small : IsSmall work) (start : ℕ → ℕ) (never : (m : ℕ) → IsNumber work m → start m ≡ NEVER) where
   -- the issues of the messages that follow none are all that are known
-  pub joining_first : (issues : List (ℕ × ℕ)) → AreFirstIssues work (work.count + 1) issues → AreJoining work start 0 [] issues
+  pub joining_first : (issues : List (ℕ × ℕ)) → AreFirst work (issue_of work) issues → AreJoining work start 0 [] issues
   joining_first issues h = record {
-    each = each_same (λ m. IsNumber work m × (m < work.count + 1) × (work.follows m ≡ None)) (map (λ (r : ℕ × ℕ). r.1) issues) h.each
+    each = each_same (λ m. IsNumber work m × (work.follows m ≡ None)) (map (λ (r : ℕ × ℕ). r.1) issues) (first_each work issues h)
         (λ m. IsNumber work m × (issue_of work start m < NEVER))
-        (λ m is. (is.0, omega (arith, issue_of_first work start m is.2, small.release m is.0)))
+        (λ m is. (is.0, omega (arith, issue_of_first work start m is.1, small.release m is.0)))
         (λ m is. elim (none_or (work.follows m)) [
-          | inl none ↦ (is.0, omega (arith, is.0.to), none)
+          | inl none ↦ (is.0, none)
           | inr some ↦ absurd (omega (arith, is.1, followed_by work start m (issue_of work start m) some.0 (omega arith) some.1, never some.0 (followed some.0 m some.1)))
         ]);
-    ticks = All-weaker (Contains issues) (λ (r : ℕ × ℕ). issue_of work start r.1 ≡ r.0)
-        (λ (r : ℕ × ℕ) there.
-        let is = h.each.only r.1 (contains_map (λ (s : ℕ × ℕ). s.1) issues r there) in
-        issue_of_first work start r.1 is.2 ∙ All-contains (λ (s : ℕ × ℕ). work.release s.1 ≡ s.0) issues r h.ticks there)
-        issues (All-contains_itself issues);
+    ticks = All-weaker (Contains issues) (λ (r : ℕ × ℕ). issue_of work start r.1 ≡ r.0) (λ (r : ℕ × ℕ) there. sym (h.key_is start r there)) issues (All-contains_itself issues);
     by_now = All-nil (λ m. issue_of work start m ≤ 0);
     sorted = λ i j d less inside. absurd (omega (arith, inside));
     first = λ i m there listed. absurd (none_there i there);
@@ -102,20 +86,20 @@ module _ (count : ℕ) where
   long : length nothing ≡ count
   long = length-replicate count none
 
-  needs_nothing : (m : ℕ) → needs_of nothing m ≡ []
+  pub needs_nothing : (m : ℕ) → needs_of nothing m ≡ []
   needs_nothing m = elim (cases_lt (m - 1) count) [
     | inl inside ↦ get_or-replicate count (m - 1) none none inside
     | inr past ↦ get_or_past nothing (m - 1) none (omega (arith, long, past))
   ]
 
-  told_nothing : (joined : Joined) → AreNeedsByNumber count [] joined nothing
+  pub told_nothing : (joined : Joined) → AreNeedsByNumber count [] joined nothing
   told_nothing joined = record {
     count = long;
     of_served = λ p inside. absurd (omega (arith, inside.from, inside.to));
     of_others = λ m inside other. needs_nothing m;
   }
 
-  dependents_nothing : (d : Dependents) → d.firsts.items ≡ replicate count 0 → d.links.items ≡ [] → AreDependents nothing (trails d) count
+  pub dependents_nothing : (d : Dependents) → d.firsts.items ≡ replicate count 0 → d.links.items ≡ [] → AreDependents nothing (trails d) count
   dependents_nothing d firsts links =
       let of : (i : ℕ) → dependents_of (trails d) i ≡ [] = λ i. elim (cases_lt (i - 1) count) [
         | inl inside ↦ no_trail d count firsts links (i - 1) inside
@@ -127,32 +111,70 @@ module _ (count : ℕ) where
         only = λ i m there. absurd (none_there m (subst (λ xs. Contains xs m) (of i) there));
       }
 
-  left_nothing : (start : ℕ → ℕ) → AreLeft nothing start [] (replicate count 0)
-  left_nothing start = record {
-    count = length-replicate count 0 ∙ sym long;
-    counts = λ m from to.
-        let inside : m - 1 < count = omega (arith, from, to, long) in
-        get_or-replicate count (m - 1) 0 0 inside ∙ sym (ap (λ xs. count_by (λ i. nat_eq (start i) NEVER) xs + 0) (needs_nothing m));
+-- what is kept where none is issued
+module _ (task : Task) (p : Progress) (w : Waiting) (none : IsNoneIssued w (work_of task.timings.items)) (fits : Fits w.service (work_of task.timings.items))
+    (starts : p.starts.items ≡ replicate (length task.timings.items) NEVER) (order : p.order.items ≡ []) (finishes : p.finishes ≡ []) (idle : AreEach (IsAmongFirst task.workers) p.idle)
+    (issues : AreFirst (work_of task.timings.items) (issue_of (work_of task.timings.items)) p.issues) where
+  abbrev its : Work
+  its = work_of task.timings.items
+
+  abbrev begin : ℕ → ℕ
+  begin = start_of (replicate its.count NEVER)
+
+  never : (m : ℕ) → IsNumber its m → begin m ≡ NEVER
+  never m number = get_or-replicate its.count (m - 1) NEVER 0 (omega (arith, number.from, number.to))
+
+  need_number : (i m : ℕ) → IsNeed none.needs i m → IsNumber its i
+  need_number = known_numbers w.service its [] none.needs _ fits none.known (λ x there. absurd (none_there x there))
+
+  counts : length none.needs ≡ its.count
+  counts = known_count w.service its [] none.needs _ fits none.known
+
+  left_at_first : AreLeftBut its [] none.needs begin [] w.left.items
+  left_at_first = record {
+    count = none.count;
+    here = λ m number there. absurd (none_there m there);
+    later = λ m number other.
+        let long : left_of (map length none.needs) m ≡ length (needs_of none.needs m) = get_or-map length none.needs (m - 1) [] 0 (omega (arith, number.from, number.to, counts)) in
+        let are = left_none none.needs its need_number counts begin never in
+        omega (arith, none.left m number, long, are.counts m number.from (omega (arith, number.to, counts)));
   }
 
-  -- what is kept where none has joined
-  pub joining_none : (service : Service) → count ≡ service.work.count → FollowsMessages service.work → IsSmall service.work
-      → (joined : Joined) → HaveJoined service.tree service.spans [] joined
-      → (d : Dependents) → d.firsts.items ≡ replicate count 0 → d.links.items ≡ [] → (issues : List (ℕ × ℕ)) → AreFirstIssues service.work (service.work.count + 1) issues
-      → (seats idle : List ℕ) → AreEach (IsAmongFirst service.workers) idle
-      → IsJoining service (record { starts = replicate count NEVER; seats = seats; order = [] })
-      (record { finishes = []; idle = idle; left = replicate count 0; ready = [] })
-      (record { served = []; joined = joined; dependents = trails d; issues = issues }) nothing 0
-  joining_none service same followed small joined have d firsts links issues first seats idle manned =
-      let start = start_of (replicate count NEVER) in
-      let never : (m : ℕ) → IsNumber service.work m → start m ≡ NEVER = λ m number. get_or-replicate count (m - 1) NEVER 0 (omega (arith, number.from, number.to, same)) in
-      record {
-        joining = joining_first service.work followed small start never issues first;
-        joined = have;
-        told = subst (λ n. AreNeedsByNumber n [] joined nothing) same (told_nothing joined);
-        dependents = subst (λ n. AreDependents nothing (trails d) n) same (dependents_nothing d firsts links);
-        finishes = finishes_none service.work start never;
-        manned = subst (λ xs. AreEach (IsAmongFirst service.workers) xs) (sym (append-nil idle)) manned;
-        left = left_nothing start;
-        ready = record { only = λ m there. absurd (none_there m there); each = λ m is. absurd (none_there m is.0) };
-      }
+  pub waiting_at_first : IsWaiting task p w [] [] 0
+  waiting_at_first = record {
+    needs = none.needs;
+    kept = record {
+      count = counts;
+      knows = knows_of w.service its [] none.needs _ none.known;
+      noted = record {
+        count = none.dependents.count;
+        each = λ i m from number late. none.dependents.each i m from number.from number.to;
+        only = λ i m there. let within = none.dependents.only i m there in record { from = within.0; to = within.1 };
+      };
+      left = rw (starts, finishes) left_at_first;
+      finishes = rw (starts, finishes) (finishes_none its begin never);
+      manned = rw finishes (subst (λ xs. AreEach (IsAmongFirst task.workers) xs) (sym (append-nil p.idle)) idle);
+      ready = rw (order, none.ready) (record {
+        only = λ m there. absurd (none_there m there);
+        each = λ m free. absurd (omega (arith, none.left m free.0, free.1));
+      });
+    };
+    known = none.known;
+    fits = fits;
+    linked = none.linked;
+    ranked = subst (λ (rs : List (ℕ × (ℕ × ℕ))). AreRanked (priority_in task) ((order_by (basis_of w.service) its).key (start_of p.starts.items)) rs) (sym none.ready) (All-nil _);
+  }
+
+  pub issuing_at_first : AreIssuing task p w p.issues 0
+  issuing_at_first = record {
+    issued = [];
+    joining = subst (λ (xs : List ℕ). AreJoining its (start_of xs) 0 [] p.issues) (sym starts) (joining_first its (follows_messages its task.earlier) (small_of task) begin never p.issues issues);
+    waiting = waiting_at_first;
+  }
+
+  pub begun_at_first : p.seats.items ≡ replicate (length task.timings.items) 0 → IsPlanned task (basis_of w.service) p 0 1 0
+  begun_at_first seats =
+      let plan : Plannable = plannable_of task (basis_of w.service) in
+      let service = service_order w.service its [] none.needs _ fits none.known (small_of task) in
+      rw (starts, seats, order)
+      (progress_none (plan.order.before begin) (TakesFirst plan.priority (plan.order.key begin)) its plan.workers (service.numbers begin) (follows_messages its task.earlier) (omega (arith, task.few)))

@@ -1,6 +1,6 @@
 -- The ticks at which messages finish or are issued are so many that the planner ends, and so close that no tick is too late.
-use Rattle.std.proofs.Common.{◌≡◌, ◌≢◌, ℕ, ◌+◌, ◌*◌, ◌<◌, ◌≤◌, ◌⊎◌, inl, inr, List, map, min, nat_lt, count_by, length, All, Contains, Option, Some, None, option_map, arith, refl, sym, ap, ◌∙◌, subst}
-use Rattle.std.proofs.lemmas.Bool.{cases_eq, cases_lt, ltb-true, lt-ltb, le-ltb}
+use Rattle.std.proofs.Common.{◌≡◌, ℕ, ◌+◌, ◌*◌, ◌<◌, ◌≤◌, ◌⊎◌, inl, inr, List, map, nat_lt, count_by, length, All, Contains, Option, Some, None, option_map, arith, refl, ap}
+use Rattle.std.proofs.lemmas.Bool.{cases_lt, ltb-true, lt-ltb, le-ltb}
 use Rattle.std.proofs.lemmas.List.Elements.{All-contains, All-weaker}
 use Rattle.std.proofs.lemmas.List.FromFn.{length-range_with_len}
 use Rattle.std.proofs.lemmas.List.Sums.{count_by-le-length}
@@ -8,9 +8,9 @@ use Rattle.waff_model.specs.declared.limits.TheConstants.{MAX_COST, MAX_MESSAGES
 use Rattle.waff_plan.specs.Timing.{start_of}
 use Rattle.waff_plan.specs.Work.{Work, IsNumber, numbers, finish_of, issue_after, issue_of}
 use Rattle.waff_list.specs.Progress.{IsSmall}
-use Rattle.waff_list.specs.Serving.{AreIssues, IsLastEvent, IsNextEvent}
+use Rattle.waff_list.specs.Issuing.{AreIssues, IsLastEvent, IsNextEvent}
 use Rattle.waff_list.specs.Waiting.{Runs, AreFinishes}
-use Rattle.waff_list.specs.declared.work.TheConstants.{NEVER}
+use Rattle.waff_plan.specs.declared.due.TheConstants.{NEVER}
 use Rattle.waff_list.proofs.Each.{contains_map, contains_mapped, each_there}
 use Rattle.waff_list.proofs.IssueLemmas.{followed_by, issue_same}
 use Rattle.waff_list.proofs.Uniqueness.{FollowsMessages, counts_le, counts_lt}
@@ -144,12 +144,12 @@ module _ (work : Work) (followed : FollowsMessages work) (small : IsSmall work) 
     | inr (m, number, issue, inr soon) ↦ omega (arith, h, soon, issues_fewer m number issue, ends_no_more)
   ]
 
--- the next event, from the first finish and the first issue that is known
-module _ (work : Work) (start : ℕ → ℕ) (finishes issues : List (ℕ × ℕ)) (now first soonest : ℕ) (short : now < NEVER)
+-- the next event: the first tick at which a message finishes or is issued
+module _ (work : Work) (start : ℕ → ℕ) (finishes issues : List (ℕ × ℕ)) (now next : ℕ) (short : now < NEVER)
     (running : AreFinishes work start now finishes) (are : AreIssues work start now issues)
-    (first_least : All (λ r. first ≤ r.0) finishes) (soonest_least : All (λ r. soonest ≤ r.0) issues) where
+    (first_finish : All (λ r. next ≤ r.0) finishes) (first_issue : All (λ r. next ≤ r.0) issues) where
   -- a message that is issued after now, and before all ticks are over, is known
-  known_late : (m : ℕ) → IsNumber work m → (issue_of work start m ≤ now) ⊎ ((NEVER ≤ issue_of work start m) ⊎ (soonest ≤ issue_of work start m))
+  known_late : (m : ℕ) → IsNumber work m → (issue_of work start m ≤ now) ⊎ ((NEVER ≤ issue_of work start m) ⊎ (next ≤ issue_of work start m))
   known_late m number = elim (cases_lt now (issue_of work start m)) [
     | inr early ↦ inl early
     | inl late ↦ elim (cases_lt (issue_of work start m) NEVER) [
@@ -157,64 +157,42 @@ module _ (work : Work) (start : ℕ → ℕ) (finishes issues : List (ℕ × ℕ
       | inl soon ↦
           let listed = each_there (λ i. IsNumber work i × (now < issue_of work start i) × (issue_of work start i < NEVER)) (map (λ (r : ℕ × ℕ). r.1) issues) are.each m (number, late, soon) in
           let one = contains_mapped (λ (r : ℕ × ℕ). r.1) issues m listed in
-          let least = All-contains (λ (r : ℕ × ℕ). soonest ≤ r.0) issues one.0 soonest_least one.1 in
+          let least = All-contains (λ (r : ℕ × ℕ). next ≤ r.0) issues one.0 first_issue one.1 in
           let at = All-contains (λ (r : ℕ × ℕ). issue_of work start r.1 ≡ r.0) issues one.0 are.ticks one.1 in
           inr (inr (omega (arith, least, at, ap (issue_of work start) one.2)))
     ]
   ]
 
-  pub last_event : first ≡ NEVER → soonest ≡ NEVER → IsLastEvent work start finishes now
-  last_event no_finish no_issue = record {
-    none = All-weaker (λ (r : ℕ × ℕ). first ≤ r.0) (λ (r : ℕ × ℕ). NEVER ≤ r.0) (λ (r : ℕ × ℕ) least. omega (arith, least, no_finish)) finishes first_least;
+  pub last_event : next ≡ NEVER → IsLastEvent work start finishes now
+  last_event over = record {
+    none = All-weaker (λ (r : ℕ × ℕ). next ≤ r.0) (λ (r : ℕ × ℕ). NEVER ≤ r.0) (λ (r : ℕ × ℕ) least. omega (arith, least, over)) finishes first_finish;
     issues = λ m number. elim (known_late m number) [
       | inl early ↦ inl early
       | inr (inl never) ↦ inr never
-      | inr (inr late) ↦ inr (omega (arith, late, no_issue))
+      | inr (inr late) ↦ inr (omega (arith, late, over))
     ];
   }
 
-  module _ (first_one : (first ≡ NEVER) ⊎ ((m : ℕ) × Contains finishes (first, m)))
-      (soonest_one : (soonest ≡ NEVER) ⊎ ((m : ℕ) × Contains issues (soonest, m))) where
-    first_later : now < first
-    first_later = elim first_one [
-      | inl never ↦ omega (arith, never, short)
-      | inr (m, there) ↦ let runs = All-contains (Runs work start now) finishes (first, m) running.only there in runs.2
-    ]
-
-    -- the message whose issue is the soonest
-    abbrev Soonest : Type 0
-    Soonest = (m : ℕ) × IsNumber work m × (issue_of work start m ≡ soonest) × (now < soonest)
-
-    soonest_is : (soonest ≡ NEVER) ⊎ Soonest
-    soonest_is = elim soonest_one [
-      | inl never ↦ inl never
-      | inr (m, there) ↦
-          let known = are.each.only m (contains_map (λ (r : ℕ × ℕ). r.1) issues (soonest, m) there) in
-          let at : issue_of work start m ≡ soonest = All-contains (λ (r : ℕ × ℕ). issue_of work start r.1 ≡ r.0) issues (soonest, m) are.ticks there in
-          inr (m, known.0, at, omega (arith, known.1, at))
-    ]
-
-    soonest_later : now < soonest
-    soonest_later = elim soonest_is [ inl never ↦ omega (arith, never, short) | inr one ↦ one.3 ]
-
-    pub next_event : (next : ℕ) → next ≡ min first soonest → next ≢ NEVER → next ≤ NEVER → IsNextEvent work start finishes now next
-    next_event next is some within = record {
-      later = omega (arith, is, first_later, soonest_later);
-      tick = omega (arith, some, within);
-      first = All-weaker (λ (r : ℕ × ℕ). first ≤ r.0) (λ (r : ℕ × ℕ). next ≤ r.0) (λ (r : ℕ × ℕ) least. omega (arith, least, is)) finishes first_least;
-      issues = λ m number. elim (known_late m number) [
-        | inl early ↦ inl early
-        | inr (inl never) ↦ inr (omega (arith, never, within))
-        | inr (inr late) ↦ inr (omega (arith, late, is))
-      ];
-      one = elim (cases_eq next first) [
-        | inl same ↦ elim first_one [
-          | inl never ↦ absurd (some (same ∙ never))
-          | inr (m, there) ↦ inl (m, subst (λ t. Contains finishes (t, m)) (sym same) there)
-        ]
-        | inr other ↦ elim soonest_is [
-          | inl never ↦ absurd (omega (arith, is, never, some, within, other))
-          | inr one ↦ inr (one.0, one.1, omega (arith, one.2, is, other))
-        ]
-      ];
-    }
+  pub next_event : ((m : ℕ) × (Contains finishes (next, m) ⊎ Contains issues (next, m))) → next < NEVER → IsNextEvent work start finishes now next
+  next_event one soon = record {
+    later = elim one.1 [
+      | inl there ↦ let runs = All-contains (Runs work start now) finishes (next, one.0) running.only there in runs.2
+      | inr there ↦ let is = issued there in omega (arith, is.1, is.2)
+    ];
+    tick = soon;
+    first = first_finish;
+    issues = λ m number. elim (known_late m number) [
+      | inl early ↦ inl early
+      | inr (inl never) ↦ inr (omega (arith, never, soon))
+      | inr (inr late) ↦ inr late
+    ];
+    one = elim one.1 [
+      | inl there ↦ inl (one.0, there)
+      | inr there ↦ let is = issued there in inr (one.0, is.0, is.1)
+    ];
+  }
+    where
+      issued : Contains issues (next, one.0) → IsNumber work one.0 × (issue_of work start one.0 ≡ next) × (now < issue_of work start one.0)
+      issued there =
+          let known = are.each.only one.0 (contains_map (λ (r : ℕ × ℕ). r.1) issues (next, one.0) there) in
+          (known.0, All-contains (λ (r : ℕ × ℕ). issue_of work start r.1 ≡ r.0) issues (next, one.0) are.ticks there, known.1)

@@ -6,10 +6,10 @@ use Rattle.std.proofs.lemmas.List.Elements.{All-contains, All-contains_itself, A
 use Rattle.std.proofs.lemmas.List.Quantifiers.{all_pairs_push}
 use Rattle.waff_plan.specs.Issues.{IsIssuedBefore}
 use Rattle.waff_plan.specs.Work.{Work, IsNumber, issue_of}
-use Rattle.waff_list.specs.IssueJoining.{AreJoining}
-use Rattle.waff_list.specs.Serving.{AreIssues, AreServed}
+use Rattle.waff_list.specs.Issuing.{AreJoining}
+use Rattle.waff_list.specs.Issuing.{AreIssues, AreServed}
 use Rattle.waff_list.specs.Waiting.{AreEach}
-use Rattle.waff_list.specs.declared.work.TheConstants.{NEVER}
+use Rattle.waff_plan.specs.declared.due.TheConstants.{NEVER}
 use Rattle.waff_list.proofs.CountLemmas.{times_none}
 use Rattle.waff_list.proofs.Each.{contains_first, contains_mapped, contains_more, each_apart, one_of, times_append}
 

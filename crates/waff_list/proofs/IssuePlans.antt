@@ -47,7 +47,7 @@ module _ (work : Work) (start other : ℕ → ℕ) (t : ℕ) (alike : (m : ℕ) 
   pub served_to : (tree : List Node) (assigned : List ℕ) (i m : ℕ) → issue_of work start m ≤ t → IsServedBefore tree assigned work start i m
       → IsServedBefore tree assigned work other i m
   served_to tree assigned i m issued pair =
-      record { first = pair.first; second = pair.second; issued = issued_to i m issued pair.issued; excludes = pair.excludes }
+      record { first = pair.first; second = pair.second; precedes = issued_to i m issued pair.precedes; excludes = pair.excludes }
 
   pub taken_to : (priority next : ℕ → ℕ) → AreSame work priority next → (i j : ℕ) → IsNumber work i → IsNumber work j → issue_of work start j ≤ t → IsTakenByIssue priority work start i j
       → IsTakenByIssue next work other i j
@@ -148,7 +148,7 @@ plan_by_issue_is_one tree assigned work follows runs Longest k start other (tail
     same_plans tree assigned work follows runs tail other_tail (client_tails_are_one work follows tail other_tail tails other_tails) k start other p q
 
 -- a list plan over the same pairs that takes the same first
-plan_over_same : (before near first second : Relation) (work : Work) → ((i j : ℕ) → before i j ↔ near i j) → ((i j : ℕ) → second i j → first i j)
+pub plan_over_same : (before near first second : Relation) (work : Work) → ((i j : ℕ) → before i j ↔ near i j) → ((i j : ℕ) → second i j → first i j)
     → (k : ℕ) (start : ℕ → ℕ) → IsListPlan before first work k start → IsListPlan near second work k start
 plan_over_same before near first second work same firsts k start h =
     let ready = λ (t m : ℕ) (r : IsReady near work start t m).

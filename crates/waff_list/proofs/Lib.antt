@@ -1,19 +1,14 @@
 mod IssueLemmas
-mod ClientLemmas
 pub mod Graham
 pub mod Pigeonhole
 mod Each
 mod Running
 mod Making
 mod Starting
-mod Filling
-mod Waking
 pub mod TraceWork
-mod Events
 mod PathPlans
 mod CountLemmas
 mod FinishLemmas
-mod Choosing
 mod OrderingLemmas
 mod TrailLemmas
 mod DependentLemmas
@@ -24,17 +19,20 @@ pub mod RuleLemmas
 pub mod ServedPlans
 pub mod IssuePlans
 mod ServiceLemmas
-mod ServicePlacing
-mod ServiceStarting
 mod IssueEvents
-mod IssueFilling
 mod ClientTasks
 mod IssueBeginning
 mod IssueJoining
 mod UnfinishedLemmas
 mod ServedLemmas
-mod ServiceJoining
 mod Telling
-mod ServiceWaking
-mod IssueKeeping
 mod TailMaking
+mod TailOrders
+mod Services
+mod Orders
+mod Keeping
+mod Placing
+mod Filling
+mod Issuing
+mod Learning
+mod Steps

@@ -10,12 +10,12 @@ use Rattle.waff_plan.specs.Work.{Work, IsNumber, IsAmongFirst, finish_of, issue_
 use Rattle.waff_plan.specs.Workers.{runs_at, running}
 use Rattle.waff_plan.specs.Timing.{start_of}
 use Rattle.waff_list.specs.ListRule.{IsReady, IsListPlan}
-use Rattle.waff_list.specs.Load.{Placed}
+use Rattle.waff_list.specs.Placed.{Placed}
 use Rattle.waff_list.specs.Seats.{ComesBefore, HoldsWorker, IsSeated}
 use Rattle.waff_list.specs.Seating.{worker_of}
 use Rattle.waff_list.specs.Progress.{IsSettled, IsOrderSoFar, IsProgressOf}
 use Rattle.waff_list.specs.Waiting.{AreEach, AreManned, AreFinishes, Runs}
-use Rattle.waff_list.specs.declared.work.TheConstants.{NEVER}
+use Rattle.waff_plan.specs.declared.due.TheConstants.{NEVER}
 use Rattle.waff_list.proofs.Each.{each_there, each_moved, each_same, each_apart, contains_rest_of, contains_first, contains_map, contains_mapped, manned_more}
 use Rattle.waff_list.proofs.TailLemmas.{IsAhead}
 use Rattle.waff_list.proofs.Uniqueness.{AreAlike, FollowsMessages}

@@ -1,9 +1,9 @@
 -- Comparisons of numbers, and of pairs by their first parts.
-use Rattle.std.proofs.Common.{◌≡◌, ℕ, ◌<◌, ◌≤◌, ◌⊎◌, inl, inr, subst, false, cond, nat_lt, nat_eq, refl, ap, sym, ◌∙◌}
+use Rattle.std.proofs.Common.{◌≡◌, ℕ, ◌<◌, ◌≤◌, ◌⊎◌, inl, inr, subst, false, cond, nat_lt, nat_eq, ap, sym, ◌∙◌}
 use Rattle.std.specs.Ordering.{nat_cmp, is_lt, ordering_then}
 use Rattle.std.specs.Cmp.{nat_cmp_is}
 use Rattle.std.specs.declared.cmp.Ordering.TheVariants.{Less, Equal, Greater}
-use Rattle.std.proofs.lemmas.Bool.{cases_lt, cases_order, lt-ltb, le-ltb, cond-true, cond-false, cond_both, false≢true}
+use Rattle.std.proofs.lemmas.Bool.{cases_lt, cases_order, lt-ltb, cond-true, false≢true}
 
 less_is : (x y : ℕ) → x < y → nat_cmp x y ≡ Less
 less_is x y less = cond-true (nat_lt x y) Less (cond (nat_eq x y) Equal Greater) (lt-ltb x y less)
@@ -14,18 +14,6 @@ not_less x y h = elim (cases_lt x y) [
   | inl less ↦ absurd (false≢true (sym h ∙ ap is_lt (less_is x y less)))
   | inr late ↦ late
 ]
-
-pub not_less_first : (a b : ℕ × ℕ) → is_lt (ordering_then (nat_cmp a.0 b.0) (nat_cmp a.1 b.1)) ≡ false → b.0 ≤ a.0
-not_less_first a b h = elim (cases_lt a.0 b.0) [
-  | inl less ↦ absurd (false≢true (sym h ∙ ap (λ o. is_lt (ordering_then o (nat_cmp a.1 b.1))) (less_is a.0 b.0 less)))
-  | inr late ↦ late
-]
-
--- and what is greater or equal is not less
-pub first_not_less : (a b : ℕ × ℕ) → is_lt (ordering_then (nat_cmp a.0 b.0) (nat_cmp a.1 b.1)) ≡ false → is_lt (nat_cmp a.0 b.0) ≡ false
-first_not_less a b h =
-    ap is_lt (cond-false (nat_lt a.0 b.0) Less (cond (nat_eq a.0 b.0) Equal Greater) (le-ltb a.0 b.0 (not_less_first a b h)))
-    ∙ cond_both (nat_eq a.0 b.0) Equal Greater (λ o. is_lt o ≡ false) (λ _. refl) (λ _. refl)
 
 -- what is no less, by the first parts and then the other way round by the second
 pub not_less_then : (a b m x : ℕ) → is_lt (ordering_then (nat_cmp a b) (nat_cmp x m)) ≡ false → (b < a) ⊎ ((a ≡ b) × (m ≤ x))

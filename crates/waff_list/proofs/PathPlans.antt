@@ -62,11 +62,6 @@ paths_of_needs tree assigned needs are = record {
   from = λ i j path. path_weaker (IsNeed needs) (IsOrdered tree assigned) are.ordered i j path;
 }
 
--- needs and the paths through them
-pub plan_over_paths : (near : Relation) (work : Work) (first : Relation) (k : ℕ) (start : ℕ → ℕ) → IsListPlan near first work k start → IsListPlan (Path near) first work k start
-plan_over_paths near work first k start h =
-    same_paths_same_plans near (Path near) work (record { to = λ i j path. path; from = λ i j pair. path_one (Path near) i j (path_one near i j pair) }) first k start h
-
 -- paths through needs and the ordered pairs
 pub plan_over_pairs : (tree : List Node) (assigned : List ℕ) (needs : List (List ℕ)) (work : Work) (first : Relation) (k : ℕ) (start : ℕ → ℕ) → AreNeeds tree assigned needs
     → IsListPlan (Path (IsNeed needs)) first work k start → IsListPlan (IsOrdered tree assigned) first work k start

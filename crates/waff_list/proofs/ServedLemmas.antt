@@ -1,13 +1,12 @@
 -- A message joins those that have joined, with its needs by number.
 use Rattle.std.proofs.Common.{◌≡◌, ◌≢◌, ℕ, ◌+◌, ◌-◌, ◌≤◌, inl, inr, List, [], ◌∷◌, ◌++◌, length, map, set, Contains, arith, ap, sym, ◌∙◌, subst, get_or-set_same, get_or-set_other, length-set}
-use Rattle.std.proofs.lemmas.Bool.{cases_eq, cases_lt}
+use Rattle.std.proofs.lemmas.Bool.{cases_lt}
 use Rattle.std.proofs.lemmas.List.{get_or_append_left, get_or_push, length_push}
 use Rattle.std.proofs.lemmas.List.Elements.{All-contains_itself, All-weaker, Contains-append_left, Contains-get_or, Contains-push}
 use Rattle.waff_model.specs.Numbers.{IsAmongFirst}
 use Rattle.waff_order.specs.Joined.{Joined}
 use Rattle.waff_order.specs.Needs.{AreLists, IsNeed, needs_of}
-use Rattle.waff_list.specs.Serving.{AreNeedsByNumber, served_at}
-use Rattle.waff_list.specs.Waiting.{AreDependents, Grows, dependents_of, times}
+use Rattle.waff_list.specs.Issuing.{AreNeedsByNumber, served_at}
 use Rattle.waff_list.proofs.Each.{map_same}
 
 module _ (messages : ℕ) (served : List ℕ) (m : ℕ) (joined after : Joined) (list : List ℕ) (needs : List (List ℕ)) (number : IsAmongFirst messages m) (new : Contains served m → ⊥)
@@ -71,24 +70,3 @@ module _ (messages : ℕ) (served : List ℕ) (m : ℕ) (joined after : Joined) 
         needs_other x (λ same. none (subst (λ y. Contains all y) (sym same) (Contains-push served m))) x_number.from
         ∙ told.of_others x x_number (λ there. none (Contains-append_left served (m ∷ []) x there));
   }
-
--- a message that had no needs has these from now on, and is noted with each
-pub dependents_joined : (needs old new : List (List ℕ)) (n m : ℕ) (xs : List ℕ) → 1 ≤ m → m ≤ n → length needs ≡ n → needs_of needs m ≡ [] → AreDependents needs old n → Grows old m new
-    → ((i : ℕ) → 1 ≤ i → times m (dependents_of new i) ≡ times m (dependents_of old i) + times i xs) → AreDependents (set needs (m - 1) xs) new n
-dependents_joined needs old new n m xs from to count none h grows added = record {
-  count = grows.count ∙ h.count ∙ sym (length-set needs (m - 1) xs);
-  each = λ i x i_from x_from x_to. elim (cases_eq x m) [
-    | inl same ↦
-        let nothing : times m (dependents_of old i) ≡ 0 = h.each i m i_from from to ∙ ap (times i) none in
-        let mine : needs_of (set needs (m - 1) xs) m ≡ xs = get_or-set_same needs (m - 1) xs [] (omega (arith, from, to, count)) in
-        subst (λ y. times y (dependents_of new i) ≡ times i (needs_of (set needs (m - 1) xs) y)) (sym same)
-        (subst (λ ys. times m (dependents_of new i) ≡ times i ys) (sym mine) (omega (arith, added i i_from, nothing)))
-    | inr other ↦
-        let apart : x - 1 ≢ m - 1 = omega (arith, from, x_from, other) in
-        grows.others i x other ∙ h.each i x i_from x_from x_to ∙ ap (times i) (sym (get_or-set_other needs (m - 1) (x - 1) xs [] apart))
-  ];
-  only = λ i x there. elim (grows.only i x there) [
-    | inl before ↦ h.only i x before
-    | inr is ↦ (omega (arith, is, from), omega (arith, is, to))
-  ];
-}

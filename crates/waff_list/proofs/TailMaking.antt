@@ -1,37 +1,44 @@
 -- The tails of messages while they are made, from the last message to the first. A message that has not had its turn holds the greatest
--- tail of those that it is before, of the ones that have.
-use Rattle.std.proofs.Common.{◌≡◌, ◌≢◌, ℕ, ◌+◌, ◌-◌, ◌*◌, ◌^◌, ◌<◌, ◌≤◌, ◌⊎◌, inl, inr, max, List, [], ◌∷◌, ◌++◌, length, get_or, set, take, All, Contains, arith, sym, ◌∙◌, ap, subst, get_or-set_same, get_or-set_other}
+-- tail of those that it holds back, of the ones that have, each with the gap between them.
+use Rattle.std.proofs.Common.{◌≡◌, ◌≢◌, ℕ, ◌+◌, ◌-◌, ◌*◌, ◌^◌, ◌<◌, ◌≤◌, ◌⊎◌, inl, inr, max, List, [], ◌∷◌, ◌++◌, length, get_or, set, take, Contains, Some, arith, refl, sym, ◌∙◌, subst, get_or-set_same, get_or-set_other}
 use Rattle.std.proofs.lemmas.Bool.{cases_eq, cases_lt, cases_order}
-use Rattle.std.proofs.lemmas.List.{get_or_default, length-set, take_more}
+use Rattle.std.proofs.lemmas.List.{length-set, take_more}
 use Rattle.std.proofs.lemmas.List.Elements.{Contains-append_left, Contains-push, Contains-push_cases}
-use Rattle.waff_model.specs.declared.limits.TheConstants.{MAX_MESSAGES}
 use Rattle.waff_assign.specs.Order.{Relation}
 use Rattle.waff_plan.specs.Work.{Work, IsNumber}
-use Rattle.waff_plan.specs.Obeys.{IsEarlier}
-use Rattle.waff_order.specs.Needs.{needs_of, IsNeed}
+use Rattle.waff_plan.specs.Obeys.{FollowsEarlier, FollowsOnce, IsEarlier}
+use Rattle.waff_list.specs.ByIssue.{AreClientTails}
 use Rattle.waff_list.specs.Tails.{tail_of, IsBeforeNone, AreTails, AreRaised}
 
--- the messages after message n have had their turns
-pub record AreTailsAfter (before : Relation) (work : Work) (tail : ℕ → ℕ) (n : ℕ) : Type 0 where
-  pub each : (m later : ℕ) → before m later → n < m → work.cost m + tail later ≤ tail m
-  pub one : (m : ℕ) → IsNumber work m → n < m → (IsBeforeNone before m × (tail m ≡ work.cost m))
-      ⊎ ((later : ℕ) × before m later × (tail m ≡ work.cost m + tail later))
-  pub best : (m later : ℕ) → before m later → m ≤ n → n < later → tail later ≤ tail m
-  pub best_one : (m : ℕ) → IsNumber work m → m ≤ n → (((later : ℕ) → before m later → later ≤ n) × (tail m ≡ 0))
-      ⊎ ((later : ℕ) × before m later × (n < later) × (tail m ≡ tail later))
-  pub small : (m : ℕ) → IsNumber work m → tail m ≤ (work.count - n) * 2 ^ 32
+module _ (before : Relation) (work : Work) (gap : ℕ → ℕ) where
+  -- what hangs on a message behind its cost, where this later one does
+  abbrev behind : (ℕ → ℕ) → ℕ → ℕ
+  behind tail later = gap later + tail later
 
--- message n has had its turn
-pub record TakesTurn (before : Relation) (work : Work) (old new : ℕ → ℕ) (n : ℕ) : Type 0 where
-  pub here : new n ≡ old n + work.cost n
-  pub later : (m : ℕ) → n < m → new m ≡ old m
-  pub each : (m : ℕ) → before m n → new n ≤ new m
-  pub kept : (m : ℕ) → 1 ≤ m → m < n → old m ≤ new m
-  pub one : (m : ℕ) → 1 ≤ m → m < n → (new m ≡ old m) ⊎ (before m n × (new m ≡ new n))
+  -- the tail of message m is its cost, and the greatest of what hangs on it
+  abbrev IsTail : (ℕ → ℕ) → ℕ → Type 0
+  IsTail tail m = (IsBeforeNone before m × (tail m ≡ work.cost m)) ⊎ ((later : ℕ) × before m later × (tail m ≡ work.cost m + behind tail later))
 
-module _ (before : Relation) (work : Work) (forward : (i j : ℕ) → before i j → IsEarlier work i j) where
+  -- the messages after message n have had their turns
+  pub record AreTailsAfter (tail : ℕ → ℕ) (n : ℕ) : Type 0 where
+    pub each : (m later : ℕ) → before m later → n < m → work.cost m + behind tail later ≤ tail m
+    pub one : (m : ℕ) → IsNumber work m → n < m → IsTail tail m
+    pub best : (m later : ℕ) → before m later → m ≤ n → n < later → behind tail later ≤ tail m
+    pub best_one : (m : ℕ) → IsNumber work m → m ≤ n → (((later : ℕ) → before m later → later ≤ n) × (tail m ≡ 0))
+        ⊎ ((later : ℕ) × before m later × (n < later) × (tail m ≡ behind tail later))
+    pub small : (m : ℕ) → IsNumber work m → tail m ≤ (work.count - n) * 2 ^ 33
+
+  -- message n has had its turn
+  pub record TakesTurn (old new : ℕ → ℕ) (n : ℕ) : Type 0 where
+    pub here : new n ≡ old n + work.cost n
+    pub later : (m : ℕ) → n < m → new m ≡ old m
+    pub each : (m : ℕ) → before m n → behind new n ≤ new m
+    pub kept : (m : ℕ) → 1 ≤ m → m < n → old m ≤ new m
+    pub one : (m : ℕ) → 1 ≤ m → m < n → (new m ≡ old m) ⊎ (before m n × (new m ≡ behind new n))
+
+module _ (before : Relation) (work : Work) (gap : ℕ → ℕ) (forward : (i j : ℕ) → before i j → IsEarlier work i j) where
   -- no message has had its turn
-  pub tails_none : (tail : ℕ → ℕ) → ((m : ℕ) → tail m ≡ 0) → AreTailsAfter before work tail work.count
+  pub tails_none : (tail : ℕ → ℕ) → ((m : ℕ) → tail m ≡ 0) → AreTailsAfter before work gap tail work.count
   tails_none tail none = record {
     each = λ m later pair after. absurd (omega (arith, after, (forward m later pair).earlier, (forward m later pair).to));
     one = λ m number after. absurd (omega (arith, after, number.to));
@@ -40,22 +47,15 @@ module _ (before : Relation) (work : Work) (forward : (i j : ℕ) → before i j
     small = λ m number. omega (arith, none m);
   }
 
-  -- all have
-  pub tails_all : (tail : ℕ → ℕ) → AreTailsAfter before work tail 0 → AreTails before work tail
-  tails_all tail h = record {
-    each = λ m later pair. h.each m later pair (omega (arith, (forward m later pair).from));
-    one = λ m number. h.one m number (omega (arith, number.from));
-  }
-
-  module _ (old new : ℕ → ℕ) (n : ℕ) (number : IsNumber work n) (some : 1 ≤ work.cost n) (little : work.cost n < 2 ^ 32)
-      (h : AreTailsAfter before work old n) (turn : TakesTurn before work old new n) where
+  module _ (old new : ℕ → ℕ) (n : ℕ) (number : IsNumber work n) (some : 1 ≤ work.cost n) (little : work.cost n < 2 ^ 32) (short : gap n < 2 ^ 32)
+      (h : AreTailsAfter before work gap old n) (turn : TakesTurn before work gap old new n) where
     from : 1 ≤ n
     from = number.from
 
     to : n ≤ work.count
     to = number.to
 
-    each_more : (m later : ℕ) → before m later → n - 1 < m → work.cost m + new later ≤ new m
+    each_more : (m later : ℕ) → before m later → n - 1 < m → work.cost m + behind before work gap new later ≤ new m
     each_more m later pair after =
         let earlier = (forward m later pair).earlier in
         let kept = turn.later later (omega (arith, after, earlier)) in
@@ -68,36 +68,36 @@ module _ (before : Relation) (work : Work) (forward : (i j : ℕ) → before i j
               omega (arith, kept, turn.later m past, h.each m later pair past)
         ]
 
-    one_here : (IsBeforeNone before n × (new n ≡ work.cost n)) ⊎ ((later : ℕ) × before n later × (new n ≡ work.cost n + new later))
+    one_here : IsTail before work gap new n
     one_here = elim (h.best_one n number (omega arith)) [
       | inl (none, zero) ↦ inl ((λ later pair. absurd (omega (arith, (forward n later pair).earlier, none later pair))), omega (arith, zero, turn.here))
       | inr (later, pair, after, was) ↦ inr (later, pair, omega (arith, was, turn.here, turn.later later after))
     ]
 
     one_after : (m : ℕ) → IsNumber work m → n < m
-        → (IsBeforeNone before m × (new m ≡ work.cost m)) ⊎ ((later : ℕ) × before m later × (new m ≡ work.cost m + new later))
+        → IsTail before work gap new m
     one_after m m_number after = elim (h.one m m_number after) [
       | inl (none, was) ↦ inl (none, turn.later m after ∙ was)
       | inr (later, pair, was) ↦ inr (later, pair, omega (arith, was, turn.later m after, turn.later later (omega (arith, after, (forward m later pair).earlier))))
     ]
 
     one_more : (m : ℕ) → IsNumber work m → n - 1 < m
-        → (IsBeforeNone before m × (new m ≡ work.cost m)) ⊎ ((later : ℕ) × before m later × (new m ≡ work.cost m + new later))
+        → IsTail before work gap new m
     one_more m m_number after = elim (cases_eq m n) [
-      | inl here ↦ subst (λ x. (IsBeforeNone before x × (new x ≡ work.cost x)) ⊎ ((later : ℕ) × before x later × (new x ≡ work.cost x + new later))) (sym here) one_here
+      | inl here ↦ subst (IsTail before work gap new) (sym here) one_here
       | inr other ↦ one_after m m_number (omega arith)
     ]
 
-    best_more : (m later : ℕ) → before m later → m ≤ n - 1 → n - 1 < later → new later ≤ new m
+    best_more : (m later : ℕ) → before m later → m ≤ n - 1 → n - 1 < later → behind before work gap new later ≤ new m
     best_more m later pair early after = elim (cases_eq later n) [
-      | inl here ↦ rw here (turn.each m (subst (λ x. before m x) here pair))
+      | inl here ↦ subst (λ x. behind before work gap new x ≤ new m) (sym here) (turn.each m (subst (λ x. before m x) here pair))
       | inr other ↦
           let past : n < later = omega (arith, after, other) in
           omega (arith, turn.later later past, h.best m later pair (omega (arith, early)) past, turn.kept m ((forward m later pair).from) (omega (arith, early)))
     ]
 
     best_one_more : (m : ℕ) → IsNumber work m → m ≤ n - 1
-        → (((later : ℕ) → before m later → later ≤ n - 1) × (new m ≡ 0)) ⊎ ((later : ℕ) × before m later × (n - 1 < later) × (new m ≡ new later))
+        → (((later : ℕ) → before m later → later ≤ n - 1) × (new m ≡ 0)) ⊎ ((later : ℕ) × before m later × (n - 1 < later) × (new m ≡ behind before work gap new later))
     best_one_more m m_number early = elim (turn.one m m_number.from (omega arith)) [
       | inl kept ↦ elim (h.best_one m m_number (omega arith)) [
         | inl (none, zero) ↦ inl (
@@ -112,28 +112,19 @@ module _ (before : Relation) (work : Work) (forward : (i j : ℕ) → before i j
       | inr (pair, is) ↦ inr (n, pair, omega arith, is)
     ]
 
-    small_more : (m : ℕ) → IsNumber work m → new m ≤ (work.count - (n - 1)) * 2 ^ 32
+    small_more : (m : ℕ) → IsNumber work m → new m ≤ (work.count - (n - 1)) * 2 ^ 33
     small_more m m_number =
         let was = h.small m m_number in
-        let most : (work.count - (n - 1)) * 2 ^ 32 ≡ (work.count - n) * 2 ^ 32 + 2 ^ 32 = omega arith in
-        let here : new n ≤ (work.count - (n - 1)) * 2 ^ 32 = omega (arith, h.small n number, turn.here) in
+        let most : (work.count - (n - 1)) * 2 ^ 33 ≡ (work.count - n) * 2 ^ 33 + 2 ^ 33 = omega arith in
+        let here : new n ≤ (work.count - (n - 1)) * 2 ^ 33 = omega (arith, h.small n number, turn.here) in
         elim (cases_order m n) [
           | inl same ↦ rw same here
-          | inr (inl early) ↦ elim (turn.one m m_number.from early) [ inl kept ↦ omega (arith, was, kept) | inr (_, is) ↦ omega (arith, is, here) ]
+          | inr (inl early) ↦ elim (turn.one m m_number.from early) [ inl kept ↦ omega (arith, was, kept) | inr (_, is) ↦ omega (arith, is, h.small n number, turn.here, short) ]
           | inr (inr after) ↦ omega (arith, was, turn.later m after)
         ]
 
-    pub tails_more : AreTailsAfter before work new (n - 1)
+    pub tails_more : AreTailsAfter before work gap new (n - 1)
     tails_more = record { each = each_more; one = one_more; best = best_more; best_one = best_one_more; small = small_more }
-
-  -- no tail is great
-  pub tails_small : (tails : List ℕ) → length tails ≡ work.count → work.count ≤ MAX_MESSAGES → AreTailsAfter before work (tail_of tails) 0
-      → All (λ tail. tail ≤ 2 ^ 52) tails
-  tails_small tails count few h = λ k d within.
-      let here : get_or tails (k + 1 - 1) 0 ≤ (work.count - 0) * 2 ^ 32 = h.small (k + 1) (record { from = omega arith; to = omega arith }) in
-      let at : k + 1 - 1 ≡ k = omega arith in
-      let is : get_or tails (k + 1 - 1) 0 ≡ get_or tails k d = ap (λ i. get_or tails i 0) at ∙ get_or_default tails k 0 d within in
-      omega arith
 
 -- the tail of one message more has been raised
 module _ (old new messages : List ℕ) (tail at : ℕ) (inside : at < length messages) (from : 1 ≤ get_or messages at 0) (to : get_or messages at 0 ≤ length new)
@@ -193,9 +184,11 @@ module _ (old new messages : List ℕ) (tail at : ℕ) (inside : at < length mes
     one = one;
   }
 
--- a message that has its cost, and whose needs have been raised to its tail, has had its turn
-module _ (needs : List (List ℕ)) (work : Work) (forward : (i j : ℕ) → IsNeed needs i j → IsEarlier work i j) (old new : List ℕ) (n tail : ℕ) (from : 1 ≤ n) (to : n ≤ length old)
-    (sum : tail ≡ tail_of old n + work.cost n) (h : AreRaised (set old (n - 1) tail) (needs_of needs n) tail new) where
+-- a message that has its cost, and the messages that it holds back raised to what then hangs on it, has had its turn
+module _ (before : Relation) (work : Work) (gap : ℕ → ℕ) (forward : (i j : ℕ) → before i j → IsEarlier work i j)
+    (old new raised : List ℕ) (n tail most : ℕ) (from : 1 ≤ n) (to : n ≤ length old) (sum : tail ≡ tail_of old n + work.cost n)
+    (listed : (m : ℕ) → before m n → Contains raised m × (gap n + tail ≡ most)) (only : (m : ℕ) → Contains raised m → before m n)
+    (h : AreRaised (set old (n - 1) tail) raised most new) where
   set_here : tail_of (set old (n - 1) tail) n ≡ tail
   set_here = get_or-set_same old (n - 1) tail 0 (omega arith)
 
@@ -205,26 +198,59 @@ module _ (needs : List (List ℕ)) (work : Work) (forward : (i j : ℕ) → IsNe
   tail_is : tail_of new n ≡ tail
   tail_is = elim (h.one n from) [
     | inl kept ↦ kept ∙ set_here
-    | inr (_, is) ↦ is
+    | inr (there, _) ↦ absurd (omega (arith, (forward n n (only n there)).earlier))
   ]
-
-  is_need : (m : ℕ) → Contains (needs_of needs n) m → IsNeed needs m n
-  is_need m listed = record { from = from; listed = listed }
 
   is_later : (m : ℕ) → n < m → tail_of new m ≡ tail_of old m
   is_later m after = elim (h.one m (omega arith)) [
     | inl kept ↦ kept ∙ set_other m (omega arith) (omega arith)
-    | inr (listed, _) ↦ absurd (omega (arith, after, (forward m n (is_need m listed)).earlier))
+    | inr (there, _) ↦ absurd (omega (arith, after, (forward m n (only m there)).earlier))
   ]
 
-  pub takes_turn : TakesTurn (IsNeed needs) work (tail_of old) (tail_of new) n
+  pub takes_turn : TakesTurn before work gap (tail_of old) (tail_of new) n
   takes_turn = record {
     here = tail_is ∙ sum;
     later = is_later;
-    each = λ m need. omega (arith, h.each m need.listed, tail_is);
+    each = λ m pair. let there = listed m pair in omega (arith, h.each m there.0, there.1, tail_is);
     kept = λ m m_from early. rw (set_other m m_from (omega (arith, early))) at (h.kept m);
     one = λ m m_from early. elim (h.one m m_from) [
       | inl kept ↦ inl (kept ∙ set_other m m_from (omega (arith, early)))
-      | inr (listed, is) ↦ inr (is_need m listed, is ∙ sym tail_is)
+      | inr (there, is) ↦ let pair = only m there in inr (pair, omega (arith, is, (listed m pair).1, tail_is))
     ];
   }
+
+-- no message is raised
+pub raised_none : (old : List ℕ) (most : ℕ) → AreRaised old [] most old
+raised_none old most = record {
+  count = refl;
+  each = λ m there. absurd (omega (arith, there.1));
+  kept = λ m. omega arith;
+  one = λ m from. inl refl;
+}
+
+-- all have had their turns: over needs, with no gaps
+pub tails_over : (before : Relation) (work : Work) → ((i j : ℕ) → before i j → IsEarlier work i j)
+    → (tail : ℕ → ℕ) → AreTailsAfter before work (λ m. 0) tail 0 → AreTails before work tail
+tails_over before work forward tail h = record {
+  each = λ m later pair. omega (arith, h.each m later pair (omega (arith, (forward m later pair).from)));
+  one = λ m number. elim (h.one m number (omega (arith, number.from))) [
+    | inl none ↦ inl none
+    | inr (later, pair, is) ↦ inr (later, pair, omega (arith, is))
+  ];
+}
+
+-- and of clients
+pub tails_of_clients : (work : Work) → FollowsEarlier work → FollowsOnce work → (tail : ℕ → ℕ)
+    → AreTailsAfter (λ i m. work.follows m ≡ Some i) work work.think tail 0 → AreClientTails work tail
+tails_of_clients work earlier once tail h = record {
+  next = λ m n number follow.
+      let before = earlier m n follow in
+      elim (h.one m (record { from = before.from; to = omega (arith, before.earlier, before.to) }) (omega (arith, before.from))) [
+        | inl (none, _) ↦ absurd (none n follow)
+        | inr (later, pair, is) ↦ subst (λ x. tail m ≡ work.cost m + (work.think x + tail x)) (once m later n pair follow) is
+      ];
+  last = λ m number none. elim (h.one m number (omega (arith, number.from))) [
+    | inl (_, is) ↦ is
+    | inr (later, pair, _) ↦ let before = earlier m later pair in absurd (none later (record { from = omega (arith, before.from, before.earlier); to = before.to }) pair)
+  ];
+}

@@ -2,7 +2,7 @@
 use Rattle.std.proofs.Common.{◌≡◌, ℕ, zero, suc, ◌+◌, ◌-◌, ◌<◌, ◌≤◌, List, [], ◌∷◌, ◌++◌, length, map, get_or, set, replicate, All, arith, refl, ap, sym, ◌∙◌, subst, inl, inr}
 use Rattle.std.proofs.lemmas.Bool.{cases_lt}
 use Rattle.std.proofs.lemmas.List.{get_or_push, get_or_append_left, get_or-map, length_push, length-map, length-replicate, map-set, get_or-replicate}
-use Rattle.std.proofs.lemmas.List.Elements.{All-set, All-weaker, All-get_or, All-replicate}
+use Rattle.std.proofs.lemmas.List.Elements.{All-weaker, All-get_or, All-replicate}
 use Rattle.waff_list.proofs.Each.{map_same}
 use Rattle.waff_list.specs.Trails.{link_at, trail, trails, AreLinked}
 use Rattle.waff_list.specs.declared.dependents.Dependents.{Dependents}
@@ -85,16 +85,6 @@ module _ (d new : Dependents) (at m : ℕ) (linked : AreLinked d) (to : at < len
             let below : l.next < count + 1 = omega (arith, first_within) in
             subst (λ k. (link_at (links ++ l ∷ []) k).next < k) (sym is) (subst (λ (x : Link). x.next < count + 1) (sym last) below)
       ]
-
-  pub linked_more : AreLinked new
-  linked_more = record {
-    firsts = subst (λ xs. All (λ n. n ≤ length xs) new.firsts.items) (sym links_are)
-        (subst (λ xs. All (λ n. n ≤ length (links ++ l ∷ [])) xs) (sym firsts_are)
-        (let long : length (links ++ l ∷ []) ≡ count + 1 = length_push links l in
-        All-set (λ n. n ≤ length (links ++ l ∷ [])) firsts at (count + 1) (omega (arith, long))
-        (All-weaker (λ n. n ≤ count) (λ n. n ≤ length (links ++ l ∷ [])) (λ n within. omega (arith, long, within)) firsts linked.firsts)));
-    earlier = subst AreBack (sym links_are) back_more;
-  }
 
   pub one_more : length new.links.items ≡ length d.links.items + 1
   one_more = ap length links_are ∙ length_push links l

@@ -1,14 +1,13 @@
 -- How many needs of a message that joins have not finished.
-use Rattle.std.proofs.Common.{◌≡◌, ◌≢◌, ℕ, ◌+◌, ◌-◌, ◌<◌, ◌≤◌, ◌⊎◌, cond, nat_eq, nat_lt, inl, inr, List, [], ◌∷◌, length, map, set, sum_by, count_by, All, Contains, arith, refl, ap, sym, ◌∙◌, subst, get_or-set_same, get_or-set_other, length-set}
+use Rattle.std.proofs.Common.{◌≡◌, ◌≢◌, ℕ, ◌+◌, ◌<◌, ◌≤◌, ◌⊎◌, cond, nat_eq, nat_lt, inl, inr, List, [], ◌∷◌, map, sum_by, count_by, All, Contains, arith, refl, ap, sym}
 use Rattle.std.proofs.lemmas.Bool.{cases_eq, cases_lt, cond-true, cond-false, eq-eqb, ne_eqb, lt-ltb, le-ltb}
 use Rattle.std.proofs.lemmas.List.Elements.{All-contains, All-head, All-tail}
 use Rattle.std.proofs.lemmas.List.Sums.{sum_by-cons}
 use Rattle.waff_plan.specs.Work.{Work, IsNumber, finish_of}
-use Rattle.waff_order.specs.Needs.{needs_of}
-use Rattle.waff_list.specs.IssueJoining.{unfinished}
+use Rattle.waff_list.specs.Issuing.{unfinished}
 use Rattle.waff_list.specs.Seating.{worker_of}
-use Rattle.waff_list.specs.Waiting.{AreFinishes, AreLeft, AreManned, Runs, left_of, times}
-use Rattle.waff_list.specs.declared.work.TheConstants.{NEVER}
+use Rattle.waff_list.specs.Waiting.{AreFinishes, AreManned, Runs, times}
+use Rattle.waff_plan.specs.declared.due.TheConstants.{NEVER}
 use Rattle.waff_list.proofs.CountLemmas.{sum_none, sum_some}
 use Rattle.waff_list.proofs.Each.{contains_map, times_append}
 use Rattle.std.proofs.lemmas.List.Elements.{Contains-append_right}
@@ -117,23 +116,3 @@ module _ (work : Work) (start : ℕ → ℕ) (now workers : ℕ) (seats : List �
         sum_by-cons (λ i. cond {A = ℕ} (nat_lt now (finish_of work start i)) 1 0) x xs,
         sum_by-cons (λ i. cond {A = ℕ} (nat_eq (start i) NEVER) 1 0) x xs,
       )
-
--- a message has needs from now on: its count is theirs
-pub left_joined : (needs : List (List ℕ)) (start : ℕ → ℕ) (finishes : List (ℕ × ℕ)) (left : List ℕ) (m : ℕ) (xs : List ℕ) (value : ℕ) → 1 ≤ m → m ≤ length needs
-    → value ≡ count_by (λ i. nat_eq (start i) NEVER) xs + sum_by (λ (r : ℕ × ℕ). times r.1 xs) finishes → AreLeft needs start finishes left
-    → AreLeft (set needs (m - 1) xs) start finishes (set left (m - 1) value)
-left_joined needs start finishes left m xs value from to is h = record {
-  count = length-set left (m - 1) value ∙ h.count ∙ sym (length-set needs (m - 1) xs);
-  counts = λ x x_from x_to. elim (cases_eq x m) [
-    | inl same ↦
-        let mine : needs_of (set needs (m - 1) xs) x ≡ xs = ap (needs_of (set needs (m - 1) xs)) same ∙ get_or-set_same needs (m - 1) xs [] (omega (arith, from, to)) in
-        let count : left_of (set left (m - 1) value) x ≡ value = ap (left_of (set left (m - 1) value)) same ∙ get_or-set_same left (m - 1) value 0 (omega (arith, from, to, h.count)) in
-        subst (λ ys. left_of (set left (m - 1) value) x ≡ count_by (λ i. nat_eq (start i) NEVER) ys + sum_by (λ (r : ℕ × ℕ). times r.1 ys) finishes) (sym mine) (count ∙ is)
-    | inr other ↦
-        let apart : x - 1 ≢ m - 1 = omega (arith, from, x_from, other) in
-        let mine : needs_of (set needs (m - 1) xs) x ≡ needs_of needs x = get_or-set_other needs (m - 1) (x - 1) xs [] apart in
-        let count : left_of (set left (m - 1) value) x ≡ left_of left x = get_or-set_other left (m - 1) (x - 1) value 0 apart in
-        subst (λ ys. left_of (set left (m - 1) value) x ≡ count_by (λ i. nat_eq (start i) NEVER) ys + sum_by (λ (r : ℕ × ℕ). times r.1 ys) finishes) (sym mine)
-        (count ∙ h.counts x x_from (omega (arith, x_to, length-set needs (m - 1) xs)))
-  ];
-}

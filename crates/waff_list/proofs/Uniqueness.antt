@@ -115,25 +115,9 @@ pub alike_turned : (work : Work) (before near first second : Relation) (start ot
 alike_turned work before near first second start other t h =
     record { before_to = h.before_back; before_back = h.before_to; first_to = h.first_back; first_back = h.first_to }
 
--- so do two plans with the same order and what they take first
-pub alike_same : (work : Work) (before first : Relation) (start other : ℕ → ℕ) (t : ℕ) → AreAlike work before before first first start other t
-alike_same work before first start other t = record {
-  before_to = λ i m issued pair. pair;
-  before_back = λ i m issued pair. pair;
-  first_to = λ i j i_number j_number i_issued j_issued takes. takes;
-  first_back = λ i j i_number j_number i_issued j_issued takes. takes;
-}
-
 -- each message that is followed is one
 abbrev pub FollowsMessages : Work → Type 0
 FollowsMessages work = (f m : ℕ) → work.follows m ≡ Some f → IsNumber work f
-
--- those of pairs that go forward are messages, and so is what is followed
-pub numbers_of : (before : Relation) (work : Work) → IsForward before work → (i j : ℕ) → before i j → IsNumber work i × IsNumber work j
-numbers_of before work forward i j pair = (forward.first i j (inl pair), forward.second i j (inl pair))
-
-pub followed_of : (before : Relation) (work : Work) → IsForward before work → FollowsMessages work
-followed_of before work forward f m follows = forward.first f m (inr follows)
 
 -- where plans start the same messages below t, they issue the same by t
 pub issue_alike : (work : Work) → FollowsMessages work → EachRuns work → (start other : ℕ → ℕ) (t : ℕ) → AreSameBelow work start other t → (m : ℕ)

@@ -1,65 +1,149 @@
--- The planner's steps, over what it keeps.
-use Rattle.std.specs.Prelude.{◌≡◌, ℕ, ◌+◌, ◌-◌, ◌≤◌, List, [], ◌∷◌, ◌++◌, length, All, slice_set}
+-- What the planner keeps, in its own values.
+use Rattle.std.specs.Prelude.{◌≡◌, ◌≢◌, ℕ, ◌+◌, ◌-◌, ◌<◌, ◌≤◌, List, [], ◌∷◌, ◌++◌, length, map, Contains}
+use Rattle.std.specs.Prelude.{slice_set, sum_by, ⊤}
 use Rattle.std.specs.List.Sorted.{IsPermutation}
-use Rattle.waff_model.specs.Numbers.{IsAmongFirst}
-use Rattle.waff_plan.specs.Work.{Work}
-use Rattle.waff_list.specs.Load.{Load, Placed, Pending, released_at}
-use Rattle.waff_list.specs.Progress.{work_of_messages}
-use Rattle.waff_list.specs.Waiting.{left_of, running_needs, IsReleased, StayReady}
+use Rattle.waff_assign.specs.Order.{affinity_of}
+use Rattle.waff_order.specs.Joined.{HaveJoined}
+use Rattle.waff_order.specs.Needs.{AreLists, needs_of}
+use Rattle.waff_plan.specs.Obeys.{FollowsNone}
+use Rattle.waff_plan.specs.Pending.{IsFollower}
+use Rattle.waff_plan.specs.Timing.{start_of, work_of}
+use Rattle.waff_plan.specs.Work.{Work, IsNumber, finish_of}
+use Rattle.waff_list.specs.Issuing.{AreIssues, AreJoining, AreNeedsByNumber, AreServed}
+use Rattle.waff_list.specs.Issuing.{IsIssuedNext, unfinished}
+use Rattle.waff_list.specs.Placed.{Pending, Placed}
+use Rattle.waff_list.specs.Plannable.{IsKept, IsPlannedTo, Plannable}
+use Rattle.waff_list.specs.Ready.{AreRanked, ranked_in}
+use Rattle.waff_list.specs.Telling.{Basis, basis_of, order_by, priority_in}
+use Rattle.waff_list.specs.Trails.{AreLinked, trails}
+use Rattle.waff_list.specs.Waiting.{AreDependents, Grows, LeavesLeast, dependents_of, left_of, times}
 use Rattle.waff_list.specs.declared.progress.Progress.{Progress}
+use Rattle.waff_list.specs.declared.issued.Issued.{Issued}
+use Rattle.waff_list.specs.declared.service.Service.{Service}
+use Rattle.waff_list.specs.declared.service.Service.TheVariants.{ByIssue, ByNumber}
 use Rattle.waff_list.specs.declared.task.Task.{Task}
 use Rattle.waff_list.specs.declared.waiting.Waiting.{Waiting}
 
--- the work of a task
-abbrev pub task_work : Task → Work
-task_work task = released_at task.releases.items (work_of_messages task.trace.now.messages)
-
--- what is planned of a task with these priorities
-abbrev pub load_of : Task → List ℕ → Load
-load_of task priorities = record {
-  needs = task.needs.now;
-  priorities = priorities;
-  work = task_work task;
+-- what is planned of a task
+abbrev pub plannable_of : Task → Basis → Plannable
+plannable_of task basis = record {
+  order = order_by basis (work_of task.timings.items);
+  work = work_of task.timings.items;
+  priority = priority_in task;
   workers = task.workers;
 }
 
 abbrev pub placed_in : Progress → Placed
 placed_in p = record { starts = p.starts.items; seats = p.seats.items; order = p.order.items }
 
-abbrev pub pending_in : Progress → Waiting → Pending
-pending_in p w = record {
+-- with these messages ready before those that are kept so
+abbrev pub pending_in : Progress → Waiting → List ℕ → Pending
+pending_in p w rest = record {
   finishes = p.finishes;
   idle = p.idle;
   left = w.left.items;
-  ready = w.ready.messages;
+  ready = rest ++ ranked_in w.ready;
 }
 
--- each message that runs is one of the trace, and is counted wherever it is a need
-pub record AreCounted (needs : List (List ℕ)) (finishes : List (ℕ × ℕ)) (left : List ℕ)
+-- the plan has been made up to the tick now and the message turn
+abbrev pub IsPlanned : Task → Basis → Progress → ℕ → ℕ → ℕ → Type 0
+IsPlanned task basis p = IsPlannedTo (plannable_of task basis) (placed_in p)
+
+-- these are the messages that have joined, and these the needs of each by number; there are no more links
+-- than needs
+pub record AreJoined (issues : Issued) (count : ℕ) (issued : List ℕ) (needs : List (List ℕ))
+    (links : ℕ) : Type 0 where
+  pub messages : issues.messages.items ≡ issued
+  pub joined : HaveJoined issues.case.tree.now issues.spans.now
+      (map (affinity_of issues.case.assigned.now) issued) issues.joining
+  pub told : AreNeedsByNumber count issued issues.joining needs
+  pub few : links ≤ sum_by length issues.joining.needs
+
+-- these are the needs that are known, of the messages that are issued so far
+abbrev pub AreKnown : Service → ℕ → List ℕ → List (List ℕ) → ℕ → Type 0
+AreKnown (ByNumber all) count issued needs links = needs ≡ all.now
+AreKnown (ByIssue issues) count issued needs links = AreJoined issues count issued needs links
+
+-- the service is one of messages with this work; where it is by number no message follows another
+abbrev pub Fits : Service → Work → Type 0
+Fits (ByNumber needs) work = (length needs.now ≡ work.count) × FollowsNone work × AreLists needs.now
+Fits (ByIssue issues) work = length issues.case.assigned.now ≡ work.count
+
+-- no message has been issued yet
+abbrev pub IsFresh : Service → Type 0
+IsFresh (ByNumber needs) = ⊤
+IsFresh (ByIssue issues) = (issues.messages.items ≡ [])
+    × HaveJoined issues.case.tree.now issues.spans.now [] issues.joining
+
+-- a new one: by number each message waits for its issue and for its needs, by issue for its issue alone
+pub record IsNoneIssued (w : Waiting) (work : Work) : Type 0 where
+  pub needs : List (List ℕ)
+  pub known : AreKnown w.service work.count [] needs (length w.dependents.links.items)
+  pub linked : AreLinked w.dependents
+  pub dependents : AreDependents needs (trails w.dependents) work.count
+  pub count : length w.left.items ≡ work.count
+  pub left : (m : ℕ) → IsNumber work m → left_of w.left.items m ≡ length (needs_of needs m) + 1
+  pub ready : w.ready ≡ []
+
+-- message m is one that is not issued yet, after these
+pub record IsNew (work : Work) (issued : List ℕ) (m : ℕ) : Type 0 where
+  pub number : IsNumber work m
+  pub new : Contains issued m → ⊥
+  pub numbers : (x : ℕ) → Contains issued x → IsNumber work x
+  pub room : length issued < work.count
+
+-- message m is issued: its needs are known from now on, it is noted with those that have not finished by
+-- now, and waits for so many things more
+pub record IsLearnt (service : Service) (work : Work) (start : ℕ → ℕ) (now : ℕ) (issued : List ℕ)
+    (needs : List (List ℕ)) (m : ℕ) (old new : List (List ℕ)) (links left : ℕ) : Type 0 where
+  pub more : List (List ℕ)
+  pub known : AreKnown service work.count (issued ++ m ∷ []) more links
+  pub others : (x : ℕ) → 1 ≤ x → x ≢ m → needs_of more x ≡ needs_of needs x
+  pub grows : Grows old m new
+  pub added : (i : ℕ) → 1 ≤ i → now < finish_of work start i
+      → times m (dependents_of new i) + times i (needs_of needs m)
+      ≡ times m (dependents_of old i) + times i (needs_of more m)
+  pub waits : left + unfinished work start now (needs_of needs m)
+      ≡ unfinished work start now (needs_of more m)
+
+-- what is kept of the messages that wait, and of those that run, where these messages are ready before
+-- those that are kept so, and these are issued
+pub record IsWaiting (task : Task) (p : Progress) (w : Waiting) (rest issued : List ℕ) (now : ℕ)
     : Type 0 where
-  pub numbers : All (λ r. IsAmongFirst (length needs) r.1) finishes
-  pub count : length left ≡ length needs
-  pub counts : (m : ℕ) → 1 ≤ m → m ≤ length needs
-      → running_needs needs finishes m ≤ left_of left m
+  pub needs : List (List ℕ)
+  pub kept : IsKept (plannable_of task (basis_of w.service)) (placed_in p) (pending_in p w rest)
+      (trails w.dependents) issued needs now
+  pub known : AreKnown w.service (length task.timings.items) issued needs
+      (length w.dependents.links.items)
+  pub fits : Fits w.service (work_of task.timings.items)
+  pub linked : AreLinked w.dependents
+  pub ranked : AreRanked (priority_in task)
+      ((order_by (basis_of w.service) (work_of task.timings.items)).key (start_of p.starts.items))
+      w.ready
 
--- messages have been told of needs that have finished, and those are ready that need nothing more
--- and have been released by now
-pub record Wakes (work : Work) (now : ℕ) (old new : Waiting) : Type 0 where
-  pub count : length new.left.items ≡ length old.left.items
-  pub ready : StayReady work (IsReleased work now) old.left.items old.ready.messages
-      (IsReleased work now) new.left.items new.ready.messages
-  pub same : new.ready.priorities ≡ old.ready.priorities
+-- while messages are issued: these issues are known, of messages that are still to be issued
+pub record AreIssuing (task : Task) (p : Progress) (w : Waiting) (issues : List (ℕ × ℕ)) (now : ℕ)
+    : Type 0 where
+  pub issued : List ℕ
+  pub joining : AreJoining (work_of task.timings.items) (start_of p.starts.items) now issued issues
+  pub waiting : IsWaiting task p w [] issued now
 
--- the message is one of the plan's
-pub record IsInside (p : Progress) (message : ℕ) : Type 0 where
-  pub from : 1 ≤ message
-  pub started : message ≤ length p.starts.items
-  pub sat : message ≤ length p.seats.items
+-- all that are issued by now have been, and messages start, these before those that are kept ready
+pub record AreStarting (task : Task) (p : Progress) (w : Waiting) (rest : List ℕ) (now : ℕ)
+    : Type 0 where
+  pub issued : List ℕ
+  pub served : AreServed (work_of task.timings.items) (start_of p.starts.items) now issued
+  pub issues : AreIssues (work_of task.timings.items) (start_of p.starts.items) now p.issues
+  pub waiting : IsWaiting task p w rest issued now
 
--- the message starts on the worker at now and runs cost ticks
-pub record IsPlaced (old : Progress) (message worker now cost : ℕ) (new : Progress) : Type 0 where
-  pub starts : new.starts.items ≡ slice_set old.starts.items (message - 1) now
-  pub seats : new.seats.items ≡ slice_set old.seats.items (message - 1) worker
-  pub order : new.order.items ≡ old.order.items ++ message ∷ []
-  pub finishes : IsPermutation ((now + cost, message) ∷ old.finishes) new.finishes
-  pub idle : new.idle ≡ old.idle
+-- message m starts at now on the least worker that is idle; what follows it has its issue
+pub record IsStarted (work : Work) (m now : ℕ) (old new : Progress) : Type 0 where
+  pub worker : ℕ
+  pub idle : LeavesLeast old.idle worker new.idle
+  pub starts : new.starts.items ≡ slice_set old.starts.items (m - 1) now
+  pub seats : new.seats.items ≡ slice_set old.seats.items (m - 1) worker
+  pub order : new.order.items ≡ old.order.items ++ m ∷ []
+  pub finishes : IsPermutation ((now + work.cost m, m) ∷ old.finishes) new.finishes
+  pub follower : ℕ
+  pub follows : IsFollower work work.count m follower
+  pub issues : IsIssuedNext work (start_of new.starts.items) follower old.issues new.issues

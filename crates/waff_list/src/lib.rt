@@ -6,49 +6,36 @@
 //! printed chain.
 //! - `list`: the plans and their printed chain; `rule`: the two rules; `worker_plan`: plans for k
 //!   workers.
-//! - `planner`, over `task` (the messages with their needs, and the `dependents` of each),
-//!   `progress` (the plan while it is made), `due` (when the messages that run finish), `idle` (the
-//!   workers that are free), `waiting` (how many needs of each message have not finished, and the
-//!   `candidates`, those that are ready, by their priorities), `chosen` (those that start at a tick),
-//!   `releases` and `ticks` (when something happens), `work` (costs and releases).
-//! - `list_by_issue`: the plans of clients' messages, in the order in which they issue them.
-//! - `issuing`, over `client_task` (the messages with what each follows), `serving` (those that have
-//!   joined the order of service, their needs, and those that are still to join, by the ticks at which
-//!   they are `due`) and `takers` (those that are ready, by their priorities and issues).
-//! - `tails`, `tails_by_client`: the tail of each message, which is its priority under the rule of the
-//!   longest tail.
+//! - `planner`, over `task` (the messages, and when each may start whatever its needs are), `service`
+//!   (the order in which messages that exclude each other are served: by number, or as they are
+//!   `issued`; and the needs of each), `progress` (the plan while it is made, the workers that are
+//!   `idle`, and what is due: the messages that run to finish, and others to be issued) and `waiting`
+//!   (what each message waits for, the `dependents` of each, and those that are `ready`, by their
+//!   priorities and the keys by which they are served).
+//! - `tails`: the tail of each message, which is its priority under the rule of the longest tail.
 //! - `laws`: the bound, and that needs make the same plans as all pairs; `tail_laws`: what tails
 //!   are; `unique`: that there is one list plan; `issue_laws`: of list plans in the order in which
 //!   clients issue messages.
 #![tactic(auto)]
 
-mod candidates;
-mod chosen;
-mod client_task;
 mod dependents;
-mod due;
 mod idle;
 pub mod issue_laws;
-mod issuing;
+mod issued;
 pub mod laws;
 mod list;
-mod list_by_issue;
 mod planner;
 mod progress;
-mod releases;
+mod ready;
 mod rule;
-mod serving;
+mod service;
 pub mod tail_laws;
 mod tails;
-mod tails_by_client;
-mod takers;
 mod task;
-mod ticks;
 pub mod unique;
 mod waiting;
-mod work;
 mod worker_plan;
 
-pub use list::{list_chain, list_plan, list_plan_by};
+pub use list::{list_chain, list_plan, list_plan_by, list_plan_of};
 pub use rule::Rule;
 pub use worker_plan::WorkerPlan;

@@ -2,7 +2,7 @@
 
 ghost use Rattle.std.specs.Prelude.{◌≡◌, ◌≢◌, ◌<◌, length, All, IfOk};
 ghost use Rattle.waff_model.specs.declared.message.Version.TheVariants.{V3};
-ghost use Rattle.waff_assign.specs.Order.{IsOrdered, Path};
+ghost use Rattle.waff_assign.specs.Order.{Path};
 ghost use Rattle.waff_plan.specs.Bound.{IsWithinBound, IsWithinRatio, IsWithinTwice, IsWorkers};
 ghost use Rattle.waff_plan.specs.Chain.{IsChain, IsListed, IsPrinted, chain_cost, chain_release};
 ghost use Rattle.waff_plan.specs.Obeys.{Obeys};
@@ -10,21 +10,25 @@ ghost use Rattle.waff_plan.specs.Serving.{served_in, started_in};
 ghost use Rattle.waff_plan.specs.Timetable.{starts_in, timings_of, work_in};
 ghost use Rattle.waff_order.specs.Needs.{IsNeed};
 ghost use Rattle.waff_list.specs.Bound.{IsBusyPlan};
+ghost use Rattle.waff_list.specs.ListRule.{IsListPlan, IsTakenFirst, arrival};
 ghost use Rattle.waff_list.specs.Rules.{IsPlanBy};
+ghost use Rattle.waff_list.specs.Planning.{IsFresh};
 ghost use Rattle.waff_list.specs.Served.{IsPlanServed};
+ghost use Rattle.waff_list.specs.Services.{IsPlanIn, IsServiceFor};
+ghost use Rattle.waff_list.specs.Telling.{basis_of};
 ghost use Rattle.waff_list.specs.Seats.{IsInOrder};
 ghost use Rattle.waff_list.specs.Seating.{worker_of};
 ghost use Rattle.waff_list.specs.Unique.{AreSeated};
 
 use crate::WorkerPlan;
-use crate::list_by_issue::list_plan_by_issue;
+use crate::issued::Issued;
 use crate::planner::make;
 use crate::rule::Rule;
-use crate::tails::tails;
-use crate::work::releases_of;
+use crate::service::Service;
+use crate::task::Task;
 use std::alloc::{AllocError, Global};
 use waff_assign::{Assigned, Case};
-use waff_model::{Trace, Tree, Version};
+use waff_model::{Trace, Tree};
 use waff_order::Needs;
 use waff_order::predecessors::needs;
 use waff_plan::printed::chain;
@@ -34,7 +38,7 @@ use waff_plan::{Chain, Plan};
 /// rule takes first starts. Of two messages that exclude each other the one that comes first in the trace is
 /// served first, and in a trace of the third version the one that is issued first. Of the messages that
 /// start at a tick the one of the lowest number takes the least worker that is free.
-pub fn list_plan(alloc: Global, case: Case, rule: Rule, k: u32) -> Result<WorkerPlan, AllocError>
+pub fn list_plan_of(alloc: Global, case: Case, rule: Rule, k: u32) -> Result<WorkerPlan, AllocError>
     requires workers { IsWorkers k }
     ensures version { IfOk result (λ made. made.plan.version ≡ case.entry.trace.now.version) }
     ensures timings { IfOk result (λ made.
@@ -48,40 +52,16 @@ pub fn list_plan(alloc: Global, case: Case, rule: Rule, k: u32) -> Result<Worker
     ensures order { IfOk result (λ made.
         IsInOrder (work_in made.plan) (starts_in made.plan) made.order) }
 {
-    match case.trace.version() {
-        Version::V1 => list_plan_in_order(alloc, case, rule, k),
-        Version::V2 => list_plan_in_order(alloc, case, rule, k),
-        Version::V3 => list_plan_by_issue(alloc, case, rule, k),
+    if case.trace.version().has_clients() {
+        let issued = Issued::none(alloc, case)?;
+        return plan_served(alloc, Service::ByIssue(issued), case.trace, rule, k);
     }
-}
-
-/// The plan in which what comes first in the trace is served first.
-fn list_plan_in_order(
-    alloc: Global,
-    case: Case,
-    rule: Rule,
-    k: u32,
-) -> Result<WorkerPlan, AllocError>
-    requires workers { IsWorkers k }
-    requires earlier_version { case.trace.now.version ≢ V3 }
-    ensures version { IfOk result (λ made. made.plan.version ≡ case.entry.trace.now.version) }
-    ensures timings { IfOk result (λ made.
-        made.plan.timings ≡ timings_of case.entry.trace.now.messages) }
-    ensures workers { IfOk result (λ made. made.workers ≡ k) }
-    ensures follows { IfOk result (λ made. IsPlanBy rule
-        (IsOrdered case.entry.tree.now case.entry.assigned.now)
-        (work_in made.plan) k (starts_in made.plan)) }
-    ensures seated { IfOk result (λ made. AreSeated
-        (work_in made.plan) (starts_in made.plan) (worker_of made.seats)) }
-    ensures order { IfOk result (λ made.
-        IsInOrder (work_in made.plan) (starts_in made.plan) made.order) }
-{
     let needs = needs(alloc, case.tree, case.assigned)?;
     list_plan_by(alloc, &needs, case.trace, rule, k)
 }
 
 /// The plan for k workers by this rule over the needs of the messages of a trace of the first two
-/// versions. Workers are given as by `list_plan`.
+/// versions. Workers are given as by `list_plan_of`.
 pub fn list_plan_by(
     alloc: Global,
     needs: &Needs,
@@ -102,13 +82,59 @@ pub fn list_plan_by(
     ensures order { IfOk result (λ made.
         IsInOrder (work_in made.plan) (starts_in made.plan) made.order) }
 {
-    let releases = releases_of(alloc, trace)?;
-    let priorities = match rule {
-        Rule::Arrival => Vec::new(alloc),
-        Rule::Longest => tails(alloc, needs, trace)?,
-    };
-    let made = make(alloc, needs, trace, k, releases, priorities)?;
-    let plan = Plan::of_starts(alloc, trace, made.starts.as_slice())?;
+    let _needs = needs.len();
+    plan_served(alloc, Service::ByNumber(needs), trace, rule, k)
+}
+
+/// The plan for k workers by arrival over the needs of the messages of a trace of the first two
+/// versions. Workers are given as by `list_plan_of`.
+pub fn list_plan(
+    alloc: Global,
+    needs: &Needs,
+    trace: &Trace,
+    k: u32,
+) -> Result<WorkerPlan, AllocError>
+    requires lengths { length needs.now ≡ length trace.now.messages }
+    requires workers { IsWorkers k }
+    requires earlier_version { trace.now.version ≢ V3 }
+    ensures version { IfOk result (λ made. made.plan.version ≡ trace.now.version) }
+    ensures timings { IfOk result (λ made. made.plan.timings ≡ timings_of trace.now.messages) }
+    ensures workers { IfOk result (λ made. made.workers ≡ k) }
+    ensures follows { IfOk result (λ made. IsListPlan (Path (IsNeed needs.now))
+        (IsTakenFirst arrival) (work_in made.plan) k (starts_in made.plan)) }
+    ensures seated { IfOk result (λ made. AreSeated
+        (work_in made.plan) (starts_in made.plan) (worker_of made.seats)) }
+    ensures order { IfOk result (λ made.
+        IsInOrder (work_in made.plan) (starts_in made.plan) made.order) }
+{
+    list_plan_by(alloc, needs, trace, Rule::Arrival, k)
+}
+
+/// The plan for k workers by this rule in this order of service.
+fn plan_served(
+    alloc: Global,
+    service: Service,
+    trace: &Trace,
+    rule: Rule,
+    k: u32,
+) -> Result<WorkerPlan, AllocError>
+    requires workers { IsWorkers k }
+    requires serves { IsServiceFor
+        service trace.now.version (length trace.now.messages) }
+    requires fresh { IsFresh service }
+    ensures version { IfOk result (λ made. made.plan.version ≡ trace.now.version) }
+    ensures timings { IfOk result (λ made. made.plan.timings ≡ timings_of trace.now.messages) }
+    ensures workers { IfOk result (λ made. made.workers ≡ k) }
+    ensures follows { IfOk result (λ made. IsPlanIn rule (basis_of service.entry)
+        (work_in made.plan) k (starts_in made.plan)) }
+    ensures seated { IfOk result (λ made. AreSeated
+        (work_in made.plan) (starts_in made.plan) (worker_of made.seats)) }
+    ensures order { IfOk result (λ made.
+        IsInOrder (work_in made.plan) (starts_in made.plan) made.order) }
+{
+    let task = Task::new(alloc, trace, &service, rule, k)?;
+    let made = make(alloc, &task, service)?;
+    let plan = Plan::new(trace.version(), task.timings(), made.starts);
     Ok(WorkerPlan::new(plan, k, made.seats, made.order))
 }
 

@@ -1,38 +1,59 @@
 //! The tail of each message: how many ticks of work hang on it.
 
-ghost use Rattle.std.specs.Prelude.{◌≡◌, ◌^◌, ◌<◌, ◌≤◌, length, All, IfOk};
-ghost use Rattle.waff_assign.specs.Order.{Path};
-ghost use Rattle.waff_order.specs.Needs.{IsNeed};
-ghost use Rattle.waff_list.specs.Progress.{work_of_messages};
-ghost use Rattle.waff_list.specs.Tails.{tail_of, AreTails, AreRaised};
+ghost use Rattle.std.specs.Prelude.{◌≡◌, ◌≤◌, length, All, IfOk};
+ghost use Rattle.waff_model.specs.Numbers.{IsAmongFirst};
+ghost use Rattle.waff_model.specs.declared.limits.TheConstants.{MAX_MESSAGES};
+ghost use Rattle.waff_plan.specs.Obeys.{FollowsEarlier, FollowsOnce};
+ghost use Rattle.waff_plan.specs.Timing.{IsTiming, work_of};
+ghost use Rattle.waff_list.specs.Planning.{Fits};
+ghost use Rattle.waff_list.specs.Tails.{AreRaised, tail_of};
+ghost use Rattle.waff_list.specs.Services.{AreTailsBy};
+ghost use Rattle.waff_list.specs.Telling.{basis_of};
 
-use crate::work::cost_of;
+use crate::service::Service;
 use std::alloc::{AllocError, Global};
-use waff_model::Trace;
-use waff_order::Needs;
+use waff_plan::Timing;
 
-/// The tail of each message, in ticks: its cost and the greatest tail of those that need it.
-pub(crate) fn tails(alloc: Global, needs: &Needs, trace: &Trace) -> Result<Vec<u64>, AllocError>
-    requires { length needs.now ≡ length trace.now.messages }
-    ensures count { IfOk result (λ tails. length tails.items ≡ length needs.now) }
-    ensures needs { IfOk result (λ tails. AreTails (IsNeed needs.now)
-        (work_of_messages trace.now.messages) (tail_of tails.items)) }
-    ensures paths { IfOk result (λ tails. AreTails (Path (IsNeed needs.now))
-        (work_of_messages trace.now.messages) (tail_of tails.items)) }
-    ensures small { IfOk result (λ tails. All (λ tail. tail ≤ 2 ^ 52) tails.items) }
+/// The tail of each message, in ticks: its cost and the greatest of the tails of those that it holds
+/// back, each with the ticks that have to lie between. By number it holds back those that need it,
+/// by issue the one that follows it, by its think time.
+pub(crate) fn tails(
+    alloc: Global,
+    service: &Service,
+    timings: &[Timing],
+) -> Result<Vec<u64>, AllocError>
+    requires few { length timings.now ≤ MAX_MESSAGES }
+    requires small { All IsTiming timings.now }
+    requires earlier { FollowsEarlier (work_of timings.now) }
+    requires once { FollowsOnce (work_of timings.now) }
+    requires fits { Fits service.now (work_of timings.now) }
+    ensures count { IfOk result (λ tails. length tails.items ≡ length timings.now) }
+    ensures tails { IfOk result (λ tails.
+        AreTailsBy (basis_of service.now) (work_of timings.now) (tail_of tails.items)) }
 {
-    let mut tails = vec![in alloc; 0; needs.len() as usize]?;
-    for m in (1..needs.len() + 1).rev() {
-        let tail = tails[m as usize - 1] + cost_of(trace, m);
+    let mut tails = vec![in alloc; 0; timings.len()]?;
+    for m in (1..timings.len() as u32 + 1).rev() {
+        let timing = timings[m as usize - 1];
+        let tail = tails[m as usize - 1] + u64::from(timing.cost);
         tails[m as usize - 1] = tail;
-        raise(&mut tails, needs.of(m), tail);
+        match service {
+            Service::ByNumber(needs) => raise(&mut tails, needs.of(m), tail),
+            Service::ByIssue(_) if timing.follows == 0 => {}
+            Service::ByIssue(_) => {
+                raise(
+                    &mut tails,
+                    &[timing.follows],
+                    u64::from(timing.think) + tail,
+                );
+            }
+        }
     }
     Ok(tails)
 }
 
 /// Raises the tails of these messages to at least this one.
 fn raise(tails: &mut [u64], messages: &[u32], tail: u64)
-    requires { All (λ m. (1 ≤ m) × (m ≤ length tails.old)) messages.now }
+    requires { All (IsAmongFirst (length tails.old)) messages.now }
     ensures { AreRaised tails.old messages.now tail tails.new }
 {
     for m in messages {

@@ -1,75 +1,163 @@
-//! What is to be planned: the messages of a trace with their needs.
+//! What is planned: the messages of a trace, and when each may start whatever its needs are.
 
-ghost use Rattle.std.specs.Prelude.{◌≡◌, ◌≤◌, length, All, IfOk};
-ghost use Rattle.waff_model.specs.declared.limits.TheConstants.{MAX_RELEASE};
+ghost use Rattle.std.specs.Prelude.{◌≡◌, ◌+◌, ◌^◌, ◌<◌, ◌≤◌, ◌↔◌, length, All, IfOk, IsTrue};
+ghost use Rattle.std.specs.Option.{ForSome};
+ghost use Rattle.waff_model.specs.Numbers.{IsAmongFirst};
+ghost use Rattle.waff_model.specs.declared.limits.TheConstants.{MAX_MESSAGES};
 ghost use Rattle.waff_plan.specs.Bound.{IsWorkers};
-ghost use Rattle.waff_plan.specs.Obeys.{FollowsNone};
-ghost use Rattle.waff_plan.specs.Timetable.{work_of_messages};
-ghost use Rattle.waff_order.specs.Needs.{AreLists};
-ghost use Rattle.waff_list.specs.Load.{release_of};
-ghost use Rattle.waff_list.specs.Trails.{AreLinked, trails};
-ghost use Rattle.waff_list.specs.Waiting.{AreDependents};
+ghost use Rattle.waff_plan.specs.Obeys.{FollowsEarlier};
+ghost use Rattle.waff_plan.specs.Pending.{AreFollowers, IsFollower};
+ghost use Rattle.waff_plan.specs.Timing.{IsTiming, start_of, timing_of, work_of};
+ghost use Rattle.waff_plan.specs.Work.{finish_of, issue_of};
+ghost use Rattle.waff_plan.specs.Timetable.{AreTimings, timings_of, work_of_messages};
+ghost use Rattle.waff_list.specs.Tasks.{HasIssue, tail_in};
 
-use crate::dependents::Dependents;
+use crate::rule::Rule;
+use crate::service::Service;
+use crate::tails::tails;
 use std::alloc::{AllocError, Global};
 use waff_model::Trace;
-use waff_order::Needs;
+use waff_plan::followers::followers;
+use waff_plan::{Timing, timings};
 
-/// The messages of a trace, the needs of each, those that need each, and the number of workers.
+/// The messages of a trace, which follows each, their tails where the rule asks for them, and the
+/// number of workers.
 #[derive(Drop)]
-pub(crate) struct Task<'a> {
-    pub needs: &'a Needs,
-    pub trace: &'a Trace,
-    /// The tick before which each message may not start. One that is not listed has the release 0.
-    pub releases: Vec<u32>,
-    pub dependents: Dependents,
+pub(crate) struct Task {
+    pub timings: Vec<Timing>,
+    followers: Vec<u32>,
+    pub tails: Option<Vec<u64>>,
     pub workers: u32,
-    ghost lists: { AreLists needs.now },
-    ghost lengths: { length needs.now ≡ length trace.now.messages },
-    ghost alone: { FollowsNone (work_of_messages trace.now.messages) },
-    ghost linked: { AreLinked dependents },
-    ghost told: { AreDependents needs.now (trails dependents) (length needs.now) },
+    ghost few: { length timings.items ≤ MAX_MESSAGES },
+    ghost small: { All IsTiming timings.items },
+    ghost earlier: { FollowsEarlier (work_of timings.items) },
+    ghost followers_count: { length followers.items ≡ length timings.items },
+    ghost following: { AreFollowers
+        (work_of timings.items) (length timings.items) followers.items },
+    ghost tails_count: { ForSome tails (λ tails. length tails.items ≡ length timings.items) },
     ghost some: { IsWorkers workers },
-    ghost small: { All (λ release. release ≤ MAX_RELEASE) releases.items },
 }
 
-impl<'a> Task<'a> {
-    /// The messages of this trace with these needs and releases, for `k` workers.
+impl Task {
+    ghost use Rattle.waff_list.specs.Services.{ArePriorities, IsServiceFor};
+    ghost use Rattle.waff_list.specs.Telling.{basis_of, priority_in};
+
+    /// The messages of this trace, to be planned by this rule for `k` workers.
     pub fn new(
         alloc: Global,
-        needs: &'a Needs,
-        trace: &'a Trace,
-        releases: Vec<u32>,
+        trace: &Trace,
+        service: &Service,
+        rule: Rule,
         k: u32,
     ) -> Result<Self, AllocError>
-        requires lengths { length needs.now ≡ length trace.now.messages }
-        requires alone { FollowsNone (work_of_messages trace.now.messages) }
         requires workers { IsWorkers k }
-        requires small { All (λ release. release ≤ MAX_RELEASE) releases.items }
-        ensures needs { IfOk result (λ task. task.needs.now ≡ needs.entry.now) }
-        ensures trace { IfOk result (λ task. task.trace.now ≡ trace.entry.now) }
-        ensures releases { IfOk result (λ task. task.releases.items ≡ releases.items) }
+        requires serves { IsServiceFor
+            service.now trace.now.version (length trace.now.messages) }
+        ensures are { AreTimings trace.now.version (timings_of trace.now.messages) }
+        ensures timings { IfOk result (λ task.
+            task.timings.items ≡ timings_of trace.now.messages) }
         ensures workers { IfOk result (λ task. task.workers ≡ k) }
+        ensures priorities { IfOk result (λ task. ArePriorities rule (basis_of service.now)
+            (work_of_messages trace.now.messages) (priority_in task)) }
     {
-        let dependents = Dependents::of_needs(alloc, needs)?;
+        let timings = timings(alloc, trace)?;
+        let followers = followers(alloc, timings.as_slice())?;
+        let tails = match rule {
+            Rule::Arrival => None,
+            Rule::Longest => Some(tails(alloc, service, timings.as_slice())?),
+        };
         Ok(Task {
-            needs,
-            trace,
-            releases,
-            dependents,
+            timings,
+            followers,
+            tails,
             workers: k,
         })
     }
 
-    /// The release of message `m`, in ticks.
-    pub fn release(&self, m: u32) -> u64
-        requires { 1 ≤ m }
-        ensures release { result ≡ release_of self.now.releases.items m }
-        ensures small { result ≤ MAX_RELEASE }
+    /// How many messages there are.
+    pub fn len(&self) -> u32
+        ensures { result ≡ length self.now.timings.items }
     {
-        match self.releases.get(m as usize - 1) {
-            Some(release) => u64::from(*release),
+        self.timings.len() as u32
+    }
+
+    /// The priority of message `m`: its tail, or by arrival 0.
+    pub fn priority(&self, m: u32) -> u64
+        requires number { IsAmongFirst (length self.now.timings.items) m }
+        ensures { result ≡ tail_in self.now.tails m }
+    {
+        match &self.tails {
+            Some(tails) => tails[m as usize - 1],
             None => 0,
         }
+    }
+
+    /// How many ticks message `m` runs.
+    pub fn cost(&self, m: u32) -> u64
+        requires number { IsAmongFirst (length self.now.timings.items) m }
+        ensures cost { result ≡ (timing_of self.now.timings.items m).cost }
+        ensures small { result < 2 ^ 32 }
+    {
+        u64::from(self.timings[m as usize - 1].cost)
+    }
+
+    /// The message that message `m` follows, 0 where it follows none.
+    pub fn follows(&self, m: u32) -> u32
+        requires number { IsAmongFirst (length self.now.timings.items) m }
+        ensures { result ≡ (timing_of self.now.timings.items m).follows }
+    {
+        self.timings[m as usize - 1].follows
+    }
+
+    /// The message that follows message `m`, 0 where none does.
+    pub fn follower(&self, m: u32) -> u32
+        requires number { IsAmongFirst (length self.now.timings.items) m }
+        ensures { IsFollower
+            (work_of self.now.timings.items) (length self.now.timings.items) m result }
+    {
+        self.followers[m as usize - 1]
+    }
+
+    /// The tick at which message `m` is issued, where the one that it follows starts as listed.
+    pub fn issue(&self, starts: &[u64], m: u32) -> u64
+        requires { HasIssue self.now.timings.items starts.now m }
+        ensures { result ≡ issue_of (work_of self.now.timings.items) (start_of starts.now) m }
+    {
+        let timing = self.timings[m as usize - 1];
+        let release = u64::from(timing.release);
+        match timing.follows {
+            0 => release,
+            before => {
+                let finish = starts[before as usize - 1] + self.cost(before);
+                release.max(finish + u64::from(timing.think))
+            }
+        }
+    }
+
+    /// Whether message `m` has started, and has finished by now.
+    pub fn has_finished(&self, starts: &[u64], m: u32, now: u64) -> bool
+        requires number { IsAmongFirst (length self.now.timings.items) m }
+        requires starts { length starts.now ≡ length self.now.timings.items }
+        requires tick { now + 2 ^ 32 < 2 ^ 64 }
+        ensures { IsTrue result
+            ↔ (finish_of (work_of self.now.timings.items) (start_of starts.now) m ≤ now) }
+    {
+        let start = starts[m as usize - 1];
+        start <= now && start + self.cost(m) <= now
+    }
+
+    /// The timings of the messages.
+    pub fn timings(self) -> Vec<Timing>
+        ensures { result ≡ self.timings }
+    {
+        let Task {
+            timings,
+            followers,
+            tails,
+            workers: _,
+        } = self;
+        drop(followers);
+        drop(tails);
+        timings
     }
 }

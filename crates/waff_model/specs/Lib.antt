@@ -22,3 +22,4 @@ pub mod Messages
 pub mod Later
 pub mod Blocks
 pub mod Spans
+pub mod Unique

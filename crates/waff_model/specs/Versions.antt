@@ -11,6 +11,12 @@ number V1 = 1
 number V2 = 2
 number V3 = 3
 
+-- from the second version on messages have releases
+abbrev pub has_releases : Version → Bool
+has_releases V1 = false
+has_releases V2 = true
+has_releases V3 = true
+
 -- the third version has clients
 abbrev pub has_clients : Version → Bool
 has_clients V1 = false

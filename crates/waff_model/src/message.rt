@@ -29,6 +29,16 @@ impl Version {
         }
     }
 
+    /// Whether messages of the version have releases of their own; before, each is 0.
+    pub fn has_releases(self) -> bool
+        ensures { result ≡ versions.has_releases self }
+    {
+        match self {
+            Version::V1 => false,
+            Version::V2 | Version::V3 => true,
+        }
+    }
+
     /// Whether messages of the version have clients and think times, and pieces may be ranges.
     pub fn has_clients(self) -> bool
         ensures { result ≡ versions.has_clients self }

@@ -1,6 +1,7 @@
 -- Whether messages that exclude each other run at a common tick, one message after another by their
 -- starts.
 use Rattle.std.proofs.Common.{◌≡◌, ◌≢◌, ◌⊎◌, inl, inr, ℕ, zero, suc, ◌+◌, ◌-◌, ◌<◌, ◌≤◌, true, false, Bool, cond, List, [], ◌∷◌, ◌++◌, length, get_or, take, map, All, Contains, Option, Some, None, nat_le, nat_lt, nat_eq, eqb, arith, refl, sym, ◌∙◌, ap, subst}
+use Rattle.std.specs.Cmp.{nat_cmp_is}
 use Rattle.std.specs.List.{IsDistinct, range_with_len}
 use Rattle.std.specs.List.Sorted.{IsPermutation}
 use Rattle.std.specs.Ordering.{nat_cmp, is_lt}
@@ -10,7 +11,7 @@ use Rattle.std.proofs.lemmas.Bool.Decides.{nat_tests}
 use Rattle.std.proofs.lemmas.List.{get_or-map, get_or-take, length-map, length-take, map_more, take_all}
 use Rattle.std.proofs.lemmas.List.Elements.{Contains-push_cases}
 use Rattle.std.proofs.lemmas.List.FromFn.{get_or-map-range_with_len, length-map-range_with_len, map-range_with_len_more}
-use Rattle.std.proofs.lemmas.List.Sorted.{All-permutation, Contains-permutation}
+use Rattle.std.proofs.lemmas.List.Sorted.{All-permutation, Contains-permutation, IsPermutation-refl, length_permutation}
 use Rattle.std.proofs.lemmas.Map.Keys.{IsDistinct-IsPermutation, IsDistinct-from_apart, apart_from_distinct}
 use Rattle.waff_model.specs.Tree.{Node, Excludes}
 use Rattle.waff_assign.specs.Order.{affinity_of, IsOrdered}
@@ -259,6 +260,7 @@ module _ (work : Work) (start : ℕ → ℕ) (new : List Started) (moved : IsPer
 
   pub by_start : AreByStart work start new
   by_start = record {
+    long = length_permutation old new moved ∙ length-map-range_with_len (started_of start) 1 work.count;
     each = each_there;
     only = only_there;
     once = once_there;
@@ -268,11 +270,25 @@ module _ (work : Work) (start : ℕ → ℕ) (new : List Started) (moved : IsPer
   }
 
 -- the messages below n are all, sorted
+not_less_number : (i : ℕ) → started_less (started_of (λ m. m) (i + 2)) (started_of (λ m. m) (i + 1)) ≡ false
+not_less_number i = sym (ap is_lt (nat_cmp_is (i + 2) (i + 1) Greater (omega arith)))
+
 pub sorted_by_start : (work : Work) (start : ℕ → ℕ) (n : ℕ) (old new : List Started) → n ≡ work.count + 1 → old ≡ map (started_of start) (range_with_len 1 (n - 1))
     → IsPermutation old new → ((i : ℕ) → i + 1 < length new → started_less (started_at new (i + 1)) (started_at new i) ≡ false) → AreByStart work start new
 sorted_by_start work start n old new all so_far moved sorted =
     let count : n - 1 ≡ work.count = omega (arith, all) in
     by_start work start new (subst (λ xs. IsPermutation xs new) (so_far ∙ ap (λ k. map (started_of start) (range_with_len 1 k)) count) moved) sorted
+
+-- the messages by number are sorted as they stand
+pub numbers_by_start : (work : Work) (n : ℕ) (old : List Started) → n ≡ work.count + 1 → old ≡ map (started_of (λ m. m)) (range_with_len 1 (n - 1))
+    → AreByStart work (λ m. m) old
+numbers_by_start work n old all is =
+    sorted_by_start work (λ m. m) n old old all is (IsPermutation-refl old)
+    (rw is (λ i less.
+    let short : i + 1 < n - 1 = omega (arith, less, length-map-range_with_len (started_of (λ m. m)) 1 (n - 1)) in
+    let one = get_or-map-range_with_len (started_of (λ m. m)) 1 (n - 1) i (i + 1) (record { start = 0; number = 0 }) (omega (arith, short)) (omega arith) in
+    let next = get_or-map-range_with_len (started_of (λ m. m)) 1 (n - 1) (i + 1) (i + 2) (record { start = 0; number = 0 }) short (omega arith) in
+    rw (one, next) (not_less_number i)))
 
 -- one message more by its start, with the latest that it meets among all, or among the first
 module _ (tree : List Node) (assigned : List ℕ) (work : Work) (start : ℕ → ℕ) (count : ℕ) (started : List Started)

@@ -85,3 +85,15 @@ holds-le work start other i m sooner = omega (arith, sooner)
 
 pub holds-same : (work : Work) (start other : ℕ → ℕ) (i m : ℕ) → start i ≡ other i → holds_until work start m i ≡ holds_until work other m i
 holds-same work start other i m same = omega (arith, same)
+
+-- the issue with the same finishes is the same
+issue_again : (finish other : ℕ → ℕ) (release think : ℕ) (follows : Option ℕ) → ((f : ℕ) → follows ≡ Some f → finish f ≡ other f)
+    → issue_after release think (option_map finish follows) ≡ issue_after release think (option_map other follows)
+issue_again finish other release think None same = refl
+issue_again finish other release think (Some f) same = ap (λ x. issue_after release think (Some x)) (same f refl)
+
+pub same_issue : (work : Work) (start other : ℕ → ℕ) (m : ℕ) → ((f : ℕ) → work.follows m ≡ Some f → start f ≡ other f)
+    → issue_of work start m ≡ issue_of work other m
+same_issue work start other m same =
+    issue_again (finish_of work start) (finish_of work other) (work.release m) (work.think m) (work.follows m)
+    (λ f follow. ap (λ s. s + work.cost f) (same f follow))

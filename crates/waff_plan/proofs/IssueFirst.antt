@@ -1,10 +1,11 @@
 -- The messages that follow none, one message after another.
-use Rattle.std.proofs.Common.{◌≡◌, ℕ, ◌-◌, ◌^◌, ◌<◌, ◌≤◌, ◌⊎◌, inl, inr, zero, suc, List, [], ◌∷◌, Contains, Option, Some, None, arith, refl, sym, ◌∙◌, ap, subst}
+use Rattle.std.proofs.Common.{◌≡◌, ℕ, ◌-◌, ◌≤◌, ◌⊎◌, inl, inr, zero, suc, List, [], ◌∷◌, Contains, Option, Some, None, cond, ◌==◌, arith, refl, sym, ◌∙◌, ap, subst}
 use Rattle.std.specs.List.Sorted.{IsPermutation}
 use Rattle.std.proofs.lemmas.Bool.{cases_eq}
-use Rattle.std.proofs.lemmas.List.Sorted.{Contains-permutation, IsPermutation-sym}
+use Rattle.std.proofs.lemmas.List.Sorted.{Contains-permutation, IsPermutation-sym, sum_by-IsPermutation}
 use Rattle.std.proofs.lemmas.Option.{none-some}
 use Rattle.waff_plan.specs.Work.{Work, IsNumber, IsAmongFirst, finish_of, issue_of, issue_after}
+use Rattle.waff_plan.specs.Order.{Key}
 use Rattle.waff_plan.specs.Pending.{Issue, AreFirst}
 use Rattle.waff_plan.proofs.IssueSteps.{AreOnce, AreTaken, ArePending, once_put}
 use Rattle.std.proofs.Common.{option_map}
@@ -17,7 +18,6 @@ pub record AreFirstUpTo (work : Work) (n : ℕ) (first : List Issue) : Type 0 wh
   pub alone : (x : Issue) → Contains first x → work.follows x.1 ≡ None
   pub all : (m : ℕ) → IsAmongFirst n m → work.follows m ≡ None → Contains first (work.release m, m)
   pub once : AreOnce first
-  pub early : (x : Issue) → Contains first x → x.0 < 2 ^ 32
 
 pub first_none : (work : Work) → AreFirstUpTo work 0 []
 first_none work = record {
@@ -26,7 +26,6 @@ first_none work = record {
   alone = λ x there. absurd (omega (arith, there.1));
   all = λ m among none. absurd (omega (arith, among.from, among.to));
   once = λ m. omega arith;
-  early = λ x there. absurd (omega (arith, there.1));
 }
 
 -- what is in a list with one more is that one, or in the list
@@ -55,13 +54,12 @@ module _ (work : Work) (m : ℕ) (from : 1 ≤ m) (old : List Issue) (are : AreF
       | inr other ↦ are.all n (record { from = among.from; to = omega (arith, among.to, other) }) none
     ];
     once = are.once;
-    early = are.early;
   }
 
   -- one more message, which follows none
-  pub first_put : (new : List Issue) (release : ℕ) → release ≡ work.release m → work.follows m ≡ None → release < 2 ^ 32 → IsPermutation ((release, m) ∷ old) new
+  pub first_put : (new : List Issue) (release : ℕ) → release ≡ work.release m → work.follows m ≡ None → IsPermutation ((release, m) ∷ old) new
       → AreFirstUpTo work m new
-  first_put new release is none early put =
+  first_put new release is none put =
       let x : Issue = (release, m) in
       record {
         number = λ y there. elim (put_cases x old new put y there) [
@@ -85,35 +83,47 @@ module _ (work : Work) (m : ℕ) (from : 1 ≤ m) (old : List Issue) (are : AreF
               (are.all n (record { from = among.from; to = omega (arith, among.to, other) }) alone)
         ];
         once = once_put old new x put are.once (λ y there same. omega (arith, (are.number y there).to, same, from));
-        early = λ y there. elim (put_cases x old new put y there) [
-          | inl here ↦ subst (λ (z : Issue). z.0 < 2 ^ 32) here early
-          | inr old_y ↦ are.early y old_y
-        ];
       }
 
+-- the same in another order
+pub first_moved : (work : Work) (n : ℕ) (old new : List Issue) → IsPermutation old new → AreFirstUpTo work n old → AreFirstUpTo work n new
+first_moved work n old new moved are =
+    let back = IsPermutation-sym old new moved in
+    record {
+      number = λ x there. are.number x (Contains-permutation new old x back there);
+      issue = λ x there. are.issue x (Contains-permutation new old x back there);
+      alone = λ x there. are.alone x (Contains-permutation new old x back there);
+      all = λ m among none. Contains-permutation old new (work.release m, m) moved (are.all m among none);
+      once = λ m. omega (arith, are.once m, sum_by-IsPermutation (λ (x : Issue). cond (x.1 == m) 1 0) old new moved);
+    }
+
+-- what follows none is issued at its release
+issue_at_release : (work : Work) (start : ℕ → ℕ) (m : ℕ) → work.follows m ≡ None → issue_of work start m ≡ work.release m
+issue_at_release work start m none = ap (λ follows. issue_after (work.release m) (work.think m) (option_map (finish_of work start) follows)) none
+
 -- all messages that follow none
-pub first_all : (work : Work) (n : ℕ) (first : List Issue) → n ≡ work.count → AreFirstUpTo work n first → AreFirst work first
+pub first_all : (work : Work) (n : ℕ) (first : List Issue) → n ≡ work.count → AreFirstUpTo work n first → AreFirst work (issue_of work) first
 first_all work n first is are = record {
   number = λ x there. let number = are.number x there in record { from = number.from; to = omega (arith, number.to, is) };
-  issue = are.issue;
+  key_is = λ start x there. are.issue x there ∙ sym (issue_at_release work start x.1 (are.alone x there));
   alone = are.alone;
-  all = λ m number none. are.all m (record { from = number.from; to = omega (arith, number.to, is) }) none;
+  all = λ start m number none.
+      subst (λ e. Contains first (e, m)) (sym (issue_at_release work start m none)) (are.all m (record { from = number.from; to = omega (arith, number.to, is) }) none);
   once = are.once;
-  early = are.early;
 }
 
 -- at first none is taken, and those that follow none are pending
-pub taken_none : (tree : List Node) (assigned : List ℕ) (work : Work) (start : ℕ → ℕ) → AreTaken tree assigned work start []
-taken_none tree assigned work start = record {
+pub taken_none : (tree : List Node) (assigned : List ℕ) (work : Work) (key : Key) (start : ℕ → ℕ) → AreTaken tree assigned work key start []
+taken_none tree assigned work key start = record {
   number = λ m there. absurd (omega (arith, there.1));
   closed = λ f m follow there. absurd (omega (arith, there.1));
   at_once = λ m there. absurd (omega (arith, there.1));
 }
 
-pub pending_first : (work : Work) (start : ℕ → ℕ) (first : List Issue) → AreFirst work first → ArePending work start [] first
-pending_first work start first are = record {
+pub pending_first : (work : Work) (key : Key) (start : ℕ → ℕ) (first : List Issue) → AreFirst work key first → ArePending work key start [] first
+pending_first work key start first are = record {
   number = are.number;
-  issue = λ x there. are.issue x there ∙ sym (at_release x.1 (are.alone x there));
+  issue = are.key_is start;
   apart = λ x there at. omega (arith, at.1);
   after = λ x f there follow. absurd (none-some f (sym (are.alone x there) ∙ follow));
   later = λ x i there at. absurd (omega (arith, at.1));
@@ -121,10 +131,7 @@ pending_first work start first are = record {
   all = λ m number apart after. due m number after (work.follows m) refl;
 }
   where
-    at_release : (m : ℕ) → work.follows m ≡ None → issue_of work start m ≡ work.release m
-    at_release m none = ap (λ follows. issue_after (work.release m) (work.think m) (option_map (finish_of work start) follows)) none
-
     due : (m : ℕ) → IsNumber work m → ((f : ℕ) → work.follows m ≡ Some f → Contains [] f) → (o : Option ℕ) → work.follows m ≡ o
-        → Contains first (issue_of work start m, m)
-    due m number after None none = subst (λ e. Contains first (e, m)) (sym (at_release m none)) (are.all m number none)
+        → Contains first (key start m, m)
+    due m number after None none = are.all start m number none
     due m number after (Some f) follow = let there = after f follow in absurd (omega (arith, there.1))

@@ -1,14 +1,15 @@
 -- The order of issue: it is total, a client's messages rise in it, and what it serves goes forward.
-use Rattle.std.proofs.Common.{◌≡◌, ℕ, ◌<◌, ◌≤◌, ◌⊎◌, inl, inr, List, Some, arith, ap}
+use Rattle.std.proofs.Common.{◌≡◌, ℕ, ◌<◌, ◌≤◌, ◌⊎◌, inl, inr, List, [], Some, arith, ap}
 use Rattle.std.proofs.lemmas.Bool.{cases_lt, cases_order}
 use Rattle.waff_model.specs.Tree.{Node}
 use Rattle.waff_plan.specs.Work.{Work, IsNumber, issue_of}
-use Rattle.waff_plan.specs.Obeys.{IsLinked, IsForward, FollowsEarlier}
+use Rattle.waff_plan.specs.Obeys.{IsForward, FollowsEarlier}
 use Rattle.waff_plan.specs.Issues.{IsIssuedBefore, IsServedBefore}
 use Rattle.waff_plan.specs.IssueLaws.{IssueIsArrival}
-use Rattle.waff_plan.proofs.Holding.{followed-le-issue}
+use Rattle.waff_model.specs.declared.message.Version.TheVariants.{V3}
 use Rattle.waff_plan.proofs.NoClients.{issue_is_release}
-use Rattle.waff_plan.proofs.Places.{earlier_place, keyed_not_itself, keyed_on, one_is_keyed_first, place_from, place_of, place_to}
+use Rattle.waff_plan.proofs.Places.{keyed_not_itself, keyed_on, one_is_keyed_first}
+use Rattle.waff_plan.proofs.Orders.{follower_first, serves_forward, service_key}
 
 -- the order of issue is total
 pub issued_not_itself : (work : Work) (start : ℕ → ℕ) (i : ℕ) → IsIssuedBefore work start i i → ⊥
@@ -23,53 +24,26 @@ one_is_issued_first work start = one_is_keyed_first (issue_of work start)
 module _ (work : Work) (start : ℕ → ℕ) (issued : (m : ℕ) → IsNumber work m → issue_of work start m ≤ start m) (follows : FollowsEarlier work) where
   -- along a client issue rises: a message is issued before the one that follows it
   pub issue_rises : (i m : ℕ) → work.follows m ≡ Some i → IsIssuedBefore work start i m
-  issue_rises i m follow =
-      let earlier = follows i m follow in
-      let number : IsNumber work i = record { from = earlier.from; to = omega (arith, earlier.earlier, earlier.to) } in
-      let later : issue_of work start i ≤ issue_of work start m = omega (arith, issued i number, followed-le-issue work start i m follow) in
-      elim (cases_lt (issue_of work start i) (issue_of work start m)) [
-        | inl sooner ↦ inl sooner
-        | inr no_sooner ↦ inr (omega (arith, later, no_sooner), earlier.earlier)
-      ]
-
-  -- what holds back another is issued before it
-  pub linked_issued : (tree : List Node) (assigned : List ℕ) (i m : ℕ) → IsLinked (IsServedBefore tree assigned work start) work i m → IsIssuedBefore work start i m
-  linked_issued tree assigned i m (inl served) = served.issued
-  linked_issued tree assigned i m (inr follow) = issue_rises i m follow
+  issue_rises = follower_first [] [] work start (issue_of work start) issued follows ((service_key V3 work follows).rises start)
 
   -- what is served in the order of issue goes forward in that order
   pub IsServedBefore_forward : (tree : List Node) (assigned : List ℕ) → IsForward (IsServedBefore tree assigned work start) work
   IsServedBefore_forward tree assigned =
-      let second = λ (i m : ℕ) (linked : IsLinked (IsServedBefore tree assigned work start) work i m).
-      let number : IsNumber work m = elim linked [
-        | inl served ↦ served.second
-        | inr follow ↦ let earlier = follows i m follow in record { from = omega (arith, earlier.from, earlier.earlier); to = earlier.to }
-      ] in number in
-      record {
-        place = place_of work (issue_of work start);
-        from = λ m number. place_from work (issue_of work start) m number;
-        to = λ m number. place_to work (issue_of work start) m;
-        first = λ i m linked. elim linked [
-          | inl served ↦ served.first
-          | inr follow ↦ let earlier = follows i m follow in record { from = earlier.from; to = omega (arith, earlier.earlier, earlier.to) }
-        ];
-        second = second;
-        earlier = λ i m linked. earlier_place work (issue_of work start) i m (second i m linked) (linked_issued tree assigned i m linked);
-      }
+      serves_forward tree assigned work start (issue_of work start) issued follows ((service_key V3 work follows).rises start)
 
 -- without clients, where releases do not fall, what is served in the order of issue is served in that of the trace
 pub issue_is_arrival : (tree : List Node) (assigned : List ℕ) (work : Work) (start : ℕ → ℕ) → IssueIsArrival tree assigned work start
 issue_is_arrival tree assigned work start same none rise i j = (
   λ served. record {
     from = served.first.from;
-    earlier = lower served.issued;
+    earlier = lower served.precedes;
     to = omega (arith, served.second.to, same);
     excludes = served.excludes;
   },
   λ ordered. record {
     first = record { from = ordered.from; to = omega (arith, ordered.earlier, ordered.to, same) };
     second = record { from = omega (arith, ordered.from, ordered.earlier); to = omega (arith, ordered.to, same) };
-    issued = elim (cases_lt (issue_of work start i) (issue_of work start j)) [
+    precedes = elim (cases_lt (issue_of work start i) (issue_of work start j)) [
       | inl sooner ↦ inl sooner
       | inr no_sooner ↦ inr (omega (arith, at i, at j, no_sooner, rise i j ordered.earlier), ordered.earlier)
     ];

@@ -3,7 +3,7 @@ use Rattle.std.proofs.Common.{◌≡◌, ◌≢◌, ℕ, zero, suc, ◌+◌, ◌
 use Rattle.std.specs.List.{list_any}
 use Rattle.std.specs.List.Sorted.{IsPermutation}
 use Rattle.std.specs.Prelude.{nat_eq}
-use Rattle.std.proofs.lemmas.Bool.{cases_lt, cases_eq, cases_Bool, cond-true, cond-false, eq-eqb, ne_eqb, false_from_ne_true, eqb-true, false≢true}
+use Rattle.std.proofs.lemmas.Bool.{cases_eq, cases_Bool, cond-true, cond-false, eq-eqb, ne_eqb, false_from_ne_true, eqb-true, false≢true}
 use Rattle.std.proofs.lemmas.Cmp.{nat_eq_equiv}
 use Rattle.std.proofs.lemmas.List.Elements.{Contains-append_left, Contains-push, Contains-push_cases}
 use Rattle.std.proofs.lemmas.List.Sorted.{Contains-permutation, sum_by-IsPermutation, IsPermutation-sym}
@@ -13,40 +13,40 @@ use Rattle.std.proofs.lemmas.Option.{none-some, same_Some}
 use Rattle.waff_model.specs.Tree.{Node}
 use Rattle.waff_assign.specs.Order.{affinity_of}
 use Rattle.waff_plan.specs.Work.{Work, IsNumber, numbers, finish_of, issue_of}
-use Rattle.waff_plan.specs.Obeys.{FollowsEarlier}
-use Rattle.waff_plan.specs.Issues.{IsIssuedBefore, IsServedBefore, IsLeastByIssue}
-use Rattle.waff_plan.specs.Pending.{Issue, IsNoLater}
+use Rattle.waff_plan.specs.Obeys.{FollowsEarlier, IsLeast}
+use Rattle.waff_plan.specs.Order.{ComesBefore, IsServiceKey, Key, Serves}
+use Rattle.waff_plan.specs.Due.{IsDueFirst}
+use Rattle.waff_plan.specs.Pending.{Issue}
 use Rattle.waff_plan.specs.Table.{IsLatestExcluding}
 use Rattle.waff_plan.specs.declared.latest.Latest.{Latest}
 use Rattle.waff_plan.proofs.Earliest.{least_from_at_once}
-use Rattle.waff_plan.proofs.Holding.{followed-le-issue}
-use Rattle.waff_plan.proofs.IssueOrder.{issued_not_itself, issued_on, IsServedBefore_forward}
-use Rattle.waff_plan.proofs.Places.{sum_by-range_with_len-lt, sum_of_ones}
-use Rattle.waff_plan.proofs.IssuePlans.{same_issue}
+use Rattle.waff_plan.proofs.Holding.{same_issue}
+use Rattle.waff_plan.proofs.Orders.{serves_forward}
+use Rattle.waff_plan.proofs.Places.{keyed_not_itself, keyed_on, sum_by-range_with_len-lt, sum_of_ones}
 
 -- message m, beside those that have a start, starts as soon as it may
-pub record IsAtOnce (tree : List Node) (assigned : List ℕ) (work : Work) (start : ℕ → ℕ) (order : List ℕ) (m : ℕ) : Type 0 where
+pub record IsAtOnce (tree : List Node) (assigned : List ℕ) (work : Work) (key : Key) (start : ℕ → ℕ) (order : List ℕ) (m : ℕ) : Type 0 where
   pub issued : issue_of work start m ≤ start m
-  pub finished : (i : ℕ) → Contains order i → IsServedBefore tree assigned work start i m → finish_of work start i ≤ start m
+  pub finished : (i : ℕ) → Contains order i → Serves tree assigned work (key start) i m → finish_of work start i ≤ start m
   pub greatest : (tick : ℕ) → issue_of work start m ≤ tick
-      → ((i : ℕ) → Contains order i → IsServedBefore tree assigned work start i m → finish_of work start i ≤ tick) → start m ≤ tick
+      → ((i : ℕ) → Contains order i → Serves tree assigned work (key start) i m → finish_of work start i ≤ tick) → start m ≤ tick
 
 -- the messages that have a start
-pub record AreTaken (tree : List Node) (assigned : List ℕ) (work : Work) (start : ℕ → ℕ) (order : List ℕ) : Type 0 where
+pub record AreTaken (tree : List Node) (assigned : List ℕ) (work : Work) (key : Key) (start : ℕ → ℕ) (order : List ℕ) : Type 0 where
   pub number : (m : ℕ) → Contains order m → IsNumber work m
   pub closed : (f m : ℕ) → work.follows m ≡ Some f → Contains order m → Contains order f
-  pub at_once : (m : ℕ) → Contains order m → IsAtOnce tree assigned work start order m
+  pub at_once : (m : ℕ) → Contains order m → IsAtOnce tree assigned work key start order m
 
 -- the messages that are issued and have no start, with their issues
-pub record ArePending (work : Work) (start : ℕ → ℕ) (order : List ℕ) (pending : List Issue) : Type 0 where
+pub record ArePending (work : Work) (key : Key) (start : ℕ → ℕ) (order : List ℕ) (pending : List Issue) : Type 0 where
   pub number : (x : Issue) → Contains pending x → IsNumber work x.1
-  pub issue : (x : Issue) → Contains pending x → x.0 ≡ issue_of work start x.1
+  pub issue : (x : Issue) → Contains pending x → x.0 ≡ key start x.1
   pub apart : (x : Issue) → Contains pending x → Contains order x.1 → ⊥
   pub after : (x : Issue) (f : ℕ) → Contains pending x → work.follows x.1 ≡ Some f → Contains order f
-  pub later : (x : Issue) (i : ℕ) → Contains pending x → Contains order i → IsIssuedBefore work start i x.1
+  pub later : (x : Issue) (i : ℕ) → Contains pending x → Contains order i → ComesBefore (key start) i x.1
   pub once : (m : ℕ) → count_by (λ (x : Issue). x.1 == m) pending ≤ 1
   pub all : (m : ℕ) → IsNumber work m → (Contains order m → ⊥) → ((f : ℕ) → work.follows m ≡ Some f → Contains order f)
-      → Contains pending (issue_of work start m, m)
+      → Contains pending (key start m, m)
 
 -- whether a message is among these
 has : List ℕ → ℕ → Bool
@@ -71,35 +71,28 @@ module _ (work : Work) (start later : ℕ → ℕ) (m : ℕ) (same : (i : ℕ) �
   issue_kept : FollowsEarlier work → (j : ℕ) → ((f : ℕ) → work.follows j ≡ Some f → f ≢ m) → issue_of work later j ≡ issue_of work start j
   issue_kept follows j other = same_issue work later start j (λ f follow. same f (follows f j follow).from (other f follow))
 
+  key_kept : (key : Key) → IsServiceKey work key → FollowsEarlier work → (j : ℕ) → ((f : ℕ) → work.follows j ≡ Some f → f ≢ m) → key later j ≡ key start j
+  key_kept key service follows j other = service.kept later start j (λ f follow. same f (follows f j follow).from (other f follow))
+
   pub finish_kept : (i : ℕ) → 1 ≤ i → i ≢ m → finish_of work later i ≡ finish_of work start i
   finish_kept i from other = ap (λ s. s + work.cost i) (same i from other)
 
-issued_same : (work : Work) (start other : ℕ → ℕ) (i j : ℕ) → issue_of work start i ≡ issue_of work other i → issue_of work start j ≡ issue_of work other j
-    → IsIssuedBefore work start i j → IsIssuedBefore work other i j
-issued_same work start other i j same_i same_j (inl sooner) = inl (omega (arith, same_i, same_j, sooner))
-issued_same work start other i j same_i same_j (inr same) = inr (omega (arith, same_i, same_j, same.0), same.1)
+first_same : (key other : ℕ → ℕ) (i j : ℕ) → key i ≡ other i → key j ≡ other j → ComesBefore key i j → ComesBefore other i j
+first_same key other i j same_i same_j (inl sooner) = inl (omega (arith, same_i, same_j, sooner))
+first_same key other i j same_i same_j (inr same) = inr (omega (arith, same_i, same_j, same.0), same.1)
 
-served_same : (tree : List Node) (assigned : List ℕ) (work : Work) (start other : ℕ → ℕ) (i j : ℕ) → issue_of work start i ≡ issue_of work other i
-    → issue_of work start j ≡ issue_of work other j → IsServedBefore tree assigned work start i j → IsServedBefore tree assigned work other i j
-served_same tree assigned work start other i j same_i same_j served = record {
+serves_same : (tree : List Node) (assigned : List ℕ) (work : Work) (key other : ℕ → ℕ) (i j : ℕ) → key i ≡ other i → key j ≡ other j
+    → Serves tree assigned work key i j → Serves tree assigned work other i j
+serves_same tree assigned work key other i j same_i same_j served = record {
   first = served.first;
   second = served.second;
-  issued = issued_same work start other i j same_i same_j served.issued;
+  precedes = first_same key other i j same_i same_j served.precedes;
   excludes = served.excludes;
 }
 
--- a message is issued before one that follows it and comes later in the trace
-rises_after : (work : Work) (start : ℕ → ℕ) (i m : ℕ) → i < m → issue_of work start i ≤ start i → work.follows m ≡ Some i → IsIssuedBefore work start i m
-rises_after work start i m earlier issued follow =
-    let later : issue_of work start i ≤ issue_of work start m = omega (arith, issued, followed-le-issue work start i m follow) in
-    elim (cases_lt (issue_of work start i) (issue_of work start m)) [
-      | inl sooner ↦ inl sooner
-      | inr no_sooner ↦ inr (omega (arith, later, no_sooner), earlier)
-    ]
-
 -- one of the pending messages is taken: what is known of it, and what of the others
-module _ (tree : List Node) (assigned : List ℕ) (work : Work) (start later : ℕ → ℕ) (order : List ℕ) (pending rest : List Issue) (x : Issue)
-    (follows : FollowsEarlier work) (taken : AreTaken tree assigned work start order) (are : ArePending work start order pending)
+module _ (tree : List Node) (assigned : List ℕ) (work : Work) (key : Key) (service : IsServiceKey work key) (start later : ℕ → ℕ) (order : List ℕ) (pending rest : List Issue) (x : Issue)
+    (follows : FollowsEarlier work) (taken : AreTaken tree assigned work key start order) (are : ArePending work key start order pending)
     (taken_first : IsPermutation pending (x ∷ rest)) (same : (i : ℕ) → 1 ≤ i → i ≢ x.1 → later i ≡ start i) where
   abbrev m : ℕ
   m = x.1
@@ -124,12 +117,18 @@ module _ (tree : List Node) (assigned : List ℕ) (work : Work) (start later : �
   pub order_finish : (i : ℕ) → Contains order i → finish_of work later i ≡ finish_of work start i
   order_finish i there = finish_kept work start later m same i (taken.number i there).from (order_other i there)
 
-  pending_issue : (y : Issue) → Contains pending y → issue_of work later y.1 ≡ issue_of work start y.1
-  pending_issue y there = issue_kept work start later m same follows y.1 (λ f follow. order_other f (are.after y f there follow))
+  order_key : (i : ℕ) → Contains order i → key later i ≡ key start i
+  order_key i there = key_kept work start later m same key service follows i (λ f follow. order_other f (taken.closed f i follow there))
+
+  pending_key : (y : Issue) → Contains pending y → key later y.1 ≡ key start y.1
+  pending_key y there = key_kept work start later m same key service follows y.1 (λ f follow. order_other f (are.after y f there follow))
+
+  pub m_issue_kept : issue_of work later m ≡ issue_of work start m
+  m_issue_kept = issue_kept work start later m same follows m (λ f follow is. omega (arith, (follows f m follow).earlier, is))
 
   -- what is taken was issued before what is pending
-  order_first : (i : ℕ) (y : Issue) → Contains order i → Contains pending y → IsIssuedBefore work later i y.1
-  order_first i y at there = issued_same work start later i y.1 (sym (order_issue i at)) (sym (pending_issue y there)) (are.later y i there at)
+  order_first : (i : ℕ) (y : Issue) → Contains order i → Contains pending y → ComesBefore (key later) i y.1
+  order_first i y at there = first_same (key start) (key later) i y.1 (sym (order_key i at)) (sym (pending_key y there)) (are.later y i there at)
 
   -- message m alone is taken
   pub rest_other : (y : Issue) → Contains rest y → y.1 ≢ m
@@ -141,48 +140,48 @@ module _ (tree : List Node) (assigned : List ℕ) (work : Work) (start later : �
       omega (arith, are.once m, sum_by-IsPermutation counts pending (x ∷ rest) taken_first, sum_by-cons counts x rest, one, two, some)
 
   module _ (s : ℕ) (latest : Option Latest) (starts : later m ≡ s) (latest_is : IsLatestExcluding tree assigned (finish_of work start) order (affinity_of assigned m) latest)
-      (starts_at : MatchOption latest (s ≡ x.0) (λ l. s ≡ max x.0 l.finish)) where
+      (starts_at : MatchOption latest (s ≡ issue_of work start m) (λ l. s ≡ max (issue_of work start m) l.finish)) where
     m_number : IsNumber work m
     m_number = are.number x x_there
 
-    pub m_issue : x.0 ≡ issue_of work later m
-    m_issue = are.issue x x_there ∙ sym (pending_issue x x_there)
+    pub m_key : x.0 ≡ key later m
+    m_key = are.issue x x_there ∙ sym (pending_key x x_there)
 
     -- message m starts as soon as it may
     at_once_from : (latest : Option Latest) → IsLatestExcluding tree assigned (finish_of work start) order (affinity_of assigned m) latest
-        → MatchOption latest (s ≡ x.0) (λ l. s ≡ max x.0 l.finish) → IsAtOnce tree assigned work later more m
+        → MatchOption latest (s ≡ issue_of work start m) (λ l. s ≡ max (issue_of work start m) l.finish) → IsAtOnce tree assigned work key later more m
     at_once_from None none at = record {
-      issued = omega (arith, starts, at, m_issue);
+      issued = omega (arith, starts, at, m_issue_kept);
       finished = λ i there served. elim (Contains-push_cases order m i there) [
         | inl old ↦ absurd (none i (old, served.excludes))
-        | inr new ↦ absurd (issued_not_itself work later m (subst (λ n. IsIssuedBefore work later n m) (sym new) served.issued))
+        | inr new ↦ absurd (keyed_not_itself (key later) m (subst (λ n. ComesBefore (key later) n m) (sym new) served.precedes))
       ];
-      greatest = λ tick issued finished. omega (arith, starts, at, m_issue, issued);
+      greatest = λ tick issued finished. omega (arith, starts, at, m_issue_kept, issued);
     }
     at_once_from (Some l) found at = record {
-      issued = omega (arith, starts, at, m_issue);
+      issued = omega (arith, starts, at, m_issue_kept);
       finished = λ i there served. elim (Contains-push_cases order m i there) [
         | inl old ↦
             let bound = found.number.latest i (old, served.excludes) in
             omega (arith, starts, at, bound, found.finish_is, order_finish i old)
-        | inr new ↦ absurd (issued_not_itself work later m (subst (λ n. IsIssuedBefore work later n m) (sym new) served.issued))
+        | inr new ↦ absurd (keyed_not_itself (key later) m (subst (λ n. ComesBefore (key later) n m) (sym new) served.precedes))
       ];
       greatest = λ tick issued finished.
           let one = found.number.one in
           let done = finished l.number (Contains-append_left order (m ∷ []) l.number one.0) (record {
             first = taken.number l.number one.0;
             second = m_number;
-            issued = order_first l.number x one.0 x_there;
+            precedes = order_first l.number x one.0 x_there;
             excludes = one.1;
           }) in
-          omega (arith, starts, at, m_issue, issued, done, found.finish_is, order_finish l.number one.0);
+          omega (arith, starts, at, m_issue_kept, issued, done, found.finish_is, order_finish l.number one.0);
     }
 
-    m_at_once : IsAtOnce tree assigned work later more m
+    m_at_once : IsAtOnce tree assigned work key later more m
     m_at_once = at_once_from latest latest_is starts_at
 
     -- those that had a start before started as soon as they might
-    old_at_once : (j : ℕ) → Contains order j → IsAtOnce tree assigned work later more j
+    old_at_once : (j : ℕ) → Contains order j → IsAtOnce tree assigned work key later more j
     old_at_once j at =
         let once = taken.at_once j at in
         let same_j = same j (taken.number j at).from (order_other j at) in
@@ -191,21 +190,21 @@ module _ (tree : List Node) (assigned : List ℕ) (work : Work) (start later : �
           issued = omega (arith, once.issued, same_j, issue_j);
           finished = λ i there served. elim (Contains-push_cases order m i there) [
             | inl old ↦
-                let before = served_same tree assigned work later start i j (order_issue i old) issue_j served in
+                let before = serves_same tree assigned work (key later) (key start) i j (order_key i old) (order_key j at) served in
                 omega (arith, once.finished i old before, same_j, order_finish i old)
             | inr new ↦
-                absurd (issued_not_itself work later m
-                (issued_on work later m j m (subst (λ n. IsIssuedBefore work later n j) (sym new) served.issued) (order_first j x at x_there)))
+                absurd (keyed_not_itself (key later) m
+                (keyed_on (key later) m j m (subst (λ n. ComesBefore (key later) n j) (sym new) served.precedes) (order_first j x at x_there)))
           ];
           greatest = λ tick issued finished.
               let bound = once.greatest tick (omega (arith, issued, issue_j)) (λ i old before.
               let done = finished i (Contains-append_left order (m ∷ []) i old)
-              (served_same tree assigned work start later i j (sym (order_issue i old)) (sym issue_j) before) in
+              (serves_same tree assigned work (key start) (key later) i j (sym (order_key i old)) (sym (order_key j at)) before) in
               omega (arith, done, order_finish i old)) in
               omega (arith, bound, same_j);
         }
 
-    pub taken_more : AreTaken tree assigned work later more
+    pub taken_more : AreTaken tree assigned work key later more
     taken_more = record {
       number = λ j there. elim (Contains-push_cases order m j there) [
         | inl old ↦ taken.number j old
@@ -217,16 +216,16 @@ module _ (tree : List Node) (assigned : List ℕ) (work : Work) (start later : �
       ]);
       at_once = λ j there. elim (Contains-push_cases order m j there) [
         | inl old ↦ old_at_once j old
-        | inr new ↦ subst (IsAtOnce tree assigned work later more) new m_at_once
+        | inr new ↦ subst (IsAtOnce tree assigned work key later more) new m_at_once
       ];
     }
 
     -- the message that follows m is issued once m has a start
-    module _ (pending_more : List Issue) (no_later : (y : Issue) → Contains rest y → IsNoLater x y)
+    module _ (pending_more : List Issue) (no_later : (y : Issue) → Contains rest y → IsDueFirst x y)
         (new_in : (y : Issue) → Contains pending_more y
-        → Contains rest y ⊎ ((work.follows y.1 ≡ Some m) × ((y.0 ≡ issue_of work later y.1) × IsNumber work y.1)))
+        → Contains rest y ⊎ ((work.follows y.1 ≡ Some m) × ((y.0 ≡ key later y.1) × IsNumber work y.1)))
         (old_in : (y : Issue) → Contains rest y → Contains pending_more y)
-        (next_in : (j : ℕ) → work.follows j ≡ Some m → IsNumber work j → Contains pending_more (issue_of work later j, j))
+        (next_in : (j : ℕ) → work.follows j ≡ Some m → IsNumber work j → Contains pending_more (key later j, j))
         (once_more : (j : ℕ) → count_by (λ (y : Issue). y.1 == j) pending_more ≤ 1) where
       -- what follows m is not taken
       next_apart : (j : ℕ) → work.follows j ≡ Some m → Contains more j → ⊥
@@ -235,31 +234,31 @@ module _ (tree : List Node) (assigned : List ℕ) (work : Work) (start later : �
         | inr new ↦ omega (arith, (follows m j follow).earlier, new)
       ]
 
-      m_before : (y : Issue) → Contains rest y → IsIssuedBefore work later m y.1
+      m_before : (y : Issue) → Contains rest y → ComesBefore (key later) m y.1
       m_before y there = elim (no_later y there) [
-        | inl sooner ↦ inl (omega (arith, sooner, m_issue, are.issue y (rest_there y there), pending_issue y (rest_there y there)))
+        | inl sooner ↦ inl (omega (arith, sooner, m_key, are.issue y (rest_there y there), pending_key y (rest_there y there)))
         | inr equal ↦
-            inr (omega (arith, equal.0, m_issue, are.issue y (rest_there y there), pending_issue y (rest_there y there)), omega (arith, equal.1, rest_other y there))
+            inr (omega (arith, equal.0, m_key, are.issue y (rest_there y there), pending_key y (rest_there y there)), omega (arith, equal.1, rest_other y there))
       ]
 
-      m_before_next : (j : ℕ) → work.follows j ≡ Some m → IsIssuedBefore work later m j
-      m_before_next j follow = rises_after work later m j (follows m j follow).earlier m_at_once.issued follow
+      m_before_next : (j : ℕ) → work.follows j ≡ Some m → ComesBefore (key later) m j
+      m_before_next j follow = service.rises later m j follow m_at_once.issued
 
-      later_more : (y : Issue) (i : ℕ) → Contains pending_more y → Contains more i → IsIssuedBefore work later i y.1
+      later_more : (y : Issue) (i : ℕ) → Contains pending_more y → Contains more i → ComesBefore (key later) i y.1
       later_more y i there at = elim (new_in y there) [
         | inl old_y ↦ elim (Contains-push_cases order m i at) [
           | inl old ↦ order_first i y old (rest_there y old_y)
-          | inr new ↦ subst (λ n. IsIssuedBefore work later n y.1) new (m_before y old_y)
+          | inr new ↦ subst (λ n. ComesBefore (key later) n y.1) new (m_before y old_y)
         ]
         | inr new_y ↦ elim (Contains-push_cases order m i at) [
-          | inl old ↦ issued_on work later i m y.1 (order_first i x old x_there) (m_before_next y.1 new_y.0)
-          | inr new ↦ subst (λ n. IsIssuedBefore work later n y.1) new (m_before_next y.1 new_y.0)
+          | inl old ↦ keyed_on (key later) i m y.1 (order_first i x old x_there) (m_before_next y.1 new_y.0)
+          | inr new ↦ subst (λ n. ComesBefore (key later) n y.1) new (m_before_next y.1 new_y.0)
         ]
       ]
 
       -- a message that is due is pending
       due_in : (j : ℕ) → IsNumber work j → (Contains more j → ⊥) → (o : Option ℕ) → work.follows j ≡ o
-          → ((f : ℕ) → work.follows j ≡ Some f → Contains more f) → Contains pending_more (issue_of work later j, j)
+          → ((f : ℕ) → work.follows j ≡ Some f → Contains more f) → Contains pending_more (key later j, j)
       due_in j number apart o is after = elim (follows_m o is) [
         | inl follow ↦ next_in j follow number
         | inr other ↦
@@ -268,11 +267,11 @@ module _ (tree : List Node) (assigned : List ℕ) (work : Work) (start later : �
               | inr new ↦ absurd (other (follow ∙ ap Some (sym new)))
             ] in
             let there = are.all j number (λ old. apart (Contains-append_left order (m ∷ []) j old)) after_old in
-            let kept : issue_of work later j ≡ issue_of work start j = issue_kept work start later m same follows j (λ f follow new. other (follow ∙ ap Some new)) in
-            let now : Contains pending (issue_of work later j, j) = subst (λ e. Contains pending (e, j)) (sym kept) there in
-            elim (rest_or_x (issue_of work later j, j) (Contains-permutation pending (x ∷ rest) (issue_of work later j, j) taken_first now)) [
+            let kept : key later j ≡ key start j = key_kept work start later m same key service follows j (λ f follow new. other (follow ∙ ap Some new)) in
+            let now : Contains pending (key later j, j) = subst (λ e. Contains pending (e, j)) (sym kept) there in
+            elim (rest_or_x (key later j, j) (Contains-permutation pending (x ∷ rest) (key later j, j) taken_first now)) [
               | inl here ↦ absurd (apart (subst (Contains more) (ap (λ (z : Issue). z.1) here) (Contains-push order m)))
-              | inr there ↦ old_in (issue_of work later j, j) there
+              | inr there ↦ old_in (key later j, j) there
             ]
       ]
         where
@@ -287,11 +286,11 @@ module _ (tree : List Node) (assigned : List ℕ) (work : Work) (start later : �
           rest_or_x y (zero, within, at) = inl at
           rest_or_x y (suc k, within, at) = inr (k, omega (arith, within), at)
 
-      pub pending_from : ArePending work later more pending_more
+      pub pending_from : ArePending work key later more pending_more
       pending_from = record {
         number = λ y there. elim (new_in y there) [ inl old ↦ are.number y (rest_there y old) | inr new ↦ new.1.1 ];
         issue = λ y there. elim (new_in y there) [
-          | inl old ↦ are.issue y (rest_there y old) ∙ sym (pending_issue y (rest_there y old))
+          | inl old ↦ are.issue y (rest_there y old) ∙ sym (pending_key y (rest_there y old))
           | inr new ↦ new.1.0
         ];
         apart = λ y there at. elim (new_in y there) [
@@ -339,25 +338,26 @@ once_put old new x put once other m =
     ]
 
 -- where no message is pending, all have a start
-pub all_taken : (work : Work) (start : ℕ → ℕ) (order : List ℕ) → FollowsEarlier work → ArePending work start order [] → (n m : ℕ) → m ≤ n → IsNumber work m
+pub all_taken : (work : Work) (key : Key) (start : ℕ → ℕ) (order : List ℕ) → FollowsEarlier work → ArePending work key start order [] → (n m : ℕ) → m ≤ n → IsNumber work m
     → Contains order m
-all_taken work start order follows are zero m within number = absurd (omega (arith, within, number.from))
-all_taken work start order follows are (suc n) m within number = elim (has_or_not order m) [
+all_taken work key start order follows are zero m within number = absurd (omega (arith, within, number.from))
+all_taken work key start order follows are (suc n) m within number = elim (has_or_not order m) [
   | inl there ↦ there
   | inr apart ↦
       let due = are.all m number apart (λ f follow.
       let earlier = follows f m follow in
-      all_taken work start order follows are n f (omega (arith, within, earlier.earlier))
+      all_taken work key start order follows are n f (omega (arith, within, earlier.earlier))
       (record { from = earlier.from; to = omega (arith, earlier.earlier, earlier.to) })) in
       absurd (omega (arith, due.1))
 ]
 
-pub least_from_taken : (tree : List Node) (assigned : List ℕ) (work : Work) (start : ℕ → ℕ) (order : List ℕ) → FollowsEarlier work
-    → AreTaken tree assigned work start order → ArePending work start order [] → IsLeastByIssue tree assigned work start
-least_from_taken tree assigned work start order follows taken are =
-    let all = λ (m : ℕ) (number : IsNumber work m). all_taken work start order follows are m m (omega arith) number in
+pub least_from_taken : (tree : List Node) (assigned : List ℕ) (work : Work) (key : Key) → IsServiceKey work key → (start : ℕ → ℕ) (order : List ℕ)
+    → FollowsEarlier work → AreTaken tree assigned work key start order → ArePending work key start order [] → IsLeast (Serves tree assigned work (key start)) work start
+least_from_taken tree assigned work key service start order follows taken are =
+    let all = λ (m : ℕ) (number : IsNumber work m). all_taken work key start order follows are m m (omega arith) number in
     let issued = λ (m : ℕ) (number : IsNumber work m). (taken.at_once m (all m number)).issued in
-    least_from_at_once (IsServedBefore tree assigned work start) work start (IsServedBefore_forward work start issued follows tree assigned)
+    least_from_at_once (Serves tree assigned work (key start)) work start
+    (serves_forward tree assigned work start (key start) issued follows (service.rises start))
     (λ m number.
     let once = taken.at_once m (all m number) in
     record {

@@ -4,11 +4,12 @@ pub mod NoClients
 pub mod Chains
 pub mod Earliest
 pub mod Places
+pub mod Orders
 pub mod IssueOrder
 pub mod StartOrder
 pub mod IssuePlans
 mod IssueSteps
-mod PendingLemmas
+mod DueLemmas
 pub mod FollowLemmas
 pub mod ClientLemmas
 pub mod TimingLemmas
@@ -16,12 +17,11 @@ mod LastLemmas
 pub mod ServingLemmas
 mod IssueFirst
 mod IssueLoop
+mod TurnLemmas
 pub mod Ticks
-mod Steps
 pub mod Forward
 mod Latests
 mod Tables
-mod LeastStarts
 mod OrderKept
 pub mod Linkings
 mod Followings
@@ -31,3 +31,5 @@ pub mod ApartLaws
 pub mod Uniqueness
 mod Shares
 pub mod LowerBounds
+mod Peaks
+mod TreeStarts

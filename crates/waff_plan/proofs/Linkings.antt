@@ -1,36 +1,13 @@
 -- The links of a plan, one message after another, and the chain that they make from its end.
-use Rattle.std.proofs.Common.{◌≡◌, ℕ, ◌+◌, ◌-◌, ◌<◌, ◌≤◌, List, [], ◌∷◌, ◌++◌, length, get_or, Option, Some, None, MatchOption, All, arith, inl, inr, subst, sym, ◌∙◌}
-use Rattle.std.proofs.lemmas.Bool.{cases_eq}
-use Rattle.std.proofs.lemmas.List.{get_or_append_left, get_or_default, get_or_push}
+use Rattle.std.proofs.Common.{◌≡◌, ℕ, ◌+◌, ◌-◌, ◌<◌, ◌≤◌, List, [], ◌∷◌, length, get_or, Option, Some, None, MatchOption, All, arith, subst, sym, ◌∙◌}
+use Rattle.std.proofs.lemmas.List.{get_or_default}
 use Rattle.std.proofs.lemmas.List.Elements.{All-nil, All-cons}
-use Rattle.waff_model.specs.Tree.{Node}
-use Rattle.waff_assign.specs.Order.{Relation, affinity_of, IsOrdered}
+use Rattle.waff_assign.specs.Order.{Relation}
 use Rattle.waff_plan.specs.Work.{Work, IsNumber}
 use Rattle.waff_plan.specs.Obeys.{IsForward}
 use Rattle.waff_plan.specs.Chain.{LinksOn, IsChain, LeadsToEnd, IsPrinted}
-use Rattle.waff_plan.specs.Latest.{IsFound}
 use Rattle.waff_plan.specs.Links.{IsLink, AreLinks}
-use Rattle.waff_plan.specs.declared.latest.Latest.{Latest}
 use Rattle.waff_plan.proofs.Chains.{first_is_number}
-use Rattle.waff_plan.proofs.Latests.{found_same}
-use Rattle.waff_plan.proofs.Tables.{IsLatestOfFirst}
-
--- the latest of the messages before m by number that exclude it is the latest that is ordered before it
-pub found_ordered : (tree : List Node) (assigned : List ℕ) (finish : ℕ → ℕ) (m : ℕ) (latest : Option Latest) → 1 ≤ m → m ≤ length assigned
-    → IsLatestOfFirst tree assigned finish (m - 1) (affinity_of assigned m) latest → IsFound (λ i. IsOrdered tree assigned i m) finish latest
-found_ordered tree assigned finish m latest from to found =
-    found_same _ (λ i. IsOrdered tree assigned i m) finish latest
-    (λ i h. record { from = h.0.from; earlier = omega (arith, h.0.to, from); to = to; excludes = h.1 })
-    (λ i h. (record { from = h.from; to = omega (arith, h.earlier) }, h.excludes)) found
-
--- one more link
-pub links_more : (Is : ℕ → Option ℕ → Type 0) (m : ℕ) (links : List (Option ℕ)) (link : Option ℕ) → 1 ≤ m → length links ≡ m - 1
-    → ((i : ℕ) → 1 ≤ i → i ≤ m - 1 → Is i (get_or links (i - 1) None)) → Is m link
-    → (i : ℕ) → 1 ≤ i → i ≤ m + 1 - 1 → Is i (get_or (links ++ link ∷ []) (i - 1) None)
-links_more Is m links link from count h is i i_from i_to = elim (cases_eq i m) [
-  | inl last ↦ rw (get_or_push links link None (i - 1) (omega arith), last) is
-  | inr other ↦ rw (get_or_append_left links (link ∷ []) None (i - 1) (omega arith)) (h i i_from (omega arith))
-]
 
 -- the link of a message
 pub link_there : (before : Relation) (work : Work) (start : ℕ → ℕ) (links : List (Option ℕ)) (m : ℕ) (link : Option ℕ) → length links ≡ work.count

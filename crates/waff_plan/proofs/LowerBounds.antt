@@ -5,10 +5,10 @@ use Rattle.std.specs.List.{range_with_len}
 use Rattle.std.proofs.lemmas.Bool.{cases_Bool, cases_eq, cases_lt, cond-true, cond-false, eq-eqb, ne_eqb}
 use Rattle.std.proofs.lemmas.List.{get_or_past, get_or-set_other, get_or-set_same}
 use Rattle.std.proofs.lemmas.List.FromFn.{get_or-map-range_with_len, length-map-range_with_len, map-range_with_len_more}
-use Rattle.std.proofs.lemmas.List.Recursion.{max_least, max_push}
+use Rattle.std.proofs.lemmas.List.Recursion.{max_least}
 use Rattle.std.proofs.lemmas.List.Sums.{sum_by-cons}
 use Rattle.waff_model.specs.Tree.{IsRooted, IsTree, Node, AtOrAbove, parent_of}
-use Rattle.waff_model.proofs.TreeLemmas.{above_child, comparable, earlier, reflexive}
+use Rattle.waff_model.proofs.TreeLemmas.{above_child, above_parent, above_root, comparable, earlier, reflexive}
 use Rattle.waff_assign.specs.Order.{IsOrdered, affinity_of}
 use Rattle.waff_plan.specs.Apart.{AreApart}
 use Rattle.waff_plan.specs.Bound.{IsWorkers}
@@ -21,7 +21,7 @@ use Rattle.waff_plan.specs.Work.{IsNumber, Work, finish_of, greatest, issue_afte
 use Rattle.waff_plan.specs.Workers.{IsWorkerPlan, running, runs_at}
 use Rattle.waff_plan.proofs.ApartLaws.{runs_from, runs_parts}
 use Rattle.waff_plan.proofs.Holding.{release-le-issue}
-use Rattle.waff_plan.proofs.Longest.{finish_of-le-length_of, greatest_more, length_of-le, sum_more}
+use Rattle.waff_plan.proofs.Longest.{finish_of-le-length_of, length_of-le, sum_more}
 use Rattle.waff_plan.proofs.Shares.{share_is_within}
 use Rattle.waff_plan.proofs.Ticks.{sum_by-numbers-le, total_is_within_workers}
 
@@ -190,6 +190,34 @@ module _ (tree : List Node) (assigned : List ℕ) (work : Work) where
     | inr other ↦ omega (arith, part_other a m other, parent_part n m (parent_of tree a) (λ p. part_within is n p m))
   ]
 
+  -- by enough steps its part is its cost
+  parent_all : (n a m : ℕ) (o : Option ℕ) → parent_of tree a ≡ o → (affinity_of assigned m ≡ a → ⊥) → AtOrAbove tree (affinity_of assigned m) a
+      → ((p : ℕ) → parent_of tree a ≡ Some p → AtOrAbove tree (affinity_of assigned m) p → work.cost m ≤ part n p m) → work.cost m ≤ of_parent (λ p. part n p m) o
+  parent_all n a m None is other above all = absurd (other (above_root tree (affinity_of assigned m) a is above))
+  parent_all n a m (Some p) is other above all = all p is (above_parent tree (affinity_of assigned m) a p other is above)
+
+  part_all : IsTree tree → (n a m : ℕ) → a ≤ n → AtOrAbove tree (affinity_of assigned m) a → work.cost m ≤ part n a m
+  part_all is zero a m few above =
+      let low = earlier tree is.rooted (affinity_of assigned m) a above in
+      omega (arith, part_here a m (omega (arith, low, few)))
+  part_all is (suc n) a m few above = elim (cases_eq (affinity_of assigned m) a) [
+    | inl same ↦ omega (arith, part_here a m same)
+    | inr other ↦
+        let high = parent_all n a m (parent_of tree a) refl other above
+        (λ p parent at. let lower = is.rooted.earlier a p parent in part_all is n p m (omega (arith, lower, few)) at) in
+        omega (arith, high)
+  ]
+
+  -- what messages that run in an affinity or above it cost in all is on its path
+  pub within_path : IsTree tree → (a : ℕ) (f : ℕ → ℕ) → ((m : ℕ) → IsNumber work m → f m ≤ work.cost m)
+      → ((m : ℕ) → IsNumber work m → 0 < f m → AtOrAbove tree (affinity_of assigned m) a) → sum_by f (numbers work) ≤ path_cost tree assigned work a
+  within_path is a f within above =
+      let each : (m : ℕ) → IsNumber work m → f m ≤ part a a m = λ m number. elim (cases_lt 0 (f m)) [
+        | inl some ↦ omega (arith, within m number, part_all is a a m (omega arith) (above m number some))
+        | inr none ↦ omega arith
+      ] in
+      omega (arith, sum_by-numbers-le work f (λ m. part a a m) each, cost_is a a)
+
   -- the messages in an affinity and above it, as work of its own
   abbrev path_work : ℕ → ℕ → Work
   path_work n a = record { count = work.count; cost = λ m. part n a m; release = λ m. 0; follows = λ m. None; think = λ m. 0 }
@@ -227,7 +255,7 @@ module _ (tree : List Node) (assigned : List ℕ) (work : Work) where
       omega (arith, part_within is n a m, finish_of-le-length_of work other m known)) in
       omega (arith, cost_is n a, total, shorter)
 
-  paths_below : IsTree tree → length assigned ≡ work.count → (other : ℕ → ℕ) → AreApart (IsOrdered tree assigned) work other
+  pub paths_below : IsTree tree → length assigned ≡ work.count → (other : ℕ → ℕ) → AreApart (IsOrdered tree assigned) work other
       → greatest (map (path_cost tree assigned work) (range_with_len 0 (length tree))) ≤ length_of work other
   paths_below is long other apart =
       greatest_within (path_cost tree assigned work) 0 (length tree) (length_of work other)
@@ -241,12 +269,6 @@ none_is_below workers tree assigned work is long known follows start obeys =
       clients_below work start follows obeys.issued,
       paths_below tree assigned work is long start obeys.apart,
     )
-
--- one more number from 0 on
-pub greatest_next : (f : ℕ → ℕ) (a : ℕ) → greatest (map f (range_with_len 0 (a + 1))) ≡ max (greatest (map f (range_with_len 0 a))) (f a)
-greatest_next f a =
-    ap greatest (map-range_with_len_more f 0 a a (omega arith))
-    ∙ max_push greatest (λ x. x) refl (λ _ _. refl) (map f (range_with_len 0 a)) (f a)
 
 same_map : (g h : ℕ → ℕ) (o : Option ℕ) → ((f : ℕ) → o ≡ Some f → g f ≡ h f) → option_map g o ≡ option_map h o
 same_map g h None same = refl
@@ -425,12 +447,3 @@ finishes_more work n finish old new from so_far is more =
 
 pub finishes_count : (work : Work) (n : ℕ) (finishes : List ℕ) → finishes ≡ map (client_finish work) (range_with_len 1 (n - 1)) → length finishes ≡ n - 1
 finishes_count work n finishes are = ap length are ∙ length-map-range_with_len (client_finish work) 1 (n - 1)
-
-pub longest_more : (work : Work) (n longest finish : ℕ) → 1 ≤ n → longest ≡ greatest (map (client_finish work) (range_with_len 1 (n - 1))) → finish ≡ client_finish work n
-    → max finish longest ≡ greatest (map (client_finish work) (range_with_len 1 (n + 1 - 1)))
-longest_more work n longest finish from so_far is =
-    let next : n - 1 + 1 ≡ n + 1 - 1 = omega (arith, from) in
-    let this : client_finish work (n - 1 + 1) ≡ client_finish work n = ap (client_finish work) (let same : n - 1 + 1 ≡ n = omega (arith, from) in same) in
-    let more : greatest (map (client_finish work) (range_with_len 1 (n + 1 - 1))) ≡ max (greatest (map (client_finish work) (range_with_len 1 (n - 1)))) (client_finish work (n - 1 + 1))
-    = ap (λ k. greatest (map (client_finish work) (range_with_len 1 k))) (sym next) ∙ greatest_more (client_finish work) (n - 1) in
-    omega (arith, more, this, so_far, is)

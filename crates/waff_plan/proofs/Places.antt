@@ -4,12 +4,9 @@ use Rattle.std.specs.List.{range_with_len}
 use Rattle.std.proofs.lemmas.Bool.{cases_eq, cases_order}
 use Rattle.std.proofs.lemmas.Bool.Decides.{nat_tests}
 use Rattle.std.proofs.lemmas.List.Sums.{sum_by-cons}
+use Rattle.waff_plan.specs.Order.{ComesBefore}
 use Rattle.waff_plan.specs.Work.{Work, IsNumber, numbers}
 use Rattle.waff_plan.proofs.Ticks.{sum_by-range_with_len-le}
-
--- message i comes before message j: it has an earlier key, or the same and the lower number
-abbrev pub IsKeyedBefore : (ℕ → ℕ) → ℕ → ℕ → Type 0
-IsKeyedBefore key i j = (key i < key j) ⊎ ((key i ≡ key j) × (i < j))
 
 -- a sum over a range of terms that are no greater, one of which is less, is less
 pub sum_by-range_with_len-lt : (f g : ℕ → ℕ) (a n m : ℕ) → ((i : ℕ) → a ≤ i → i < a + n → f i ≤ g i) → a ≤ m → m < a + n → f m < g m
@@ -64,17 +61,17 @@ sum_of_ones a zero = refl
 sum_of_ones a (suc n) = omega (arith, sum_by-cons (λ i. 1) a (range_with_len (a + 1) n), sum_of_ones (a + 1) n)
 
 -- the order by key and number is total
-pub keyed_not_itself : (key : ℕ → ℕ) (i : ℕ) → IsKeyedBefore key i i → ⊥
+pub keyed_not_itself : (key : ℕ → ℕ) (i : ℕ) → ComesBefore key i i → ⊥
 keyed_not_itself key i (inl sooner) = omega (arith, sooner)
 keyed_not_itself key i (inr same) = omega (arith, same.1)
 
-pub keyed_on : (key : ℕ → ℕ) (i j k : ℕ) → IsKeyedBefore key i j → IsKeyedBefore key j k → IsKeyedBefore key i k
+pub keyed_on : (key : ℕ → ℕ) (i j k : ℕ) → ComesBefore key i j → ComesBefore key j k → ComesBefore key i k
 keyed_on key i j k (inl sooner) (inl more) = inl (omega (arith, sooner, more))
 keyed_on key i j k (inl sooner) (inr same) = inl (omega (arith, sooner, same.0))
 keyed_on key i j k (inr same) (inl sooner) = inl (omega (arith, sooner, same.0))
 keyed_on key i j k (inr same) (inr more) = inr (omega (arith, same.0, more.0), omega (arith, same.1, more.1))
 
-pub one_is_keyed_first : (key : ℕ → ℕ) (i j : ℕ) → (i ≡ j) ⊎ (IsKeyedBefore key i j ⊎ IsKeyedBefore key j i)
+pub one_is_keyed_first : (key : ℕ → ℕ) (i j : ℕ) → (i ≡ j) ⊎ (ComesBefore key i j ⊎ ComesBefore key j i)
 one_is_keyed_first key i j = elim (cases_order (key i) (key j)) [
   | inl same ↦ elim (cases_order i j) [
     | inl one ↦ inl one
@@ -90,19 +87,19 @@ module _ (work : Work) (key : ℕ → ℕ) where
   pub place_of : ℕ → ℕ
   place_of m = sum_by (λ i. counts (key i) i (key m) m) (numbers work)
 
-  counts_more : (i j k : ℕ) → IsKeyedBefore key j k
+  counts_more : (i j k : ℕ) → ComesBefore key j k
       → counts (key i) i (key j) j ≤ counts (key i) i (key k) k
   counts_more i j k (inl sooner) = counts_sooner (key i) i (key j) j (key k) k sooner
   counts_more i j k (inr same) =
       subst (λ c. counts (key i) i (key j) j ≤ counts (key i) i c k) same.0
       (counts_lower (key i) i (key j) j k same.1)
 
-  counts_later : (i m : ℕ) → IsKeyedBefore key i m → counts (key m) m (key i) i ≡ 0
+  counts_later : (i m : ℕ) → ComesBefore key i m → counts (key m) m (key i) i ≡ 0
   counts_later i m (inl sooner) = counts_not_sooner (key m) m (key i) i sooner
   counts_later i m (inr same) =
       subst (λ b. counts (key m) m b i ≡ 0) (sym same.0) (counts_not_lower (key m) m i same.1)
 
-  pub earlier_place : (i m : ℕ) → IsNumber work m → IsKeyedBefore key i m → place_of i < place_of m
+  pub earlier_place : (i m : ℕ) → IsNumber work m → ComesBefore key i m → place_of i < place_of m
   unfolding place_of
   earlier_place i m number issued =
       sum_by-range_with_len-lt (λ n. counts (key n) n (key i) i) (λ n. counts (key n) n (key m) m)

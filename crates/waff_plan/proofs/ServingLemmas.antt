@@ -6,6 +6,7 @@ use Rattle.waff_model.specs.declared.message.Version.TheVariants.{V1, V2, V3}
 use Rattle.waff_assign.specs.Order.{IsOrdered}
 use Rattle.waff_plan.specs.Links.{IsLink}
 use Rattle.waff_plan.specs.Obeys.{EachRuns, FollowsEarlier, IsForward, IsLeast, Obeys}
+use Rattle.waff_plan.specs.Order.{key_of}
 use Rattle.waff_plan.specs.Serving.{served_before, started_before}
 use Rattle.waff_plan.specs.Timetable.{AreTimings}
 use Rattle.waff_plan.specs.Timing.{no_timing, work_of}
@@ -13,7 +14,8 @@ use Rattle.waff_plan.specs.Unique.{AreSame}
 use Rattle.waff_plan.specs.Work.{IsNumber, Work}
 use Rattle.waff_plan.specs.declared.timing.Timing.{Timing}
 use Rattle.waff_plan.proofs.Forward.{timings_forward}
-use Rattle.waff_plan.proofs.IssuePlans.{least_by_issue_is_one}
+use Rattle.waff_plan.proofs.IssuePlans.{least_by_key_is_one}
+use Rattle.waff_plan.proofs.Orders.{service_key}
 use Rattle.waff_plan.proofs.Places.{earlier_place, place_from, place_of}
 use Rattle.waff_plan.proofs.StartOrder.{IsStartedBefore_forward, least_again, served_starts, started_first}
 use Rattle.waff_plan.proofs.Uniqueness.{least_is_one}
@@ -39,7 +41,8 @@ pub least_served_is_one : (version : Version) (tree : List Node) (assigned : Lis
     → AreSame work start other
 least_served_is_one V1 tree assigned work follows start other one two = least_is_one (IsOrdered tree assigned) work start other one two
 least_served_is_one V2 tree assigned work follows start other one two = least_is_one (IsOrdered tree assigned) work start other one two
-least_served_is_one V3 tree assigned work follows start other one two = least_by_issue_is_one tree assigned work follows start other one two
+least_served_is_one V3 tree assigned work follows start other one two =
+    least_by_key_is_one tree assigned work (key_of V3 work) follows (service_key V3 work follows) start other one two
 
 module _ (tree : List Node) (assigned : List ℕ) (timings : List Timing) (start : ℕ → ℕ) (same : length timings ≡ length assigned) where
   -- the order that is served is that of chains

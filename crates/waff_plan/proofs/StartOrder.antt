@@ -12,7 +12,7 @@ use Rattle.waff_plan.specs.Work.{Work, IsAmongFirst, IsNumber, finish_of}
 use Rattle.waff_plan.proofs.ApartLaws.{apart_where_finished, together_where_running, turned}
 use Rattle.waff_plan.proofs.Holding.{followed-le-issue}
 use Rattle.waff_plan.proofs.IssueOrder.{one_is_issued_first}
-use Rattle.waff_plan.proofs.Places.{earlier_place, place_from, place_of, place_to}
+use Rattle.waff_plan.proofs.Orders.{precedes_forward}
 
 -- a least plan is least by another order that tells the same
 pub least_again : (before other : Relation) (work : Work) (start : ℕ → ℕ) → ((i j : ℕ) → before i j → other i j) → ((i j : ℕ) → other i j → before i j)
@@ -52,7 +52,7 @@ module _ (tree : List Node) (assigned : List ℕ) (work : Work) (same : length a
   apart_started : (start : ℕ → ℕ) → AreApart (IsOrdered tree assigned) work start → (i j : ℕ) → IsStartedBefore tree assigned start i j
       → finish_of work start i ≤ start j
   apart_started start apart i j before =
-      apart_finish start apart i j (λ one. omega (arith, before.started, ap start one)) before.first before.second before.excludes (omega (arith, before.started))
+      apart_finish start apart i j (λ one. omega (arith, before.precedes, ap start one)) before.first before.second before.excludes (omega (arith, before.precedes))
 
   -- a plan that obeys in whatever order obeys that in which it starts messages
   pub apart_obeys : (start : ℕ → ℕ) → ObeysApart tree assigned work start → Obeys (IsStartedBefore tree assigned start) work start
@@ -66,16 +66,16 @@ module _ (tree : List Node) (assigned : List ℕ) (work : Work) (same : length a
         apart_started other serves.other_obeys.apart i j (record {
           first = before.first;
           second = before.second;
-          started = sooner i j before;
+          precedes = sooner i j before;
           excludes = before.excludes;
         });
   }
     where
       sooner : (i j : ℕ) → IsStartedBefore tree assigned start i j → other i < other j
       sooner i j before = elim (cases_order i j) [
-        | inl one ↦ absurd (omega (arith, before.started, ap start one))
+        | inl one ↦ absurd (omega (arith, before.precedes, ap start one))
         | inr (inl less) ↦
-            (serves.same i j (record { from = before.first.from; earlier = less; to = before.second.to; excludes = before.excludes })).0 before.started
+            (serves.same i j (record { from = before.first.from; earlier = less; to = before.second.to; excludes = before.excludes })).0 before.precedes
         | inr (inr more) ↦ elim (cases_lt (other i) (other j)) [
           | inl less ↦ less
           | inr late ↦
@@ -83,7 +83,7 @@ module _ (tree : List Node) (assigned : List ℕ) (work : Work) (same : length a
               let done = apart_finish other serves.other_obeys.apart j i (λ one. omega (arith, more, one)) before.second before.first excludes late in
               let first : other j < other i = omega (arith, done, runs j (number_of j before.second)) in
               let turned_first = (serves.same j i (record { from = before.second.from; earlier = more; to = before.first.to; excludes = excludes })).1 first in
-              absurd (omega (arith, turned_first, before.started))
+              absurd (omega (arith, turned_first, before.precedes))
         ]
       ]
 
@@ -96,13 +96,13 @@ module _ (tree : List Node) (assigned : List ℕ) (work : Work) (same : length a
       elim (one_is_issued_first work start i j) [
         | inl one ↦ omega (arith, ordered.earlier, one)
         | inr (inl issued) ↦
-            apart_where_finished work start i j (obeys.ordered i j (record { first = first; second = second; issued = issued; excludes = ordered.excludes })) pair.together
+            apart_where_finished work start i j (obeys.ordered i j (record { first = first; second = second; precedes = issued; excludes = ordered.excludes })) pair.together
         | inr (inr issued) ↦
             apart_where_finished work start j i
             (obeys.ordered j i (record {
               first = second;
               second = first;
-              issued = issued;
+              precedes = issued;
               excludes = turned_pair tree (affinity_of assigned i) (affinity_of assigned j) ordered.excludes;
             })) (turned work start i j pair.together)
       ]
@@ -114,7 +114,7 @@ module _ (tree : List Node) (assigned : List ℕ) (work : Work) (same : length a
     λ served. record {
       first = record { from = served.first.from; to = omega (arith, served.first.to, same) };
       second = record { from = served.second.from; to = omega (arith, served.second.to, same) };
-      started = omega (arith, obeys.ordered i j served, runs i served.first);
+      precedes = omega (arith, obeys.ordered i j served, runs i served.first);
       excludes = served.excludes;
     },
     λ before.
@@ -123,17 +123,17 @@ module _ (tree : List Node) (assigned : List ℕ) (work : Work) (same : length a
         record {
           first = first;
           second = second;
-          issued = elim (one_is_issued_first work start i j) [
-            | inl one ↦ absurd (omega (arith, before.started, ap start one))
+          precedes = elim (one_is_issued_first work start i j) [
+            | inl one ↦ absurd (omega (arith, before.precedes, ap start one))
             | inr (inl issued) ↦ issued
             | inr (inr issued) ↦
                 let late = obeys.ordered j i (record {
                   first = second;
                   second = first;
-                  issued = issued;
+                  precedes = issued;
                   excludes = turned_pair tree (affinity_of assigned i) (affinity_of assigned j) before.excludes;
                 }) in
-                absurd (omega (arith, late, before.started, runs j second))
+                absurd (omega (arith, late, before.precedes, runs j second))
           ];
           excludes = before.excludes;
         },
@@ -149,25 +149,11 @@ module _ (tree : List Node) (assigned : List ℕ) (work : Work) (same : length a
         omega (arith, followed-le-issue work start i m follow, issued m second, runs i first)
 
     pub started_first : (i m : ℕ) → IsLinked (IsStartedBefore tree assigned start) work i m → start i < start m
-    started_first i m (inl before) = before.started
+    started_first i m (inl before) = before.precedes
     started_first i m (inr follow) = start_rises i m follow
 
     -- what starts first goes forward
     pub IsStartedBefore_forward : IsForward (IsStartedBefore tree assigned start) work
     IsStartedBefore_forward =
-        let second = λ (i m : ℕ) (linked : IsLinked (IsStartedBefore tree assigned start) work i m).
-        let number : IsNumber work m = elim linked [
-          | inl before ↦ number_of m before.second
-          | inr follow ↦ let earlier = follows i m follow in record { from = omega (arith, earlier.from, earlier.earlier); to = earlier.to }
-        ] in number in
-        record {
-          place = place_of work start;
-          from = λ m number. place_from work start m number;
-          to = λ m number. place_to work start m;
-          first = λ i m linked. elim linked [
-            | inl before ↦ number_of i before.first
-            | inr follow ↦ let earlier = follows i m follow in record { from = earlier.from; to = omega (arith, earlier.earlier, earlier.to) }
-          ];
-          second = second;
-          earlier = λ i m linked. earlier_place work start i m (second i m linked) (inl (started_first i m linked));
-        }
+        precedes_forward tree assigned work (length assigned) same (λ i j. start i < start j) start (λ i j sooner. inl sooner) follows
+        (λ i m follow. inl (start_rises i m follow))

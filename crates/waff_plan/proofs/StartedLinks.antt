@@ -1,13 +1,15 @@
 -- The links of a plan in the order of starts, one message after another.
-use Rattle.std.proofs.Common.{◌≡◌, ℕ, ◌+◌, ◌-◌, ◌<◌, ◌≤◌, List, length, get_or, set, take, Contains, Option, None, arith, sym, ◌∙◌, ap, subst, inl, inr}
-use Rattle.std.proofs.lemmas.Bool.{cases_lt, cases_eq}
+use Rattle.std.proofs.Common.{◌≡◌, ◌≢◌, true, false, refl, ℕ, ◌+◌, ◌-◌, ◌<◌, ◌≤◌, List, length, get_or, set, take, Contains, Option, None, arith, sym, ◌∙◌, ap, subst, inl, inr}
+use Rattle.std.proofs.lemmas.Bool.{cases_lt, cases_eq, false≢true}
 use Rattle.std.proofs.lemmas.List.{get_or-map, get_or-set_other, get_or-set_same, get_or-take, get_or_default, length-map, length-take}
 use Rattle.waff_model.specs.Tree.{Node, Excludes}
-use Rattle.waff_assign.specs.Order.{affinity_of}
+use Rattle.waff_model.specs.Versions.{has_clients}
+use Rattle.waff_model.specs.declared.message.Version.{Version}
+use Rattle.waff_model.specs.declared.message.Version.TheVariants.{V1, V2, V3}
+use Rattle.waff_assign.specs.Order.{IsOrdered, Relation, affinity_of}
 use Rattle.waff_plan.specs.ByStart.{AreByStart, started_at, started_of}
-use Rattle.waff_plan.specs.Issues.{IsServedBefore}
 use Rattle.waff_plan.specs.Obeys.{EachRuns, Obeys}
-use Rattle.waff_plan.specs.Serving.{IsStartedBefore}
+use Rattle.waff_plan.specs.Serving.{chain_key, served_before, started_before}
 use Rattle.waff_plan.specs.Work.{Work, IsAmongFirst, IsNumber}
 use Rattle.waff_plan.specs.declared.apart.Started.{Started}
 use Rattle.waff_plan.proofs.ApartLaws.{noted_earlier, noted_number, noted_other, number_here, numbers_to}
@@ -16,6 +18,50 @@ use Rattle.waff_plan.proofs.StartOrder.{apart_finish, served_apart}
 -- the links of the messages at the first places
 abbrev pub AreFirstLinks : (ℕ → Option ℕ → Type 0) → List Started → List (Option ℕ) → ℕ → Type 0
 AreFirstLinks Is started links p = (q : ℕ) → q < p → Is (started_at started q).number (get_or links ((started_at started q).number - 1) None)
+
+-- messages by a key are in an order: of two that exclude each other the one with the lower key is before the other
+pub record Sorts (tree : List Node) (assigned : List ℕ) (work : Work) (key : ℕ → ℕ) (before : Relation) : Type 0 where
+  pub to : (i m : ℕ) → IsNumber work i → IsNumber work m → i ≢ m → Excludes tree (affinity_of assigned i) (affinity_of assigned m) → key i ≤ key m → before i m
+  pub number : (i m : ℕ) → before i m → IsNumber work i
+  pub excludes : (i m : ℕ) → before i m → Excludes tree (affinity_of assigned i) (affinity_of assigned m)
+  pub sooner : (i m : ℕ) → before i m → key i < key m
+
+-- a plan's messages by the key of its version are in the order of its chains
+module _ (tree : List Node) (assigned : List ℕ) (work : Work) (same : length assigned ≡ work.count) where
+  sorts_numbers : Sorts tree assigned work (λ m. m) (IsOrdered tree assigned)
+  sorts_numbers = record {
+    to = λ i m first second other excludes no_later. record { from = first.from; earlier = omega (arith, no_later, other); to = omega (arith, second.to, same); excludes = excludes };
+    number = λ i m pair. record { from = pair.from; to = omega (arith, pair.earlier, pair.to, same) };
+    excludes = λ i m pair. pair.excludes;
+    sooner = λ i m pair. pair.earlier;
+  }
+
+  pub sorts : (version : Version) (start : ℕ → ℕ) → EachRuns work → (version ≡ V3 → Obeys (served_before version tree assigned work start) work start)
+      → Sorts tree assigned work (chain_key version start) (started_before version tree assigned start)
+  sorts V1 start runs obeys = sorts_numbers
+  sorts V2 start runs obeys = sorts_numbers
+  sorts V3 start runs obeys = record {
+    to = λ i m first second other excludes no_later.
+        let one : IsAmongFirst (length assigned) i = record { from = first.from; to = omega (arith, first.to, same) } in
+        let two : IsAmongFirst (length assigned) m = record { from = second.from; to = omega (arith, second.to, same) } in
+        let done = apart_finish tree assigned work same runs start (served_apart tree assigned work same runs start (obeys refl)) i m other one two excludes no_later in
+        record { first = one; second = two; precedes = omega (arith, done, runs i first); excludes = excludes };
+    number = λ i m pair. record { from = pair.first.from; to = omega (arith, pair.first.to, same) };
+    excludes = λ i m pair. pair.excludes;
+    sooner = λ i m pair. pair.precedes;
+  }
+
+-- before the third version the key is the number
+pub numbers_key : (version : Version) (start : ℕ → ℕ) → has_clients version ≡ false → chain_key version start ≡ (λ m. m)
+numbers_key V1 start without = refl
+numbers_key V2 start without = refl
+numbers_key V3 start without = absurd (false≢true (sym without))
+
+-- from the third on it is the start
+pub starts_key : (version : Version) (start : ℕ → ℕ) → has_clients version ≡ true → chain_key version start ≡ start
+starts_key V1 start has = absurd (false≢true has)
+starts_key V2 start has = absurd (false≢true has)
+starts_key V3 start has = refl
 
 module _ (work : Work) (start : ℕ → ℕ) (started : List Started) (are : AreByStart work start started) where
   abbrev nobody : Started
@@ -43,32 +89,24 @@ module _ (work : Work) (start : ℕ → ℕ) (started : List Started) (are : Are
       let other = (are.only q nobody (omega (arith, less, within))).start_is in
       omega (arith, are.rising q p less within, one, other)
 
-  module _ (tree : List Node) (assigned : List ℕ) (same : length assigned ≡ work.count) (runs : EachRuns work)
-      (obeys : Obeys (IsServedBefore tree assigned work start) work start) (p : ℕ) (within : p < length started) where
+  module _ (tree : List Node) (assigned : List ℕ) (before : Relation) (sorts : Sorts tree assigned work start before) (p : ℕ) (within : p < length started) where
     abbrev here : ℕ
     here = (started_at started p).number
 
-    -- the messages before it that exclude it start before it
-    pub noted_starts : (i : ℕ) → Contains (numbers_to started p) i × Excludes tree (affinity_of assigned i) (affinity_of assigned here)
-        → IsStartedBefore tree assigned start i here
-    noted_starts i both =
-        let first = noted_number work start started are p i both.0 in
-        let second = number_here work start started are p within in
-        let one : IsAmongFirst (length assigned) i = record { from = first.from; to = omega (arith, first.to, same) } in
-        let two : IsAmongFirst (length assigned) here = record { from = second.from; to = omega (arith, second.to, same) } in
-        let done = apart_finish tree assigned work same runs start (served_apart tree assigned work same runs start obeys) i here
-        (noted_other work start started are p i within both.0) one two both.1 (noted_earlier work start started are p i within both.0) in
-        record { first = one; second = two; started = omega (arith, done, runs i first); excludes = both.1 }
+    -- of the messages that exclude it those that stand before it are before it
+    pub noted_before : (i : ℕ) → Contains (numbers_to started p) i × Excludes tree (affinity_of assigned i) (affinity_of assigned here) → before i here
+    noted_before i both =
+        sorts.to i here (noted_number work start started are p i both.0) (number_here work start started are p within)
+        (noted_other work start started are p i within both.0) both.1 (noted_earlier work start started are p i within both.0)
 
-    pub starts_noted : (i : ℕ) → IsStartedBefore tree assigned start i here
-        → Contains (numbers_to started p) i × Excludes tree (affinity_of assigned i) (affinity_of assigned here)
-    starts_noted i before =
-        let place = place_of_number i (record { from = before.first.from; to = omega (arith, before.first.to, same) }) in
+    pub before_noted : (i : ℕ) → before i here → Contains (numbers_to started p) i × Excludes tree (affinity_of assigned i) (affinity_of assigned here)
+    before_noted i pair =
+        let place = place_of_number i (sorts.number i here pair) in
         elim (cases_lt place.0 p) [
-          | inl less ↦ (subst (Contains (numbers_to started p)) place.2 (first_there p place.0 less (omega (arith, within))), before.excludes)
+          | inl less ↦ (subst (Contains (numbers_to started p)) place.2 (first_there p place.0 less (omega (arith, within))), sorts.excludes i here pair)
           | inr more ↦
               let later : start here ≤ start i = subst (λ n. start here ≤ start n) place.2 (starts_sooner place.0 p more place.1) in
-              absurd (omega (arith, later, before.started))
+              absurd (omega (arith, later, sorts.sooner i here pair))
         ]
 
   -- one more link

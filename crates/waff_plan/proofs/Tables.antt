@@ -16,7 +16,7 @@ use Rattle.waff_plan.specs.Latest.{later_of, latest_order, IsFound}
 use Rattle.waff_plan.specs.Table.{IsLatestAt, AreStanding, LatestTable, IsTable, message_span, AreOver, IsLast, IsLatestMeeting, IsLatestExcluding}
 use Rattle.waff_plan.specs.declared.last.Placed.{Placed}
 use Rattle.waff_plan.specs.declared.latest.Latest.{Latest}
-use Rattle.waff_plan.proofs.Latests.{found_same, found_either, found_noted, found_passed, found_first, first_to}
+use Rattle.waff_plan.proofs.Latests.{first_to, found_again, found_either, found_first, found_noted, found_passed, found_same}
 
 -- where none is noted none is found
 pub found_none : (P : ℕ → Type 0) (finish : ℕ → ℕ) (latest : Option Latest) → latest ≡ None → IsFound (λ i. Contains [] i × P i) finish latest
@@ -215,3 +215,23 @@ found_at tree spans assigned finish n m a table latest nested known lt to is h a
     (found_noted_at tree spans assigned finish (range_with_len 1 n) m a table latest nested known
     (λ i there. let up_to = first_to n i there in record { from = up_to.from; to = omega (arith, up_to.to) })
     (record { from = omega (arith, lt); to = to }) is h answer)
+
+-- with the same finishes the table is the same
+pub table_again : (spans : List Span) (assigned : List ℕ) (finish again : ℕ → ℕ) (noted : List ℕ) (table : LatestTable)
+    → ((i : ℕ) → Contains noted i → again i ≡ finish i) → IsTable spans assigned finish noted table → IsTable spans assigned again noted table
+table_again spans assigned finish again noted table same h =
+    let span : ℕ → Span = λ i. message_span spans assigned i in
+    record {
+      own = λ p.
+          found_again (λ i. Contains noted i × ((span i).first ≡ p)) finish again (get_or table.own p None)
+          (λ i is. same i is.0) (h.own p);
+      over = λ p.
+          found_again (λ i. Contains noted i × (((span i).first ≤ p) × (p < (span i).end))) finish again
+          (get_or table.over p None) (λ i is. same i is.0) (h.over p);
+      last = record {
+        latest =
+            found_again (Contains noted) finish again (option_map (λ (x : Placed). x.message) table.last)
+            (λ i is. same i is) h.last.latest;
+        span = h.last.span;
+      };
+    }

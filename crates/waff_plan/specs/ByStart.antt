@@ -1,5 +1,6 @@
 -- Messages by their starts, to find two that run at a common tick.
-use Rattle.std.specs.Prelude.{◌≡◌, ◌≢◌, ℕ, ◌<◌, ◌≤◌, nat_le, if◌then◌else◌, List, length, All, Contains}
+use Rattle.std.specs.Prelude.{◌≡◌, ◌≢◌, ℕ, ◌<◌, ◌≤◌, nat_le, if◌then◌else◌, List, length, map, All, Contains}
+use Rattle.std.specs.List.{range_with_len}
 use Rattle.std.specs.Prelude.{Option, Some, None, slice_index_or}
 use Rattle.waff_plan.specs.Work.{Work, IsNumber, finish_of}
 use Rattle.waff_plan.specs.declared.apart.Started.{Started}
@@ -8,6 +9,11 @@ use Rattle.waff_plan.specs.declared.latest.Latest.{Latest}
 -- message n with its start
 abbrev pub started_of : (ℕ → ℕ) → ℕ → Started
 started_of start n = record { start = start n; number = n }
+
+-- the messages of a list, or where there is none all of them by number
+abbrev pub walk_of : ℕ → Option (List Started) → List Started
+walk_of count (Some started) = started
+walk_of count None = map (started_of (λ m. m)) (range_with_len 1 count)
 
 -- the message at a place, from 0
 abbrev pub started_at : List Started → ℕ → Started
@@ -20,6 +26,7 @@ pub record IsStart (work : Work) (start : ℕ → ℕ) (started : Started) : Typ
 
 -- all messages, each once, with their starts, which do not fall
 pub record AreByStart (work : Work) (start : ℕ → ℕ) (started : List Started) : Type 0 where
+  pub long : length started ≡ work.count
   pub each : (n : ℕ) → IsNumber work n → Contains started (started_of start n)
   pub only : All (IsStart work start) started
   pub once : (p q : ℕ) → p < q → q < length started

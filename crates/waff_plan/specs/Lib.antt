@@ -1,7 +1,10 @@
 pub mod Work
 pub mod Obeys
+pub mod Order
 pub mod Issues
+pub mod Due
 pub mod Pending
+pub mod Turns
 pub mod AtOnce
 pub mod Apart
 pub mod ByStart
@@ -29,3 +32,5 @@ pub mod IssueLaws
 pub mod Planned
 pub mod Instances
 pub mod LowerBound
+pub mod Peak
+pub mod TreeStarts

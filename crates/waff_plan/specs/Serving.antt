@@ -1,21 +1,19 @@
 -- What is before what in a plan, by the version of its trace: before the third, what comes first in
 -- the trace; in the third, what is issued or starts first in the plan itself.
 use Rattle.std.specs.Prelude.{ℕ, ◌<◌, List, length}
-use Rattle.waff_model.specs.Tree.{Node, Excludes}
+use Rattle.waff_model.specs.Tree.{Node}
 use Rattle.waff_model.specs.declared.message.Version.{Version}
 use Rattle.waff_model.specs.declared.message.Version.TheVariants.{V1, V2, V3}
-use Rattle.waff_assign.specs.Order.{Relation, IsOrdered, affinity_of}
+use Rattle.waff_assign.specs.Order.{Relation, IsOrdered}
 use Rattle.waff_plan.specs.Issues.{IsServedBefore}
+use Rattle.waff_plan.specs.Order.{Precedes}
 use Rattle.waff_plan.specs.Timetable.{Timetable, starts_in, work_in}
-use Rattle.waff_plan.specs.Work.{Work, IsAmongFirst}
+use Rattle.waff_plan.specs.Work.{Work}
 
 -- message i starts before message j, and their affinities exclude each other
-pub record IsStartedBefore (tree : List Node) (assigned : List ℕ) (start : ℕ → ℕ) (i j : ℕ)
-    : Type 0 where
-  pub first : IsAmongFirst (length assigned) i
-  pub second : IsAmongFirst (length assigned) j
-  pub started : start i < start j
-  pub excludes : Excludes tree (affinity_of assigned i) (affinity_of assigned j)
+abbrev pub IsStartedBefore : List Node → List ℕ → (ℕ → ℕ) → Relation
+IsStartedBefore tree assigned start =
+    Precedes (length assigned) (λ i j. start i < start j) tree assigned
 
 -- the order in which messages that exclude each other are to be served
 abbrev pub served_before : Version → List Node → List ℕ → Work → (ℕ → ℕ) → Relation
@@ -36,3 +34,9 @@ served_in tree assigned plan =
 
 abbrev pub started_in : List Node → List ℕ → Timetable → Relation
 started_in tree assigned plan = started_before plan.version tree assigned (starts_in plan)
+
+-- the key by which the messages of a plan are walked: their numbers, or where they are of clients their starts
+abbrev pub chain_key : Version → (ℕ → ℕ) → ℕ → ℕ
+chain_key V1 start m = m
+chain_key V2 start m = m
+chain_key V3 start m = start m

@@ -1,6 +1,6 @@
 -- A plan as a table: the timing and the start of each message, in the order of arrival.
 use Rattle.std.specs.Prelude.{◌≡◌, ◌≢◌, ℕ, zero, suc, ◌-◌, ◌≤◌, max, List, [], length, map, All}
-use Rattle.std.specs.Prelude.{slice_index_or}
+use Rattle.std.specs.Prelude.{slice_index_or, slice_set}
 use Rattle.std.specs.List.{range_with_len}
 use Rattle.waff_model.specs.Messages.{no_client}
 use Rattle.waff_model.specs.declared.limits.TheConstants.{MAX_MESSAGES}
@@ -42,6 +42,14 @@ pub record IsTimetable (table : Timetable) : Type 0 where
   pub few : length table.timings ≤ MAX_MESSAGES
   pub timings : AreTimings table.version table.timings
   pub printable : All (λ start. start ≤ MAX_TICK) table.starts
+
+-- the plan in which message n starts at this tick, and the others as they do
+abbrev pub with_start : Timetable → ℕ → ℕ → Timetable
+with_start plan n start = record {
+  version = plan.version;
+  timings = plan.timings;
+  starts = slice_set plan.starts (n - 1) start;
+}
 
 -- no message
 abbrev pub no_message : Message

@@ -1,13 +1,15 @@
 //! Whether a plan has two messages that exclude each other and run at a common tick, whichever starts
 //! first.
 
-ghost use Rattle.std.specs.Prelude.{◌≡◌, ◌<◌, ◌≤◌, ◌↔◌, ℕ, List, length, All, IfOk, IsTrue};
+ghost use Rattle.std.specs.Prelude.{◌≡◌, ◌<◌, ◌≤◌, ◌↔◌, ℕ, List, length, All, IfOk, IfSome, IsTrue, option_map};
 ghost use Rattle.std.specs.Prelude.{nat_le, if◌then◌else◌};
+ghost use Rattle.waff_model.specs.declared.limits.TheConstants.{MAX_MESSAGES};
 ghost use Rattle.waff_model.specs.declared.preorder.Span.{Span};
 ghost use Rattle.waff_assign.specs.Order.{IsOrdered};
 ghost use Rattle.waff_plan.specs.Apart.{AreApart};
-ghost use Rattle.waff_plan.specs.ByStart.{AreByStart, MeetsAtStart};
+ghost use Rattle.waff_plan.specs.ByStart.{AreByStart, MeetsAtStart, started_at, walk_of};
 ghost use Rattle.waff_plan.specs.Obeys.{IsAmong};
+ghost use Rattle.waff_plan.specs.Serving.{chain_key};
 ghost use Rattle.waff_plan.specs.Table.{IsLatestMeeting, IsTable};
 ghost use Rattle.waff_plan.specs.Timetable.{work_in, starts_in};
 ghost use Rattle.waff_plan.specs.Work.{IsNumber};
@@ -38,6 +40,33 @@ pub(crate) fn by_start(alloc: Global, plan: &Plan) -> Result<Vec<Started>, Alloc
     }
     started.sort_unstable_by_key(|message| message.start);
     Ok(started)
+}
+
+/// The messages of a plan in the order of its chains: of clients by their starts. Others are by number,
+/// and need no list.
+pub(crate) fn in_order(alloc: Global, plan: &Plan) -> Result<Option<Vec<Started>>, AllocError>
+    ensures order { IfOk result (λ started. AreByStart (work_in plan.now)
+        (chain_key plan.now.version (starts_in plan.now))
+        (walk_of (length plan.now.timings) (option_map (λ list. list.items) started))) }
+{
+    if plan.version().has_clients() {
+        Ok(Some(by_start(alloc, plan)?))
+    } else {
+        Ok(None)
+    }
+}
+
+/// The number of the message at a place, from 0.
+pub(crate) fn number_at(started: &Option<Vec<Started>>, place: u32) -> u32
+    requires few { place < MAX_MESSAGES }
+    requires within { IfSome started.now (λ list. place < length list.items) }
+    ensures { (count : ℕ) → place < count → result ≡ (started_at
+        (walk_of count (option_map (λ list. list.items) started.now)) place).number }
+{
+    match started {
+        Some(started) => started[place as usize].number,
+        None => place + 1,
+    }
 }
 
 /// Whether message `m` runs when it starts, and the other message, where there is one, has not

@@ -10,32 +10,30 @@
 //! block is one entry for it. The latest message of all is looked at first, since on a path it
 //! excludes every other.
 //! - `timing`, `timetable`: costs and releases; plans.
-//! - `unlimited`, over `least` and `latest`: the unlimited plan.
-//! - `issued`, over `followers` and `pending`: the unlimited plan in the order in which clients issue
-//!   messages.
+//! - `unlimited`: the unlimited plan. It takes messages in `turns`: by number, or where they are of
+//!   clients by issue, over `followers` and `due`.
 //! - `table`, over `last`: the latest message that excludes another, by spans in preorder.
 //! - `printed`, over `links` and `linked`: the printed chain; `waited`: what messages waited for; both
 //!   over `waits`; `totals`: what the summary of a plan tells.
 //! - `ordered`: whether a plan keeps the order of the messages; `apart`: whether it has two that run
 //!   at a common tick though they exclude each other.
-//! - `lower_bound`: a length below which no plan obeys, in whatever order.
+//! - `lower_bound`: a length below which no plan obeys, in whatever order, and what it comes of; over `peak`.
 //! - `laws`: what holds of all plans; `unique`: that the definitions leave no choice; `issue_laws`: of
 //!   plans in the order in which clients issue messages; `start_laws`: in the order of their starts.
 #![tactic(auto)]
 
 pub mod apart;
+mod due;
 pub mod followers;
 pub mod issue_laws;
-mod issued;
 mod last;
 mod latest;
 pub mod laws;
-mod least;
 mod linked;
 pub mod links;
 pub mod lower_bound;
 pub mod ordered;
-mod pending;
+pub mod peak;
 mod planned;
 pub mod printed;
 pub mod start_laws;
@@ -43,12 +41,15 @@ mod table;
 mod timetable;
 mod timing;
 mod totals;
+mod turns;
 pub mod unique;
 pub mod unlimited;
 pub mod waited;
 mod waits;
 
+pub use due::{Due, NEVER};
 pub use linked::Chain;
+pub use peak::Peak;
 pub use planned::Planned;
 pub use timetable::Plan;
 pub use timing::{Timing, timings};

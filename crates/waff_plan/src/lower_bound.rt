@@ -10,7 +10,10 @@ ghost use Rattle.waff_plan.specs.Timetable.{work_in};
 ghost use Rattle.waff_plan.specs.Work.{IsNumber, Work, greatest, numbers, total_of};
 ghost use Rattle.waff_plan.specs.LowerBound.{client_finish, lower_bound_of, own_cost, path_cost};
 ghost use Rattle.waff_plan.specs.LowerBound.{NoneIsBelow, share_in};
+ghost use Rattle.waff_plan.specs.Peak.{IsPeak};
+ghost use Rattle.waff_plan.specs.TreeStarts.{TreeIsReached};
 
+use crate::peak::Peak;
 use crate::{Plan, Planned};
 use std::alloc::{AllocError, Global};
 use waff_assign::Case;
@@ -20,6 +23,12 @@ use waff_model::AffinityId;
 pub fn none_is_below()
     ensures { (workers : Option ℕ) (tree : List Node) (assigned : List ℕ) (work : Work)
         → NoneIsBelow workers tree assigned work }
+{}
+
+/// The costs on the longest path of affinities are reached, in some order.
+pub fn tree_is_reached()
+    ensures { (tree : List Node) (assigned : List ℕ) (work : Work)
+        → TreeIsReached tree assigned work }
 {}
 
 /// The lower bound for the messages of a plan, for these workers or none: the greatest of a worker's
@@ -34,11 +43,10 @@ pub fn lower_bound(
     ensures { IfOk result (λ bound. bound ≡ lower_bound_of workers planned.now.case.tree.now
         planned.now.case.assigned.now (planned_work planned.now)) }
 {
-    let plan = planned.plan;
-    let share = share(plan.total(), workers);
-    let clients = longest_client(alloc, plan)?;
-    let paths = longest_path(alloc, &planned.case, plan)?;
-    Ok(share.max(clients.max(paths)))
+    let share = share(planned.plan.total(), workers);
+    let clients = longest_client(alloc, planned.plan)?;
+    let paths = longest_path(alloc, planned)?;
+    Ok(share.max(clients.ticks.max(paths.ticks)))
 }
 
 // The share of one of the workers, rounded up; 0 where there are none.
@@ -56,17 +64,17 @@ fn share(total: u64, workers: Option<u32>) -> u64
     }
 }
 
-// The greatest finish of a message where each waits for its client alone.
-fn longest_client(alloc: Global, plan: &Plan) -> Result<u64, AllocError>
-    ensures { IfOk result (λ longest. longest
-        ≡ greatest (map (client_finish (work_in plan.now)) (numbers (work_in plan.now)))) }
+/// The greatest finish of a message where each waits for its client alone, and the message.
+pub fn longest_client(alloc: Global, plan: &Plan) -> Result<Peak, AllocError>
+    ensures { IfOk result (IsPeak (client_finish (work_in plan.now)) 1
+        (work_in plan.now).count) }
 {
     let mut finishes = Vec::with_capacity(alloc, plan.len() as usize)?;
-    let mut longest = 0;
+    let mut longest = Peak::none();
     for n in 1..plan.len() + 1 {
         let finish = finish_alone(plan, &finishes, n);
         finishes.push(finish)?;
-        longest = finish.max(longest);
+        longest = longest.or(n, finish);
     }
     Ok(longest)
 }
@@ -90,17 +98,17 @@ fn finish_alone(plan: &Plan, finishes: &[u64], n: u32) -> u64
     issue + plan.cost(n)
 }
 
-// The greatest sum of the costs in an affinity and above it.
-fn longest_path(alloc: Global, case: &Case<'_>, plan: &Plan) -> Result<u64, AllocError>
-    requires lengths { length plan.now.timings ≡ length case.now.assigned.now }
-    requires small { total_of (work_in plan.now) ≤ 2 ^ 52 }
-    ensures { IfOk result (λ longest. longest
-        ≡ greatest (map (path_cost case.now.tree.now case.now.assigned.now (work_in plan.now))
-        (range_with_len 0 (length case.now.tree.now)))) }
+/// The greatest sum of the costs of the messages in an affinity and above it, and the affinity.
+pub fn longest_path(alloc: Global, planned: &Planned<'_>) -> Result<Peak, AllocError>
+    ensures { IfOk result (IsPeak (path_cost planned.now.case.tree.now
+        planned.now.case.assigned.now (planned_work planned.now))
+        0 (length planned.now.case.tree.now)) }
 {
+    let case = &planned.case;
+    let _total = planned.plan.total();
     let _affinities = case.tree.len();
-    let mut costs = own_costs(alloc, case, plan)?;
-    let mut longest = 0;
+    let mut costs = own_costs(alloc, case, planned.plan)?;
+    let mut longest = Peak::none();
     for a in 0..costs.len() {
         let above = match case.tree.parent(AffinityId(a as u16)) {
             Some(parent) => costs[parent.0 as usize],
@@ -108,7 +116,7 @@ fn longest_path(alloc: Global, case: &Case<'_>, plan: &Plan) -> Result<u64, Allo
         };
         let cost = costs[a] + above;
         costs[a] = cost;
-        longest = cost.max(longest);
+        longest = longest.or(a as u32, cost);
     }
     Ok(longest)
 }

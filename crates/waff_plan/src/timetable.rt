@@ -1,10 +1,10 @@
 //! Plans.
 
-ghost use Rattle.std.specs.Prelude.{◌≡◌, ◌+◌, ◌^◌, ◌<◌, ◌≤◌, length, All, IfOk};
+ghost use Rattle.std.specs.Prelude.{◌≡◌, ◌+◌, ◌^◌, ◌<◌, ◌≤◌, length, replicate, All, IfOk};
 ghost use Rattle.waff_plan.specs.Work.{IsAmongFirst, finish_of, issue_of, length_of, total_of};
 ghost use Rattle.waff_model.specs.declared.limits.TheConstants.{MAX_THINK};
 ghost use Rattle.waff_plan.specs.Timing.{timing_of};
-ghost use Rattle.waff_plan.specs.Timetable.{work_in, starts_in};
+ghost use Rattle.waff_plan.specs.Timetable.{with_start, work_in, starts_in};
 
 use crate::Timing;
 use crate::timing::timings;
@@ -55,7 +55,7 @@ impl Plan {
     ghost use Rattle.waff_plan.specs.Timetable.{IsTimetable, timings_of};
 
     /// The plan of a trace of this version, with these timings and starts.
-    pub(crate) fn new(version: Version, timings: Vec<Timing>, starts: Vec<u64>) -> Plan
+    pub fn new(version: Version, timings: Vec<Timing>, starts: Vec<u64>) -> Plan
         requires { IsTimetable (record {
           version = version;
           timings = timings.items;
@@ -83,6 +83,32 @@ impl Plan {
         let timings = timings(alloc, trace)?;
         let starts = Vec::from_slice(alloc, starts)?;
         Ok(Plan::new(trace.version(), timings, starts))
+    }
+
+    /// The plan of the trace in which each message starts at tick 0.
+    pub(crate) fn unstarted(alloc: Global, trace: &Trace) -> Result<Plan, AllocError>
+        ensures version { IfOk result (λ plan. plan.version ≡ trace.now.version) }
+        ensures timings { IfOk result (λ plan. plan.timings ≡ timings_of trace.now.messages) }
+    {
+        let timings = timings(alloc, trace)?;
+        let starts = no_starts(alloc, timings.len())?;
+        Ok(Plan::new(trace.version(), timings, starts))
+    }
+
+    /// Message `n` starts at this tick.
+    pub(crate) fn set_start(&mut self, n: u32, start: u64)
+        requires number { IsAmongFirst (length self.old.timings) n }
+        requires printable { start ≤ MAX_TICK }
+        ensures { self.new ≡ with_start self.old n start }
+    {
+        self.starts[n as usize - 1] = start;
+    }
+
+    /// The timings of its messages.
+    pub(crate) fn timings(&self) -> &[Timing]
+        ensures { result.now ≡ self.now.timings }
+    {
+        self.timings.as_slice()
     }
 
     /// The version of its trace.
@@ -192,4 +218,11 @@ impl Plan {
         }
         total
     }
+}
+
+/// The tick 0 this many times.
+fn no_starts(alloc: Global, count: usize) -> Result<Vec<u64>, AllocError>
+    ensures none { IfOk result (λ starts. starts.items ≡ replicate count 0) }
+{
+    vec![in alloc; 0; count]
 }

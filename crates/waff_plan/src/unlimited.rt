@@ -1,22 +1,23 @@
 //! The unlimited plan: each message starts at the greatest of its issue and the finishes of the
 //! messages that exclude it and are served before it.
 
-ghost use Rattle.std.specs.Prelude.{◌≡◌, ◌<◌, ◌≤◌, length, All, IfOk};
-ghost use Rattle.waff_model.specs.declared.limits.TheConstants.{MAX_MESSAGES, MAX_TICK};
+ghost use Rattle.std.specs.Prelude.{◌≡◌, ◌<◌, max, length, All, IfOk, MatchOption};
 ghost use Rattle.waff_plan.specs.Obeys.{IsLeast};
-ghost use Rattle.waff_plan.specs.Serving.{served_before, served_in, started_in};
-ghost use Rattle.waff_plan.specs.Timetable.{AreTimings, timings_of, work_in, starts_in};
-ghost use Rattle.waff_plan.specs.Timing.{start_of, work_of};
+ghost use Rattle.waff_plan.specs.Serving.{served_in, started_in};
+ghost use Rattle.waff_plan.specs.Timetable.{timings_of, work_in, starts_in};
 
-use crate::issued::issued_starts;
-use crate::least::least_starts;
-use crate::timing::timings;
-use crate::{Plan, Timing};
+use crate::Plan;
+use crate::followers::followers;
+use crate::latest::Latest;
+use crate::table::Table;
+use crate::turns::first_turns;
 use std::alloc::{AllocError, Global};
 use waff_assign::Assigned;
-use waff_model::{Trace, Tree, Version};
+use waff_model::{Trace, Tree};
 
-/// The unlimited plan of the trace.
+/// The unlimited plan of the trace: messages are taken in the order in which they are served, and each
+/// starts at its issue, or where it is later at the finish of the latest message that was taken before
+/// it and excludes it.
 pub fn plan(
     alloc: Global,
     tree: &Tree,
@@ -33,33 +34,33 @@ pub fn plan(
     ensures started { IfOk result (λ plan. IsLeast (started_in tree.now assigned.now plan)
         (work_in plan) (starts_in plan)) }
 {
-    let version = trace.version();
-    let timings = timings(alloc, trace)?;
-    let starts = starts(alloc, tree, assigned, version, timings.as_slice())?;
-    Ok(Plan::new(version, timings, starts))
+    let mut plan = Plan::unstarted(alloc, trace)?;
+    let mut left = plan.len();
+    let followers = followers(alloc, plan.timings())?;
+    let mut turns = first_turns(alloc, &plan)?;
+    let mut table = Table::new(alloc, tree.len() as usize)?;
+    let spans = tree.spans();
+    while let Some((_, m)) = turns.take() {
+        left -= 1;
+        let span = spans[assigned.of(m).0 as usize];
+        let start = start_at(plan.issue(m), table.latest(span));
+        plan.set_start(m, start);
+        let finish = plan.finish(m);
+        table.note(span, Latest { finish, number: m });
+        let follower = followers[m as usize - 1];
+        if follower != 0 {
+            turns.put(plan.issue(follower), follower)?;
+        }
+    }
+    Ok(plan)
 }
 
-/// Its starts: in the order of the trace, or in that of issue where messages are of clients.
-fn starts(
-    alloc: Global,
-    tree: &Tree,
-    assigned: &Assigned,
-    version: Version,
-    timings: &[Timing],
-) -> Result<Vec<u64>, AllocError>
-    requires lengths { length timings.now ≡ length assigned.now }
-    requires known { All (λ a. a < length tree.now) assigned.now }
-    requires few { length timings.now ≤ MAX_MESSAGES }
-    requires are { AreTimings version timings.now }
-    ensures count { IfOk result (λ starts. length starts.items ≡ length timings.now) }
-    ensures least { IfOk result (λ starts. IsLeast (served_before version tree.now assigned.now
-        (work_of timings.now) (start_of starts.items)) (work_of timings.now)
-        (start_of starts.items)) }
-    ensures printable { IfOk result (λ starts. All (λ start. start ≤ MAX_TICK) starts.items) }
+/// The start of a message that is issued at this tick, after the latest message that excludes it.
+fn start_at(issue: u64, latest: Option<Latest>) -> u64
+    ensures { MatchOption latest (result ≡ issue) (λ l. result ≡ max issue l.finish) }
 {
-    match version {
-        Version::V1 => least_starts(alloc, tree, assigned, timings),
-        Version::V2 => least_starts(alloc, tree, assigned, timings),
-        Version::V3 => issued_starts(alloc, tree, assigned, timings),
+    match latest {
+        Some(latest) => issue.max(latest.finish),
+        None => issue,
     }
 }

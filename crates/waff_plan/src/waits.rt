@@ -2,23 +2,21 @@
 
 ghost use Rattle.std.specs.Prelude.{◌≡◌, ◌<◌, length, All, IfOk};
 ghost use Rattle.waff_model.specs.declared.message.Version.TheVariants.{V3};
-ghost use Rattle.waff_assign.specs.Order.{IsOrdered};
-ghost use Rattle.waff_plan.specs.Issues.{IsServedBefore};
 ghost use Rattle.waff_plan.specs.Latest.{later_of};
 ghost use Rattle.waff_plan.specs.Links.{followed_of, link_of};
 ghost use Rattle.waff_plan.specs.Obeys.{Obeys};
-ghost use Rattle.waff_plan.specs.Serving.{IsStartedBefore, served_in, started_in};
+ghost use Rattle.waff_plan.specs.Serving.{served_in, started_in};
 ghost use Rattle.waff_plan.specs.Timetable.{work_in, starts_in};
 ghost use Rattle.waff_plan.specs.Waits.{AreWaits, wait_of};
 ghost use Rattle.waff_plan.specs.Work.{IsNumber};
 
 use crate::Plan;
-use crate::apart::by_start;
+use crate::apart::{in_order, number_at};
 use crate::latest::{Latest, is_later};
 use crate::table::Table;
 use std::alloc::{AllocError, Global};
 use waff_assign::Assigned;
-use waff_model::{Tree, Version};
+use waff_model::Tree;
 
 /// From when on a message waits.
 #[derive(Clone, Copy)]
@@ -47,66 +45,12 @@ pub(crate) fn waits(
         (work_in plan.now) (starts_in plan.now)
         (length plan.now.timings) waits.items) }
 {
-    match plan.version() {
-        Version::V1 => waits_by_number(alloc, tree, assigned, plan, since),
-        Version::V2 => waits_by_number(alloc, tree, assigned, plan, since),
-        Version::V3 => waits_by_start(alloc, tree, assigned, plan, since),
-    }
-}
-
-/// What messages waited for in the order of the trace.
-fn waits_by_number(
-    alloc: Global,
-    tree: &Tree,
-    assigned: &Assigned,
-    plan: &Plan,
-    since: Since,
-) -> Result<Vec<Option<u32>>, AllocError>
-    requires lengths { length plan.now.timings ≡ length assigned.now }
-    requires known { All (λ a. a < length tree.now) assigned.now }
-    ensures count { IfOk result (λ waits. length waits.items ≡ length plan.now.timings) }
-    ensures waits { IfOk result (λ waits. AreWaits since (IsOrdered tree.now assigned.now)
-        (work_in plan.now) (starts_in plan.now)
-        (length plan.now.timings) waits.items) }
-{
     let spans = tree.spans();
-    let mut table = Table::new(alloc, tree.len() as usize)?;
-    let mut waits = Vec::with_capacity(alloc, plan.len() as usize)?;
-    for m in 1..plan.len() + 1 {
-        let span = spans[assigned.of(m).0 as usize];
-        let wait = wait(plan, m, table.latest(span), since);
-        let finish = plan.finish(m);
-        table.note(span, Latest { finish, number: m });
-        waits.push_reserved(wait);
-    }
-    Ok(waits)
-}
-
-/// What messages of clients waited for, in the order of their starts: of messages that exclude each
-/// other no two start at the same tick.
-fn waits_by_start(
-    alloc: Global,
-    tree: &Tree,
-    assigned: &Assigned,
-    plan: &Plan,
-    since: Since,
-) -> Result<Vec<Option<u32>>, AllocError>
-    requires lengths { length plan.now.timings ≡ length assigned.now }
-    requires known { All (λ a. a < length tree.now) assigned.now }
-    requires served { Obeys (IsServedBefore tree.now assigned.now
-        (work_in plan.now) (starts_in plan.now)) (work_in plan.now) (starts_in plan.now) }
-    ensures count { IfOk result (λ waits. length waits.items ≡ length plan.now.timings) }
-    ensures waits { IfOk result (λ waits.
-        AreWaits since (IsStartedBefore tree.now assigned.now (starts_in plan.now))
-        (work_in plan.now) (starts_in plan.now)
-        (length plan.now.timings) waits.items) }
-{
-    let spans = tree.spans();
-    let started = by_start(alloc, plan)?;
+    let started = in_order(alloc, plan)?;
     let mut table = Table::new(alloc, tree.len() as usize)?;
     let mut waits = vec![in alloc; None; plan.len() as usize]?;
-    for place in 0..started.len() {
-        let m = started[place].number;
+    for place in 0..plan.len() {
+        let m = number_at(&started, place);
         let span = spans[assigned.of(m).0 as usize];
         waits[m as usize - 1] = wait(plan, m, table.latest(span), since);
         let finish = plan.finish(m);

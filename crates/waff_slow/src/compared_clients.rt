@@ -13,7 +13,7 @@ use crate::{by_issue, lists};
 use std::alloc::{AllocError, Global};
 use std::process::Abort;
 use waff_assign::{Case, assign};
-use waff_list::{Rule, WorkerPlan, list_plan};
+use waff_list::{Rule, WorkerPlan, list_plan_of};
 use waff_model::Version;
 use waff_plan::printed::chain;
 use waff_plan::unlimited::plan;
@@ -49,7 +49,7 @@ pub fn listed(
     requires { IsWorkers k }
     ensures { IfOk result (λ found. found.made.workers ≡ k) }
 {
-    let made = list_plan(alloc, *case, rule, k)?;
+    let made = list_plan_of(alloc, *case, rule, k)?;
     let plan = made.plan();
     let chain = chain(alloc, case.tree, case.assigned, plan)?;
     Ok(ShownListPlan { made, chain })

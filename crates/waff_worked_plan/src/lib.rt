@@ -12,6 +12,8 @@ mod hierarchies;
 #[cfg(test)]
 mod layouts;
 #[cfg(test)]
+mod limits;
+#[cfg(test)]
 mod parts;
 #[cfg(test)]
 mod paths;

@@ -1,154 +1,119 @@
-use Rattle.std.proofs.Common.{ℕ, ◌+◌, ◌<◌, ◌≤◌, List, length, get_or, All, inl, inr, arith, refl, sym, ◌∙◌, ap, subst}
-use Rattle.std.proofs.lemmas.List.{get_or_default}
-use Rattle.std.proofs.lemmas.List.Elements.{All-weaker}
-use Rattle.waff_model.specs.Numbers.{IsAmongFirst}
-use Rattle.waff_plan.specs.Work.{Work}
-use Rattle.waff_plan.specs.Timing.{start_of}
-use Rattle.waff_plan.proofs.NoClients.{issue_is_release}
-use Rattle.waff_list.specs.Load.{Load, before_in, first_in}
-use Rattle.waff_list.specs.Planning.{task_work, load_of, pending_in, placed_in}
-use Rattle.waff_list.specs.Progress.{IsKept, IsNextTick, IsLastTick, GoesOn}
-use Rattle.waff_list.specs.Waiting.{AreFinishes, AreManned, AreReady, AreReleases, ArePassed, IsPassed, Runs, StayReady}
-use Rattle.waff_list.proofs.CountLemmas.{left_fall}
-use Rattle.waff_list.proofs.Each.{contains_map}
-use Rattle.waff_list.proofs.Events.{events_fewer, on_time_none, on_time_next, made_of_last}
-use Rattle.waff_list.proofs.FinishLemmas.{finishes_advance}
+use Rattle.std.proofs.Common.{◌≡◌, ℕ, ◌+◌, ◌^◌, ◌<◌, ◌≤◌, ◌⊎◌, inl, inr, List, length, arith, refl, sym, ◌∙◌, ap, subst}
+use Rattle.waff_plan.specs.Timing.{start_of, work_of}
+use Rattle.waff_plan.specs.Work.{IsNumber}
+use Rattle.waff_plan.specs.declared.due.TheConstants.{NEVER}
+use Rattle.waff_list.specs.Issuing.{IsNextEvent}
+use Rattle.waff_list.specs.Orders.{TakesFirst}
+use Rattle.waff_list.specs.Placed.{Placed}
+use Rattle.waff_list.specs.Plannable.{IsMade, IsPlannedTo, Plannable}
+use Rattle.waff_list.specs.Planning.{IsPlanned, placed_in, plannable_of}
+use Rattle.waff_list.specs.Telling.{Basis, basis_of}
+use Rattle.waff_list.proofs.ClientTasks.{small_of, thinks_of}
+use Rattle.waff_list.proofs.IssueEvents.{IsInTime, in_time_early, in_time_next, in_time_none, last_event, next_event, steps_after, steps_fewer}
+use Rattle.waff_list.proofs.IssuePlans.{follows_messages}
+use Rattle.waff_list.proofs.Keeping.{made_in_order}
 use Rattle.waff_list.proofs.Making.{progress_advance}
-use Rattle.waff_list.proofs.TraceWork.{count_is, lengths_of, forward_of, none_of}
-use Rattle.waff_list.proofs.Uniqueness.{numbers_of, followed_of}
-use Rattle.waff_list.proofs.Waking.{passed_of_ready, ready_of_passed}
+use Rattle.waff_list.proofs.Steps.{order_of_waiting}
 use Rattle.waff_list.proofs.planner.go_on.Goals as goal
-use Rattle.waff_list.proofs.planner.go_on.Goals.{In_ok-fill, In-Some}
+use Rattle.waff_list.proofs.planner.go_on.Goals.{In_ok-start_all, Else-next}
 
--- messages that run finish later
-runs_late : (work : Work) (start : ℕ → ℕ) (now : ℕ) (finishes : List (ℕ × ℕ)) → AreFinishes work start now finishes → All (λ r. now < r.0) finishes
-runs_late work start now finishes h = All-weaker (Runs work start now) (λ (r : ℕ × ℕ). now < r.0) (λ (r : ℕ × ℕ) runs. runs.2) finishes h.only
-
-abbrev load : In_ok-fill → Load
-load c = load_of c.args.task.now c.args.waiting.now.ready.priorities
-
--- the tick has been filled
-filled : (c : In_ok-fill) → GoesOn (load c) c.loop-releases.progress.starts.items (placed_in c.fill.new.progress)
-    c.loop-releases.now ((load c).work.count + 1) (c.loop-releases.now + 1)
-filled c = rw c.loop-releases.invariant.priorities at c.in_ok-fill.ensures.filled
-
-kept : (c : In_ok-fill) → IsKept (load c) (placed_in c.fill.new.progress) (pending_in c.fill.new.progress c.fill.new.waiting) c.loop-releases.now
-kept c = rw c.loop-releases.invariant.priorities at c.in_ok-fill.ensures.kept
-
-late : (c : In_ok-fill) → All (λ r. c.loop-releases.now < r.0) c.fill.new.progress.finishes
-late c = runs_late (load c).work (start_of c.fill.new.progress.starts.items) c.loop-releases.now c.fill.new.progress.finishes (kept c).finishes
-
--- and there is a next one
-tick : (c : In-Some) → All (λ r. c.loop-releases.now < r.0) c.fill.new.progress.finishes
-    → IsNextTick (task_work c.args.task.now) c.fill.new.progress.finishes c.loop-releases.now c.in-Some.next
-tick c finish_late = c.in-Some.ensures (task_work c.args.task.now) c.requires.small c.loop-releases.invariant.releases c.loop-releases.invariant.passed finish_late
-
-pub loop-releases-init : goal.loop-releases-init
-loop-releases-init c = record {
-  progress = c.requires.begun;
+pub loop-started-init : goal.loop-started-init
+loop-started-init c = record {
+  basis = refl;
+  begun = c.requires.begun;
   kept = c.requires.kept;
-  priorities = refl;
-  time = on_time_none (load_of c.args.task.now c.args.waiting.now.ready.priorities).work (start_of c.args.progress.now.starts.items) 0 (omega arith);
-  releases = c.requires.releases;
-  passed = c.requires.passed;
+  time = in_time_none (work_of c.args.task.now.timings.items) (start_of c.args.progress.now.starts.items) 0 (omega arith);
 }
 
-pub fill-requires : goal.fill-requires
-fill-requires c =
+early : (c : In_ok-start_all) → c.loop-started.now + 2 ^ 33 < NEVER
+early c =
+    let early = in_time_early (work_of c.args.task.now.timings.items) (start_of c.loop-started.progress.starts.items) c.loop-started.now c.args.task.now.few c.loop-started.invariant.time in
+    omega (arith, early)
+
+-- no message has moved while messages were issued
+starts_kept : (c : In_ok-start_all) → c.issue_all.new.progress.starts.items ≡ c.loop-started.progress.starts.items
+starts_kept c = ap (λ (x : Placed). x.starts) c.in_ok-issue_all.ensures.placed
+
+placed_before : (c : In_ok-start_all) → (m : ℕ) → IsNumber (work_of c.args.task.now.timings.items) m
+    → (start_of c.issue_all.new.progress.starts.items m ≤ c.loop-started.now) ⊎ (start_of c.issue_all.new.progress.starts.items m ≡ NEVER)
+placed_before c =
+    subst (λ (xs : List ℕ). (m : ℕ) → IsNumber (work_of c.args.task.now.timings.items) m → (start_of xs m ≤ c.loop-started.now) ⊎ (start_of xs m ≡ NEVER)) (sym (starts_kept c))
+    c.loop-started.invariant.begun.settled.placed
+
+in_time : (c : In_ok-start_all) → IsInTime (work_of c.args.task.now.timings.items) (start_of c.issue_all.new.progress.starts.items) c.loop-started.now
+in_time c = subst (λ (xs : List ℕ). IsInTime (work_of c.args.task.now.timings.items) (start_of xs) c.loop-started.now) (sym (starts_kept c)) c.loop-started.invariant.time
+
+-- the tick has been filled
+filled : (c : In_ok-start_all) → IsPlanned c.args.task.now (basis_of c.start_all.new.waiting.service) c.start_all.new.progress c.loop-started.now (length c.args.task.now.timings.items + 1) (c.loop-started.now + 1)
+filled c =
+    subst (λ (b : Basis). IsPlanned c.args.task.now b c.start_all.new.progress c.loop-started.now (length c.args.task.now.timings.items + 1) (c.loop-started.now + 1)) (sym c.in_ok-start_all.ensures.basis)
+    c.in_ok-start_all.ensures.filled
+
+-- and there is a next one
+next_is : (c : Else-next) → IsNextEvent (work_of c.args.task.now.timings.items) (start_of c.start_all.new.progress.starts.items) c.start_all.new.progress.finishes c.loop-started.now c.next-next.result
+next_is c =
     let task = c.args.task.now in
-    let invariant = c.loop-releases.invariant in
-    record {
-      tick = omega (arith, invariant.time, count_is task.trace.now.messages, task.lengths, task.lists.few);
-      begun = rw invariant.priorities invariant.progress;
-      kept = rw invariant.priorities invariant.kept;
-    }
+    let p = c.start_all.new.progress in
+    let kept = c.in_ok-start_all.ensures.kept in
+    let soon = in_time_early (work_of task.timings.items) (start_of c.loop-started.progress.starts.items) c.loop-started.now task.few c.loop-started.invariant.time in
+    next_event (work_of task.timings.items) (start_of p.starts.items) p.finishes p.issues c.loop-started.now c.next-next.result (omega (arith, soon)) kept.waiting.kept.finishes kept.issues
+    c.next-next.ensures.finishes c.next-next.ensures.issues
+    (elim c.next-next.ensures.one [ inl never ↦ absurd (c.if-next.false never) | inr one ↦ one ])
+    (omega (arith, c.if-next.false))
 
-pub next_tick-requires : goal.next_tick-requires
-next_tick-requires c =
+pub loop-started-smaller : goal.loop-started-smaller
+loop-started-smaller c =
+    let s = (goal.at.loop-started-smaller c).In_ok-start_all in
     let task = c.args.task.now in
-    omega (arith, c.loop-releases.invariant.time, count_is task.trace.now.messages, task.lengths, task.lists.few)
+    let work = work_of task.timings.items in
+    let p = c.start_all.new.progress in
+    let starts = ap (λ (x : Placed). x.starts) c.in_ok-finish_all.ensures.placed in
+    let fewer = steps_fewer work (follows_messages work task.earlier) (small_of task) (thinks_of task) c.issue_all.new.progress.starts.items p.starts.items c.loop-started.now c.next-next.result
+    (placed_before s) c.in_ok-start_all.ensures.stay (filled s).settled.placed p.finishes c.in_ok-start_all.ensures.kept.waiting.kept.finishes (next_is (goal.at.loop-started-smaller c).Else-next) in
+    subst (λ (xs : List ℕ). steps_after work (start_of c.finish_all.new.progress.starts.items) c.next-next.result < steps_after work (start_of xs) c.loop-started.now) (starts_kept s)
+    (subst (λ (xs : List ℕ). steps_after work (start_of xs) c.next-next.result < steps_after work (start_of c.issue_all.new.progress.starts.items) c.loop-started.now) (sym starts) fewer)
 
-pub wake-requires : goal.wake-requires
-wake-requires c =
-    let f = (goal.at.wake-requires c).In_ok-fill in
-    let messages = c.args.task.now.trace.now.messages in
-    let new = c.fill.new.progress in
+pub loop-started-preserved : goal.loop-started-preserved
+loop-started-preserved c =
+    let s = (goal.at.loop-started-preserved c).In_ok-start_all in
+    let task = c.args.task.now in
+    let work = work_of task.timings.items in
+    let p = c.start_all.new.progress in
+    let start = start_of p.starts.items in
+    let now = c.loop-started.now in
+    let next = c.next-next.result in
+    let kept = c.in_ok-start_all.ensures.kept in
+    let finish = c.in_ok-finish_all.ensures in
+    let event = next_is (goal.at.loop-started-preserved c).Else-next in
+    let starts = ap (λ (x : Placed). x.starts) finish.placed in
+    let plan : Plannable = plannable_of task (basis_of c.start_all.new.waiting.service) in
+    let order = order_of_waiting task p c.start_all.new.waiting _ kept.issued now kept.waiting in
+    let advanced = progress_advance (plan.order.before start) (TakesFirst plan.priority (plan.order.key start)) work plan.workers (order.numbers start) (follows_messages work task.earlier)
+    (placed_in p) now next p.finishes kept.waiting.kept.finishes event.later event.tick event.first event.issues (filled s) in
     record {
-      next = (tick (goal.at.wake-requires c).In-Some (late f)).tick;
-      counted = record {
-        numbers = All-weaker (Runs (load f).work (start_of new.starts.items) c.loop-releases.now) (λ (r : ℕ × ℕ). IsAmongFirst (length (load f).needs) r.1)
-            (λ (r : ℕ × ℕ) runs. let number = runs.0 in record { from = number.from; to = omega (arith, number.to, lengths_of c.args.task.now) }) new.finishes (kept f).finishes.only;
-        count = (kept f).left.count;
-        counts = λ m from to. omega (arith, (kept f).left.counts m from to);
-      };
-      seats = ap length c.as_slice.ensures.value ∙ (filled f).progress.seats_count ∙ count_is messages;
+      basis = finish.basis ∙ c.in_ok-start_all.ensures.basis ∙ c.in_ok-issue_all.ensures.basis ∙ c.loop-started.invariant.basis;
+      begun = subst (λ (b : Basis). IsPlanned task b c.finish_all.new.progress next 1 next) (sym finish.basis)
+          (subst (λ (x : Placed). IsPlannedTo plan x next 1 next) (sym finish.placed) advanced);
+      kept = finish.woken now (early s) event.later (filled s) kept;
+      time = subst (λ (xs : List ℕ). IsInTime work (start_of xs) next) (sym starts)
+          (in_time_next work (follows_messages work task.earlier) (small_of task) (thinks_of task) c.issue_all.new.progress.starts.items p.starts.items now next (placed_before s)
+          c.in_ok-start_all.ensures.stay (filled s).settled.placed p.finishes kept.waiting.kept.finishes event (in_time s));
     }
 
-pub pass-requires-clause-messages : goal.pass-requires-clause-messages
-pass-requires-clause-messages c = λ k d inside.
-    let f = (goal.at.pass-requires-clause-messages c).In_ok-fill in
-    let sorted = c.loop-releases.releases.sorted.items in
-    let r = get_or sorted k d in
-    let number = c.loop-releases.invariant.releases.messages.only r.1 (contains_map (λ (s : ℕ × ℕ). s.1) sorted r (k, inside, get_or_default sorted k r d inside)) in
-    record { from = number.from; to = omega (arith, number.to, lengths_of c.args.task.now, (kept f).left.count, c.in_ok-wake-in-Some.ensures.wakes.count, ap length c.as_slice-in-Some.ensures.value) }
-
-pub loop-releases-smaller : goal.loop-releases-smaller
-loop-releases-smaller c =
-    let f = (goal.at.loop-releases-smaller c).In_ok-fill in
-    events_fewer (load f).work c.requires.small c.loop-releases.progress.starts.items c.fill.new.progress.starts.items c.loop-releases.now c.in-Some.next
-    c.loop-releases.invariant.progress.settled.placed (filled f).kept c.fill.new.progress.finishes (kept f).finishes (tick (goal.at.loop-releases-smaller c).In-Some (late f))
-
-pub loop-releases-preserved : goal.loop-releases-preserved
-loop-releases-preserved c =
-    let f = (goal.at.loop-releases-preserved c).In_ok-fill in
-    let work = (load f).work in
-    let new = c.fill.new.progress in
-    let start = start_of new.starts.items in
-    let now = c.loop-releases.now in
-    let next = c.in-Some.next in
-    let invariant = c.loop-releases.invariant in
-    let sorted = c.loop-releases.releases.sorted.items in
-    let order = new.order.items in
-    let to_next = tick (goal.at.loop-releases-preserved c).In-Some (late f) in
-    let later : now < next = to_next.later in
-    let made = (filled f).progress in
-    let woken = c.in_ok-wake-in-Some.ensures in
-    let left = c.wake.new.waiting.left.items in
-    let pass = c.in_ok-pass-in-Some.ensures in
-    let passed : ArePassed sorted c.pass.new.self.passed next
-    = pass.passed (λ i d early inside. let is : (get_or sorted i d).0 ≤ now = invariant.passed.before i d early inside in omega arith) in
-    let before : AreReady work (IsPassed sorted c.loop-releases.releases.passed) left order c.wake.new.waiting.ready.messages
-    = passed_of_ready work sorted c.loop-releases.releases.passed now invariant.releases invariant.passed left order c.wake.new.waiting.ready.messages
-    (woken.wakes.ready order (kept f).ready) in
-    let stay : StayReady work (IsPassed sorted c.loop-releases.releases.passed) left c.wake.new.waiting.ready.messages (IsPassed sorted c.pass.new.self.passed) left c.pass.new.ready.messages
-    = subst (λ xs. StayReady work (IsPassed sorted c.loop-releases.releases.passed) xs c.wake.new.waiting.ready.messages (IsPassed sorted c.pass.new.self.passed) xs c.pass.new.ready.messages)
-    c.as_slice-in-Some.ensures.value (pass.ready work invariant.releases) in
+pub returns-then-next : goal.returns-then-next
+returns-then-next c =
+    let s = (goal.at.returns-then-next c).In_ok-start_all in
+    let task = c.args.task.now in
+    let p = c.start_all.new.progress in
+    let work = work_of task.timings.items in
+    let now = c.loop-started.now in
+    let kept = c.in_ok-start_all.ensures.kept in
+    let soon = in_time_early work (start_of c.loop-started.progress.starts.items) now task.few c.loop-started.invariant.time in
+    let last = last_event work (start_of p.starts.items) p.finishes p.issues now c.next-next.result (omega (arith, soon)) kept.waiting.kept.finishes kept.issues
+    c.next-next.ensures.finishes c.next-next.ensures.issues c.if-next.true in
+    let order = order_of_waiting task p c.start_all.new.waiting _ kept.issued now kept.waiting in
+    let made = made_in_order (plannable_of task (basis_of c.start_all.new.waiting.service)) order task.earlier (placed_in p) now task.some.from soon (small_of task) (thinks_of task) (filled s)
+    p.finishes kept.waiting.kept.finishes last in
     record {
-      progress = progress_advance (before_in (load f)) (first_in (load f)) work (load f).workers (numbers_of (before_in (load f)) work (forward_of c.args.task.now))
-          (followed_of (before_in (load f)) work (forward_of c.args.task.now)) (placed_in new) now next new.finishes (kept f).finishes to_next.later to_next.tick to_next.first
-          (λ m number. elim (to_next.releases m number) [
-            | inl early ↦ inl (omega (arith, early, issue_is_release work (none_of c.args.task.now) start m))
-            | inr late ↦ inr (omega (arith, late, issue_is_release work (none_of c.args.task.now) start m))
-          ]) made;
-      kept = record {
-        finishes = finishes_advance work start now next new.finishes c.wake.new.finishes later to_next.tick made.settled.placed woken.finished (kept f).finishes;
-        manned = subst (λ xs. AreManned (load f).workers xs new.finishes new.idle → AreManned (load f).workers xs c.wake.new.finishes c.wake.new.idle) c.as_slice.ensures.value
-            (woken.manned (load f).workers) (kept f).manned;
-        left = left_fall (load f).needs start new.finishes c.wake.new.finishes c.fill.new.waiting.left.items left (kept f).left woken.counts woken.wakes.count;
-        ready = ready_of_passed work sorted c.pass.new.self.passed next invariant.releases passed left order c.pass.new.ready.messages (stay order before);
-      };
-      priorities = pass.priorities ∙ woken.wakes.same ∙ c.in_ok-fill.ensures.priorities ∙ invariant.priorities;
-      time = on_time_next work c.requires.small c.loop-releases.progress.starts.items new.starts.items now next invariant.progress.settled.placed (filled f).kept new.finishes (kept f).finishes
-          to_next invariant.time;
-      releases = subst (λ xs. AreReleases work xs) (sym pass.sorted) invariant.releases;
-      passed = subst (λ xs. ArePassed xs c.pass.new.self.passed next) (sym pass.sorted) passed;
+      made = subst (λ (b : Basis). IsMade (plannable_of task b) (placed_in p)) (c.in_ok-start_all.ensures.basis ∙ c.in_ok-issue_all.ensures.basis ∙ c.loop-started.invariant.basis) made;
     }
-
-pub returns-in-None : goal.returns-in-None
-returns-in-None c =
-    let f = (goal.at.returns-in-None c).In_ok-fill in
-    let new = c.fill.new.progress in
-    let invariant = c.loop-releases.invariant in
-    let last : IsLastTick (load f).work new.finishes c.loop-releases.now = c.in-None.ensures (load f).work c.requires.small invariant.releases invariant.passed (late f) in
-    made_of_last (load f) (forward_of c.args.task.now) (none_of c.args.task.now) c.requires.small (placed_in new) c.loop-releases.now c.args.task.now.some.from (omega (arith, invariant.time, c.args.task.now.lists.few, lengths_of c.args.task.now))
-    (filled f).progress new.finishes (kept f).finishes last

@@ -1,20 +1,17 @@
 use Rattle.std.proofs.Common.{◌≡◌}
-use Rattle.waff_plan.specs.Timing.{start_of}
-use Rattle.waff_list.specs.Planning.{task_work, load_of, pending_in, placed_in}
-use Rattle.waff_list.specs.Progress.{IsProgress, IsKept}
-use Rattle.waff_list.specs.Waiting.{AreReleases, ArePassed}
-use Rattle.waff_list.proofs.Events.{events_after, IsOnTime}
+use Rattle.waff_plan.specs.Timing.{start_of, work_of}
+use Rattle.waff_list.specs.Planning.{AreIssuing, IsPlanned}
+use Rattle.waff_list.specs.Telling.{basis_of}
+use Rattle.waff_list.proofs.IssueEvents.{IsInTime, steps_after}
 use Rattle.waff_list.proofs.planner.go_on.Given as goal
 
-abbrev pub invariant-loop-releases : goal.invariant-loop-releases
-invariant-loop-releases l = record {
-  progress : IsProgress (load_of l.task l.initial.waiting.ready.priorities) (placed_in l.progress) l.now 1 l.now;
-  kept : IsKept (load_of l.task l.initial.waiting.ready.priorities) (placed_in l.progress) (pending_in l.progress l.waiting) l.now;
-  priorities : l.waiting.ready.priorities ≡ l.initial.waiting.ready.priorities;
-  time : IsOnTime (task_work l.task) (start_of l.progress.starts.items) l.now;
-  releases : AreReleases (task_work l.task) l.releases.sorted.items;
-  passed : ArePassed l.releases.sorted.items l.releases.passed l.now;
+abbrev pub invariant-loop-started : goal.invariant-loop-started
+invariant-loop-started l = record {
+  basis : basis_of l.waiting.service ≡ basis_of l.initial.waiting.service;
+  begun : IsPlanned l.task (basis_of l.waiting.service) l.progress l.now 1 l.now;
+  kept : AreIssuing l.task l.progress l.waiting l.progress.issues l.now;
+  time : IsInTime (work_of l.task.timings.items) (start_of l.progress.starts.items) l.now;
 }
 
-abbrev pub decreases-loop-releases : goal.decreases-loop-releases
-decreases-loop-releases l = events_after (task_work l.task) (start_of l.progress.starts.items) l.now
+abbrev pub decreases-loop-started : goal.decreases-loop-started
+decreases-loop-started l = steps_after (work_of l.task.timings.items) (start_of l.progress.starts.items) l.now

@@ -1,9 +1,10 @@
 -- The finish of one message after another.
-use Rattle.std.proofs.Common.{map, arith, sym, ◌∙◌, ap}
+use Rattle.std.proofs.Common.{◌≡◌, ◌+◌, ◌-◌, map, arith, sym, ◌∙◌, ap, subst}
 use Rattle.std.specs.List.{range_with_len}
 use Rattle.waff_plan.specs.LowerBound.{client_finish}
+use Rattle.waff_plan.specs.Peak.{IsPeak}
 use Rattle.waff_plan.specs.Timetable.{work_in}
-use Rattle.waff_plan.proofs.LowerBounds.{finishes_count, finishes_more, longest_more}
+use Rattle.waff_plan.proofs.LowerBounds.{finishes_count, finishes_more}
 use Rattle.waff_plan.proofs.lower_bound.longest_client.Goals as goal
 
 pub finish_alone-finish-requires-clause-finishes : goal.finish_alone-finish-requires-clause-finishes
@@ -23,5 +24,9 @@ loop-n-preserved c =
     let finish = c.finish_alone-finish.ensures in
     record {
       finishes = finishes_more work c.loop-n.n c.finish_alone-finish.result c.loop-n.finishes.items c.push.new.self.items c.loop-n.auto.n c.loop-n.invariant.finishes finish c.in_ok-push.ensures.items;
-      longest = c.max-longest.ensures ∙ longest_more work c.loop-n.n c.loop-n.longest c.finish_alone-finish.result c.loop-n.auto.n c.loop-n.invariant.longest finish;
+      longest = subst (λ k. IsPeak (client_finish work) 1 k c.or-longest.result) (let next : c.loop-n.n - 1 + 1 ≡ c.loop-n.n + 1 - 1 = omega (arith, c.loop-n.auto.n) in next)
+          (c.or-longest.ensures (client_finish work) 1 (c.loop-n.n - 1) (omega (arith, c.loop-n.auto.n)) (sym finish) c.loop-n.invariant.longest);
     }
+
+pub loop-n-init : goal.loop-n-init
+loop-n-init c = record { finishes = c.in_ok-finishes.ensures.items; longest = c.none-longest.ensures (client_finish (work_in c.args.plan.now)) 1 }

@@ -1,68 +1,336 @@
-use Rattle.std.proofs.Common.{◌≡◌, ℕ, List, length, sym, ◌∙◌, ap, subst, arith}
+-- Messages are taken in the order in which they are served.
+use Rattle.std.proofs.Common.{◌≡◌, ℕ, ◌-◌, ◌<◌, ◌≤◌, max, true, List, [], ◌∷◌, ◌++◌, length, get_or, Option, Some, MatchOption, arith, sym, ◌∙◌, ap, subst}
+use Rattle.std.proofs.lemmas.List.{get_or_default}
+use Rattle.waff_model.specs.Numbers.{IsAmongFirst}
+use Rattle.waff_model.specs.Preorder.{span_at}
+use Rattle.waff_model.specs.Versions.{has_clients}
+use Rattle.waff_model.specs.Tree.{Node}
+use Rattle.waff_model.specs.declared.limits.TheConstants.{MAX_MESSAGES}
 use Rattle.waff_model.specs.declared.message.Version.{Version}
+use Rattle.waff_model.specs.declared.preorder.Span.{Span}
+use Rattle.waff_assign.specs.Order.{affinity_of}
 use Rattle.waff_plan.specs.Obeys.{IsLeast}
-use Rattle.waff_plan.specs.Serving.{served_before, started_before}
-use Rattle.waff_plan.specs.Timetable.{AreTimings}
-use Rattle.waff_plan.specs.Timing.{work_of, start_of}
+use Rattle.waff_plan.specs.Order.{IsServiceKey, Key, Serves, key_of}
+use Rattle.waff_plan.specs.Pending.{AreFollowers, Issue, IsFollower}
+use Rattle.waff_plan.specs.Serving.{served_before}
+use Rattle.waff_plan.specs.Table.{IsLatestExcluding, IsLatestMeeting, IsTable}
+use Rattle.waff_plan.specs.Timetable.{AreTimings, Timetable, starts_in, with_start, work_in}
+use Rattle.waff_plan.specs.Timing.{start_of, work_of}
+use Rattle.waff_plan.specs.Turns.{turns_in}
+use Rattle.waff_plan.specs.Work.{Work, IsNumber, finish_of, issue_of}
+use Rattle.waff_plan.specs.declared.latest.Latest.{Latest}
 use Rattle.waff_plan.specs.declared.timing.Timing.{Timing}
+use Rattle.waff_plan.proofs.IssueLoop.{IsSmall, going_first, going_next, going_on, m_number, small_work, some_left, start_printable}
+use Rattle.waff_plan.proofs.IssueSteps.{ArePending, AreTaken, least_from_taken}
+use Rattle.waff_plan.proofs.Orders.{served_by_key, service_key}
 use Rattle.waff_plan.proofs.ServingLemmas.{least_started}
+use Rattle.waff_plan.proofs.StartOrder.{least_again}
+use Rattle.waff_plan.proofs.Tables.{found_noted_at}
 use Rattle.waff_plan.proofs.TimingLemmas.{length-timings_of}
+use Rattle.waff_plan.proofs.TurnLemmas.{has_followed, key_is_issue}
 use Rattle.waff_plan.proofs.unlimited.plan.Goals as goal
+use Rattle.waff_plan.proofs.unlimited.plan.Goals.{In-Some}
 
-pub starts-requires : goal.starts-requires
-starts-requires c =
-    let each = c.as_slice.ensures.value ∙ c.in_ok-timings.ensures.each in
-    let count : length c.as_slice.result.now ≡ length c.args.trace.now.messages
-    = ap length each ∙ length-timings_of c.args.trace.now.messages in
+-- the timings of the last plan are those of the first
+are_last : (first last : Timetable) → AreTimings first.version first.timings → first.version ≡ last.version → first.timings ≡ last.timings → AreTimings last.version last.timings
+are_last first last are version timings =
+    subst (λ (v : Version). AreTimings v last.timings) version (subst (λ (ts : List Timing). AreTimings first.version ts) timings are)
+
+abbrev work_now : In-Some → Work
+work_now c = work_in c.loop-m.plan
+
+abbrev key_now : In-Some → Key
+key_now c = key_of c.loop-m.plan.version (work_now c)
+
+abbrev order_now : In-Some → List ℕ
+order_now c = c.loop-m.invariant.order
+
+abbrev starts_now : In-Some → List ℕ
+starts_now c = c.loop-m.plan.starts
+
+-- the message that is taken, with its key
+abbrev taken : In-Some → Issue
+taken c = (c.in-Some.field-0-0, c.in-Some.m)
+
+-- the timings and the version are those of the first plan
+timings_first : (c : In-Some) → c.in_ok-plan.plan.timings ≡ c.loop-m.plan.timings
+timings_first c = c.in_ok-plan.ensures.timings ∙ sym c.loop-m.invariant.timings
+
+are : (c : In-Some) → AreTimings c.loop-m.plan.version c.loop-m.plan.timings
+are c = are_last c.in_ok-plan.plan c.loop-m.plan c.len-left.ensures.table.timings (c.in_ok-plan.ensures.version ∙ sym c.loop-m.invariant.version) (timings_first c)
+
+few : (c : In-Some) → length c.loop-m.plan.timings ≤ MAX_MESSAGES
+few c = subst (λ (ts : List Timing). length ts ≤ MAX_MESSAGES) (timings_first c) c.len-left.ensures.table.few
+
+lengths : (c : In-Some) → length c.loop-m.plan.timings ≡ length c.args.assigned.now
+lengths c = ap length c.loop-m.invariant.timings ∙ length-timings_of c.args.trace.now.messages ∙ c.requires.lengths
+
+service : (c : In-Some) → IsServiceKey (work_now c) (key_now c)
+service c = service_key c.loop-m.plan.version (work_now c) (are c).earlier
+
+small : (c : In-Some) → IsSmall (work_now c)
+small c = small_work c.loop-m.plan.timings (are c).small
+
+number : (c : In-Some) → IsNumber (work_now c) c.in-Some.m
+number c =
+    m_number c.args.tree.now c.spans-spans.result.now c.args.assigned.now (work_now c) (key_now c) (service c) (are c).earlier (are c).once
+    (few c) (small c) (starts_now c) (order_now c) c.loop-m.left (turns_in c.loop-m.turns) (turns_in c.take.new.self) c.loop-m.table (taken c)
+    c.loop-m.invariant.going c.in-Some.ensures.taken
+
+left : (c : In-Some) → 1 ≤ c.loop-m.left
+left c =
+    some_left c.args.tree.now c.spans-spans.result.now c.args.assigned.now (work_now c) (key_now c) (service c) (are c).earlier (are c).once
+    (few c) (small c) (starts_now c) (order_now c) c.loop-m.left (turns_in c.loop-m.turns) (turns_in c.take.new.self) c.loop-m.table (taken c)
+    c.loop-m.invariant.going c.in-Some.ensures.taken
+
+among : (c : In-Some) → IsAmongFirst (length c.args.assigned.now) c.in-Some.m
+among c = let known = number c in record { from = known.from; to = omega (arith, known.to, lengths c) }
+
+-- its affinity is one of the tree
+affinity_within : (c : In-Some) → affinity_of c.args.assigned.now c.in-Some.m < length c.args.tree.now
+affinity_within c = let known = among c in c.requires.known (c.in-Some.m - 1) 0 (omega (arith, known.from, known.to))
+
+-- what its affinity's span tells
+forward : (c : In-Some) (a : ℕ) → a ≡ affinity_of c.args.assigned.now c.in-Some.m
+    → (span_at c.spans-spans.result.now a).first < (span_at c.spans-spans.result.now a).end
+forward c a is = c.spans-spans.ensures.filled a (rw is (affinity_within c))
+
+inside : (c : In-Some) (a : ℕ) → a ≡ affinity_of c.args.assigned.now c.in-Some.m
+    → (span_at c.spans-spans.result.now a).end ≤ length c.loop-m.table.own
+inside c a is = rw c.loop-m.invariant.spans (c.spans-spans.ensures.few a (rw is (affinity_within c)))
+
+abbrev IsWaitedFor : In-Some → Option Latest → Type 0
+IsWaitedFor c latest =
+    IsLatestExcluding c.args.tree.now c.args.assigned.now (finish_of (work_now c) (start_of (starts_now c))) (order_now c)
+    (affinity_of c.args.assigned.now c.in-Some.m) latest
+
+waited_for : (c : In-Some) (a : ℕ) (latest : Option Latest) → a ≡ affinity_of c.args.assigned.now c.in-Some.m
+    → ((others : List Span) (assigned : List ℕ) (finish : ℕ → ℕ) (noted : List ℕ) → IsTable others assigned finish noted c.loop-m.table
+    → IsLatestMeeting others assigned finish noted (span_at c.spans-spans.result.now a) latest)
+    → IsWaitedFor c latest
+waited_for c a latest is answer =
+    let going = c.loop-m.invariant.going in
+    found_noted_at c.args.tree.now c.spans-spans.result.now c.args.assigned.now (finish_of (work_now c) (start_of (starts_now c))) (order_now c) c.in-Some.m a
+    c.loop-m.table latest c.spans-spans.ensures c.requires.known
+    (λ i there. let known = going.taken.number i there in record { from = known.from; to = omega (arith, known.to, lengths c) })
+    (among c) is going.table answer
+
+-- it starts as soon as it may
+starts_at : (c : In-Some) (s issue : ℕ) (latest : Option Latest) → issue ≡ issue_of (work_now c) (start_of (starts_now c)) c.in-Some.m
+    → MatchOption latest (s ≡ issue) (λ l. s ≡ max issue l.finish)
+    → MatchOption latest (s ≡ issue_of (work_now c) (start_of (starts_now c)) c.in-Some.m)
+    (λ l. s ≡ max (issue_of (work_now c) (start_of (starts_now c)) c.in-Some.m) l.finish)
+starts_at c s issue latest is at = subst (λ (i : ℕ). MatchOption latest (s ≡ i) (λ l. s ≡ max i l.finish)) is at
+
+-- the message that follows it
+follower : (c : In-Some) (j : ℕ) → j ≡ get_or c.in_ok-followers.followers.items (c.in-Some.m - 1) j
+    → IsFollower (work_now c) (length c.loop-m.plan.timings) c.in-Some.m j
+follower c j is =
+    let known = number c in
+    let within : c.in-Some.m - 1 < length c.in_ok-followers.followers.items
+    = omega (arith, known.from, known.to, c.in_ok-followers.ensures.count, ap length (c.timings.ensures ∙ timings_first c)) in
+    subst (IsFollower (work_now c) (length c.loop-m.plan.timings) c.in-Some.m) (sym (is ∙ get_or_default c.in_ok-followers.followers.items (c.in-Some.m - 1) j 0 within))
+    (subst (λ (ts : List Timing). AreFollowers (work_of ts) (length ts) c.in_ok-followers.followers.items) (c.timings.ensures ∙ timings_first c)
+    c.in_ok-followers.ensures.followers c.in-Some.m known)
+
+follower_number : (c : In-Some) (j : ℕ) → (work_now c).follows j ≡ Some c.in-Some.m → IsNumber (work_now c) j
+follower_number c j follow =
+    let later = (are c).earlier c.in-Some.m j follow in
+    record { from = omega (arith, later.from, later.earlier); to = later.to }
+
+clients : (c : In-Some) (j : ℕ) → (work_now c).follows j ≡ Some c.in-Some.m → has_clients c.loop-m.plan.version ≡ true
+clients c j follow = has_followed c.loop-m.plan.version c.loop-m.plan.timings (are c) c.in-Some.m j follow
+
+pub loop-m-init : goal.loop-m-init
+loop-m-init c =
+    let plan = c.in_ok-plan.plan in
     record {
-      lengths = count ∙ c.requires.lengths;
-      known = c.requires.known;
-      few = omega (arith, count, c.timings.ensures.few);
-      are = subst (λ (v : Version). AreTimings v c.as_slice.result.now) (sym c.version-version.ensures)
-          (subst (λ (ts : List Timing). AreTimings c.args.trace.now.version ts) (sym each) c.timings.ensures.are);
+      order = [];
+      going = going_first c.args.tree.now c.spans-spans.result.now c.args.assigned.now (work_in plan) (key_of plan.version (work_in plan)) plan.starts
+          c.len-left.result (turns_in c.in_ok-turns.turns) c.in_ok-table.table c.len-left.ensures.table.lengths c.len-left.ensures.count
+          c.in_ok-turns.ensures.first (c.in_ok-table.ensures.table c.spans-spans.result.now c.args.assigned.now _);
+      version = c.in_ok-plan.ensures.version;
+      timings = c.in_ok-plan.ensures.timings;
+      spans = c.in_ok-table.ensures.count ∙ c.len.ensures.count;
+      by = c.in_ok-turns.ensures.by;
     }
 
-pub new-requires : goal.new-requires
-new-requires c =
-    let each = c.in_ok-timings.ensures.each in
-    let lengths : length c.in_ok-starts.starts.items ≡ length c.in_ok-timings.timings.items = c.in_ok-starts.ensures.count ∙ ap length c.as_slice.ensures.value in
-    let same : length c.in_ok-timings.timings.items ≡ length c.args.trace.now.messages
-    = ap length each ∙ length-timings_of c.args.trace.now.messages in
+pub overflow_sub-left : goal.overflow_sub-left
+overflow_sub-left c = left (goal.at.overflow_sub-left c).In-Some
+
+pub of-requires : goal.of-requires
+of-requires c = record { number = among c }
+
+pub bounds-spans-of : goal.bounds-spans-of
+bounds-spans-of c = rw (c.of.ensures, c.spans-spans.ensures.count) (affinity_within (goal.at.bounds-spans-of c).In-Some)
+
+pub issue-requires : goal.issue-requires
+issue-requires c = record { number = number (goal.at.issue-requires c).In-Some }
+
+pub latest-requires-clause-forward : goal.latest-requires-clause-forward
+latest-requires-clause-forward c = forward (goal.at.latest-requires-clause-forward c).In-Some c.of.result.0 c.of.ensures
+
+pub latest-requires-clause-within : goal.latest-requires-clause-within
+latest-requires-clause-within c = inside (goal.at.latest-requires-clause-within c).In-Some c.of.result.0 c.of.ensures
+
+pub set_start-requires : goal.set_start-requires
+set_start-requires c =
+    let f = (goal.at.set_start-requires c).In-Some in
     record {
-      lengths = lengths;
-      few = omega (arith, same, c.timings.ensures.few);
-      timings = subst (λ (v : Version). AreTimings v c.in_ok-timings.timings.items) (sym c.version-version.ensures)
-          (subst (λ (ts : List Timing). AreTimings c.args.trace.now.version ts) (sym each) c.timings.ensures.are);
-      printable = c.in_ok-starts.ensures.printable;
+      number = number f;
+      printable = start_printable c.args.tree.now c.spans-spans.result.now c.args.assigned.now (work_now f) (key_now f) (service f) (are f).earlier (are f).once
+          (few f) (small f) (starts_now f) (order_now f) c.loop-m.left (turns_in c.loop-m.turns) (turns_in c.take.new.self) c.loop-m.table (taken f)
+          c.loop-m.invariant.going c.in-Some.ensures.taken c.start_at-start.result c.latest.result
+          (waited_for f c.of.result.0 c.latest.result c.of.ensures c.latest.ensures)
+          (starts_at f c.start_at-start.result c.issue.result c.latest.result c.issue.ensures.issue c.start_at-start.ensures);
     }
+
+pub finish-finish-requires : goal.finish-finish-requires
+finish-finish-requires c = rw c.set_start.ensures (record { number = number (goal.at.finish-finish-requires c).In-Some })
+
+pub note-requires-clause-forward : goal.note-requires-clause-forward
+note-requires-clause-forward c = forward (goal.at.note-requires-clause-forward c).In-Some c.of.result.0 c.of.ensures
+
+pub note-requires-clause-within : goal.note-requires-clause-within
+note-requires-clause-within c = inside (goal.at.note-requires-clause-within c).In-Some c.of.result.0 c.of.ensures
+
+pub note-requires-clause-few : goal.note-requires-clause-few
+note-requires-clause-few c =
+    let f = (goal.at.note-requires-clause-few c).In-Some in
+    let known = number f in omega (arith, known.to, few f)
+
+pub overflow_sub-m : goal.overflow_sub-m
+overflow_sub-m c = (number (goal.at.overflow_sub-m c).In-Some).from
+
+pub index-follower-requires : goal.index-follower-requires
+index-follower-requires c =
+    let f = (goal.at.index-follower-requires c).In-Some in
+    let known = number f in
+    omega (arith, known.from, known.to, c.in_ok-followers.ensures.count, c.in_ok-followers.followers.ok.0, ap length (c.timings.ensures ∙ timings_first f))
+
+pub issue-requires-then-follower-ne0 : goal.issue-requires-then-follower-ne0
+issue-requires-then-follower-ne0 c =
+    let f = (goal.at.issue-requires-then-follower-ne0 c).In-Some in
+    let j = c.index-follower.result.now in
+    rw c.set_start.ensures (record { number = follower_number f j ((follower f j c.index-follower.ensures).follows c.if-follower-ne0.true) })
+
+pub put-requires : goal.put-requires
+put-requires c =
+    let f = (goal.at.put-requires c).In-Some in
+    let j = c.index-follower.result.now in
+    record { by_issue = c.in-Some.ensures.kept ∙ c.loop-m.invariant.by ∙ clients f j ((follower f j c.index-follower.ensures).follows c.if-follower-ne0.true) }
+
+pub loop-m-smaller-in-Continue-branch-5 : goal.loop-m-smaller-in-Continue-branch-5
+loop-m-smaller-in-Continue-branch-5 c = omega (arith, left (goal.at.loop-m-smaller-in-Continue-branch-5 c).In-Some)
+
+pub loop-m-preserved-in-Continue-branch-5 : goal.loop-m-preserved-in-Continue-branch-5
+loop-m-preserved-in-Continue-branch-5 c =
+    let f = (goal.at.loop-m-preserved-in-Continue-branch-5 c).In-Some in
+    let spans = c.spans-spans.result.now in
+    let j = c.index-follower.result.now in
+    let s = c.start_at-start.result in
+    let follow = (follower f j c.index-follower.ensures).follows c.if-follower-ne0.true in
+    let placed = with_start c.loop-m.plan c.in-Some.m s in
+    let finish_is : c.finish-finish.result ≡ finish_of (work_in placed) (starts_in placed) c.in-Some.m
+    = c.finish-finish.ensures.finish ∙ ap (λ (p : Timetable). finish_of (work_in p) (starts_in p) c.in-Some.m) c.set_start.ensures in
+    let issue_is : c.issue-then-follower-ne0.result ≡ issue_of (work_in placed) (starts_in placed) j
+    = c.issue-then-follower-ne0.ensures.issue ∙ ap (λ (p : Timetable). issue_of (work_in p) (starts_in p) j) c.set_start.ensures in
+    rw c.set_start.ensures (record {
+      order = order_now f ++ c.in-Some.m ∷ [];
+      going = going_next c.args.tree.now spans c.args.assigned.now (work_now f) (key_now f) (service f) (are f).earlier (are f).once
+          (few f) (small f) (starts_now f) (order_now f) c.loop-m.left (turns_in c.loop-m.turns) (turns_in c.take.new.self) c.loop-m.table (taken f)
+          c.loop-m.invariant.going c.in-Some.ensures.taken s c.latest.result
+          (waited_for f c.of.result.0 c.latest.result c.of.ensures c.latest.ensures)
+          (starts_at f s c.issue.result c.latest.result c.issue.ensures.issue c.start_at-start.ensures)
+          c.finish-finish.result finish_is c.note.new.self
+          (λ finish_at noted at. c.note.ensures.table spans c.args.assigned.now finish_at (order_now f) noted (ap (span_at spans) (sym c.of.ensures)) at)
+          j c.issue-then-follower-ne0.result (turns_in c.put.new.self) (follower_number f j follow) follow
+          (issue_is ∙ sym (key_is_issue c.loop-m.plan.version (work_now f) (starts_in placed) j (clients f j follow)))
+          c.in_ok-put.ensures.put;
+      version = c.loop-m.invariant.version;
+      timings = c.loop-m.invariant.timings;
+      spans = c.note.ensures.count ∙ c.loop-m.invariant.spans;
+      by = c.in_ok-put.ensures.kept ∙ c.in-Some.ensures.kept ∙ c.loop-m.invariant.by;
+    })
+
+pub loop-m-smaller : goal.loop-m-smaller
+loop-m-smaller c = omega (arith, left (goal.at.loop-m-smaller c).In-Some)
+
+pub loop-m-preserved : goal.loop-m-preserved
+loop-m-preserved c =
+    let f = (goal.at.loop-m-preserved c).In-Some in
+    let spans = c.spans-spans.result.now in
+    let s = c.start_at-start.result in
+    let is = follower f c.index-follower.result.now c.index-follower.ensures in
+    let placed = with_start c.loop-m.plan c.in-Some.m s in
+    let finish_is : c.finish-finish.result ≡ finish_of (work_in placed) (starts_in placed) c.in-Some.m
+    = c.finish-finish.ensures.finish ∙ ap (λ (p : Timetable). finish_of (work_in p) (starts_in p) c.in-Some.m) c.set_start.ensures in
+    rw c.set_start.ensures (record {
+      order = order_now f ++ c.in-Some.m ∷ [];
+      going = going_on c.args.tree.now spans c.args.assigned.now (work_now f) (key_now f) (service f) (are f).earlier (are f).once
+          (few f) (small f) (starts_now f) (order_now f) c.loop-m.left (turns_in c.loop-m.turns) (turns_in c.take.new.self) c.loop-m.table (taken f)
+          c.loop-m.invariant.going c.in-Some.ensures.taken s c.latest.result
+          (waited_for f c.of.result.0 c.latest.result c.of.ensures c.latest.ensures)
+          (starts_at f s c.issue.result c.latest.result c.issue.ensures.issue c.start_at-start.ensures)
+          c.finish-finish.result finish_is c.note.new.self
+          (λ finish_at noted at. c.note.ensures.table spans c.args.assigned.now finish_at (order_now f) noted (ap (span_at spans) (sym c.of.ensures)) at)
+          (λ n known follow. omega (arith, is.all n known follow, known.from, c.if-follower-ne0.false));
+      version = c.loop-m.invariant.version;
+      timings = c.loop-m.invariant.timings;
+      spans = c.note.ensures.count ∙ c.loop-m.invariant.spans;
+      by = c.in-Some.ensures.kept ∙ c.loop-m.invariant.by;
+    })
+
+pub followers-requires : goal.followers-requires
+followers-requires c = rw c.timings.ensures (record {
+  few = c.len-left.ensures.table.few;
+  earlier = c.len-left.ensures.table.timings.earlier;
+  once = c.len-left.ensures.table.timings.once;
+})
+
+-- the plan that is least in the order by the key is least in the order in which it serves messages
+least_served : (tree : List Node) (assigned : List ℕ) (work : Work) → length assigned ≡ work.count → (version : Version) (start : ℕ → ℕ)
+    → IsLeast (Serves tree assigned work (key_of version work start)) work start → IsLeast (served_before version tree assigned work start) work start
+least_served tree assigned work same version start least =
+    least_again (Serves tree assigned work (key_of version work start)) (served_before version tree assigned work start) work start
+    (λ i j. (served_by_key tree assigned work same version start i j).0) (λ i j. (served_by_key tree assigned work same version start i j).1) least
+
+pub returns-clause-version : goal.returns-clause-version
+returns-clause-version c = c.loop-m.invariant.version
+
+pub returns-clause-timings : goal.returns-clause-timings
+returns-clause-timings c = c.loop-m.invariant.timings
 
 pub returns-clause-lengths : goal.returns-clause-lengths
-returns-clause-lengths c =
-    ap length c.new.ensures.timings ∙ ap length c.in_ok-timings.ensures.each ∙ length-timings_of c.args.trace.now.messages ∙ c.requires.lengths
+returns-clause-lengths c = ap length c.loop-m.invariant.timings ∙ length-timings_of c.args.trace.now.messages ∙ c.requires.lengths
+
+-- a plan of which no message is left is least
+all_least : (tree : List Node) (assigned : List ℕ) (plan : Timetable) → AreTimings plan.version plan.timings → length plan.timings ≡ length assigned
+    → (order : List ℕ) → AreTaken tree assigned (work_in plan) (key_of plan.version (work_in plan)) (starts_in plan) order
+    → ArePending (work_in plan) (key_of plan.version (work_in plan)) (starts_in plan) order []
+    → IsLeast (served_before plan.version tree assigned (work_in plan) (starts_in plan)) (work_in plan) (starts_in plan)
+all_least tree assigned plan are same order taken pending =
+    let work = work_in plan in
+    least_served tree assigned work (sym same) plan.version (starts_in plan)
+    (least_from_taken tree assigned work (key_of plan.version work) (service_key plan.version work are.earlier) (starts_in plan) order are.earlier taken pending)
 
 pub returns-clause-least : goal.returns-clause-least
 returns-clause-least c =
-    let plan = c.new.result in
-    let version = c.version-version.result in
-    let are_least = λ (v : Version) (ts : List Timing) (ss : List ℕ).
-    IsLeast (served_before v c.args.tree.now c.args.assigned.now (work_of ts) (start_of ss)) (work_of ts) (start_of ss) in
-    subst (λ (v : Version). are_least v plan.timings plan.starts) (sym c.new.ensures.version)
-    (subst (λ (ts : List Timing). are_least version ts plan.starts) (c.as_slice.ensures.value ∙ sym c.new.ensures.timings)
-    (subst (λ (ss : List ℕ). are_least version c.as_slice.result.now ss) (sym c.new.ensures.starts) c.in_ok-starts.ensures.least))
+    let plan = c.loop-m.plan in
+    let h = c.loop-m.invariant in
+    let work = work_in plan in
+    all_least c.args.tree.now c.args.assigned.now plan
+    (are_last c.in_ok-plan.plan plan c.len-left.ensures.table.timings (c.in_ok-plan.ensures.version ∙ sym h.version) (c.in_ok-plan.ensures.timings ∙ sym h.timings))
+    (ap length h.timings ∙ length-timings_of c.args.trace.now.messages ∙ c.requires.lengths) h.order h.going.taken
+    (subst (λ (xs : List Issue). ArePending work (key_of plan.version work) (starts_in plan) h.order xs) c.in_default.ensures.taken h.going.pending)
 
 pub returns-clause-started : goal.returns-clause-started
 returns-clause-started c =
-    let plan = c.new.result in
-    let version = c.version-version.result in
-    let timings = c.as_slice.result.now in
-    let each = c.as_slice.ensures.value ∙ c.in_ok-timings.ensures.each in
-    let same : length timings ≡ length c.args.assigned.now
-    = ap length each ∙ length-timings_of c.args.trace.now.messages ∙ c.requires.lengths in
-    let are : AreTimings version timings = subst (λ (v : Version). AreTimings v timings) (sym c.version-version.ensures)
-    (subst (λ (ts : List Timing). AreTimings c.args.trace.now.version ts) (sym each) c.timings.ensures.are) in
-    let are_least = λ (v : Version) (ts : List Timing) (ss : List ℕ).
-    IsLeast (started_before v c.args.tree.now c.args.assigned.now (start_of ss)) (work_of ts) (start_of ss) in
-    subst (λ (v : Version). are_least v plan.timings plan.starts) (sym c.new.ensures.version)
-    (subst (λ (ts : List Timing). are_least version ts plan.starts) (c.as_slice.ensures.value ∙ sym c.new.ensures.timings)
-    (subst (λ (ss : List ℕ). are_least version timings ss) (sym c.new.ensures.starts)
-    (least_started c.args.tree.now c.args.assigned.now timings (start_of c.in_ok-starts.starts.items) same version are c.in_ok-starts.ensures.least)))
+    let plan = c.loop-m.plan in
+    let h = c.loop-m.invariant in
+    let work = work_in plan in
+    let same = ap length h.timings ∙ length-timings_of c.args.trace.now.messages ∙ c.requires.lengths in
+    let are = are_last c.in_ok-plan.plan plan c.len-left.ensures.table.timings (c.in_ok-plan.ensures.version ∙ sym h.version) (c.in_ok-plan.ensures.timings ∙ sym h.timings) in
+    least_started c.args.tree.now c.args.assigned.now plan.timings (starts_in plan) same plan.version are
+    (all_least c.args.tree.now c.args.assigned.now plan are same h.order h.going.taken
+    (subst (λ (xs : List Issue). ArePending work (key_of plan.version work) (starts_in plan) h.order xs) c.in_default.ensures.taken h.going.pending))

@@ -1,27 +1,83 @@
-use Rattle.std.proofs.Common.{IfOk, length, sym, ◌∙◌, subst}
-use Rattle.waff_model.specs.declared.message.Version.{Version}
-use Rattle.waff_plan.specs.Serving.{started_before}
+-- Each message waits for the latest of those that exclude it and are before it.
+use Rattle.std.proofs.Common.{◌≡◌, ◌+◌, ◌-◌, ◌<◌, [], ◌∷◌, ◌++◌, length, set, option_map, arith, sym, ◌∙◌, ap, subst}
+use Rattle.std.proofs.lemmas.List.{length-set}
+use Rattle.waff_model.specs.Preorder.{span_at}
+use Rattle.waff_assign.specs.Order.{affinity_of}
+use Rattle.waff_plan.specs.ByStart.{started_at, walk_of}
+use Rattle.waff_plan.specs.Latest.{IsFound}
+use Rattle.waff_plan.specs.Serving.{chain_key, started_before}
+use Rattle.waff_plan.specs.Table.{IsTable}
 use Rattle.waff_plan.specs.Timetable.{starts_in, work_in}
-use Rattle.waff_plan.specs.Waits.{AreWaits}
+use Rattle.waff_plan.specs.Waits.{IsWait, wait_of}
+use Rattle.waff_plan.specs.Work.{IsAmongFirst, finish_of}
+use Rattle.waff_plan.proofs.ApartLaws.{noted_number, number_here, numbers_more, numbers_to}
+use Rattle.waff_plan.proofs.Followings.{is_wait}
+use Rattle.waff_plan.proofs.Latests.{found_same}
+use Rattle.waff_plan.proofs.ServingLemmas.{each_runs}
+use Rattle.waff_plan.proofs.StartedLinks.{AreFirstLinks, all_links, before_noted, more_links, noted_before, sorts}
+use Rattle.waff_plan.proofs.Tables.{found_noted_at}
 use Rattle.waff_plan.proofs.waits.waits.Goals as goal
 
-pub returns-in-V1-clause-waits : goal.returns-in-V1-clause-waits
-returns-in-V1-clause-waits c =
-    let plan = c.args.plan.now in
-    subst (λ (v : Version). IfOk c.waits_by_number.result (λ waits.
-    AreWaits c.args.since (started_before v c.args.tree.now c.args.assigned.now (starts_in plan)) (work_in plan) (starts_in plan) (length plan.timings) waits.items))
-    (sym c.in-V1.is ∙ c.version.ensures) c.waits_by_number.ensures.waits
+pub loop-place-init : goal.loop-place-init
+loop-place-init c = record {
+  count = omega (arith, c.in_ok-waits.ensures.len, c.in_ok-waits.waits.ok.0, c.len-2.ensures.count);
+  waits = λ q less. absurd (omega (arith, less));
+  table = c.in_ok-table.ensures.table c.spans-spans.result.now c.args.assigned.now _;
+  spans = c.in_ok-table.ensures.count ∙ c.len.ensures.count;
+}
 
-pub returns-in-V2-clause-waits : goal.returns-in-V2-clause-waits
-returns-in-V2-clause-waits c =
+pub loop-place-preserved : goal.loop-place-preserved
+loop-place-preserved c =
+    let tree = c.args.tree.now in
+    let assigned = c.args.assigned.now in
     let plan = c.args.plan.now in
-    subst (λ (v : Version). IfOk c.waits_by_number-in-V2.result (λ waits.
-    AreWaits c.args.since (started_before v c.args.tree.now c.args.assigned.now (starts_in plan)) (work_in plan) (starts_in plan) (length plan.timings) waits.items))
-    (sym c.in-V2.is ∙ c.version.ensures) c.waits_by_number-in-V2.ensures.waits
+    let work = work_in plan in
+    let start = starts_in plan in
+    let finish = finish_of work start in
+    let spans = c.spans-spans.result.now in
+    let started = walk_of (length c.args.plan.now.timings) (option_map (λ list. list.items) c.in_ok-started.started) in
+    let are = c.in_ok-started.ensures.order in
+    let p = c.loop-place.place in
+    let known : p < work.count = omega (arith, c.loop-place-test.true, c.len-place-end.ensures.count) in
+    let within : p < length started = omega (arith, known, are.long) in
+    let same : length assigned ≡ work.count = sym c.requires.lengths in
+    let runs = each_runs plan.version plan.timings c.len-2.ensures.table.timings in
+    let key = chain_key plan.version start in
+    let before = started_before plan.version tree assigned start in
+    let in_order = sorts tree assigned work same plan.version start runs c.requires.served in
+    let m = (started_at started p).number in
+    let m_is : c.number_at-m.result ≡ m = c.number_at-m.ensures work.count known in
+    let number = number_here work key started are p within in
+    let among : IsAmongFirst (length assigned) m = record { from = number.from; to = omega (arith, number.to, same) } in
+    let noted = numbers_to started p in
+    let excluding = found_noted_at tree spans assigned finish noted m c.of.result.0 c.loop-place.table c.latest.result c.spans-spans.ensures c.requires.known
+    (λ i there. let known = noted_number work key started are p i there in record { from = known.from; to = omega (arith, known.to, same) })
+    among (c.of.ensures ∙ ap (affinity_of assigned) m_is) c.loop-place.invariant.table c.latest.ensures in
+    let found : IsFound (λ i. before i m) finish c.latest.result
+    = found_same _ (λ i. before i m) finish c.latest.result
+    (noted_before work key started are tree assigned before in_order p within)
+    (before_noted work key started are tree assigned before in_order p within) excluding in
+    let Is = IsWait c.args.since before work start in
+    let is : Is m c.wait.result
+    = subst (Is m) (sym (c.wait.ensures ∙ ap (λ k. wait_of c.args.since work start k c.latest.result) m_is)) (is_wait before work start m c.args.since c.latest.result found) in
+    let waits = c.loop-place.waits.items in
+    let more : numbers_to started (p + 1) ≡ noted ++ c.number_at-m.result ∷ []
+    = numbers_more started p within ∙ sym (ap (λ x. noted ++ x ∷ []) m_is) in
+    let table = c.note.ensures.table spans assigned finish noted c.loop-place.invariant.table
+    (ap (λ x. span_at spans x) (sym c.of.ensures)) (sym c.finish-finish.ensures.finish) in
+    record {
+      count = length-set waits (c.number_at-m.result - 1) c.wait.result ∙ c.loop-place.invariant.count;
+      waits = subst (λ k. AreFirstLinks Is started (set waits (k - 1) c.wait.result) (p + 1)) (sym m_is)
+          (more_links work key started are Is waits p c.wait.result within c.loop-place.invariant.count c.loop-place.invariant.waits is);
+      table = subst (λ xs. IsTable spans assigned finish xs c.note.new.self) (sym more) table;
+      spans = c.note.ensures.count ∙ c.loop-place.invariant.spans;
+    }
 
-pub returns-in-V3-clause-waits : goal.returns-in-V3-clause-waits
-returns-in-V3-clause-waits c =
+pub returns-clause-waits : goal.returns-clause-waits
+returns-clause-waits c =
+    let work = work_in c.args.plan.now in
+    let start = starts_in c.args.plan.now in
     let plan = c.args.plan.now in
-    subst (λ (v : Version). IfOk c.waits_by_start.result (λ waits.
-    AreWaits c.args.since (started_before v c.args.tree.now c.args.assigned.now (starts_in plan)) (work_in plan) (starts_in plan) (length plan.timings) waits.items))
-    (sym c.in-V3.is ∙ c.version.ensures) c.waits_by_start.ensures.waits
+    all_links work (chain_key plan.version start) (walk_of (length c.args.plan.now.timings) (option_map (λ list. list.items) c.in_ok-started.started)) c.in_ok-started.ensures.order
+    (IsWait c.args.since (started_before plan.version c.args.tree.now c.args.assigned.now start) work start)
+    c.loop-place.waits.items c.loop-place.place (omega (arith, c.loop-place-test.false, c.len-place-end.ensures.count, c.in_ok-started.ensures.order.long)) c.loop-place.invariant.waits

@@ -1,0 +1,6 @@
+//! What limits a workload: the data that its messages contend for, whatever the tree of affinities.
+
+#![tactic(auto)]
+
+pub mod data;
+pub mod laws;

@@ -1,0 +1,171 @@
+-- A list plan in any order of service while it is made: which messages are ready, and when it is made.
+use Rattle.std.proofs.Common.{◌≡◌, ℕ, zero, suc, ◌+◌, ◌-◌, ◌<◌, ◌≤◌, ◌⊎◌, inl, inr, List, ◌++◌, length, map, get_or, Contains, arith, sym, ◌∙◌, ap}
+use Rattle.std.proofs.lemmas.Bool.{cases_lt}
+use Rattle.std.proofs.lemmas.List.{get_or_default, length-map}
+use Rattle.std.proofs.lemmas.List.Elements.{All-contains}
+use Rattle.std.proofs.lemmas.List.FromFn.{get_or-map-range_with_len, length-range_with_len}
+use Rattle.waff_model.specs.declared.limits.TheConstants.{MAX_RELEASE, MAX_THINK, MAX_TICK}
+use Rattle.waff_assign.specs.Order.{Relation}
+use Rattle.waff_order.specs.Needs.{IsNeed}
+use Rattle.waff_plan.specs.Obeys.{FollowsEarlier}
+use Rattle.waff_plan.specs.Timing.{start_of}
+use Rattle.waff_plan.specs.Work.{Work, IsNumber, finish_of, issue_of, numbers}
+use Rattle.waff_list.specs.Issuing.{AreServed, IsLastEvent}
+use Rattle.waff_list.specs.ListRule.{IsReady}
+use Rattle.waff_list.specs.Orders.{AreNeedsIn, IsServiceOrder, TakesFirst}
+use Rattle.waff_list.specs.Placed.{Pending, Placed}
+use Rattle.waff_list.specs.Plannable.{IsKept, IsMade, IsPlannedTo, Plannable}
+use Rattle.waff_list.specs.Progress.{IsSettled, IsSmall}
+use Rattle.waff_list.specs.Ready.{IsFree}
+use Rattle.waff_list.specs.Seating.{worker_of}
+use Rattle.waff_list.specs.Waiting.{AreFinishes, AreLeft, left_of, running_needs, unplaced_needs}
+use Rattle.waff_plan.specs.declared.due.TheConstants.{NEVER}
+use Rattle.waff_list.proofs.CountLemmas.{left_finished, left_over}
+use Rattle.waff_list.proofs.Each.{each_same, each_there}
+use Rattle.waff_list.proofs.IssueLemmas.{issue_le}
+use Rattle.waff_list.proofs.IssuePlans.{follows_messages}
+use Rattle.waff_list.proofs.Making.{settled_all, settled_plan}
+use Rattle.waff_list.proofs.Orders.{contains_or, needs_tell}
+use Rattle.waff_list.proofs.Starting.{IsStartingOf}
+
+-- what a message waits for but its issue
+abbrev pub sums : Work → List (List ℕ) → (ℕ → ℕ) → List (ℕ × ℕ) → List ℕ
+sums work needs start finishes = map (λ m. unplaced_needs needs start m + running_needs needs finishes m) (numbers work)
+
+pub sums_are : (work : Work) (needs : List (List ℕ)) (start : ℕ → ℕ) (finishes : List (ℕ × ℕ)) → length needs ≡ work.count → AreLeft needs start finishes (sums work needs start finishes)
+sums_are work needs start finishes count = record {
+  count = length-map (numbers work) (λ m. unplaced_needs needs start m + running_needs needs finishes m) ∙ length-range_with_len 1 work.count ∙ sym count;
+  counts = λ m from to. get_or-map-range_with_len (λ m. unplaced_needs needs start m + running_needs needs finishes m) 1 work.count (m - 1) m 0
+      (omega (arith, from, to, count)) (omega (arith, from));
+}
+
+module _ (p : Plannable) (order : IsServiceOrder p.work p.order) where
+  module _ (placed : Placed) (pending : Pending) (trails : List (List ℕ)) (issued : List ℕ) (needs : List (List ℕ)) (now turn end : ℕ)
+      (short : now < NEVER) (served : AreServed p.work (start_of placed.starts) now issued) (progress : IsPlannedTo p placed now turn end)
+      (h : IsKept p placed pending trails issued needs now) where
+    abbrev start : ℕ → ℕ
+    start = start_of placed.starts
+
+    abbrev before : Relation
+    before = p.order.before start
+
+    are : AreNeedsIn before issued needs
+    are = order.serves start now issued needs served h.knows
+
+    pub need_number : (i j : ℕ) → IsNeed needs i j → IsNumber p.work i
+    need_number i j need = (order.numbers start i j (are.sound i j need)).0
+
+    abbrev its_left : List ℕ
+    its_left = sums p.work needs start pending.finishes
+
+    are_left : AreLeft needs start pending.finishes its_left
+    are_left = sums_are p.work needs start pending.finishes h.count
+
+    -- a message that waits for nothing is issued
+    issued_if_none : (m : ℕ) → IsFree p.work pending.left m → Contains issued m
+    issued_if_none m (number, over) = elim (contains_or m issued) [
+      | inl there ↦ there
+      | inr other ↦ let more = h.left.later m number other in absurd (omega (arith, more, over))
+    ]
+
+    ready_if_up : (m : ℕ) → IsFree p.work pending.left m → IsReady before p.work start now m
+    ready_if_up m (number, over) =
+        let there = issued_if_none m (number, over) in
+        let is = served.each.only m there in
+        let none : left_of its_left m ≡ 0 = omega (arith, are_left.counts m number.from (omega (arith, number.to, h.count)), h.left.here m number there, over) in
+        record {
+          number = number;
+          issued = is.1;
+          free = (needs_tell before p.work issued needs are start now progress.settled.ordered m there).0
+              (left_finished needs p.work need_number h.count start now pending.finishes its_left short h.finishes are_left m number progress.settled.placed none);
+        }
+
+    up_if_ready : (m : ℕ) → IsReady before p.work start now m → IsFree p.work pending.left m
+    up_if_ready m ready =
+        let number = ready.number in
+        let there = each_there (λ x. IsNumber p.work x × (issue_of p.work start x ≤ now)) issued served.each m (number, ready.issued) in
+        let none = left_over needs p.work need_number h.count start now pending.finishes its_left short h.finishes are_left m number
+        ((needs_tell before p.work issued needs are start now progress.settled.ordered m there).1 ready.free) in
+        (number, omega (arith, are_left.counts m number.from (omega (arith, number.to, h.count)), h.left.here m number there, none))
+
+  -- those that are issued and wait for none are ready
+  pub starting_in_order : (placed : Placed) (pending : Pending) (trails : List (List ℕ)) (issued : List ℕ) (needs : List (List ℕ)) (now turn : ℕ)
+      → now < NEVER → turn ≤ p.work.count + 1 → AreServed p.work (start_of placed.starts) now issued → IsPlannedTo p placed now turn now
+      → IsKept p placed pending trails issued needs now
+      → IsStartingOf (p.order.before (start_of placed.starts)) (TakesFirst p.priority (p.order.key (start_of placed.starts))) p.work p.workers placed pending.finishes pending.idle pending.ready now turn
+  starting_in_order placed pending trails issued needs now turn short to served progress h = record {
+    to = to;
+    progress = progress;
+    finishes = h.finishes;
+    manned = h.manned;
+    ready = each_same (IsFree p.work pending.left) (placed.order ++ pending.ready) h.ready
+        (IsReady (p.order.before (start_of placed.starts)) p.work (start_of placed.starts) now)
+        (ready_if_up placed pending trails issued needs now turn now short served progress h)
+        (up_if_ready placed pending trails issued needs now turn now short served progress h);
+  }
+
+  -- where no message finishes after now, and the issue of none that is not issued is known, all are issued and placed
+  module _ (follows : FollowsEarlier p.work) (start worker : ℕ → ℕ) (now : ℕ) (some : 1 ≤ p.workers) (early : now + MAX_RELEASE + MAX_THINK < NEVER) (small : IsSmall p.work)
+      (thinks : (m : ℕ) → IsNumber p.work m → p.work.think m ≤ MAX_THINK)
+      (finishes : (m : ℕ) → IsNumber p.work m → start m ≤ now → finish_of p.work start m ≤ now)
+      (issues : (m : ℕ) → IsNumber p.work m → (issue_of p.work start m ≤ now) ⊎ (NEVER ≤ issue_of p.work start m))
+      (h : IsSettled (p.order.before start) (TakesFirst p.priority (p.order.key start)) p.work p.workers start worker now (p.work.count + 1) (now + 1)) where
+    placed_if_issued : (m : ℕ) → IsNumber p.work m → issue_of p.work start m ≤ now → start m ≤ now
+    placed_if_issued =
+        settled_all (p.order.before start) (TakesFirst p.priority (p.order.key start)) p.work p.workers (order.numbers start) (follows_messages p.work follows)
+        start worker now some (omega (arith, early)) finishes
+        (record { place = order.place start; to = order.to start; second = λ i j pair. (order.numbers start i j pair).1; earlier = order.earlier start })
+        (λ i m pair issued. elim (issues i (order.numbers start i m pair).0) [
+          | inl is ↦ is
+          | inr never ↦ let known = order.known start i m pair (omega (arith, issued, early)) in absurd (omega (arith, never, known))
+        ]) h
+
+    all_issued : (bound m : ℕ) → m < bound → IsNumber p.work m → issue_of p.work start m ≤ now
+    all_issued zero m less number = absurd (omega arith)
+    all_issued (suc bound) m less number = elim (issues m number) [
+      | inl issued ↦ issued
+      | inr never ↦
+          let soon = issue_le p.work start m (now + MAX_RELEASE + MAX_THINK) (omega (arith, small.release m number))
+          (λ f is.
+          let earlier = follows f m is in
+          let f_number : IsNumber p.work f = record { from = earlier.from; to = omega (arith, earlier.earlier, earlier.to) } in
+          let issued = all_issued bound f (omega (arith, less, earlier.earlier)) f_number in
+          omega (arith, finishes f f_number (placed_if_issued f f_number issued), thinks m number)) in
+          absurd (omega (arith, never, soon, early))
+    ]
+
+    pub all_placed : (m : ℕ) → IsNumber p.work m → start m ≤ now
+    all_placed m number = placed_if_issued m number (all_issued (suc m) m (omega arith) number)
+
+  pub made_in_order : FollowsEarlier p.work → (placed : Placed) (now : ℕ) → 1 ≤ p.workers → now ≤ MAX_TICK → IsSmall p.work
+      → ((m : ℕ) → IsNumber p.work m → p.work.think m ≤ MAX_THINK) → IsPlannedTo p placed now (p.work.count + 1) (now + 1)
+      → (finishes : List (ℕ × ℕ)) → AreFinishes p.work (start_of placed.starts) now finishes → IsLastEvent p.work (start_of placed.starts) finishes now
+      → IsMade p placed
+  made_in_order follows placed now some early small thinks h finishes running last =
+      let start = start_of placed.starts in
+      let seats = placed.seats in
+      let done : (m : ℕ) → IsNumber p.work m → start m ≤ now → finish_of p.work start m ≤ now = λ m number begun. elim (cases_lt now (finish_of p.work start m)) [
+        | inl late ↦ absurd (omega (arith, early, begun, small.cost m number, All-contains (λ (r : ℕ × ℕ). NEVER ≤ r.0) finishes (finish_of p.work start m, m) last.none (running.each m number begun late)))
+        | inr is ↦ is
+      ] in
+      let all : (m : ℕ) → IsNumber p.work m → start m ≤ now
+      = all_placed follows start (worker_of seats) now some (omega (arith, early)) small thinks done last.issues h.settled in
+      let number_at : (i : ℕ) → i < p.work.count → IsNumber p.work (i + 1) = λ i inside. record { from = omega arith; to = omega arith } in
+      let at : (i : ℕ) → i ≡ i + 1 - 1 = λ i. omega arith in
+      let read : (xs : List ℕ) (i d : ℕ) → i < length xs → get_or xs i d ≡ get_or xs (i + 1 - 1) 0
+      = λ xs i d inside. get_or_default xs i d 0 inside ∙ ap (λ v. get_or xs v 0) (at i) in
+      record {
+        starts_count = h.starts_count;
+        seats_count = h.seats_count;
+        printable = λ i d inside. omega (arith, read placed.starts i d inside, all (i + 1) (number_at i (omega (arith, h.starts_count))), early);
+        plan = settled_plan (p.order.before start) (TakesFirst p.priority (p.order.key start)) p.work p.workers (order.numbers start) (follows_messages p.work follows) start (worker_of seats) now all h.settled;
+        seated = λ m number. h.settled.seated m number (all m number);
+        known = λ i d inside.
+            let number = number_at i (omega (arith, h.seats_count)) in
+            rw (read seats i d inside) (record { from = (h.settled.seated (i + 1) number (all (i + 1) number)).from; to = h.settled.within (i + 1) number (all (i + 1) number) });
+        listed = record {
+          messages = λ i d inside. (h.listed.messages i d inside).0;
+          each = λ m number. h.listed.each m number (all m number);
+          sorted = h.listed.sorted;
+        };
+      }

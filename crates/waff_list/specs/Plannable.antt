@@ -1,0 +1,79 @@
+-- A list plan in an order of service while it is made, and when it is made. A message waits from its
+-- issue on, for no more than its needs.
+use Rattle.std.specs.Prelude.{◌≡◌, ℕ, ◌+◌, ◌<◌, ◌≤◌, List, ◌++◌, length, All, Contains}
+use Rattle.waff_model.specs.Numbers.{IsAmongFirst}
+use Rattle.waff_model.specs.declared.limits.TheConstants.{MAX_TICK}
+use Rattle.waff_order.specs.Needs.{needs_of}
+use Rattle.waff_plan.specs.Timing.{start_of}
+use Rattle.waff_plan.specs.Work.{Work, IsNumber, finish_of}
+use Rattle.waff_list.specs.ListRule.{IsListPlan}
+use Rattle.waff_list.specs.Orders.{Order, TakesFirst}
+use Rattle.waff_list.specs.Placed.{Pending, Placed}
+use Rattle.waff_list.specs.Progress.{IsProgressOf}
+use Rattle.waff_list.specs.Ready.{IsFree}
+use Rattle.waff_list.specs.Seating.{worker_of}
+use Rattle.waff_list.specs.Seats.{IsInOrder}
+use Rattle.waff_list.specs.Unique.{AreSeated}
+use Rattle.waff_list.specs.Waiting.{AreEach, AreFinishes, AreManned, dependents_of, left_of}
+use Rattle.waff_list.specs.Waiting.{running_needs, times, unplaced_needs}
+
+-- what is planned: messages with their work and their priorities, for so many workers, in an order of
+-- service
+pub record Plannable : Type 1 where
+  pub order : Order
+  pub work : Work
+  pub priority : ℕ → ℕ
+  pub workers : ℕ
+
+-- the plan has been made up to the tick now and the message turn
+abbrev pub IsPlannedTo : Plannable → Placed → ℕ → ℕ → ℕ → Type 0
+IsPlannedTo p placed =
+    IsProgressOf (p.order.before (start_of placed.starts))
+    (TakesFirst p.priority (p.order.key (start_of placed.starts))) p.work p.workers placed
+
+-- a message that has not finished by now is noted with those that need it
+pub record AreNoted (work : Work) (start : ℕ → ℕ) (now : ℕ) (needs trails : List (List ℕ))
+    : Type 0 where
+  pub count : length trails ≡ length needs
+  pub each : (i m : ℕ) → 1 ≤ i → IsNumber work m → now < finish_of work start i
+      → times m (dependents_of trails i) ≡ times i (needs_of needs m)
+  pub only : (i m : ℕ) → Contains (dependents_of trails i) m → IsNumber work m
+
+-- the count of each message: how many of its needs have not been placed or run, and one more until it is
+-- issued
+pub record AreLeftBut (work : Work) (issued : List ℕ) (needs : List (List ℕ)) (start : ℕ → ℕ)
+    (finishes : List (ℕ × ℕ)) (left : List ℕ) : Type 0 where
+  pub count : length left ≡ work.count
+  pub here : (m : ℕ) → IsNumber work m → Contains issued m
+      → left_of left m ≡ unplaced_needs needs start m + running_needs needs finishes m
+  pub later : (m : ℕ) → IsNumber work m → (Contains issued m → ⊥)
+      → left_of left m ≡ unplaced_needs needs start m + running_needs needs finishes m + 1
+
+-- what is kept at the tick now of the messages that run and of those that wait, where these are issued so
+-- far and these needs are known
+pub record IsKept (p : Plannable) (placed : Placed) (pending : Pending) (trails : List (List ℕ))
+    (issued : List ℕ) (needs : List (List ℕ)) (now : ℕ) : Type 0 where
+  -- the order of service knows what those that are issued need
+  pub count : length needs ≡ p.work.count
+  pub knows : p.order.knows issued needs
+  -- a message waits for its needs that have not been placed or run, and for its issue; and is noted with
+  -- each need
+  pub noted : AreNoted p.work (start_of placed.starts) now needs trails
+  pub left : AreLeftBut p.work issued needs (start_of placed.starts) pending.finishes pending.left
+  -- those that run, each on a worker that is not idle
+  pub finishes : AreFinishes p.work (start_of placed.starts) now pending.finishes
+  pub manned : AreManned p.workers placed.seats pending.finishes pending.idle
+  -- those that wait for nothing more are placed or ready
+  pub ready : AreEach (IsFree p.work pending.left) (placed.order ++ pending.ready)
+
+-- all messages are placed
+pub record IsMade (p : Plannable) (placed : Placed) : Type 0 where
+  pub starts_count : length placed.starts ≡ p.work.count
+  pub seats_count : length placed.seats ≡ p.work.count
+  pub printable : All (λ start. start ≤ MAX_TICK) placed.starts
+  pub plan : IsListPlan (p.order.before (start_of placed.starts))
+      (TakesFirst p.priority (p.order.key (start_of placed.starts))) p.work p.workers
+      (start_of placed.starts)
+  pub seated : AreSeated p.work (start_of placed.starts) (worker_of placed.seats)
+  pub known : All (IsAmongFirst p.workers) placed.seats
+  pub listed : IsInOrder p.work (start_of placed.starts) placed.order

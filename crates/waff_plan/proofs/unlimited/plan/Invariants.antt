@@ -1,0 +1,20 @@
+use Rattle.std.proofs.Common.{◌≡◌, ℕ, List, length}
+use Rattle.waff_model.specs.Versions.{has_clients}
+use Rattle.waff_plan.specs.Order.{key_of}
+use Rattle.waff_plan.specs.Timetable.{timings_of, work_in}
+use Rattle.waff_plan.specs.Turns.{is_by_issue, turns_in}
+use Rattle.waff_plan.proofs.IssueLoop.{IsGoing}
+use Rattle.waff_plan.proofs.unlimited.plan.Given as goal
+
+abbrev pub invariant-loop-m : goal.invariant-loop-m
+invariant-loop-m l = record {
+  order : List ℕ;
+  going : IsGoing l.tree l.spans l.assigned (work_in l.plan) (key_of l.plan.version (work_in l.plan)) l.plan.starts order l.left (turns_in l.turns) l.table;
+  version : l.plan.version ≡ l.trace.version;
+  timings : l.plan.timings ≡ timings_of l.trace.messages;
+  spans : length l.table.own ≡ length l.tree;
+  by : is_by_issue l.turns ≡ has_clients l.plan.version;
+}
+
+abbrev pub decreases-loop-m : goal.decreases-loop-m
+decreases-loop-m l = l.left

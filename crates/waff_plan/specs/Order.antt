@@ -1,0 +1,43 @@
+-- The order in which messages are served: by a key, of equal keys by number. Before the third version
+-- all have the same key, so that what comes first in the trace is served first; in the third the key is
+-- the tick of the issue.
+use Rattle.std.specs.Prelude.{◌≡◌, ℕ, ◌<◌, ◌≤◌, ◌⊎◌, List, Some}
+use Rattle.waff_model.specs.Tree.{Node, Excludes}
+use Rattle.waff_model.specs.declared.message.Version.{Version}
+use Rattle.waff_model.specs.declared.message.Version.TheVariants.{V1, V2, V3}
+use Rattle.waff_assign.specs.Order.{Relation, affinity_of}
+use Rattle.waff_plan.specs.Work.{Work, IsAmongFirst, issue_of}
+
+-- the key of a message in a plan with these starts
+abbrev pub Key : Type 0
+Key = (ℕ → ℕ) → ℕ → ℕ
+
+-- message i has a lower key than message j, or the same and the lower number
+abbrev pub ComesBefore : (ℕ → ℕ) → Relation
+ComesBefore key i j = (key i < key j) ⊎ ((key i ≡ key j) × (i < j))
+
+-- of this many messages, message i is before message j, and their affinities exclude each other
+pub record Precedes (count : ℕ) (before : Relation) (tree : List Node) (assigned : List ℕ) (i j : ℕ)
+    : Type 0 where
+  pub first : IsAmongFirst count i
+  pub second : IsAmongFirst count j
+  pub precedes : before i j
+  pub excludes : Excludes tree (affinity_of assigned i) (affinity_of assigned j)
+
+-- the key by which the messages of a trace are served
+abbrev pub key_of : Version → Work → Key
+key_of V1 work start m = 0
+key_of V2 work start m = 0
+key_of V3 work start m = issue_of work start m
+
+-- what a plan serves first by a key
+abbrev pub Serves : List Node → List ℕ → Work → (ℕ → ℕ) → Relation
+Serves tree assigned work key = Precedes work.count (ComesBefore key) tree assigned
+
+-- a key by which messages can be served one after another: it is known of a message as soon as what
+-- it follows has a start, and a message comes before the one that follows it
+pub record IsServiceKey (work : Work) (key : Key) : Type 0 where
+  pub kept : (start other : ℕ → ℕ) (m : ℕ) → ((f : ℕ) → work.follows m ≡ Some f → start f ≡ other f)
+      → key start m ≡ key other m
+  pub rises : (start : ℕ → ℕ) (i m : ℕ) → work.follows m ≡ Some i → issue_of work start i ≤ start i
+      → ComesBefore (key start) i m
