@@ -12,8 +12,8 @@ use Rattle.waff_cells.specs.Meaning.{Cells}
 use Rattle.waff_cells.specs.Serial.{SameParcel, ops_of, serial}
 use Rattle.waff_core.specs.Job.{JobValue, IsJob, IsIn, IsOwner, owners_of}
 use Rattle.waff_core.specs.Machine.{Core, IsAway, IsClear, phase_of, begun_by}
-use Rattle.waff_core.specs.declared.event.Event.TheVariants.{Begin}
-use Rattle.waff_core.specs.declared.phase.Phase.TheVariants.{Drawn, Running}
+use Rattle.waff_core.specs.declared.actors.Event.TheVariants.{Begin}
+use Rattle.waff_core.specs.declared.actors.Phase.TheVariants.{Drawn, Running}
 use Rattle.waff_core.proofs.Phases.{phase_same, phase_other}
 use Rattle.waff_cells.specs.Parcel.{IsParcel}
 use Rattle.waff_board.specs.Shows.{IsStatus, Words, Slots}

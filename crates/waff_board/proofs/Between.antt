@@ -1,12 +1,14 @@
 -- What follows from the rule.
 use Rattle.std.proofs.Common.{◌≡◌, ◌≢◌, inl, inr, ⊎_elim, ℕ, ◌+◌, ◌<◌, ◌≤◌, true, List, Some, AllPairs, Contains, length, slice_get, sym, ap, ◌∙◌, subst, arith}
 use Rattle.std.proofs.lemmas.Bool.{cases_order, cases_lt}
+use Rattle.std.proofs.lemmas.List.Sums.{count_by-le-length}
 use Rattle.std.proofs.lemmas.Option.{slice_get_within, get_or_from_slice_get}
 use mathlib.Core.Option.{some, some-injective}
 use lib.ListN.{get_elem?}
 use Rattle.waff_core.specs.Machine.{Core}
+use Rattle.waff_core.proofs.Arrival.{running_do_not_exclude}
 use Rattle.waff_core.proofs.Phases.{Has}
-use Rattle.waff_board.specs.Laws.{ActorsDiffer, NumbersDiffer, NumbersAreDrawn, HandedOutOnce, IsAt, RunByOne, RunOnce, DoneIsRun, SeenIsDone, DrawsAreFew, OpensUntouched}
+use Rattle.waff_board.specs.Laws.{ActorsDiffer, NumbersDiffer, NumbersAreDrawn, HandedOutOnce, IsAt, RunByOne, RunningExcludeNobody, FewRun, runs, RunOnce, DoneIsRun, SeenIsDone, DrawsAreFew, OpensUntouched}
 use Rattle.waff_board.specs.Seats.{Shown, StandsInOne, AreListedOnce}
 use Rattle.waff_board.specs.declared.view.Setup.{Setup}
 use Rattle.waff_board.specs.declared.view.View.{View}
@@ -92,6 +94,18 @@ run_by_one setup s h seat other v w at_v at_w m one two =
     let facts : Known setup.job setup.seats h.core = known setup.job h.told.job setup.seats h.events h.core h.reached in
     actors_are_apart setup s h seat other v w at_v at_w
     (facts.alone v.actor w.actor m (has_phase setup h.core v m (h.seats.each seat v at_v) one) (has_phase setup h.core w m (h.seats.each other w at_w) two))
+
+pub running_exclude_nobody : (setup : Setup) → RunningExcludeNobody setup
+running_exclude_nobody setup s h seat other v w at_v at_w apart m n one two =
+    running_do_not_exclude setup.job h.told.job setup.seats h.core (h.events, h.reached) v.actor w.actor m n
+    (λ same. apart (actors_are_apart setup s h seat other v w at_v at_w same))
+    ((h.seats.each seat v at_v).phase ∙ ap (λ p. Some p) one) ((h.seats.each other w at_w).phase ∙ ap (λ p. Some p) two)
+
+pub few_run : (setup : Setup) → FewRun setup
+few_run setup s h =
+    let most = count_by-le-length (λ (v : View). runs v.phase) s.views in
+    let few = h.seats.few in
+    omega (arith, most, few)
 
 pub seen_is_done : (setup : Setup) → SeenIsDone setup
 seen_is_done setup s h seat v at m within seen = (h.words.statuses m within).done.1 ((h.seats.each seat v at).seen m seen)

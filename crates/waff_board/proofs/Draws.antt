@@ -8,8 +8,8 @@ use lib.ListN.{get_elem?}
 use Rattle.atomic_table.specs.Table.{Allows, State, keeps, stepped}
 use Rattle.waff_core.specs.Job.{JobValue}
 use Rattle.waff_core.specs.Machine.{Core, IsAway, Runs, opening, phase_of, phase_drawn, drawn_by}
-use Rattle.waff_core.specs.declared.event.Event.TheVariants.{Draw}
-use Rattle.waff_core.specs.declared.phase.Phase.TheVariants.{Free, Running}
+use Rattle.waff_core.specs.declared.actors.Event.TheVariants.{Draw}
+use Rattle.waff_core.specs.declared.actors.Phase.TheVariants.{Free, Running}
 use Rattle.waff_board.specs.Shows.{IsStatus, Words, Slots}
 use Rattle.waff_board.specs.Seats.{Shown, Seats}
 use Rattle.waff_board.specs.Rule.{Holds}

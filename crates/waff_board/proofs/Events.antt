@@ -11,8 +11,8 @@ use Rattle.atomic_table.proofs.Lists.{at_set, set_here}
 use Rattle.waff_core.specs.Job.{IsIn}
 use Rattle.waff_core.specs.Laws.{Reaches}
 use Rattle.waff_core.specs.Machine.{Core, IsClear, Steps, phase_of}
-use Rattle.waff_core.specs.declared.event.Event.{Event}
-use Rattle.waff_core.specs.declared.phase.Phase.TheVariants.{Free}
+use Rattle.waff_core.specs.declared.actors.Event.{Event}
+use Rattle.waff_core.specs.declared.actors.Phase.TheVariants.{Free}
 use Rattle.waff_core.proofs.Following.{cells_follow}
 use Rattle.waff_core.proofs.Reaching.{reaches_more}
 use Rattle.waff_core.proofs.Sound.{seats_stay}

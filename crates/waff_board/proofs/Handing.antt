@@ -11,7 +11,8 @@ use Rattle.waff_cells.specs.Meaning.{Cells}
 use Rattle.waff_cells.specs.Parcel.{IsParcel}
 use Rattle.waff_core.specs.Job.{StandOnce}
 use Rattle.waff_board.specs.Plays.{Parcels}
-use Rattle.waff_board.proofs.Owners.{once_first, once_rest, in_cases, in_rest, in_first, in_none}
+use Rattle.waff_model.proofs.Members.{in_cases, in_first, in_none, in_rest}
+use Rattle.waff_board.proofs.Owners.{once_first, once_rest}
 use Rattle.waff_board.proofs.Listed.{at_within}
 
 -- the slot of a is at home with its parcel of the cells

@@ -5,17 +5,19 @@ use Rattle.std.proofs.lemmas.Bool.{cases_order, eq-eqb}
 use Rattle.std.proofs.Math.Bool.{or-true}
 use Rattle.std.proofs.lemmas.Option.{none-some, same_Some}
 use Rattle.std.proofs.lemmas.Map.Steps.{le-length_from_below}
-use Rattle.waff_model.specs.Tree.{Node, AtOrAbove, parent_of}
+use Rattle.waff_model.specs.Tree.{AtOrAbove}
 use Rattle.waff_assign.specs.Order.{affinity_of}
+use Rattle.waff_assign.proofs.Knowing.{owner_known}
 use Rattle.waff_order.specs.Needs.{IsNeed}
 use Rattle.waff_cells.specs.Meaning.{meaning}
 use Rattle.waff_cells.specs.Serial.{SameParcel, ops_of, serial}
 use Rattle.waff_core.specs.Job.{JobValue, IsJob, IsIn, IsOrder, IsOwner}
 use Rattle.waff_core.specs.Machine.{Core, IsClear, Runs, opening, phase_of}
-use Rattle.waff_core.specs.declared.event.Event.{Event}
-use Rattle.waff_core.specs.declared.phase.Phase.TheVariants.{Running}
+use Rattle.waff_core.specs.declared.actors.Event.{Event}
+use Rattle.waff_core.specs.declared.actors.Phase.TheVariants.{Running}
 use Rattle.waff_core.specs.Laws.{MayRun}
 use Rattle.waff_core.proofs.Arrival.{above_owner, all_done_is_serial, begins_settled, draws_are_few}
+use Rattle.waff_core.proofs.Listing.{cell_listed}
 use Rattle.waff_core.proofs.OrderLength.{order_is_short}
 use Rattle.waff_core.proofs.Phases.{Has}
 use Rattle.waff_core.proofs.Sound.{Sound, sound_reached, drawn_is_in}
@@ -61,17 +63,6 @@ module _ (needs : List (List ℕ)) (order : List ℕ) (h : IsOrder needs order) 
       let few = order_is_short needs order h in
       omega (arith, many, few)
 
--- an affinity that has a parent is one of the tree
-parent_within : (tree : List Node) (b p : ℕ) → parent_of tree b ≡ Some p → b < length tree
-parent_within [] b p is = absurd (none-some p is)
-parent_within (node ∷ tree) zero p is = omega arith
-parent_within (node ∷ tree) (suc b) p is = let rest : b < length tree = parent_within tree b p is in omega (arith, rest)
-
--- what is below an affinity of the tree is one too
-below_within : (tree : List Node) (a b : ℕ) → a < length tree → AtOrAbove tree a b → b < length tree
-below_within tree a b within (zero, same) = subst (λ c. c < length tree) same within
-below_within tree a b within (suc n, leads) = parent_within tree b leads.0 leads.1
-
 module _ (job : JobValue) (is : IsJob job) (core : Core) (sound : Sound job core) where
   in_job : (x m : ℕ) → Has core.phases x m → IsIn job m
   in_job x m has = drawn_is_in job is core.drawn m (sound.held x m has)
@@ -109,11 +100,8 @@ known job is seats events core runs =
       undone = sound.undone;
       clear = sound.running_clear;
       affinity = λ x m a has owner.
-          let within = in_job job is core sound x m has in
-          let to = within.to in
-          let count = is.count in
-          below_within job.layout.tree (affinity_of job.assigned m) a (is.known (m - 1) 0 (omega (arith, to, count, within.from)))
-          (above job is core sound x m a has owner);
+          subst (λ b. b < length job.layout.tree) owner.owned (owner_known job.layout is.layout owner.cell
+          (cell_listed job is m (in_job job is core sound x m has) owner.cell owner.named));
       enough = needs_are_enough job is core sound;
       apart = one_message job is core sound;
       before = λ x m a has clear owner. (begins_settled job is seats core (events, runs) x m (may_run x m has clear) a owner).0;

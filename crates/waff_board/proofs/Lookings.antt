@@ -4,11 +4,11 @@ use Rattle.std.proofs.lemmas.List.{take_more}
 use Rattle.std.proofs.lemmas.Option.{none-some}
 use Rattle.waff_order.specs.Needs.{IsNeed, needs_of}
 use Rattle.waff_core.specs.Job.{JobValue, IsIn}
-use Rattle.waff_core.specs.declared.phase.Phase.TheVariants.{Drawn}
+use Rattle.waff_core.specs.declared.actors.Phase.TheVariants.{Drawn}
 use Rattle.waff_board.specs.Calls.{Looked, LooksOver}
 use Rattle.waff_board.specs.Seats.{has_seen, HasSeen}
 use Rattle.waff_board.specs.declared.view.View.{View}
-use Rattle.waff_board.proofs.Owners.{in_cases}
+use Rattle.waff_model.proofs.Members.{in_cases}
 
 -- one more message
 pub looks_more : (v w u : View) (messages : List ℕ) (n : ℕ) → LooksOver v messages w → MatchBool (has_seen w n) (u ≡ w) (Looked w n u)

@@ -5,8 +5,8 @@ use lib.ListN.{get_elem?}
 use Rattle.atomic_table.proofs.Lists.{at_set}
 use Rattle.waff_core.specs.Job.{JobValue}
 use Rattle.waff_core.specs.Machine.{Core, phase_of}
-use Rattle.waff_core.specs.declared.phase.Phase.{Phase}
-use Rattle.waff_core.specs.declared.phase.Phase.TheVariants.{Free}
+use Rattle.waff_core.specs.declared.actors.Phase.{Phase}
+use Rattle.waff_core.specs.declared.actors.Phase.TheVariants.{Free}
 use Rattle.waff_board.specs.Seats.{Shown, Seats}
 use Rattle.waff_board.specs.declared.view.Setup.{Setup}
 use Rattle.waff_board.specs.declared.view.View.{View}

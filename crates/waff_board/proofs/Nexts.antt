@@ -2,7 +2,7 @@
 use Rattle.std.proofs.Common.{ℕ, List, [], ◌∷◌, ◌++◌}
 use Rattle.atomic_table.specs.Table.{State}
 use Rattle.waff_core.specs.Machine.{Core, Steps, opening}
-use Rattle.waff_core.specs.declared.event.Event.{Event}
+use Rattle.waff_core.specs.declared.actors.Event.{Event}
 use Rattle.waff_core.proofs.Reaching.{runs_more}
 use Rattle.waff_board.specs.Rule.{Holds}
 use Rattle.waff_board.specs.Seats.{Seats}

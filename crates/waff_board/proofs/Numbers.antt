@@ -4,7 +4,7 @@ use Rattle.std.proofs.lemmas.Option.{slice_get_past, slice_get-get_or}
 use Rattle.std.specs.Prelude.{get_or}
 use Rattle.waff_core.specs.Job.{JobValue, IsJob}
 use Rattle.waff_core.specs.Machine.{phase_drawn}
-use Rattle.waff_core.specs.declared.phase.Phase.TheVariants.{Drawn, Ended}
+use Rattle.waff_core.specs.declared.actors.Phase.TheVariants.{Drawn, Ended}
 use Rattle.waff_board.specs.Plays.{drawn_view}
 use Rattle.waff_board.specs.declared.view.View.{View}
 use Rattle.waff_board.proofs.Known.{order_count}

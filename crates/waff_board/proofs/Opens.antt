@@ -10,10 +10,10 @@ use Rattle.waff_model.proofs.ParcelLemmas.{offset_within}
 use Rattle.waff_cells.specs.Serial.{zeros}
 use Rattle.waff_core.specs.Job.{JobValue}
 use Rattle.waff_core.specs.Machine.{Core, Runs, opening, phase_of}
-use Rattle.waff_core.specs.declared.event.Event.{Event}
-use Rattle.waff_core.specs.declared.event.Event.TheVariants.{Draw, Begin, End}
-use Rattle.waff_core.specs.declared.phase.Phase.TheVariants.{Free, Drawn, Running}
-use Rattle.waff_core.proofs.Phases.{phase_opening}
+use Rattle.waff_core.specs.declared.actors.Event.{Event}
+use Rattle.waff_core.specs.declared.actors.Event.TheVariants.{Draw, Begin, End}
+use Rattle.waff_core.specs.declared.actors.Phase.TheVariants.{Free, Drawn, Running}
+use Rattle.waff_core.proofs.Phases.{phase_opening, phase_free}
 use Rattle.waff_model.specs.Parcel.{parcel_size, offset_of}
 use Rattle.waff_cells.specs.Parcel.{IsParcel}
 use Rattle.waff_board.specs.Shows.{Words, Slots}
@@ -26,16 +26,6 @@ use Rattle.waff_board.proofs.Splits.{shown_fresh}
 
 none_run : (seats y n : ℕ) → phase_of (opening seats).phases y ≡ Some (Running n) → ⊥
 none_run seats y n runs = let free : Running n ≡ Free = phase_opening seats y (Running n) runs in cc
-
--- an actor that there is is free
-at_opening : (n k : ℕ) → k < n → slice_get (replicate n Free) k ≡ Some Free
-at_opening zero k within = absurd (omega (arith, within))
-at_opening (suc n) zero within = refl
-at_opening (suc n) (suc k) within = at_opening n k (omega (arith, within))
-
-free_opening : (seats x : ℕ) → 1 ≤ x → x ≤ seats → phase_of (opening seats).phases x ≡ Some Free
-free_opening seats zero from to = absurd (omega (arith, from))
-free_opening seats (suc x) from to = at_opening seats x (omega (arith, to))
 
 at_zeros : (n k : ℕ) → slice_index (replicate n 0) k ≡ 0
 at_zeros zero k = refl
@@ -87,7 +77,7 @@ module _ (setup : Setup) (told : IsSetup setup) (some_seat : 1 ≤ setup.seats) 
   seats_opening : Seats setup (opening setup.seats) (first setup ∷ [])
   seats_opening = record {
     each = λ id v at. subst (λ (v : View). Shown setup.job (opening setup.seats) v) (only id v at).1
-        (shown_fresh setup.job (opening setup.seats) 1 1 (free_opening setup.seats 1 (omega arith) some_seat));
+        (shown_fresh setup.job (opening setup.seats) 1 1 (phase_free setup.seats 1 (omega arith) some_seat));
     actors = λ id v at.
         let place = (only id v at).0 in
         let actor : 1 ≡ v.actor = ap (λ (v : View). v.actor) (only id v at).1 in
@@ -96,7 +86,7 @@ module _ (setup : Setup) (told : IsSetup setup) (some_seat : 1 ≤ setup.seats) 
     ran = listed_first (λ (u : View). u.ran) (λ m. false ≡ true) (first setup) refl (λ m is. true≢false (sym is));
     made = λ v at. sym (ap (λ (v : View). v.made) (only 0 v at).1);
     few = omega (arith, some_seat);
-    free = λ x past to. free_opening setup.seats x (omega (arith, past)) to;
+    free = λ x past to. phase_free setup.seats x (omega (arith, past)) to;
   }
 
   slots_opening : {S : Type 0} (items : S → List ℕ) (xs : List S) → AreZeros setup.job (map items xs)

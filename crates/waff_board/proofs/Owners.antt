@@ -2,20 +2,8 @@
 use Rattle.std.proofs.Common.{◌≡◌, ◌⊎◌, inl, inr, ℕ, zero, suc, List, [], ◌∷◌, Contains, refl, sym, subst, ⊎_elim, arith}
 use mathlib.Core.Logic.{dite}
 use native.Mathlib.Decide.{ℕ_discrete}
+use Rattle.waff_model.proofs.Members.{in_cases, in_first, in_none, in_rest}
 use Rattle.waff_core.specs.Job.{StandOnce}
-
-pub in_cases : (first : ℕ) (rest : List ℕ) (a : ℕ) → Contains (first ∷ rest) a → (first ≡ a) ⊎ Contains rest a
-in_cases first rest a (zero, within, is) = inl is
-in_cases first rest a (suc k, within, is) = inr (k, omega (arith, within), is)
-
-pub in_rest : (first : ℕ) (rest : List ℕ) (a : ℕ) → Contains rest a → Contains (first ∷ rest) a
-in_rest first rest a (k, within, is) = (suc k, omega (arith, within), is)
-
-pub in_first : (first : ℕ) (rest : List ℕ) → Contains (first ∷ rest) first
-in_first first rest = (0, omega arith, refl)
-
-pub in_none : (a : ℕ) → ¬ Contains [] a
-in_none a (k, within, is) = omega (arith, within)
 
 -- a stands in the list, or not
 pub decide_in : (list : List ℕ) (a : ℕ) → Contains list a ⊎ ¬ Contains list a

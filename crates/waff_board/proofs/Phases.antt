@@ -4,8 +4,8 @@ use mathlib.Core.Logic.{dite}
 use native.Mathlib.Decide.{ℕ_discrete}
 use Rattle.std.proofs.lemmas.Option.{same_Some}
 use Rattle.waff_core.specs.Machine.{phase_of, with_phase}
-use Rattle.waff_core.specs.declared.phase.Phase.{Phase}
-use Rattle.waff_core.specs.declared.phase.Phase.TheVariants.{Running}
+use Rattle.waff_core.specs.declared.actors.Phase.{Phase}
+use Rattle.waff_core.specs.declared.actors.Phase.TheVariants.{Running}
 use Rattle.waff_core.proofs.Phases.{phase_same, phase_other}
 
 -- the phase is not that of an actor that runs a message

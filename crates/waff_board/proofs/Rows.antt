@@ -10,7 +10,8 @@ use Rattle.waff_core.specs.Job.{StandOnce}
 use Rattle.waff_board.specs.Hands.{rows_at}
 use Rattle.waff_board.specs.Plays.{Parcels}
 use Rattle.waff_board.proofs.Swapping.{drop_next}
-use Rattle.waff_board.proofs.Owners.{once_first, once_rest, in_cases, in_rest, in_first, in_none}
+use Rattle.waff_model.proofs.Members.{in_cases, in_first, in_none, in_rest}
+use Rattle.waff_board.proofs.Owners.{once_first, once_rest}
 
 -- another row leaves these
 rows_other : (rows : List (List ℕ)) (affinities : List ℕ) (a : ℕ) (x : List ℕ) → ¬ Contains affinities a

@@ -7,7 +7,7 @@ use Rattle.atomic_table.specs.Table.{Splits}
 use Rattle.atomic_table.proofs.Lists.{at_set}
 use Rattle.waff_core.specs.Job.{JobValue}
 use Rattle.waff_core.specs.Machine.{Core, phase_of}
-use Rattle.waff_core.specs.declared.phase.Phase.TheVariants.{Free}
+use Rattle.waff_core.specs.declared.actors.Phase.TheVariants.{Free}
 use Rattle.waff_board.specs.Seats.{Shown, Seats, fresh}
 use Rattle.waff_board.specs.Rule.{Holds}
 use Rattle.waff_board.specs.Plays.{made_view, next_view}

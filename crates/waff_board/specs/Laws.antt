@@ -1,14 +1,17 @@
 -- What holds between any two atomic steps of a board, whichever threads make them.
-use Rattle.std.specs.Prelude.{◌≡◌, ◌⊎◌, ◌↔◌, ℕ, ◌+◌, ◌%◌, ◌^◌, ◌<◌, ◌≤◌, [], ◌∷◌, ◌++◌, Some, length}
-use Rattle.std.specs.Prelude.{slice_get, slice_index, slice_set}
+use Rattle.std.specs.Prelude.{◌≡◌, ◌≢◌, ◌⊎◌, ◌↔◌, ℕ, ◌+◌, ◌%◌, ◌^◌, ◌<◌, ◌≤◌, [], ◌∷◌, ◌++◌, Some}
+use Rattle.std.specs.Prelude.{Bool, true, false, length, count_by, slice_get, slice_index, slice_set}
 use Rattle.std.specs.Global.{Vec}
 use mathlib.Core.Option.{some}
 use lib.ListN.{get_elem?}
 use Rattle.atomic_table.specs.Table.{State}
+use Rattle.waff_model.specs.Tree.{Excludes}
+use Rattle.waff_assign.specs.Order.{affinity_of}
 use Rattle.waff_core.specs.Job.{IsIn, StandsAt}
 use Rattle.waff_core.specs.Machine.{Steps, opening}
-use Rattle.waff_core.specs.declared.event.Event.TheVariants.{Draw, Begin, End}
-use Rattle.waff_core.specs.declared.phase.Phase.TheVariants.{Free, Drawn, Running}
+use Rattle.waff_core.specs.declared.actors.Event.TheVariants.{Draw, Begin, End}
+use Rattle.waff_core.specs.declared.actors.Phase.{Phase}
+use Rattle.waff_core.specs.declared.actors.Phase.TheVariants.{Free, Drawn, Running}
 use Rattle.waff_board.specs.Plays.{drawn_view, looked_view, begun_view, finished_view}
 use Rattle.waff_board.specs.Plays.{made_view, next_view}
 use Rattle.waff_board.specs.Rule.{Holds}
@@ -65,6 +68,26 @@ RunByOne setup =
     (s : State (Vec ℕ) View) → IsBetween setup s
     → (seat other : ℕ) (v w : View) → Knows s seat v → Knows s other w
     → (m : ℕ) → IsAt v m → IsAt w m → seat ≡ other
+
+-- messages that two seats run at once do not exclude each other
+abbrev pub RunningExcludeNobody : Setup → Type 0
+RunningExcludeNobody setup =
+    (s : State (Vec ℕ) View) → IsBetween setup s
+    → (seat other : ℕ) (v w : View) → Knows s seat v → Knows s other w → seat ≢ other
+    → (m n : ℕ) → v.phase ≡ Running m → w.phase ≡ Running n
+    → ¬ Excludes setup.job.layout.tree (affinity_of setup.job.assigned m)
+    (affinity_of setup.job.assigned n)
+
+-- whether an actor in this phase runs a message
+abbrev pub runs : Phase → Bool
+runs (Running m) = true
+runs _ = false
+
+-- at most as many messages run at once as there are seats
+abbrev pub FewRun : Setup → Type 0
+FewRun setup =
+    (s : State (Vec ℕ) View) → IsBetween setup s
+    → count_by (λ v. runs v.phase) s.views ≤ setup.seats
 
 -- no message is run twice: it stands once in the lists of what the seats have run
 abbrev pub RunOnce : Setup → Type 0

@@ -3,7 +3,7 @@ use Rattle.std.specs.Prelude.{◌≡◌, ℕ, ◌+◌, List, [], ◌∷◌, map,
 use Rattle.std.specs.List.{range_with_len}
 use Rattle.waff_model.specs.Layout.{Space}
 use Rattle.waff_model.specs.Parcel.{parcel_size}
-use Rattle.waff_core.specs.declared.phase.Phase.TheVariants.{Free}
+use Rattle.waff_core.specs.declared.actors.Phase.TheVariants.{Free}
 use Rattle.waff_board.specs.declared.tokens.Seat.{Seat}
 use Rattle.waff_board.specs.declared.view.View.{View}
 

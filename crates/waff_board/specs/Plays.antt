@@ -7,7 +7,7 @@ use Rattle.waff_cells.specs.Meaning.{Cells}
 use Rattle.waff_cells.specs.Serial.{serial}
 use Rattle.waff_core.specs.Job.{owners_of}
 use Rattle.waff_core.specs.Machine.{phase_drawn}
-use Rattle.waff_core.specs.declared.phase.Phase.TheVariants.{Free, Running}
+use Rattle.waff_core.specs.declared.actors.Phase.TheVariants.{Free, Running}
 use Rattle.waff_cells.specs.Parcel.{IsParcel}
 use Rattle.waff_board.specs.Seats.{fresh}
 use Rattle.waff_board.specs.declared.view.View.{View}

@@ -4,7 +4,7 @@ use Rattle.std.specs.Prelude.{ℕ, ◌^◌, ◌<◌, ◌≤◌, List, length}
 use Rattle.atomic_table.specs.Table.{State}
 use Rattle.waff_core.specs.Job.{IsJob}
 use Rattle.waff_core.specs.Machine.{Core, Runs, opening}
-use Rattle.waff_core.specs.declared.event.Event.{Event}
+use Rattle.waff_core.specs.declared.actors.Event.{Event}
 pub use Rattle.waff_core.specs.declared.limits.TheConstants.{MAX_SEATS}
 use Rattle.waff_board.specs.Shows.{Words, Slots}
 use Rattle.waff_board.specs.Seats.{Seats}

@@ -6,7 +6,7 @@ use mathlib.Core.Option.{some}
 use lib.ListN.{get_elem?}
 use Rattle.waff_core.specs.Job.{JobValue}
 use Rattle.waff_core.specs.Machine.{Core, phase_of}
-use Rattle.waff_core.specs.declared.phase.Phase.TheVariants.{Free}
+use Rattle.waff_core.specs.declared.actors.Phase.TheVariants.{Free}
 use Rattle.waff_board.specs.declared.view.Setup.{Setup}
 use Rattle.waff_board.specs.declared.view.View.{View}
 

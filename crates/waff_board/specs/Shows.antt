@@ -6,7 +6,7 @@ use mathlib.Core.Option.{Option, some, none}
 use lib.ListN.{get_elem?}
 use Rattle.waff_core.specs.Job.{JobValue, IsIn}
 use Rattle.waff_core.specs.Machine.{Core, IsAway, phase_of}
-use Rattle.waff_core.specs.declared.phase.Phase.TheVariants.{Running}
+use Rattle.waff_core.specs.declared.actors.Phase.TheVariants.{Running}
 use Rattle.waff_cells.specs.Parcel.{IsParcel}
 use Rattle.waff_board.specs.declared.view.TheConstants.{RUNNING, DONE}
 

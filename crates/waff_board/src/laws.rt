@@ -2,7 +2,8 @@
 //! function that does nothing and whose contract is the law.
 
 ghost use Rattle.waff_board.specs.Laws.{ActorsDiffer, NumbersDiffer, NumbersAreDrawn};
-ghost use Rattle.waff_board.specs.Laws.{HandedOutOnce, RunByOne, RunOnce, DoneIsRun};
+ghost use Rattle.waff_board.specs.Laws.{HandedOutOnce, RunByOne, RunningExcludeNobody, FewRun};
+ghost use Rattle.waff_board.specs.Laws.{RunOnce, DoneIsRun};
 ghost use Rattle.waff_board.specs.Laws.{SeenIsDone, DrawsAreFew, OpensUntouched};
 ghost use Rattle.waff_board.specs.Laws.{ShowsOneState, DrawIsOneEvent, BeginIsOneEvent};
 ghost use Rattle.waff_board.specs.Laws.{FinishIsOneEvent, LookIsNoEvent, MakingIsNoEvent};
@@ -31,6 +32,16 @@ pub fn handed_out_once()
 /// No two seats hold or run one message.
 pub fn run_by_one()
     ensures { (setup : Setup) → RunByOne setup }
+{}
+
+/// Messages that two seats run at once do not exclude each other.
+pub fn running_exclude_nobody()
+    ensures { (setup : Setup) → RunningExcludeNobody setup }
+{}
+
+/// At most as many messages run at once as there are seats.
+pub fn few_run()
+    ensures { (setup : Setup) → FewRun setup }
 {}
 
 /// No message is run twice.

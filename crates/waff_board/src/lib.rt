@@ -1,12 +1,13 @@
 //! The running board: a job that threads replay together, each through a seat of its own.
 //!
 //! Between any two atomic steps on the board's table, in any schedule of threads, it shows one state
-//! of the core machine, which events reach. Each event is one step: a draw, a begin and a finish are
-//! one event each, and every other step leaves the state as it is (`laws`). A seat goes from token
-//! to token, each of which one call takes and the next one gives: `Seat`, draw, `Drawn`, clear,
-//! `Cleared`, begin, `Grant`, run, `Finished`, finish, `Seat`; at the end `EndSeat`, until it has
-//! seen all messages done, and close. From draw to the end no call waits, by its bounds, and none
-//! takes memory, by tests.
+//! of the core machine, which events reach. Each kind of step is one event or none: a draw, a begin
+//! and a finish are one event each, a look and the making of a seat leave the state as it is, and so
+//! messages that exclude each other never run at once (`laws`). A seat goes from token to token, each
+//! of which one call takes and the next one gives: `Seat`, draw, `Drawn`, clear, `Cleared`, begin,
+//! `Grant`, run, `Finished`, finish, `Seat`; at the end `EndSeat`, until it has seen all messages
+//! done, and close. From draw to the end no call waits, by its bounds, and none takes memory, by
+//! tests.
 //! - `rule`: the rule between any two steps; `plays`: the kinds of steps; `view`, `hand`: what a
 //!   seat knows and holds.
 //! - `board`, `opening`: the board, and making it with its seats; `tokens`: what the calls take and

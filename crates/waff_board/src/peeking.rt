@@ -7,7 +7,7 @@ use crate::view::DONE;
 impl Board {
     /// Whether message `n` is done, at a glance.
     pub fn is_done(&self, n: u32) -> bool {
-        n <= self.setup.job.len() && self.table.shared.peek(n as usize) == DONE
+        0 < n && n <= self.setup.job.len() && self.table.shared.peek(n as usize) == DONE
     }
 
     /// Whether the next draw gives no message or one whose needs are all done, at a glance. Another

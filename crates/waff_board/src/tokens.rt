@@ -2,7 +2,7 @@
 
 ghost use Rattle.std.specs.Prelude.{◌^◌, ◌<◌, ◌≡◌, [], length, map};
 ghost use Rattle.waff_core.specs.Job.{IsIn, owners_of};
-ghost use Rattle.waff_core.specs.declared.phase.Phase.TheVariants.{Free, Drawn, Running, Ended};
+ghost use Rattle.waff_core.specs.declared.actors.Phase.TheVariants.{Free, Drawn, Running, Ended};
 ghost use Rattle.waff_board.specs.Tokens.{HoldsBefore, HoldsAfter, SeesNeeds};
 
 use crate::hand::Hand;

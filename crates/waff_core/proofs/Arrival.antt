@@ -10,7 +10,7 @@ use Rattle.waff_core.specs.Job.{JobValue, IsJob, IsIn, IsOwner}
 use Rattle.waff_core.specs.Machine.{Core, IsClear, phase_of}
 use Rattle.waff_core.specs.Settled.{IsLast}
 use Rattle.waff_core.specs.Laws.{AwayWithOne, BeginsAtHome, Reaches, MayRun, DrawsAreFew, NeedsAreEnough, RunningDoNotExclude, AlwaysSerial, EachCellIsSerial, AllDoneIsSerial, BeginsSettled}
-use Rattle.waff_core.specs.declared.phase.Phase.TheVariants.{Drawn, Running}
+use Rattle.waff_core.specs.declared.actors.Phase.TheVariants.{Drawn, Running}
 use Rattle.waff_core.proofs.Phases.{Has, ended, ended_few}
 use Rattle.waff_core.proofs.Settling.{ordered_at_one, serial_same, clear_settled, ended_settled}
 use Rattle.waff_core.proofs.Sound.{Sound, sound_reached, seats_stay, drawn_is_in}

@@ -7,10 +7,10 @@ use Rattle.waff_core.specs.Job.{JobValue, IsJob}
 use Rattle.waff_core.specs.Machine.{Core, Steps, Runs, IsClear, opening, phase_of, drawn_by, begun_by, ended_by}
 use Rattle.waff_core.specs.Refused.{IsBusy, HasNothing, IsLeastUndone, IsRefusedEvent, FailsFirst, actor_of}
 use Rattle.waff_core.specs.Laws.{RunsOrFails}
-use Rattle.waff_core.specs.declared.event.Event.{Event}
-use Rattle.waff_core.specs.declared.event.Event.TheVariants.{Draw, Begin, End}
-use Rattle.waff_core.specs.declared.phase.Phase.{Phase}
-use Rattle.waff_core.specs.declared.phase.Phase.TheVariants.{Free, Drawn, Running, Ended}
+use Rattle.waff_core.specs.declared.actors.Event.{Event}
+use Rattle.waff_core.specs.declared.actors.Event.TheVariants.{Draw, Begin, End}
+use Rattle.waff_core.specs.declared.actors.Phase.{Phase}
+use Rattle.waff_core.specs.declared.actors.Phase.TheVariants.{Free, Drawn, Running, Ended}
 use Rattle.waff_core.specs.declared.refusal.CoreError.{CoreError}
 use Rattle.waff_core.specs.declared.refusal.CoreError.TheVariants.{Busy, Nothing, NotYet}
 use Rattle.waff_core.proofs.Settling.{decide_above}

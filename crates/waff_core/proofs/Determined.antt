@@ -8,10 +8,10 @@ use Rattle.waff_core.specs.Machine.{Core, Steps, Runs, opening, phase_of, begun_
 use Rattle.waff_core.specs.Refused.{IsBusy, HasNothing, IsNotYet, IsLeastUndone, IsRefusedEvent, FailsFirst, actor_of}
 use Rattle.waff_core.specs.Settled.{IsLast}
 use Rattle.waff_core.specs.Laws.{RunsOnce, FailsOnce, NeverBoth, StaysAccepted, LastIsOne}
-use Rattle.waff_core.specs.declared.event.Event.{Event}
-use Rattle.waff_core.specs.declared.event.Event.TheVariants.{Draw, Begin, End}
-use Rattle.waff_core.specs.declared.phase.Phase.{Phase}
-use Rattle.waff_core.specs.declared.phase.Phase.TheVariants.{Free, Drawn, Running, Ended}
+use Rattle.waff_core.specs.declared.actors.Event.{Event}
+use Rattle.waff_core.specs.declared.actors.Event.TheVariants.{Draw, Begin, End}
+use Rattle.waff_core.specs.declared.actors.Phase.{Phase}
+use Rattle.waff_core.specs.declared.actors.Phase.TheVariants.{Free, Drawn, Running, Ended}
 use Rattle.waff_core.specs.declared.refusal.CoreError.{CoreError}
 use Rattle.waff_core.specs.declared.refusal.CoreError.TheVariants.{Busy, Nothing, NotYet, Memory}
 

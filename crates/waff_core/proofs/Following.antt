@@ -9,10 +9,11 @@ use Rattle.waff_cells.proofs.MeaningLaws.{meaning_other}
 use Rattle.waff_core.specs.Job.{JobValue, IsJob, IsIn}
 use Rattle.waff_core.specs.Machine.{Core, Runs, Steps, opening}
 use Rattle.waff_core.specs.Laws.{CellsFollow, Reaches}
-use Rattle.waff_core.specs.declared.event.Event.{Event}
-use Rattle.waff_core.specs.declared.event.Event.TheVariants.{Draw, Begin, End}
+use Rattle.waff_core.specs.declared.actors.Event.{Event}
+use Rattle.waff_core.specs.declared.actors.Event.TheVariants.{Draw, Begin, End}
 use Rattle.waff_core.proofs.Arrival.{cells_are_serial, each_cell_is_serial}
-use Rattle.waff_core.proofs.Settling.{last_kept, named_is_cell}
+use Rattle.waff_core.proofs.Listing.{cell_listed}
+use Rattle.waff_core.proofs.Settling.{last_kept}
 use Rattle.waff_core.proofs.Sound.{Sound, sound_opening, sound_step, sound_reached, drawn_is_in}
 
 same_truth : (a b : Bool) → (a ≡ true) ↔ (b ≡ true) → a ≡ b
@@ -32,7 +33,7 @@ module _ (job : JobValue) (is : IsJob job) where
       subst (λ u. AreOutside job u) (sym step.2)
       (λ cell outside.
       meaning_other (ops_of job.ops step.0) s.cells cell
-      (λ named. outside (named_is_cell job is step.0 (drawn_is_in job is s.drawn step.0 (sound.held x step.0 (inr step.1))) cell named))
+      (λ named. outside (cell_listed job is step.0 (drawn_is_in job is s.drawn step.0 (sound.held x step.0 (inr step.1))) cell named))
       ∙ zero cell outside)
 
   outside_runs : (s : Core) (events : List Event) (t : Core) → Sound job s → Runs job s events t → AreOutside job s → AreOutside job t

@@ -5,10 +5,10 @@ use Rattle.std.proofs.lemmas.Option.{none-some, same_Some, slice_get-get_or, sli
 use Rattle.waff_core.specs.Job.{JobValue, IsJob, StandsAt}
 use Rattle.waff_core.specs.Machine.{Core, Runs, Steps, opening, phase_of, phase_drawn, drawn_by, begun_by, ended_by}
 use Rattle.waff_core.specs.Laws.{NeverStuck, AreAllDone}
-use Rattle.waff_core.specs.declared.event.Event.{Event}
-use Rattle.waff_core.specs.declared.event.Event.TheVariants.{Draw, Begin, End}
-use Rattle.waff_core.specs.declared.phase.Phase.{Phase}
-use Rattle.waff_core.specs.declared.phase.Phase.TheVariants.{Free, Drawn, Running, Ended}
+use Rattle.waff_core.specs.declared.actors.Event.{Event}
+use Rattle.waff_core.specs.declared.actors.Event.TheVariants.{Draw, Begin, End}
+use Rattle.waff_core.specs.declared.actors.Phase.{Phase}
+use Rattle.waff_core.specs.declared.actors.Phase.TheVariants.{Free, Drawn, Running, Ended}
 use Rattle.waff_core.proofs.OneActor.{AreDoneBefore, next_is_clear, all_are_done}
 use Rattle.waff_core.proofs.Phases.{Has, phase_cases, phase_opening}
 use Rattle.waff_core.proofs.Sound.{Sound, sound_reached, seats_stay}

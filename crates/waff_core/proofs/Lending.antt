@@ -8,8 +8,8 @@ use Rattle.waff_cells.specs.Serial.{ops_of}
 use Rattle.waff_core.specs.Job.{JobValue, IsJob, IsIn, IsOwner, owners_of}
 use Rattle.waff_core.specs.Machine.{Core, IsAway, phase_of}
 use Rattle.waff_core.specs.Shown.{AreHome, IsSteady, is_home}
-use Rattle.waff_core.specs.declared.phase.Phase.{Phase}
-use Rattle.waff_core.specs.declared.phase.Phase.TheVariants.{Free, Drawn, Running, Ended}
+use Rattle.waff_core.specs.declared.actors.Phase.{Phase}
+use Rattle.waff_core.specs.declared.actors.Phase.TheVariants.{Free, Drawn, Running, Ended}
 
 -- the parcels of the first k of these owners are marked as away, beside those that were
 pub record AreLent (before : List Bool) (owners : List ℕ) (after : List Bool) (k : ℕ) : Type 0 where

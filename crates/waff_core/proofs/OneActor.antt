@@ -7,9 +7,9 @@ use Rattle.waff_order.specs.Needs.{IsNeed}
 use Rattle.waff_core.specs.Job.{JobValue, IsJob, StandsAt}
 use Rattle.waff_core.specs.Machine.{Core, Runs, IsClear, opening, phase_of, phase_drawn, drawn_by, begun_by, ended_by}
 use Rattle.waff_core.specs.Laws.{rounds, AreAllDone, OneActorEnds}
-use Rattle.waff_core.specs.declared.event.Event.{Event}
-use Rattle.waff_core.specs.declared.event.Event.TheVariants.{Draw, Begin, End}
-use Rattle.waff_core.specs.declared.phase.Phase.TheVariants.{Free, Drawn, Running}
+use Rattle.waff_core.specs.declared.actors.Event.{Event}
+use Rattle.waff_core.specs.declared.actors.Event.TheVariants.{Draw, Begin, End}
+use Rattle.waff_core.specs.declared.actors.Phase.TheVariants.{Free, Drawn, Running}
 use Rattle.waff_core.proofs.Phases.{phase_same, phase_free}
 use Rattle.waff_core.proofs.Settling.{done_this, done_kept}
 

@@ -7,10 +7,10 @@ use Rattle.waff_model.specs.declared.limits.TheConstants.{MAX_MESSAGES}
 use Rattle.waff_core.specs.Job.{JobValue, IsJob}
 use Rattle.waff_core.specs.Machine.{Core, Steps, Runs, opening, phase_of, with_phase, phase_drawn}
 use Rattle.waff_core.specs.Shown.{IsSteady}
-use Rattle.waff_core.specs.declared.event.Event.{Event}
-use Rattle.waff_core.specs.declared.event.Event.TheVariants.{Draw, Begin, End}
-use Rattle.waff_core.specs.declared.phase.Phase.{Phase}
-use Rattle.waff_core.specs.declared.phase.Phase.TheVariants.{Free, Drawn, Running, Ended}
+use Rattle.waff_core.specs.declared.actors.Event.{Event}
+use Rattle.waff_core.specs.declared.actors.Event.TheVariants.{Draw, Begin, End}
+use Rattle.waff_core.specs.declared.actors.Phase.{Phase}
+use Rattle.waff_core.specs.declared.actors.Phase.TheVariants.{Free, Drawn, Running, Ended}
 use Rattle.waff_core.proofs.Arrival.{draws_are_few}
 use Rattle.waff_core.proofs.Clearings.{listed_needs_are_enough}
 use Rattle.waff_core.proofs.Sound.{drawn_is_in, sound_reached}

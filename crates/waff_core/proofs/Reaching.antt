@@ -4,7 +4,7 @@ use Rattle.std.proofs.lemmas.Option.{none-some, same_Some}
 use Rattle.waff_core.specs.Job.{JobValue}
 use Rattle.waff_core.specs.Machine.{Core, Steps, Runs, opening}
 use Rattle.waff_core.specs.Laws.{Reaches}
-use Rattle.waff_core.specs.declared.event.Event.{Event}
+use Rattle.waff_core.specs.declared.actors.Event.{Event}
 
 -- events after events
 pub runs_join : (job : JobValue) (s : Core) (events more : List Event) (t u : Core) → Runs job s events t → Runs job t more u

@@ -17,6 +17,7 @@ use Rattle.waff_cells.proofs.MeaningLaws.{meaning_agree, leaves_parcel}
 use Rattle.waff_core.specs.Job.{JobValue, IsIn, IsJob}
 use Rattle.waff_core.specs.Machine.{Core, IsClear, ended_by}
 use Rattle.waff_core.specs.Settled.{IsDoneAbove, IsLast, CellsAreSerial}
+use Rattle.waff_core.proofs.Listing.{cell_listed}
 
 -- an affinity is at or above another, or it is not: the climb from the other decides it
 decide_from : (tree : List Node) (a b : ℕ) (parent : Option ℕ) → parent_of tree b ≡ parent → a ≢ b
@@ -74,14 +75,6 @@ serial_next ops before (suc n) next cell =
     ap (λ x. meaning (ops_of ops (suc n)) (serial ops x) cell) same
 
 module _ (job : JobValue) (is : IsJob job) where
-  -- a message names cells of the layout
-  pub named_is_cell : (m : ℕ) → IsIn job m → (cell : Cell) → Contains (cells_of (ops_of job.ops m)) cell → IsCell job.layout.spaces cell
-  named_is_cell zero within cell named = let from : 1 ≤ zero = within.from in absurd (omega arith)
-  named_is_cell (suc n) within cell named =
-      let to : suc n ≤ length job.ops = within.to in
-      All-contains (IsCell job.layout.spaces) (cells_of (slice_index_or job.ops n [])) cell
-      (All-get_or (λ ops. All (IsCell job.layout.spaces) (cells_of ops)) job.ops n [] (omega arith) is.cells) named
-
   -- messages from `last` on that are not at or above an affinity leave its parcel as it was
   pub serial_same : (a last n : ℕ) → last ≤ n → n ≤ length job.ops
       → ((i : ℕ) → last < i → i ≤ n → ¬ AtOrAbove job.layout.tree (affinity_of job.assigned i) a)
@@ -161,7 +154,7 @@ module _ (job : JobValue) (is : IsJob job) where
         meaning_agree (ops_of job.ops m) s.cells (serial job.ops before)
         (λ named has.
         clear_settled before (owner_of job.layout.spaces named) next ((is.lowest m within).covers named has) settled named
-        (named_is_cell m within named has) refl)
+        (cell_listed job is m within named has) refl)
         cell (clear_settled before a next above settled cell is_cell owned)
         ∙ sym (serial_next job.ops before m next cell)
 

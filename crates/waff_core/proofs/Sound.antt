@@ -8,10 +8,10 @@ use Rattle.std.proofs.lemmas.List.Elements.{All-get_or}
 use Rattle.waff_core.specs.Job.{JobValue, IsJob, IsIn, StandsAt}
 use Rattle.waff_core.specs.Machine.{Core, Steps, Runs, IsClear, opening, phase_of, with_phase, phase_drawn, begun_by, ended_by}
 use Rattle.waff_core.specs.Settled.{CellsAreSerial}
-use Rattle.waff_core.specs.declared.event.Event.{Event}
-use Rattle.waff_core.specs.declared.event.Event.TheVariants.{Draw, Begin, End}
-use Rattle.waff_core.specs.declared.phase.Phase.{Phase}
-use Rattle.waff_core.specs.declared.phase.Phase.TheVariants.{Free, Drawn, Running, Ended}
+use Rattle.waff_core.specs.declared.actors.Event.{Event}
+use Rattle.waff_core.specs.declared.actors.Event.TheVariants.{Draw, Begin, End}
+use Rattle.waff_core.specs.declared.actors.Phase.{Phase}
+use Rattle.waff_core.specs.declared.actors.Phase.TheVariants.{Free, Drawn, Running, Ended}
 use Rattle.waff_core.proofs.Phases.{Has, phase_same, has_still, ended, ended_after, phases_count, has_cases, phase_cases, phase_opening}
 use Rattle.waff_core.proofs.Settling.{done_this, done_kept, done_cases, last_kept, settled_end}
 

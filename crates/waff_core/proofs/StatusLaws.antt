@@ -5,9 +5,9 @@ use Rattle.waff_core.specs.Job.{JobValue, IsJob, IsIn}
 use Rattle.waff_core.specs.Machine.{Core, phase_of}
 use Rattle.waff_core.specs.Statuses.{HasStatus}
 use Rattle.waff_core.specs.Laws.{EachHasOneStatus}
-use Rattle.waff_core.specs.declared.phase.Phase.TheVariants.{Drawn, Running as Runs}
-use Rattle.waff_core.specs.declared.status.Status.{Status}
-use Rattle.waff_core.specs.declared.status.Status.TheVariants.{Waiting, Held, Running, Done}
+use Rattle.waff_core.specs.declared.actors.Phase.TheVariants.{Drawn, Running as Runs}
+use Rattle.waff_core.specs.declared.actors.Status.{Status}
+use Rattle.waff_core.specs.declared.actors.Status.TheVariants.{Waiting, Held, Running, Done}
 use Rattle.waff_core.proofs.Phases.{Has}
 use Rattle.waff_core.proofs.Sound.{Sound, WasDrawn}
 use Rattle.waff_core.proofs.Arrival.{sound_at}

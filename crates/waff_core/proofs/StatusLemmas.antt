@@ -5,10 +5,10 @@ use Rattle.waff_core.specs.Job.{JobValue, IsJob}
 use Rattle.waff_core.specs.Machine.{phase_of}
 use Rattle.waff_core.specs.Laws.{ShowsWhatItHas}
 use Rattle.waff_core.specs.Statuses.{HasStatus, ShowsStatus}
-use Rattle.waff_core.specs.declared.phase.Phase.{Phase}
-use Rattle.waff_core.specs.declared.phase.Phase.TheVariants.{Drawn, Running}
-use Rattle.waff_core.specs.declared.status.Status.{Status}
-use Rattle.waff_core.specs.declared.status.Status.TheVariants.{Waiting, Held, Done, Running as Run}
+use Rattle.waff_core.specs.declared.actors.Phase.{Phase}
+use Rattle.waff_core.specs.declared.actors.Phase.TheVariants.{Drawn, Running}
+use Rattle.waff_core.specs.declared.actors.Status.{Status}
+use Rattle.waff_core.specs.declared.actors.Status.TheVariants.{Waiting, Held, Done, Running as Run}
 use Rattle.waff_core.proofs.Phases.{Has}
 use Rattle.waff_core.proofs.Sound.{WasDrawn, sound_reached}
 

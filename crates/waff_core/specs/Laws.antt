@@ -13,11 +13,11 @@ use Rattle.waff_core.specs.Machine.{Core, Runs, Steps, IsClear, IsAway, opening,
 use Rattle.waff_core.specs.Refused.{FailsFirst}
 use Rattle.waff_core.specs.Statuses.{HasStatus, ShowsStatus}
 use Rattle.waff_core.specs.Settled.{IsLast, CellsAreSerial}
-use Rattle.waff_core.specs.declared.event.Event.{Event}
-use Rattle.waff_core.specs.declared.event.Event.TheVariants.{Draw, Begin, End}
-use Rattle.waff_core.specs.declared.phase.Phase.TheVariants.{Drawn, Running}
+use Rattle.waff_core.specs.declared.actors.Event.{Event}
+use Rattle.waff_core.specs.declared.actors.Event.TheVariants.{Draw, Begin, End}
+use Rattle.waff_core.specs.declared.actors.Phase.TheVariants.{Drawn, Running}
 use Rattle.waff_core.specs.declared.refusal.CoreError.{CoreError}
-use Rattle.waff_core.specs.declared.status.Status.{Status}
+use Rattle.waff_core.specs.declared.actors.Status.{Status}
 
 -- the machine with this many actors reaches the state: some events lead to it from the opening
 abbrev pub Reaches : JobValue → ℕ → Core → Type 0

@@ -7,10 +7,10 @@ use Rattle.waff_assign.specs.Order.{IsOrdered}
 use Rattle.waff_cells.specs.Meaning.{Cells, meaning}
 use Rattle.waff_cells.specs.Serial.{ops_of, zeros}
 use Rattle.waff_core.specs.Job.{JobValue, IsOwner}
-use Rattle.waff_core.specs.declared.event.Event.{Event}
-use Rattle.waff_core.specs.declared.event.Event.TheVariants.{Draw, Begin, End}
-use Rattle.waff_core.specs.declared.phase.Phase.{Phase}
-use Rattle.waff_core.specs.declared.phase.Phase.TheVariants.{Free, Drawn, Running, Ended}
+use Rattle.waff_core.specs.declared.actors.Event.{Event}
+use Rattle.waff_core.specs.declared.actors.Event.TheVariants.{Draw, Begin, End}
+use Rattle.waff_core.specs.declared.actors.Phase.{Phase}
+use Rattle.waff_core.specs.declared.actors.Phase.TheVariants.{Free, Drawn, Running, Ended}
 
 -- a state of the machine: how many draws there were, the phases of actors 1, 2 and so on, which
 -- messages are done, and the cells

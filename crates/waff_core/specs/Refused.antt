@@ -3,10 +3,10 @@ use Rattle.std.specs.Prelude.{◌≡◌, ℕ, ◌+◌, ◌≤◌, false, List, O
 use Rattle.waff_assign.specs.Order.{IsOrdered}
 use Rattle.waff_core.specs.Job.{JobValue}
 use Rattle.waff_core.specs.Machine.{Core, Runs, opening, phase_of}
-use Rattle.waff_core.specs.declared.event.Event.{Event}
-use Rattle.waff_core.specs.declared.event.Event.TheVariants.{Draw, Begin, End}
-use Rattle.waff_core.specs.declared.phase.Phase.{Phase}
-use Rattle.waff_core.specs.declared.phase.Phase.TheVariants.{Free, Drawn, Running, Ended}
+use Rattle.waff_core.specs.declared.actors.Event.{Event}
+use Rattle.waff_core.specs.declared.actors.Event.TheVariants.{Draw, Begin, End}
+use Rattle.waff_core.specs.declared.actors.Phase.{Phase}
+use Rattle.waff_core.specs.declared.actors.Phase.TheVariants.{Free, Drawn, Running, Ended}
 use Rattle.waff_core.specs.declared.refusal.CoreError.{CoreError}
 use Rattle.waff_core.specs.declared.refusal.CoreError.TheVariants.{Busy, Nothing, NotYet, Memory}
 

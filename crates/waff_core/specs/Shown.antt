@@ -6,8 +6,8 @@ use Rattle.waff_order.specs.Needs.{needs_of}
 use Rattle.waff_cells.specs.Grid.{HasSizes, cells_in}
 use Rattle.waff_core.specs.Job.{JobValue, IsIn}
 use Rattle.waff_core.specs.Machine.{Core, IsClear, IsAway, phase_of}
-use Rattle.waff_core.specs.declared.phase.Phase.{Phase}
-use Rattle.waff_core.specs.declared.phase.Phase.TheVariants.{Drawn, Running}
+use Rattle.waff_core.specs.declared.actors.Phase.{Phase}
+use Rattle.waff_core.specs.declared.actors.Phase.TheVariants.{Drawn, Running}
 use Rattle.waff_core.specs.declared.steps.Machine.{Machine}
 
 -- the messages that are marked as done; the place of a mark is the message's number

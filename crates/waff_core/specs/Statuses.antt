@@ -2,10 +2,10 @@
 use Rattle.std.specs.Prelude.{◌≡◌, ◌==◌, ℕ, ◌≤◌, if◌then◌else◌, true, false, Option, Some, None}
 use Rattle.waff_core.specs.Job.{JobValue, StandsAt}
 use Rattle.waff_core.specs.Machine.{Core, phase_of}
-use Rattle.waff_core.specs.declared.phase.Phase.{Phase}
-use Rattle.waff_core.specs.declared.phase.Phase.TheVariants.{Drawn, Running as Runs}
-use Rattle.waff_core.specs.declared.status.Status.{Status}
-use Rattle.waff_core.specs.declared.status.Status.TheVariants.{Waiting, Held, Running, Done}
+use Rattle.waff_core.specs.declared.actors.Phase.{Phase}
+use Rattle.waff_core.specs.declared.actors.Phase.TheVariants.{Drawn, Running as Runs}
+use Rattle.waff_core.specs.declared.actors.Status.{Status}
+use Rattle.waff_core.specs.declared.actors.Status.TheVariants.{Waiting, Held, Running, Done}
 
 -- the status of message m: no actor has drawn it, an actor holds it, an actor runs it, or it is
 -- done

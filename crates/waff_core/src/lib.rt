@@ -9,14 +9,15 @@
 //!   `owner_set`: the owners of footprints.
 //! - `laws`: what holds of the machine, whoever runs it. The board is proved over these and over
 //!   `Steps`, the relation of states (`specs/Machine.antt`).
-//! - `steps`, `run`: one event, and lists of them; `core_state`, over `event`, `phase`, `status` and
-//!   `homes`: the state that they leave. No command runs these: tests do.
+//! - `actors`: what actors do and are at, and what becomes of messages.
+//! - `steps`, `run`: one event, and lists of them; `core_state`, over `homes`: the state that they
+//!   leave. No command runs these: tests do.
 //!
 //! At most 16 actors (`limits`).
 #![tactic(auto)]
 
+mod actors;
 mod core_state;
-mod event;
 mod homes;
 mod job;
 pub mod laws;
@@ -24,16 +25,12 @@ pub mod limits;
 mod order;
 mod owner_set;
 mod owners;
-mod phase;
 mod refusal;
 mod run;
-mod status;
 mod steps;
 
+pub use actors::{Event, Phase, Status};
 pub use core_state::CoreState;
-pub use event::Event;
 pub use job::Job;
-pub use phase::Phase;
 pub use refusal::{CoreError, JobError};
 pub use run::run_events;
-pub use status::Status;

@@ -27,9 +27,10 @@ impl Model for OwnerSet {
 }
 
 impl OwnerSet {
-    /// The empty set, of these many affinities.
+    /// The empty set, for so many affinities.
     pub fn none(alloc: Global, count: usize) -> Result<Self, AllocError>
-        ensures { IfOk result (λ set. set.count ≡ count) }
+        ensures count { IfOk result (λ set. set.count ≡ count) }
+        ensures none { IfOk result (λ set. set.owners ≡ []) }
     {
         let marks = vec![in alloc; false; count]?;
         Ok(OwnerSet {

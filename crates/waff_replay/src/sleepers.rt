@@ -15,7 +15,9 @@ use waff_board::Board;
 
 /// The workers of a replay that sleep, and on what. Whoever goes to sleep says so first and then looks
 /// once more, and whoever ends a message looks who sleeps after he has ended it, so that one of the
-/// two sees the other.
+/// two sees the other. Who ends a message does not ask who sleeps for want of one: he draws the next
+/// message himself, or looks at it until it can run. So somebody awake follows on each message, and a
+/// worker has to go on until the order is used up.
 #[derive(Drop)]
 pub(crate) struct Sleepers {
     /// A bit for each worker that sleeps until the next message can run.
@@ -102,6 +104,8 @@ impl Sleepers {
         }
     }
 
+    /// Wakes worker `n` if its bit is still there. Where it is gone, no other need be woken in its place:
+    /// whoever took it looks at the next message now, or draws it.
     fn wake(&self, asleep: &AtomicU64, n: usize) {
         let Some(place) = self.places.get(n) else {
             return;

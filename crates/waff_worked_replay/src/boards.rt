@@ -215,6 +215,7 @@ fn the_next_message_is_clear_when_its_needs_are_done(rt: HostRuntime) {
     let one = draw(&rt, &board, first);
     assert!(rt; board.is_next_clear());
     let second = run_next(&rt, &board, second, 1);
+    assert!(rt; !board.is_done(0));
     assert!(rt; board.is_done(2) && !board.is_done(1));
     assert!(rt; !board.is_next_clear());
     let first = run(&rt, &board, one);

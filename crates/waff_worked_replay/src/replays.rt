@@ -128,10 +128,22 @@ fn each_message_passes_the_gate_once(rt: HostRuntime) {
 /// As many turns as a message waits for the others.
 const TURNS: u32 = 100_000_000;
 
-/// A gate at which messages wait until all have come.
+/// As many turns as a message stays inside a gate: longer than threads take to start, or to fall asleep.
+const STAY: u32 = 1_000_000;
+
+/// Stays for a while.
+fn stay() {
+    for _ in 0..STAY {
+        spin_loop();
+    }
+}
+
+/// A gate at which messages wait until all have come. Those before the first that waits stay for a
+/// while, and then pass.
 #[derive(Drop)]
 struct Meeting {
     tally: Tally,
+    first: u32,
     messages: u32,
     missed: AtomicBool,
 }
@@ -139,6 +151,9 @@ struct Meeting {
 impl Gate for Meeting {
     fn before(&self, grant: &Grant<'_>) {
         self.tally.before(grant);
+        if grant.message() < self.first {
+            return stay();
+        }
         for _ in 0..TURNS {
             if self.tally.is_once_each(self.messages) || self.missed.load(Ordering::SeqCst) {
                 return;
@@ -203,18 +218,26 @@ to = [\"W0\", \"W1\", \"W2\", \"W3\", \"W4\", \"W5\", \"W6\", \"W7\", \
 \"W8\", \"W9\", \"W10\", \"W11\", \"W12\", \"W13\", \"W14\", \"W15\"]\n\
 ";
 
-/// As many workers as messages hold a grant each until the last has come. A replay on fewer threads
-/// misses.
-fn all_meet<R: Threads + Wait + Abort + Sync>(rt: &R, alloc: Global, case: &Case<'_>)
-    requires some { 1 ≤ case.now.messages }
-    requires few { case.now.messages ≤ 16 }
+/// So many workers hold a grant each until the last message has come: those of the messages from the
+/// first that waits on. A replay in which fewer work misses.
+fn all_meet<R: Threads + Wait + Abort + Sync>(
+    rt: &R,
+    alloc: Global,
+    case: &Case<'_>,
+    first: u32,
+    workers: u32,
+)
+    requires short { case.now.messages < 1_000_000 }
+    requires some { 1 ≤ workers }
+    requires few { workers ≤ 16 }
 {
     let meeting = Meeting {
         tally: Tally::new(),
+        first,
         messages: case.messages,
         missed: AtomicBool::new(false),
     };
-    leaves(rt, alloc, case, case.messages, &meeting);
+    leaves(rt, alloc, case, workers, &meeting);
     assert!(rt;
         meeting.tally.is_once_each(case.messages),
         "{} come",
@@ -229,13 +252,29 @@ fn all_meet<R: Threads + Wait + Abort + Sync>(rt: &R, alloc: Global, case: &Case
 
 #[test]
 fn as_many_workers_as_messages_hold_grants_at_once(rt: HostRuntime) {
-    all_meet(&rt, rt.alloc(), &TWO);
-    all_meet(&rt, rt.alloc(), &THREE);
-    all_meet(&rt, rt.alloc(), &SIXTEEN);
+    all_meet(&rt, rt.alloc(), &TWO, 1, 2);
+    all_meet(&rt, rt.alloc(), &THREE, 1, 3);
+    all_meet(&rt, rt.alloc(), &SIXTEEN, 1, 16);
 }
 
-/// As many turns as a message stays inside a gate: longer than threads take to start.
-const STAY: u32 = 1_000_000;
+/// Messages 1 and 4 exclude all others. Messages 2 and 3 exclude none of each other, nor do 5 and 6.
+const TWICE: Case<'static> = Case {
+    hierarchy: H1,
+    trace: "message,cost,ops\n\
+        root,1,add f:0 1;add g:0 1\na,1,add f:0 1\nb,1,add g:0 1\n\
+        root,1,add f:0 1;add g:0 1\na,1,add f:0 1\nb,1,add g:0 1\n",
+    messages: 6,
+    wanted: "f:0 4, g:0 4",
+};
+
+/// Of two workers one falls asleep while message 4 stays at the gate, and has to come back for message 5
+/// or 6. It may be asleep by chance alone, so there are some replays.
+#[test]
+fn a_worker_that_slept_comes_back(rt: HostRuntime) {
+    for _ in 0..5 {
+        all_meet(&rt, rt.alloc(), &TWICE, 5, 2);
+    }
+}
 
 /// A gate that counts the messages that are inside it at once.
 #[derive(Drop)]
@@ -249,9 +288,7 @@ impl Gate for Room {
     fn before(&self, _grant: &Grant<'_>) {
         let inside = self.inside.fetch_add(1, Ordering::SeqCst).saturating_add(1);
         self.most.fetch_max(inside, Ordering::SeqCst);
-        for _ in 0..STAY {
-            spin_loop();
-        }
+        stay();
         self.inside.fetch_sub(1, Ordering::SeqCst);
     }
 }

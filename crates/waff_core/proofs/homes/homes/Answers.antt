@@ -3,7 +3,7 @@ use Rattle.std.proofs.lemmas.List.{with_items_is}
 use Rattle.std.proofs.lemmas.Option.{slice_get_read}
 use Rattle.waff_core.specs.Job.{owners_of}
 use Rattle.waff_core.specs.Shown.{core_in, is_home}
-use Rattle.waff_core.specs.declared.phase.Phase.TheVariants.{Running}
+use Rattle.waff_core.specs.declared.actors.Phase.TheVariants.{Running}
 use Rattle.waff_core.proofs.Lending.{home_idle, home_runs, home_all, running_in, not_running_free, not_running_drawn, not_running_ended}
 use Rattle.waff_core.proofs.homes.homes.Goals as goal
 use Rattle.waff_core.proofs.homes.homes.Goals.{in-Running, in-Free}

@@ -2,7 +2,7 @@ use Rattle.std.proofs.Common.{take, get_or, arith, sym, subst}
 use Rattle.std.proofs.lemmas.Option.{slice_get-get_or}
 use Rattle.waff_core.specs.Machine.{opening}
 use Rattle.waff_core.specs.Shown.{core_in}
-use Rattle.waff_core.specs.declared.event.Event.TheVariants.{Draw}
+use Rattle.waff_core.specs.declared.actors.Event.TheVariants.{Draw}
 use Rattle.waff_core.proofs.Pace.{IsPaced, paced_opening, paced_step, steady_reached, events_few}
 use Rattle.waff_core.proofs.Reaching.{runs_take_more}
 use Rattle.waff_core.proofs.run.run.Goals as goal

@@ -1,6 +1,6 @@
 use Rattle.std.proofs.Common.{◌≡◌, ◌∙◌, ap, ℕ, zero, suc, ◌+◌, false, get_or, replicate, refl, rules}
 use Rattle.waff_core.specs.Shown.{marked}
-use Rattle.waff_core.specs.declared.phase.Phase.TheVariants.{Free}
+use Rattle.waff_core.specs.declared.actors.Phase.TheVariants.{Free}
 use Rattle.waff_core.proofs.steps.Machine.opening.Goals as goal
 
 -- no message is marked
