@@ -1,38 +1,34 @@
 //! The program `waff`: it reads what it is asked, and answers.
 //!
 //! The words and the files are read by the library `waff_cli`. What is answered, and how the program
-//! ends then, `waff_answer` says.
+//! ends, `waff_answer` says: here stands which stream is which.
 #![tactic(auto)]
 
 use std::io;
-use std::io::{IsTerminal, Write};
+use std::io::IsTerminal;
 use std::process::ExitCode;
 use std::rt::Runtime;
 use std::sync::Wait;
 use std::thread::Threads;
-use waff_answer::answer;
+use waff_answer::end;
 use waff_cli::{Terminals, read_question};
+use waff_io::{ErrorStream, Watched};
 
 fn main(rt: HostRuntime) -> ExitCode {
     let terminals = Terminals {
         input: rt.stdin().is_terminal(),
         error: rt.stderr().is_terminal(),
     };
-    ExitCode::from(run(&rt, terminals, &mut rt.stderr()))
+    let mut err = Watched::new(rt.stderr());
+    ExitCode::from(run(&rt, terminals, &mut err))
 }
 
 /// Answers what the program is asked, and gives the exit status.
-fn run<R: Runtime + AllocGlobal + Threads + Wait + Sync, E: Write>(
+fn run<R: Runtime + AllocGlobal + Threads + Wait + Sync, E: ErrorStream>(
     rt: &R,
     terminals: Terminals,
     err: &mut E,
 ) -> u8 {
-    match read_question(rt, terminals) {
-        Ok(question) => {
-            let status = answer(rt, rt.alloc(), &question, &mut io::writer(rt), err);
-            drop(question);
-            status
-        }
-        Err(refusal) => refusal.report(rt),
-    }
+    let read = read_question(rt, terminals, err);
+    end(rt, rt.alloc(), read, &mut io::writer(rt), err)
 }

@@ -6,12 +6,13 @@
 //! - `unique`: what is asked of files has one answer.
 //!
 //! The words of a question and its files are read by `waff_cli`, the texts are those of `waff_tool`.
-//! What is answered, and how the program ends, one clause says: that of `answer`.
+//! What is answered, and how the program ends, one clause says: that of `answer`. `end` is that for what
+//! was read, which may be a refusal of the words or of a file.
 #![tactic(auto)]
 
 mod answers;
 mod ending;
 mod unique;
 
-pub use ending::answer;
+pub use ending::{answer, end};
 pub use unique::answer_is_one;

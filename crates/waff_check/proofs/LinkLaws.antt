@@ -1,9 +1,14 @@
 -- Chains whose neighbours are linked.
-use Rattle.std.proofs.Common.{◌≡◌, ℕ, zero, suc, ◌+◌, ◌-◌, ◌<◌, ◌≤◌, List, [], ◌∷◌, length, All, arith, inl, inr, refl, subst, sym}
+use Rattle.std.proofs.Common.{◌≡◌, ℕ, zero, suc, ◌+◌, ◌-◌, ◌<◌, ◌≤◌, List, [], ◌∷◌, length, All, false, true, arith, inl, inr, refl, subst, sym}
 use Rattle.std.proofs.lemmas.Bool.{cases_eq, cases_lt}
-use Rattle.waff_assign.specs.Order.{Relation}
+use Rattle.waff_model.specs.Tree.{Node}
+use Rattle.waff_model.specs.Versions.{has_clients}
+use Rattle.waff_model.specs.declared.message.Version.{Version}
+use Rattle.waff_model.specs.declared.message.Version.TheVariants.{V1, V2, V3}
+use Rattle.waff_assign.specs.Order.{IsOrdered, Relation}
 use Rattle.waff_plan.specs.Chain.{IsChain, LinksOn}
 use Rattle.waff_plan.specs.Obeys.{IsLinked}
+use Rattle.waff_plan.specs.Serving.{IsStartedBefore, started_before}
 use Rattle.waff_plan.specs.Work.{IsNumber, Work}
 use Rattle.waff_check.specs.Faults.{AreLinked, IsBroken, link_at}
 use Rattle.waff_check.proofs.FirstLaws.{NoneBelow}
@@ -86,3 +91,16 @@ chain-of-more before more work wider (m ∷ rest) h = on m rest h
     on : (m : ℕ) (rest : List ℕ) → LinksOn before work m rest → LinksOn more work m rest
     on m [] h = h
     on m (next ∷ rest) h = (h.0, linked m next h.1, on next rest h.2)
+
+-- what a plan serves before what, by whether messages have clients
+pub in_turn : (version : Version) (tree : List Node) (assigned : List ℕ) (start : ℕ → ℕ) → has_clients version ≡ false
+    → started_before version tree assigned start ≡ IsOrdered tree assigned
+in_turn V1 tree assigned start none = refl
+in_turn V2 tree assigned start none = refl
+in_turn V3 tree assigned start none = absurd (cc)
+
+pub by_starts : (version : Version) (tree : List Node) (assigned : List ℕ) (start : ℕ → ℕ) → has_clients version ≡ true
+    → started_before version tree assigned start ≡ IsStartedBefore tree assigned start
+by_starts V1 tree assigned start some = absurd (cc)
+by_starts V2 tree assigned start some = absurd (cc)
+by_starts V3 tree assigned start some = refl

@@ -1,8 +1,6 @@
 -- Overlaps by the place of their first message.
-use Rattle.std.proofs.Common.{◌≡◌, ◌↔◌, ℕ, ◌+◌, ◌-◌, ◌<◌, ◌≤◌, Bool, IsTrue, Some, None, arith, refl, subst, inl, inr}
+use Rattle.std.proofs.Common.{◌≡◌, ◌↔◌, ℕ, ◌+◌, ◌-◌, ◌<◌, ◌≤◌, Bool, false, true, IsTrue, Some, None, arith, refl, subst, inl, inr}
 use Rattle.std.proofs.lemmas.Bool.{cases_lt}
-use Rattle.waff_model.specs.declared.message.Version.{Version}
-use Rattle.waff_model.specs.declared.message.Version.TheVariants.{V1, V2, V3}
 use Rattle.waff_assign.specs.Case.{pairs_of}
 use Rattle.waff_assign.specs.Order.{Relation}
 use Rattle.waff_plan.specs.Apart.{AreApart}
@@ -10,25 +8,23 @@ use Rattle.waff_plan.specs.Obeys.{IsAmong, KeepsOrder}
 use Rattle.waff_plan.specs.Planned.{planned_starts, planned_work}
 use Rattle.waff_plan.specs.Work.{Work, finish_of}
 use Rattle.waff_plan.specs.declared.planned.Planned.{Planned}
-use Rattle.waff_check.specs.Faults.{IsFirstPair, IsLeastOf, Overlaps, OverlapsIn}
-use Rattle.waff_check.specs.Searches.{AreAtOddsIn, HasOverlap, IsFirstPlace, NoneAmong, planned_overlaps, version_in}
+use Rattle.waff_check.specs.Faults.{IsFirstPair, IsLeastOf, Overlaps, OverlapsWhere}
+use Rattle.waff_check.specs.Searches.{AreAtOddsWhere, HasOverlap, IsFirstPlace, NoneAmong, planned_clients, planned_overlaps}
 
 -- a pair that overlaps is one, and is at odds
-pub overlap_parts : (version : Version) (before : Relation) (work : Work) (start : ℕ → ℕ) (i j : ℕ) → OverlapsIn version before work start i j
-    → before i j × AreAtOddsIn version work start i j
-overlap_parts V1 before work start i j h = (h.ordered, h.early)
-overlap_parts V2 before work start i j h = (h.ordered, h.early)
-overlap_parts V3 before work start i j h = (h.ordered, h.together)
+pub overlap_parts : (clients : Bool) (before : Relation) (work : Work) (start : ℕ → ℕ) (i j : ℕ) → OverlapsWhere clients before work start i j
+    → before i j × AreAtOddsWhere clients work start i j
+overlap_parts false before work start i j h = (h.ordered, h.early)
+overlap_parts true before work start i j h = (h.ordered, h.together)
 
-pub overlap_from : (version : Version) (before : Relation) (work : Work) (start : ℕ → ℕ) (i j : ℕ) → before i j → AreAtOddsIn version work start i j
-    → OverlapsIn version before work start i j
-overlap_from V1 before work start i j pair early = record { ordered = pair; early = early }
-overlap_from V2 before work start i j pair early = record { ordered = pair; early = early }
-overlap_from V3 before work start i j pair together = record { ordered = pair; together = together }
+pub overlap_from : (clients : Bool) (before : Relation) (work : Work) (start : ℕ → ℕ) (i j : ℕ) → before i j → AreAtOddsWhere clients work start i j
+    → OverlapsWhere clients before work start i j
+overlap_from false before work start i j pair early = record { ordered = pair; early = early }
+overlap_from true before work start i j pair together = record { ordered = pair; together = together }
 
 -- none of the first messages overlaps where they keep the order, or are apart
-abbrev pub NoneOfFirst : Version → Relation → Work → (ℕ → ℕ) → ℕ → Type 0
-NoneOfFirst version before work start count = (i j : ℕ) → i ≤ count → OverlapsIn version before work start i j → ⊥
+abbrev pub NoneOfFirst : Bool → Relation → Work → (ℕ → ℕ) → ℕ → Type 0
+NoneOfFirst clients before work start count = (i j : ℕ) → i ≤ count → OverlapsWhere clients before work start i j → ⊥
 
 none_late : (before : Relation) (work : Work) (start : ℕ → ℕ) (count : ℕ) → KeepsOrder (IsAmong count before) work start
     → (i j : ℕ) → i ≤ count → Overlaps before work start i j → ⊥
@@ -42,51 +38,23 @@ order_kept before work start count none i j among = elim (cases_lt (start j) (fi
   | inr late ↦ late
 ]
 
-pub none_where_ordered : (version : Version) (before : Relation) (work : Work) (start : ℕ → ℕ) (count : ℕ) → (version ≡ V3 → ⊥)
-    → KeepsOrder (IsAmong count before) work start → NoneOfFirst version before work start count
-none_where_ordered V1 before work start count early = none_late before work start count
-none_where_ordered V2 before work start count early = none_late before work start count
-none_where_ordered V3 before work start count early = absurd (early refl)
-
-pub ordered_where_none : (version : Version) (before : Relation) (work : Work) (start : ℕ → ℕ) (count : ℕ) → (version ≡ V3 → ⊥)
-    → NoneOfFirst version before work start count → KeepsOrder (IsAmong count before) work start
-ordered_where_none V1 before work start count early = order_kept before work start count
-ordered_where_none V2 before work start count early = order_kept before work start count
-ordered_where_none V3 before work start count early = absurd (early refl)
-
-pub none_where_apart : (version : Version) (before : Relation) (work : Work) (start : ℕ → ℕ) (count : ℕ) → version ≡ V3
-    → AreApart (IsAmong count before) work start → NoneOfFirst version before work start count
-none_where_apart V1 before work start count is = absurd (cc is)
-none_where_apart V2 before work start count is = absurd (cc is)
-none_where_apart V3 before work start count is =
-    λ apart i j within pair. apart i j (record { ordered = record { ordered = pair.ordered; within = within }; together = pair.together })
-
-pub apart_where_none : (version : Version) (before : Relation) (work : Work) (start : ℕ → ℕ) (count : ℕ) → version ≡ V3
-    → NoneOfFirst version before work start count → AreApart (IsAmong count before) work start
-apart_where_none V1 before work start count is = absurd (cc is)
-apart_where_none V2 before work start count is = absurd (cc is)
-apart_where_none V3 before work start count is =
-    λ none i j pair. none i j pair.ordered.within (record { ordered = pair.ordered.ordered; together = pair.together })
-
 -- what a test of the first messages tells
-pub order_tells : (version : Version) (before : Relation) (work : Work) (start : ℕ → ℕ) (count : ℕ) → (version ≡ V3 → ⊥) → (kept : Bool)
-    → (IsTrue kept ↔ KeepsOrder (IsAmong count before) work start) → IsTrue kept ↔ NoneOfFirst version before work start count
-order_tells version before work start count early kept told = (
-  λ t. none_where_ordered version before work start count early (told.0 t),
-  λ none. told.1 (ordered_where_none version before work start count early none),
-)
+pub order_tells : (before : Relation) (work : Work) (start : ℕ → ℕ) (count : ℕ) (kept : Bool) → (IsTrue kept ↔ KeepsOrder (IsAmong count before) work start)
+    → IsTrue kept ↔ NoneOfFirst false before work start count
+order_tells before work start count kept told =
+    (λ t. none_late before work start count (told.0 t), λ none. told.1 (order_kept before work start count none))
 
-pub apart_tells : (version : Version) (before : Relation) (work : Work) (start : ℕ → ℕ) (count : ℕ) → version ≡ V3 → (kept : Bool)
-    → (IsTrue kept ↔ AreApart (IsAmong count before) work start) → IsTrue kept ↔ NoneOfFirst version before work start count
-apart_tells version before work start count is kept told = (
-  λ t. none_where_apart version before work start count is (told.0 t),
-  λ none. told.1 (apart_where_none version before work start count is none),
+pub apart_tells : (before : Relation) (work : Work) (start : ℕ → ℕ) (count : ℕ) (kept : Bool) → (IsTrue kept ↔ AreApart (IsAmong count before) work start)
+    → IsTrue kept ↔ NoneOfFirst true before work start count
+apart_tells before work start count kept told = (
+  λ t i j within pair. told.0 t i j (record { ordered = record { ordered = pair.ordered; within = within }; together = pair.together }),
+  λ none. told.1 (λ i j pair. none i j pair.ordered.within (record { ordered = pair.ordered.ordered; together = pair.together })),
 )
 
 -- an overlap is one of a pair of messages
 pub pair_of : (planned : Planned) (i j : ℕ) → planned_overlaps planned i j → pairs_of planned.case i j
 pair_of planned i j h =
-    (overlap_parts (version_in planned) (pairs_of planned.case) (planned_work planned) (planned_starts planned) i j h).0
+    (overlap_parts (planned_clients planned) (pairs_of planned.case) (planned_work planned) (planned_starts planned) i j h).0
 
 module _ (planned : Planned) (kept : ℕ) where
   abbrev Pair : ℕ → ℕ → Type 0

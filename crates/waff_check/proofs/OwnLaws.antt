@@ -1,10 +1,11 @@
 -- The verdicts on plans that tell what they are.
-use Rattle.std.proofs.Common.{◌≡◌, ℕ, ◌+◌, ◌-◌, ◌*◌, ◌<◌, ◌≤◌, ◌⊎◌, inl, inr, List, length, map, cond, Option, Some, None, refl, sym, ap, ◌∙◌, arith, subst}
+use Rattle.std.proofs.Common.{◌≡◌, ℕ, ◌+◌, ◌-◌, ◌*◌, ◌<◌, ◌≤◌, ◌⊎◌, inl, inr, Bool, false, true, List, length, map, cond, Option, Some, None, refl, sym, ap, ◌∙◌, arith, subst}
 use Rattle.std.specs.Prelude.{nat_le, nat_lt, ◌&&◌}
 use Rattle.std.proofs.lemmas.Bool.{cases_eq}
 use Rattle.std.proofs.lemmas.List.{get_or-map}
 use Rattle.std.proofs.lemmas.List.FromFn.{get_or-map-range_with_len, length-map-range_with_len}
 use Rattle.waff_model.specs.Tree.{Node}
+use Rattle.waff_model.specs.Versions.{has_clients}
 use Rattle.waff_model.specs.declared.message.Version.{Version}
 use Rattle.waff_model.specs.declared.message.Version.TheVariants.{V1, V2, V3}
 use Rattle.waff_assign.specs.Instance.{Instance, before_in}
@@ -24,7 +25,7 @@ use Rattle.waff_plan.specs.Workers.{running, runs_at}
 use Rattle.waff_plan.proofs.ApartLaws.{apart_where_finished, turned}
 use Rattle.waff_plan.proofs.ClientLemmas.{client_follows_earlier}
 use Rattle.waff_plan.proofs.IssueOrder.{one_is_issued_first}
-use Rattle.waff_plan.proofs.IssuePlans.{same_issue}
+use Rattle.waff_plan.proofs.Holding.{same_issue}
 use Rattle.waff_plan.proofs.Ticks.{sum_by-numbers-le}
 use Rattle.waff_plan.proofs.TimingLemmas.{length-timings_of, timings_follow_clients}
 use Rattle.waff_plan.proofs.Uniqueness.{same_length, totals_same}
@@ -32,11 +33,11 @@ use Rattle.waff_plan_text.specs.Given.{no_row, row_at}
 use Rattle.waff_plan_text.specs.Laws.{row_told}
 use Rattle.waff_plan_text.specs.Spelling.{no_worker}
 use Rattle.waff_plan_text.specs.declared.row.Row.{Row}
-use Rattle.waff_check.specs.Faults.{HasWrongWorker, IsCrowded, IsMisplaced, IsTaken, NoneOf, OverlapsIn, RunTogether}
+use Rattle.waff_check.specs.Faults.{HasWrongWorker, IsCrowded, IsMisplaced, IsTaken, NoneOf, OverlapsWhere, RunTogether}
 use Rattle.waff_check.specs.Promises.{AreOneAtATime}
-use Rattle.waff_check.specs.OwnPlans.{IsFoundShort, OwnPlanIsShortest, OwnPlanIsWithinBound, claim_told}
+use Rattle.waff_check.specs.OwnPlans.{IsFoundShortWhere, OwnPlanIsShortest, OwnPlanIsWithinBound, claim_told}
 use Rattle.waff_check.specs.Shifts.{IsOneOf}
-use Rattle.waff_check.specs.Verdicts.{Claim, IsFaultless, IsFound, IsFreeBelow, IsShort, IsShortIn, ReachesLength, IsVerdict, stage, start_in, version_of, worker_in}
+use Rattle.waff_check.specs.Verdicts.{Claim, IsFaultless, IsFound, IsFreeBelow, IsShort, IsShortWhere, ReachesLength, IsVerdict, stage, start_in, version_of, worker_in}
 use Rattle.waff_check.specs.declared.verdict.Verdict.TheVariants as verdict
 use Rattle.waff_check.proofs.LinkLaws.{chain-linked, chain-of-more}
 use Rattle.waff_check.proofs.OverlapLaws.{overlap_parts}
@@ -103,17 +104,17 @@ issued_apart tree assigned work start long obeys i j pair =
       | inl same ↦ absurd (omega (arith, same, earlier))
       | inr (inl before) ↦
           apart_where_finished work start i j
-          (obeys.ordered i j (record { first = first; second = second; issued = before; excludes = ordered.excludes })) pair.together
+          (obeys.ordered i j (record { first = first; second = second; precedes = before; excludes = ordered.excludes })) pair.together
       | inr (inr after) ↦
           apart_where_finished work start j i
-          (obeys.ordered j i (record { first = second; second = first; issued = after; excludes = turn tree _ _ ordered.excludes }))
+          (obeys.ordered j i (record { first = second; second = first; precedes = after; excludes = turn tree _ _ ordered.excludes }))
           (turned work start i j pair.together)
     ]
 
 -- under the same starts no pair of such a plan overlaps
 none_overlap : (version : Version) (tree : List Node) (assigned : List ℕ) (work : Work) (start told : ℕ → ℕ) → length assigned ≡ work.count
     → AreSame work told start → Obeys (served_before version tree assigned work start) work start
-    → (i j : ℕ) → IsNumber work i → IsNumber work j → OverlapsIn version (IsOrdered tree assigned) work told i j → ⊥
+    → (i j : ℕ) → IsNumber work i → IsNumber work j → OverlapsWhere (has_clients version) (IsOrdered tree assigned) work told i j → ⊥
 none_overlap V1 tree assigned work start told long same obeys i j first second pair =
     omega (arith, same i first, same j second, obeys.ordered i j pair.ordered, pair.early)
 none_overlap V2 tree assigned work start told long same obeys i j first second pair =
@@ -130,7 +131,7 @@ started_too V2 tree assigned work start told long same i j before = before
 started_too V3 tree assigned work start told long same i j before =
     let one = same i (record { from = before.first.from; to = omega (arith, before.first.to, long) }) in
     let other = same j (record { from = before.second.from; to = omega (arith, before.second.to, long) }) in
-    record { first = before.first; second = before.second; started = omega (arith, one, other, before.started); excludes = before.excludes }
+    record { first = before.first; second = before.second; precedes = omega (arith, one, other, before.precedes); excludes = before.excludes }
 
 -- and each message is issued when it starts
 issued_too : (work : Work) (start told : ℕ → ℕ) → FollowsEarlier work → AreSame work told start → StartsIssued work start → StartsIssued work told
@@ -182,7 +183,7 @@ module _ (instance : Instance) (workers : Option ℕ) (start : ℕ → ℕ)
       → ((k : ℕ) → workers ≡ Some k → (t : ℕ) → running work start t ≤ k)
       → NoneOf (HasWrongWorker work (start_in claim) (worker_in claim.plan) workers) → IsFaultless claim
   no_fault count obeys is_chain within manned (verdict.Overlap i j) less = λ overlap.
-      let pair = (overlap_parts instance.trace.version (before_in instance) work (start_in claim) i j overlap).0 in
+      let pair = (overlap_parts (has_clients instance.trace.version) (before_in instance) work (start_in claim) i j overlap).0 in
       let from : 1 ≤ i = pair.from in
       let earlier : i < j = pair.earlier in
       none_overlap instance.trace.version instance.tree instance.assigned work start (start_in claim) (long count) tells_start obeys i j
@@ -207,10 +208,9 @@ module _ (instance : Instance) (workers : Option ℕ) (start : ℕ → ℕ)
   no_fault count obeys is_chain within manned _ less = absurd (omega arith)
 
 -- whether a plan is as short as any can be
-short_or_longer : (version : Version) (claim : Claim) → (IsShortIn version claim) ⊎ (IsShortIn version claim → ⊥)
-short_or_longer V1 _ = cases_eq _ _
-short_or_longer V2 _ = cases_eq _ _
-short_or_longer V3 _ = cases_eq _ _
+short_or_longer : (clients : Bool) (claim : Claim) → (IsShortWhere clients claim) ⊎ (IsShortWhere clients claim → ⊥)
+short_or_longer false _ = cases_eq _ _
+short_or_longer true _ = cases_eq _ _
 
 -- a plan without a fault that is no shortest one, and one that is not tight either
 not_shortest : (claim : Claim) → IsFaultless claim → (IsShort claim → ⊥) → IsFreeBelow claim (stage verdict.Tight)
@@ -223,22 +223,20 @@ not_tight claim good longer loose verdict.Tight less = loose
 not_tight claim good longer loose v less = good v (omega arith)
 
 -- a plan as long as its chain is found as short as it can be
-found_short : (claim : Claim) (version : Version) → version ≡ version_of claim → IsFaultless claim → ReachesLength claim → IsFoundShort version claim
-found_short claim V1 is good reach = record { free = good; found = subst (λ v. IsShortIn v claim) is reach }
-found_short claim V2 is good reach = record { free = good; found = subst (λ v. IsShortIn v claim) is reach }
-found_short claim V3 is good reach = elim (short_or_longer (version_of claim) claim) [
+found_short : (claim : Claim) (clients : Bool) → clients ≡ has_clients (version_of claim) → IsFaultless claim → ReachesLength claim
+    → IsFoundShortWhere clients claim
+found_short claim false is good reach = record { free = good; found = subst (λ clients. IsShortWhere clients claim) is reach }
+found_short claim true is good reach = elim (short_or_longer (has_clients (version_of claim)) claim) [
   | inl short ↦ inl (record { free = good; found = short })
   | inr longer ↦ inr (record { free = not_shortest claim good longer; found = reach })
 ]
 
 -- a plan that is longer than its chain, but within the bound
-found_within : (claim : Claim) (version : Version) → version ≡ version_of claim → IsFaultless claim → (ReachesLength claim → ⊥) → IsFound claim verdict.WithinBound
-    → IsFoundShort version claim ⊎ IsVerdict claim verdict.WithinBound
-found_within claim V1 is good loose kept =
-    inr (record { free = not_tight claim good (subst (λ v. IsShortIn v claim → ⊥) is loose) loose; found = kept })
-found_within claim V2 is good loose kept =
-    inr (record { free = not_tight claim good (subst (λ v. IsShortIn v claim → ⊥) is loose) loose; found = kept })
-found_within claim V3 is good loose kept = elim (short_or_longer (version_of claim) claim) [
+found_within : (claim : Claim) (clients : Bool) → clients ≡ has_clients (version_of claim) → IsFaultless claim → (ReachesLength claim → ⊥)
+    → IsFound claim verdict.WithinBound → IsFoundShortWhere clients claim ⊎ IsVerdict claim verdict.WithinBound
+found_within claim false is good loose kept =
+    inr (record { free = not_tight claim good (subst (λ clients. IsShortWhere clients claim → ⊥) is loose) loose; found = kept })
+found_within claim true is good loose kept = elim (short_or_longer (has_clients (version_of claim)) claim) [
   | inl short ↦ inl (inl (record { free = good; found = short }))
   | inr longer ↦ inr (record { free = not_tight claim good longer loose; found = kept })
 ]
@@ -247,7 +245,7 @@ pub own_plan_is_shortest : (instance : Instance) (start : ℕ → ℕ) (chain : 
     → OwnPlanIsShortest instance start chain
 own_plan_is_shortest instance start chain count obeys is_chain as_long =
     let told = claim_told instance None start no_worker chain in
-    found_short told instance.trace.version refl
+    found_short told (has_clients instance.trace.version) refl
     (no_fault instance None start no_worker chain count obeys is_chain (λ k none. absurd (cc))
     (no_workers (work_of_instance instance) (start_in told) (worker_in told.plan) (tells_worker instance None start no_worker chain)))
     (as_long ∙ same_length (work_of_instance instance) start (start_in told) (tells_back instance None start no_worker chain))
@@ -264,8 +262,8 @@ own_plan_is_within_bound instance k start worker chain count plan manned is_chai
     (right_workers all start (start_in told) worker (worker_in told.plan) k same (tells_worker instance (Some k) start worker chain) manned) in
     let kept = subst (λ n. k * n ≤ right_side all k chain) (same_length all start (start_in told) (tells_back instance (Some k) start worker chain)) bound in
     elim (cases_eq (chain_release all chain + chain_cost all chain) (length_of all (start_in told))) [
-      | inl as_long ↦ inl (found_short told instance.trace.version refl good as_long)
-      | inr shorter ↦ found_within told instance.trace.version refl good shorter (k, refl, kept)
+      | inl as_long ↦ inl (found_short told (has_clients instance.trace.version) refl good as_long)
+      | inr shorter ↦ found_within told (has_clients instance.trace.version) refl good shorter (k, refl, kept)
     ]
   where
     some_is : (k j : ℕ) → Some k ≡ Some j → k ≡ j

@@ -1,6 +1,7 @@
 -- What follows from a verdict without a fault.
-use Rattle.std.proofs.Common.{◌≡◌, ◌↔◌, ℕ, ◌≤◌, Option, Some, IfSome, arith, inl, inr, subst}
+use Rattle.std.proofs.Common.{◌≡◌, ◌↔◌, ℕ, ◌≤◌, true, Option, Some, IfSome, arith, inl, inr, subst}
 use Rattle.std.proofs.lemmas.Bool.{cases_lt}
+use Rattle.waff_model.specs.Versions.{has_clients}
 use Rattle.waff_model.specs.declared.message.Version.{Version}
 use Rattle.waff_model.specs.declared.message.Version.TheVariants.{V1, V2, V3}
 use Rattle.waff_model.specs.Tree.{IsTree}
@@ -19,8 +20,8 @@ use Rattle.waff_plan.proofs.LowerBounds.{none_is_below}
 use Rattle.waff_plan.proofs.TimingLemmas.{length-timings_of, timings_follow_clients}
 use Rattle.waff_check.specs.Faults.{HasWrongWorker, IsCrowded, NoneOf}
 use Rattle.waff_plan_text.specs.Given.{IsGiven}
-use Rattle.waff_check.specs.Promises.{Accepts, AreOneAtATime, IsRivalIn, IsWithin, Promises, ServesAlike}
-use Rattle.waff_check.specs.Verdicts.{Claim, IsClaim, IsFaultless, IsShortIn, IsVerdict, ReachesLength, before_of, chain_in, lower_bound_in, pairs_of_claim, start_in, version_of, work_of_claim, worker_in, workers_in}
+use Rattle.waff_check.specs.Promises.{Accepts, AreOneAtATime, IsRivalWhere, IsWithin, Promises, ServesAlike}
+use Rattle.waff_check.specs.Verdicts.{Claim, IsClaim, IsFaultless, IsShortWhere, IsVerdict, ReachesLength, before_of, chain_in, lower_bound_in, pairs_of_claim, start_in, version_of, work_of_claim, worker_in, workers_in}
 use Rattle.waff_check.specs.declared.verdict.Verdict.{Verdict}
 use Rattle.waff_check.specs.declared.verdict.Verdict.TheVariants as verdict
 use Rattle.waff_check.proofs.LinkLaws.{is-chain}
@@ -36,8 +37,8 @@ faultless-of claim verdict.Tight h a v less = h.free v (omega (arith, less))
 faultless-of claim verdict.WithinBound h a v less = h.free v (omega (arith, less))
 faultless-of claim _ h a v less = absurd a
 
--- in the third version no plan that obeys is shorter than the lower bound
-none-below : (claim : Claim) → IsClaim claim → IsGiven claim.plan → IsTree claim.instance.tree → (other : ℕ → ℕ) → IsRivalIn V3 claim other
+-- where messages have clients no plan that obeys is shorter than the lower bound
+none-below : (claim : Claim) → IsClaim claim → IsGiven claim.plan → IsTree claim.instance.tree → (other : ℕ → ℕ) → IsRivalWhere true claim other
     → lower_bound_in claim ≤ length_of (work_of_claim claim) other
 none-below claim is given tree =
     let messages = claim.instance.trace.messages in
@@ -98,9 +99,9 @@ module _ (claim : Claim) (is : IsClaim claim) (run : AllRun (work_of_claim claim
       let within = chains_are_within_length (before_of claim) (work_of_claim claim) (chain_in claim) other (chain-of given good) ((serves good other).0 s) in
       omega (arith, within, reach)
 
-  shortest-in : (version : Version) → ((other : ℕ → ℕ) → IsRivalIn V3 claim other → lower_bound_in claim ≤ length_of (work_of_claim claim) other)
+  shortest-in : (version : Version) → ((other : ℕ → ℕ) → IsRivalWhere true claim other → lower_bound_in claim ≤ length_of (work_of_claim claim) other)
       → IsChain (started_before version claim.instance.tree claim.instance.assigned (start_in claim)) (work_of_claim claim) (chain_in claim)
-      → IsShortIn version claim → (other : ℕ → ℕ) → IsRivalIn version claim other
+      → IsShortWhere (has_clients version) claim → (other : ℕ → ℕ) → IsRivalWhere (has_clients version) claim other
       → length_of (work_of_claim claim) (start_in claim) ≤ length_of (work_of_claim claim) other
   shortest-in V1 least chain reach other o =
       omega (arith, chains_are_within_length (pairs_of_claim claim) (work_of_claim claim) (chain_in claim) other chain o, reach)

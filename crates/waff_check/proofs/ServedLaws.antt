@@ -4,6 +4,7 @@ use Rattle.std.proofs.lemmas.Bool.{cases_lt, cases_order}
 use Rattle.std.proofs.lemmas.Option.{none-some, same_Some}
 use Rattle.waff_model.specs.Messages.{Arrivals, IsTrace}
 use Rattle.waff_model.specs.Tree.{Node, Excludes}
+use Rattle.waff_model.specs.Versions.{has_clients}
 use Rattle.waff_model.specs.declared.message.Version.{Version}
 use Rattle.waff_model.specs.declared.message.Version.TheVariants.{V1, V2, V3}
 use Rattle.waff_assign.specs.Order.{IsOrdered, Relation, affinity_of}
@@ -16,7 +17,7 @@ use Rattle.waff_plan.specs.Timing.{no_timing}
 use Rattle.waff_plan.specs.Work.{IsAmongFirst, Work, finish_of, issue_after}
 use Rattle.waff_plan.proofs.ApartLaws.{apart_where_finished, together_where_running, turned}
 use Rattle.waff_plan.proofs.TimingLemmas.{are_timings, length-timings_of}
-use Rattle.waff_check.specs.Faults.{NoneOf, Overlaps, OverlapsIn, StartsEarly, StartsUnissued}
+use Rattle.waff_check.specs.Faults.{NoneOf, Overlaps, OverlapsWhere, StartsEarly, StartsUnissued}
 
 pub turn : (tree : List Node) (a b : ℕ) → Excludes tree a b → Excludes tree b a
 turn tree a b (inl above) = inr above
@@ -28,7 +29,7 @@ AllRun work assigned = (m : ℕ) → IsAmongFirst (length assigned) m → 1 ≤ 
 
 -- no pair overlaps
 abbrev pub NoneOverlap : Version → Relation → Work → (ℕ → ℕ) → Type 0
-NoneOverlap version before work start = (i j : ℕ) → OverlapsIn version before work start i j → ⊥
+NoneOverlap version before work start = (i j : ℕ) → OverlapsWhere (has_clients version) before work start i j → ⊥
 
 module _ (tree : List Node) (assigned : List ℕ) (work : Work) (start : ℕ → ℕ) where
   in_order : ((i j : ℕ) → Overlaps (IsOrdered tree assigned) work start i j → ⊥) → KeepsOrder (IsOrdered tree assigned) work start
@@ -41,10 +42,10 @@ module _ (tree : List Node) (assigned : List ℕ) (work : Work) (start : ℕ →
   pub served_apart : AllRun work assigned → AreApart (IsOrdered tree assigned) work start → KeepsOrder (IsStartedBefore tree assigned start) work start
   served_apart run apart i j before = elim (cases_lt (start j) (finish_of work start i)) [
     | inl early ↦
-        let soon : start i ≤ start j = omega (arith, before.started) in
+        let soon : start i ≤ start j = omega (arith, before.precedes) in
         let together = together_where_running work start i j soon early (omega (arith, run j before.second)) in
         elim (cases_order i j) [
-          | inl same ↦ absurd (let later : start i < start j = before.started in let none : start j < start j = rw same at later in omega (arith, none))
+          | inl same ↦ absurd (let later : start i < start j = before.precedes in let none : start j < start j = rw same at later in omega (arith, none))
           | inr (inl less) ↦ absurd (apart i j (record { ordered = record { from = before.first.from; earlier = less; to = before.second.to; excludes = before.excludes }; together = together }))
           | inr (inr more) ↦ absurd (apart j i (record {
             ordered = record { from = before.second.from; earlier = more; to = before.first.to; excludes = turn tree (affinity_of assigned i) (affinity_of assigned j) before.excludes };

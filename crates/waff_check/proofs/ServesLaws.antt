@@ -48,7 +48,7 @@ module _ (tree : List Node) (assigned : List ℕ) (work : Work) (start : ℕ →
       let one : 1 ≤ work.cost i = run i (first_of tree assigned i j pair) in omega (arith, one, order i j pair)
   rises V2 order i j pair =
       let one : 1 ≤ work.cost i = run i (first_of tree assigned i j pair) in omega (arith, one, order i j pair)
-  rises V3 order i j before = before.started
+  rises V3 order i j before = before.precedes
 
   -- of two messages that exclude each other one is before the other
   one_before : (version : Version) → AreApart (IsOrdered tree assigned) work start → (i j : ℕ) → IsOrdered tree assigned i j
@@ -56,11 +56,11 @@ module _ (tree : List Node) (assigned : List ℕ) (work : Work) (start : ℕ →
   one_before V1 apart i j pair = inl pair
   one_before V2 apart i j pair = inl pair
   one_before V3 apart i j pair = elim (one_starts apart i j pair) [
-    | inl less ↦ inl (record { first = first_of tree assigned i j pair; second = second_of tree assigned i j pair; started = less; excludes = pair.excludes })
+    | inl less ↦ inl (record { first = first_of tree assigned i j pair; second = second_of tree assigned i j pair; precedes = less; excludes = pair.excludes })
     | inr more ↦ inr (record {
       first = second_of tree assigned i j pair;
       second = first_of tree assigned i j pair;
-      started = more;
+      precedes = more;
       excludes = turn tree (affinity_of assigned i) (affinity_of assigned j) pair.excludes;
     })
   ]
@@ -70,7 +70,7 @@ module _ (tree : List Node) (assigned : List ℕ) (work : Work) (start : ℕ →
   a_pair V1 i j pair = inl pair
   a_pair V2 i j pair = inl pair
   a_pair V3 i j before = elim (cases_order i j) [
-    | inl same ↦ absurd (let later : start i < start j = before.started in let none : start j < start j = rw same at later in omega (arith, none))
+    | inl same ↦ absurd (let later : start i < start j = before.precedes in let none : start j < start j = rw same at later in omega (arith, none))
     | inr (inl less) ↦ inl (record { from = before.first.from; earlier = less; to = before.second.to; excludes = before.excludes })
     | inr (inr more) ↦ inr (record {
       from = before.second.from;

@@ -1,10 +1,9 @@
--- Whether a plan is as short as any can be, by the version of its trace.
+-- Whether a plan is as short as any can be.
 use Rattle.std.proofs.Common.{◌≡◌, ◌↔◌, ◌+◌, Bool, IsTrue, subst}
-use Rattle.waff_model.specs.declared.message.Version.{Version}
 use Rattle.waff_plan.specs.Totals.{totals_of}
 use Rattle.waff_plan.specs.Work.{length_of}
 use Rattle.waff_plan.specs.declared.totals.Totals.{Totals}
-use Rattle.waff_check.specs.Verdicts.{Claim, IsShort, IsShortIn, ReachesLength, chain_in, lower_bound_in, start_in, version_of, work_of_claim, workers_in}
+use Rattle.waff_check.specs.Verdicts.{Claim, ReachesLength, chain_in, lower_bound_in, start_in, work_of_claim, workers_in}
 
 module _ (claim : Claim) (totals : Totals) (is : totals ≡ totals_of (workers_in claim) (work_of_claim claim) (start_in claim) (chain_in claim)) (told : Bool) where
   -- a test of the totals tells whether the chain reaches the length
@@ -14,6 +13,3 @@ module _ (claim : Claim) (totals : Totals) (is : totals ≡ totals_of (workers_i
   -- and one of the length whether it is the least of all
   pub least_tells : (IsTrue told ↔ (totals.length ≡ lower_bound_in claim)) → IsTrue told ↔ (length_of (work_of_claim claim) (start_in claim) ≡ lower_bound_in claim)
   least_tells = subst (λ (t : Totals). IsTrue told ↔ (t.length ≡ lower_bound_in claim)) is
-
-pub short_tells : (claim : Claim) (version : Version) (told : Bool) → version ≡ version_of claim → (IsTrue told ↔ IsShortIn version claim) → IsTrue told ↔ IsShort claim
-short_tells claim version told is = subst (λ (v : Version). IsTrue told ↔ IsShortIn v claim) is

@@ -1,9 +1,7 @@
 -- What may be wrong with a plan that is given: one definition a fault. `before i j` says that
 -- message j starts only when message i has finished, and `link i j` that a chain may go from i to j.
 use Rattle.std.specs.Prelude.{◌≡◌, ◌≢◌, ◌⊎◌, ℕ, ◌+◌, ◌-◌, ◌<◌, ◌≤◌, List, length, slice_index}
-use Rattle.std.specs.Prelude.{Option, Some, None}
-use Rattle.waff_model.specs.declared.message.Version.{Version}
-use Rattle.waff_model.specs.declared.message.Version.TheVariants.{V1, V2, V3}
+use Rattle.std.specs.Prelude.{Bool, false, true, Option, Some, None}
 use Rattle.waff_assign.specs.Order.{Relation}
 use Rattle.waff_plan.specs.Work.{Work, IsNumber, finish_of}
 pub use Rattle.waff_plan.specs.Apart.{RunTogether}
@@ -26,12 +24,11 @@ pub record Overlaps (before : Relation) (work : Work) (start : ℕ → ℕ) (i j
   pub ordered : before i j
   pub early : start j < finish_of work start i
 
--- a pair that overlaps: in the first two versions the second message starts too early, in the third
--- both run at a common tick
-abbrev pub OverlapsIn : Version → Relation → Work → (ℕ → ℕ) → Relation
-OverlapsIn V1 before work start = Overlaps before work start
-OverlapsIn V2 before work start = Overlaps before work start
-OverlapsIn V3 before work start = Collides before work start
+-- a pair that overlaps: the second message starts too early, or where messages have clients both run
+-- at a common tick
+abbrev pub OverlapsWhere : Bool → Relation → Work → (ℕ → ℕ) → Relation
+OverlapsWhere false before work start = Overlaps before work start
+OverlapsWhere true before work start = Collides before work start
 
 -- the least first message of such a pair, and the least second message with it
 pub record IsFirstPair (Pair : Relation) (first second : ℕ) : Type 0 where

@@ -1,7 +1,7 @@
 -- The verdicts on plans that tell what they are.
-use Rattle.std.specs.Prelude.{◌≡◌, ℕ, ◌+◌, ◌⊎◌, List, length, Option, Some, None}
+use Rattle.std.specs.Prelude.{◌≡◌, ℕ, ◌+◌, ◌⊎◌, Bool, false, true, List, length, Option, Some, None}
+use Rattle.waff_model.specs.Versions.{has_clients}
 use Rattle.waff_model.specs.declared.message.Version.{Version}
-use Rattle.waff_model.specs.declared.message.Version.TheVariants.{V1, V2, V3}
 use Rattle.waff_assign.specs.Instance.{Instance}
 use Rattle.waff_plan.specs.Bound.{IsWithinBound}
 use Rattle.waff_plan.specs.Chain.{IsChain, chain_cost, chain_release}
@@ -21,11 +21,13 @@ claim_told instance workers start worker chain =
     claim_of instance (plan_told instance.trace.version instance.tree instance.assigned
     (work_of_instance instance) workers start worker chain)
 
--- a plan is found as short as it can be: shortest, or in the third version tight
+-- a plan is found as short as it can be: shortest, or where messages have clients tight
+abbrev pub IsFoundShortWhere : Bool → Claim → Type 0
+IsFoundShortWhere false claim = IsVerdict claim verdict.Shortest
+IsFoundShortWhere true claim = IsVerdict claim verdict.Shortest ⊎ IsVerdict claim verdict.Tight
+
 abbrev pub IsFoundShort : Version → Claim → Type 0
-IsFoundShort V1 claim = IsVerdict claim verdict.Shortest
-IsFoundShort V2 claim = IsVerdict claim verdict.Shortest
-IsFoundShort V3 claim = IsVerdict claim verdict.Shortest ⊎ IsVerdict claim verdict.Tight
+IsFoundShort version claim = IsFoundShortWhere (has_clients version) claim
 
 -- a plan without workers that obeys the order of its version, with a chain whose release and cost are
 -- its length, is found as short as it can be

@@ -1,7 +1,6 @@
 -- What a verdict without a fault implies.
-use Rattle.std.specs.Prelude.{◌≡◌, ◌↔◌, ℕ, ◌<◌, ◌≤◌, Option, Some}
-use Rattle.waff_model.specs.declared.message.Version.{Version}
-use Rattle.waff_model.specs.declared.message.Version.TheVariants.{V1, V2, V3}
+use Rattle.std.specs.Prelude.{◌≡◌, ◌↔◌, ℕ, ◌<◌, ◌≤◌, Bool, false, true, Option, Some}
+use Rattle.waff_model.specs.Versions.{has_clients}
 use Rattle.waff_plan.specs.Apart.{AreApart}
 use Rattle.waff_plan.specs.Bound.{IsWithinBound, IsWithinTwice, IsWithinRatio}
 use Rattle.waff_plan.specs.Chain.{IsChain}
@@ -32,17 +31,16 @@ pub record AreOneAtATime (work : Work) (start : ℕ → ℕ)
   pub apart : (i j w : ℕ) → IsNumber work i → IsNumber work j
       → i < j → worker i ≡ Some w → worker j ≡ Some w → RunTogether work start i j → ⊥
 
--- the plans none of which is shorter than a shortest one: in the first two versions those that obey the
--- order of the trace, in the third those that obey in whatever order, for as many workers
-abbrev pub IsRivalIn : Version → Claim → (ℕ → ℕ) → Type 0
-IsRivalIn V1 claim other = Obeys (pairs_of_claim claim) (work_of_claim claim) other
-IsRivalIn V2 claim other = Obeys (pairs_of_claim claim) (work_of_claim claim) other
-IsRivalIn V3 claim other =
+-- the plans none of which is shorter than a shortest one: those that obey the order of the trace, or
+-- where messages have clients those that obey in whatever order, for as many workers
+abbrev pub IsRivalWhere : Bool → Claim → (ℕ → ℕ) → Type 0
+IsRivalWhere false claim other = Obeys (pairs_of_claim claim) (work_of_claim claim) other
+IsRivalWhere true claim other =
     ObeysInSomeOrder claim.instance.tree claim.instance.assigned (work_of_claim claim)
     (workers_in claim) other
 
 abbrev pub IsRival : Claim → (ℕ → ℕ) → Type 0
-IsRival claim other = IsRivalIn (version_of claim) claim other
+IsRival claim other = IsRivalWhere (has_clients (version_of claim)) claim other
 
 -- the plans that serve as this one does
 abbrev pub ServesAlike : Claim → (ℕ → ℕ) → Type 0

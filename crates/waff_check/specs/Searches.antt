@@ -1,8 +1,7 @@
 -- The search for the first overlap, place by place, and for a link that is none.
-use Rattle.std.specs.Prelude.{ℕ, ◌+◌, ◌<◌, ◌≤◌, Option, Some, None}
+use Rattle.std.specs.Prelude.{ℕ, ◌+◌, ◌<◌, ◌≤◌, Bool, false, true, Option, Some, None}
 use Rattle.waff_model.specs.declared.limits.TheConstants.{MAX_MESSAGES}
-use Rattle.waff_model.specs.declared.message.Version.{Version}
-use Rattle.waff_model.specs.declared.message.Version.TheVariants.{V1, V2, V3}
+use Rattle.waff_model.specs.Versions.{has_clients}
 use Rattle.waff_assign.specs.Case.{instance_of, pairs_of}
 use Rattle.waff_assign.specs.Order.{Relation}
 use Rattle.waff_plan.specs.Obeys.{IsLinked}
@@ -10,22 +9,21 @@ use Rattle.waff_plan.specs.Instances.{started_first}
 use Rattle.waff_plan.specs.Planned.{planned_starts, planned_work}
 use Rattle.waff_plan.specs.Work.{Work, finish_of}
 use Rattle.waff_plan.specs.declared.planned.Planned.{Planned}
-use Rattle.waff_check.specs.Faults.{OverlapsIn, RunTogether}
+use Rattle.waff_check.specs.Faults.{OverlapsWhere, RunTogether}
 
--- two messages are at odds, if they exclude each other: in the first two versions the second starts
--- before the first has finished, in the third both run at a common tick
-abbrev pub AreAtOddsIn : Version → Work → (ℕ → ℕ) → Relation
-AreAtOddsIn V1 work start i j = start j < finish_of work start i
-AreAtOddsIn V2 work start i j = start j < finish_of work start i
-AreAtOddsIn V3 work start i j = RunTogether work start i j
+-- two messages are at odds, if they exclude each other: the second starts before the first has
+-- finished, or where messages have clients both run at a common tick
+abbrev pub AreAtOddsWhere : Bool → Work → (ℕ → ℕ) → Relation
+AreAtOddsWhere false work start i j = start j < finish_of work start i
+AreAtOddsWhere true work start i j = RunTogether work start i j
 
--- the version of the trace, and the pairs that overlap
-abbrev pub version_in : Planned → Version
-version_in planned = planned.case.trace.now.version
+-- whether the messages have clients, and the pairs that overlap
+abbrev pub planned_clients : Planned → Bool
+planned_clients planned = has_clients planned.case.trace.now.version
 
 abbrev pub planned_overlaps : Planned → Relation
 planned_overlaps planned =
-    OverlapsIn (version_in planned) (pairs_of planned.case) (planned_work planned)
+    OverlapsWhere (planned_clients planned) (pairs_of planned.case) (planned_work planned)
     (planned_starts planned)
 
 -- none of the first messages, of which there are `count`, overlaps with a later one

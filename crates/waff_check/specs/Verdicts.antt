@@ -1,7 +1,7 @@
 -- The verdict on a plan that is given: the first fault, or else how good the plan is.
-use Rattle.std.specs.Prelude.{◌≡◌, ℕ, ◌+◌, ◌<◌, List, length, map, All, Option, Some}
+use Rattle.std.specs.Prelude.{◌≡◌, ℕ, ◌+◌, ◌<◌, Bool, false, true, List, length, map, All, Option, Some}
+use Rattle.waff_model.specs.Versions.{has_clients}
 use Rattle.waff_model.specs.declared.message.Version.{Version}
-use Rattle.waff_model.specs.declared.message.Version.TheVariants.{V1, V2, V3}
 use Rattle.waff_assign.specs.Instance.{Instance, before_in}
 use Rattle.waff_assign.specs.Order.{Relation, affinity_name}
 use Rattle.waff_plan.specs.Bound.{IsWithinBound}
@@ -14,7 +14,7 @@ use Rattle.waff_plan.specs.Work.{Work, length_of}
 use Rattle.waff_plan_text.specs.Given.{Given, row_at}
 use Rattle.waff_check.specs.Faults.{HasTotals, HasWrongFinish, HasWrongName, HasWrongWorker}
 use Rattle.waff_check.specs.Faults.{IsBroken, IsCrowded, IsFirstPair, IsLeastOf, IsLinkedAt}
-use Rattle.waff_check.specs.Faults.{OverlapsIn, StartsEarly, StartsUnissued}
+use Rattle.waff_check.specs.Faults.{OverlapsWhere, StartsEarly, StartsUnissued}
 use Rattle.waff_check.specs.declared.verdict.Verdict.{Verdict}
 use Rattle.waff_check.specs.declared.verdict.Verdict.TheVariants as verdict
 
@@ -76,7 +76,7 @@ told_finish plan n = (row_at plan.rows n).finish
 -- the faults
 abbrev pub PairOverlaps : Claim → Relation
 PairOverlaps claim =
-    OverlapsIn (version_of claim) (pairs_of_claim claim) (work_of_claim claim) (start_in claim)
+    OverlapsWhere (has_clients (version_of claim)) (pairs_of_claim claim) (work_of_claim claim) (start_in claim)
 
 abbrev pub TickIsCrowded : Claim → ℕ → Type 0
 TickIsCrowded claim = IsCrowded (work_of_claim claim) (start_in claim) (workers_in claim)
@@ -118,16 +118,15 @@ lower_bound_in claim =
     lower_bound_of (workers_in claim) claim.instance.tree claim.instance.assigned
     (work_of_claim claim)
 
--- the length is the least that any plan may have: in the first two versions by the chain, in the third
--- by what every plan needs, in whatever order it serves
-abbrev pub IsShortIn : Version → Claim → Type 0
-IsShortIn V1 claim = ReachesLength claim
-IsShortIn V2 claim = ReachesLength claim
-IsShortIn V3 claim =
+-- the length is the least that any plan may have: by the chain, or where messages have clients by what
+-- every plan needs, in whatever order it serves
+abbrev pub IsShortWhere : Bool → Claim → Type 0
+IsShortWhere false claim = ReachesLength claim
+IsShortWhere true claim =
     length_of (work_of_claim claim) (start_in claim) ≡ lower_bound_in claim
 
 abbrev pub IsShort : Claim → Type 0
-IsShort claim = IsShortIn (version_of claim) claim
+IsShort claim = IsShortWhere (has_clients (version_of claim)) claim
 
 -- with workers, the length is within the bound for as many, by the chain
 abbrev pub KeepsBound : Claim → Type 0

@@ -20,7 +20,7 @@ use crate::worker::wrong_worker;
 use std::alloc::{AllocError, Global};
 use std::thread::Threads;
 use waff_assign::{Assigned, Case};
-use waff_model::{Trace, Tree, Version};
+use waff_model::{Trace, Tree};
 use waff_plan::lower_bound::lower_bound;
 use waff_plan::{Planned, Totals};
 use waff_plan_text::GivenPlan;
@@ -54,7 +54,7 @@ pub fn check<R: Threads + Sync>(
     find(rt, alloc, &case, given)
 }
 
-// The verdict on the plan of the starts that are given.
+/// The verdict on the plan of the starts that are given.
 fn find<'a, R: Threads + Sync>(
     rt: &R,
     alloc: Global,
@@ -74,7 +74,7 @@ fn find<'a, R: Threads + Sync>(
     verdict
 }
 
-// The verdict: each fault is looked for where no earlier one is there.
+/// The verdict: each fault is looked for where no earlier one is there.
 fn judge<R: Threads + Sync>(rt: &R, alloc: Global, claim: &Claim<'_>) -> Result<Verdict, AllocError>
     ensures { IfOk result (IsVerdict (claimed claim.now)) }
 {
@@ -91,7 +91,7 @@ fn judge<R: Threads + Sync>(rt: &R, alloc: Global, claim: &Claim<'_>) -> Result<
     judge_manned(alloc, claim)
 }
 
-// The verdict on a plan whose messages keep their order and have right workers.
+/// The verdict on a plan whose messages keep their order and have right workers.
 fn judge_manned(alloc: Global, claim: &Claim<'_>) -> Result<Verdict, AllocError>
     requires { IsManned (claimed claim.now) }
     ensures { IfOk result (IsVerdict (claimed claim.now)) }
@@ -108,7 +108,7 @@ fn judge_manned(alloc: Global, claim: &Claim<'_>) -> Result<Verdict, AllocError>
     judge_summed(alloc, claim)
 }
 
-// The verdict on a plan whose rows and totals are right.
+/// The verdict on a plan whose rows and totals are right.
 fn judge_summed(alloc: Global, claim: &Claim<'_>) -> Result<Verdict, AllocError>
     requires { IsSummed (claimed claim.now) }
     ensures { IfOk result (IsVerdict (claimed claim.now)) }
@@ -125,7 +125,7 @@ fn judge_summed(alloc: Global, claim: &Claim<'_>) -> Result<Verdict, AllocError>
     praise(alloc, claim)
 }
 
-// How good a plan without a fault is.
+/// How good a plan without a fault is.
 fn praise(alloc: Global, claim: &Claim<'_>) -> Result<Verdict, AllocError>
     requires { IsFaultless (claimed claim.now) }
     ensures { IfOk result (IsVerdict (claimed claim.now)) }
@@ -144,7 +144,7 @@ fn praise(alloc: Global, claim: &Claim<'_>) -> Result<Verdict, AllocError>
     Ok(Verdict::Obeys)
 }
 
-// Whether the release and the cost of the chain are the length.
+/// Whether the release and the cost of the chain are the length.
 fn reaches(totals: &Totals) -> bool
     requires small { totals.now.release + totals.now.cost < 2 ^ 53 }
     ensures { IsTrue result ↔ (totals.now.release + totals.now.cost ≡ totals.now.length) }
@@ -152,7 +152,7 @@ fn reaches(totals: &Totals) -> bool
     totals.release + totals.cost == totals.length
 }
 
-// Whether the length is that below which no plan obeys, in whatever order.
+/// Whether the length is that below which no plan obeys, in whatever order.
 fn is_least(alloc: Global, claim: &Claim<'_>, length: u64) -> Result<bool, AllocError>
     ensures { IfOk result (λ least. IsTrue least ↔ (length ≡ lower_bound_in (claimed claim.now))) }
 {
@@ -160,8 +160,8 @@ fn is_least(alloc: Global, claim: &Claim<'_>, length: u64) -> Result<bool, Alloc
     Ok(length == bound)
 }
 
-// Whether the length is the least that any plan may have: in the first two versions that is the
-// release and the cost of the chain.
+/// Whether the length is the least that any plan may have: where messages have no clients that is the
+/// release and the cost of the chain.
 fn is_short(alloc: Global, claim: &Claim<'_>, totals: &Totals) -> Result<bool, AllocError>
     requires totals { totals.now ≡ totals_of (workers_in (claimed claim.now))
         (work_of_claim (claimed claim.now)) (start_in (claimed claim.now))
@@ -169,9 +169,9 @@ fn is_short(alloc: Global, claim: &Claim<'_>, totals: &Totals) -> Result<bool, A
     requires small { totals.now.release + totals.now.cost < 2 ^ 53 }
     ensures { IfOk result (λ short. IsTrue short ↔ IsShort (claimed claim.now)) }
 {
-    match claim.planned.case.trace.version() {
-        Version::V1 => Ok(reaches(totals)),
-        Version::V2 => Ok(reaches(totals)),
-        Version::V3 => is_least(alloc, claim, totals.length),
+    if claim.planned.case.trace.version().has_clients() {
+        is_least(alloc, claim, totals.length)
+    } else {
+        Ok(reaches(totals))
     }
 }

@@ -11,7 +11,7 @@ use crate::ticks::Ticks;
 use std::alloc::{AllocError, Global};
 use waff_plan::Plan;
 
-// Whether a tick is before another, which need not be there.
+/// Whether a tick is before another, which need not be there.
 fn is_earlier(tick: u64, other: Option<u64>) -> bool
     ensures { result ≡ crowds.is_earlier tick other }
 {
@@ -21,7 +21,7 @@ fn is_earlier(tick: u64, other: Option<u64>) -> bool
     }
 }
 
-// The first tick so far at which more than `k` messages run, with one more tick.
+/// The first tick so far at which more than `k` messages run, with one more tick.
 fn with_tick(ticks: &Ticks, k: u32, first: Option<u64>, tick: u64) -> Option<u64>
     ensures { (work : Work) (start : ℕ → ℕ)
         → AreTicks work start ticks.now.starts.items ticks.now.finishes.items
@@ -34,7 +34,7 @@ fn with_tick(ticks: &Ticks, k: u32, first: Option<u64>, tick: u64) -> Option<u64
     }
 }
 
-// The first tick at which more than `k` messages run: it is the start of a message.
+/// The first tick at which more than `k` messages run: it is the start of a message.
 fn crowded_for(alloc: Global, plan: &Plan, k: u32) -> Result<Option<u64>, AllocError>
     ensures { IfOk result (λ found. MatchOption found
         (NoneOf (IsCrowded (work_in plan.now) (starts_in plan.now) (Some k)))

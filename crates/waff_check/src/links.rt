@@ -10,10 +10,9 @@ ghost use Rattle.waff_check.specs.Faults.{AreLinked, IsBroken, IsLeastOf};
 ghost use Rattle.waff_check.specs.Searches.{planned_before, planned_links};
 
 use waff_assign::is_ordered;
-use waff_model::Version;
 use waff_plan::{Plan, Planned};
 
-// Whether message `i` starts before message `j`, and they exclude each other.
+/// Whether message `i` starts before message `j`, and they exclude each other.
 fn starts_first(planned: &Planned<'_>, i: u32, j: u32) -> bool
     requires first { IsNumber (planned_work planned.now) i }
     requires second { IsNumber (planned_work planned.now) j }
@@ -24,22 +23,22 @@ fn starts_first(planned: &Planned<'_>, i: u32, j: u32) -> bool
     planned.plan.start(i) < planned.plan.start(j) && tree.excludes(assigned.of(i), assigned.of(j))
 }
 
-// Whether the plan serves message `i` before message `j`: in the first two versions they are an
-// ordered pair, in the third they exclude each other and `i` starts first.
+/// Whether the plan serves message `i` before message `j`: they are an ordered pair, or where messages
+/// have clients they exclude each other and `i` starts first.
 fn is_before(planned: &Planned<'_>, i: u32, j: u32) -> bool
     requires first { IsNumber (planned_work planned.now) i }
     requires second { IsNumber (planned_work planned.now) j }
     ensures { IsTrue result ↔ planned_before planned.now i j }
 {
     let case = &planned.case;
-    match case.trace.version() {
-        Version::V1 => is_ordered(case.tree, case.assigned, i, j),
-        Version::V2 => is_ordered(case.tree, case.assigned, i, j),
-        Version::V3 => starts_first(planned, i, j),
+    if case.trace.version().has_clients() {
+        starts_first(planned, i, j)
+    } else {
+        is_ordered(case.tree, case.assigned, i, j)
     }
 }
 
-// Whether message `i` is the one that message `j` follows.
+/// Whether message `i` is the one that message `j` follows.
 fn is_followed(plan: &Plan, i: u32, j: u32) -> bool
     requires first { 1 ≤ i }
     requires second { IsNumber (work_in plan.now) j }
@@ -48,7 +47,7 @@ fn is_followed(plan: &Plan, i: u32, j: u32) -> bool
     plan.follows(j) == i
 }
 
-// Whether a link goes from message `i` to message `j`: `i` is served before `j`, or `j` follows it.
+/// Whether a link goes from message `i` to message `j`: `i` is served before `j`, or `j` follows it.
 fn is_linked(planned: &Planned<'_>, i: u32, j: u32) -> bool
     requires first { IsNumber (planned_work planned.now) i }
     requires second { IsNumber (planned_work planned.now) j }

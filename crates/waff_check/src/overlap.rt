@@ -6,8 +6,8 @@ ghost use Rattle.waff_model.specs.declared.limits.TheConstants.{MAX_MESSAGES};
 ghost use Rattle.waff_plan.specs.Planned.{planned_starts, planned_work};
 ghost use Rattle.waff_plan.specs.Timetable.{starts_in, work_in};
 ghost use Rattle.waff_plan.specs.Work.{IsNumber, finish_of};
-ghost use Rattle.waff_check.specs.Searches.{AreAtOddsIn, HasOverlap, IsFirstPlace, IsSearchable};
-ghost use Rattle.waff_check.specs.Searches.{NoneAmong, planned_overlaps, version_in};
+ghost use Rattle.waff_check.specs.Searches.{AreAtOddsWhere, HasOverlap, IsFirstPlace, IsSearchable};
+ghost use Rattle.waff_check.specs.Searches.{NoneAmong, planned_clients, planned_overlaps};
 ghost use Rattle.waff_check.specs.Faults.{IsFirstPair, IsLeastOf, NoneOf};
 
 use crate::worker::run_together;
@@ -15,12 +15,11 @@ use rayon::prelude::*;
 use std::alloc::{AllocError, Global};
 use std::thread::Threads;
 use waff_assign::is_ordered;
-use waff_model::Version;
 use waff_plan::apart::keeps_apart;
 use waff_plan::ordered::keeps_order;
 use waff_plan::{Plan, Planned};
 
-// Whether message `j` starts before message `i` has finished.
+/// Whether message `j` starts before message `i` has finished.
 fn is_too_soon(plan: &Plan, i: u32, j: u32) -> bool
     requires first { IsNumber (work_in plan.now) i }
     requires second { IsNumber (work_in plan.now) j }
@@ -30,23 +29,23 @@ fn is_too_soon(plan: &Plan, i: u32, j: u32) -> bool
     plan.start(j) < plan.finish(i)
 }
 
-// Whether two messages are at odds, if they exclude each other: in the first two versions `j` starts
-// before `i` has finished, in the third both run at a common tick.
+/// Whether two messages are at odds, if they exclude each other: `j` starts before `i` has finished, or
+/// where messages have clients both run at a common tick.
 fn are_at_odds(planned: &Planned<'_>, i: u32, j: u32) -> bool
     requires first { IsNumber (planned_work planned.now) i }
     requires second { IsNumber (planned_work planned.now) j }
-    ensures { IsTrue result ↔ AreAtOddsIn (version_in planned.now)
+    ensures { IsTrue result ↔ AreAtOddsWhere (planned_clients planned.now)
         (planned_work planned.now) (planned_starts planned.now) i j }
 {
     let plan = planned.plan;
-    match planned.case.trace.version() {
-        Version::V1 => is_too_soon(plan, i, j),
-        Version::V2 => is_too_soon(plan, i, j),
-        Version::V3 => run_together(plan, i, j),
+    if planned.case.trace.version().has_clients() {
+        run_together(plan, i, j)
+    } else {
+        is_too_soon(plan, i, j)
     }
 }
 
-// Whether messages `i` and `j` are a pair that overlaps.
+/// Whether messages `i` and `j` are a pair that overlaps.
 fn overlaps(planned: &Planned<'_>, i: u32, j: u32) -> bool
     requires first { IsNumber (planned_work planned.now) i }
     requires second { IsNumber (planned_work planned.now) j }
@@ -58,7 +57,7 @@ fn overlaps(planned: &Planned<'_>, i: u32, j: u32) -> bool
     is_ordered(planned.case.tree, planned.case.assigned, i, j)
 }
 
-// The least message with which message `i` overlaps.
+/// The least message with which message `i` overlaps.
 fn second_of(planned: &Planned<'_>, i: u32) -> Option<u32>
     requires number { IsNumber (planned_work planned.now) i }
     ensures { MatchOption result
@@ -74,21 +73,21 @@ fn second_of(planned: &Planned<'_>, i: u32) -> Option<u32>
     None
 }
 
-// Whether none of the first `count` messages overlaps with a later one.
+/// Whether none of the first `count` messages overlaps with a later one.
 fn is_kept(alloc: Global, planned: &Planned<'_>, count: u32) -> Result<bool, AllocError>
     ensures { IfOk result (λ kept. IsTrue kept ↔ NoneAmong planned.now count) }
 {
     let case = &planned.case;
     let (tree, assigned, plan) = (case.tree, case.assigned, planned.plan);
-    match case.trace.version() {
-        Version::V1 => keeps_order(alloc, tree, assigned, plan, count),
-        Version::V2 => keeps_order(alloc, tree, assigned, plan, count),
-        Version::V3 => keeps_apart(alloc, tree, assigned, plan, count),
+    if case.trace.version().has_clients() {
+        keeps_apart(alloc, tree, assigned, plan, count)
+    } else {
+        keeps_order(alloc, tree, assigned, plan, count)
     }
 }
 
-// So many of the first messages overlap with no later one: all, or those before the first that does,
-// as the number is halved in on. No clause says that there are no more: that decides the time alone.
+/// So many of the first messages overlap with no later one: all, or those before the first that does,
+/// as the number is halved in on. No clause says that there are no more: that decides the time alone.
 fn kept_ones(alloc: Global, planned: &Planned<'_>) -> Result<u32, AllocError>
     ensures many { IfOk result (λ kept. kept ≤ (planned_work planned.now).count) }
     ensures kept { IfOk result (NoneAmong planned.now) }
@@ -110,8 +109,8 @@ fn kept_ones(alloc: Global, planned: &Planned<'_>) -> Result<u32, AllocError>
     Ok(kept)
 }
 
-// The first place, from the one that is `from`, of a message that overlaps with another one. A
-// thread looks at one message after another.
+/// The first place, from the one that is `from`, of a message that overlaps with another one. A
+/// thread looks at one message after another.
 fn first_place<R: Threads + Sync>(rt: &R, planned: &Planned<'_>, from: u32) -> Option<usize>
     requires many { from ≤ (planned_work planned.now).count }
     ensures few { (planned_work planned.now).count ≤ MAX_MESSAGES }
@@ -129,8 +128,8 @@ fn first_place<R: Threads + Sync>(rt: &R, planned: &Planned<'_>, from: u32) -> O
         )
 }
 
-// The first pair that overlaps, by a walk over the pairs of which the first message is none of the
-// `kept` first.
+/// The first pair that overlaps, by a walk over the pairs of which the first message is none of the
+/// `kept` first.
 fn first_pair<R: Threads + Sync>(rt: &R, planned: &Planned<'_>, kept: u32) -> Option<(u32, u32)>
     requires many { kept ≤ (planned_work planned.now).count }
     requires kept { NoneAmong planned.now kept }

@@ -13,7 +13,7 @@ use crate::claim::Claim;
 use std::alloc::{AllocError, Global};
 use waff_plan::Plan;
 
-// Whether the row of each of the first messages tells one of `k` workers.
+/// Whether the row of each of the first messages tells one of `k` workers.
 fn are_seated(claim: &Claim<'_>, k: u32, many: u32) -> bool
     requires many { many ≤ (planned_work claim.now.planned).count }
     ensures { IsTrue result
@@ -28,7 +28,7 @@ fn are_seated(claim: &Claim<'_>, k: u32, many: u32) -> bool
     true
 }
 
-// Whether a worker is there, and is one of `k`.
+/// Whether a worker is there, and is one of `k`.
 fn is_one_of(k: u32, worker: Option<u64>) -> bool
     ensures { IsTrue result ↔ IsOneOf k worker }
 {
@@ -46,7 +46,7 @@ struct Shift {
     number: u32,
 }
 
-// The shift of message `n`: none where its row tells no worker, or it runs at no tick.
+/// The shift of message `n`: none where its row tells no worker, or it runs at no tick.
 fn find_shift(claim: &Claim<'_>, n: u32) -> Option<Shift>
     requires number { IsNumber (planned_work claim.now.planned) n }
     ensures { (many : ℕ) → n ≤ many
@@ -64,7 +64,7 @@ fn find_shift(claim: &Claim<'_>, n: u32) -> Option<Shift>
     }
 }
 
-// The shifts of the first messages, by worker and then by start.
+/// The shifts of the first messages, by worker and then by start.
 fn shifts(alloc: Global, claim: &Claim<'_>, many: u32) -> Result<Vec<Shift>, AllocError>
     requires many { many ≤ (planned_work claim.now.planned).count }
     ensures { IfOk result (λ shifts. AreShifts (first_of (planned_work claim.now.planned) many)
@@ -80,7 +80,7 @@ fn shifts(alloc: Global, claim: &Claim<'_>, many: u32) -> Result<Vec<Shift>, All
     Ok(shifts)
 }
 
-// Whether one shift has ended when the next begins, where both are of one worker.
+/// Whether one shift has ended when the next begins, where both are of one worker.
 fn follows(plan: &Plan, one: Shift, next: Shift) -> bool
     requires number { IsNumber (work_in plan.now) one.number }
     ensures { IsTrue result
@@ -89,7 +89,7 @@ fn follows(plan: &Plan, one: Shift, next: Shift) -> bool
     one.worker != next.worker || plan.finish(one.number) <= next.start
 }
 
-// Whether each shift follows the one before it.
+/// Whether each shift follows the one before it.
 fn are_apart(plan: &Plan, shifts: &[Shift]) -> bool
     requires { All (λ shift. IsNumber (work_in plan.now) shift.number) shifts.now }
     ensures { IsTrue result

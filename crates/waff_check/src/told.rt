@@ -59,7 +59,7 @@ pub(crate) fn early_start(plan: &Plan) -> Option<u32>
     None
 }
 
-// Whether message `n` follows one, and starts sooner than its think time after the finish of that one.
+/// Whether message `n` follows one, and starts sooner than its think time after the finish of that one.
 fn starts_unissued(plan: &Plan, n: u32) -> bool
     requires number { IsNumber (work_in plan.now) n }
     ensures { IsTrue result ↔ StartsUnissued (work_in plan.now) (starts_in plan.now) n }

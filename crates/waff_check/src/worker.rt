@@ -24,7 +24,7 @@ pub(crate) fn run_together(plan: &Plan, i: u32, j: u32) -> bool
     plan.start(i).max(plan.start(j)) < plan.finish(i).min(plan.finish(j))
 }
 
-// Whether message `i` has this worker and runs at a tick at which message `n` runs.
+/// Whether message `i` has this worker and runs at a tick at which message `n` runs.
 fn is_taken_by(claim: &Claim<'_>, worker: u64, n: u32, i: u32) -> bool
     requires number { IsNumber (planned_work claim.now.planned) n }
     requires from { 1 ≤ i }
@@ -35,8 +35,8 @@ fn is_taken_by(claim: &Claim<'_>, worker: u64, n: u32, i: u32) -> bool
     claim.given.row(i).worker == Some(worker) && run_together(claim.planned.plan, i, n)
 }
 
-// Whether a message of lower number than `n` has this worker and runs at a tick at which message
-// `n` runs.
+/// Whether a message of lower number than `n` has this worker and runs at a tick at which message
+/// `n` runs.
 fn is_taken(claim: &Claim<'_>, worker: u64, n: u32) -> bool
     requires number { IsNumber (planned_work claim.now.planned) n }
     ensures { IsTrue result ↔ ((i : ℕ) × IsTaken (planned_work claim.now.planned)
@@ -50,7 +50,7 @@ fn is_taken(claim: &Claim<'_>, worker: u64, n: u32) -> bool
     false
 }
 
-// Whether the worker that the row of message `n` tells is wrong.
+/// Whether the worker that the row of message `n` tells is wrong.
 fn is_misplaced(claim: &Claim<'_>, workers: Option<u32>, n: u32) -> bool
     requires number { IsNumber (planned_work claim.now.planned) n }
     ensures { IsTrue result ↔ IsMisplaced (planned_work claim.now.planned)
@@ -67,8 +67,8 @@ fn is_misplaced(claim: &Claim<'_>, workers: Option<u32>, n: u32) -> bool
     }
 }
 
-// The first message whose row tells a wrong worker, where those of the first messages are right.
-// Each message is looked at with all before it.
+/// The first message whose row tells a wrong worker, where those of the first messages are right.
+/// Each message is looked at with all before it.
 fn first_misplaced(claim: &Claim<'_>, workers: Option<u32>, right: u32) -> Option<u32>
     requires many { right ≤ (planned_work claim.now.planned).count }
     requires right { NoneOf (HasWrongWorker (first_of (planned_work claim.now.planned) right)
@@ -88,8 +88,8 @@ fn first_misplaced(claim: &Claim<'_>, workers: Option<u32>, right: u32) -> Optio
     None
 }
 
-// So many of the first messages tell right ones of `k` workers: all, or those before the first that
-// does not. The number is halved in on.
+/// So many of the first messages tell right ones of `k` workers: all, or those before the first that
+/// does not. The number is halved in on.
 fn right_ones(alloc: Global, claim: &Claim<'_>, k: u32) -> Result<u32, AllocError>
     ensures many { IfOk result (λ right. right ≤ (planned_work claim.now.planned).count) }
     ensures right { IfOk result (λ right. NoneOf

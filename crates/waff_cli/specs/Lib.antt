@@ -1,2 +1,4 @@
 pub mod Limits
+pub mod Refusals
 pub mod Requests
+pub mod Words

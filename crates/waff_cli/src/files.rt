@@ -7,13 +7,13 @@ use std::fmt::Display;
 use std::io::Read;
 use std::rt::{Files, Runtime};
 use std::{fs, io};
-use waff_io::{ReadFault, read_whole};
+use waff_io::{ErrorStream, ReadFault, read_whole};
 
 /// The most bytes of a file, and of standard input.
 const MAX_INPUT: u64 = 268_435_456;
 
-/// The name of standard input.
-const INPUT: &str = "-";
+/// The name of standard input among the names of files.
+pub(crate) const INPUT: &str = "-";
 
 /// A file that was not read.
 #[derive(Clone, Copy)]
@@ -57,13 +57,19 @@ pub enum Told {
 
 impl Unread<'_> {
     /// The refusal that this comes to. A reason that is to be told is printed here.
-    pub fn refusal<R: Eprint + Files>(self, rt: &R, told: Told) -> Refusal {
+    pub fn refusal<R: Eprint + Files, E: ErrorStream>(
+        self,
+        rt: &R,
+        alloc: Global,
+        told: Told,
+        err: &mut E,
+    ) -> Refusal {
         let fault = Refusal::Read(self.place);
         match (self.fault, told) {
             (Fault::Memory, _) => return Refusal::Memory,
             (_, Told::Fault) => return fault,
             (_, Told::Both) => {
-                let _ = fault.report(rt);
+                let _ = fault.report(alloc, err);
             }
             (_, Told::Reason) => {}
         }

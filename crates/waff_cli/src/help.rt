@@ -47,8 +47,9 @@ HIER is a hierarchy, a TOML file; TRACE a trace, a CSV file; PLAN what waff plan
 prints. One of them may be -, standard input.
 
 A trace with clients has the header message,cost,release,client,think,ops. A
-client issues a message at its release, but no sooner than a think time after
-its last one has finished. What is issued first is served first.
+client issues a message at its release, but no sooner than the think time after
+its last one has finished; its first one, as each of no client (-), no sooner
+than at the think time. What is issued first is served first.
 
 Without words waff reads standard input, a hierarchy, a line ---, and a trace,
 and prints the plan of both.";
@@ -56,9 +57,10 @@ and prints the plan of both.";
 /// What the rules are, and when which is better.
 pub const RULE: &str = "\
 Which ready messages start first: by arrival those that arrived first,
-by longest those on which the longest chain of work hangs. Without
---rule it is arrival. Longest usually gives the shorter plan; where
-requests arrive over time it may raise the greatest latencies";
+by longest those on which the longest chain of work hangs, with clients
+that of their own client. Without --rule it is arrival. Longest usually
+gives the shorter plan; where requests arrive over time it may raise the
+greatest latencies";
 
 /// What the long help of `waff assign` ends with.
 const ASSIGN: &str = with_statuses!(
@@ -90,13 +92,17 @@ Then a line each:
   chain     messages of which each excludes the one before, or is the next of
             its client
   release   of a trace with releases: that of the first of the chain; of one
-            with clients also the think times between messages of the chain
+            with clients the ticks in which nothing of the chain runs: the
+            release of its first, or the think time if that is greater and no
+            message of the client is before it, and the think times between
+            messages of the chain
   cost      the cost of the chain
   bound     two numbers, the left never above the right: without --workers the
             length, and release + cost; with --workers K * length, and
             total + K * release + (K - 1) * cost
-Without --workers no plan is shorter; where the trace has clients, none that
-serves the messages in the same order."
+Without --workers no plan in arrival order is shorter: none in which of two
+messages that exclude each other the first one runs first. Where the trace has
+clients, none that serves the messages in the same order."
 );
 
 /// What the long help of `waff check` ends with.
@@ -118,12 +124,15 @@ One line. A fault of the plan:
   client       a message starts before its client has thought after the answer
                to the one before
 No fault:
-  shortest     no plan is shorter
+  shortest     no plan in arrival order is shorter; where the trace has clients,
+               no plan for so many workers, in any order
   tight        no plan is shorter that serves the messages in the same order
-  withinbound  at most twice as long as any plan for so many workers; where the
-               trace has clients, as any that serves in the same order
+  withinbound  at most twice as long as any plan for so many workers in arrival
+               order; where the trace has clients, as any that serves in the
+               same order
   obeys        nothing more is known
-The verdicts client and tight are of traces with clients alone.
+In arrival order, of two messages that exclude each other the first one of the
+trace runs first. Only traces with clients have the verdicts client and tight.
 waff explain says the same in words.",
     "\
 Exit status:
@@ -192,13 +201,15 @@ A line each:
   length    the last finish
   speedup   the total / the length
   busy      the part of the workers' time that is work
-  least     no plan that obeys is shorter than this
+  least     no plan for so many workers is shorter than this
   over      the length / least, rounded up
   waits     the ticks that messages wait in all
   mean      the mean latency, from a release to the finish
   p50, p99  a latency that 50 and 99 of 100 messages do not pass
   latency   the greatest latency
-With clients, waits and latencies count from the issue.",
+Least and over compare with plans in arrival order: of two messages that exclude
+each other the first one of the trace runs first. With clients they compare with
+plans in any order, and waits and latencies count from the issue.",
     "\
 Exit status:
   0  no fault in the plan
@@ -216,13 +227,15 @@ A line for each number of workers (without --workers 1, 2, 3, 4, 6, 8, 12, 16,
   length    the length of the plan in ticks
   speedup   the total cost / the length
   busy      the part of the workers' time that is work
-  least     no such plan is shorter than this
+  least     no plan for so many workers is shorter than this
   over      the length / least, rounded up
   waits     the ticks that messages wait in all
   mean      the mean latency, from a release to the finish
   p50, p99  a latency that 50 and 99 of 100 messages do not pass
   latency   the greatest latency
-With clients, waits and latencies count from the issue."
+Least and over compare with plans in arrival order: of two messages that exclude
+each other the first one of the trace runs first. With clients they compare with
+plans in any order, and waits and latencies count from the issue."
 );
 
 /// What the long help of `waff where` ends with.
@@ -307,5 +320,7 @@ A line for each hierarchy:
   mean        the mean latency, from a release to the finish
   p50, p99    a latency that 50 and 99 of 100 messages do not pass
   latency     the greatest latency
-With clients, waits and latencies count from the issue."
+Least and over compare with plans in arrival order: of two messages that exclude
+each other the first one of the trace runs first. With clients they compare with
+plans in any order, and waits and latencies count from the issue."
 );

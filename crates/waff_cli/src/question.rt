@@ -9,6 +9,7 @@ use crate::words::{Asked, Request, read_words};
 use std::alloc::Global;
 use std::rt::Runtime;
 use std::{env, io};
+use waff_io::ErrorStream;
 
 /// What is asked for, and the bytes of the files of which it is asked, in the order of the words.
 #[derive(Drop)]
@@ -35,13 +36,15 @@ waff: reads a hierarchy, a line ---, and a trace from standard input; waff --hel
 /// What is said where it waits for what somebody types in place of a file.
 const FOR_A_FILE: &str = "waff: reads the file - from standard input, up to its end (Ctrl-D)";
 
-/// Reads the words that the program was started with, and the files that they name.
-pub fn read_question<R: Runtime + AllocGlobal>(
+/// Reads the words that the program was started with, and the files that they name. What is wrong with
+/// them is told on standard error, which `err` is too.
+pub fn read_question<R: Runtime + AllocGlobal, E: ErrorStream>(
     rt: &R,
     terminals: Terminals,
+    err: &mut E,
 ) -> Result<Question, Refusal> {
     let words = words_of(rt)?;
-    let question = question_of(rt, rt.alloc(), words.as_slice(), terminals);
+    let question = question_of(rt, rt.alloc(), words.as_slice(), terminals, err);
     drop(words);
     question
 }
@@ -56,11 +59,12 @@ fn words_of<R: Runtime + AllocGlobal>(rt: &R) -> Result<Vec<String>, Refusal> {
 }
 
 /// What these words ask, of the files that they name.
-fn question_of<R: Runtime>(
+fn question_of<R: Runtime, E: ErrorStream>(
     rt: &R,
     alloc: Global,
     words: &[String],
     terminals: Terminals,
+    err: &mut E,
 ) -> Result<Question, Refusal> {
     let Request {
         asked,
@@ -70,7 +74,7 @@ fn question_of<R: Runtime>(
         Ok(files) => Ok(Question { asked, files }),
         Err(unread) => {
             let is_explained = matches!(asked, Asked::Explain);
-            Err(unread.refusal(rt, told(is_explained, terminals)))
+            Err(unread.refusal(rt, alloc, told(is_explained, terminals), err))
         }
     }
 }

@@ -1,6 +1,12 @@
 //! Why there is nothing to answer, and what is said then.
+ghost use Rattle.std.specs.Prelude.{◌≡◌};
+ghost use Rattle.waff_io.specs.Writing.{Tells, WritesOrFails};
+ghost use Rattle.waff_cli.specs.Refusals.{refusal_status, refusal_text};
+
 use clap::error::ErrorKind;
-use std::alloc::{AllocError, AllocFailed};
+use itoa::Buffer;
+use std::alloc::{AllocError, AllocFailed, Global};
+use waff_io::{ErrorStream, WriteFault, write_pieces};
 
 /// The words were refused.
 pub const REFUSED: u8 = 2;
@@ -48,20 +54,47 @@ impl Refusal {
         Refusal::Told(error.exit_code() as u8)
     }
 
-    /// Says why on standard error, where that is not told yet, and gives the exit status.
-    pub fn report(self, rt: &impl Eprint) -> u8 {
+    /// Says why, where that is not told yet, and gives the exit status. Where the error stream fails,
+    /// the status has to do.
+    pub fn report<E: ErrorStream>(self, alloc: Global, err: &mut E) -> u8
+        ensures told { Tells (E.holds err.old) (E.holds err.new) (E.failed err.new)
+            (refusal_text self) }
+        ensures status { result ≡ refusal_status self }
+    {
+        match self.say(alloc, err) {
+            Ok(()) => {}
+            Err(_) => {}
+        }
+        self.status()
+    }
+
+    /// Says why, where that is not told yet.
+    fn say<E: ErrorStream>(self, alloc: Global, err: &mut E) -> Result<(), WriteFault>
+        ensures { WritesOrFails (E.holds err.old) (E.holds err.new) (E.failed err.new)
+            (refusal_text self) result }
+    {
+        let mut digits = Buffer::new();
         match self {
-            Refusal::Told(status) => return status,
+            Refusal::Told(_) => write_pieces(alloc, err, &[]),
             Refusal::NoWords => {
-                say(rt, "error: a word is missing or is not text");
-                return REFUSED;
+                write_pieces(alloc, err, &["error: a word is missing or is not text\n"])
             }
             Refusal::Read(place) => {
-                let _ = eprintln!(rt; "waff: Read {place}");
+                write_pieces(alloc, err, &["waff: Read ", digits.format(place), "\n"])
             }
-            Refusal::Memory => say(rt, OUT_OF_MEMORY),
+            Refusal::Memory => write_pieces(alloc, err, &["waff: Memory\n"]),
         }
-        FAILED
+    }
+
+    /// The exit status.
+    fn status(self) -> u8
+        ensures { result ≡ refusal_status self }
+    {
+        match self {
+            Refusal::Told(status) => status,
+            Refusal::NoWords => REFUSED,
+            Refusal::Read(_) | Refusal::Memory => FAILED,
+        }
     }
 
     /// The refusal of words for this, which is printed.
@@ -69,12 +102,4 @@ impl Refusal {
         let _ = eprintln!(rt; "error: {why}\n\nFor more information, try '--help'.");
         Refusal::Told(REFUSED)
     }
-}
-
-/// What is said where memory is refused.
-const OUT_OF_MEMORY: &str = "waff: Memory";
-
-/// A line on standard error. Where that fails, the exit status has to do.
-fn say(rt: &impl Eprint, line: &str) {
-    let _ = rt.eprintln(line);
 }

@@ -1,12 +1,18 @@
 //! The words of the command line, read.
-ghost use Rattle.std.specs.Prelude.{◌≡◌, ◌≤◌, All, IfOk, IfSome, length};
+ghost use Rattle.std.specs.Prelude.{◌≡◌, ◌≤◌, All, IfOk, IfSome, Some, length, map};
 ghost use Rattle.waff_plan.specs.Bound.{IsWorkers};
 ghost use Rattle.waff_core.specs.Seats.{IsSeats};
 ghost use Rattle.waff_cli.specs.Limits.{within_limits-prop};
+ghost use Rattle.clap.specs.Words.{found_of};
 ghost use Rattle.waff_cli.specs.Requests as requests;
 ghost use Rattle.waff_cli.specs.Requests.{IsWithinLimits, TakesFiles};
+ghost use Rattle.waff_cli.specs.Words as asks;
+ghost use Rattle.waff_cli.specs.Words.{IsAsked, IsDrawingGiven, IsGroupingGiven, IsLabelGiven};
+ghost use Rattle.waff_cli.specs.Words.{IsNumberGiven, IsPartGiven, IsRuleGiven, IsSweepGiven};
+ghost use Rattle.waff_cli.specs.Words.{IsWorkersGiven};
 
 use crate::commands::{FILE_WORDS, MAX_SWEPT};
+use crate::files::INPUT;
 use crate::parser::parser;
 use crate::refusal::Refusal;
 use clap::ArgMatches;
@@ -34,7 +40,7 @@ pub enum Asked {
     /// No words: the plan of the hierarchy and the trace in one file, standard input.
     PlanOfInput,
     Assign,
-    /// A plan for this number of workers by this rule, or a shortest one where there is no number.
+    /// A plan for this number of workers by this rule, or without a limit where there is no number.
     Plan(Option<u32>, Rule),
     /// The verdict on the plan.
     Check,
@@ -50,8 +56,8 @@ pub enum Asked {
     Sweep(Option<Vec<u32>>, Rule),
     /// Where the time goes, by the names or the clients of messages, or without either by affinity.
     Where(Option<Label>),
-    /// Who waits for whom, in the plan for this number of workers by this rule or in a shortest one,
-    /// by affinity or by the names of messages too.
+    /// Who waits for whom, in the plan for this number of workers by this rule or in that without a
+    /// limit, by affinity or by the names of messages too.
     Waits(Option<u32>, Rule, Grouping),
     /// For which earlier messages each message has to wait.
     Needs,
@@ -134,9 +140,6 @@ fn files_taken(asked: &Asked) -> (usize, usize)
     }
 }
 
-/// The name of standard input among the names of files.
-const INPUT: &str = "-";
-
 /// Refuses files of which more than one is standard input, and says so.
 fn refuse_two_inputs(rt: &impl Eprint, files: &[&str]) -> Result<(), Refusal> {
     if files.iter().filter(|name| **name == INPUT).count() > 1 {
@@ -157,7 +160,8 @@ fn asked_of(
     command: &str,
     matches: &ArgMatches<'_>,
 ) -> Result<Asked, Refusal>
-    ensures { IfOk result IsWithinLimits }
+    ensures limits { IfOk result IsWithinLimits }
+    ensures asked { IfOk result (IsAsked command.now (found_of matches.now)) }
 {
     match command {
         "assign" => Ok(Asked::Assign),
@@ -180,7 +184,8 @@ fn asked_by_rule(
     command: &str,
     matches: &ArgMatches<'_>,
 ) -> Result<Asked, Refusal>
-    ensures { IfOk result IsWithinLimits }
+    ensures limits { IfOk result IsWithinLimits }
+    ensures asked { IfOk result (IsAsked command.now (found_of matches.now)) }
 {
     let rule = rule_of(matches)?;
     match command {
@@ -227,28 +232,56 @@ fn push_names<'a>(
 
 /// The number of workers, where it is given; there are this many at most.
 fn workers(matches: &ArgMatches<'_>, most: u32) -> Result<Option<u32>, Refusal>
+    ensures given { IfOk result (IsWorkersGiven (found_of matches.now)) }
     ensures some { IfOk result (λ number. IfSome number (λ k. 1 ≤ k)) }
     ensures few { IfOk result (λ number. IfSome number (λ k. k ≤ most)) }
 {
-    match matches.get_one::<u32>("workers") {
+    match number_given(matches, "workers") {
         Some(k) if k == 0 || k > most => Err(Refusal::NoWords),
         number => Ok(number),
     }
 }
 
+/// The number of this option, where it is given.
+fn number_given(matches: &ArgMatches<'_>, id: &str) -> Option<u32>
+    ensures { IsNumberGiven 32 (found_of matches.now) id.now result }
+{
+    matches.get_one::<u32>(id)
+}
+
+/// The tick of this option, where it is given.
+fn tick_given(matches: &ArgMatches<'_>, id: &str) -> Option<u64>
+    ensures { IsNumberGiven 64 (found_of matches.now) id.now result }
+{
+    matches.get_one::<u64>(id)
+}
+
 /// The number of planners' workers, which has to be given.
 fn wanted_workers(matches: &ArgMatches<'_>) -> Result<u32, Refusal>
-    ensures { IfOk result IsWorkers }
+    ensures given { IfOk result (λ k. IsWorkersGiven (found_of matches.now) (Some k)) }
+    ensures limits { IfOk result IsWorkers }
 {
     workers(matches, MAX_WORKERS)?.ok_or(Refusal::NoWords)
 }
 
 /// As what the plan is drawn.
-fn drawn_as(matches: &ArgMatches<'_>) -> Result<Drawing, Refusal> {
+fn drawn_as(matches: &ArgMatches<'_>) -> Result<Drawing, Refusal>
+    ensures { IfOk result (IsDrawingGiven (found_of matches.now)) }
+{
     match matches.get_str("as") {
-        Some("svg") => Ok(Drawing::Svg),
-        Some("events") => Ok(Drawing::Events),
-        _ => Err(Refusal::NoWords),
+        Some(word) => drawing_named(word).ok_or(Refusal::NoWords),
+        None => Err(Refusal::NoWords),
+    }
+}
+
+/// The picture that this word names.
+fn drawing_named(word: &str) -> Option<Drawing>
+    ensures { result ≡ asks.drawing_named word.now }
+{
+    match word {
+        "svg" => Some(Drawing::Svg),
+        "events" => Some(Drawing::Events),
+        _ => None,
     }
 }
 
@@ -258,7 +291,9 @@ fn swept_workers(
     alloc: Global,
     matches: &ArgMatches<'_>,
 ) -> Result<Option<Vec<u32>>, Refusal>
-    ensures { IfOk result (λ given. IfSome given (λ numbers. All IsWorkers numbers.items)) }
+    ensures given { IfOk result (IsSweepGiven (found_of matches.now)) }
+    ensures limits { IfOk result (λ given. IfSome given (λ numbers.
+        All IsWorkers numbers.items)) }
 {
     match matches.get_strs("workers") {
         Some(words) if words.len() > MAX_SWEPT => {
@@ -271,7 +306,9 @@ fn swept_workers(
 
 /// The numbers of planners' workers that these words spell.
 fn numbers_of_workers(alloc: Global, words: &[&str]) -> Result<Vec<u32>, Refusal>
-    ensures { IfOk result (λ numbers. All IsWorkers numbers.items) }
+    ensures read { IfOk result (λ numbers. numbers.items
+        ≡ map asks.number_of (map (λ word. word.now) words.now)) }
+    ensures limits { IfOk result (λ numbers. All IsWorkers numbers.items) }
 {
     let mut numbers = Vec::new(alloc);
     for word in words {
@@ -283,7 +320,8 @@ fn numbers_of_workers(alloc: Global, words: &[&str]) -> Result<Vec<u32>, Refusal
 
 /// The number of planners' workers that this word spells.
 fn number_of_workers(word: &str) -> Result<u32, Refusal>
-    ensures { IfOk result IsWorkers }
+    ensures read { IfOk result (λ k. k ≡ asks.number_of word.now) }
+    ensures limits { IfOk result IsWorkers }
 {
     match word.parse::<u32>() {
         Ok(k) if k >= 1 && k <= MAX_WORKERS => Ok(k),
@@ -292,17 +330,38 @@ fn number_of_workers(word: &str) -> Result<u32, Refusal>
 }
 
 /// The rule by which messages start.
-fn rule_of(matches: &ArgMatches<'_>) -> Result<Rule, Refusal> {
+fn rule_of(matches: &ArgMatches<'_>) -> Result<Rule, Refusal>
+    ensures { IfOk result (IsRuleGiven (found_of matches.now)) }
+{
     match matches.get_str("rule") {
-        Some("arrival") => Ok(Rule::Arrival),
-        Some("longest") => Ok(Rule::Longest),
-        _ => Err(Refusal::NoWords),
+        Some(word) => rule_named(word).ok_or(Refusal::NoWords),
+        None => Err(Refusal::NoWords),
+    }
+}
+
+/// The rule that this word names.
+fn rule_named(word: &str) -> Option<Rule>
+    ensures { result ≡ asks.rule_named word.now }
+{
+    match word {
+        "arrival" => Some(Rule::Arrival),
+        "longest" => Some(Rule::Longest),
+        _ => None,
     }
 }
 
 /// What the messages of one row have in common.
-fn grouping(matches: &ArgMatches<'_>) -> Grouping {
-    if matches.get_flag("names") {
+fn grouping(matches: &ArgMatches<'_>) -> Grouping
+    ensures { IsGroupingGiven (found_of matches.now) result }
+{
+    grouping_for(matches.get_flag("names"))
+}
+
+/// What they have in common, by whether `--names` is given.
+fn grouping_for(names: bool) -> Grouping
+    ensures { result ≡ asks.grouping_for names }
+{
+    if names {
         Grouping::Name
     } else {
         Grouping::Affinity
@@ -310,19 +369,36 @@ fn grouping(matches: &ArgMatches<'_>) -> Grouping {
 }
 
 /// The label of messages of which each has one line, if there is one.
-fn label(rt: &impl Eprint, matches: &ArgMatches<'_>) -> Result<Option<Label>, Refusal> {
-    match (matches.get_flag("names"), matches.get_flag("clients")) {
-        (true, true) => Err(Refusal::because(rt, "'--names' cannot be used with '--clients'")),
-        (true, false) => Ok(Some(Label::Name)),
-        (false, true) => Ok(Some(Label::Client)),
-        (false, false) => Ok(None),
+fn label(rt: &impl Eprint, matches: &ArgMatches<'_>) -> Result<Option<Label>, Refusal>
+    ensures { IfOk result (IsLabelGiven (found_of matches.now)) }
+{
+    let names = matches.get_flag("names");
+    let clients = matches.get_flag("clients");
+    if names && clients {
+        return Err(Refusal::because(rt, "'--names' cannot be used with '--clients'"));
+    }
+    Ok(label_for(names, clients))
+}
+
+/// The label, by whether `--names` is given and whether `--clients` is.
+fn label_for(names: bool, clients: bool) -> Option<Label>
+    ensures { result ≡ asks.label_for names clients }
+{
+    if names {
+        Some(Label::Name)
+    } else if clients {
+        Some(Label::Client)
+    } else {
+        None
     }
 }
 
 /// The part of a plan that is drawn.
-fn part_of(rt: &impl Eprint, matches: &ArgMatches<'_>) -> Result<Part, Refusal> {
-    let from = matches.get_one::<u64>("from").ok_or(Refusal::NoWords)?;
-    match matches.get_one::<u64>("to") {
+fn part_of(rt: &impl Eprint, matches: &ArgMatches<'_>) -> Result<Part, Refusal>
+    ensures { IfOk result (IsPartGiven (found_of matches.now)) }
+{
+    let from = tick_given(matches, "from").ok_or(Refusal::NoWords)?;
+    match tick_given(matches, "to") {
         Some(to) if to <= from => Err(Refusal::because(rt, "'--from' has to be below '--to'")),
         to => Ok(Part { from, to }),
     }

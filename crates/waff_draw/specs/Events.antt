@@ -13,7 +13,8 @@ use Rattle.waff_plan.specs.Work.{numbers}
 use Rattle.waff_draw.specs.Kinds.{process_of, shown_row}
 use Rattle.waff_draw.specs.Lanes.{is_among, lane_of}
 use Rattle.waff_draw.specs.Pieces.{joined, worker_name}
-use Rattle.waff_draw.specs.Scene.{Scene, client_in, lanes_in, name_in, shown_start, shown_ticks, work_of_scene}
+use Rattle.waff_draw.specs.Scene.{Scene, client_in, lanes_in, name_in, release_in}
+use Rattle.waff_draw.specs.Scene.{shown_start, shown_ticks, work_of_scene}
 use Rattle.waff_draw.specs.declared.events.Event.{Event}
 use Rattle.waff_draw.specs.declared.lanes.Lane.{Lane}
 use Rattle.waff_draw.specs.declared.lanes.LaneKind.{LaneKind}
@@ -111,7 +112,7 @@ event_at scene process row n = record {
   thread = row + 1;
   start = shown_start scene n;
   ticks = shown_ticks scene n;
-  release = (work_of_scene scene).release n;
+  release = release_in scene n;
   is_link = is_among scene.plan.summary.chain n;
 }
 

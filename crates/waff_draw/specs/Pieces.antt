@@ -1,7 +1,15 @@
 -- The pieces of the document. None is unfolded where a text is put together.
-use Rattle.std.specs.Prelude.{ℕ, List, [], ◌∷◌, codes, decimal}
+use Rattle.std.specs.Prelude.{ℕ, ◌+◌, ◌-◌, ◌*◌, ◌&&◌, Bool, List, [], ◌∷◌, ◌++◌, Option, codes}
+use Rattle.std.specs.Prelude.{decimal, if◌then◌else◌}
 use Rattle.std.specs.List.{flat_map}
+use Rattle.std.specs.Str.{bytes_eq}
+use Rattle.waff_model.specs.Clients.{no_client}
 use Rattle.waff_plan_text.specs.Ratio.{ratio_field}
+use Rattle.waff_plan_text.specs.Spelling.{worker_field}
+use Rattle.waff_draw.specs.Xml.{xml_text}
+use Rattle.waff_draw.specs.declared.bars.Bar.{Bar}
+use Rattle.waff_draw.specs.declared.pieces.LaneName.{LaneName}
+use Rattle.waff_draw.specs.declared.pieces.LaneName.TheVariants as lane
 
 -- pieces of text, one after the other
 abbrev pub joined : List (List ℕ) → List ℕ
@@ -15,36 +23,35 @@ top_start height = joined (
     ∷ codes "'>\n<rect class='ground' width='1380' height='" ∷ decimal height
     ∷ codes "'/>\n" ∷ [])
 
--- what is told of the plan, as far as its workers
-unfoldable pub heading_start : ℕ → ℕ → List ℕ
-heading_start length total = joined (
+-- what is told of the plan
+unfoldable pub heading_line : ℕ → ℕ → Option ℕ → List ℕ
+heading_line length total workers = joined (
     codes "<text class='heading' x='8' y='28'>length " ∷ decimal length
     ∷ codes ", total " ∷ decimal total
-    ∷ codes ", speed-up " ∷ ratio_field total length ∷ codes ", workers " ∷ [])
-
--- a lane as far as its name: its ground from this height on, and the place of the name
-unfoldable pub lane_start : ℕ → ℕ → ℕ → List ℕ
-lane_start top left base = joined (
-    codes "<g class='lane'><rect y='" ∷ decimal top
-    ∷ codes "' width='1380' height='20'/><text x='" ∷ decimal left
-    ∷ codes "' y='" ∷ decimal base ∷ codes "'>" ∷ [])
-
--- its end, behind the name
-unfoldable pub lane_end : List ℕ
-lane_end = codes "</text></g>\n"
+    ∷ codes ", speed-up " ∷ ratio_field total length
+    ∷ codes ", workers " ∷ worker_field workers ∷ codes "</text>\n" ∷ [])
 
 unfoldable pub worker_name : ℕ → List ℕ
 worker_name worker = joined (codes "worker " ∷ decimal worker ∷ [])
 
--- what a colour stands for, at this place from the left, as far as the name of the messages
-unfoldable pub colour_start : ℕ → ℕ → List ℕ
-colour_start left colour = joined (
-    codes "<svg x='" ∷ decimal left ∷ codes "' y='56' width='166' height='16'><rect class='n"
-    ∷ decimal colour ∷ codes "' y='2' width='12' height='12'/><text x='18' y='12'>" ∷ [])
+-- the name of a lane: that of an affinity, or of a worker
+abbrev pub lane_name : LaneName → List ℕ
+lane_name (lane.Affinity name) = xml_text name.now
+lane_name (lane.Worker worker) = worker_name worker
 
--- its end, behind the name
-unfoldable pub colour_end : List ℕ
-colour_end = codes "</text></svg>\n"
+-- a lane: its ground from this height on, and its name at this place
+unfoldable pub lane_line : ℕ → ℕ → ℕ → List ℕ → List ℕ
+lane_line top left base name = joined (
+    codes "<g class='lane'><rect y='" ∷ decimal top
+    ∷ codes "' width='1380' height='20'/><text x='" ∷ decimal left
+    ∷ codes "' y='" ∷ decimal base ∷ codes "'>" ∷ name ∷ codes "</text></g>\n" ∷ [])
+
+-- what a colour stands for, at this place from the left
+unfoldable pub colour_line : ℕ → ℕ → List ℕ → List ℕ
+colour_line left colour name = joined (
+    codes "<svg x='" ∷ decimal left ∷ codes "' y='56' width='166' height='16'><rect class='n"
+    ∷ decimal colour ∷ codes "' y='2' width='12' height='12'/><text x='18' y='12'>"
+    ∷ xml_text name ∷ codes "</text></svg>\n" ∷ [])
 
 -- a rule at this height, between the lanes of affinities and those of workers
 unfoldable pub rule_line : ℕ → List ℕ
@@ -72,25 +79,29 @@ unfoldable pub grid_line : ℕ → ℕ → List ℕ
 grid_line place height = joined (
     codes "<path d='M" ∷ decimal place ∷ codes " 0v" ∷ decimal height ∷ codes "'/>\n" ∷ [])
 
--- a bar with its colour, mark, place and size, and what it tells as far as the name of its message
-unfoldable pub bar_start : ℕ → List ℕ → ℕ → ℕ → ℕ → ℕ → ℕ → List ℕ
-bar_start colour mark left top width height message = joined (
-    codes "<rect class='n" ∷ decimal colour ∷ mark ∷ codes "' x='" ∷ decimal left ∷ codes "' y='" ∷ decimal top
-    ∷ codes "' width='" ∷ decimal width ∷ codes "' height='" ∷ decimal height
-    ∷ codes "'><title>" ∷ decimal message ∷ codes " " ∷ [])
+-- what is told of the client of a message, where it is of one
+abbrev pub for_client : List ℕ → List ℕ
+for_client client = if bytes_eq client no_client then [] else codes " for " ++ xml_text client
 
--- what stands between the name of its message and that of its affinity
-unfoldable pub bar_middle : List ℕ
-bar_middle = codes " in "
+-- how a bar of the chain is marked, and a thin one, which has no outline
+abbrev pub mark_of : Bool → Bool → List ℕ
+mark_of is_link is_thin =
+    if is_link then (if is_thin then codes " chain thin" else codes " chain") else
+    (if is_thin then codes " thin" else codes "")
 
--- when it starts and finishes, behind the name of its affinity
-unfoldable pub bar_ticks : ℕ → ℕ → List ℕ
-bar_ticks start finish = joined (
-    codes ": " ∷ decimal start ∷ codes " to " ∷ decimal finish ∷ [])
+-- how much of its lane is free above it and below: none round a thin bar of the chain
+abbrev pub margin_of : Bool → Bool → ℕ
+margin_of is_link is_thin = if is_link && is_thin then 0 else 200
 
--- what stands before the name of its client
-unfoldable pub bar_client : List ℕ
-bar_client = codes " for "
-
-unfoldable pub bar_end : List ℕ
-bar_end = codes "</title></rect>\n"
+-- a bar in its row, with what it tells of its message
+unfoldable pub bar_line : Bar → List ℕ → List ℕ → List ℕ → List ℕ
+bar_line bar name affinity client = joined (
+    codes "<rect class='n" ∷ decimal bar.colour ∷ mark_of bar.is_link bar.is_thin
+    ∷ codes "' x='" ∷ decimal bar.left
+    ∷ codes "' y='" ∷ decimal (bar.row * 2000 + margin_of bar.is_link bar.is_thin)
+    ∷ codes "' width='" ∷ decimal bar.width
+    ∷ codes "' height='" ∷ decimal (2000 - 2 * margin_of bar.is_link bar.is_thin)
+    ∷ codes "'><title>" ∷ decimal bar.message ∷ codes " " ∷ xml_text name
+    ∷ codes " in " ∷ xml_text affinity
+    ∷ codes ": " ∷ decimal bar.start ∷ codes " to " ∷ decimal bar.finish
+    ∷ for_client client ∷ codes "</title></rect>\n" ∷ [])

@@ -5,7 +5,7 @@ use Rattle.waff_model.specs.DistinctNames.{message_names}
 use Rattle.waff_assign.specs.Instance.{Instance}
 use Rattle.waff_plan.specs.Clients.{client_of}
 use Rattle.waff_plan.specs.Instances.{work_of_instance}
-use Rattle.waff_plan.specs.Timetable.{clients_of}
+use Rattle.waff_plan.specs.Timetable.{clients_of, message_of}
 use Rattle.waff_plan.specs.Timing.{start_of}
 use Rattle.waff_plan.specs.Work.{Work, finish_of, length_of}
 use Rattle.waff_plan_text.specs.Given.{Given}
@@ -98,3 +98,7 @@ name_in scene n = slice_index_or (message_names scene.instance.trace.messages) (
 -- that of its client, `-` where it is of none
 abbrev pub client_in : Scene → ℕ → List ℕ
 client_in scene n = client_of (clients_of scene.instance.trace.messages) n
+
+-- its release, as the trace has it
+abbrev pub release_in : Scene → ℕ → ℕ
+release_in scene n = (message_of scene.instance.trace.messages n).release

@@ -1,15 +1,13 @@
 -- The picture as a document in SVG.
-use Rattle.std.specs.Prelude.{ℕ, ◌+◌, ◌-◌, ◌*◌, ◌/◌, min, List, [], ◌++◌, Option, if◌then◌else◌}
+use Rattle.std.specs.Prelude.{ℕ, ◌+◌, ◌-◌, ◌*◌, ◌/◌, min, List, [], ◌++◌, if◌then◌else◌}
 use Rattle.std.specs.Prelude.{codes, length, nat_le, slice_index_or}
 use Rattle.std.specs.List.{flat_map, range_with_len}
 use Rattle.waff_model.specs.Tree.{Node, name_of}
 use Rattle.waff_plan.specs.Work.{total_of}
-use Rattle.waff_plan_text.specs.Spelling.{worker_field}
 use Rattle.waff_draw.specs.Axis.{line_at}
 use Rattle.waff_draw.specs.Bars.{bars_of}
 use Rattle.waff_draw.specs.Lanes.{lane_of}
-use Rattle.waff_draw.specs.Pieces.{axis_unit, colour_end, colour_start, grid_line, heading_start}
-use Rattle.waff_draw.specs.Pieces.{lane_end, lane_start}
+use Rattle.waff_draw.specs.Pieces.{axis_unit, colour_line, grid_line, heading_line, lane_line}
 use Rattle.waff_draw.specs.Pieces.{plan_start, rule_line, tick_label, top_start, worker_name}
 use Rattle.waff_draw.specs.Scene.{coloured_in}
 use Rattle.waff_draw.specs.Scene.{Scene, end_in, from_in, lanes_in, length_in, place_in, rows_in}
@@ -31,22 +29,16 @@ top_text rows = top_start (rows * 20 + 132) ++ STYLE.now ++ legend
 
 -- which name a colour stands for; bars of other names are grey
 abbrev pub colour_text : ℕ → List ℕ → List ℕ
-colour_text place name = colour_start (place * 170 + 8) (place + 1) ++ xml_text name ++ colour_end
+colour_text place name = colour_line (place * 170 + 8) (place + 1) name
 
 abbrev pub colours_text : List (List ℕ) → List ℕ
 colours_text names =
     flat_map (λ place. colour_text place (slice_index_or names place [])) (range_with_len 0 (length names))
 
--- what is told of the plan
-abbrev pub heading_text : ℕ → ℕ → Option ℕ → List ℕ
-heading_text length total workers =
-    heading_start length total ++ worker_field workers ++ codes "</text>\n"
-
 -- a lane with its name, set in by depth, twelve steps at most
 abbrev pub lane_text : ℕ → ℕ → List ℕ → List ℕ
 lane_text row depth name =
-    lane_start (row * 20 + 100) (min depth 12 * 8 + 8) (row * 20 + 114) ++ name
-    ++ lane_end
+    lane_line (row * 20 + 100) (min depth 12 * 8 + 8) (row * 20 + 114) name
 
 -- the lane of an affinity
 abbrev pub affinity_lane_text : List Node → ℕ → Lane → List ℕ
@@ -87,7 +79,7 @@ each_line scene text =
 abbrev pub ground_text : Scene → List ℕ
 ground_text scene =
     top_text (rows_in scene)
-    ++ heading_text (length_in scene) (total_of (work_of_scene scene)) scene.plan.summary.workers
+    ++ heading_line (length_in scene) (total_of (work_of_scene scene)) scene.plan.summary.workers
     ++ colours_text (coloured_in scene)
     ++ flat_map (affinity_lane scene.instance.tree (lanes_in scene))
     (range_with_len 0 (length (lanes_in scene)))

@@ -1,18 +1,14 @@
 //! The bars of a picture.
 
-ghost use Rattle.std.specs.Prelude.{◌≡◌, ◌≤◌, OnOk};
+ghost use Rattle.std.specs.Prelude.{◌≡◌, OnOk};
 ghost use Rattle.waff_plan.specs.Work.{IsNumber};
 ghost use Rattle.waff_plan_text.specs.Lines.{Adds};
-ghost use Rattle.waff_draw.specs.Bars.{bar_at, bar_in, bars_of, for_client, is_narrow, margin_of};
-ghost use Rattle.waff_draw.specs.Bars.{mark_of};
+ghost use Rattle.waff_draw.specs.Bars.{bar_at, bar_in, bars_of, is_narrow};
 ghost use Rattle.waff_draw.specs.Scene.{work_of_scene};
 
 use crate::chart::Chart;
 use crate::lanes::LaneKind;
-use crate::pieces::{
-    push_bar_client, push_bar_end, push_bar_middle, push_bar_start, push_bar_ticks,
-};
-use crate::xml::push_xml;
+use crate::pieces::push_bar_line;
 use std::alloc::AllocError;
 
 /// A bar: its message, its row, its left edge from that of the part and its width, both in hundredths
@@ -53,27 +49,8 @@ fn push_bar(text: &mut String, chart: &Chart<'_>, row: u64, n: u32) -> Result<()
     ensures { OnOk result (Adds text.old text.new (bar_in chart.now row n)) }
 {
     let bar = bar_of(chart, row, n);
-    let mark = mark_of(bar.is_link, bar.is_thin);
-    let margin = margin_of(bar.is_link, bar.is_thin);
-    let top = u128::from(bar.row) * 2000 + u128::from(margin);
-    push_bar_start(text, &bar, top, 2000 - 2 * margin, mark)?;
-    push_xml(text, chart.name(n))?;
-    push_bar_middle(text)?;
-    push_xml(text, chart.affinity_name(n))?;
-    push_bar_ticks(text, bar.start, bar.finish)?;
-    push_client(text, chart.client(n))?;
-    push_bar_end(text)
-}
-
-/// Appends the client of a message, where it is of one.
-fn push_client(text: &mut String, client: &str) -> Result<(), AllocError>
-    ensures { OnOk result (Adds text.old text.new (for_client client.now)) }
-{
-    if client == "-" {
-        return Ok(());
-    }
-    push_bar_client(text)?;
-    push_xml(text, client)
+    let (name, affinity) = (chart.name(n), chart.affinity_name(n));
+    push_bar_line(text, &bar, name, affinity, chart.client(n))
 }
 
 /// The bar of message `n` in this row.
@@ -104,25 +81,4 @@ fn is_narrow(span: u128, ticks: u64) -> bool
     ensures { result ≡ is_narrow span ticks }
 {
     u128::from(ticks) * 250 < span
-}
-
-/// How a bar of the chain is marked, and a thin one.
-fn mark_of(is_link: bool, is_thin: bool) -> &'static str
-    ensures { result.now ≡ mark_of is_link is_thin }
-{
-    match (is_link, is_thin) {
-        (true, true) => " chain thin",
-        (true, false) => " chain",
-        (false, true) => " thin",
-        (false, false) => "",
-    }
-}
-
-/// How much of its lane is free above a bar and below, in hundredths of a pixel: none round a thin
-/// bar of the chain.
-fn margin_of(is_link: bool, is_thin: bool) -> u32
-    ensures margin { result ≡ margin_of is_link is_thin }
-    ensures small { result ≤ 200 }
-{
-    if is_link && is_thin { 0 } else { 200 }
 }

@@ -13,8 +13,9 @@ ghost use Rattle.waff_draw.specs.Kinds.{row_in, shown_row, worker_row};
 ghost use Rattle.waff_draw.specs.Lanes.{is_among, lane_of, row_of};
 ghost use Rattle.waff_draw.specs.Scene.{client_in, coloured_in, end_in, finish_in, from_in};
 ghost use Rattle.waff_draw.specs.Scene.{lanes_in, length_in};
-ghost use Rattle.waff_draw.specs.Scene.{name_in, place_in, rows_in, scene_with, shown_start};
-ghost use Rattle.waff_draw.specs.Scene.{shown_ticks, span_in, start_in, work_of_scene, workers_in};
+ghost use Rattle.waff_draw.specs.Scene.{name_in, place_in, release_in, rows_in, scene_with};
+ghost use Rattle.waff_draw.specs.Scene.{shown_start, shown_ticks, span_in, start_in};
+ghost use Rattle.waff_draw.specs.Scene.{work_of_scene, workers_in};
 ghost use Rattle.waff_draw.specs.Svg.{line_in};
 
 use crate::axis::line_at;
@@ -207,12 +208,13 @@ impl<'a> Chart<'a> {
         self.plan.finish(n)
     }
 
-    /// The tick before which it may not start.
-    pub(crate) fn release(&self, n: u32) -> u64
+    /// Its release, as the trace has it.
+    pub(crate) fn release(&self, n: u32) -> u32
         requires { IsNumber (work_of_scene self.now) n }
-        ensures { result ≡ (work_of_scene self.now).release n }
+        ensures { result ≡ release_in self.now n }
     {
-        self.plan.release(n)
+        let trace = self.case.trace;
+        trace.message(n).release
     }
 
     /// Whether it is on the chain of the plan.

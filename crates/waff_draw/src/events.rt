@@ -17,7 +17,7 @@ ghost use Rattle.waff_draw.specs.Scene.{client_in, lanes_in, name_in, scene_of, 
 use crate::chart::Chart;
 use crate::lanes::LaneKind;
 use crate::parts::Part;
-use crate::pieces::push_worker_name;
+use crate::pieces::LaneName;
 use serde_json::Value;
 use std::alloc::{AllocError, Global};
 use waff_assign::Case;
@@ -42,7 +42,7 @@ pub struct Event {
     pub thread: u128,
     pub start: u64,
     pub ticks: u64,
-    pub release: u64,
+    pub release: u32,
     pub is_link: bool,
 }
 
@@ -150,7 +150,7 @@ fn push_worker_thread(
     ensures { OnOk result (Adds text.old text.new (worker_thread first worker)) }
 {
     let mut name = String::new(alloc);
-    push_worker_name(&mut name, worker)?;
+    write!(name, "{}", LaneName::Worker(worker))?;
     push_thread(
         alloc,
         text,
@@ -269,7 +269,7 @@ fn push_event(
 }
 
 /// Appends a number.
-fn push_number(text: &mut String, number: u64) -> Result<(), AllocError>
+fn push_number(text: &mut String, number: u32) -> Result<(), AllocError>
     ensures { OnOk result (Adds text.old text.new (decimal number)) }
 {
     write!(text, "{number}")

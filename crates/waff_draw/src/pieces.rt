@@ -1,12 +1,14 @@
 //! The pieces of the document.
 
-ghost use Rattle.std.specs.Prelude.{OnOk};
+ghost use Rattle.std.specs.Prelude.{◌≡◌, ◌≤◌, OnOk, Some};
 ghost use Rattle.waff_plan_text.specs.Lines.{Adds};
 ghost use Rattle.waff_draw.specs.Pieces as pieces;
 
 use crate::bars::Bar;
+use crate::xml::Xml;
 use std::alloc::AllocError;
-use waff_plan_text::Ratio;
+use std::fmt;
+use waff_plan_text::{Ratio, WorkerField};
 
 /// The colours, for light and for dark.
 pub(crate) const STYLE: &str = "\
@@ -39,48 +41,59 @@ pub(crate) fn push_top_start(text: &mut String, height: u64) -> Result<(), Alloc
     )
 }
 
-/// Appends what is told of the plan, as far as its workers: its speed-up is its total by its length.
-#[tactic(auto, unfolding(crate::specs::Pieces::heading_start))]
-pub(crate) fn push_heading_start(text: &mut String, speedup: Ratio) -> Result<(), AllocError>
-    ensures { OnOk result (Adds text.old text.new (pieces.heading_start speedup.1 speedup.0)) }
+/// Appends what is told of the plan: its speed-up is its total by its length.
+#[tactic(auto, unfolding(crate::specs::Pieces::heading_line))]
+pub(crate) fn push_heading(
+    text: &mut String,
+    speedup: Ratio,
+    workers: Option<u32>,
+) -> Result<(), AllocError>
+    ensures { OnOk result (Adds text.old text.new
+        (pieces.heading_line speedup.1 speedup.0 workers)) }
 {
     let Ratio(total, length) = speedup;
-    write!(
+    let workers = WorkerField(workers);
+    writeln!(
         text,
-        "<text class='heading' x='8' y='28'>length {length}, total {total}, speed-up {speedup}, workers "
+        "<text class='heading' x='8' y='28'>length {length}, total {total}, speed-up {speedup}, workers {workers}</text>"
     )
 }
 
-/// Appends a lane as far as its name.
-#[tactic(auto, unfolding(crate::specs::Pieces::lane_start))]
-pub(crate) fn push_lane_start(
+/// The name of a lane: that of an affinity, or that of the worker of this number.
+#[derive(Clone, Copy)]
+pub enum LaneName<'a> {
+    Affinity(&'a str),
+    Worker(u32),
+}
+
+impl fmt::Display for LaneName<'_> {
+    ghost output = { λ name. Some (pieces.lane_name name) };
+
+    #[tactic(auto, unfolding(crate::specs::Pieces::worker_name))]
+    fn fmt<W: fmt::Write>(&self, f: &mut fmt::Formatter<W>) -> fmt::Result {
+        match *self {
+            LaneName::Affinity(name) => write!(f, "{}", Xml(name)),
+            LaneName::Worker(worker) => write!(f, "worker {worker}"),
+        }
+    }
+}
+
+/// Appends a lane.
+#[tactic(auto, unfolding(crate::specs::Pieces::lane_line))]
+pub(crate) fn push_lane(
     text: &mut String,
     top: u64,
     left: u64,
     base: u64,
+    name: LaneName<'_>,
 ) -> Result<(), AllocError>
-    ensures { OnOk result (Adds text.old text.new (pieces.lane_start top left base)) }
+    ensures { OnOk result (Adds text.old text.new
+        (pieces.lane_line top left base (pieces.lane_name name.entry))) }
 {
-    write!(
+    writeln!(
         text,
-        "<g class='lane'><rect y='{top}' width='1380' height='20'/><text x='{left}' y='{base}'>"
+        "<g class='lane'><rect y='{top}' width='1380' height='20'/><text x='{left}' y='{base}'>{name}</text></g>"
     )
-}
-
-/// Appends the end of a lane, behind its name.
-#[tactic(auto, unfolding(crate::specs::Pieces::lane_end))]
-pub(crate) fn push_lane_end(text: &mut String) -> Result<(), AllocError>
-    ensures { OnOk result (Adds text.old text.new pieces.lane_end) }
-{
-    text.push_str("</text></g>\n")
-}
-
-/// Appends the name of a worker's lane.
-#[tactic(auto, unfolding(crate::specs::Pieces::worker_name))]
-pub(crate) fn push_worker_name(text: &mut String, worker: u32) -> Result<(), AllocError>
-    ensures { OnOk result (Adds text.old text.new (pieces.worker_name worker)) }
-{
-    write!(text, "worker {worker}")
 }
 
 /// Appends a rule at this height, between the lanes of affinities and those of workers.
@@ -134,78 +147,91 @@ pub(crate) fn push_grid_line(text: &mut String, place: u128, height: u64) -> Res
     writeln!(text, "<path d='M{place} 0v{height}'/>")
 }
 
-/// Appends what a colour stands for, as far as the name of the messages.
-#[tactic(auto, unfolding(crate::specs::Pieces::colour_start))]
-pub(crate) fn push_colour_start(text: &mut String, left: u64, colour: u64) -> Result<(), AllocError>
-    ensures { OnOk result (Adds text.old text.new (pieces.colour_start left colour)) }
+/// Appends what a colour stands for: messages of this name.
+#[tactic(auto, unfolding(crate::specs::Pieces::colour_line))]
+pub(crate) fn push_colour_line(
+    text: &mut String,
+    left: u64,
+    colour: u64,
+    name: &str,
+) -> Result<(), AllocError>
+    ensures { OnOk result (Adds text.old text.new (pieces.colour_line left colour name.now)) }
 {
-    write!(
+    writeln!(
         text,
-        "<svg x='{left}' y='56' width='166' height='16'><rect class='n{colour}' y='2' width='12' height='12'/><text x='18' y='12'>"
+        "<svg x='{left}' y='56' width='166' height='16'><rect class='n{colour}' y='2' width='12' height='12'/><text x='18' y='12'>{}</text></svg>",
+        Xml(name)
     )
 }
 
-/// Appends its end.
-#[tactic(auto, unfolding(crate::specs::Pieces::colour_end))]
-pub(crate) fn push_colour_end(text: &mut String) -> Result<(), AllocError>
-    ensures { OnOk result (Adds text.old text.new pieces.colour_end) }
-{
-    text.push_str("</text></svg>\n")
+/// What is told of the client of a message, where it is of one.
+#[derive(Clone, Copy)]
+struct ForClient<'a>(&'a str);
+
+impl fmt::Display for ForClient<'_> {
+    ghost output = { λ client. Some (pieces.for_client client.0.now) };
+
+    fn fmt<W: fmt::Write>(&self, f: &mut fmt::Formatter<W>) -> fmt::Result {
+        if self.0 == "-" {
+            Ok(())
+        } else {
+            write!(f, " for {}", Xml(self.0))
+        }
+    }
 }
 
-/// Appends a bar with its colour, mark, place and size, as far as the name of its message.
-#[tactic(auto, unfolding(crate::specs::Pieces::bar_start))]
-pub(crate) fn push_bar_start(
+/// How a bar of the chain is marked, and a thin one.
+fn mark_of(is_link: bool, is_thin: bool) -> &'static str
+    ensures { result.now ≡ pieces.mark_of is_link is_thin }
+{
+    match (is_link, is_thin) {
+        (true, true) => " chain thin",
+        (true, false) => " chain",
+        (false, true) => " thin",
+        (false, false) => "",
+    }
+}
+
+/// How much of its lane is free above a bar and below, in hundredths of a pixel: none round a thin
+/// bar of the chain.
+fn margin_of(is_link: bool, is_thin: bool) -> u32
+    ensures margin { result ≡ pieces.margin_of is_link is_thin }
+    ensures small { result ≤ 200 }
+{
+    if is_link && is_thin { 0 } else { 200 }
+}
+
+/// Appends a bar in its row, with what it tells of its message: its name, and those of its affinity
+/// and its client.
+#[tactic(auto, unfolding(crate::specs::Pieces::bar_line))]
+pub(crate) fn push_bar_line(
     text: &mut String,
     bar: &Bar,
-    top: u128,
-    height: u32,
-    mark: &str,
+    name: &str,
+    affinity: &str,
+    client: &str,
 ) -> Result<(), AllocError>
-    ensures { OnOk result (Adds text.old text.new (pieces.bar_start bar.now.colour
-        mark.now bar.now.left top bar.now.width height bar.now.message)) }
+    ensures { OnOk result (Adds text.old text.new
+        (pieces.bar_line bar.now name.now affinity.now client.now)) }
 {
     let Bar {
         message,
+        row,
         left,
         width,
+        start,
+        finish,
         colour,
-        ..
+        is_link,
+        is_thin,
     } = *bar;
-    write!(
+    let mark = mark_of(is_link, is_thin);
+    let margin = margin_of(is_link, is_thin);
+    let top = u128::from(row) * 2000 + u128::from(margin);
+    let height = 2000 - 2 * margin;
+    let (name, affinity, client) = (Xml(name), Xml(affinity), ForClient(client));
+    writeln!(
         text,
-        "<rect class='n{colour}{mark}' x='{left}' y='{top}' width='{width}' height='{height}'><title>{message} "
+        "<rect class='n{colour}{mark}' x='{left}' y='{top}' width='{width}' height='{height}'><title>{message} {name} in {affinity}: {start} to {finish}{client}</title></rect>"
     )
-}
-
-/// Appends what stands between the name of a bar's message and that of its affinity.
-#[tactic(auto, unfolding(crate::specs::Pieces::bar_middle))]
-pub(crate) fn push_bar_middle(text: &mut String) -> Result<(), AllocError>
-    ensures { OnOk result (Adds text.old text.new pieces.bar_middle) }
-{
-    text.push_str(" in ")
-}
-
-/// Appends when a bar's message starts and finishes, behind the name of the affinity.
-#[tactic(auto, unfolding(crate::specs::Pieces::bar_ticks))]
-pub(crate) fn push_bar_ticks(text: &mut String, start: u64, finish: u64) -> Result<(), AllocError>
-    ensures { OnOk result (Adds text.old text.new (pieces.bar_ticks start finish)) }
-{
-    write!(text, ": {start} to {finish}")
-}
-
-/// Appends what stands before the name of a message's client.
-#[tactic(auto, unfolding(crate::specs::Pieces::bar_client))]
-pub(crate) fn push_bar_client(text: &mut String) -> Result<(), AllocError>
-    ensures { OnOk result (Adds text.old text.new pieces.bar_client) }
-{
-    text.push_str(" for ")
-}
-
-/// Appends the end of a bar.
-#[tactic(auto, unfolding(crate::specs::Pieces::bar_end))]
-pub(crate) fn push_bar_end(text: &mut String) -> Result<(), AllocError>
-    ensures { OnOk result (Adds text.old text.new pieces.bar_end) }
-{
-    text.push_str("</title></rect>\n")
 }

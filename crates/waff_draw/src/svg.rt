@@ -5,13 +5,12 @@ ghost use Rattle.std.specs.List.{flat_map, range_with_len};
 ghost use Rattle.waff_assign.specs.Case.{instance_of};
 ghost use Rattle.waff_plan.specs.Work.{total_of};
 ghost use Rattle.waff_plan_text.specs.Lines.{Adds};
-ghost use Rattle.waff_plan_text.specs.Spelling.{worker_field};
-ghost use Rattle.waff_draw.specs.Pieces.{axis_unit};
+ghost use Rattle.waff_draw.specs.Pieces.{axis_unit, heading_line};
 ghost use Rattle.waff_draw.specs.Scene.{coloured_in, end_in, from_in, lanes_in, length_in, rows_in};
 ghost use Rattle.waff_draw.specs.Scene.{scene_of, work_of_scene, workers_in};
 ghost use Rattle.waff_draw.specs.Svg.{affinity_lane, colour_text, colours_text, document_text};
 ghost use Rattle.waff_draw.specs.Svg.{each_line, grid_text};
-ghost use Rattle.waff_draw.specs.Svg.{ground_text, heading_text, rule_text, svg_text, tick_text, top_text};
+ghost use Rattle.waff_draw.specs.Svg.{ground_text, rule_text, svg_text, tick_text, top_text};
 ghost use Rattle.waff_draw.specs.Svg.{upto, worker_lane};
 
 use crate::bars::push_bars;
@@ -19,11 +18,9 @@ use crate::chart::Chart;
 use crate::lanes::LaneKind;
 use crate::parts::Part;
 use crate::pieces::{
-    LEGEND, STYLE, push_axis_unit, push_colour_end, push_colour_start, push_grid_line,
-    push_heading_start, push_lane_end, push_lane_start, push_plan_start, push_rule_line,
-    push_tick_label, push_top_start, push_worker_name,
+    LEGEND, LaneName, STYLE, push_axis_unit, push_colour_line, push_grid_line, push_heading,
+    push_lane, push_plan_start, push_rule_line, push_tick_label, push_top_start,
 };
-use crate::xml::push_xml;
 use std::alloc::{AllocError, Global};
 use waff_assign::Case;
 use waff_plan_text::{GivenPlan, Ratio};
@@ -61,7 +58,7 @@ fn push_ground(text: &mut String, chart: &Chart<'_>) -> Result<(), AllocError>
     ensures { OnOk result (Adds text.old text.new (ground_text chart.now)) }
 {
     push_top(text, chart)?;
-    push_heading(text, chart)?;
+    push_plan(text, chart)?;
     push_colours(text, chart)?;
     push_affinity_lanes(text, chart)?;
     push_worker_lanes(text, chart)?;
@@ -82,25 +79,13 @@ fn push_top(text: &mut String, chart: &Chart<'_>) -> Result<(), AllocError>
 }
 
 /// Appends what is told of the plan.
-fn push_heading(text: &mut String, chart: &Chart<'_>) -> Result<(), AllocError>
+fn push_plan(text: &mut String, chart: &Chart<'_>) -> Result<(), AllocError>
     ensures { OnOk result (Adds text.old text.new
-        (heading_text (length_in chart.now) (total_of (work_of_scene chart.now))
+        (heading_line (length_in chart.now) (total_of (work_of_scene chart.now))
         chart.now.plan.summary.workers)) }
 {
     let speedup = Ratio(chart.total(), u128::from(chart.length()));
-    push_heading_start(text, speedup)?;
-    push_workers(text, chart.workers())?;
-    text.push_str("</text>\n")
-}
-
-/// Appends a number of workers.
-fn push_workers(text: &mut String, workers: Option<u32>) -> Result<(), AllocError>
-    ensures { OnOk result (Adds text.old text.new (worker_field workers)) }
-{
-    match workers {
-        Some(k) => write!(text, "{k}"),
-        None => write!(text, "-"),
-    }
+    push_heading(text, speedup, chart.workers())
 }
 
 /// Appends which names the colours stand for.
@@ -120,9 +105,8 @@ fn push_colour(text: &mut String, chart: &Chart<'_>, place: u64) -> Result<(), A
         (colour_text place (slice_index_or (coloured_in chart.now) place []))) }
 {
     let _colours = chart.colour_count();
-    push_colour_start(text, place * 170 + 8, place + 1)?;
-    push_xml(text, chart.coloured_name(place))?;
-    push_colour_end(text)
+    let name = chart.coloured_name(place);
+    push_colour_line(text, place * 170 + 8, place + 1, name)
 }
 
 /// Appends the lanes of affinities.
@@ -145,9 +129,8 @@ fn push_affinity_lane(text: &mut String, chart: &Chart<'_>, row: u64) -> Result<
 {
     let _lanes = chart.lane_count();
     let left = chart.lane_depth(row).min(12) * 8 + 8;
-    push_lane_start(text, row * 20 + 100, left, row * 20 + 114)?;
-    push_xml(text, chart.lane_name(row))?;
-    push_lane_end(text)
+    let name = LaneName::Affinity(chart.lane_name(row));
+    push_lane(text, row * 20 + 100, left, row * 20 + 114, name)
 }
 
 /// Appends the lanes of workers.
@@ -169,9 +152,8 @@ fn push_worker_lane(text: &mut String, chart: &Chart<'_>, worker: u32) -> Result
         (worker_lane (length (lanes_in chart.now)) worker)) }
 {
     let row = chart.lane_count() + u64::from(worker) - 1;
-    push_lane_start(text, row * 20 + 100, 8, row * 20 + 114)?;
-    push_worker_name(text, worker)?;
-    push_lane_end(text)
+    let name = LaneName::Worker(worker);
+    push_lane(text, row * 20 + 100, 8, row * 20 + 114, name)
 }
 
 /// Appends the rule between the lanes of affinities and those of workers, if there are workers.

@@ -1,4 +1,5 @@
-//! Keys of a hierarchy that count for nothing, and whose names are nearly those of its format.
+//! Keys of a hierarchy that count for nothing: those whose names are nearly those of its format, and
+//! those that look as if they told which format it is.
 
 ghost use Rattle.std.specs.Prelude.{IfOk, string_bytes};
 ghost use Rattle.waff_explain.specs.Lines.{AreHeadedLines};
@@ -10,7 +11,7 @@ use strsim::osa_distance;
 use toml::Value;
 
 /// A line for each key of the format that a table of the hierarchy nearly has: what stands in the
-/// first such table. No line where the bytes are no TOML.
+/// first such table; and one for a format that there is not. No line where the bytes are no TOML.
 pub fn near_words(alloc: Global, bytes: &[u8]) -> Result<String, AllocError>
     ensures { IfOk result (λ text. AreHeadedLines (string_bytes text)) }
 {
@@ -34,9 +35,42 @@ fn push_near(words: &mut Words, document: &Value) {
                 name.as_bytes(), key);
         }
     }
+    push_no_format(words, document);
     push_near_of(words, document, "affinity", &["name", "parent"]);
     push_near_of(words, document, "space", &["name", "size"]);
     push_near_of(words, document, "map", &["space", "unit", "to"]);
+}
+
+/// Appends what stands in a hierarchy in place of a format that there is.
+fn push_no_format(words: &mut Words, document: &Value) {
+    match document.get("format") {
+        Some(value) => push_other_format(words, value),
+        None => {
+            if document.get("version").is_some() {
+                say!(words; Found: "the key `version`, which counts for nothing: `format` tells the \
+                    format");
+            }
+        }
+    }
+}
+
+/// Appends that this tells no format, where it is neither 1 nor 2.
+fn push_other_format(words: &mut Words, value: &Value) {
+    match (value.as_integer(), value.as_str()) {
+        (Some(number), _) if number == 1 || number == 2 => {}
+        (Some(number), _) => {
+            say!(words; Found: "format: the integer {}, which counts for nothing: formats are 1 and 2",
+                number);
+        }
+        (None, Some(text)) => {
+            say!(words; Found: "format: the text `{}`, which counts for nothing: formats are 1 and 2",
+                text.as_bytes());
+        }
+        (None, None) => {
+            say!(words; Found: "format: a value of the type {}, which counts for nothing: formats are \
+                1 and 2", value.type_str());
+        }
+    }
 }
 
 /// Appends for each of these keys the first table of a kind that nearly has it.

@@ -19,6 +19,7 @@ use Rattle.waff_plan.specs.Work.{Work, length_of, total_of}
 use Rattle.waff_plan.proofs.ClientLemmas.{client_follows_earlier}
 use Rattle.waff_plan.proofs.TimingLemmas.{length-timings_of, timings_follow_clients}
 use Rattle.waff_plan_text.specs.Ratio.{RatioUpIsUpperBound, hundredths_field}
+use Rattle.waff_figures.specs.declared.figures.Figures.{Figures}
 use Rattle.waff_figures.specs.Least.{IsRivalWhere, LeastIsLowerBound, ObeysFor, OneIsShortest, OverIsUpperBound, least_of, least_where}
 
 -- in the order of the trace
@@ -56,7 +57,7 @@ over_is_upper_bound instance ratio limit least over start other figures is small
     let work = work_of_instance instance in
     let up : 100 * figures.length ≤ over * figures.least = ratio figures.length figures.least over small fits printed in
     let more : over * figures.least ≤ over * length_of work other = mul-le-mul_left over (bound other rival) in
-    let long : figures.length ≡ length_of work start = is.length in
+    let long : figures.length ≡ length_of work start = ap (λ (f : Figures). f.length) is.are in
     omega (arith, up, more, long)
 
 one_in_hundredths : hundredths_field 100 ≡ codes "1.00"

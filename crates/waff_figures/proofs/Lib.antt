@@ -1,4 +1,6 @@
+pub mod Lists
 pub mod SumLemmas
+pub mod GroupLemmas
 mod BelowLemmas
 mod TallyLemmas
 pub mod NameLemmas

@@ -1,21 +1,22 @@
 -- Names numbered in the order in which they first appear.
 use Rattle.std.proofs.Common.{◌≡◌, ℕ, ◌+◌, ◌-◌, ◌<◌, ◌≤◌, true, false, inl, inr, cond, ◌==◌, List, [], ◌∷◌, ◌++◌, length, get_or, take, Some, slice_get, option_map, arith, refl, sym, ◌∙◌, ap, subst}
-use Rattle.std.specs.List.{list_any}
+use Rattle.std.specs.List.{AllPairs, list_any}
 use Rattle.std.specs.Str.{bytes_eq}
-use Rattle.std.proofs.lemmas.Bool.{cases_eq, cases_lt, cases_Bool}
+use Rattle.std.proofs.lemmas.Bool.{cases_eq, cases_lt, cases_Bool, false≢true}
 use Rattle.std.proofs.lemmas.Bool.Decides.{nat_tests}
 use Rattle.std.proofs.lemmas.List.{length-map, get_or_push, get_or_append_left, length_push}
-use Rattle.std.proofs.lemmas.List.Folds.{list_any_at}
 use Rattle.std.proofs.lemmas.List.Sums.{fold_more}
 use Rattle.std.proofs.lemmas.Option.{get_or_from_slice_get, slice_get-map}
 use Rattle.std.proofs.lemmas.Slice.Eq.{bytes_eq-Decides}
 use Rattle.waff_model.specs.DistinctNames.{distinct_names, with_name}
 use Rattle.waff_model.specs.declared.message.Message.{Message}
 use Rattle.waff_model.proofs.DistinctNameLemmas.{message_name_at}
-use Rattle.waff_figures.specs.ByName.{AreApart, AreNumbered, is_named, label_of, labels_of}
+use Rattle.waff_figures.specs.ByName.{AreNumbered, is_named, label_of, labels_of}
 use Rattle.waff_figures.specs.declared.grouping.Label.{Label}
 use Rattle.waff_figures.specs.declared.grouping.Label.TheVariants.{Client, Name}
 use Rattle.waff_figures.specs.Tally.{is_in}
+use Rattle.waff_figures.proofs.GroupLemmas.{firsts_apart}
+use Rattle.waff_figures.proofs.Lists.{bytes_laws}
 
 -- each message has a label
 pub labels_length : (label : Label) (messages : List Message) → length (labels_of label messages) ≡ length messages
@@ -34,7 +35,6 @@ pub none_numbered : (names : List (List ℕ)) → AreNumbered names [] []
 none_numbered names = record {
   distinct = refl;
   few = omega arith;
-  apart = λ i j low high same. absurd (omega (arith, low));
   within = λ i low. absurd (omega (arith, low));
   each = λ i low. absurd (omega (arith, low));
 }
@@ -53,34 +53,6 @@ with_name_keeps keys name i low = elim (cases_Bool (list_any (bytes_eq name) key
   | inr new ↦ ap (λ b. get_or (cond b keys (keys ++ name ∷ [])) i []) new ∙ get_or_append_left keys (name ∷ []) [] i low
 ]
 
--- a key that is there is not added
-not_there : (keys : List (List ℕ)) (name : List ℕ) → list_any (bytes_eq name) keys ≡ false → (i : ℕ) → i < length keys → get_or keys i [] ≡ name → ⊥
-not_there keys name new i low same =
-    let found = list_any_at (bytes_eq name) keys i [] low ((bytes_eq-Decides name (get_or keys i [])).1 (sym same)) in
-    cc
-
-with_name_apart : (keys : List (List ℕ)) (name : List ℕ) → AreApart keys → AreApart (with_name keys name)
-with_name_apart keys name apart = elim (cases_Bool (list_any (bytes_eq name) keys)) [
-  | inl there ↦ subst (λ b. AreApart (cond b keys (keys ++ name ∷ []))) (sym there) apart
-  | inr new ↦ subst (λ b. AreApart (cond b keys (keys ++ name ∷ []))) (sym new) (λ i j low high same.
-      let long = length_push keys name in
-      let last : get_or (keys ++ name ∷ []) (length keys) [] ≡ name = get_or_push keys name [] (length keys) refl in
-      elim (cases_lt i (length keys)) [
-        | inl i_old ↦ elim (cases_lt j (length keys)) [
-          | inl j_old ↦ apart i j i_old j_old (sym (get_or_append_left keys (name ∷ []) [] i i_old) ∙ same ∙ get_or_append_left keys (name ∷ []) [] j j_old)
-          | inr j_new ↦
-              let is : j ≡ length keys = omega (arith, j_new, high, long) in
-              absurd (not_there keys name new i i_old (sym (get_or_append_left keys (name ∷ []) [] i i_old) ∙ same ∙ ap (λ x. get_or (keys ++ name ∷ []) x []) is ∙ last))
-        ]
-        | inr i_new ↦
-            let is : i ≡ length keys = omega (arith, i_new, low, long) in
-            elim (cases_lt j (length keys)) [
-              | inl j_old ↦ absurd (not_there keys name new j j_old (sym (get_or_append_left keys (name ∷ []) [] j j_old) ∙ sym same ∙ ap (λ x. get_or (keys ++ name ∷ []) x []) is ∙ last))
-              | inr j_new ↦ omega (arith, is, j_new, high, long)
-            ]
-      ])
-]
-
 pub numbered_next : (names keys : List (List ℕ)) (places : List ℕ) (name : List ℕ) (place : ℕ) → AreNumbered names keys places
     → length places < length names → name ≡ get_or names (length places) [] → place < length (with_name keys name)
     → get_or (with_name keys name) place [] ≡ name → AreNumbered names (with_name keys name) (places ++ place ∷ [])
@@ -93,7 +65,6 @@ numbered_next names keys places name place are inside is within at =
           ∙ sym (fold_more with_name [] names (length places) [] inside)
           ∙ ap (λ n. distinct_names (take n names)) (sym long);
       few = omega (arith, long, are.few, (with_name_length keys name).1);
-      apart = with_name_apart keys name are.apart;
       within = λ i low. elim (cases_lt i (length places)) [
         | inl old ↦
             let same = get_or_append_left places (place ∷ []) 0 i old in
@@ -130,7 +101,16 @@ place_tells names keys places are g m low from to =
       | inr other ↦
           let no : (place == g) ≡ false = grind (arith, nat_tests, other) in
           no ∙ sym (elim (cases_Bool (bytes_eq (get_or names i []) (get_or keys g []))) [
-            | inl pass ↦ absurd (other (are.apart place g (are.within i inside) low (each ∙ same_name.0 pass)))
+            | inl pass ↦
+                let apart : AllPairs (λ a b. bytes_eq a b ≡ false) keys
+                = subst (AllPairs (λ a b. bytes_eq a b ≡ false)) (sym are.distinct) (firsts_apart bytes_eq bytes_laws (take (length places) names)) in
+                let equal : get_or keys place [] ≡ get_or keys g [] = each ∙ same_name.0 pass in
+                absurd (elim (cases_lt place g) [
+                  | inl less ↦ false≢true (sym (apart place g [] less low) ∙ (bytes_eq-Decides (get_or keys place []) (get_or keys g [])).1 equal)
+                  | inr more ↦
+                      false≢true (sym (apart g place [] (omega (arith, more, other)) (are.within i inside))
+                      ∙ (bytes_eq-Decides (get_or keys g []) (get_or keys place [])).1 (sym equal))
+                ])
             | inr differ ↦ differ
           ])
     ]

@@ -7,11 +7,12 @@ use Rattle.std.proofs.lemmas.Bool.Decides.{nat_tests}
 use Rattle.std.proofs.lemmas.Grind.{div_ceil_times}
 use Rattle.std.proofs.lemmas.List.Sorted.{length_permutation, sum_by-IsPermutation}
 use Rattle.std.proofs.lemmas.List.Sums.{sum_by-cons}
-use Rattle.waff_figures.specs.Percentile.{Covers, IsPercentile, PercentileIsOne, count_within}
+use Rattle.waff_model.specs.Unique.{AtMostOne}
+use Rattle.waff_figures.specs.Percentile.{Covers, IsPercentile, count_within}
 
 -- the least number is one
-pub percentile_is_one : (numbers : List ℕ) → PercentileIsOne numbers
-percentile_is_one numbers p one other h k = omega (arith, h.least other k.covers, k.least one h.covers)
+pub percentile_is_one : (p : ℕ) (numbers : List ℕ) → AtMostOne (IsPercentile p numbers)
+percentile_is_one p numbers one other h k = omega (arith, h.least other k.covers, k.least one h.covers)
 
 -- one more number, and whether it is counted
 count_step : (x bound : ℕ) (xs : List ℕ) → count_within (x ∷ xs) bound ≡ cond {A = ℕ} (nat_le x bound) 1 0 + count_within xs bound

@@ -1,21 +1,25 @@
 -- The groups of messages, one after another, and rows by them.
-use Rattle.std.proofs.Common.{◌≡◌, ℕ, suc, ◌+◌, ◌-◌, ◌<◌, ◌≤◌, cond, ◌==◌, ◌&&◌, Bool, true, List, [], ◌∷◌, ◌++◌, length, get_or, filter, map, All, Option, Some, None, IfSome, arith, refl, sym, ◌∙◌, ap, subst}
+use Rattle.std.proofs.Common.{◌≡◌, ℕ, ◌+◌, ◌-◌, ◌<◌, ◌≤◌, ◌==◌, ◌&&◌, Bool, true, List, [], ◌∷◌, ◌++◌, length, get_or, map, All, Option, Some, None, IfSome, arith, refl, sym, ◌∙◌, ap, subst}
 use Rattle.std.specs.List.{range_with_len}
+use Rattle.std.specs.List.Sorted.{IsPermutation}
 use Rattle.std.specs.Option.{option_eq}
 use Rattle.std.specs.Str.{bytes_eq}
 use Rattle.std.proofs.lemmas.Bool.Decides.{nat_tests}
+use Rattle.std.proofs.lemmas.List.Elements.{All-map}
+use Rattle.std.proofs.lemmas.List.Sorted.{All-permutation}
 use Rattle.std.proofs.lemmas.List.FromFn.{get_or-map-range_with_len, map-range_with_len_more}
 use Rattle.std.proofs.lemmas.Slice.Eq.{bytes_eq-Decides}
-use Rattle.std.proofs.lemmas.Option.{get_or_from_slice_get, slice_get_within}
 use Rattle.waff_plan.specs.Work.{IsAmongFirst}
 use Rattle.waff_figures.specs.ByName.{is_named}
 use Rattle.waff_figures.specs.Tally.{is_in}
 use Rattle.waff_figures.specs.Waits.{IsWaitAmong}
-use Rattle.waff_figures.specs.WaitRows.{AreRows, AreTold, IsFirst, IsRow, group_of, row_over, same_group, same_kind}
+use Rattle.waff_figures.specs.Groups.{firsts_by}
+use Rattle.waff_figures.specs.WaitRows.{AreRows, group_of, row_of, row_over, rows_by, same_group, same_kind}
 use Rattle.waff_figures.specs.WaitText.{name_at}
 use Rattle.waff_figures.specs.declared.wait_rows.Row.{Row}
 use Rattle.waff_figures.specs.declared.waits.Wait.{Wait}
-use Rattle.waff_figures.proofs.WaitRowLemmas.{same_counts}
+use Rattle.waff_figures.proofs.GroupLemmas.{firsts_all, firsts_same}
+use Rattle.waff_figures.proofs.Lists.{filter_same, map_same}
 
 -- one group more
 pub grouped_more : (f : ℕ → ℕ × ℕ) (groups now : List (ℕ × ℕ)) (n : ℕ) (g : ℕ × ℕ) → 1 ≤ n → groups ≡ map f (range_with_len 1 (n - 1)) → now ≡ groups ++ g ∷ []
@@ -46,53 +50,27 @@ module _ (one other : ℕ → ℕ → Bool) (n : ℕ) (agree : (i j : ℕ) → I
       ap (λ b. b && option_eq one w.on v.on) (agree w.message v.message first.message second.message)
       ∙ ap (λ b. other w.message v.message && b) (same_causes w.on v.on first.on second.on)
 
-  filter_same : (p q : Wait → Bool) (ws : List Wait) → ((k : ℕ) (d : Wait) → k < length ws → p (get_or ws k d) ≡ q (get_or ws k d)) → filter p ws ≡ filter q ws
-  filter_same p q [] same = refl
-  filter_same p q (w ∷ ws) same =
-      let rest = filter_same p q ws (λ k d low. same (suc k) d (omega (arith, low))) in
-      ap (λ b. cond b (w ∷ filter p ws) (filter p ws)) (same 0 w (omega arith)) ∙ ap (λ l. cond (q w) (w ∷ l) l) rest
-
   module _ (ws : List Wait) (among : All (IsWaitAmong n) ws) where
-    -- the first wait of a kind is one of these
-    first_among : (first : Wait) → IsFirst one ws first → IsWaitAmong n first
-    first_among first is =
-        let within = slice_get_within ws is.place first is.at in
-        subst (IsWaitAmong n) (get_or_from_slice_get ws is.place first first is.at) (among is.place first within)
+    -- the first waits of all kinds are among these
+    firsts_among : All (IsWaitAmong n) (firsts_by (same_kind one) ws)
+    firsts_among = firsts_all (same_kind one) (IsWaitAmong n) ws among
 
-    pub rows_among : (rows : List Row) → AreTold one ws rows → All (λ (row : Row). IsWaitAmong n row.first) rows
-    rows_among rows told = λ k d low. first_among (get_or rows k d).first (told.each k d low).first
+    pub rows_among : (rows : List Row) → AreRows one ws rows → All (λ (row : Row). IsWaitAmong n row.first) rows
+    rows_among rows are =
+        All-permutation (λ (row : Row). IsWaitAmong n row.first) (rows_by one ws) rows are.are
+        (All-map (λ (row : Row). IsWaitAmong n row.first) (row_of one ws) (firsts_by (same_kind one) ws) firsts_among)
 
-    row_same : (row : Row) → IsRow one ws row → IsRow other ws row
-    row_same row is =
-        let first = row.first in
-        let known = first_among first is.first in
-        record {
-          first = record {
-            place = is.first.place;
-            at = is.first.at;
-            earlier = λ p v less at.
-                let within = slice_get_within ws p v at in
-                let v_known = subst (IsWaitAmong n) (get_or_from_slice_get ws p v v at) (among p v within) in
-                sym (kinds_agree first v known v_known) ∙ is.first.earlier p v less at;
-          };
-          row_is = is.row_is
-              ∙ ap (λ l. row_over l first) (filter_same (same_kind one first) (same_kind other first) ws
-              (λ k d low. kinds_agree first (get_or ws k d) known (among k d low)));
-        }
+    rows_by_same : rows_by one ws ≡ rows_by other ws
+    rows_by_same =
+        let firsts = firsts_by (same_kind one) ws in
+        map_same (row_of one ws) (row_of other ws) firsts (λ k d low.
+        let first = get_or firsts k d in
+        ap (λ l. row_over l first) (filter_same (same_kind one first) (same_kind other first) ws
+        (λ i e inside. kinds_agree first (get_or ws i e) (firsts_among k d low) (among i e inside))))
+        ∙ ap (map (row_of other ws)) (firsts_same (same_kind one) (same_kind other) (IsWaitAmong n) kinds_agree ws among)
 
     pub rows_same : (rows : List Row) → AreRows one ws rows → AreRows other ws rows
-    rows_same rows are = record {
-      told = record {
-        each = λ k d low. row_same (get_or rows k d) (are.told.each k d low);
-        once = λ k d low.
-            let v = get_or ws k d in
-            let firsts = rows_among rows are.told in
-            sym (same_counts (λ (row : Row). same_kind one row.first v) (λ (row : Row). same_kind other row.first v) rows
-            (λ i e inside. kinds_agree (get_or rows i e).first v (firsts i e inside) (among k d low)))
-            ∙ are.told.once k d low;
-      };
-      order = are.order;
-    }
+    rows_same rows are = record { are = subst (λ l. IsPermutation l rows) rows_by_same are.are; order = are.order }
 
 -- messages that have places by their names have one place exactly if they have one name
 pub names_tell : (names texts : List (List ℕ)) (places : List ℕ) (count keys : ℕ) → length places ≡ count → All (λ p. p < keys) places

@@ -1,20 +1,21 @@
 -- The kinds of waits, numbered as they come.
-use Rattle.std.proofs.Common.{◌≡◌, ℕ, ◌<◌, inl, inr, cond, ◌==◌, Bool, true, false, not, List, [], ◌∷◌, ◌++◌, length, get_or, set, map, slice_get, All, Option, Some, None, option_map, ◌&&◌, arith, refl, sym, ◌∙◌, ap, subst}
+use Rattle.std.proofs.Common.{◌≡◌, ℕ, ◌<◌, cond, ◌==◌, Bool, true, false, not, List, [], ◌∷◌, ◌++◌, length, get_or, map, slice_get, All, Option, Some, None, option_map, ◌&&◌, arith, refl, sym, ◌∙◌, ap}
 use Rattle.std.specs.Cmp.{IsEquivalence}
 use Rattle.std.specs.Cmp.Lexicographic.{options_equiv}
-use Rattle.std.specs.List.{AllPairs, list_any}
+use Rattle.std.specs.List.{list_any}
 use Rattle.std.specs.Option.{option_eq}
-use Rattle.std.proofs.lemmas.Bool.{cases_Bool, false≢true}
+use Rattle.std.proofs.lemmas.Bool.{false≢true}
 use Rattle.std.proofs.lemmas.Cmp.{and_equiv, nat_eq_equiv, on_equiv}
-use Rattle.std.proofs.lemmas.List.{get_or-map, get_or_default, length-map, map-set, map_push, set-get_or}
+use Rattle.std.proofs.lemmas.List.{get_or-map, length-map, map_push}
 use Rattle.std.proofs.lemmas.List.Elements.{All-push, All-set}
-use Rattle.std.proofs.lemmas.List.Folds.{list_any_at}
 use Rattle.std.proofs.lemmas.Option.{get_or_from_slice_get, slice_get_within}
-use Rattle.waff_figures.specs.Waits.{ComesFirst}
-use Rattle.waff_figures.specs.WaitRows.{AreTold, StartsFirst, group_of, kind_in, row_over, row_with, rows_with, same_group, same_kind}
+use Rattle.waff_figures.specs.Groups.{firsts_by}
+use Rattle.waff_figures.specs.WaitRows.{group_of, kind_in, row_of, row_over, row_with, rows_by, rows_with, same_group, same_kind}
 use Rattle.waff_figures.specs.declared.wait_rows.Row.{Row}
 use Rattle.waff_figures.specs.declared.waits.Wait.{Wait}
-use Rattle.waff_figures.proofs.WaitRowLemmas.{order_grown, order_new, told_grown, told_new}
+use Rattle.waff_figures.proofs.GroupLemmas.{firsts_push}
+use Rattle.waff_figures.proofs.Lists.{any_map, any_same}
+use Rattle.waff_figures.proofs.WaitRowLemmas.{rows_grow, rows_new}
 
 abbrev pub Kind : Type 0
 Kind = (ℕ × ℕ) × Option (ℕ × ℕ)
@@ -59,93 +60,65 @@ module _ (groups : List (ℕ × ℕ)) where
   abbrev alike : ℕ → ℕ → Bool
   alike = same_group groups
 
-  abbrev pub kind_of : Row → Kind
-  kind_of r = kind_in groups r.first
-
   abbrev is : Wait → Wait → Bool
   is = same_kind alike
 
   laws : IsEquivalence is
   laws = kinds_are alike (groups_are groups)
 
-  -- the kind of the wait is among those of the rows
-  abbrev pub is_among : Wait → List Row → Bool
-  is_among w rows = list_any (kind_eq (kind_in groups w)) (map kind_of rows)
-
-  -- that it is not
-  none_are : (w : Wait) (rows : List Row) → is_among w rows ≡ false → All (λ r. is r.first w ≡ false) rows
-  none_are w rows new = λ k d low.
-      let r = get_or rows k d in
-      laws.symm r.first w ∙ elim (cases_Bool (is w r.first)) [
-        | inr differs ↦ differs
-        | inl passes ↦
-            let at : get_or (map kind_of rows) k (kind_of d) ≡ kind_of r = get_or-map kind_of rows k d (kind_of d) low in
-            let found = list_any_at (kind_eq (kind_in groups w)) (map kind_of rows) k (kind_of d) (subst (λ n. k < n) (sym (length-map rows kind_of)) low)
-            (ap (kind_eq (kind_in groups w)) at ∙ sym (same_kinds groups w r.first) ∙ passes) in
-            absurd (false≢true (sym new ∙ found))
-      ]
-
-  -- rows in the order of their first waits, with their kinds
+  -- a row for each kind that has come, in the order of the first waits, and their kinds
   pub record AreSoFar (ws : List Wait) (rows : List Row) (keys : List Kind) : Type 0 where
-    pub told : AreTold (same_group groups) ws rows
-    pub order : AllPairs StartsFirst rows
-    pub kinds : keys ≡ map (λ r. kind_in groups r.first) rows
+    pub rows_are : rows ≡ rows_by (same_group groups) ws
+    pub kinds : keys ≡ map (kind_in groups) (firsts_by (same_kind (same_group groups)) ws)
 
-  module _ (ws : List Wait) (w : Wait) (rows : List Row) (keys new_keys : List Kind) (place : ℕ)
-      (later : All (λ v. ComesFirst v w) ws) (are : AreSoFar ws rows keys) where
+  module _ (ws : List Wait) (w : Wait) (rows : List Row) (keys new_keys : List Kind) (place : ℕ) (are : AreSoFar ws rows keys) where
+    abbrev firsts : List Wait
+    firsts = firsts_by is ws
+
     abbrev Places : Type 0
     Places = (k : Kind) × (slice_get new_keys place ≡ Some k) × (kind_eq (kind_in groups w) k ≡ true)
 
-    -- the place of a kind that is there is that of a row of the kind
-    pub place_inside : new_keys ≡ keys → Places → place < length rows
-    place_inside same placed =
+    -- the place of a kind that is there is that of a first wait of the kind
+    place_there : new_keys ≡ keys → Places → place < length firsts
+    place_there same placed =
         let within = slice_get_within new_keys place placed.0 placed.1 in
-        omega (arith, within, ap length same, ap length are.kinds, length-map rows kind_of)
+        omega (arith, within, ap length same, ap length are.kinds, length-map firsts (kind_in groups))
 
-    row_there : new_keys ≡ keys → Places → (d : Row) → is (get_or rows place d).first w ≡ true
-    row_there same placed d =
-        let inside = place_inside same placed in
-        let at : get_or new_keys place (kind_of d) ≡ kind_of (get_or rows place d)
-        = ap (λ ks. get_or ks place (kind_of d)) (same ∙ are.kinds) ∙ get_or-map kind_of rows place d (kind_of d) inside in
-        let found : placed.0 ≡ kind_of (get_or rows place d) = sym (get_or_from_slice_get new_keys place placed.0 (kind_of d) placed.1) ∙ at in
-        laws.symm (get_or rows place d).first w ∙ same_kinds groups w (get_or rows place d).first
-        ∙ ap (kind_eq (kind_in groups w)) (sym found) ∙ placed.2
+    first_there : new_keys ≡ keys → Places → is (get_or firsts place w) w ≡ true
+    first_there same placed =
+        let first = get_or firsts place w in
+        let at : get_or new_keys place (kind_in groups w) ≡ kind_in groups first
+        = ap (λ ks. get_or ks place (kind_in groups w)) (same ∙ are.kinds) ∙ get_or-map (kind_in groups) firsts place w (kind_in groups w) (place_there same placed) in
+        let found : placed.0 ≡ kind_in groups first = sym (get_or_from_slice_get new_keys place placed.0 (kind_in groups w) placed.1) ∙ at in
+        laws.symm first w ∙ same_kinds groups w first ∙ ap (kind_eq (kind_in groups w)) (sym found) ∙ placed.2
 
     pub inside_if_old : (is_new among : Bool) → is_new ≡ not among → new_keys ≡ cond among keys (keys ++ kind_in groups w ∷ []) → Places
         → is_new ≡ false → place < length rows
-    inside_if_old is_new true added keys_are placed old = place_inside keys_are placed
+    inside_if_old is_new true added keys_are placed old =
+        omega (arith, place_there keys_are placed, ap length are.rows_are, length-map firsts (row_of alike ws))
     inside_if_old is_new false added keys_are placed old = absurd (false≢true (sym old ∙ added))
+
+    -- the kind is among them where the wait is like a first one
+    is_among : list_any (kind_eq (kind_in groups w)) keys ≡ list_any (is w) firsts
+    is_among =
+        ap (list_any (kind_eq (kind_in groups w))) are.kinds ∙ any_map (kind_eq (kind_in groups w)) (kind_in groups) firsts
+        ∙ any_same (λ v. kind_eq (kind_in groups w) (kind_in groups v)) (is w) firsts (λ k d low. sym (same_kinds groups w (get_or firsts k d)))
 
     pub one_more : (is_new among : Bool) → among ≡ list_any (kind_eq (kind_in groups w)) keys → is_new ≡ not among
         → new_keys ≡ cond among keys (keys ++ kind_in groups w ∷ []) → Places → AreSoFar (ws ++ w ∷ []) (rows_with rows place is_new w) new_keys
     one_more true true among added keys_are placed = absurd (false≢true (sym added))
     one_more false false among added keys_are placed = absurd (false≢true added)
     one_more true false among added keys_are placed =
-        let none = none_are w rows (sym (among ∙ ap (list_any (kind_eq (kind_in groups w))) are.kinds)) in
+        let none : list_any (is w) firsts ≡ false = sym (among ∙ is_among) in
         record {
-          told = told_new alike laws ws w rows are.told none;
-          order = order_new alike laws ws w rows are.told later are.order;
-          kinds = keys_are ∙ ap (λ ks. ks ++ kind_in groups w ∷ []) are.kinds ∙ sym (map_push kind_of rows (row_over (w ∷ []) w));
+          rows_are = ap (λ rs. rs ++ row_over (w ∷ []) w ∷ []) are.rows_are ∙ sym (rows_new alike laws ws w none);
+          kinds = keys_are ∙ ap (λ ks. ks ++ kind_in groups w ∷ []) are.kinds ∙ sym (map_push (kind_in groups) firsts w)
+              ∙ ap (map (kind_in groups)) (sym (firsts_push is ws w ∙ ap (λ b. cond b firsts (firsts ++ w ∷ [])) none));
         }
     one_more false true among added keys_are placed =
-        let d = row_over [] w in
-        let inside = place_inside keys_are placed in
-        let there = row_there keys_are placed d in
-        let r = get_or rows place d in
-        let same : get_or (map kind_of rows) place (kind_of r) ≡ kind_of r = get_or-map kind_of rows place r (kind_of r) inside ∙ ap kind_of (get_or_default rows place r d inside) in
+        let there : list_any (is w) firsts ≡ true = sym (among ∙ is_among) in
         record {
-          told = told_grown alike laws ws w rows are.told place d inside there;
-          order = order_grown alike laws ws w rows are.told place d inside there are.order;
-          kinds = keys_are ∙ are.kinds ∙ sym (map-set kind_of rows place (row_with r w) ∙ ap (set (map kind_of rows) place) (sym same) ∙ set-get_or (map kind_of rows) place (kind_of r));
+          rows_are = ap (λ rs. rows_with rs place false w) are.rows_are
+              ∙ sym (rows_grow alike laws ws w place (place_there keys_are placed) there (first_there keys_are placed));
+          kinds = keys_are ∙ are.kinds ∙ ap (map (kind_in groups)) (sym (firsts_push is ws w ∙ ap (λ b. cond b firsts (firsts ++ w ∷ [])) there));
         }
-
-pub none_so_far : (groups : List (ℕ × ℕ)) (rows : List Row) (keys : List Kind) → rows ≡ [] → keys ≡ [] → AreSoFar groups [] rows keys
-none_so_far groups rows keys no_rows no_keys =
-    subst (λ rs. AreSoFar groups [] rs keys) (sym no_rows) (subst (AreSoFar groups [] []) (sym no_keys) (record {
-      told = record {
-        each = λ k d low. absurd (omega (arith, low));
-        once = λ k d low. absurd (omega (arith, low));
-      };
-      order = λ i j d less low. absurd (omega (arith, low));
-      kinds = refl;
-    }))

@@ -7,11 +7,15 @@ use Rattle.std.specs.Ordering.{is_lt, nat_cmp}
 use Rattle.std.specs.declared.cmp.Ordering.TheVariants.{Less, Equal, Greater}
 use Rattle.std.proofs.lemmas.Bool.{cases_Bool, cases_lt, false≢true}
 use Rattle.std.proofs.lemmas.Bool.Decides.{nat_tests}
+use Rattle.std.proofs.lemmas.List.{get_or-map, length-map}
 use Rattle.std.proofs.lemmas.List.Kept.{AllPairs-filter}
-use Rattle.std.proofs.lemmas.List.Sorted.{All-permutation, IsStrictWeakOrder-flip, ranks_by, sorted_far, sum_by-IsPermutation}
-use Rattle.waff_figures.specs.WaitRows.{AreRows, AreTold, IsRow, StartsFirst, same_kind}
+use Rattle.std.proofs.lemmas.List.Sorted.{IsStrictWeakOrder-flip, ranks_by, sorted_far}
+use Rattle.waff_figures.specs.Groups.{firsts_by}
+use Rattle.waff_figures.specs.Waits.{ComesFirst}
+use Rattle.waff_figures.specs.WaitRows.{AreRows, StartsFirst, row_of, rows_by, same_kind}
 use Rattle.waff_figures.specs.declared.wait_rows.Row.{Row}
 use Rattle.waff_figures.specs.declared.waits.Wait.{Wait}
+use Rattle.waff_figures.proofs.GroupLemmas.{firsts_in_order}
 
 module _ {X : Type 0} (p : X → Bool) where
   abbrev Among : List X → X → X → Type 0
@@ -70,16 +74,25 @@ ties_at a b same =
     let back : (b == a) ≡ true = grind (arith, nat_tests, same) in
     rw (one, other, equal, back) refl
 
-pub sorted_rows : (alike : ℕ → ℕ → Bool) (ws : List Wait) (xs ys : List Row) → AreTold alike ws xs → AllPairs StartsFirst xs
+-- the rows stand in the order of their first waits
+rows_in_order : (alike : ℕ → ℕ → Bool) (ws : List Wait) → AllPairs ComesFirst ws → AllPairs StartsFirst (rows_by alike ws)
+rows_in_order alike ws order i j d less low =
+    let firsts = firsts_by (same_kind alike) ws in
+    let long = length-map firsts (row_of alike ws) in
+    let at : (k : ℕ) → k < length firsts → (get_or (rows_by alike ws) k d).first ≡ get_or firsts k d.first
+    = λ k inside. ap (λ (r : Row). r.first) (get_or-map (row_of alike ws) firsts k d.first d inside) in
+    let here : j < length firsts = omega (arith, low, long) in
+    subst (λ v. ComesFirst v (get_or (rows_by alike ws) j d).first) (sym (at i (omega (arith, less, here))))
+    (subst (ComesFirst (get_or firsts i d.first)) (sym (at j here)) (firsts_in_order (same_kind alike) ComesFirst ws order i j d.first less here))
+
+pub sorted_rows : (alike : ℕ → ℕ → Bool) (ws : List Wait) (xs ys : List Row) → xs ≡ rows_by alike ws → AllPairs ComesFirst ws
     → IsPermutation xs ys → IsSortedBy has_more ys → IsStableBy has_more xs ys → AreRows alike ws ys
-sorted_rows alike ws xs ys told order moved sorted stable = record {
-  told = record {
-    each = All-permutation (IsRow alike ws) xs ys moved told.each;
-    once = λ k d low. sum_by-IsPermutation (λ (r : Row). cond {A = ℕ} (same_kind alike r.first (get_or ws k d)) 1 0) xs ys moved ∙ told.once k d low;
-  };
+sorted_rows alike ws xs ys are first moved sorted stable = record {
+  are = subst (λ l. IsPermutation l ys) are moved;
   order = λ i j d less low.
       let one = get_or ys i d in
       let other = get_or ys j d in
+      let order : AllPairs StartsFirst xs = subst (AllPairs StartsFirst) (sym are) (rows_in_order alike ws first) in
       let down : other.ticks ≤ one.ticks = no_less one.ticks other.ticks (sorted_far has_more more_is_order ys sorted i j d (omega (arith, less)) low) in
       elim (cases_lt other.ticks one.ticks) [
         | inl fewer ↦ inl fewer

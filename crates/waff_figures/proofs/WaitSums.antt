@@ -1,20 +1,24 @@
 -- Waits add up.
-use Rattle.std.proofs.Common.{◌≡◌, ℕ, zero, suc, ◌+◌, ◌-◌, ◌<◌, ◌≤◌, inl, inr, cond, ltb, ◌==◌, Bool, true, false, List, [], ◌∷◌, get_or, filter, sum_by, count_by, All, Option, Some, None, option_map, arith, refl, sym, ◌∙◌, ap, subst}
+use Rattle.std.proofs.Common.{◌≡◌, ℕ, zero, suc, ◌+◌, ◌-◌, ◌<◌, ◌≤◌, inl, inr, cond, ltb, ◌==◌, Bool, true, false, List, [], ◌∷◌, get_or, sum_by, All, Option, Some, None, option_map, arith, refl, sym, ◌∙◌, ap, subst}
 use Rattle.std.specs.List.{range_with_len}
 use Rattle.std.proofs.lemmas.Bool.{cond_both, ltb-false}
 use Rattle.std.proofs.lemmas.Bool.Decides.{nat_tests}
 use Rattle.std.proofs.lemmas.List.Elements.{All-cons, All-nil, All-tail}
+use Rattle.std.proofs.lemmas.List.Sorted.{sum_by-IsPermutation}
 use Rattle.std.proofs.lemmas.List.Sums.{sum_by-append, sum_by-cons}
 use Rattle.waff_plan.specs.Obeys.{Obeys}
 use Rattle.waff_plan.specs.Waited.{IsWaitedFor}
 use Rattle.waff_plan.specs.Work.{Work, IsNumber, finish_of, issue_after, issue_of, numbers}
 use Rattle.waff_plan.proofs.Longest.{sum_more}
 use Rattle.waff_figures.specs.Waits.{AreWaits, ready_of, wait_of, waits_in}
-use Rattle.waff_figures.specs.WaitLaws.{OwnClientIsNoWait, ReadyIsGreatest, TicksAddUp, WaitsAddUp}
-use Rattle.waff_figures.specs.WaitRows.{same_kind}
+use Rattle.waff_figures.specs.WaitLaws.{OwnClientIsNoWait, ReadyIsGreatest, TicksAddUp, WaitsAddUp, WaitsAreOnce}
+use Rattle.waff_figures.specs.Groups.{firsts_by}
+use Rattle.waff_figures.specs.WaitRows.{row_of, rows_by, same_kind}
 use Rattle.waff_figures.specs.declared.wait_rows.Row.{Row}
 use Rattle.waff_figures.specs.declared.waits.Wait.{Wait}
-use Rattle.waff_figures.proofs.SumLemmas.{once_picked, sum_all_same, sum_both, sum_nothing, sum_one, sum_same}
+use Rattle.waff_figures.proofs.GroupLemmas.{each_once, firsts_add_up, sum_map}
+use Rattle.waff_figures.proofs.SumLemmas.{sum_one, sum_same}
+use Rattle.waff_figures.proofs.WaitKinds.{kinds_are}
 use Rattle.waff_figures.proofs.WaitLemmas.{some_upto, upto_more, waits_at, waits_upto}
 
 pub ready_is_greatest : (before : ℕ → ℕ → Type 0) (work : Work) (start : ℕ → ℕ) → ReadyIsGreatest before work start
@@ -135,27 +139,16 @@ own_client_is_no_wait before work start waits i m are obeys number follows at_on
     none_of m waits (subst (All (λ wait. 0 < wait.ticks)) (sym are.waits_are) (some_upto work start are.links work.count))
     (omega (arith, all, issued, at_once))
 
-filtered_sum : {X : Type 0} (p : X → Bool) (f : X → ℕ) (x : X) (xs : List X) → sum_by f (filter p (x ∷ xs)) ≡ cond (p x) (f x) 0 + sum_by f (filter p xs)
-filtered_sum p f x xs =
-    cond_both (p x) (x ∷ filter p xs) (filter p xs) (λ l. sum_by f l ≡ cond (p x) (f x) 0 + sum_by f (filter p xs))
-    (λ pass. let this : cond (p x) (f x) 0 ≡ f x = ap (λ b. cond b (f x) 0) pass in omega (arith, this, sum_by-cons f x (filter p xs)))
-    (λ fails. let this : cond (p x) (f x) 0 ≡ 0 = ap (λ b. cond b (f x) 0) fails in omega (arith, this))
-
--- where each is in one part, the parts add up to all
-parts_add_up : {X Y : Type 0} (p : Y → X → Bool) (f : X → ℕ) (parts : List Y) (xs : List X) → All (λ x. count_by (λ y. p y x) parts ≡ 1) xs
-    → sum_by (λ y. sum_by f (filter (p y) xs)) parts ≡ sum_by f xs
-parts_add_up p f parts [] once = sum_nothing (λ y. sum_by f (filter (p y) [])) (λ y. refl) parts
-parts_add_up p f parts (x ∷ xs) once =
-    let split = sum_all_same (λ y. sum_by f (filter (p y) (x ∷ xs))) (λ y. cond (p y x) (f x) 0 + sum_by f (filter (p y) xs)) parts
-    (λ k d low. filtered_sum (p (get_or parts k d)) f x xs) in
-    let both = sum_both (λ y. cond (p y x) (f x) 0) (λ y. sum_by f (filter (p y) xs)) parts in
-    let this = once_picked (λ y. p y x) (f x) parts (once 0 x (omega arith)) in
-    let rest = parts_add_up p f parts xs (λ k d low. once (suc k) d (omega (arith, low))) in
-    omega (arith, split, both, this, rest, sum_by-cons f x xs)
+pub waits_are_once : WaitsAreOnce
+waits_are_once alike waits rows laws are k d low =
+    let told : Row → ℕ = λ row. cond (same_kind alike row.first (get_or waits k d)) 1 0 in
+    sum_by-IsPermutation told (rows_by alike waits) rows are.are
+    ∙ sum_map told (row_of alike waits) (firsts_by (same_kind alike) waits)
+    ∙ each_once (same_kind alike) (kinds_are alike laws) waits k d low
 
 pub ticks_add_up : (before : ℕ → ℕ → Type 0) (work : Work) (start : ℕ → ℕ) → TicksAddUp before work start
-ticks_add_up before work start alike waits rows are obeys told =
-    sum_all_same (λ (row : Row). row.ticks) (λ row. sum_by ticks_of (filter (same_kind alike row.first) waits)) rows
-    (λ k d low. ap (λ (row : Row). row.ticks) (told.told.each k d low).row_is)
-    ∙ parts_add_up (λ (row : Row) (wait : Wait). same_kind alike row.first wait) ticks_of rows waits told.told.once
+ticks_add_up before work start alike waits rows laws are obeys told =
+    sum_by-IsPermutation (λ (row : Row). row.ticks) (rows_by alike waits) rows told.are
+    ∙ sum_map (λ (row : Row). row.ticks) (row_of alike waits) (firsts_by (same_kind alike) waits)
+    ∙ firsts_add_up (same_kind alike) (kinds_are alike laws) ticks_of waits
     ∙ all_add_up before work start waits are obeys

@@ -1,14 +1,12 @@
 -- The waits of a plan are one list, and so are their rows.
-use Rattle.std.proofs.Common.{◌≡◌, ℕ, zero, suc, ◌+◌, ◌-◌, ◌<◌, ◌≤◌, inl, inr, Bool, true, false, List, [], ◌∷◌, ◌++◌, length, get_or, count_by, slice_get, Option, Some, None, arith, refl, sym, ◌∙◌, ap, subst}
+use Rattle.std.proofs.Common.{◌≡◌, ℕ, zero, suc, ◌+◌, ◌-◌, ◌<◌, ◌≤◌, inl, inr, Bool, List, ◌++◌, length, get_or, Contains, Option, Some, None, arith, refl, sym, ◌∙◌, ap, subst}
 use Rattle.std.specs.Cmp.{IsEquivalence}
-use Rattle.std.specs.List.{AllPairs}
 use Rattle.std.specs.Option.{IsSome, is_some}
-use Rattle.std.specs.Str.{bytes_eq}
-use Rattle.std.proofs.lemmas.Bool.{cases_lt, false≢true}
+use Rattle.std.proofs.lemmas.Bool.{false≢true}
 use Rattle.std.proofs.lemmas.Cmp.{and_equiv, nat_eq_equiv, on_equiv}
-use Rattle.std.proofs.lemmas.Slice.Eq.{bytes_eq-Decides}
-use Rattle.std.proofs.lemmas.Option.{get_or_from_slice_get, same_Some, slice_get-get_or, slice_get_within}
+use Rattle.std.proofs.lemmas.List.Sorted.{Contains-permutation, IsPermutation-sym}
 use Rattle.waff_model.specs.Tree.{Node}
+use Rattle.waff_model.specs.Unique.{AtMostOne}
 use Rattle.waff_model.specs.declared.message.Version.{Version}
 use Rattle.waff_model.specs.declared.message.Version.TheVariants.{V1, V2, V3}
 use Rattle.waff_assign.specs.Order.{Relation, affinity_of}
@@ -17,18 +15,17 @@ use Rattle.waff_plan.specs.Serving.{started_before}
 use Rattle.waff_plan.specs.Unique.{AreSame}
 use Rattle.waff_plan.specs.Waited.{AreWaitedFor, IsWaitedFor}
 use Rattle.waff_plan.specs.Work.{Work, IsNumber, finish_of, issue_of}
-use Rattle.waff_plan.proofs.IssuePlans.{same_issue}
+use Rattle.waff_plan.proofs.Holding.{same_issue}
 use Rattle.waff_figures.specs.Waits.{AreWaits, ComesFirst, ready_of, wait_of, waits_in}
 use Rattle.waff_figures.specs.WaitLaws.{RowsAreOne}
-use Rattle.waff_figures.specs.WaitRows.{AreRows, IsRow, StandsBefore, row_of, same_kind}
+use Rattle.waff_figures.specs.WaitRows.{AreRows, StandsBefore, rows_by}
 use Rattle.waff_figures.specs.WaitText.{are_alike, name_at}
 use Rattle.waff_figures.specs.declared.grouping.Grouping.{Grouping}
 use Rattle.waff_figures.specs.declared.grouping.Grouping.TheVariants.{Affinity, Name}
 use Rattle.waff_figures.specs.declared.wait_rows.Row.{Row}
 use Rattle.waff_figures.specs.declared.waits.Wait.{Wait}
-use Rattle.waff_figures.proofs.WaitKinds.{kinds_are}
+use Rattle.waff_figures.proofs.Lists.{bytes_laws, same_order}
 use Rattle.waff_figures.proofs.WaitLemmas.{first_known, upto_more, waits_at, waits_upto}
-use Rattle.waff_figures.proofs.WaitRowLemmas.{counted_is_there}
 
 -- plans with the same starts have the same links, and the same waits
 module _ (before : ℕ → ℕ → Type 0) (work : Work) (known : (i m : ℕ) → before i m → IsNumber work i) (follows : FollowsEarlier work) (start other : ℕ → ℕ)
@@ -95,40 +92,6 @@ module _ (before : ℕ → ℕ → Type 0) (work : Work) (known : (i m : ℕ) �
   same_waits waits other_waits are other_are =
       are.waits_are ∙ same_upto are.links other_are.links are.are_links other_are.are_links work.count (omega arith) ∙ sym other_are.waits_are
 
--- two lists in one order with the same elements are equal
-abbrev IsIn : {X : Type 0} → List X → X → Type 0
-IsIn xs x = (k : ℕ) × (slice_get xs k ≡ Some x)
-
-module _ {X : Type 0} (R : X → X → Type 0) (one_way : (x y : X) → R x y → R y x → ⊥) where
-  behind : (x : X) (xs : List X) → AllPairs R (x ∷ xs) → (y : X) → IsIn xs y → R x y
-  behind x xs order y in_xs =
-      let within = slice_get_within xs in_xs.0 y in_xs.1 in
-      subst (R x) (get_or_from_slice_get xs in_xs.0 y y in_xs.1) (order 0 (suc in_xs.0) y (omega arith) (omega (arith, within)))
-
-  tail_order : (x : X) (xs : List X) → AllPairs R (x ∷ xs) → AllPairs R xs
-  tail_order x xs order = λ i j d less low. order (suc i) (suc j) d (omega (arith, less)) (omega (arith, low))
-
-  -- what is in a list is its first element or behind it
-  first_or_behind : (P : Type 0) (x y : X) (xs : List X) → IsIn (x ∷ xs) y → (x ≡ y → P) → (IsIn xs y → P) → P
-  first_or_behind P x y xs (zero, at) first rest = first (same_Some x y at)
-  first_or_behind P x y xs (suc k, at) first rest = rest (k, at)
-
-  pub same_order : (xs ys : List X) → AllPairs R xs → AllPairs R ys → ((x : X) → IsIn xs x → IsIn ys x) → ((y : X) → IsIn ys y → IsIn xs y) → xs ≡ ys
-  same_order [] [] order other into back = refl
-  same_order [] (y ∷ ys) order other into back = let there = back y (0, refl) in absurd (let within = slice_get_within {A = X} [] there.0 y there.1 in omega (arith, within))
-  same_order (x ∷ xs) [] order other into back = let there = into x (0, refl) in absurd (let within = slice_get_within {A = X} [] there.0 x there.1 in omega (arith, within))
-  same_order (x ∷ xs) (y ∷ ys) order other into back =
-      let same : x ≡ y =
-      first_or_behind (x ≡ y) y x ys (into x (0, refl)) (λ e. sym e)
-      (λ x_behind. first_or_behind (x ≡ y) x y xs (back y (0, refl)) (λ e. e)
-      (λ y_behind. absurd (one_way x y (behind x xs order y y_behind) (behind y ys other x x_behind)))) in
-      let rest = same_order xs ys (tail_order x xs order) (tail_order y ys other)
-      (λ z there. first_or_behind (IsIn ys z) y z ys (into z (suc there.0, there.1))
-      (λ e. let after : R x x = subst (R x) (sym (same ∙ e)) (behind x xs order z there) in absurd (one_way x x after after)) (λ in_ys. in_ys))
-      (λ z there. first_or_behind (IsIn xs z) x z xs (back z (suc there.0, there.1))
-      (λ e. let after : R y y = subst (R y) (sym (sym same ∙ e)) (behind y ys other z there) in absurd (one_way y y after after)) (λ in_xs. in_xs)) in
-      ap (λ v. v ∷ xs) same ∙ ap (λ vs. y ∷ vs) rest
-
 not_some : (o : Option ℕ) → IsSome o → o ≡ None → ⊥
 not_some o some none = false≢true (sym (ap is_some none) ∙ some)
 
@@ -145,39 +108,14 @@ one_stands_before r s (inl more) (inr same) = omega (arith, more, same.0)
 one_stands_before r s (inr same) (inl more) = omega (arith, more, same.0)
 one_stands_before r s (inr same) (inr other) = one_comes_first r.first s.first same.1 other.1
 
-module _ (alike : ℕ → ℕ → Bool) (laws : IsEquivalence alike) (waits : List Wait) where
-  kinds : IsEquivalence (same_kind alike)
-  kinds = kinds_are alike laws
-
-  -- each row of the one list is one of the other
-  is_there : (rows other : List Row) → AreRows alike waits rows → AreRows alike waits other → (row : Row) → IsIn rows row → IsIn other row
-  is_there rows other are other_are row in_rows =
-      let inside = slice_get_within rows in_rows.0 row in_rows.1 in
-      let is = subst (IsRow alike waits) (get_or_from_slice_get rows in_rows.0 row row in_rows.1) (are.told.each in_rows.0 row inside) in
-      let first = is.first in
-      let place_in = slice_get_within waits first.place row.first first.at in
-      let once : count_by (λ r. same_kind alike r.first row.first) other ≡ 1
-      = subst (λ w. count_by (λ r. same_kind alike r.first w) other ≡ 1) (get_or_from_slice_get waits first.place row.first row.first first.at)
-      (other_are.told.once first.place row.first place_in) in
-      let there = counted_is_there (λ r. same_kind alike r.first row.first) other (omega (arith, once)) in
-      let found = there.1 in
-      let found_is = subst (IsRow alike waits) there.3 (other_are.told.each there.0 found there.2) in
-      let same_first : found.first ≡ row.first = elim (cases_lt first.place found_is.first.place) [
-        | inl earlier ↦ absurd (false≢true (sym (found_is.first.earlier first.place row.first earlier first.at) ∙ there.4))
-        | inr no_earlier ↦ elim (cases_lt found_is.first.place first.place) [
-          | inl later ↦
-              absurd (false≢true (sym (first.earlier found_is.first.place found.first later found_is.first.at) ∙ kinds.symm row.first found.first ∙ there.4))
-          | inr no_later ↦
-              let place : found_is.first.place ≡ first.place = omega (arith, no_earlier, no_later) in
-              same_Some found.first row.first (sym found_is.first.at ∙ ap (slice_get waits) place ∙ first.at)
-        ]
-      ] in
-      let same : found ≡ row = found_is.row_is ∙ ap (row_of alike waits) same_first ∙ sym is.row_is in
-      (there.0, slice_get-get_or other there.0 found there.2 ∙ ap Some (there.3 ∙ same))
-
-  pub same_rows : (rows other : List Row) → AreRows alike waits rows → AreRows alike waits other → rows ≡ other
-  same_rows rows other are other_are =
-      same_order StandsBefore one_stands_before rows other are.order other_are.order (is_there rows other are other_are) (is_there other rows other_are are)
+-- the rows are the same, in the same order
+same_rows : (alike : ℕ → ℕ → Bool) (waits : List Wait) → AtMostOne (AreRows alike waits)
+same_rows alike waits rows other are other_are =
+    let into : (one another : List Row) → AreRows alike waits one → AreRows alike waits another → (row : Row) → Contains one row → Contains another row
+    = λ one another p q row has.
+    Contains-permutation (rows_by alike waits) another row q.are
+    (Contains-permutation one (rows_by alike waits) row (IsPermutation-sym (rows_by alike waits) one p.are) has) in
+    same_order StandsBefore one_stands_before rows other are.order other_are.order (into rows other are other_are) (into other rows other_are are)
 
 -- what was waited for by one of two relations that are the same
 module _ (before again : Relation) (work : Work) (start : ℕ → ℕ) (into : (i m : ℕ) → before i m → again i m) (back : (i m : ℕ) → again i m → before i m) where
@@ -207,10 +145,10 @@ started_same V2 tree assigned work count start other same i j pair = pair
 started_same V3 tree assigned work count start other same i j pair =
     let one = same i (record { from = pair.first.from; to = omega (arith, pair.first.to, count) }) in
     let two = same j (record { from = pair.second.from; to = omega (arith, pair.second.to, count) }) in
-    record { first = pair.first; second = pair.second; started = omega (arith, pair.started, one, two); excludes = pair.excludes }
+    record { first = pair.first; second = pair.second; precedes = omega (arith, pair.precedes, one, two); excludes = pair.excludes }
 
 pub rows_are_one : (version : Version) (tree : List Node) (assigned : List ℕ) (work : Work) → RowsAreOne version tree assigned work
-rows_are_one version tree assigned work alike start other waits other_waits rows other_rows count follows laws same are other_are told other_told =
+rows_are_one version tree assigned work alike start other waits other_waits rows other_rows count follows same are other_are told other_told =
     let before = started_before version tree assigned start in
     let back : AreSame work other start = λ m number. sym (same m number) in
     let again = waits_again (started_before version tree assigned other) before work other (started_same version tree assigned work count other start back)
@@ -218,21 +156,7 @@ rows_are_one version tree assigned work alike start other waits other_waits rows
     let known : (i m : ℕ) → before i m → IsNumber work i
     = λ i m pair. let is = first_known version tree assigned start i m pair in record { from = is.from; to = omega (arith, is.to, count) } in
     let equal = same_waits before work known follows start other same waits other_waits are again in
-    same_rows alike laws other_waits rows other_rows (subst (λ ws. AreRows alike ws rows) equal told) other_told
-
--- tests that pass alike are equal
-both_pass : (a b : Bool) → (a ≡ true → b ≡ true) → (b ≡ true → a ≡ true) → a ≡ b
-both_pass true b into back = sym (into refl)
-both_pass false true into back = back refl
-both_pass false false into back = refl
-
-bytes_laws : IsEquivalence bytes_eq
-bytes_laws = record {
-  refl = λ x. (bytes_eq-Decides x x).1 refl;
-  symm = λ x y. both_pass (bytes_eq x y) (bytes_eq y x) (λ pass. (bytes_eq-Decides y x).1 (sym ((bytes_eq-Decides x y).0 pass)))
-      (λ pass. (bytes_eq-Decides x y).1 (sym ((bytes_eq-Decides y x).0 pass)));
-  congr = λ x y z pass. ap (λ w. bytes_eq w z) ((bytes_eq-Decides x y).0 pass);
-}
+    same_rows alike other_waits rows other_rows (subst (λ ws. AreRows alike ws rows) equal told) other_told
 
 -- messages are alike by an equivalence
 pub alike_laws : (grouping : Grouping) (assigned : List ℕ) (names : List (List ℕ)) → IsEquivalence (are_alike grouping assigned names)

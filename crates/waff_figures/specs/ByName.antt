@@ -1,12 +1,14 @@
 -- Where the time goes, by the labels of messages: their names, or their clients.
 use Rattle.std.specs.Prelude.{◌≡◌, ℕ, ◌-◌, ◌<◌, ◌≤◌, Bool, List, [], ◌∷◌, map}
 use Rattle.std.specs.Prelude.{slice_index_or, codes, decimal, length, take}
+use Rattle.std.specs.List.{range_with_len}
 use Rattle.std.specs.Str.{bytes_eq}
 pub use Rattle.waff_model.specs.DistinctNames.{message_names}
 use Rattle.waff_model.specs.DistinctNames.{distinct_names}
 use Rattle.waff_model.specs.declared.message.Message.{Message}
 use Rattle.waff_plan.specs.Timetable.{clients_of}
 use Rattle.waff_plan.specs.Work.{Work}
+use Rattle.waff_figures.specs.Groups.{firsts_by}
 use Rattle.waff_figures.specs.Tally.{no_tally, tally_of}
 use Rattle.waff_figures.specs.declared.grouping.Label.{Label}
 use Rattle.waff_figures.specs.declared.grouping.Label.TheVariants.{Name, Client}
@@ -22,9 +24,21 @@ abbrev pub labels_of : Label → List Message → List (List ℕ)
 labels_of Name messages = message_names messages
 labels_of Client messages = clients_of messages
 
+-- the label of message m
+abbrev pub label_at : List (List ℕ) → ℕ → List ℕ
+label_at labels m = slice_index_or labels (m - 1) []
+
+-- whether two messages have the same label
+abbrev pub same_label : List (List ℕ) → ℕ → ℕ → Bool
+same_label labels m n = bytes_eq (label_at labels m) (label_at labels n)
+
+-- the first message of each label, in their order
+abbrev pub first_messages : List (List ℕ) → List ℕ
+first_messages labels = firsts_by (same_label labels) (range_with_len 1 (length labels))
+
 -- whether message m has this name
 abbrev pub is_named : List (List ℕ) → List ℕ → ℕ → Bool
-is_named names name m = bytes_eq (slice_index_or names (m - 1) []) name
+is_named names name m = bytes_eq (label_at names m) name
 
 -- the first line
 abbrev pub label_header : Label → List (List ℕ)
@@ -39,28 +53,25 @@ named_row name tally = name ∷ decimal tally.messages ∷ decimal tally.cost �
 abbrev pub name_row : List (List ℕ) → Work → List ℕ → List ℕ → List (List ℕ)
 name_row names work chain name = named_row name (tally_of work chain (is_named names name))
 
--- the lines of the distinct labels
+-- the line of the messages that have the label of this one
+abbrev pub label_row : List (List ℕ) → Work → List ℕ → ℕ → List (List ℕ)
+label_row labels work chain first = name_row labels work chain (label_at labels first)
+
+-- the lines of the labels, in the order of their first messages
 abbrev pub label_lines : Label → List Message → Work → List ℕ → List (List (List ℕ))
 label_lines label messages work chain =
     label_header label
-    ∷ map (name_row (labels_of label messages) work chain) (distinct_names (labels_of label messages))
+    ∷ map (label_row (labels_of label messages) work chain) (first_messages (labels_of label messages))
 
 -- the line of the name at a place of a list, by a tally for each
 abbrev pub tallied_name_row : List (List ℕ) → List Tally → ℕ → List (List ℕ)
 tallied_name_row names tallies place =
     named_row (slice_index_or names place []) (slice_index_or tallies place no_tally)
 
--- no two of the keys are equal
-abbrev pub AreApart : List (List ℕ) → Type 0
-AreApart keys =
-    (i j : ℕ) → i < length keys → j < length keys
-    → slice_index_or keys i [] ≡ slice_index_or keys j [] → i ≡ j
-
 -- the keys are the distinct ones of the names so far, and a place is that of its name
 pub record AreNumbered (names keys : List (List ℕ)) (places : List ℕ) : Type 0 where
   pub distinct : keys ≡ distinct_names (take (length places) names)
   pub few : length keys ≤ length places
-  pub apart : AreApart keys
   pub within : (i : ℕ) → i < length places → slice_index_or places i 0 < length keys
   pub each : (i : ℕ) → i < length places
       → slice_index_or keys (slice_index_or places i 0) [] ≡ slice_index_or names i []

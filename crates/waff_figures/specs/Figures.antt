@@ -20,19 +20,27 @@ abbrev pub latencies_of : Work → (ℕ → ℕ) → List ℕ
 latencies_of work start = map (latency_of work start) (numbers work)
 
 -- the figures of a plan with these starts, for this number of workers or without a limit, where no plan
--- is shorter than the bound
+-- is shorter than the bound and these are percentiles of the latencies
+abbrev pub figures_at : Option ℕ → Work → ℕ → (ℕ → ℕ) → ℕ → ℕ → Figures
+figures_at limit work bound start p50 p99 = record {
+  workers = limit;
+  messages = work.count;
+  total = total_of work;
+  length = length_of work start;
+  least = bound;
+  waits = waits_of work start;
+  latencies = sum_by (latency_of work start) (numbers work);
+  p50 = p50;
+  p99 = p99;
+  latency = greatest (latencies_of work start);
+}
+
+-- these figures, with the percentiles
 pub record AreFigures (limit : Option ℕ) (work : Work) (bound : ℕ) (start : ℕ → ℕ)
     (figures : Figures) : Type 0 where
-  pub workers : figures.workers ≡ limit
-  pub messages : figures.messages ≡ work.count
-  pub total : figures.total ≡ total_of work
-  pub length : figures.length ≡ length_of work start
-  pub least : figures.least ≡ bound
-  pub waits : figures.waits ≡ waits_of work start
-  pub latencies : figures.latencies ≡ sum_by (latency_of work start) (numbers work)
   pub p50 : IsPercentile 50 (latencies_of work start) figures.p50
   pub p99 : IsPercentile 99 (latencies_of work start) figures.p99
-  pub latency : figures.latency ≡ greatest (latencies_of work start)
+  pub are : figures ≡ figures_at limit work bound start figures.p50 figures.p99
 
 -- where no message starts before its issue, the latencies are the waits and the costs
 abbrev pub LatenciesAddUp : Work → Type 0

@@ -1,15 +1,14 @@
 -- That the columns add up, and that each name has one line.
-use Rattle.std.specs.Prelude.{◌≡◌, ℕ, ◌-◌, ◌<◌, ◌≤◌, false, List, [], if◌then◌else◌, count_by, length}
-use Rattle.std.specs.Prelude.{slice_index, slice_index_or, sum_by}
+use Rattle.std.specs.Prelude.{◌≡◌, ℕ, ◌<◌, ◌≤◌, false, List, All, if◌then◌else◌, count_by, length}
+use Rattle.std.specs.Prelude.{sum_by}
 use Rattle.std.specs.List.{list_any, range_with_len}
 use Rattle.std.specs.List.Sorted.{IsStrictlyIncreasing}
 use Rattle.std.specs.Str.{bytes_eq}
-use Rattle.waff_model.specs.DistinctNames.{distinct_names}
 use Rattle.waff_model.specs.Tree.{Node}
 use Rattle.waff_plan.specs.Work.{Work, total_of}
 use Rattle.waff_plan.specs.Chain.{chain_cost}
 use Rattle.waff_figures.specs.ByAffinity.{runs_in}
-use Rattle.waff_figures.specs.ByName.{is_named}
+use Rattle.waff_figures.specs.ByName.{first_messages, is_named, label_at}
 use Rattle.waff_figures.specs.Tally.{tally_of}
 
 -- the messages of the affinities add up to all messages
@@ -34,34 +33,29 @@ ChainAddsUp tree assigned work chain =
 -- the messages of the distinct names add up to all messages, their costs to the total, and their
 -- costs on a chain to its cost
 pub record NamesAddUp (names : List (List ℕ)) (work : Work) (chain : List ℕ) : Type 0 where
-  pub messages : sum_by (λ name. (tally_of work chain (is_named names name)).messages)
-      (distinct_names names)
+  pub messages : sum_by (λ m. (tally_of work chain (is_named names (label_at names m))).messages)
+      (first_messages names)
       ≡ work.count
-  pub costs : sum_by (λ name. (tally_of work chain (is_named names name)).cost)
-      (distinct_names names)
+  pub costs : sum_by (λ m. (tally_of work chain (is_named names (label_at names m))).cost)
+      (first_messages names)
       ≡ total_of work
-  pub links : sum_by (λ name. (tally_of work chain (is_named names name)).chain)
-      (distinct_names names)
+  pub links : sum_by (λ m. (tally_of work chain (is_named names (label_at names m))).chain)
+      (first_messages names)
       ≡ chain_cost work chain
 
--- a name that a message has is one of the distinct ones, once, and no other name is
+-- a name that a message has is that of one of the first messages alone, and no other name is
 abbrev pub NameIsOnce : List (List ℕ) → Type 0
-NameIsOnce names = (name : List ℕ) → count_by (bytes_eq name) (distinct_names names)
+NameIsOnce names =
+    (name : List ℕ) → count_by (λ m. bytes_eq name (label_at names m)) (first_messages names)
     ≡ (if list_any (bytes_eq name) names then 1 else 0)
 
--- m is the first message of this name
-pub record IsFirstOf (names : List (List ℕ)) (name : List ℕ) (m : ℕ) : Type 0 where
+-- no message before m has its name
+pub record IsFirstOfName (names : List (List ℕ)) (m : ℕ) : Type 0 where
   pub from : 1 ≤ m
   pub to : m ≤ length names
-  pub named : slice_index_or names (m - 1) [] ≡ name
-  pub first : (n : ℕ) → 1 ≤ n → n < m → is_named names name n ≡ false
+  pub first : (n : ℕ) → 1 ≤ n → n < m → is_named names (label_at names m) n ≡ false
 
--- the distinct names stand in the order of their first messages, which are these
-pub record AreInOrder (names : List (List ℕ)) (firsts : List ℕ) : Type 0 where
-  pub count : length firsts ≡ length (distinct_names names)
-  pub each : (i : ℕ) → i < length firsts
-      → IsFirstOf names (slice_index_or (distinct_names names) i []) (slice_index firsts i)
-  pub rising : IsStrictlyIncreasing firsts
-
-abbrev pub NamesInOrder : List (List ℕ) → Type 0
-NamesInOrder names = (firsts : List ℕ) × AreInOrder names firsts
+-- so it is with the first messages, which rise
+pub record NamesInOrder (names : List (List ℕ)) : Type 0 where
+  pub each : All (IsFirstOfName names) (first_messages names)
+  pub rising : IsStrictlyIncreasing (first_messages names)

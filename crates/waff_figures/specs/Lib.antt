@@ -6,6 +6,7 @@ pub mod Rate
 pub mod Tally
 pub mod Below
 pub mod ByAffinity
+pub mod Groups
 pub mod ByName
 pub mod Laws
 pub mod Waits

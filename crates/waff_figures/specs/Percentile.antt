@@ -1,5 +1,5 @@
 -- Percentiles of a list of numbers.
-use Rattle.std.specs.Prelude.{◌≡◌, ℕ, ◌*◌, ◌≤◌, List, count_by, length, nat_le}
+use Rattle.std.specs.Prelude.{ℕ, ◌*◌, ◌≤◌, List, count_by, length, nat_le}
 
 -- how many of the numbers are at most this one
 abbrev pub count_within : List ℕ → ℕ → ℕ
@@ -13,8 +13,3 @@ Covers p numbers bound = p * length numbers ≤ 100 * count_within numbers bound
 pub record IsPercentile (p : ℕ) (numbers : List ℕ) (n : ℕ) : Type 0 where
   pub covers : Covers p numbers n
   pub least : (other : ℕ) → Covers p numbers other → n ≤ other
-
--- two percentiles of the same numbers are equal
-abbrev pub PercentileIsOne : List ℕ → Type 0
-PercentileIsOne numbers =
-    (p one other : ℕ) → IsPercentile p numbers one → IsPercentile p numbers other → one ≡ other

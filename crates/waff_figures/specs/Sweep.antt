@@ -14,24 +14,18 @@ use Rattle.waff_figures.specs.Figures.{AreFigures}
 use Rattle.waff_figures.specs.Least.{IsLowerBound, least_in, over_field}
 use Rattle.waff_plan_text.specs.Ratio.{ratio_field}
 use Rattle.waff_figures.specs.declared.figures.Figures.{Figures}
+use Rattle.waff_figures.specs.declared.sweep.TheConstants.{SWEEP_WORKERS}
 
 -- the numbers of workers that a sweep tells of where none are asked for
 abbrev pub sweep_workers : List ℕ
-sweep_workers = 1 ∷ 2 ∷ 3 ∷ 4 ∷ 6 ∷ 8 ∷ 12 ∷ 16 ∷ 24 ∷ 32 ∷ 48 ∷ 64 ∷ []
+sweep_workers = SWEEP_WORKERS
 
-abbrev pub sweep_header : List (List ℕ)
-sweep_header =
-    codes "workers" ∷ codes "length" ∷ codes "speedup"
-    ∷ codes "busy" ∷ codes "least" ∷ codes "over" ∷ codes "waits"
+-- what tells how good a plan is: the names, and the fields
+abbrev pub quality_names : List (List ℕ)
+quality_names =
+    codes "least" ∷ codes "over" ∷ codes "waits"
     ∷ codes "mean" ∷ codes "p50" ∷ codes "p99" ∷ codes "latency" ∷ []
 
--- how much of their time the workers are busy: the total over k times the length
-abbrev pub busy_field : Option ℕ → ℕ → ℕ → List ℕ
-busy_field None total length = codes "-"
-busy_field (Some k) total length = ratio_field total (k * length)
-
--- how much longer the plan is than it has to be, and how long the messages take: the fields from
--- `least` on
 abbrev pub quality_fields : Figures → List (List ℕ)
 quality_fields figures =
     decimal figures.least
@@ -42,6 +36,14 @@ quality_fields figures =
     ∷ decimal figures.p99
     ∷ decimal figures.latency
     ∷ []
+
+abbrev pub sweep_header : List (List ℕ)
+sweep_header = codes "workers" ∷ codes "length" ∷ codes "speedup" ∷ codes "busy" ∷ quality_names
+
+-- how much of their time the workers are busy: the total over k times the length
+abbrev pub busy_field : Option ℕ → ℕ → ℕ → List ℕ
+busy_field None total length = codes "-"
+busy_field (Some k) total length = ratio_field total (k * length)
 
 -- the line of a plan
 abbrev pub sweep_row : Figures → List (List ℕ)

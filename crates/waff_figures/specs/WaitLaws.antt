@@ -1,6 +1,6 @@
 -- What holds of the waits of all plans: they add up, and they leave no choice.
 use Rattle.std.specs.Prelude.{◌≡◌, ◌≢◌, ℕ, ◌+◌, ◌-◌, ◌==◌, ◌≤◌, ◌⊎◌, All, Bool, List, Option, Some}
-use Rattle.std.specs.Prelude.{if◌then◌else◌, length, sum_by}
+use Rattle.std.specs.Prelude.{count_by, if◌then◌else◌, length, sum_by}
 use Rattle.std.specs.Cmp.{IsEquivalence}
 use Rattle.waff_model.specs.Tree.{Node}
 use Rattle.waff_model.specs.declared.message.Version.{Version}
@@ -12,7 +12,7 @@ use Rattle.waff_plan.specs.Waited.{IsWaitedFor}
 use Rattle.waff_plan.specs.Work.{Work, IsNumber, finish_of, issue_of}
 use Rattle.waff_figures.specs.Figures.{waits_of}
 use Rattle.waff_figures.specs.Waits.{AreWaits, ready_of}
-use Rattle.waff_figures.specs.WaitRows.{AreRows}
+use Rattle.waff_figures.specs.WaitRows.{AreRows, same_kind}
 use Rattle.waff_figures.specs.declared.wait_rows.Row.{Row}
 use Rattle.waff_figures.specs.declared.waits.Wait.{Wait}
 
@@ -46,10 +46,17 @@ OwnClientIsNoWait before work start =
     → IsNumber work m → work.follows m ≡ Some i → start m ≡ finish_of work start i + work.think m
     → All (λ wait. wait.message ≢ m) waits
 
+-- each wait is told of in one row
+abbrev pub WaitsAreOnce : Type 0
+WaitsAreOnce =
+    (alike : ℕ → ℕ → Bool) (waits : List Wait) (rows : List Row) → IsEquivalence alike
+    → AreRows alike waits rows
+    → All (λ wait. count_by (λ row. same_kind alike row.first wait) rows ≡ 1) waits
+
 -- the ticks of all rows add up to how long all messages wait
 abbrev pub TicksAddUp : Relation → Work → (ℕ → ℕ) → Type 0
 TicksAddUp before work start =
-    (alike : ℕ → ℕ → Bool) (waits : List Wait) (rows : List Row)
+    (alike : ℕ → ℕ → Bool) (waits : List Wait) (rows : List Row) → IsEquivalence alike
     → AreWaits before work start waits → Obeys before work start → AreRows alike waits rows
     → sum_by (λ row. row.ticks) rows ≡ waits_of work start
 
@@ -58,7 +65,7 @@ abbrev pub RowsAreOne : Version → List Node → List ℕ → Work → Type 0
 RowsAreOne version tree assigned work =
     (alike : ℕ → ℕ → Bool) (start other : ℕ → ℕ) (waits other_waits : List Wait)
     (rows other_rows : List Row) → length assigned ≡ work.count → FollowsEarlier work
-    → IsEquivalence alike → AreSame work start other
+    → AreSame work start other
     → AreWaits (started_before version tree assigned start) work start waits
     → AreWaits (started_before version tree assigned other) work other other_waits
     → AreRows alike waits rows → AreRows alike other_waits other_rows

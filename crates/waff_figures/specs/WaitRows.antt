@@ -1,10 +1,11 @@
 -- Waits of one kind told in one row.
 use Rattle.std.specs.Prelude.{◌≡◌, ℕ, ◌-◌, ◌+◌, ◌<◌, ◌⊎◌, ◌==◌, max, Bool, true, false, ◌&&◌, List, [], ◌∷◌, ◌++◌}
-use Rattle.std.specs.Prelude.{Option, Some, All, count_by, filter, length, map, option_map}
-use Rattle.std.specs.Prelude.{slice_get, slice_index_or, slice_set, sum_by}
+use Rattle.std.specs.Prelude.{Option, filter, length, map, option_map, slice_index_or, slice_set, sum_by}
 use Rattle.std.specs.List.{AllPairs}
+use Rattle.std.specs.List.Sorted.{IsPermutation}
 use Rattle.std.specs.Option.{option_eq}
 use Rattle.waff_plan.specs.Work.{greatest}
+use Rattle.waff_figures.specs.Groups.{firsts_by}
 use Rattle.waff_figures.specs.Waits.{ComesFirst}
 use Rattle.waff_figures.specs.declared.wait_rows.Row.{Row}
 use Rattle.waff_figures.specs.declared.waits.Wait.{Wait}
@@ -27,22 +28,9 @@ row_over waits first = record {
 abbrev pub row_of : (ℕ → ℕ → Bool) → List Wait → Wait → Row
 row_of alike waits first = row_over (filter (same_kind alike first) waits) first
 
--- no wait of its kind comes earlier
-pub record IsFirst (alike : ℕ → ℕ → Bool) (waits : List Wait) (first : Wait) : Type 0 where
-  pub place : ℕ
-  pub at : slice_get waits place ≡ Some first
-  pub earlier : (p : ℕ) (wait : Wait) → p < place → slice_get waits p ≡ Some wait
-      → same_kind alike first wait ≡ false
-
--- a row tells of the waits of a kind, by the first of them
-pub record IsRow (alike : ℕ → ℕ → Bool) (waits : List Wait) (row : Row) : Type 0 where
-  pub first : IsFirst alike waits row.first
-  pub row_is : row ≡ row_of alike waits row.first
-
--- each row tells of the waits of a kind, and each wait is told of in one row
-pub record AreTold (alike : ℕ → ℕ → Bool) (waits : List Wait) (rows : List Row) : Type 0 where
-  pub each : All (IsRow alike waits) rows
-  pub once : All (λ wait. count_by (λ row. same_kind alike row.first wait) rows ≡ 1) waits
+-- a row for each kind of waits, in the order of their first waits
+abbrev pub rows_by : (ℕ → ℕ → Bool) → List Wait → List Row
+rows_by alike waits = map (row_of alike waits) (firsts_by (same_kind alike) waits)
 
 -- the one row's first wait comes first
 abbrev pub StartsFirst : Row → Row → Type 0
@@ -53,9 +41,9 @@ abbrev pub StandsBefore : Row → Row → Type 0
 StandsBefore one other =
     (other.ticks < one.ticks) ⊎ ((one.ticks ≡ other.ticks) × StartsFirst one other)
 
--- the rows of the waits, by the most ticks
+-- these rows, by the most ticks
 pub record AreRows (alike : ℕ → ℕ → Bool) (waits : List Wait) (rows : List Row) : Type 0 where
-  pub told : AreTold alike waits rows
+  pub are : IsPermutation (rows_by alike waits) rows
   pub order : AllPairs StandsBefore rows
 
 -- the group of message n, where the groups are listed in the order of arrival

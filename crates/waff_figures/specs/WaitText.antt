@@ -1,16 +1,13 @@
 -- The lines that tell who waits for whom.
-use Rattle.std.specs.Prelude.{ℕ, ◌-◌, ◌==◌, ◌&&◌, Bool, List, [], ◌∷◌, Option, Some, None, map}
-use Rattle.std.specs.Prelude.{slice_index_or, codes, decimal}
-use Rattle.std.specs.Str.{bytes_eq}
+use Rattle.std.specs.Prelude.{ℕ, ◌==◌, ◌&&◌, Bool, List, [], ◌∷◌, Option, Some, None, map}
+use Rattle.std.specs.Prelude.{codes, decimal}
 use Rattle.waff_model.specs.Tree.{Node}
 use Rattle.waff_assign.specs.Order.{affinity_name, affinity_of}
+use Rattle.waff_figures.specs.ByName.{same_label}
+pub use Rattle.waff_figures.specs.ByName.{label_at as name_at}
 use Rattle.waff_figures.specs.declared.grouping.Grouping.{Grouping}
 use Rattle.waff_figures.specs.declared.grouping.Grouping.TheVariants.{Affinity, Name}
 use Rattle.waff_figures.specs.declared.wait_rows.Row.{Row}
-
--- the name of message m
-abbrev pub name_at : List (List ℕ) → ℕ → List ℕ
-name_at names m = slice_index_or names (m - 1) []
 
 -- whether two messages run in the same affinity
 abbrev pub same_affinity : List ℕ → ℕ → ℕ → Bool
@@ -21,7 +18,7 @@ same_affinity assigned m n = affinity_of assigned m == affinity_of assigned n
 abbrev pub are_alike : Grouping → List ℕ → List (List ℕ) → ℕ → ℕ → Bool
 are_alike Affinity assigned names m n = same_affinity assigned m n
 are_alike Name assigned names m n =
-    bytes_eq (name_at names m) (name_at names n) && same_affinity assigned m n
+    same_label names m n && same_affinity assigned m n
 
 -- a field of the message that is waited for, `-` for a worker
 abbrev pub for_field : (ℕ → List ℕ) → Option ℕ → List ℕ

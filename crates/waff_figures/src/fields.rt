@@ -2,27 +2,11 @@
 
 ghost use Rattle.std.specs.Prelude.{Some};
 ghost use Rattle.std.specs.List.{join_with_byte};
-ghost use Rattle.waff_plan_text.specs.Spelling.{worker_field};
 ghost use Rattle.waff_figures.specs.Sweep.{busy_field, quality_fields};
 
 use crate::figures::Figures;
 use std::fmt;
 use waff_plan_text::{Mean, Ratio, RatioUp};
-
-/// A number of workers, `-` where there is none.
-#[derive(Clone, Copy)]
-pub(crate) struct WorkerField(pub(crate) Option<u32>);
-
-impl fmt::Display for WorkerField {
-    ghost output = { λ workers. Some (worker_field workers.0) };
-
-    fn fmt<W: fmt::Write>(&self, f: &mut fmt::Formatter<W>) -> fmt::Result {
-        match self.0 {
-            Some(k) => write!(f, "{k}"),
-            None => write!(f, "-"),
-        }
-    }
-}
 
 /// How much of the time workers are busy.
 #[derive(Clone, Copy)]
@@ -46,8 +30,11 @@ impl fmt::Display for BusyField {
     }
 }
 
-/// How much longer a plan is than it has to be, and how long its messages take: the fields from
-/// `least` on, joined by commas.
+/// The names of the figures that tell how good a plan is, joined by commas.
+pub const QUALITY: &str = "least,over,waits,mean,p50,p99,latency";
+
+/// How much longer a plan is than it has to be, and how long its messages take: the fields of
+/// `QUALITY`, joined by commas.
 #[derive(Clone, Copy)]
 pub struct QualityFields(pub Figures);
 

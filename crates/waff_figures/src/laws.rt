@@ -1,10 +1,12 @@
 //! That the columns add up, and that each name has one line. Each law is a function that does
 //! nothing and whose contract is the law.
 
-ghost use Rattle.std.specs.Prelude.{◌≡◌, ◌<◌, ℕ, List, All, length};
+ghost use Rattle.std.specs.Prelude.{◌≡◌, ◌<◌, ℕ, Bool, List, All, length};
+ghost use Rattle.std.specs.Cmp.{IsEquivalence};
 ghost use Rattle.waff_model.specs.Tree.{Node};
 ghost use Rattle.waff_plan.specs.Chain.{IsAmongFirst};
 ghost use Rattle.waff_plan.specs.Work.{Work};
+ghost use Rattle.waff_figures.specs.Groups.{AreGrouped};
 ghost use Rattle.waff_figures.specs.Laws.{ChainAddsUp, CostsAddUp, MessagesAddUp, NameIsOnce};
 ghost use Rattle.waff_figures.specs.Laws.{NamesAddUp, NamesInOrder};
 
@@ -27,6 +29,13 @@ pub fn chain_adds_up()
     ensures { (tree : List Node) (assigned : List ℕ) (work : Work) (chain : List ℕ)
         → 0 < length tree
         → All (λ a. a < length tree) assigned → ChainAddsUp tree assigned work chain }
+{}
+
+/// Numbers in groups of those that are alike: each is in one group, and sums over the groups are the
+/// sums over all.
+pub fn numbers_are_grouped()
+    ensures { (alike : ℕ → ℕ → Bool) (numbers : List ℕ) → IsEquivalence alike
+        → AreGrouped alike numbers }
 {}
 
 /// What is told of the names of messages adds up: how many have each, their costs, and their costs

@@ -33,7 +33,7 @@ mod waits;
 
 pub use by_affinity::affinities_text;
 pub use by_name::names_text;
-pub use fields::QualityFields;
+pub use fields::{QUALITY, QualityFields};
 pub use figures::{Figures, figures_of};
 pub use grouping::{Grouping, Label};
 pub use rate::push_rate;

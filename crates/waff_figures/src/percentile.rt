@@ -2,7 +2,8 @@
 
 ghost use Rattle.std.specs.Prelude.{◌^◌, ◌<◌, ◌≤◌, ℕ, List, length};
 ghost use Rattle.std.specs.List.Sorted.{IsNonDecreasing};
-ghost use Rattle.waff_figures.specs.Percentile.{IsPercentile, PercentileIsOne};
+ghost use Rattle.waff_model.specs.Unique.{AtMostOne};
+ghost use Rattle.waff_figures.specs.Percentile.{IsPercentile};
 
 /// The least number such that at least `percent` of 100 of these numbers are at most that, 0 where
 /// there are none. The numbers are in order.
@@ -24,5 +25,5 @@ pub(crate) fn percentile(sorted: &[u64], percent: usize) -> u64
 /// Two percentiles of the same numbers are equal: a function that does nothing and whose contract
 /// is the law.
 pub fn percentile_is_one()
-    ensures equal { (numbers : List ℕ) → PercentileIsOne numbers }
+    ensures equal { (p : ℕ) (numbers : List ℕ) → AtMostOne (IsPercentile p numbers) }
 {}

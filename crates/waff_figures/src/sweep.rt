@@ -10,18 +10,18 @@ ghost use Rattle.waff_plan.specs.Work.{length_of};
 ghost use Rattle.waff_plan_text.specs.Lines.{Adds, line_text, text_of};
 ghost use Rattle.waff_list.specs.Served.{IsPlanServed};
 ghost use Rattle.waff_figures.specs.Sweep.{AreListed, AreNeedsOf, IsListed};
-ghost use Rattle.waff_figures.specs.Sweep.{sweep_lines, sweep_row, sweep_workers};
+ghost use Rattle.waff_figures.specs.Sweep.{sweep_header, sweep_lines, sweep_row, sweep_workers};
 
-use crate::fields::{BusyField, QualityFields, WorkerField};
+use crate::fields::{BusyField, QUALITY, QualityFields};
 use crate::figures::{Figures, figures_of, least_is_lower_bound};
 use std::alloc::{AllocError, Global};
 use waff_assign::Case;
 use waff_list::laws::needs_make_the_same_plans;
-use waff_list::{Rule, WorkerPlan, list_plan, list_plan_by};
+use waff_list::{Rule, WorkerPlan, list_plan_by, list_plan_of};
 use waff_order::Needs;
 use waff_order::predecessors::needs;
 use waff_plan::Planned;
-use waff_plan_text::Ratio;
+use waff_plan_text::{Ratio, WorkerField};
 
 /// The numbers of workers that a sweep tells of where none are asked for.
 pub static SWEEP_WORKERS: [u32; 12] = [1, 2, 3, 4, 6, 8, 12, 16, 24, 32, 48, 64];
@@ -148,7 +148,7 @@ fn planned_for(
             needs_make_the_same_plans();
             list_plan_by(alloc, needs, case.trace, rule, k)
         }
-        None => list_plan(alloc, case, rule, k),
+        None => list_plan_of(alloc, case, rule, k),
     }
 }
 
@@ -162,10 +162,17 @@ pub fn figures_text(
         string_bytes text ≡ text_of (sweep_lines listed.now unlimited.now)) }
 {
     let mut text = String::new(alloc);
-    text.push_str("workers,length,speedup,busy,least,over,waits,mean,p50,p99,latency\n")?;
+    push_header(&mut text)?;
     push_rows(&mut text, listed)?;
     push_row(&mut text, unlimited)?;
     Ok(text)
+}
+
+/// Appends the first line.
+fn push_header(text: &mut String) -> Result<(), AllocError>
+    ensures { OnOk result (Adds text.old text.new (line_text sweep_header)) }
+{
+    writeln!(text, "workers,length,speedup,busy,{QUALITY}")
 }
 
 /// Appends the lines of these plans.

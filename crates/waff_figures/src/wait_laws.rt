@@ -8,7 +8,7 @@ ghost use Rattle.waff_model.specs.declared.message.Version.{Version};
 ghost use Rattle.waff_plan.specs.Serving.{started_before};
 ghost use Rattle.waff_plan.specs.Work.{Work};
 ghost use Rattle.waff_figures.specs.WaitLaws.{OwnClientIsNoWait, ReadyIsGreatest, RowsAreOne};
-ghost use Rattle.waff_figures.specs.WaitLaws.{TicksAddUp, WaitsAddUp};
+ghost use Rattle.waff_figures.specs.WaitLaws.{TicksAddUp, WaitsAddUp, WaitsAreOnce};
 
 /// A message waits for another one until the greatest of its issue and the finishes of the messages
 /// that exclude it and are served before it.
@@ -27,6 +27,11 @@ pub fn waits_add_up()
 pub fn own_client_is_no_wait()
     ensures { (version : Version) (tree : List Node) (assigned : List ℕ) (work : Work)
         (start : ℕ → ℕ) → OwnClientIsNoWait (started_before version tree assigned start) work start }
+{}
+
+/// Each wait is told of in one row.
+pub fn waits_are_once()
+    ensures once { WaitsAreOnce }
 {}
 
 /// In a plan that obeys, the ticks of all rows add up to how long all messages wait.

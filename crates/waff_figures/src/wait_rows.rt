@@ -4,8 +4,8 @@ ghost use Rattle.std.specs.Prelude.{◌≡◌, ◌+◌, ◌<◌, ◌≤◌, ◌^
 ghost use Rattle.std.specs.Prelude.{OnOk, length};
 ghost use Rattle.std.specs.List.{AllPairs};
 ghost use Rattle.waff_figures.specs.Waits.{ComesFirst, IsWaitAmong};
-ghost use Rattle.waff_figures.specs.WaitRows.{AreRows, AreTold, StartsFirst, kind_in, same_group};
-ghost use Rattle.waff_figures.specs.WaitRows.{row_over, row_with, rows_with};
+ghost use Rattle.waff_figures.specs.WaitRows.{AreRows, kind_in, row_over, row_with};
+ghost use Rattle.waff_figures.specs.WaitRows.{rows_by, rows_with, same_group};
 
 use crate::waits::Wait;
 use indexmap::IndexSet;
@@ -42,10 +42,8 @@ pub(crate) fn rows(alloc: Global, waits: &[Wait], groups: &[Group]) -> Result<Ve
 
 /// The rows in the order of their first waits.
 fn gathered(alloc: Global, waits: &[Wait], groups: &[Group]) -> Result<Vec<Row>, AllocError>
-    requires order { AllPairs ComesFirst waits.now }
     requires among { All (IsWaitAmong (length groups.now)) waits.now }
-    ensures told { IfOk result (λ rows. AreTold (same_group groups.now) waits.now rows.items) }
-    ensures order { IfOk result (λ rows. AllPairs StartsFirst rows.items) }
+    ensures { IfOk result (λ rows. rows.items ≡ rows_by (same_group groups.now) waits.now) }
 {
     let mut kinds = IndexSet::new(alloc);
     gathered_by(alloc, &mut kinds, waits, groups)
@@ -59,10 +57,8 @@ fn gathered_by(
     groups: &[Group],
 ) -> Result<Vec<Row>, AllocError>
     requires none { kinds.old.keys ≡ [] }
-    requires order { AllPairs ComesFirst waits.now }
     requires among { All (IsWaitAmong (length groups.now)) waits.now }
-    ensures told { IfOk result (λ rows. AreTold (same_group groups.now) waits.now rows.items) }
-    ensures order { IfOk result (λ rows. AllPairs StartsFirst rows.items) }
+    ensures { IfOk result (λ rows. rows.items ≡ rows_by (same_group groups.now) waits.now) }
 {
     let mut rows = Vec::new(alloc);
     for wait in waits {

@@ -2,12 +2,13 @@
 use Rattle.std.proofs.Common.{◌≡◌, ℕ, List, Option, Some, None, Result, Ok, Err, sym, ◌∙◌, ap}
 use Rattle.waff_model.specs.Layout.{Hierarchy}
 use Rattle.waff_model.specs.Messages.{Arrivals}
+use Rattle.waff_model.specs.Unique.{AtMostOne}
 use Rattle.waff_read.specs.Hierarchies.{hierarchy_of}
 use Rattle.waff_inputs.specs.Known.{trace_of}
 use Rattle.waff_read.specs.declared.hier_error.HierError.{HierError}
 use Rattle.waff_read.specs.declared.trace_fault.TraceError.{TraceError}
 use Rattle.waff_inputs.specs.Inputs.{Refuses, TellsOfFiles}
-use Rattle.waff_inputs.specs.Unique.{AcceptedIsNotRefused, RefusalIsOne}
+use Rattle.waff_inputs.specs.Unique.{AcceptedIsNotRefused}
 use Rattle.waff_inputs.specs.declared.fault.ToolError.{ToolError}
 use Rattle.waff_inputs.specs.declared.fault.ToolError.TheVariants as tool
 
@@ -36,8 +37,8 @@ refused_is hierarchy_file trace_file tool.TooManyCells tells refused = absurd re
 pub same_some : {A : Type 0} (found : Option A) (one other : A) → found ≡ Some one → found ≡ Some other → one ≡ other
 same_some found one other is that = cc
 
-pub refusal_is_one : (hierarchy_file trace_file : List ℕ) → RefusalIsOne hierarchy_file trace_file
-refusal_is_one hierarchy_file trace_file one other tells also refused too =
+pub refusal_is_one : (hierarchy_file trace_file : List ℕ) → AtMostOne (λ (e : ToolError). TellsOfFiles e × Refuses hierarchy_file trace_file e)
+refusal_is_one hierarchy_file trace_file one other (tells, refused) (also, too) =
     same_some (of_files trace_file (hierarchy_of hierarchy_file)) one other
     (refused_is hierarchy_file trace_file one tells refused) (refused_is hierarchy_file trace_file other also too)
 

@@ -3,6 +3,7 @@ use Rattle.std.proofs.Common.{◌≡◌, ℕ, List, Result, Ok, sym, ◌∙◌, 
 use Rattle.waff_model.specs.Layout.{Hierarchy}
 use Rattle.waff_model.specs.Messages.{Arrivals}
 use Rattle.waff_model.specs.Tree.{IsTree, Node}
+use Rattle.waff_model.specs.Unique.{AtMostOne}
 use Rattle.waff_read.specs.Hierarchies.{hierarchy_of}
 use Rattle.waff_inputs.specs.Known.{trace_of}
 use Rattle.waff_read.proofs.LimitLaws.{layout_is_within_limits}
@@ -41,8 +42,8 @@ same_input hierarchy_file trace_file one other p q =
 
 -- what is told of files is one where it is one of each instance
 pub told_is_one : {A : Type 0} (IsTold : Instance → A → Type 0) (hierarchy_file trace_file : List ℕ)
-    → ((instance : Instance) → Accepts hierarchy_file trace_file instance → (a b : A) → IsTold instance a → IsTold instance b → a ≡ b)
-    → (a b : A) → IsToldOf IsTold hierarchy_file trace_file a → IsToldOf IsTold hierarchy_file trace_file b → a ≡ b
+    → ((instance : Instance) → Accepts hierarchy_file trace_file instance → AtMostOne (IsTold instance))
+    → AtMostOne (IsToldOf IsTold hierarchy_file trace_file)
 told_is_one IsTold hierarchy_file trace_file one a b p q =
     let same = same_input hierarchy_file trace_file p.instance q.instance p.accepts q.accepts in
     one p.instance p.accepts a b p.told (subst (λ i. IsTold i b) (sym same) q.told)

@@ -1,6 +1,6 @@
 -- What the program says of an error: the names of its variants from the outside in, and then its
 -- numbers and keys.
-use Rattle.std.specs.Prelude.{ℕ, List, ◌∷◌, ◌++◌, codes, decimal}
+use Rattle.std.specs.Prelude.{ℕ, List, [], ◌∷◌, ◌++◌, codes, decimal}
 use Rattle.waff_model.specs.declared.layout_rows.LayoutError.{LayoutError}
 use Rattle.waff_model.specs.declared.layout_rows.LayoutError.TheVariants as layout
 use Rattle.waff_model.specs.declared.tree.TreeError.{TreeError}
@@ -102,6 +102,10 @@ fault_line tool.ModelsSame = codes "waff: ModelsSame"
 fault_line tool.Write = codes "waff: Write"
 fault_line tool.Memory = codes "waff: Memory"
 fault_line tool.TooManyCells = codes "waff: TooManyCells"
+
+-- that line with its line feed
+abbrev pub fault_message : ToolError → List ℕ
+fault_message error = fault_line error ++ 10 ∷ []
 
 -- the exit status: 3 where the files are refused, 4 where a text could not be written or memory was
 -- refused

@@ -1,13 +1,16 @@
 //! Why a command gave no text, and how that is told.
-ghost use Rattle.std.specs.Prelude.{◌≡◌, ◌++◌, ◌∷◌, [], IfOk, OnOk, string_bytes};
-ghost use Rattle.waff_inputs.specs.Fault.{fault_line, status_of};
+ghost use Rattle.std.specs.Prelude.{◌≡◌, ◌++◌, IfOk, OnOk, string_bytes};
+ghost use Rattle.waff_io.specs.Writing.{WritesOrFails};
+ghost use Rattle.waff_inputs.specs.Fault.{fault_line, fault_message, status_of};
 ghost use Rattle.waff_inputs.specs.Told.{behind_text, told_text};
 ghost use Rattle.waff_inputs.specs.ToolErrors.{hierarchy_error, plan_text_error, trace_error};
 ghost use Rattle.waff_inputs.specs.declared.fault.ToolError.TheVariants.{Memory};
 
 use crate::fault_names::{Behind, Told, named, told_hierarchy, told_plan_text, told_trace};
+use itoa::Buffer;
 use std::alloc::{AllocError, Global};
 use thiserror::Error;
+use waff_io::{ErrorStream, WriteFault, write_pieces};
 use waff_model::Text;
 use waff_plan_text::PlanTextError;
 use waff_read::{HierError, TraceError};
@@ -92,14 +95,33 @@ pub fn fault_text(alloc: Global, error: &ToolError) -> Result<Text, AllocError>
     Text::of(alloc, line.as_str())
 }
 
-/// The line that tells of an error, with its line feed.
-pub fn fault_message(alloc: Global, error: &ToolError) -> Result<String, AllocError>
-    ensures { IfOk result (λ line. string_bytes line ≡ fault_line error.now ++ 10 ∷ []) }
+/// Writes the line that tells of an error, with its line feed, also where memory is refused.
+pub fn write_fault<S: ErrorStream>(
+    alloc: Global,
+    stream: &mut S,
+    error: &ToolError,
+) -> Result<(), WriteFault>
+    ensures { WritesOrFails (S.holds stream.old) (S.holds stream.new) (S.failed stream.new)
+        (fault_message error.now) result }
 {
-    let mut line = String::new(alloc);
-    push_error(&mut line, *error)?;
-    line.push('\n')?;
-    Ok(line)
+    let (group, told) = told_error(*error);
+    let mut first = Buffer::new();
+    let mut second = Buffer::new();
+    match told.behind {
+        Behind::Nothing => write_pieces(alloc, stream, &[group, told.name, "\n"]),
+        Behind::Number(n) => {
+            let n = first.format(n);
+            write_pieces(alloc, stream, &[group, told.name, " ", n, "\n"])
+        }
+        Behind::Numbers(n, m) => {
+            let (n, m) = (first.format(n), second.format(m));
+            write_pieces(alloc, stream, &[group, told.name, " ", n, " ", m, "\n"])
+        }
+        Behind::Key(n, key) => {
+            let n = first.format(n);
+            write_pieces(alloc, stream, &[group, told.name, " ", n, " ", key, "\n"])
+        }
+    }
 }
 
 /// Appends the line that tells of an error.

@@ -23,7 +23,7 @@ mod output;
 mod traces;
 pub mod unique;
 
-pub use fault::{ToolError, fault_message, fault_status, fault_text};
+pub use fault::{ToolError, fault_status, fault_text, write_fault};
 pub use inputs::{
     Accepted, MAX_RANKED, accept, accept_by_threads, accept_over_layout, read_numbered,
 };

@@ -1,8 +1,9 @@
 -- Two reads one after the other, and two writes.
-use Rattle.std.proofs.Common.{◌≡◌, ℕ, ◌+◌, ◌-◌, length, List, ◌++◌, take, drop, Option, Some, None, sym, ◌∙◌, ap, append_assoc}
+use Rattle.std.proofs.Common.{◌≡◌, ℕ, ◌+◌, ◌-◌, ◌<◌, length, arith, subst, [], List, ◌++◌, take, drop, Option, Some, None, sym, ◌∙◌, ap, append_assoc}
 use Rattle.std.specs.Io.KnownBytes.{Consumes, Appends}
-use Rattle.std.proofs.Math.Seq.{take-add}
-use Rattle.std.proofs.lemmas.List.{take_rest}
+use Rattle.std.proofs.Math.Seq.{take-add, take-append-add}
+use Rattle.std.proofs.lemmas.List.{append-nil, length-append, take-append-le, take_rest}
+use Rattle.waff_io.specs.Writing.{AppendsPart}
 
 pub Consumes-append : (first then last : Option (List ℕ)) (xs ys : List ℕ)
     → Consumes first then xs → Consumes then last ys → Consumes first last (xs ++ ys)
@@ -35,3 +36,18 @@ Appends-further first then last text n count h k =
     let rest = take_rest text n in
     rw (take-add n count text)
     (Appends-append first then last (take n text) (take count (drop n text)) h (rw rest at k))
+
+-- what is not written to grows by nothing
+pub Appends-none : (known : Option (List ℕ)) → Appends known known []
+Appends-none None = tt
+Appends-none (Some a) = sym (append-nil a)
+
+-- a text was written, and then a part of the next one, behind which more was to come
+pub AppendsPart-append : (first then last : Option (List ℕ)) (xs ys zs : List ℕ)
+    → Appends first then xs → AppendsPart then last ys → AppendsPart first last (xs ++ (ys ++ zs))
+AppendsPart-append first then last xs ys zs h (n, within, k) =
+    let part : take (length xs + n) (xs ++ (ys ++ zs)) ≡ xs ++ take n ys =
+    take-append-add xs (ys ++ zs) n ∙ ap (λ l. xs ++ l) (take-append-le n ys zs (omega (arith, within))) in
+    let inside : length xs + n < length (xs ++ (ys ++ zs)) =
+    omega (arith, within, length-append xs (ys ++ zs), length-append ys zs) in
+    (length xs + n, inside, subst (Appends first last) (sym part) (Appends-append first then last xs (take n ys) h k))

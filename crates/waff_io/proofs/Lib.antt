@@ -1,2 +1,3 @@
 mod KnownBytesLemmas
+mod Pieces
 mod SplitLemmas

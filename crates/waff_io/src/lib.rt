@@ -5,12 +5,15 @@
 //! - `reading`: all bytes of a reader, up to a limit.
 //! - `split`: what stands before and after the line `---` of one input.
 //! - `writing`: all bytes to a writer, one loop over `write`.
+//! - `stream`: a stream for what went wrong, which knows whether a write to it failed.
 #![tactic(auto)]
 
 mod reading;
 mod split;
+mod stream;
 mod writing;
 
 pub use reading::{ReadFault, read_whole};
 pub use split::split_input;
+pub use stream::{ErrorStream, Watched, write_pieces};
 pub use writing::{WriteFault, write_whole};

@@ -5,7 +5,6 @@ use Rattle.std.proofs.lemmas.Bool.{cases_eq, cases_order}
 use Rattle.std.proofs.lemmas.List.{length-take-le}
 use Rattle.std.proofs.lemmas.Option.{slice_get_past}
 use Rattle.waff_model.specs.declared.message.Version.{Version}
-use Rattle.waff_model.specs.declared.message.Version.TheVariants.{V1, V2, V3}
 use Rattle.waff_parse.specs.Fields.{five_of}
 use Rattle.waff_parse.specs.Refusals.{◌>>=◌, told}
 use Rattle.waff_parse.specs.Rows.{Record, is_text, records_of}
@@ -308,11 +307,6 @@ module _ (version : Version) (messages : ℕ) (rows : List Record) where
       let found = so_far.has message filled.0 from to filled.1 in
       missing.none (found.0, filled.0, found.1, found.2)
 
-  lines_some : (v : Version) → IsSome (slice_get (lines_of v messages) 0)
-  lines_some V1 = refl
-  lines_some V2 = refl
-  lines_some V3 = refl
-
   end_decides : (k : ℕ) (slots : Slots) → drop k rows ≡ [] → k ≤ length rows → summary_in (take k rows) ≡ [] → Kept messages slots (take k rows) → Clean k
       → Decides (refusal_of (plan_of_end (k + 2) slots))
   unfolding plan_of_end
@@ -325,7 +319,7 @@ module _ (version : Version) (messages : ℕ) (rows : List Record) where
           let next : next_of version messages (take k rows) ≡ slice_get (lines_of version messages) 0 =
           ap (λ (rs : List Record). slice_get (lines_of version messages) (length rs)) none in
           fault_at_end k within clean (error.Summary (k + 2)) (slice_get_past rows k (at_end rows k d))
-          (number_is k within clean, subst (λ (o : Option Line). IsSome o) (sym next) (lines_some version))
+          (number_is k within clean, subst (λ (o : Option Line). IsSome o) (sym next) refl)
           (complete_least version messages (take k rows) complete)
       by (Err e) (j, is, lt, free, all) =
           subst (λ e. Decides (Some e)) (ap error.Missing (omega arith) ∙ sym is)

@@ -7,7 +7,7 @@ use Rattle.std.proofs.lemmas.List.Elements.{All-cons, All-head, All-nil, All-tai
 use Rattle.std.proofs.lemmas.Slice.Eq.{bytes_eq-Decides}
 use Rattle.waff_model.specs.declared.limits.TheConstants.{MAX_TICK, MAX_WORKERS}
 use Rattle.waff_model.specs.declared.message.Version.{Version}
-use Rattle.waff_model.specs.declared.message.Version.TheVariants.{V1, V2, V3}
+use Rattle.waff_model.specs.Versions.{has_releases}
 use Rattle.waff_parse.specs.Fields.{Field, two_of}
 use Rattle.waff_parse.specs.Refusals.{◌>>=◌, told}
 use Rattle.waff_parse.specs.Rows.{Record, is_text}
@@ -17,7 +17,7 @@ use Rattle.waff_plan.specs.Chain.{IsListed, IsAmongFirst}
 use Rattle.waff_plan_text.specs.Fields.{is_dash, number_within_limit}
 use Rattle.waff_plan_text.specs.Given.{SummaryLines}
 use Rattle.waff_plan_text.specs.Refusals.{at_record}
-use Rattle.waff_plan_text.specs.SpelledSummaries.{AreNumbers, AreTexts, IsRelease, IsTick, IsWorkersField, SpellsSummary, SummaryIsExact}
+use Rattle.waff_plan_text.specs.SpelledSummaries.{AreNumbers, AreTexts, IsTick, IsWorkersField, SpellsSummary, SummaryIsExact}
 use Rattle.waff_plan_text.specs.Spelling.{release_line}
 use Rattle.waff_plan_text.specs.Summaries.{bound_line, chain_line, chain_of, closing_of, ending_of, ends, few, is_bound, link_of, next_line, same, summary_of, tick_line, tick_of, value_of, with_closing, workers_line, workers_of}
 use Rattle.waff_plan_text.specs.declared.closing.Closing.{Closing}
@@ -242,7 +242,8 @@ record SpellsClosing (version : Version) (rows : List Record) (closing : Closing
   left_text : Field
   right_text : Field
   lines : rows ≡ release_line version release_text ++ (codes "cost" ∷ cost_text ∷ []) ∷ (codes "bound" ∷ left_text ∷ right_text ∷ []) ∷ []
-  release : IsRelease version release_text closing.release
+  release : has_releases version ≡ true → IsTick release_text closing.release
+  no_release : has_releases version ≡ false → closing.release ≡ 0
   cost : IsTick cost_text closing.cost
   left : IsTick left_text closing.left
   right : IsTick right_text closing.right
@@ -291,57 +292,45 @@ ending_ok release at rows closing h =
 
 closing_ok : (version : Version) (at : ℕ) (rows : List Record) (closing : Closing) → closing_of version at rows ≡ Ok closing → SpellsClosing version rows closing
 unfolding closing_of
-closing_ok V1 at rows closing h =
-    let e = ending_ok 0 at rows closing h in
-    record {
-      release_text = [];
-      cost_text = e.cost_text;
-      left_text = e.left_text;
-      right_text = e.right_text;
-      lines = e.lines;
-      release = e.same;
-      cost = e.cost;
-      left = e.left;
-      right = e.right;
-    }
-closing_ok V2 at rows closing h =
-    let both = bind_ok (next_line (tick_line (codes "release")) at rows) (λ release. ending_of release (at + 1) (drop 1 rows)) closing h in
-    let first = line_ok (tick_line (codes "release")) at rows both.0 both.1 in
-    let release = tick_ok (codes "release") first.0 both.0 first.2 in
-    let e = ending_ok both.0 (at + 1) (drop 1 rows) closing both.2 in
-    let others : List Record = (codes "cost" ∷ e.cost_text ∷ []) ∷ (codes "bound" ∷ e.left_text ∷ e.right_text ∷ []) ∷ [] in
-    let lines : rows ≡ (codes "release" ∷ release.0 ∷ []) ∷ others =
-    first.1 ∙ ap (λ (rs : List Record). first.0 ∷ rs) e.lines ∙ ap (λ (r : Record). r ∷ others) release.1 in
-    record {
-      release_text = release.0;
-      cost_text = e.cost_text;
-      left_text = e.left_text;
-      right_text = e.right_text;
-      lines = lines;
-      release = subst (IsTick release.0) (sym e.same) release.2;
-      cost = e.cost;
-      left = e.left;
-      right = e.right;
-    }
-closing_ok V3 at rows closing h =
-    let both = bind_ok (next_line (tick_line (codes "release")) at rows) (λ release. ending_of release (at + 1) (drop 1 rows)) closing h in
-    let first = line_ok (tick_line (codes "release")) at rows both.0 both.1 in
-    let release = tick_ok (codes "release") first.0 both.0 first.2 in
-    let e = ending_ok both.0 (at + 1) (drop 1 rows) closing both.2 in
-    let others : List Record = (codes "cost" ∷ e.cost_text ∷ []) ∷ (codes "bound" ∷ e.left_text ∷ e.right_text ∷ []) ∷ [] in
-    let lines : rows ≡ (codes "release" ∷ release.0 ∷ []) ∷ others =
-    first.1 ∙ ap (λ (rs : List Record). first.0 ∷ rs) e.lines ∙ ap (λ (r : Record). r ∷ others) release.1 in
-    record {
-      release_text = release.0;
-      cost_text = e.cost_text;
-      left_text = e.left_text;
-      right_text = e.right_text;
-      lines = lines;
-      release = subst (IsTick release.0) (sym e.same) release.2;
-      cost = e.cost;
-      left = e.left;
-      right = e.right;
-    }
+closing_ok version at rows closing h = by (has_releases version) refl h
+  where
+    by : (t : Bool) → has_releases version ≡ t
+        → (if t then (next_line (tick_line (codes "release")) at rows >>= (λ release. ending_of release (at + 1) (drop 1 rows))) else ending_of 0 at rows) ≡ Ok closing
+        → SpellsClosing version rows closing
+    by false none h =
+        let e = ending_ok 0 at rows closing h in
+        record {
+          release_text = [];
+          cost_text = e.cost_text;
+          left_text = e.left_text;
+          right_text = e.right_text;
+          lines = rw none e.lines;
+          release = λ some. absurd (cc);
+          no_release = λ none. e.same;
+          cost = e.cost;
+          left = e.left;
+          right = e.right;
+        }
+    by true some h =
+        let both = bind_ok (next_line (tick_line (codes "release")) at rows) (λ release. ending_of release (at + 1) (drop 1 rows)) closing h in
+        let first = line_ok (tick_line (codes "release")) at rows both.0 both.1 in
+        let release = tick_ok (codes "release") first.0 both.0 first.2 in
+        let e = ending_ok both.0 (at + 1) (drop 1 rows) closing both.2 in
+        let others : List Record = (codes "cost" ∷ e.cost_text ∷ []) ∷ (codes "bound" ∷ e.left_text ∷ e.right_text ∷ []) ∷ [] in
+        let lines : rows ≡ (codes "release" ∷ release.0 ∷ []) ∷ others =
+        first.1 ∙ ap (λ (rs : List Record). first.0 ∷ rs) e.lines ∙ ap (λ (r : Record). r ∷ others) release.1 in
+        record {
+          release_text = release.0;
+          cost_text = e.cost_text;
+          left_text = e.left_text;
+          right_text = e.right_text;
+          lines = rw some lines;
+          release = λ some. subst (IsTick release.0) (sym e.same) release.2;
+          no_release = λ none. absurd (cc);
+          cost = e.cost;
+          left = e.left;
+          right = e.right;
+        }
 
 spelled : (version : Version) (messages at : ℕ) (rows : List Record) (summary : SummaryLines) → summary_of version messages at rows ≡ Ok summary
     → SpellsSummary version messages rows summary
@@ -402,6 +391,7 @@ spelled version messages at rows summary h =
           chain = chain.2;
           listed = chain.3;
           release = closing.release;
+          no_release = closing.no_release;
           cost = closing.cost;
           left = closing.left;
           right = closing.right;
@@ -434,29 +424,26 @@ ok_ending release at cost left right cost_text left_text right_text texts c l r 
 ok_closing : (version : Version) (at : ℕ) (rows : List Record) (closing : Closing) → AreTexts rows → SpellsClosing version rows closing
     → closing_of version at rows ≡ Ok closing
 unfolding closing_of
-ok_closing V1 at rows closing texts s =
-    let read = ok_ending 0 at closing.cost closing.left closing.right s.cost_text s.left_text s.right_text (subst AreTexts s.lines texts) s.cost s.left s.right in
-    let whole : ◌≡◌ {A = Closing} (record { release = 0; cost = closing.cost; left = closing.left; right = closing.right }) closing =
-    let none : closing.release ≡ 0 = s.release in rw (← none) refl in
-    ap (ending_of 0 at) s.lines ∙ read ∙ ap Ok whole
-ok_closing V2 at rows closing texts s =
-    let here : AreTexts ((codes "release" ∷ s.release_text ∷ []) ∷ (codes "cost" ∷ s.cost_text ∷ []) ∷ (codes "bound" ∷ s.left_text ∷ s.right_text ∷ []) ∷ []) =
-    subst AreTexts s.lines texts in
-    let others : List Record = (codes "cost" ∷ s.cost_text ∷ []) ∷ (codes "bound" ∷ s.left_text ∷ s.right_text ∷ []) ∷ [] in
-    let release = ok_line (tick_line (codes "release")) at (codes "release" ∷ s.release_text ∷ []) others closing.release
-    (first_text (codes "release" ∷ s.release_text ∷ []) others here) (ok_tick (codes "release") s.release_text closing.release s.release) in
-    let read = ok_ending closing.release (at + 1) closing.cost closing.left closing.right s.cost_text s.left_text s.right_text
-    (other_texts (codes "release" ∷ s.release_text ∷ []) others here) s.cost s.left s.right in
-    ap (closing_of V2 at) s.lines ∙ ap (λ r. r >>= (λ release. ending_of release (at + 1) others)) release ∙ read
-ok_closing V3 at rows closing texts s =
-    let here : AreTexts ((codes "release" ∷ s.release_text ∷ []) ∷ (codes "cost" ∷ s.cost_text ∷ []) ∷ (codes "bound" ∷ s.left_text ∷ s.right_text ∷ []) ∷ []) =
-    subst AreTexts s.lines texts in
-    let others : List Record = (codes "cost" ∷ s.cost_text ∷ []) ∷ (codes "bound" ∷ s.left_text ∷ s.right_text ∷ []) ∷ [] in
-    let release = ok_line (tick_line (codes "release")) at (codes "release" ∷ s.release_text ∷ []) others closing.release
-    (first_text (codes "release" ∷ s.release_text ∷ []) others here) (ok_tick (codes "release") s.release_text closing.release s.release) in
-    let read = ok_ending closing.release (at + 1) closing.cost closing.left closing.right s.cost_text s.left_text s.right_text
-    (other_texts (codes "release" ∷ s.release_text ∷ []) others here) s.cost s.left s.right in
-    ap (closing_of V3 at) s.lines ∙ ap (λ r. r >>= (λ release. ending_of release (at + 1) others)) release ∙ read
+ok_closing version at rows closing texts s = by (has_releases version) refl
+  where
+    by : (t : Bool) → has_releases version ≡ t
+        → (if t then (next_line (tick_line (codes "release")) at rows >>= (λ release. ending_of release (at + 1) (drop 1 rows))) else ending_of 0 at rows) ≡ Ok closing
+    by false none =
+        let lines : rows ≡ (codes "cost" ∷ s.cost_text ∷ []) ∷ (codes "bound" ∷ s.left_text ∷ s.right_text ∷ []) ∷ [] = rw none at s.lines in
+        let read = ok_ending 0 at closing.cost closing.left closing.right s.cost_text s.left_text s.right_text (subst AreTexts lines texts) s.cost s.left s.right in
+        let whole : ◌≡◌ {A = Closing} (record { release = 0; cost = closing.cost; left = closing.left; right = closing.right }) closing =
+        let zero : closing.release ≡ 0 = s.no_release none in rw (← zero) refl in
+        ap (ending_of 0 at) lines ∙ read ∙ ap Ok whole
+    by true some =
+        let others : List Record = (codes "cost" ∷ s.cost_text ∷ []) ∷ (codes "bound" ∷ s.left_text ∷ s.right_text ∷ []) ∷ [] in
+        let lines : rows ≡ (codes "release" ∷ s.release_text ∷ []) ∷ others = rw some at s.lines in
+        let here : AreTexts ((codes "release" ∷ s.release_text ∷ []) ∷ others) = subst AreTexts lines texts in
+        let release = ok_line (tick_line (codes "release")) at (codes "release" ∷ s.release_text ∷ []) others closing.release
+        (first_text (codes "release" ∷ s.release_text ∷ []) others here) (ok_tick (codes "release") s.release_text closing.release (s.release some)) in
+        let read = ok_ending closing.release (at + 1) closing.cost closing.left closing.right s.cost_text s.left_text s.right_text
+        (other_texts (codes "release" ∷ s.release_text ∷ []) others here) s.cost s.left s.right in
+        ap (λ (rs : List Record). next_line (tick_line (codes "release")) at rs >>= (λ release. ending_of release (at + 1) (drop 1 rs))) lines
+        ∙ ap (λ r. r >>= (λ release. ending_of release (at + 1) others)) release ∙ read
 
 -- five readings in turn, each of which gives a value
 all_read : {w : Result (Option ℕ) PlanTextError} {t l : Result ℕ PlanTextError} {c : Result (List ℕ) PlanTextError} {k : Result Closing PlanTextError}
@@ -493,6 +480,7 @@ is_read version messages at rows summary texts s =
       right_text = s.right_text;
       lines = refl;
       release = s.release;
+      no_release = s.no_release;
       cost = s.cost;
       left = s.left;
       right = s.right;

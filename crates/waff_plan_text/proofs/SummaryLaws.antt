@@ -1,10 +1,10 @@
 -- A summary is refused at the first of its lines that is.
-use Rattle.std.proofs.Common.{◌≡◌, ℕ, zero, suc, ◌+◌, List, [], ◌∷◌, length, drop, Bool, true, false, Option, Some, None, Result, Ok, Err, codes, refl, ap, ◌∙◌, arith}
+use Rattle.std.proofs.Common.{◌≡◌, ℕ, zero, suc, ◌+◌, List, [], ◌∷◌, ◌++◌, length, drop, Bool, true, false, Option, Some, None, Result, Ok, Err, codes, refl, ap, ◌∙◌, arith}
 use Rattle.std.specs.Prelude.{is_some, nat_le, ok_or, option_map, if◌then◌else◌, ◌==◌}
 use Rattle.std.specs.Str.{bytes_eq}
 use Rattle.waff_model.specs.declared.limits.TheConstants.{MAX_TICK, MAX_WORKERS}
 use Rattle.waff_model.specs.declared.message.Version.{Version}
-use Rattle.waff_model.specs.declared.message.Version.TheVariants.{V1, V2, V3}
+use Rattle.waff_model.specs.Versions.{has_releases}
 use Rattle.waff_parse.specs.Fields.{Field, two_of, three_of}
 use Rattle.waff_parse.specs.Refusals.{◌>>=◌, told}
 use Rattle.waff_parse.specs.Rows.{Record, is_text}
@@ -12,7 +12,7 @@ use Rattle.waff_parse.specs.Texts.{number_of, number_within, parts}
 use Rattle.waff_parse.specs.Walks.{walk}
 use Rattle.waff_plan_text.specs.Fields.{is_dash, number_within_limit}
 use Rattle.waff_plan_text.specs.Refusals.{at_record}
-use Rattle.waff_plan_text.specs.Refused.{Line, bound, chain, lines_of, refusal_of, tick, workers}
+use Rattle.waff_plan_text.specs.Refused.{Line, bound, chain, closing_lines, lines_of, refusal_of, tick, workers}
 use Rattle.waff_plan_text.specs.Summaries.{bound_line, bound_of, chain_line, chain_of, closing_of, ending_of, ends, few, is_bound, link_of, links_of, next_line, same, sides_of, summary_of, tick_line, tick_of, value_of, with_closing, workers_line, workers_of}
 use Rattle.waff_plan_text.specs.declared.refusal.PlanTextError.{PlanTextError}
 use Rattle.waff_plan_text.specs.declared.refusal.PlanTextError.TheVariants as error
@@ -64,39 +64,27 @@ ending release at rows =
     (λ cost. line_step bound_line [] (at + 1) (at + 2) (drop 1 rows) (drop 2 rows) _ (omega arith) (drop-one 1 rows)
     (λ sides. ends_step (at + 2) (drop 2 rows) _))
 
-abbrev closing_lines : Version → List Line
-closing_lines V1 = tick (codes "cost") ∷ bound ∷ []
-closing_lines V2 = tick (codes "release") ∷ tick (codes "cost") ∷ bound ∷ []
-closing_lines V3 = tick (codes "release") ∷ tick (codes "cost") ∷ bound ∷ []
-
 closing : (version : Version) (at : ℕ) (rows : List Record) → refusal_of (closing_of version at rows) ≡ lines_refusal (closing_lines version) at rows
 unfolding closing_of
-closing V1 at rows = ending 0 at rows
-closing V2 at rows =
-    line_step (tick_line (codes "release")) (tick (codes "cost") ∷ bound ∷ []) at (at + 1) rows (drop 1 rows) _ refl refl
-    (λ release. ending release (at + 1) (drop 1 rows))
-closing V3 at rows =
-    line_step (tick_line (codes "release")) (tick (codes "cost") ∷ bound ∷ []) at (at + 1) rows (drop 1 rows) _ refl refl
-    (λ release. ending release (at + 1) (drop 1 rows))
+closing version at rows = by (has_releases version)
+  where
+    by : (t : Bool)
+        → refusal_of (if t then (next_line (tick_line (codes "release")) at rows >>= (λ release. ending_of release (at + 1) (drop 1 rows))) else ending_of 0 at rows)
+        ≡ lines_refusal ((if t then tick (codes "release") ∷ [] else []) ++ tick (codes "cost") ∷ bound ∷ []) at rows
+    by false = ending 0 at rows
+    by true =
+        line_step (tick_line (codes "release")) (tick (codes "cost") ∷ bound ∷ []) at (at + 1) rows (drop 1 rows) _ refl refl
+        (λ release. ending release (at + 1) (drop 1 rows))
 
-abbrev front_lines : ℕ → List Line → List Line
-front_lines messages others = workers ∷ tick (codes "total") ∷ tick (codes "length") ∷ chain messages ∷ others
-
-front : (version : Version) (messages at : ℕ) (rows : List Record)
-    → refusal_of (summary_of version messages at rows) ≡ lines_refusal (front_lines messages (closing_lines version)) at rows
+pub summary_refused : (version : Version) (messages at : ℕ) (rows : List Record)
+    → refusal_of (summary_of version messages at rows) ≡ lines_refusal (lines_of version messages) at rows
 unfolding summary_of
-front version messages at rows =
+summary_refused version messages at rows =
     line_step workers_line (tick (codes "total") ∷ tick (codes "length") ∷ chain messages ∷ closing_lines version) at (at + 1) rows (drop 1 rows) _ refl refl
     (λ w. line_step (tick_line (codes "total")) (tick (codes "length") ∷ chain messages ∷ closing_lines version) (at + 1) (at + 2) (drop 1 rows) (drop 2 rows) _ (omega arith) (drop-one 1 rows)
     (λ t. line_step (tick_line (codes "length")) (chain messages ∷ closing_lines version) (at + 2) (at + 3) (drop 2 rows) (drop 3 rows) _ (omega arith) (drop-one 2 rows)
     (λ l. line_step (chain_line messages) (closing_lines version) (at + 3) (at + 4) (drop 3 rows) (drop 4 rows) _ (omega arith) (drop-one 3 rows)
     (λ c. ok_last (closing_of version (at + 4) (drop 4 rows)) (with_closing w t l c) ∙ closing version (at + 4) (drop 4 rows)))))
-
-pub summary_refused : (version : Version) (messages at : ℕ) (rows : List Record)
-    → refusal_of (summary_of version messages at rows) ≡ lines_refusal (lines_of version messages) at rows
-summary_refused V1 messages at rows = front V1 messages at rows
-summary_refused V2 messages at rows = front V2 messages at rows
-summary_refused V3 messages at rows = front V3 messages at rows
 
 -- a line is refused as no line, or for a number above the limit
 abbrev pub LineOnly : Option Refusal → Type 0
@@ -173,31 +161,9 @@ bound_only row = by (three_of row)
         (λ left. then_only (number_within_limit f.2) _ (large_only (number_within 0 MAX_TICK f.2)) (λ right. tt)))
 
 pub lines_only : (version : Version) (messages : ℕ) → LinesOnly (lines_of version messages)
-lines_only V1 messages =
-    (workers_only, (tick_only (codes "total"), (tick_only (codes "length"), (chain_only messages, (tick_only (codes "cost"), (bound_only, tt))))))
-lines_only V2 messages = (
-  workers_only,
-  (
-    tick_only (codes "total"),
-    (
-      tick_only (codes "length"),
-      (
-        chain_only messages,
-        (tick_only (codes "release"), (tick_only (codes "cost"), (bound_only, tt))),
-      ),
-    ),
-  ),
-)
-lines_only V3 messages = (
-  workers_only,
-  (
-    tick_only (codes "total"),
-    (
-      tick_only (codes "length"),
-      (
-        chain_only messages,
-        (tick_only (codes "release"), (tick_only (codes "cost"), (bound_only, tt))),
-      ),
-    ),
-  ),
-)
+lines_only version messages =
+    (workers_only, (tick_only (codes "total"), (tick_only (codes "length"), (chain_only messages, by (has_releases version)))))
+  where
+    by : (t : Bool) → LinesOnly ((if t then tick (codes "release") ∷ [] else []) ++ tick (codes "cost") ∷ bound ∷ [])
+    by true = (tick_only (codes "release"), (tick_only (codes "cost"), (bound_only, tt)))
+    by false = (tick_only (codes "cost"), (bound_only, tt))

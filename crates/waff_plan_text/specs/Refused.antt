@@ -6,7 +6,7 @@ use Rattle.std.specs.Prelude.{IsSome, Result, Ok, Err, slice_get, codes}
 use Rattle.waff_model.specs.Names.{is_name}
 use Rattle.waff_model.specs.declared.limits.TheConstants.{MAX_TICK}
 use Rattle.waff_model.specs.declared.message.Version.{Version}
-use Rattle.waff_model.specs.declared.message.Version.TheVariants.{V1, V2, V3}
+use Rattle.waff_model.specs.Versions.{has_releases}
 use Rattle.waff_parse.specs.Fields.{Field, five_of}
 use Rattle.waff_parse.specs.Rows.{Record, is_text, records_of}
 use Rattle.waff_parse.specs.Texts.{number_of}
@@ -88,16 +88,16 @@ chain messages row = refusal_of (chain_line messages row)
 abbrev pub bound : Line
 bound row = refusal_of (bound_line row)
 
+-- the lines behind the chain: that of the release, where the version has releases, and the last two
+abbrev pub closing_lines : Version → List Line
+closing_lines version =
+    (if has_releases version then tick (codes "release") ∷ [] else [])
+    ++ tick (codes "cost") ∷ bound ∷ []
+
 -- the lines of a summary in their order
 abbrev pub lines_of : Version → ℕ → List Line
-lines_of V1 messages = workers ∷ tick (codes "total")
-    ∷ tick (codes "length") ∷ chain messages ∷ tick (codes "cost") ∷ bound ∷ []
-lines_of V2 messages =
-    workers ∷ tick (codes "total") ∷ tick (codes "length")
-    ∷ chain messages ∷ tick (codes "release") ∷ tick (codes "cost") ∷ bound ∷ []
-lines_of V3 messages =
-    workers ∷ tick (codes "total") ∷ tick (codes "length")
-    ∷ chain messages ∷ tick (codes "release") ∷ tick (codes "cost") ∷ bound ∷ []
+lines_of version messages =
+    workers ∷ tick (codes "total") ∷ tick (codes "length") ∷ chain messages ∷ closing_lines version
 
 -- the line that comes next after these records, if the summary has one more
 abbrev pub next_of : Version → ℕ → List Record → Option Line

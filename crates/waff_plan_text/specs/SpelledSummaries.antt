@@ -1,10 +1,10 @@
 -- The summary of a plan text, in the words of the format: which records are its lines, with which
 -- values.
-use Rattle.std.specs.Prelude.{◌≡◌, ◌≢◌, ◌↔◌, ◌⊎◌, ℕ, ◌≤◌, true, List, [], ◌∷◌, ◌++◌, map, Contains}
+use Rattle.std.specs.Prelude.{◌≡◌, ◌≢◌, ◌↔◌, ◌⊎◌, ℕ, ◌≤◌, true, false, List, [], ◌∷◌, ◌++◌, map, Contains}
 use Rattle.std.specs.Prelude.{Option, Some, None, Ok, codes}
 use Rattle.waff_model.specs.declared.limits.TheConstants.{MAX_TICK}
 use Rattle.waff_model.specs.declared.message.Version.{Version}
-use Rattle.waff_model.specs.declared.message.Version.TheVariants.{V1, V2, V3}
+use Rattle.waff_model.specs.Versions.{has_releases}
 use Rattle.waff_parse.specs.Fields.{Field}
 use Rattle.waff_parse.specs.Rows.{Record, is_text}
 use Rattle.waff_parse.specs.Texts.{number_of, parts}
@@ -29,13 +29,8 @@ abbrev pub AreNumbers : Field → List ℕ → Type 0
 AreNumbers text numbers = ((text ≡ []) × (numbers ≡ []))
     ⊎ ((text ≢ []) × (map number_of (parts 32 text) ≡ map Some numbers))
 
--- a field writes the release, which is 0 in the first version
-abbrev pub IsRelease : Version → Field → ℕ → Type 0
-IsRelease V1 text release = release ≡ 0
-IsRelease V2 text release = IsTick text release
-IsRelease V3 text release = IsTick text release
-
--- records are the lines of a summary in their order, which write these values
+-- records are the lines of a summary in their order, which write these values; the release is 0 where
+-- the version has no releases
 pub record SpellsSummary (version : Version)
     (messages : ℕ) (records : List Record) (summary : SummaryLines) : Type 0 where
   pub workers_text : Field
@@ -56,7 +51,8 @@ pub record SpellsSummary (version : Version)
   pub length : IsTick length_text summary.totals.length
   pub chain : AreNumbers chain_text summary.chain
   pub listed : IsListed messages summary.chain
-  pub release : IsRelease version release_text summary.totals.release
+  pub release : has_releases version ≡ true → IsTick release_text summary.totals.release
+  pub no_release : has_releases version ≡ false → summary.totals.release ≡ 0
   pub cost : IsTick cost_text summary.totals.cost
   pub left : IsTick left_text summary.totals.left
   pub right : IsTick right_text summary.totals.right

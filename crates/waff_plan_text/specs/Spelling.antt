@@ -1,11 +1,11 @@
 -- The text of a plan as it is written: a header, a line for each message in the order of their
 -- numbers, and a summary (own).
 use Rattle.std.specs.Prelude.{ℕ, ◌-◌, List, [], ◌∷◌, ◌++◌, Option, Some, None, map, slice_index}
-use Rattle.std.specs.Prelude.{codes, decimal}
+use Rattle.std.specs.Prelude.{codes, decimal, if◌then◌else◌}
 use Rattle.std.specs.List.{join_by}
 use Rattle.waff_model.specs.declared.message.Version.{Version}
-use Rattle.waff_model.specs.declared.message.Version.TheVariants.{V1, V2, V3}
 use Rattle.waff_model.specs.Tree.{Node, name_of}
+use Rattle.waff_model.specs.Versions.{has_releases}
 use Rattle.waff_assign.specs.Order.{affinity_of}
 use Rattle.waff_plan.specs.Totals.{totals_of}
 use Rattle.waff_plan.specs.Work.{Work, finish_of, numbers}
@@ -35,11 +35,10 @@ message_row tree assigned work start worker n =
 abbrev pub numbers_field : List ℕ → List ℕ
 numbers_field numbers = join_by decimal (32 ∷ []) numbers
 
--- the line of the release of the chain, which the first version does not have
+-- the line of the release of the chain, where messages of the version have releases
 abbrev pub release_line : Version → List ℕ → List (List (List ℕ))
-release_line V1 release = []
-release_line V2 release = (codes "release" ∷ release ∷ []) ∷ []
-release_line V3 release = (codes "release" ∷ release ∷ []) ∷ []
+release_line version release =
+    if has_releases version then (codes "release" ∷ release ∷ []) ∷ [] else []
 
 -- the workers, the total cost, the length, the printed chain, its release and cost, and the two
 -- sides of the bound

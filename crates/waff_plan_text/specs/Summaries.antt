@@ -5,7 +5,7 @@ use Rattle.std.specs.Prelude.{Ok, Err, codes}
 use Rattle.std.specs.Borrow.{Bor}
 use Rattle.std.specs.Str.{bytes_eq}
 use Rattle.waff_model.specs.declared.message.Version.{Version}
-use Rattle.waff_model.specs.declared.message.Version.TheVariants.{V1, V2, V3}
+use Rattle.waff_model.specs.Versions.{has_releases}
 use Rattle.waff_parse.specs.Fields.{Field, two_of, three_of}
 use Rattle.waff_parse.specs.Refusals.{◌>>=◌, told}
 use Rattle.waff_parse.specs.Rows.{Record, is_text}
@@ -113,13 +113,11 @@ ending_of release at rows = do
   _ ← ends (at + 2) (drop 2 rows)
   Ok (record { release = release; cost = cost; left = bound.0; right = bound.1 })
 
--- the lines behind the chain; the first version has none for the release
+-- the lines behind the chain; a version without releases has none for the release
 unfoldable pub closing_of : Version → ℕ → List Record → Result Closing PlanTextError
-closing_of V1 at rows = ending_of 0 at rows
-closing_of V2 at rows = next_line (tick_line (codes "release")) at rows >>= (λ release.
-    ending_of release (at + 1) (drop 1 rows))
-closing_of V3 at rows = next_line (tick_line (codes "release")) at rows >>= (λ release.
-    ending_of release (at + 1) (drop 1 rows))
+closing_of version at rows =
+    if has_releases version then (next_line (tick_line (codes "release")) at rows >>= (λ release.
+    ending_of release (at + 1) (drop 1 rows))) else ending_of 0 at rows
 
 -- the summary of these lines
 abbrev pub with_closing : Option ℕ → ℕ → ℕ → List ℕ → Closing → SummaryLines

@@ -35,7 +35,7 @@ mod summary;
 mod writing;
 
 pub use given::GivenPlan;
-pub use numbers::{push_field, push_number, push_numbers};
+pub use numbers::{WorkerField, push_field, push_number, push_numbers};
 pub use ratio::{Mean, Ratio, RatioUp};
 pub use reading::read_plan;
 pub use refusal::PlanTextError;

@@ -1,11 +1,27 @@
 //! Numbers in a text.
 
-ghost use Rattle.std.specs.Prelude.{[], ◌∷◌, ◌++◌, OnOk, decimal};
+ghost use Rattle.std.specs.Prelude.{[], ◌∷◌, ◌++◌, OnOk, Some, decimal};
 ghost use Rattle.waff_plan_text.specs.Lines.{Adds};
-ghost use Rattle.waff_plan_text.specs.Spelling.{numbers_field};
+ghost use Rattle.waff_plan_text.specs.Spelling.{numbers_field, worker_field};
 
 use itoa::Buffer;
 use std::alloc::AllocError;
+use std::fmt;
+
+/// The number of a worker or of workers; `-` where there is none.
+#[derive(Clone, Copy)]
+pub struct WorkerField(pub Option<u32>);
+
+impl fmt::Display for WorkerField {
+    ghost output = { λ workers. Some (worker_field workers.0) };
+
+    fn fmt<W: fmt::Write>(&self, f: &mut fmt::Formatter<W>) -> fmt::Result {
+        match self.0 {
+            Some(k) => write!(f, "{k}"),
+            None => write!(f, "-"),
+        }
+    }
+}
 
 /// Appends the number in decimal.
 pub fn push_number(text: &mut String, number: u64) -> Result<(), AllocError>

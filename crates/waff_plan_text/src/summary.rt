@@ -151,12 +151,11 @@ fn read_closing(
     requires room { at + 3 < 2 ^ 64 }
     ensures { Gives (λ n. n) result (summaries.closing_of version at (records_left rdr.old)) }
 {
-    match version {
-        Version::V1 => read_ending(0, at, rdr, row),
-        Version::V2 | Version::V3 => {
-            let release = read_tick("release", at, rdr, row)?;
-            read_ending(release, at + 1, rdr, row)
-        }
+    if version.has_releases() {
+        let release = read_tick("release", at, rdr, row)?;
+        read_ending(release, at + 1, rdr, row)
+    } else {
+        read_ending(0, at, rdr, row)
     }
 }
 

@@ -12,7 +12,7 @@ ghost use Rattle.waff_plan_text.specs.Spelling.{plan_row, release_line, summary_
 ghost use Rattle.waff_plan_text.specs.Spelling.{unlimited_lines, worker_field, worker_lines};
 ghost use Rattle.waff_plan_text.specs.Spelling.{workers_of};
 
-use crate::numbers::{push_field, push_number, push_numbers};
+use crate::numbers::{WorkerField, push_field, push_numbers};
 use crate::row::COLUMNS;
 use std::alloc::{AllocError, Global};
 use waff_model::Version;
@@ -150,18 +150,7 @@ fn push_planned(
 {
     push_field(text, start)?;
     push_field(text, finish)?;
-    push_worker(text, worker)?;
-    text.push('\n')
-}
-
-/// Appends a worker's number, or a dash where there is none.
-fn push_worker(text: &mut String, worker: Option<u32>) -> Result<(), AllocError>
-    ensures { OnOk result (Adds text.old text.new (worker_field worker)) }
-{
-    match worker {
-        Some(worker) => push_number(text, u64::from(worker)),
-        None => text.push('-'),
-    }
+    writeln!(text, "{}", WorkerField(worker))
 }
 
 /// Appends the summary of a plan, `workers` being none in a plan without them.
@@ -175,11 +164,13 @@ fn push_summary(
     ensures { OnOk result (Adds text.old text.new
         (text_of (summary_lines version (worker_field workers) chain.now totals.now))) }
 {
-    text.push_str("workers,")?;
-    push_worker(text, workers)?;
+    let workers_field = WorkerField(workers);
     let total = totals.total;
     let length = totals.length;
-    writeln!(text, "\ntotal,{total}\nlength,{length}")?;
+    writeln!(
+        text,
+        "workers,{workers_field}\ntotal,{total}\nlength,{length}"
+    )?;
     push_chain(text, chain)?;
     push_release(text, version, totals.release)?;
     let cost = totals.cost;
@@ -203,8 +194,8 @@ fn push_release(text: &mut String, version: Version, release: u64) -> Result<(),
     ensures { OnOk result (Adds text.old text.new
         (text_of (release_line version (decimal release)))) }
 {
-    match version {
-        Version::V1 => Ok(()),
-        Version::V2 | Version::V3 => writeln!(text, "release,{release}"),
+    if version.has_releases() {
+        writeln!(text, "release,{release}")?;
     }
+    Ok(())
 }

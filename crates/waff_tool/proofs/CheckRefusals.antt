@@ -2,6 +2,7 @@
 use Rattle.std.proofs.Common.{◌≡◌, ℕ, List, Option, Some, None, Result, Ok, Err, length, sym, ◌∙◌, ap}
 use Rattle.waff_model.specs.Layout.{Hierarchy}
 use Rattle.waff_model.specs.Messages.{Arrivals}
+use Rattle.waff_model.specs.Unique.{AtMostOne}
 use Rattle.waff_read.specs.Hierarchies.{hierarchy_of}
 use Rattle.waff_inputs.specs.Known.{trace_of}
 use Rattle.waff_read.specs.declared.hier_error.HierError.{HierError}
@@ -14,7 +15,7 @@ use Rattle.waff_inputs.specs.declared.fault.ToolError.{ToolError}
 use Rattle.waff_inputs.specs.declared.fault.ToolError.TheVariants as tool
 use Rattle.waff_inputs.proofs.Refusals.{same_some}
 use Rattle.waff_tool.specs.CheckText.{RefusesCheck}
-use Rattle.waff_tool.specs.Unique.{CheckRefusalIsOne, CheckedIsNotRefused}
+use Rattle.waff_tool.specs.Unique.{CheckedIsNotRefused}
 
 -- the error of a plan text, of a trace and a plan text, and of all three files, in this order
 abbrev of_plan : Result Given PlanTextError → Option ToolError
@@ -41,8 +42,8 @@ refused_is hierarchy_file trace_file plan_file tool.Write tells refused = absurd
 refused_is hierarchy_file trace_file plan_file tool.Memory tells refused = absurd tells
 refused_is hierarchy_file trace_file plan_file error tells refused = absurd refused
 
-pub check_refusal_is_one : (hierarchy_file trace_file plan_file : List ℕ) → CheckRefusalIsOne hierarchy_file trace_file plan_file
-check_refusal_is_one hierarchy_file trace_file plan_file one other tells also refused too =
+pub check_refusal_is_one : (hierarchy_file trace_file plan_file : List ℕ) → AtMostOne (λ (e : ToolError). TellsOfFiles e × RefusesCheck hierarchy_file trace_file plan_file e)
+check_refusal_is_one hierarchy_file trace_file plan_file one other (tells, refused) (also, too) =
     same_some (of_files trace_file plan_file (hierarchy_of hierarchy_file)) one other
     (refused_is hierarchy_file trace_file plan_file one tells refused) (refused_is hierarchy_file trace_file plan_file other also too)
 

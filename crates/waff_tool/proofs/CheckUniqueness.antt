@@ -2,6 +2,7 @@
 use Rattle.std.proofs.Common.{◌≡◌, ℕ, List, length, Result, Ok, sym, ◌∙◌, ap, subst}
 use Rattle.waff_model.specs.Layout.{Hierarchy}
 use Rattle.waff_model.specs.Messages.{Arrivals}
+use Rattle.waff_model.specs.Unique.{AtMostOne}
 use Rattle.waff_read.specs.Hierarchies.{hierarchy_of}
 use Rattle.waff_assign.specs.Instance.{Instance}
 use Rattle.waff_plan_text.specs.Given.{Given}
@@ -13,10 +14,9 @@ use Rattle.waff_check.proofs.Uniqueness.{verdict_is_one}
 use Rattle.waff_draw.specs.Scene.{scene_of}
 use Rattle.waff_draw.specs.declared.parts.Part.{Part}
 use Rattle.waff_inputs.proofs.SameInput.{same_input, same_ok, same_trace}
-use Rattle.waff_tool.specs.CheckText.{AcceptsPlan}
-use Rattle.waff_tool.specs.DrawText.{DrawTextIsOne, picture_of}
-use Rattle.waff_tool.specs.ReplayText.{state_after, state_lines}
-use Rattle.waff_tool.specs.Unique.{CheckTextIsOne, ReplayTextIsOne}
+use Rattle.waff_tool.specs.CheckText.{AcceptsPlan, IsCheckText}
+use Rattle.waff_tool.specs.DrawText.{IsDrawText, picture_of}
+use Rattle.waff_tool.specs.ReplayText.{IsReplayText, state_after, state_lines}
 use Rattle.waff_tool.specs.declared.draws.Picture.{Picture}
 
 -- what holds of the plan of a text holds of one plan
@@ -29,21 +29,21 @@ same_given P hierarchy_file trace_file plan_file instance other given more p q h
     subst (λ g. P instance g) (sym plans) (subst (λ i. P i more) (sym same) holds)
 
 -- the verdict
-pub check_text_is_one : (hierarchy_file trace_file plan_file : List ℕ) → CheckTextIsOne hierarchy_file trace_file plan_file
+pub check_text_is_one : (hierarchy_file trace_file plan_file : List ℕ) → AtMostOne (IsCheckText hierarchy_file trace_file plan_file)
 check_text_is_one hierarchy_file trace_file plan_file one other p q =
     verdict_is_one (claim_of p.instance p.given) one other p.verdict
     (same_given (λ i g. IsVerdict (claim_of i g) other) hierarchy_file trace_file plan_file p.instance q.instance p.given q.given p.accepts q.accepts q.verdict)
 
 -- the picture
 pub draw_text_is_one : (hierarchy_file trace_file plan_file : List ℕ) (picture : Picture) (part : Part)
-    → DrawTextIsOne hierarchy_file trace_file plan_file picture part
+    → AtMostOne (IsDrawText hierarchy_file trace_file plan_file picture part)
 draw_text_is_one hierarchy_file trace_file plan_file picture part text other p q =
     p.drawn
     ∙ sym (same_given (λ i g. other ≡ picture_of picture (scene_of i g part)) hierarchy_file trace_file plan_file
     p.instance q.instance p.given q.given p.accepts q.accepts q.drawn)
 
 -- the state
-pub replay_text_is_one : (hierarchy_file trace_file : List ℕ) → ReplayTextIsOne hierarchy_file trace_file
+pub replay_text_is_one : (hierarchy_file trace_file : List ℕ) → AtMostOne (IsReplayText hierarchy_file trace_file)
 replay_text_is_one hierarchy_file trace_file text other p q =
     let layouts = same_ok (hierarchy_of hierarchy_file) p.layout q.layout p.is_layout q.is_layout in
     let traces = same_trace p.layout q.layout trace_file p.trace q.trace layouts p.is_trace q.is_trace in

@@ -1,6 +1,7 @@
 -- Of the same files one error tells why a comparison refuses them, and none where they are compared.
 use Rattle.std.proofs.Common.{◌≡◌, ℕ, ◌⊎◌, inl, inr, List, Option, Some, None, Result, Ok, Err, refl, sym, ◌∙◌, ap, subst}
 use Rattle.waff_model.specs.Layout.{Hierarchy, SameSpaces}
+use Rattle.waff_model.specs.Unique.{AtMostOne}
 use Rattle.waff_read.specs.Hierarchies.{hierarchy_of}
 use Rattle.waff_inputs.specs.Known.{trace_of}
 use Rattle.waff_read.specs.declared.hier_error.HierError.{HierError}
@@ -10,7 +11,7 @@ use Rattle.waff_inputs.specs.declared.fault.ToolError.TheVariants as tool
 use Rattle.waff_inputs.proofs.Refusals.{same_some}
 use Rattle.waff_inputs.proofs.SameInput.{same_ok}
 use Rattle.waff_tool.specs.Comparison.{AreHierarchies, AreModels, IsCompareText, RefusesComparison}
-use Rattle.waff_tool.specs.Unique.{ComparedIsNotRefused, ComparisonRefusalIsOne}
+use Rattle.waff_tool.specs.Unique.{ComparedIsNotRefused}
 use Rattle.waff_tool.proofs.TextUniqueness.{of_kinds, same_models}
 
 -- the error of two hierarchies, the first one first
@@ -139,8 +140,9 @@ later_is_one first second trace_file tool.ModelsSame other p q = absurd q
 later_is_one first second trace_file (tool.Trace fault) other p q = absurd q
 later_is_one first second trace_file one other p q = absurd p
 
-pub comparison_refusal_is_one : (first second trace_file : List ℕ) → ComparisonRefusalIsOne first second trace_file
-comparison_refusal_is_one first second trace_file one other tells also refused too =
+pub comparison_refusal_is_one : (first second trace_file : List ℕ)
+    → AtMostOne (λ (e : ToolError). TellsOfFiles e × RefusesComparison first second trace_file e)
+comparison_refusal_is_one first second trace_file one other (tells, refused) (also, too) =
     elim (either first second trace_file one tells refused) [
       | inl is ↦ elim (either first second trace_file other also too) [
         | inl that ↦ same_some (of_hierarchies (hierarchy_of first) (hierarchy_of second)) one other is that

@@ -2,6 +2,7 @@
 use Rattle.std.proofs.Common.{◌≡◌, ℕ, List, Option, Some, None, Result, Ok, Err, sym, ◌∙◌, ap}
 use Rattle.waff_model.specs.Layout.{Hierarchy}
 use Rattle.waff_model.specs.Messages.{Arrivals}
+use Rattle.waff_model.specs.Unique.{AtMostOne}
 use Rattle.waff_read.specs.Hierarchies.{hierarchy_of}
 use Rattle.waff_inputs.specs.Known.{trace_of}
 use Rattle.waff_read.specs.declared.hier_error.HierError.{HierError}
@@ -9,8 +10,7 @@ use Rattle.waff_read.specs.declared.trace_fault.TraceError.{TraceError}
 use Rattle.waff_inputs.specs.declared.fault.ToolError.TheVariants as tool
 use Rattle.waff_tool.proofs.CheckRefusals.{check_refusal_is_one, checked_is_not_refused}
 use Rattle.waff_tool.proofs.CheckUniqueness.{check_text_is_one}
-use Rattle.waff_tool.specs.Explanations.{OfHierarchy, OfPlan, OfTrace}
-use Rattle.waff_tool.specs.Unique.{ExplainedIsOne}
+use Rattle.waff_tool.specs.Explanations.{IsExplained, OfHierarchy, OfPlan, OfTrace}
 use Rattle.waff_tool.specs.declared.explains.Explained.{Explained}
 use Rattle.waff_tool.specs.declared.explains.Explained.TheVariants as explained
 
@@ -47,13 +47,12 @@ trace_is hierarchy_file trace_file (explained.Fault tool.Memory) p = absurd p.0
 trace_is hierarchy_file trace_file (explained.Fault error) p = absurd p.1
 trace_is hierarchy_file trace_file (explained.Verdict v) p = absurd p
 
-plan_is_one : (hierarchy_file trace_file plan_file : List ℕ) (one other : Explained) → OfPlan hierarchy_file trace_file plan_file one
-    → OfPlan hierarchy_file trace_file plan_file other → one ≡ other
+plan_is_one : (hierarchy_file trace_file plan_file : List ℕ) → AtMostOne (OfPlan hierarchy_file trace_file plan_file)
 plan_is_one hierarchy_file trace_file plan_file explained.Well other p q = absurd p
 plan_is_one hierarchy_file trace_file plan_file (explained.Fault error) explained.Well p q = absurd q
 plan_is_one hierarchy_file trace_file plan_file (explained.Verdict v) explained.Well p q = absurd q
 plan_is_one hierarchy_file trace_file plan_file (explained.Fault error) (explained.Fault fault) p q =
-    ap explained.Fault (check_refusal_is_one hierarchy_file trace_file plan_file error fault p.0 q.0 p.1 q.1)
+    ap explained.Fault (check_refusal_is_one hierarchy_file trace_file plan_file error fault p q)
 plan_is_one hierarchy_file trace_file plan_file (explained.Fault error) (explained.Verdict v) p q =
     absurd (checked_is_not_refused hierarchy_file trace_file plan_file v error q p.0 p.1)
 plan_is_one hierarchy_file trace_file plan_file (explained.Verdict v) (explained.Fault error) p q =
@@ -61,7 +60,8 @@ plan_is_one hierarchy_file trace_file plan_file (explained.Verdict v) (explained
 plan_is_one hierarchy_file trace_file plan_file (explained.Verdict v) (explained.Verdict w) p q =
     ap explained.Verdict (check_text_is_one hierarchy_file trace_file plan_file v w p q)
 
-pub explained_is_one : (hierarchy_file : List ℕ) (trace_file plan_file : Option (List ℕ)) → ExplainedIsOne hierarchy_file trace_file plan_file
+pub explained_is_one : (hierarchy_file : List ℕ) (trace_file plan_file : Option (List ℕ))
+    → AtMostOne (IsExplained hierarchy_file trace_file plan_file)
 explained_is_one hierarchy_file None plan_file one other p q =
     sym (hierarchy_is hierarchy_file one p) ∙ hierarchy_is hierarchy_file other q
 explained_is_one hierarchy_file (Some trace_file) None one other p q =

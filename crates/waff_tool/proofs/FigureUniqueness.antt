@@ -2,6 +2,7 @@
 use Rattle.std.proofs.Common.{◌≡◌, ℕ, ◌<◌, List, ◌∷◌, map, length, get_or, Option, Some, None, arith, sym, ◌∙◌, ap, subst}
 use Rattle.std.proofs.lemmas.List.{same_lists, get_or-map, length-map}
 use Rattle.std.proofs.lemmas.Option.{same_Some}
+use Rattle.waff_model.specs.Unique.{AtMostOne}
 use Rattle.waff_assign.specs.Instance.{Instance}
 use Rattle.waff_plan.specs.Instances.{served_first, work_of_instance}
 use Rattle.waff_plan.specs.Obeys.{IsLeast}
@@ -25,7 +26,7 @@ use Rattle.waff_figures.proofs.LeastLaws.{follows_in}
 use Rattle.waff_figures.proofs.RowLemmas.{map_range_same}
 use Rattle.waff_inputs.specs.Inputs.{Accepts}
 use Rattle.waff_inputs.proofs.SameInput.{same_input, told_is_one}
-use Rattle.waff_tool.specs.Figures.{IsSweepText, SweepTextIsOne, TellsAffinities, TellsNames, TellsSweep, TellsWhere, WhereTextIsOne}
+use Rattle.waff_tool.specs.Figures.{IsSweepText, IsWhereText, TellsAffinities, TellsNames, TellsSweep, TellsWhere}
 use Rattle.waff_tool.proofs.PlanUniqueness.{IsSound, chain_in_one, least_in_one, rule_in_one}
 use Rattle.waff_tool.proofs.TextUniqueness.{is_sound}
 
@@ -34,8 +35,8 @@ pub listed_same : (rule : Rule) (instance : Instance) → IsSound instance → (
     → IsListed rule instance shortest one → IsListed rule instance shortest other → one.workers ≡ other.workers → one ≡ other
 listed_same rule instance sound shortest one other p q workers =
     let work = work_of_instance instance in
-    let first : one.workers ≡ Some p.k = p.figures_are.workers in
-    let second : other.workers ≡ Some q.k = q.figures_are.workers in
+    let first : one.workers ≡ Some p.k = ap (λ (f : Figures). f.workers) p.figures_are.are in
+    let second : other.workers ≡ Some q.k = ap (λ (f : Figures). f.workers) q.figures_are.are in
     let same_k : p.k ≡ q.k = same_Some p.k q.k (sym first ∙ workers ∙ second) in
     let list = subst (λ k. IsPlanOf rule instance k (start_of q.starts)) (sym same_k) q.list in
     let figures = subst (λ k. AreFigures (Some k) work (least_in (Some k) instance shortest) (start_of q.starts) other) (sym same_k) q.figures_are in
@@ -68,7 +69,7 @@ listed_is_one rule instance sound shortest workers one other p q =
     listed_same rule instance sound shortest (get_or one i d) (get_or other i d) (p.each i d inside) (q.each i d there) same)
 
 -- the sweep
-sweep_is_one : (rule : Rule) (workers : List ℕ) (instance : Instance) → IsSound instance → (text other : List ℕ) → TellsSweep rule workers instance text → TellsSweep rule workers instance other → text ≡ other
+sweep_is_one : (rule : Rule) (workers : List ℕ) (instance : Instance) → IsSound instance → AtMostOne (TellsSweep rule workers instance)
 sweep_is_one rule workers instance sound text other p q =
     let work = work_of_instance instance in
     let same = least_in_one instance sound (start_of p.starts) (start_of q.starts) p.least q.least in
@@ -80,7 +81,7 @@ sweep_is_one rule workers instance sound text other p q =
     (subst (λ n. AreFigures None work (least_in None instance n) (start_of q.starts) q.unlimited) (sym lengths) q.are_unlimited) in
     p.lines ∙ ap (λ fs. text_of (sweep_lines fs p.unlimited)) lists ∙ ap (λ f. text_of (sweep_lines q.listed f)) last ∙ sym q.lines
 
-pub sweep_text_is_one : (rule : Rule) (hierarchy_file trace_file workers : List ℕ) → SweepTextIsOne rule hierarchy_file trace_file workers
+pub sweep_text_is_one : (rule : Rule) (hierarchy_file trace_file workers : List ℕ) → AtMostOne (IsSweepText rule hierarchy_file trace_file workers)
 sweep_text_is_one rule hierarchy_file trace_file workers = told_is_one (TellsSweep rule workers) hierarchy_file trace_file
     (λ i accepts. sweep_is_one rule workers i (is_sound hierarchy_file trace_file i accepts))
 
@@ -99,7 +100,7 @@ told_swept rule hierarchy_file trace_file workers sweep instance accepts swept =
 
 -- where the time goes, by affinity and by label
 module _ (instance : Instance) (sound : IsSound instance) where
-  affinities_are_one : (text other : List ℕ) → TellsAffinities instance text → TellsAffinities instance other → text ≡ other
+  affinities_are_one : AtMostOne (TellsAffinities instance)
   affinities_are_one text other p q =
       let tree = instance.tree in
       let assigned = instance.assigned in
@@ -116,7 +117,7 @@ module _ (instance : Instance) (sound : IsSound instance) where
       ∙ ap (λ c. text_of (affinities_lines tree assigned work c q.below)) chains
       ∙ sym q.lines
 
-  names_are_one : (label : Label) (text other : List ℕ) → TellsNames label instance text → TellsNames label instance other → text ≡ other
+  names_are_one : (label : Label) → AtMostOne (TellsNames label instance)
   names_are_one label text other p q =
       let work = work_of_instance instance in
       let same = least_in_one instance sound (start_of p.starts) (start_of q.starts) p.certified.least q.certified.least in
@@ -124,10 +125,10 @@ module _ (instance : Instance) (sound : IsSound instance) where
       p.certified.printed q.certified.printed in
       p.lines ∙ ap (λ c. text_of (label_lines label instance.trace.messages work c)) chains ∙ sym q.lines
 
-  where_is_one : (label : Option Label) (text other : List ℕ) → TellsWhere label instance text → TellsWhere label instance other → text ≡ other
+  where_is_one : (label : Option Label) → AtMostOne (TellsWhere label instance)
   where_is_one None text other p q = affinities_are_one text other p q
   where_is_one (Some label) text other p q = names_are_one label text other p q
 
-pub where_text_is_one : (hierarchy_file trace_file : List ℕ) (label : Option Label) → WhereTextIsOne hierarchy_file trace_file label
+pub where_text_is_one : (hierarchy_file trace_file : List ℕ) (label : Option Label) → AtMostOne (IsWhereText hierarchy_file trace_file label)
 where_text_is_one hierarchy_file trace_file label = told_is_one (TellsWhere label) hierarchy_file trace_file
     (λ i accepts. where_is_one i (is_sound hierarchy_file trace_file i accepts) label)

@@ -5,6 +5,7 @@ use Rattle.std.proofs.lemmas.List.{get_or-take, length-take-le}
 use Rattle.std.proofs.lemmas.List.Elements.{All-cons}
 use Rattle.std.specs.List.{AllZip}
 use Rattle.waff_model.specs.Layout.{Hierarchy}
+use Rattle.waff_model.specs.Unique.{AtMostOne}
 use Rattle.waff_model.specs.declared.kind.Kind.{Kind}
 use Rattle.waff_read.specs.Hierarchies.{hierarchy_of}
 use Rattle.waff_read.specs.declared.hier_error.HierError.{HierError}
@@ -23,7 +24,7 @@ use Rattle.waff_inputs.specs.declared.fault.ToolError.{ToolError}
 use Rattle.waff_inputs.specs.declared.fault.ToolError.TheVariants as tool
 use Rattle.waff_inputs.proofs.Refusals.{of_files, of_trace, refusal_is_one, refused_is}
 use Rattle.waff_inputs.proofs.SameInput.{same_input, same_ok}
-use Rattle.waff_tool.specs.Ranks.{Admits, IsFirstRefused, IsFirstRefuted, IsHierarchy, IsRanked, IsRankedAsSwept, IsRankedUnder, RankRefusalIsOne, RankTextIsOne, RankedIsNotRefused, RefusesRank, Refutes, file_at, rank_header, rank_rows}
+use Rattle.waff_tool.specs.Ranks.{Admits, IsFirstRefused, IsFirstRefuted, IsHierarchy, IsRankText, IsRanked, IsRankedAsSwept, IsRankedUnder, RankedIsNotRefused, RefusesRank, Refutes, file_at, rank_header, rank_rows}
 use Rattle.waff_tool.specs.declared.ranks.Ranked.{Ranked}
 use Rattle.waff_tool.proofs.FigureUniqueness.{listed_is_one, listed_same, told_swept}
 use Rattle.waff_tool.proofs.RankLemmas.{ranked_admit}
@@ -31,9 +32,8 @@ use Rattle.waff_tool.proofs.PlanUniqueness.{IsSound, least_in_one}
 use Rattle.waff_tool.proofs.TextUniqueness.{is_sound}
 
 -- what is told under a hierarchy is one
-under_is_one : (rule : Rule) (kind : Kind) (k : ℕ) (instance : Instance) (one other : Ranked) → IsSound instance
-    → IsRankedUnder rule kind k instance one → IsRankedUnder rule kind k instance other → one ≡ other
-under_is_one rule kind k instance one other sound p q =
+under_is_one : (rule : Rule) (kind : Kind) (k : ℕ) (instance : Instance) → IsSound instance → AtMostOne (IsRankedUnder rule kind k instance)
+under_is_one rule kind k instance sound one other p q =
     let work = work_of_instance instance in
     let told : Kind → ℕ → ℕ → Figures → Ranked = λ kind affinities length listed. record {
       kind = kind;
@@ -50,14 +50,13 @@ under_is_one rule kind k instance one other sound p q =
     ∙ ap (λ n. told other.kind other.affinities n one.listed) lengths
     ∙ ap (told other.kind other.affinities other.length) listed
 
-ranked_is_one : (rule : Rule) (trace_file : List ℕ) (k : ℕ) (file : List ℕ) (one other : Ranked) → IsRanked rule trace_file k file one → IsRanked rule trace_file k file other → one ≡ other
+ranked_is_one : (rule : Rule) (trace_file : List ℕ) (k : ℕ) (file : List ℕ) → AtMostOne (IsRanked rule trace_file k file)
 ranked_is_one rule trace_file k file one other p q =
     let same = same_input file trace_file p.instance q.instance p.accepts q.accepts in
     let layouts = same_ok (hierarchy_of file) p.accepts.layout q.accepts.layout p.accepts.is_layout q.accepts.is_layout in
     let told = subst (λ (l : Hierarchy). IsRankedUnder rule l.kind k p.instance other) (sym layouts)
     (subst (λ i. IsRankedUnder rule q.accepts.layout.kind k i other) (sym same) q.under) in
-    under_is_one rule p.accepts.layout.kind k p.instance one other (is_sound file trace_file p.instance p.accepts)
-    p.under told
+    under_is_one rule p.accepts.layout.kind k p.instance (is_sound file trace_file p.instance p.accepts) one other p.under told
 
 ranks_are_one : (rule : Rule) (trace_file : List ℕ) (k : ℕ) (files : List (List ℕ)) (ranks others : List Ranked) → AllZip (IsRanked rule trace_file k) files ranks
     → AllZip (IsRanked rule trace_file k) files others → ranks ≡ others
@@ -69,7 +68,7 @@ ranks_are_one rule trace_file k (file ∷ files) (one ∷ ranks) [] p q = absurd
 ranks_are_one rule trace_file k (file ∷ files) (one ∷ ranks) (other ∷ others) p q =
     ap (λ r. r ∷ ranks) (ranked_is_one rule trace_file k file one other p.0 q.0) ∙ ap (λ rs. other ∷ rs) (ranks_are_one rule trace_file k files ranks others p.1 q.1)
 
-pub rank_text_is_one : (rule : Rule) (files : List (List ℕ)) (trace_file : List ℕ) (k : ℕ) → RankTextIsOne rule files trace_file k
+pub rank_text_is_one : (rule : Rule) (files : List (List ℕ)) (trace_file : List ℕ) (k : ℕ) → AtMostOne (IsRankText rule files trace_file k)
 rank_text_is_one rule files trace_file k text other p q =
     p.lines ∙ ap (λ rs. text_of (rank_header ∷ rank_rows 1 rs)) (ranks_are_one rule trace_file k files p.ranks q.ranks p.each q.each) ∙ sym q.lines
 
@@ -108,7 +107,7 @@ refuted_is_one : (files : List (List ℕ)) (trace_file : List ℕ) (fault more :
 refuted_is_one files trace_file fault more p q = elim (cases_order p.at q.at) [
   | inl same ↦
       let is : Refutes trace_file fault (file_at files q.at) = subst (λ n. Refutes trace_file fault (file_at files n)) same p.refuted in
-      refusal_is_one (file_at files q.at) trace_file (tool.Trace fault) (tool.Trace more) tt tt is q.refuted
+      refusal_is_one (file_at files q.at) trace_file (tool.Trace fault) (tool.Trace more) (tt, is) (tt, q.refuted)
   | inr (inl earlier) ↦
       absurd (not_either trace_file fault (file_at files p.at) (before_first (Admits trace_file) files p.at q.at earlier q.within q.before) p.refuted)
   | inr (inr later) ↦
@@ -119,18 +118,18 @@ refuted_is_one files trace_file fault more p q = elim (cases_order p.at q.at) [
 no_hierarchy : (files : List (List ℕ)) (number : ℕ) (fault : HierError) → IsFirstRefused files number fault → All IsHierarchy files → ⊥
 no_hierarchy files number fault p are = not_both (file_at files p.at) fault (are p.at [] p.within) p.refused
 
-pub rank_refusal_is_one : (files : List (List ℕ)) (trace_file : List ℕ) → RankRefusalIsOne files trace_file
-rank_refusal_is_one files trace_file (tool.Hier number fault) (tool.Hier other more) tells also p q = refused_is_one files number other fault more p q
-rank_refusal_is_one files trace_file (tool.Hier number fault) (tool.Trace more) tells also p q = absurd (no_hierarchy files number fault p q.hierarchies)
-rank_refusal_is_one files trace_file (tool.Trace fault) (tool.Hier other more) tells also p q = absurd (no_hierarchy files other more q p.hierarchies)
-rank_refusal_is_one files trace_file (tool.Trace fault) (tool.Trace more) tells also p q = refuted_is_one files trace_file fault more p q
-rank_refusal_is_one files trace_file one tool.Write tells also p q = absurd also
-rank_refusal_is_one files trace_file one tool.Memory tells also p q = absurd also
-rank_refusal_is_one files trace_file tool.Write other tells also p q = absurd tells
-rank_refusal_is_one files trace_file tool.Memory other tells also p q = absurd tells
-rank_refusal_is_one files trace_file (tool.Hier number fault) other tells also p q = absurd q
-rank_refusal_is_one files trace_file (tool.Trace fault) other tells also p q = absurd q
-rank_refusal_is_one files trace_file one other tells also p q = absurd p
+pub rank_refusal_is_one : (files : List (List ℕ)) (trace_file : List ℕ) → AtMostOne (λ (e : ToolError). TellsOfFiles e × RefusesRank files trace_file e)
+rank_refusal_is_one files trace_file (tool.Hier number fault) (tool.Hier other more) (tells, p) (also, q) = refused_is_one files number other fault more p q
+rank_refusal_is_one files trace_file (tool.Hier number fault) (tool.Trace more) (tells, p) (also, q) = absurd (no_hierarchy files number fault p q.hierarchies)
+rank_refusal_is_one files trace_file (tool.Trace fault) (tool.Hier other more) (tells, p) (also, q) = absurd (no_hierarchy files other more q p.hierarchies)
+rank_refusal_is_one files trace_file (tool.Trace fault) (tool.Trace more) (tells, p) (also, q) = refuted_is_one files trace_file fault more p q
+rank_refusal_is_one files trace_file one tool.Write (tells, p) (also, q) = absurd also
+rank_refusal_is_one files trace_file one tool.Memory (tells, p) (also, q) = absurd also
+rank_refusal_is_one files trace_file tool.Write other (tells, p) (also, q) = absurd tells
+rank_refusal_is_one files trace_file tool.Memory other (tells, p) (also, q) = absurd tells
+rank_refusal_is_one files trace_file (tool.Hier number fault) other (tells, p) (also, q) = absurd q
+rank_refusal_is_one files trace_file (tool.Trace fault) other (tells, p) (also, q) = absurd q
+rank_refusal_is_one files trace_file one other (tells, p) (also, q) = absurd p
 
 -- files that admit the trace are refused for nothing
 none_refused : (files : List (List ℕ)) (trace_file : List ℕ) (error : ToolError) → TellsOfFiles error → All (Admits trace_file) files

@@ -115,7 +115,7 @@ own_worker_plan_is_swept rule hierarchy_file trace_file k plan_file workers text
     let line = get_or listed at rate.figures in
     let one : IsListed rule i shortest line = moved.1.each at rate.figures inside in
     let number : one.k ≡ k = same_Some one.k k
-    (sym one.figures_are.workers ∙ workers_at listed workers moved.1.in_turn at rate.figures k inside ∙ ap (λ n. Some n) has.2) in
+    (sym (ap (λ (f : Figures). f.workers) one.figures_are.are) ∙ workers_at listed workers moved.1.in_turn at rate.figures k inside ∙ ap (λ n. Some n) has.2) in
     let list = subst (λ n. IsPlanOf rule i n (start_of one.starts)) number one.list in
     let figures = subst (λ n. AreFigures (Some n) work (least_in (Some n) i shortest) (start_of one.starts) line) number one.figures_are in
     let plans = rule_in_one i sound rule k start (start_of one.starts) told.bounded.list list in

@@ -2,6 +2,7 @@
 use Rattle.std.proofs.Common.{◌≡◌, ℕ, inl, inr, Bool, true, nat_lt, cond, List, Option, Some, None, Result, Ok, Err, sum_by, sym, subst, ◌∙◌, ap}
 use Rattle.std.proofs.lemmas.Bool.{cases_lt, le-ltb, lt-ltb}
 use Rattle.waff_model.specs.Layout.{Hierarchy, HasFewCells, Space}
+use Rattle.waff_model.specs.Unique.{AtMostOne}
 use Rattle.waff_model.specs.declared.limits.TheConstants.{MAX_CELLS}
 use Rattle.waff_read.specs.Hierarchies.{hierarchy_of}
 use Rattle.waff_inputs.specs.Known.{trace_of}
@@ -12,7 +13,7 @@ use Rattle.waff_inputs.specs.declared.fault.ToolError.TheVariants as tool
 use Rattle.waff_inputs.proofs.Refusals.{of_trace, same_some}
 use Rattle.waff_inputs.proofs.SameInput.{same_ok}
 use Rattle.waff_tool.specs.ReplayText.{RefusesReplay}
-use Rattle.waff_tool.specs.Unique.{ReplayRefusalIsOne, ReplayedIsNotRefused}
+use Rattle.waff_tool.specs.Unique.{ReplayedIsNotRefused}
 
 -- the error of a hierarchy that is read and a trace, and that of both files, hierarchy first
 abbrev too_many : Hierarchy → Bool
@@ -50,8 +51,8 @@ refused_is hierarchy_file trace_file tool.Memory tells refused = absurd tells
 refused_is hierarchy_file trace_file tool.TooManyCells tells (layout, is, none) =
     ap (of_files trace_file) is ∙ ap (λ b. cond b (Some tool.TooManyCells) (of_trace (trace_of layout.spaces trace_file))) (many layout none)
 
-pub replay_refusal_is_one : (hierarchy_file trace_file : List ℕ) → ReplayRefusalIsOne hierarchy_file trace_file
-replay_refusal_is_one hierarchy_file trace_file one other tells also refused too =
+pub replay_refusal_is_one : (hierarchy_file trace_file : List ℕ) → AtMostOne (λ (e : ToolError). TellsOfFiles e × RefusesReplay hierarchy_file trace_file e)
+replay_refusal_is_one hierarchy_file trace_file one other (tells, refused) (also, too) =
     same_some (of_files trace_file (hierarchy_of hierarchy_file)) one other
     (refused_is hierarchy_file trace_file one tells refused) (refused_is hierarchy_file trace_file other also too)
 

@@ -4,6 +4,7 @@ use Rattle.std.proofs.lemmas.Bool.Decides.{same_from_decides}
 use Rattle.waff_model.specs.Layout.{Hierarchy}
 use Rattle.waff_model.specs.Messages.{Arrivals}
 use Rattle.waff_model.specs.Tree.{IsTree}
+use Rattle.waff_model.specs.Unique.{AtMostOne}
 use Rattle.waff_model.specs.declared.kind.Kind.{Kind}
 use Rattle.waff_model.specs.declared.kind.Kind.TheVariants as kind
 use Rattle.waff_read.specs.Hierarchies.{hierarchy_of}
@@ -29,10 +30,9 @@ use Rattle.waff_plan_text.specs.Spelling.{no_worker, seat_of, unlimited_lines, w
 use Rattle.waff_plan.proofs.Uniqueness.{totals_same}
 use Rattle.waff_inputs.specs.Inputs.{Accepts, instance_under}
 use Rattle.waff_inputs.proofs.SameInput.{layout_tree, same_ok, same_trace, told_is_one}
-use Rattle.waff_tool.specs.AssignText.{TellsAssignment}
-use Rattle.waff_tool.specs.PlanText.{TellsLeastPlan, TellsPlan, TellsWorkerPlan}
-use Rattle.waff_tool.specs.Comparison.{AreModels, IsCompared, IsMeasured, compare_lines}
-use Rattle.waff_tool.specs.Unique.{AssignTextIsOne, CompareTextIsOne, PlanTextIsOne}
+use Rattle.waff_tool.specs.AssignText.{IsAssignText, TellsAssignment}
+use Rattle.waff_tool.specs.PlanText.{IsPlanTextFor, TellsLeastPlan, TellsPlan, TellsWorkerPlan}
+use Rattle.waff_tool.specs.Comparison.{AreModels, IsCompareText, IsCompared, IsMeasured, compare_lines}
 use Rattle.waff_tool.specs.declared.measures.Measured.{Measured}
 use Rattle.waff_tool.proofs.PlanUniqueness.{IsSound, chain_in_one, least_in_one, rule_in_one}
 use Rattle.waff_tool.proofs.LineLaws.{lines_same}
@@ -49,12 +49,12 @@ module _ (hierarchy_file trace_file : List ℕ) (instance : Instance) (accepts :
   is_sound = record { same = accepts.assignment.count; runs = trace_runs accepts.layout trace_file instance.trace accepts.is_trace }
 
 -- the affinities
-pub assign_text_is_one : (hierarchy_file trace_file : List ℕ) → AssignTextIsOne hierarchy_file trace_file
+pub assign_text_is_one : (hierarchy_file trace_file : List ℕ) → AtMostOne (IsAssignText hierarchy_file trace_file)
 assign_text_is_one hierarchy_file trace_file = told_is_one TellsAssignment hierarchy_file trace_file (λ i accepts text other p q. p ∙ sym q)
 
 -- the plan without workers, and by a rule for k workers
 module _ (instance : Instance) (sound : IsSound instance) where
-  least_plan_is_one : (text other : List ℕ) → TellsLeastPlan instance text → TellsLeastPlan instance other → text ≡ other
+  least_plan_is_one : AtMostOne (TellsLeastPlan instance)
   least_plan_is_one text other p q =
       let work = work_of_instance instance in
       let same = least_in_one instance sound (start_of p.starts) (start_of q.starts) p.certified.least q.certified.least in
@@ -65,8 +65,7 @@ module _ (instance : Instance) (sound : IsSound instance) where
       ∙ ap (λ c. text_of (unlimited_lines instance.trace.version instance.tree instance.assigned work (start_of q.starts) c)) chains
       ∙ sym q.lines
 
-  worker_plan_is_one : (rule : Rule) (k : ℕ) (text other : List ℕ) → TellsWorkerPlan rule k instance text
-      → TellsWorkerPlan rule k instance other → text ≡ other
+  worker_plan_is_one : (rule : Rule) (k : ℕ) → AtMostOne (TellsWorkerPlan rule k instance)
   worker_plan_is_one rule k text other p q =
       let work = work_of_instance instance in
       let same = rule_in_one instance sound rule k (start_of p.starts) (start_of q.starts) p.bounded.list q.bounded.list in
@@ -79,12 +78,11 @@ module _ (instance : Instance) (sound : IsSound instance) where
       ∙ ap (λ c. text_of (worker_lines instance.trace.version instance.tree instance.assigned work k (start_of q.starts) q.workers c)) chains
       ∙ sym q.lines
 
-  plan_is_one : (rule : Rule) (workers : Option ℕ) (text other : List ℕ) → TellsPlan rule workers instance text
-      → TellsPlan rule workers instance other → text ≡ other
+  plan_is_one : (rule : Rule) (workers : Option ℕ) → AtMostOne (TellsPlan rule workers instance)
   plan_is_one rule None text other p q = least_plan_is_one text other p q
   plan_is_one rule (Some k) text other p q = worker_plan_is_one rule k text other p q
 
-pub plan_text_is_one : (rule : Rule) (hierarchy_file trace_file : List ℕ) (workers : Option ℕ) → PlanTextIsOne rule hierarchy_file trace_file workers
+pub plan_text_is_one : (rule : Rule) (hierarchy_file trace_file : List ℕ) (workers : Option ℕ) → AtMostOne (IsPlanTextFor rule hierarchy_file trace_file workers)
 plan_text_is_one rule hierarchy_file trace_file workers = told_is_one (TellsPlan rule workers) hierarchy_file trace_file
     (λ i accepts. plan_is_one i (is_sound hierarchy_file trace_file i accepts) rule workers)
 
@@ -99,9 +97,9 @@ same_measured one other kinds unlimited listed =
     ∙ ap (λ t. made_of other.kind t one.listed) unlimited
     ∙ ap (λ t. made_of other.kind other.unlimited t) listed
 
-measured_is_one : (layout : Hierarchy) (assigned : List ℕ) (trace : Arrivals) (k : ℕ) (one other : Measured) → IsSound (instance_under layout assigned trace)
-    → IsMeasured layout assigned trace k one → IsMeasured layout assigned trace k other → one ≡ other
-measured_is_one layout assigned trace k one other sound p q =
+measured_is_one : (layout : Hierarchy) (assigned : List ℕ) (trace : Arrivals) (k : ℕ) → IsSound (instance_under layout assigned trace)
+    → AtMostOne (IsMeasured layout assigned trace k)
+measured_is_one layout assigned trace k sound one other p q =
     let instance = instance_under layout assigned trace in
     let work = work_of_instance instance in
     let same = least_in_one instance sound (start_of p.least.starts) (start_of q.least.starts) p.least.certified.least q.least.certified.least in
@@ -123,11 +121,11 @@ compared_is_one classical hierarchical trace k text other tree fine_tree runs p 
     let work = work_of_messages trace.messages in
     let coarse = assignment_is_one classical trace.messages tree p.coarse q.coarse p.coarse_assignment q.coarse_assignment in
     let fine = assignment_is_one hierarchical trace.messages fine_tree p.fine q.fine p.fine_assignment q.fine_assignment in
-    let of_classical = measured_is_one classical p.coarse trace k p.of_classical q.of_classical
-    (record { same = p.coarse_assignment.count; runs = runs }) p.classical_measured
+    let of_classical = measured_is_one classical p.coarse trace k (record { same = p.coarse_assignment.count; runs = runs })
+    p.of_classical q.of_classical p.classical_measured
     (subst (λ a. IsMeasured classical a trace k q.of_classical) (sym coarse) q.classical_measured) in
-    let of_hierarchical = measured_is_one hierarchical p.fine trace k p.of_hierarchical q.of_hierarchical
-    (record { same = p.fine_assignment.count; runs = runs }) p.hierarchical_measured
+    let of_hierarchical = measured_is_one hierarchical p.fine trace k (record { same = p.fine_assignment.count; runs = runs })
+    p.of_hierarchical q.of_hierarchical p.hierarchical_measured
     (subst (λ a. IsMeasured hierarchical a trace k q.of_hierarchical) (sym fine) q.hierarchical_measured) in
     let told : IsTrue q.refined ↔ Refines hierarchical.tree p.fine classical.tree p.coarse =
     subst (λ a. IsTrue q.refined ↔ Refines hierarchical.tree p.fine classical.tree a) (sym coarse)
@@ -173,7 +171,7 @@ models_trees first second classical hierarchical p = elim p.files [
   | inr (one, two) ↦ (layout_tree second classical two, layout_tree first hierarchical one)
 ]
 
-pub compare_text_is_one : (first second trace_file : List ℕ) (k : ℕ) → CompareTextIsOne first second trace_file k
+pub compare_text_is_one : (first second trace_file : List ℕ) (k : ℕ) → AtMostOne (IsCompareText first second trace_file k)
 compare_text_is_one first second trace_file k text other p q =
     let models = same_models first second p.classical p.hierarchical q.classical q.hierarchical p.models q.models in
     let trace = same_trace p.classical q.classical trace_file p.trace q.trace models.0 p.is_trace q.is_trace in

@@ -1,6 +1,7 @@
 -- What was told of the waits of a plan is the text of the files, and there is one.
 use Rattle.std.proofs.Common.{◌≡◌, ℕ, zero, suc, ◌⊎◌, inl, inr, List, [], ◌∷◌, ◌++◌, length, Option, Some, None, Contains, arith, sym, ◌∙◌, ap, subst}
 use Rattle.std.proofs.lemmas.List.Elements.{Contains-append_cases}
+use Rattle.waff_model.specs.Unique.{AtMostOne}
 use Rattle.waff_assign.specs.Instance.{Instance}
 use Rattle.waff_plan.specs.Instances.{served_first, started_first, work_of_instance}
 use Rattle.waff_plan.specs.Obeys.{IsLeast, Obeys}
@@ -29,7 +30,7 @@ use Rattle.waff_figures.proofs.FigureLaws.{waits_same}
 use Rattle.waff_figures.proofs.LeastLaws.{follows_in}
 use Rattle.waff_figures.proofs.WaitUnique.{alike_laws, rows_are_one}
 use Rattle.waff_inputs.proofs.SameInput.{told_is_one}
-use Rattle.waff_tool.specs.WaitsText.{IsPlanFor, TellsWaits, WaitsAreSwept, WaitsTextIsOne}
+use Rattle.waff_tool.specs.WaitsText.{IsPlanFor, IsWaitsText, TellsWaits, WaitsAreSwept}
 use Rattle.waff_tool.proofs.FigureUniqueness.{told_swept}
 use Rattle.waff_tool.proofs.CertificateLemmas.{busy_served}
 use Rattle.waff_tool.proofs.PlanUniqueness.{IsSound, count_in, least_in_one, rule_in_one}
@@ -70,7 +71,8 @@ told_text rule workers grouping instance starts text are same adds planned told 
   planned = planned;
   are_waits = told.2;
   are_rows = told.3;
-  adds_up = adds (are_alike grouping instance.assigned (message_names instance.trace.messages)) told.0 told.1 told.2
+  adds_up = adds (are_alike grouping instance.assigned (message_names instance.trace.messages)) told.0 told.1
+      (alike_laws grouping instance.assigned (message_names instance.trace.messages)) told.2
       (started_obeys instance are same (start_of starts) (planned_obeys rule instance workers (start_of starts) planned)) told.3;
   lines = told.4;
 }
@@ -81,17 +83,18 @@ same_plan : (rule : Rule) (instance : Instance) → IsSound instance → (worker
 same_plan rule instance sound None start other p q = least_in_one instance sound start other p q
 same_plan rule instance sound (Some k) start other p q = rule_in_one instance sound rule k start other p q
 
-waits_are_one : (rule : Rule) (workers : Option ℕ) (grouping : Grouping) (instance : Instance) → IsSound instance → (text other : List ℕ) → TellsWaits rule workers grouping instance text → TellsWaits rule workers grouping instance other
-    → text ≡ other
+waits_are_one : (rule : Rule) (workers : Option ℕ) (grouping : Grouping) (instance : Instance) → IsSound instance
+    → AtMostOne (TellsWaits rule workers grouping instance)
 waits_are_one rule workers grouping instance sound text other p q =
     let work = work_of_instance instance in
     let names = message_names instance.trace.messages in
     let plans = same_plan rule instance sound workers (start_of p.starts) (start_of q.starts) p.planned q.planned in
     let rows = rows_are_one instance.trace.version instance.tree instance.assigned work (are_alike grouping instance.assigned names) (start_of p.starts)
-    (start_of q.starts) p.waits q.waits p.rows q.rows (count_in instance sound) (follows_in instance) (alike_laws grouping instance.assigned names) plans p.are_waits q.are_waits p.are_rows q.are_rows in
+    (start_of q.starts) p.waits q.waits p.rows q.rows (count_in instance sound) (follows_in instance) plans p.are_waits q.are_waits p.are_rows q.are_rows in
     p.lines ∙ ap (λ rs. text_of (waits_lines grouping instance.tree instance.assigned names rs)) rows ∙ sym q.lines
 
-pub waits_text_is_one : (rule : Rule) (hierarchy_file trace_file : List ℕ) (workers : Option ℕ) (grouping : Grouping) → WaitsTextIsOne rule hierarchy_file trace_file workers grouping
+pub waits_text_is_one : (rule : Rule) (hierarchy_file trace_file : List ℕ) (workers : Option ℕ) (grouping : Grouping)
+    → AtMostOne (IsWaitsText rule hierarchy_file trace_file workers grouping)
 waits_text_is_one rule hierarchy_file trace_file workers grouping = told_is_one (TellsWaits rule workers grouping) hierarchy_file trace_file
     (λ i accepts. waits_are_one rule workers grouping i (is_sound hierarchy_file trace_file i accepts))
 
@@ -103,18 +106,18 @@ module _ (rule : Rule) (instance : Instance) (sound : IsSound instance) (shortes
 
   waits_listed : IsListed rule instance shortest line → line.workers ≡ limit → waits_of work start ≡ line.waits
   waits_listed listed for =
-      let number : limit ≡ Some listed.k = sym for ∙ listed.figures_are.workers in
+      let number : limit ≡ Some listed.k = sym for ∙ ap (λ (f : Figures). f.workers) listed.figures_are.are in
       let plan = subst (λ w. IsPlanFor rule instance w start) number planned in
       let same = rule_in_one instance sound rule listed.k start (start_of listed.starts) plan listed.list in
-      waits_same work (follows_in instance) start (start_of listed.starts) same ∙ sym listed.figures_are.waits
+      waits_same work (follows_in instance) start (start_of listed.starts) same ∙ sym (ap (λ (f : Figures). f.waits) listed.figures_are.are)
 
   waits_unlimited : (starts : List ℕ) → IsLeast (served_first instance (start_of starts)) work (start_of starts)
       → AreFigures None work (least_in None instance shortest) (start_of starts) line → line.workers ≡ limit
       → waits_of work start ≡ line.waits
   waits_unlimited starts least figures for =
-      let number : limit ≡ None = sym for ∙ figures.workers in
+      let number : limit ≡ None = sym for ∙ ap (λ (f : Figures). f.workers) figures.are in
       let plan = subst (λ w. IsPlanFor rule instance w start) number planned in
-      waits_same work (follows_in instance) start (start_of starts) (least_in_one instance sound start (start_of starts) plan least) ∙ sym figures.waits
+      waits_same work (follows_in instance) start (start_of starts) (least_in_one instance sound start (start_of starts) plan least) ∙ sym (ap (λ (f : Figures). f.waits) figures.are)
 
   waits_in_line : (workers starts : List ℕ) (listed : List Figures) (unlimited : Figures) → IsLeast (served_first instance (start_of starts)) work (start_of starts)
       → AreListed rule instance shortest workers listed → AreFigures None work (least_in None instance shortest) (start_of starts) unlimited

@@ -22,9 +22,3 @@ pub record IsDrawText (hierarchy_file trace_file plan_file : List ℕ)
   pub given : Given
   pub accepts : AcceptsPlan hierarchy_file trace_file plan_file instance given
   pub drawn : text ≡ picture_of picture (scene_of instance given part)
-
--- two pictures of a part of a plan text of a hierarchy and a trace are equal
-abbrev pub DrawTextIsOne : List ℕ → List ℕ → List ℕ → Picture → Part → Type 0
-DrawTextIsOne hierarchy_file trace_file plan_file picture part =
-    (text other : List ℕ) → IsDrawText hierarchy_file trace_file plan_file picture part text
-    → IsDrawText hierarchy_file trace_file plan_file picture part other → text ≡ other

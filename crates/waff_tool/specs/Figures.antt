@@ -74,17 +74,3 @@ TellsWhere (Some label) instance text = TellsNames label instance text
 abbrev pub IsWhereText : List ℕ → List ℕ → Option Label → List ℕ → Type 0
 IsWhereText hierarchy_file trace_file label text =
     IsToldOf (TellsWhere label) hierarchy_file trace_file text
-
--- two texts of a sweep of a hierarchy and a trace by the same rule for the same numbers of workers
--- are equal
-abbrev pub SweepTextIsOne : Rule → List ℕ → List ℕ → List ℕ → Type 0
-SweepTextIsOne rule hierarchy_file trace_file workers =
-    (text other : List ℕ) → IsSweepText rule hierarchy_file trace_file workers text
-    → IsSweepText rule hierarchy_file trace_file workers other
-    → text ≡ other
-
--- two texts of where the time of a hierarchy and a trace goes are equal
-abbrev pub WhereTextIsOne : List ℕ → List ℕ → Option Label → Type 0
-WhereTextIsOne hierarchy_file trace_file label =
-    (text other : List ℕ) → IsWhereText hierarchy_file trace_file label text
-    → IsWhereText hierarchy_file trace_file label other → text ≡ other

@@ -35,9 +35,3 @@ pub record TellsNeeds (instance : Instance) (text : List ℕ) : Type 0 where
 abbrev pub IsNeedsText : List ℕ → List ℕ → List ℕ → Type 0
 IsNeedsText hierarchy_file trace_file text =
     IsToldOf TellsNeeds hierarchy_file trace_file text
-
--- two texts of the needs of a hierarchy and a trace are equal
-abbrev pub NeedsTextIsOne : List ℕ → List ℕ → Type 0
-NeedsTextIsOne hierarchy_file trace_file =
-    (text other : List ℕ) → IsNeedsText hierarchy_file trace_file text
-    → IsNeedsText hierarchy_file trace_file other → text ≡ other

@@ -16,7 +16,7 @@ use Rattle.waff_plan.specs.Timing.{start_of}
 use Rattle.waff_plan.specs.Work.{length_of}
 use Rattle.waff_list.specs.declared.rule.Rule.{Rule}
 use Rattle.waff_plan_text.specs.Lines.{text_of}
-use Rattle.waff_figures.specs.Sweep.{IsListed, quality_fields}
+use Rattle.waff_figures.specs.Sweep.{IsListed, quality_fields, quality_names}
 use Rattle.waff_inputs.specs.Inputs.{Accepts, TellsOfFiles}
 use Rattle.waff_inputs.specs.declared.fault.ToolError.{ToolError}
 use Rattle.waff_inputs.specs.declared.fault.ToolError.TheVariants as tool
@@ -47,8 +47,7 @@ pub record IsRanked (rule : Rule) (trace_file : List ℕ) (k : ℕ) (hierarchy_f
 abbrev pub rank_header : List (List ℕ)
 rank_header =
     codes "hierarchy" ∷ codes "model" ∷ codes "affinities"
-    ∷ codes "length" ∷ codes "list" ∷ codes "least" ∷ codes "over" ∷ codes "waits"
-    ∷ codes "mean" ∷ codes "p50" ∷ codes "p99" ∷ codes "latency" ∷ []
+    ∷ codes "length" ∷ codes "list" ∷ quality_names
 
 -- the line of the hierarchy of this number
 abbrev pub rank_row : ℕ → Ranked → List (List ℕ)
@@ -122,18 +121,6 @@ RefusesRank files trace_file (tool.Trace fault) = IsFirstRefuted files trace_fil
 RefusesRank files trace_file tool.Write = Unit {0}
 RefusesRank files trace_file tool.Memory = Unit {0}
 RefusesRank files trace_file error = ⊥
-
--- two texts of the same hierarchies and trace by the same rule are equal
-abbrev pub RankTextIsOne : Rule → List (List ℕ) → List ℕ → ℕ → Type 0
-RankTextIsOne rule files trace_file k =
-    (text other : List ℕ) → IsRankText rule files trace_file k text
-    → IsRankText rule files trace_file k other → text ≡ other
-
--- two errors that tell why hierarchies and a trace are refused are equal
-abbrev pub RankRefusalIsOne : List (List ℕ) → List ℕ → Type 0
-RankRefusalIsOne files trace_file =
-    (one other : ToolError) → TellsOfFiles one → TellsOfFiles other
-    → RefusesRank files trace_file one → RefusesRank files trace_file other → one ≡ other
 
 -- files that have a text are refused for no error that tells of them
 abbrev pub RankedIsNotRefused : Rule → List (List ℕ) → List ℕ → Type 0

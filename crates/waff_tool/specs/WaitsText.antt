@@ -49,12 +49,6 @@ abbrev pub IsWaitsText : Rule → List ℕ → List ℕ → Option ℕ → Group
 IsWaitsText rule hierarchy_file trace_file workers grouping text =
     IsToldOf (TellsWaits rule workers grouping) hierarchy_file trace_file text
 
--- two texts of who waits for whom are equal
-abbrev pub WaitsTextIsOne : Rule → List ℕ → List ℕ → Option ℕ → Grouping → Type 0
-WaitsTextIsOne rule hierarchy_file trace_file workers grouping =
-    (text other : List ℕ) → IsWaitsText rule hierarchy_file trace_file workers grouping text
-    → IsWaitsText rule hierarchy_file trace_file workers grouping other → text ≡ other
-
 -- the ticks of all rows add up to the `waits` of each line of a sweep by the same rule that is for as
 -- many workers, or without
 abbrev pub WaitsAreSwept : Rule → List ℕ → List ℕ → Option ℕ → Grouping → Type 0

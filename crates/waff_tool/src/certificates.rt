@@ -12,7 +12,7 @@ ghost use Rattle.waff_tool.specs.Certificates.{IsBounded, IsCertified};
 
 use std::alloc::{AllocError, Global};
 use waff_assign::Case;
-use waff_list::{Rule, WorkerPlan, list_plan};
+use waff_list::{Rule, WorkerPlan, list_plan_of};
 use waff_plan::printed::chain;
 use waff_plan::unlimited::plan;
 use waff_plan::{Chain, Plan};
@@ -67,7 +67,7 @@ pub fn bounded_plan(
     ensures bounded { IfOk result (λ found. IsBounded rule (instance_of case.now) k
         (start_of found.made.plan.starts) found.chain.messages) }
 {
-    let made = list_plan(alloc, *case, rule, k)?;
+    let made = list_plan_of(alloc, *case, rule, k)?;
     let plan = made.plan();
     let _messages = plan.len();
     let chain = chain(alloc, case.tree, case.assigned, plan)?;

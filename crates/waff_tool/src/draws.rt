@@ -1,13 +1,14 @@
 //! The picture of a plan.
 ghost use Rattle.std.specs.Prelude.{◌≡◌, ◌≢◌, ℕ, List, IfOk, IfErr};
 ghost use Rattle.std.specs.Prelude.{length, string_bytes};
+ghost use Rattle.waff_model.specs.Unique.{AtMostOne};
 ghost use Rattle.waff_assign.specs.Case.{instance_of};
 ghost use Rattle.waff_inputs.specs.Deliveries.{Delivers, Makes};
 ghost use Rattle.waff_inputs.specs.Inputs.{Accepts};
 ghost use Rattle.waff_tool.specs.Ahead.{IsReadOf};
 ghost use Rattle.waff_tool.specs.CheckText.{RefusesCheck};
 ghost use Rattle.waff_draw.specs.Scene.{scene_of};
-ghost use Rattle.waff_tool.specs.DrawText.{DrawTextIsOne, IsDrawText, picture_of};
+ghost use Rattle.waff_tool.specs.DrawText.{IsDrawText, picture_of};
 
 use crate::ahead::{ReadAhead, accept_beside, plan_read};
 use std::alloc::{AllocError, Global};
@@ -110,5 +111,5 @@ fn pictured(
 /// The picture of a part of a plan text of a hierarchy and a trace is one.
 pub fn draw_text_is_one()
     ensures equal { (hierarchy_file trace_file plan_file : List ℕ) (picture : Picture)
-        (part : Part) → DrawTextIsOne hierarchy_file trace_file plan_file picture part }
+        (part : Part) → AtMostOne (IsDrawText hierarchy_file trace_file plan_file picture part) }
 {}

@@ -2,12 +2,13 @@
 ghost use Rattle.std.specs.Prelude.{◌≡◌, ℕ, List, [], ◌∷◌, IfOk};
 ghost use Rattle.std.specs.Prelude.{OnOk, decimal, length, map, string_bytes};
 ghost use Rattle.std.specs.List.{range_with_len};
+ghost use Rattle.waff_model.specs.Unique.{AtMostOne};
 ghost use Rattle.waff_assign.specs.Case.{instance_of};
 ghost use Rattle.waff_plan_text.specs.Lines.{Adds, line_text, text_of};
 ghost use Rattle.waff_plan_text.specs.Spelling.{numbers_field};
 ghost use Rattle.waff_inputs.specs.Deliveries.{Delivers, Makes};
 ghost use Rattle.waff_inputs.specs.Inputs.{Refuses};
-ghost use Rattle.waff_tool.specs.NeedsText.{IsNeedsText, NeedsTextIsOne, TellsNeeds};
+ghost use Rattle.waff_tool.specs.NeedsText.{IsNeedsText, TellsNeeds};
 ghost use Rattle.waff_tool.specs.NeedsText.{needs_lines, needs_row};
 
 use std::alloc::{AllocError, Global};
@@ -93,5 +94,5 @@ fn push_needs_row(text: &mut String, message: u32, needs: &[u32]) -> Result<(), 
 /// The text of the needs of a hierarchy and a trace is one.
 pub fn needs_text_is_one()
     ensures equal { (hierarchy_file trace_file : List ℕ)
-        → NeedsTextIsOne hierarchy_file trace_file }
+        → AtMostOne (IsNeedsText hierarchy_file trace_file) }
 {}

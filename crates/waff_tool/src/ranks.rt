@@ -3,24 +3,24 @@ ghost use Rattle.std.specs.Prelude.{◌≡◌, ◌≢◌, ◌<◌, ◌≤◌, �
 ghost use Rattle.std.specs.Prelude.{[], OnOk, length, map, string_bytes};
 ghost use Rattle.std.specs.List.{AllZip};
 ghost use Rattle.waff_model.specs.Messages.{sizes_of};
+ghost use Rattle.waff_model.specs.Unique.{AtMostOne};
 ghost use Rattle.waff_read.specs.Hierarchies.{hierarchy_of};
 ghost use Rattle.waff_inputs.specs.Known.{trace_of};
 ghost use Rattle.waff_assign.specs.Case.{instance_of};
 ghost use Rattle.waff_plan.specs.Bound.{IsWorkers};
 ghost use Rattle.waff_plan_text.specs.Lines.{Adds, line_text, text_of};
 ghost use Rattle.waff_inputs.specs.Deliveries.{Delivers, Makes};
-ghost use Rattle.waff_inputs.specs.Inputs.{Refuses};
+ghost use Rattle.waff_inputs.specs.Inputs.{Refuses, TellsOfFiles};
 ghost use Rattle.waff_tool.specs.Ranks.{AreRead, IsRanked, IsRankedAsSwept, IsRankedUnder};
-ghost use Rattle.waff_tool.specs.Ranks.{IsRankText, RankRefusalIsOne, RankTextIsOne};
-ghost use Rattle.waff_tool.specs.Ranks.{RankedIsNotRefused, RefusesRank, rank_header, rank_row};
-ghost use Rattle.waff_tool.specs.Ranks.{rank_rows};
+ghost use Rattle.waff_tool.specs.Ranks.{IsRankText, RankedIsNotRefused, RefusesRank};
+ghost use Rattle.waff_tool.specs.Ranks.{rank_header, rank_row, rank_rows};
 
 use crate::measures::kind_name;
 use std::alloc::{AllocError, Global};
 use std::io::Write;
 use std::thread::Threads;
 use waff_assign::{Case, assign_by_threads};
-use waff_figures::{Figures, QualityFields, list_figures_for};
+use waff_figures::{Figures, QUALITY, QualityFields, list_figures_for};
 use waff_inputs::{MAX_RANKED, ToolError, deliver, read_numbered, read_trace_by_threads};
 use waff_list::Rule;
 use waff_model::{Kind, Layout, Trace};
@@ -248,9 +248,7 @@ fn ranks_text(alloc: Global, ranks: &[Ranked]) -> Result<String, AllocError>
         string_bytes text ≡ text_of (rank_header ∷ rank_rows 1 ranks.now)) }
 {
     let mut text = String::new(alloc);
-    text.push_str(
-        "hierarchy,model,affinities,length,list,least,over,waits,mean,p50,p99,latency\n",
-    )?;
+    writeln!(text, "hierarchy,model,affinities,length,list,{QUALITY}")?;
     push_ranks(&mut text, ranks)?;
     Ok(text)
 }
@@ -289,13 +287,13 @@ fn push_ranked(text: &mut String, number: usize, ranked: &Ranked) -> Result<(), 
 /// The text of hierarchies that are ranked on a trace by a rule is one.
 pub fn rank_text_is_one()
     ensures equal { (rule : Rule) (files : List (List ℕ)) (trace_file : List ℕ) (k : ℕ)
-        → RankTextIsOne rule files trace_file k }
+        → AtMostOne (IsRankText rule files trace_file k) }
 {}
 
 /// The error that tells why hierarchies and a trace are refused is one.
 pub fn rank_refusal_is_one()
     ensures equal { (files : List (List ℕ)) (trace_file : List ℕ)
-        → RankRefusalIsOne files trace_file }
+        → AtMostOne (λ e. TellsOfFiles e × RefusesRank files trace_file e) }
 {}
 
 /// Hierarchies that are ranked on a trace are not refused, but for an allocation failure or a writer's

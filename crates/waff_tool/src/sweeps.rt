@@ -1,11 +1,12 @@
 //! The sweep over numbers of workers.
 ghost use Rattle.std.specs.Prelude.{◌<◌, ℕ, All, List, IfOk};
 ghost use Rattle.std.specs.Prelude.{length, string_bytes};
+ghost use Rattle.waff_model.specs.Unique.{AtMostOne};
 ghost use Rattle.waff_assign.specs.Case.{instance_of};
 ghost use Rattle.waff_plan.specs.Bound.{IsWorkers};
 ghost use Rattle.waff_inputs.specs.Deliveries.{Delivers, Makes};
 ghost use Rattle.waff_inputs.specs.Inputs.{Refuses};
-ghost use Rattle.waff_tool.specs.Figures.{IsSweepText, SweepTextIsOne, TellsSweep};
+ghost use Rattle.waff_tool.specs.Figures.{IsSweepText, TellsSweep};
 
 use std::alloc::{AllocError, Global};
 use std::io::Write;
@@ -88,5 +89,5 @@ fn swept_text(
 /// The text of a sweep of a hierarchy and a trace for these numbers of workers by a rule is one.
 pub fn sweep_text_is_one()
     ensures equal { (rule : Rule) (hierarchy_file trace_file workers : List ℕ)
-        → SweepTextIsOne rule hierarchy_file trace_file workers }
+        → AtMostOne (IsSweepText rule hierarchy_file trace_file workers) }
 {}

@@ -3,37 +3,43 @@
 
 ghost use Rattle.std.specs.Prelude.{ℕ, List, Option};
 ghost use Rattle.waff_list.specs.declared.rule.Rule.{Rule};
-ghost use Rattle.waff_tool.specs.Unique.{AssignTextIsOne, CompareTextIsOne, ComparedIsNotRefused};
-ghost use Rattle.waff_tool.specs.Unique.{ComparisonRefusalIsOne, PlanTextIsOne};
-ghost use Rattle.waff_tool.specs.Unique.{CheckRefusalIsOne, CheckTextIsOne, CheckedIsNotRefused};
-ghost use Rattle.waff_tool.specs.Unique.{ReplayTextIsOne, ReplayRefusalIsOne, ReplayedIsNotRefused};
-ghost use Rattle.waff_tool.specs.Unique.{ExplainedIsOne};
+ghost use Rattle.waff_model.specs.Unique.{AtMostOne};
+ghost use Rattle.waff_inputs.specs.Inputs.{TellsOfFiles};
+ghost use Rattle.waff_tool.specs.AssignText.{IsAssignText};
+ghost use Rattle.waff_tool.specs.PlanText.{IsPlanTextFor};
+ghost use Rattle.waff_tool.specs.Comparison.{IsCompareText, RefusesComparison};
+ghost use Rattle.waff_tool.specs.CheckText.{IsCheckText, RefusesCheck};
+ghost use Rattle.waff_tool.specs.ReplayText.{IsReplayText, RefusesReplay};
+ghost use Rattle.waff_tool.specs.Explanations.{IsExplained};
+ghost use Rattle.waff_tool.specs.Unique.{CheckedIsNotRefused, ComparedIsNotRefused};
+ghost use Rattle.waff_tool.specs.Unique.{ReplayedIsNotRefused};
 
 pub use waff_inputs::unique::{accepted_is_not_refused, refusal_is_one};
 
 /// The text of the affinities of a hierarchy and a trace is one.
 pub fn assign_text_is_one()
     ensures equal { (hierarchy_file trace_file : List ℕ)
-        → AssignTextIsOne hierarchy_file trace_file }
+        → AtMostOne (IsAssignText hierarchy_file trace_file) }
 {}
 
 /// The text of the plan of a hierarchy and a trace by a rule is one, for each number of workers and
 /// without.
 pub fn plan_text_is_one()
     ensures equal { (rule : Rule) (hierarchy_file trace_file : List ℕ) (workers : Option ℕ)
-        → PlanTextIsOne rule hierarchy_file trace_file workers }
+        → AtMostOne (IsPlanTextFor rule hierarchy_file trace_file workers) }
 {}
 
 /// The text of the comparison of two hierarchies on a trace is one.
 pub fn compare_text_is_one()
     ensures equal { (first_file second_file trace_file : List ℕ) (k : ℕ)
-        → CompareTextIsOne first_file second_file trace_file k }
+        → AtMostOne (IsCompareText first_file second_file trace_file k) }
 {}
 
 /// The error that tells why two hierarchies and a trace are refused is one.
 pub fn comparison_refusal_is_one()
     ensures equal { (first_file second_file trace_file : List ℕ)
-        → ComparisonRefusalIsOne first_file second_file trace_file }
+        → AtMostOne
+        (λ e. TellsOfFiles e × RefusesComparison first_file second_file trace_file e) }
 {}
 
 /// Files that are compared are not refused, but for an allocation failure or a writer's fault.
@@ -45,13 +51,14 @@ pub fn compared_is_not_refused()
 /// The verdict on a plan text is one.
 pub fn check_text_is_one()
     ensures equal { (hierarchy_file trace_file plan_file : List ℕ)
-        → CheckTextIsOne hierarchy_file trace_file plan_file }
+        → AtMostOne (IsCheckText hierarchy_file trace_file plan_file) }
 {}
 
 /// The error that tells why a hierarchy, a trace and a plan text are refused is one.
 pub fn check_refusal_is_one()
     ensures equal { (hierarchy_file trace_file plan_file : List ℕ)
-        → CheckRefusalIsOne hierarchy_file trace_file plan_file }
+        → AtMostOne
+        (λ e. TellsOfFiles e × RefusesCheck hierarchy_file trace_file plan_file e) }
 {}
 
 /// Files on which there is a verdict are not refused, but for an allocation failure or a writer's fault.
@@ -63,13 +70,14 @@ pub fn checked_is_not_refused()
 /// The text of the state that a trace leaves under a hierarchy is one, whoever replays the trace.
 pub fn replay_text_is_one()
     ensures equal { (hierarchy_file trace_file : List ℕ)
-        → ReplayTextIsOne hierarchy_file trace_file }
+        → AtMostOne (IsReplayText hierarchy_file trace_file) }
 {}
 
 /// The error that tells why a replay refuses a hierarchy and a trace is one.
 pub fn replay_refusal_is_one()
     ensures equal { (hierarchy_file trace_file : List ℕ)
-        → ReplayRefusalIsOne hierarchy_file trace_file }
+        → AtMostOne
+        (λ e. TellsOfFiles e × RefusesReplay hierarchy_file trace_file e) }
 {}
 
 /// Files that are replayed are not refused, but for an allocation failure or a writer's fault.
@@ -82,5 +90,5 @@ pub fn replayed_is_not_refused()
 /// contract is the law.
 pub fn explained_is_one()
     ensures equal { (hierarchy_file : List ℕ) (trace_file plan_file : Option (List ℕ))
-        → ExplainedIsOne hierarchy_file trace_file plan_file }
+        → AtMostOne (IsExplained hierarchy_file trace_file plan_file) }
 {}

@@ -1,11 +1,12 @@
 //! Who waits for whom.
 ghost use Rattle.std.specs.Prelude.{◌<◌, ℕ, List, Option, IfOk};
 ghost use Rattle.std.specs.Prelude.{None, Some, IfSome, length, string_bytes};
+ghost use Rattle.waff_model.specs.Unique.{AtMostOne};
 ghost use Rattle.waff_assign.specs.Case.{instance_of};
 ghost use Rattle.waff_plan.specs.Bound.{IsWorkers};
 ghost use Rattle.waff_inputs.specs.Deliveries.{Delivers, Makes};
 ghost use Rattle.waff_inputs.specs.Inputs.{Refuses};
-ghost use Rattle.waff_tool.specs.WaitsText.{IsWaitsText, TellsWaits, WaitsAreSwept, WaitsTextIsOne};
+ghost use Rattle.waff_tool.specs.WaitsText.{IsWaitsText, TellsWaits, WaitsAreSwept};
 
 use std::alloc::{AllocError, Global};
 use std::io::Write;
@@ -14,7 +15,7 @@ use waff_assign::Case;
 use waff_figures::wait_laws::ticks_add_up;
 use waff_figures::{Grouping, waiting_text};
 use waff_inputs::{ToolError, accept_by_threads, deliver};
-use waff_list::{Rule, list_plan};
+use waff_list::{Rule, list_plan_of};
 use waff_plan::Planned;
 use waff_plan::unlimited::plan;
 
@@ -112,7 +113,7 @@ fn worker_waits(
     ensures { IfOk result (λ text.
         TellsWaits rule (Some k) grouping (instance_of case.now) (string_bytes text)) }
 {
-    let made = list_plan(alloc, *case, rule, k)?;
+    let made = list_plan_of(alloc, *case, rule, k)?;
     ticks_add_up();
     let plan = made.plan();
     let _messages = plan.len();
@@ -125,7 +126,8 @@ fn worker_waits(
 /// The text of who waits for whom is one.
 pub fn waits_text_is_one()
     ensures equal { (rule : Rule) (hierarchy_file trace_file : List ℕ) (workers : Option ℕ)
-        (grouping : Grouping) → WaitsTextIsOne rule hierarchy_file trace_file workers grouping }
+        (grouping : Grouping)
+        → AtMostOne (IsWaitsText rule hierarchy_file trace_file workers grouping) }
 {}
 
 /// The ticks that it tells add up to the `waits` of each line of a sweep by the same rule for as many

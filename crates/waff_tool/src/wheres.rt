@@ -1,11 +1,11 @@
 //! Where the time goes.
 ghost use Rattle.std.specs.Prelude.{◌<◌, ℕ, List, Option, IfOk};
 ghost use Rattle.std.specs.Prelude.{length, string_bytes};
+ghost use Rattle.waff_model.specs.Unique.{AtMostOne};
 ghost use Rattle.waff_assign.specs.Case.{instance_of};
 ghost use Rattle.waff_inputs.specs.Deliveries.{Delivers, Makes};
 ghost use Rattle.waff_inputs.specs.Inputs.{Refuses};
 ghost use Rattle.waff_tool.specs.Figures.{IsWhereText, TellsAffinities, TellsNames, TellsWhere};
-ghost use Rattle.waff_tool.specs.Figures.{WhereTextIsOne};
 
 use crate::certificates::certified_plan;
 use std::alloc::{AllocError, Global};
@@ -95,5 +95,5 @@ fn spent_by_label(alloc: Global, case: &Case<'_>, label: Label) -> Result<String
 /// The text of where the time of a hierarchy and a trace goes is one.
 pub fn where_text_is_one()
     ensures equal { (hierarchy_file trace_file : List ℕ) (label : Option Label)
-        → WhereTextIsOne hierarchy_file trace_file label }
+        → AtMostOne (IsWhereText hierarchy_file trace_file label) }
 {}

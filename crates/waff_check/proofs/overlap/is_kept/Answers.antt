@@ -1,29 +1,26 @@
--- By the version: the first messages keep the order, or are apart.
-use Rattle.std.proofs.Common.{◌∙◌, sym}
+-- The first messages keep the order, or where messages have clients are apart.
+use Rattle.std.proofs.Common.{◌≡◌, ◌↔◌, ◌∙◌, Bool, IsTrue, IfOk, ap, subst, sym}
 use Rattle.std.proofs.lemmas.Result.{IfOk-weaker}
+use Rattle.waff_model.specs.Versions.{has_clients}
 use Rattle.waff_assign.specs.Case.{pairs_of}
 use Rattle.waff_plan.specs.Planned.{planned_starts, planned_work}
-use Rattle.waff_check.specs.Searches.{version_in}
-use Rattle.waff_check.proofs.OverlapLaws.{apart_tells, order_tells}
+use Rattle.waff_check.proofs.OverlapLaws.{NoneOfFirst, apart_tells, order_tells}
 use Rattle.waff_check.proofs.overlap.is_kept.Goals as goal
 
-pub returns-in-V1 : goal.returns-in-V1
-returns-in-V1 c =
+pub returns-then-has_clients : goal.returns-then-has_clients
+returns-then-has_clients c =
     let planned = c.args.planned.now in
-    IfOk-weaker c.keeps_order.result _ _
-    (order_tells (version_in planned) (pairs_of planned.case) (planned_work planned) (planned_starts planned) c.args.count (λ is. cc (is, c.version.ensures, c.in-V1.is)))
-    c.keeps_order.ensures
-
-pub returns-in-V2 : goal.returns-in-V2
-returns-in-V2 c =
-    let planned = c.args.planned.now in
-    IfOk-weaker c.keeps_order-in-V2.result _ _
-    (order_tells (version_in planned) (pairs_of planned.case) (planned_work planned) (planned_starts planned) c.args.count (λ is. cc (is, c.version.ensures, c.in-V2.is)))
-    c.keeps_order-in-V2.ensures
-
-pub returns-in-V3 : goal.returns-in-V3
-returns-in-V3 c =
-    let planned = c.args.planned.now in
+    let is = sym c.if-has_clients.true ∙ c.has_clients.ensures ∙ ap has_clients c.version.ensures in
     IfOk-weaker c.keeps_apart.result _ _
-    (apart_tells (version_in planned) (pairs_of planned.case) (planned_work planned) (planned_starts planned) c.args.count (sym c.version.ensures ∙ c.in-V3.is))
+    (λ kept told. subst (λ (clients : Bool). IsTrue kept ↔ NoneOfFirst clients (pairs_of planned.case) (planned_work planned) (planned_starts planned) c.args.count) is
+    (apart_tells (pairs_of planned.case) (planned_work planned) (planned_starts planned) c.args.count kept told))
     c.keeps_apart.ensures
+
+pub returns-else-has_clients : goal.returns-else-has_clients
+returns-else-has_clients c =
+    let planned = c.args.planned.now in
+    let is = sym c.if-has_clients.false ∙ c.has_clients.ensures ∙ ap has_clients c.version.ensures in
+    IfOk-weaker c.keeps_order.result _ _
+    (λ kept told. subst (λ (clients : Bool). IsTrue kept ↔ NoneOfFirst clients (pairs_of planned.case) (planned_work planned) (planned_starts planned) c.args.count) is
+    (order_tells (pairs_of planned.case) (planned_work planned) (planned_starts planned) c.args.count kept told))
+    c.keeps_order.ensures

@@ -1,13 +1,13 @@
-use Rattle.std.proofs.Common.{◌≡◌, ℕ, ◌<◌, ◌∷◌, [], length, get_or, map, string_bytes, arith, ◌∙◌, ap, subst}
+use Rattle.std.proofs.Common.{◌≡◌, ℕ, ◌<◌, ◌∷◌, [], length, get_or, map, string_bytes, arith, sym, ◌∙◌, ap, subst}
 use Rattle.std.specs.List.{range_with_len}
 use Rattle.std.proofs.lemmas.Result.{IfOk-weaker}
-use Rattle.waff_model.specs.DistinctNames.{distinct_names}
 use Rattle.waff_plan.specs.Timing.{work_of}
 use Rattle.waff_plan.proofs.TimingLemmas.{length-timings_of}
 use Rattle.waff_plan_text.specs.Lines.{text_of}
-use Rattle.waff_figures.specs.ByName.{is_named, label_header, labels_of, name_row, named_row, tallied_name_row}
+use Rattle.waff_figures.specs.ByName.{first_messages, is_named, label_at, label_header, label_row, labels_of, name_row, named_row, tallied_name_row}
 use Rattle.waff_figures.specs.Tally.{is_in, no_tally, tally_of}
-use Rattle.waff_figures.proofs.RowLemmas.{map_by_places, map_range_same, tally_same}
+use Rattle.waff_figures.proofs.NameLaws.{distinct_are}
+use Rattle.waff_figures.proofs.RowLemmas.{map_by_places, map_map, map_range_same, tally_same}
 use Rattle.waff_figures.proofs.by_name.names_text.Goals as goal
 
 pub returns : goal.returns
@@ -26,11 +26,12 @@ returns c =
     (c.in_ok-tallies.ensures.each p (omega (arith, low, c.len.ensures)))
     ∙ tally_same work chain (is_in places p) (is_named names (get_or texts p [])) c.requires.chain.each
     (λ m from to. c.in_ok-found.ensures.each p m low from (omega (arith, to, count))) in
-    let rows : map (tallied_name_row texts tallies) (range_with_len 0 (length texts)) ≡ map (name_row names work chain) (distinct_names names)
+    let rows : map (tallied_name_row texts tallies) (range_with_len 0 (length texts)) ≡ map (label_row names work chain) (first_messages names)
     = map_range_same (tallied_name_row texts tallies) (λ p. name_row names work chain (get_or texts p [])) 0 (length texts)
     (λ p from to. ap (λ t. named_row (get_or texts p []) t) (tally p (omega (arith, to))))
     ∙ map_by_places (name_row names work chain) texts []
-    ∙ ap (map (name_row names work chain)) c.in_ok-found.ensures.names in
+    ∙ ap (map (name_row names work chain)) (c.in_ok-found.ensures.names ∙ distinct_are names)
+    ∙ sym (map_map (name_row names work chain) (label_at names) (first_messages names)) in
     IfOk-weaker c.tallied_text.result
     (λ text. string_bytes text ≡ text_of (header ∷ map (tallied_name_row texts c.as_slice-2.result.now) (range_with_len 0 (length texts)))) _
     (λ text is.

@@ -11,16 +11,9 @@ returns c =
     let latencies = latencies_of (work_in plan) (starts_in plan) in
     let sorted = c.in_ok-sorted.sorted.items in
     record {
-      workers = refl;
-      messages = c.len.ensures.count;
-      total = c.total.ensures.total;
-      length = c.length.ensures.length;
-      least = c.in_ok-least.ensures;
-      waits = c.sum_of_waits.ensures;
-      latencies = c.sum_of_latencies.ensures;
       p50 = percentile_permuted 50 latencies sorted c.percentile.result c.in_ok-sorted.ensures.same
           (subst (λ xs. IsPercentile 50 xs c.percentile.result) c.as_slice.ensures.value c.percentile.ensures);
       p99 = percentile_permuted 99 latencies sorted c.percentile-2.result c.in_ok-sorted.ensures.same
           (subst (λ xs. IsPercentile 99 xs c.percentile-2.result) c.as_slice-2.ensures.value c.percentile-2.ensures);
-      latency = c.greatest_latency.ensures;
+      are = rw (c.len.ensures.count, c.total.ensures.total, c.length.ensures.length, c.in_ok-least.ensures, c.sum_of_waits.ensures, c.sum_of_latencies.ensures, c.greatest_latency.ensures) refl;
     }

@@ -2,7 +2,7 @@ use Rattle.std.proofs.Common.{◌≡◌, List, ℕ, ◌++◌, string_bytes, appe
 use Rattle.std.proofs.lemmas.List.Concat.{flat_map-append}
 use Rattle.std.proofs.lemmas.Result.{on_ok_weaker}
 use Rattle.waff_plan_text.specs.Lines.{line_text, text_of}
-use Rattle.waff_figures.specs.Rate.{size_lines, speed_lines, wait_lines}
+use Rattle.waff_figures.specs.Rate.{quality_lines, size_lines, speed_lines}
 use Rattle.waff_figures.proofs.rate.push_rate.Goals as goal
 
 -- what stood before, lines, and lines behind them
@@ -17,6 +17,6 @@ returns c =
     let one = string_bytes c.push_sizes.new.text in
     let two = string_bytes c.push_speeds.new.text in
     let next = lines_behind old one two (size_lines figures) (speed_lines figures) c.in_ok-push_sizes.ensures c.in_ok-push_speeds.ensures in
-    on_ok_weaker c.push_waits.result
-    (λ done. lines_behind old two (string_bytes c.push_waits.new.text) (size_lines figures ++ speed_lines figures) (wait_lines figures) next done)
-    c.push_waits.ensures
+    on_ok_weaker c.push_quality.result
+    (λ done. lines_behind old two (string_bytes c.push_quality.new.text) (size_lines figures ++ speed_lines figures) (quality_lines figures) next done)
+    c.push_quality.ensures

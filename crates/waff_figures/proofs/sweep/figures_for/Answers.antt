@@ -6,6 +6,7 @@ use Rattle.waff_plan.specs.Timing.{start_of, work_of}
 use Rattle.waff_plan.specs.Work.{length_of}
 use Rattle.waff_figures.specs.Figures.{AreFigures}
 use Rattle.waff_figures.specs.Least.{IsLowerBound, least_in}
+use Rattle.waff_figures.specs.declared.figures.Figures.{Figures}
 use Rattle.waff_figures.proofs.sweep.figures_for.Goals as goal
 
 pub invariant_of-planned : goal.invariant_of-planned
@@ -37,6 +38,6 @@ returns-clause-listed c =
       list = rw c.in_ok-made.ensures.timings at c.in_ok-made.ensures.follows;
       figures_are = told;
       least = subst (λ n. IsLowerBound limit instance n)
-          (sym (told.least ∙ ap (λ ts. least_in limit instance (length_of (work_of ts) (start_of plan.starts))) unlimited.timings)) bound;
+          (sym (ap (λ (f : Figures). f.least) told.are ∙ ap (λ ts. least_in limit instance (length_of (work_of ts) (start_of plan.starts))) unlimited.timings)) bound;
     })
     (rw (c.plan.ensures.plan, c.in_ok-made.ensures.timings, c.length.ensures.length) at c.figures_of-figures.ensures)

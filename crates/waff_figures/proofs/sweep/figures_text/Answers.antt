@@ -6,5 +6,5 @@ use Rattle.waff_figures.proofs.sweep.figures_text.Goals as goal
 pub returns : goal.returns
 returns c =
     three_parts sweep_header (map sweep_row c.args.listed.now) (sweep_row c.args.unlimited.now)
-    (string_bytes c.push_str.new.self) (string_bytes c.push_rows.new.text) (string_bytes c.push_row.new.text)
+    (string_bytes c.push_header.new.text) (string_bytes c.push_rows.new.text) (string_bytes c.push_row.new.text)
     (search rules) c.in_ok-push_rows.ensures c.in_ok-push_row.ensures

@@ -1,26 +1,20 @@
-use Rattle.std.proofs.Common.{◌≡◌, ◌+◌, ◌*◌, ◌^◌, ◌<◌, ◌≤◌, ◌∷◌, [], ◌++◌, List, All, Some, None, true, not, cond, slice_get, length, get_or, map, take, arith, refl, sym, ◌∙◌, ap, subst}
-use Rattle.std.specs.List.{AllPairs, list_any}
-use Rattle.std.proofs.lemmas.List.{get_or-take, get_or_default, length-take, take_all, take_more}
-use Rattle.waff_figures.specs.Waits.{ComesFirst}
-use Rattle.waff_figures.specs.WaitRows.{AreTold, StartsFirst, kind_in, rows_with, same_group}
-use Rattle.waff_figures.specs.declared.wait_rows.Row.{Row}
+use Rattle.std.proofs.Common.{◌≡◌, ◌+◌, ◌*◌, ◌^◌, ◌<◌, ◌≤◌, ◌∷◌, [], ◌++◌, List, All, None, Some, true, not, cond, slice_get, length, get_or, take, arith, refl, sym, ◌∙◌, ap, subst}
+use Rattle.std.specs.List.{list_any}
+use Rattle.std.proofs.lemmas.List.{take_all, take_more}
+use Rattle.waff_figures.specs.WaitRows.{kind_in, rows_by, rows_with, same_group}
 use Rattle.waff_figures.specs.declared.waits.Wait.{Wait}
-use Rattle.waff_figures.proofs.WaitKinds.{AreSoFar, Kind, all_with, inside_if_old, kind_eq, none_so_far, one_more}
+use Rattle.waff_figures.proofs.WaitKinds.{AreSoFar, Kind, all_with, inside_if_old, kind_eq, one_more}
 use Rattle.waff_figures.proofs.wait_rows.gathered_by.Goals as goal
 
 abbrev no_wait : Wait
 no_wait = record { message = 0; on = None; ticks = 0 }
 
 pub loop-wait-init : goal.loop-wait-init
-loop-wait-init c =
-    let none = none_so_far c.args.groups.now c.new-rows.result.items c.args.kinds.now.keys c.new-rows.ensures.items c.requires.none in
-    record {
-      told = none.told;
-      order = none.order;
-      kinds = none.kinds;
-      few = λ k d low. absurd (omega (arith, low, ap length c.new-rows.ensures.items));
-      short = λ k d low. absurd (omega (arith, low, ap length c.new-rows.ensures.items));
-    }
+loop-wait-init c = record {
+  told = record { rows_are = c.new-rows.ensures.items; kinds = c.requires.none };
+  few = λ k d low. absurd (omega (arith, low, ap length c.new-rows.ensures.items));
+  short = λ k d low. absurd (omega (arith, low, ap length c.new-rows.ensures.items));
+}
 
 pub loop-wait-preserved : goal.loop-wait-preserved
 loop-wait-preserved c =
@@ -35,30 +29,20 @@ loop-wait-preserved c =
     let new_keys = c.insert_full.new.self.keys in
     let place = c.in_ok-place.place in
     let is_new = c.in_ok-place.is_new in
-    let long = length-take i waits in
-    let later : All (λ v. ComesFirst v w) before = λ k d less.
-    let inside : k < i = omega (arith, less, long) in
-    subst (λ v. ComesFirst v w) (sym (get_or-take i waits k d inside)) (subst (λ v. ComesFirst (get_or waits k d) v) (get_or_default waits i d no_wait low) (c.requires.order k i d inside low)) in
-    let are : AreSoFar groups before rows keys = record {
-      told = c.loop-wait.invariant.told;
-      order = c.loop-wait.invariant.order;
-      kinds = c.loop-wait.invariant.kinds;
-    } in
+    let are = c.loop-wait.invariant.told in
     let kind = c.kind.ensures in
     let placed = subst (λ k. (key : Kind) × (slice_get new_keys place ≡ Some key) × (kind_eq k key ≡ true)) kind c.in_ok-place.ensures.stored in
     let among = list_any (kind_eq (kind_in groups w)) keys in
     let added : is_new ≡ not among = subst (λ k. is_new ≡ not (list_any (kind_eq k) keys)) kind c.in_ok-place.ensures.added in
     let keys_are : new_keys ≡ cond among keys (keys ++ kind_in groups w ∷ [])
     = subst (λ k. new_keys ≡ cond (list_any (kind_eq k) keys) keys (keys ++ k ∷ [])) kind c.in_ok-place.ensures.keys in
-    let inside = inside_if_old groups before w rows keys new_keys place later are is_new among added keys_are placed in
+    let inside = inside_if_old groups before w rows keys new_keys place are is_new among added keys_are placed in
     let rows_are : c.tell.new.rows.items ≡ rows_with rows place is_new w = c.in_ok-tell.ensures.told in
     let small : w.ticks < 2 ^ 64 = c.in_ok-tell.ensures.small in
-    let more = one_more groups before w rows keys new_keys place later are is_new among refl added keys_are placed in
-    let next = subst (λ ws. AreSoFar groups ws (rows_with rows place is_new w) new_keys) (sym (take_more waits i no_wait low)) more in
+    let more = one_more groups before w rows keys new_keys place are is_new among refl added keys_are placed in
     record {
-      told = subst (AreTold (same_group groups) (take (i + 1) waits)) (sym rows_are) next.told;
-      order = subst (AllPairs StartsFirst) (sym rows_are) next.order;
-      kinds = next.kinds ∙ ap (map (λ (r : Row). kind_in groups r.first)) (sym rows_are);
+      told = subst (λ rs. AreSoFar groups (take (i + 1) waits) rs new_keys) (sym rows_are)
+          (subst (λ ws. AreSoFar groups ws (rows_with rows place is_new w) new_keys) (sym (take_more waits i no_wait low)) more);
       few = subst (All (λ r. r.messages ≤ i + 1)) (sym rows_are)
           (all_with (λ r. r.messages ≤ i) (λ r. r.messages ≤ i + 1) rows place is_new w c.loop-wait.invariant.few
           (λ r h. omega (arith, h)) (omega arith) inside (λ r h. omega (arith, h)));
@@ -69,9 +53,5 @@ loop-wait-preserved c =
 
 pub returns : goal.returns
 returns c =
-    let waits = c.args.waits.now in
-    let all : take c.loop-wait.wait-index waits ≡ waits = take_all c.loop-wait.wait-index waits c.loop-wait-test.false in
-    record {
-      told = subst (λ ws. AreTold (same_group c.args.groups.now) ws c.loop-wait.rows.items) all c.loop-wait.invariant.told;
-      order = c.loop-wait.invariant.order;
-    }
+    c.loop-wait.invariant.told.rows_are
+    ∙ ap (rows_by (same_group c.args.groups.now)) (take_all c.loop-wait.wait-index c.args.waits.now c.loop-wait-test.false)

@@ -42,6 +42,6 @@ returns c =
           c.rows.ensures;
       among = IfOk-weaker c.rows.result (λ rows. AreRows (same_group c.as_slice-2.result.now) c.as_slice.result.now rows.items)
           (λ rows. All (λ (row : Row). IsWaitAmong (length assigned) row.first) rows.items)
-          (λ rows are. rows_among (same_group groups) alike (length assigned) c.in_ok-groups.ensures.tell waits among rows.items (told rows.items are).told)
+          (λ rows are. rows_among (same_group groups) alike (length assigned) c.in_ok-groups.ensures.tell waits among rows.items (told rows.items are))
           c.rows.ensures;
     }

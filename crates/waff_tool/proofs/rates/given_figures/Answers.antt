@@ -1,4 +1,4 @@
-use Rattle.std.proofs.Common.{sym, subst}
+use Rattle.std.proofs.Common.{sym, ap, subst}
 use Rattle.std.proofs.lemmas.Result.{IfOk-weaker}
 use Rattle.waff_assign.specs.Case.{instance_of}
 use Rattle.waff_plan.specs.Instances.{work_of_instance}
@@ -7,6 +7,7 @@ use Rattle.waff_plan.specs.Work.{length_of}
 use Rattle.waff_check.specs.Verdicts.{starts_of}
 use Rattle.waff_figures.specs.Figures.{AreFigures}
 use Rattle.waff_figures.specs.Least.{IsLowerBound, least_in}
+use Rattle.waff_figures.specs.declared.figures.Figures.{Figures}
 use Rattle.waff_tool.proofs.CertificateLemmas.{as_many}
 use Rattle.waff_tool.proofs.rates.given_figures.Goals as goal
 
@@ -33,7 +34,7 @@ returns c =
       starts = starts;
       least = least;
       are_figures = are_figures;
-      bound = subst (λ n. IsLowerBound limit instance n) (sym are_figures.least)
+      bound = subst (λ n. IsLowerBound limit instance n) (sym (ap (λ (f : Figures). f.least) are_figures.are))
           (c.least_is_lower_bound.ensures.bound instance limit (start_of starts) handed.given.workers c.len-affinities.ensures.tree case.lengths least);
     })
     (rw (handed.timings, handed.starts, c.workers.ensures, c.length-shortest.ensures.length, timings) at c.figures_of-figures.ensures)

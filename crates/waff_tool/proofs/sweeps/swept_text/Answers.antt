@@ -5,6 +5,7 @@ use Rattle.waff_plan.specs.Timing.{start_of}
 use Rattle.waff_plan_text.specs.Lines.{text_of}
 use Rattle.waff_figures.specs.Least.{IsLowerBound}
 use Rattle.waff_figures.specs.Sweep.{sweep_lines}
+use Rattle.waff_figures.specs.declared.figures.Figures.{Figures}
 use Rattle.waff_tool.proofs.CertificateLemmas.{as_many}
 use Rattle.waff_tool.proofs.sweeps.swept_text.Goals as goal
 
@@ -37,7 +38,7 @@ returns c =
       least = least;
       are_listed = rw timings at c.in_ok-listed.ensures;
       are_unlimited = told;
-      bound = subst (λ n. IsLowerBound None instance n) (sym told.least)
+      bound = subst (λ n. IsLowerBound None instance n) (sym (ap (λ (f : Figures). f.least) told.are))
           (c.least_is_lower_bound.ensures.bound instance None (start_of starts) tt c.len-affinities.ensures.tree case.lengths least);
       lines = lines ∙ ap (λ fs. text_of (sweep_lines fs unlimited)) c.as_slice.ensures.value;
     })
