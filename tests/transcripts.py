@@ -22,6 +22,7 @@ import tempfile
 from collections.abc import Iterator
 from concurrent.futures import ThreadPoolExecutor
 from dataclasses import dataclass
+from itertools import repeat
 
 from common import ROOT, Count
 
@@ -107,7 +108,7 @@ def run(folder: pathlib.Path, program: str, wanted: set[str], count: Count | Non
     with ThreadPoolExecutor(os.cpu_count()) as pool:
         for path in sorted(folder.glob("*.txt")):
             every = [it for it in cases(path) if not wanted or wanted & {path.stem, it.name}]
-            printed = list(pool.map(lambda it: it.run(program), every))
+            printed = list(pool.map(Case.run, every, repeat(program)))
             if count is None:
                 keep(path, {case.name: text for case, text in zip(every, printed, strict=True)})
             else:

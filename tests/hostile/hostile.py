@@ -13,7 +13,9 @@ import time
 sys.path.append(os.path.dirname(os.path.dirname(os.path.realpath(__file__))))
 
 import common  # noqa: E402
-from common import ROOT, Count  # noqa: E402, F401
+from common import ROOT  # noqa: E402
+
+Count = common.Count
 
 # The program that is run. A script names it or has it found.
 PROGRAM = ""

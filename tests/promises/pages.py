@@ -9,7 +9,7 @@
 - docs/testing.md names each script, docs/architecture.md each crate with what its first lines say and what it stands on; crates.txt has
   the same words.
 - Each entry of docs/DECISIONS.md has its reason, and what it was chosen over.
-- README.md has the line of the kit that `dist/waff` was proved with.
+- README.md names the logic that `dist/waff` was proved in.
 """
 import os
 import re
@@ -158,9 +158,9 @@ class Reader:
             for word in ("*Because*", "*Instead of*"):
                 self.tell(word in " ".join(entry.split()), page.name, f"no {word}: {entry.splitlines()[0]}")
 
-    def read_kit(self):
-        kit = (ROOT / "dist" / "waff.sums").read_text().splitlines()[0]
-        self.tell(kit in (ROOT / "README.md").read_text(), "README.md", f"no line of the kit: {kit}")
+    def read_logic(self):
+        logic = (ROOT / "dist" / "waff.sums").read_text().splitlines()[0].split()[-1]
+        self.tell(f"`{logic}`" in (ROOT / "README.md").read_text(), "README.md", f"the logic {logic} is not named")
 
 
 def is_quoted(lines, sources):
@@ -246,4 +246,4 @@ def read(crates, count):
     reader.read_scripts(pages["docs/testing.md"])
     reader.read_crates(pages["docs/architecture.md"])
     reader.read_decisions(pages["docs/DECISIONS.md"])
-    reader.read_kit()
+    reader.read_logic()

@@ -2,8 +2,9 @@
 
 What the page names has to be there: a contract is a function of a crate of its section (or of a crate that its row names),
 a clause is a named `ensures` of that function, a law is a public function with an empty body, a wrong body is an edit in
-`must-fail/`, a definition stands in `specs/`, and a test is a file, a folder or a function. And each edit and each law of a crate
-has to stand on the page, in a section of that crate.
+`must-fail/`, a definition stands in `specs/`, and a test is a file, a folder or a function. A definition behind `over` has to be named by
+a clause of its contract, or by a definition that one names; behind `through` it may lie deeper in what the clauses are made of. And each
+edit and each law of a crate has to stand on the page, in a section of that crate.
 """
 import re
 
@@ -21,6 +22,10 @@ class Reader:
     def __init__(self, crates, count):
         self.crates = crates
         self.count = count
+        self.definitions = {}
+        for crate in crates.values():
+            for name, words in crate.made_of.items():
+                self.definitions.setdefault(name, set()).update(words)
         self.named_edits = set()
         self.named_laws = set()
         self.section = []
@@ -77,28 +82,34 @@ class Reader:
                 self.read_laws(cell)
 
     def read_contracts(self, cell, among):
-        """Calls and laws, with `: ` their clauses, with `over` their definitions; `;` begins anew."""
+        """Calls and laws, with `: ` their clauses, with `over` and `through` their definitions; `;` begins anew."""
         for part in re.split(r";", cell):
             kind, calls, at = "call", [], 0
+            spoken = []
             for token in TOKEN.finditer(part):
                 before, at, name = part[at:token.start()], token.end(), token.group(1)
                 if re.search(r"\blaws?\b", before):
                     kind, calls = "law", []
-                elif re.search(r"\b(over|by name|and for)\b", before):
+                elif word := re.search(r"\b(over|through|by name|and for)\b", before):
                     kind = "word"
+                    depth = {"over": 1, "through": len(self.crates)}.get(word.group(1))
                 elif before.startswith(":") and kind != "word":
                     kind = "clause of law" if kind == "law" else "clause"
                 elif kind == "clause" and re.search(r"\(", before):
                     self.tell_word(name, among)
                     continue
                 calls = self.read_contract(kind, name, calls, among)
+                if kind != "word" or any(f.is_law for f in self.found(name, among)):
+                    spoken += [f for f in calls if f not in spoken]
+                elif depth and spoken and name in self.definitions:
+                    self.tell(name in self.reached(spoken, depth), f"no clause of {spoken[0].name} names `{name}`, nor what it names")
 
     def read_contract(self, kind, name, calls, among):
         """Reads one name, and answers the functions whose clauses may follow."""
         if name.endswith((".antt", ".rt")):
             self.tell(self.has_file(name, among), f"no file `{name}`")
             return calls
-        found = [f for crate in among for f in crate.find(name)]
+        found = self.found(name, among)
         if kind == "word" and not any(f.is_law for f in found):
             self.tell_word(name, among)
         elif kind in ("law", "word"):
@@ -114,6 +125,18 @@ class Reader:
         else:
             return self.read_call(name, found, calls, among)
         return calls
+
+    def found(self, name, among):
+        return [f for crate in among for f in crate.find(name)]
+
+    def reached(self, functions, depth):
+        """The words of the clauses of functions, and of the definitions that these name, so many steps down."""
+        reached = set().union(*(f.words for f in functions))
+        new = reached
+        for _ in range(depth):
+            new = set().union(*(self.definitions.get(word, set()) for word in new)) - reached
+            reached |= new
+        return reached
 
     def read_call(self, name, found, calls, among):
         clauses = any(name in f.clauses for crate in among for f in crate.functions)

@@ -10,14 +10,17 @@ FUNCTION = re.compile(r"^( *)(pub(?:\([a-z]+\))? )?(?:const |unsafe )*fn (\w+)(.
 CLAUSE = re.compile(r"^ +ensures\*? (\w+) \{")
 IMPL = re.compile(r"^ *impl(?:<[^>]*>)? (?:.* for )?&?(\w+)")
 OUTPUT = re.compile(r"^ +ghost output\b")
+GHOST = re.compile(r"^ +ghost \w+ =")
 TYPE = re.compile(r"^ *(?:pub(?:\([a-z]+\))? )?(?:struct|enum|trait|type|union|const) (\w+)", re.M)
 DEFINITION = re.compile(r"^(?:abbrev |unfoldable |record |data )*(?:pub )?(?:abbrev |record |data )?(\w+)\b.*[:=]", re.M)
 RECORD = re.compile(r"^pub record (\w+)[^=]*? where\n((?: +[^\n]*\n?)*)", re.M)
 FIELD = re.compile(r"^  pub (\w+) :", re.M)
+# A line of a definition that begins a new one, or goes on with its equations.
+EQUATION = re.compile(r"^(?:(?:abbrev|unfoldable|record|data|pub) )*([A-Za-z_]\w*)")
 
 
 class Function:
-    """A function of a crate, with the type or the module that it belongs to and the names of its clauses."""
+    """A function of a crate, with the type or the module that it belongs to, the names of its clauses and the words in them."""
 
     def __init__(self, name, owner, module):
         self.name = name
@@ -25,6 +28,7 @@ class Function:
         self.module = module
         self.is_law = False
         self.clauses = set()
+        self.words = set()
 
     def is_named(self, name):
         """Whether a name stands for it: `call`, `Type::call` or `module::call`."""
@@ -47,6 +51,11 @@ class Crate:
         self.edits = {path.stem for path in (folder / "must-fail").glob("*.edit")}
         self.names = {name for text in texts.values() for name in re.findall(r"\w+", text)}
         self.functions = [f for path in sources for f in functions_of(path.stem, texts[path])]
+        # The words that stand in each definition.
+        self.made_of = {}
+        for path in specs:
+            for name, words in definitions_of(texts[path]):
+                self.made_of.setdefault(name, set()).update(words)
         self.laws = {f.name for f in self.functions if f.is_law}
 
     def find(self, name):
@@ -56,21 +65,25 @@ class Crate:
 
 def functions_of(module, text):
     """The functions of a file, as rt fmt lays them out."""
-    owner, has_output, found, head = None, False, [], None
+    owner, has_output, ghosts, found, head = None, False, set(), [], None
     for line in text.splitlines():
         if line.startswith("impl"):
-            owner, has_output = IMPL.match(line).group(1), False
+            owner, has_output, ghosts = IMPL.match(line).group(1), False, set()
         elif line == "}":
-            owner = None
+            owner, ghosts = None, set()
         has_output = has_output or bool(OUTPUT.match(line))
+        if GHOST.match(line):
+            ghosts |= words_of(line)
         start = FUNCTION.match(line)
         if start:
             indent, visibility, name, head = start.groups()
             found.append(Function(name, owner, module))
             if has_output and owner:
                 found[-1].clauses.add("output")
+            found[-1].words |= ghosts
         if head is None:
             continue
+        found[-1].words |= words_of(line)
         clause = CLAUSE.match(line)
         if clause:
             found[-1].clauses.add(clause.group(1))
@@ -78,6 +91,24 @@ def functions_of(module, text):
             found[-1].is_law = visibility == "pub " and head == "()" and line == f"{indent}{{}}"
             head = None
     return found
+
+
+def words_of(text):
+    return set(re.findall(r"\w+", text))
+
+
+def definitions_of(text):
+    """The definitions of a file, line by line, each with the imported and own names that stand in it."""
+    lines = [line for line in text.splitlines() if line.strip() and not line.startswith("--")]
+    imported = [line for line in lines if line.startswith(("use ", "pub use "))]
+    said = [line for line in lines if line not in imported]
+    known = words_of(" ".join(imported)) | {it.group(1) for it in map(EQUATION.match, said) if it}
+    name = None
+    for line in said:
+        begun = EQUATION.match(line)
+        name = begun.group(1) if begun else name
+        if name:
+            yield name, words_of(line) & known
 
 
 def fields_of(text):

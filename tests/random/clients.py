@@ -1,15 +1,15 @@
 #!/usr/bin/env python3
 """A plain planner of traces with clients, by definition and slowly: what waff prints of traces of all three versions.
 
-    tests/random/clients.py COMMAND FILE ..      assign, plan, check, replay, compare, sweep, rate, rank, waits, where or needs, as waff has them
+    tests/random/clients.py COMMAND FILE ..      assign, plan, check, replay, compare, sweep, rate, rank, waits, where, needs or draw, as waff has them
 
-It has no proof and shares no line with the program. A hierarchy has to be right but for its sizes; traces and plan texts are refused as
+Of `draw` it has events alone. It has no proof and shares no line with the program. A hierarchy has to be right but for its sizes; traces and plan texts are refused as
 waff does. Plans are made from tick to tick, over all pairs of messages, so take some hundred messages at most.
 """
 
-import argparse
 import csv
 import io
+import json
 import re
 import sys
 import tomllib
@@ -17,7 +17,7 @@ from argparse import ArgumentParser, Namespace
 from collections import Counter
 from collections.abc import Callable, Iterator
 from dataclasses import dataclass, field
-from itertools import pairwise
+from itertools import pairwise, product
 
 HEADERS = {("message", "cost", "ops"): 1, ("message", "cost", "release", "ops"): 2}
 HEADERS |= {("message", "cost", "release", "client", "think", "ops"): 3}
@@ -70,6 +70,11 @@ class Tree:
         """The lowest affinity at or above all of these."""
         ways = [self.way(it) for it in owners]
         return next(it for it in ways[0] if all(it in way for way in ways))
+
+    def preorder(self, affinity: int = 0) -> list[int]:
+        """An affinity, and what is below it: each child with what is below that one."""
+        children = [it for it, parent in enumerate(self.parents) if parent == affinity]
+        return [affinity] + [it for child in children for it in self.preorder(child)]
 
 
 Cell = tuple[str, int]
@@ -535,8 +540,8 @@ def waits_text(plan: Plan, by_names: bool) -> str:
             if ticks:
                 found.setdefault((words(m), words(other), other is None), (m, []))[1].append(ticks)
     rows = ["name,affinity,forname,foraffinity,messages,ticks,longest" if by_names else "affinity,for,messages,ticks,longest"]
-    for (one, other, _), (_, ticks) in sorted(found.items(), key=lambda it: (-sum(it[1][1]), it[1][0], it[0][2])):
-        rows.append(",".join([*one, *other, str(len(ticks)), str(sum(ticks)), str(max(ticks))]))
+    for (waiting, waited, _), (_, waits) in sorted(found.items(), key=lambda it: (-sum(it[1][1]), it[1][0], it[0][2])):
+        rows.append(",".join([*waiting, *waited, str(len(waits)), str(sum(waits)), str(max(waits))]))
     return lines(rows)
 
 
@@ -707,6 +712,54 @@ def rate_text(given: Given) -> tuple[str, int]:
     return lines([*rows, *(f"{it},{found[it]}" for it in FIGURES)]), status
 
 
+# Pictures
+
+
+def events_text(given: Given, first: int, end: int | None) -> str:
+    """The part of a plan from a tick up to another, to its end where that is None, as events of threads."""
+    plan, world = given.plan, given.plan.world
+    names, workers = world.tree.names, plan.count or 0
+    last = max(plan.length(), first + 1) if end is None else end
+    lanes = [it for it in world.tree.preorder() if it in world.affinities]
+
+    def thread_of(process: int, m: int) -> int | None:
+        """The thread of a message, if it has one in a process."""
+        if process == 1:
+            return lanes.index(world.affinities[m]) + 1
+        worker = given.rows[m][2]
+        return len(lanes) + int(worker) if worker != "-" and 1 <= int(worker) <= workers else None
+
+    found: list[dict[str, object]] = list(named_threads("affinities", 1, 1, [names[it] for it in lanes]))
+    if workers:
+        found += named_threads("workers", 2, len(lanes) + 1, [f"worker {it + 1}" for it in range(workers)])
+    for process, m in product((1, 2), world.all):
+        thread = thread_of(process, m)
+        start = max(plan.starts[m] or 0, first)
+        ticks = min(plan.finish(m), last) - start
+        if thread is not None and ticks > 0:
+            kind = "chain" if m + 1 in given.summary["chain"] else "message"
+            found.append({"name": world.messages[m].name, "cat": kind, "ph": "X", "ts": start, "dur": ticks})
+            found[-1] |= {"pid": process, "tid": thread, "args": told_of(world, m)}
+    return lines(['{"traceEvents":[', ",\n".join(json.dumps(it, separators=(",", ":")) for it in found), "]}"])
+
+
+def named_threads(process: str, number: int, first: int, threads: list[str]) -> Iterator[dict[str, object]]:
+    """The names and places of a process and of its threads, which are numbered from `first` on."""
+    for kind, name, place in [("process", process, {"pid": number})] + [
+        ("thread", name, {"pid": number, "tid": thread}) for thread, name in enumerate(threads, first)
+    ]:
+        yield {"name": f"{kind}_name", "ph": "M", **place, "args": {"name": name}}
+        yield {"name": f"{kind}_sort_index", "ph": "M", **place, "args": {"sort_index": place.get("tid", number)}}
+
+
+def told_of(world: World, m: int) -> dict[str, object]:
+    """The arguments of the event of a message."""
+    message = world.messages[m]
+    found: dict[str, object] = {"number": m + 1, "name": message.name, "affinity": world.tree.names[world.affinities[m]]}
+    found["release"] = message.release
+    return found | ({"client": message.client or "-"} if world.version == 3 else {})
+
+
 # Words
 
 
@@ -714,14 +767,18 @@ def words() -> ArgumentParser:
     top = ArgumentParser(prog="clients.py", description="Plans traces with clients plainly, for tests.")
     parts = top.add_subparsers(dest="command", required=True)
     files = {"rank": ["trace"], "compare": ["hier", "other", "trace"]}
-    for name in ("assign", "needs", "plan", "check", "replay", "compare", "sweep", "rate", "rank", "waits", "where"):
+    for name in ("assign", "needs", "plan", "check", "replay", "compare", "sweep", "rate", "rank", "waits", "where", "draw"):
         part = parts.add_parser(name)
         for it in files.get(name, ["hier", "trace"]):
             part.add_argument(it)
         if name == "rank":
             part.add_argument("hier", nargs="+")
-        if name in ("check", "rate"):
+        if name in ("check", "rate", "draw"):
             part.add_argument("plan")
+        if name == "draw":
+            part.add_argument("--as", dest="form", choices=["events"], required=True)
+            part.add_argument("--from", dest="first", type=int, default=0)
+            part.add_argument("--to", dest="end", type=int)
         if name in ("plan", "waits", "rank", "compare", "replay"):
             part.add_argument("--workers", "-k", type=int, required=name in ("rank", "compare"))
         if name == "sweep":
@@ -750,8 +807,10 @@ def answer(asked: Namespace) -> tuple[str, int]:
     """The text and the status."""
     worlds = worlds_of(asked)
     world, command = worlds[0], asked.command
-    if command in ("check", "rate"):
+    if command in ("check", "rate", "draw"):
         given = read_plan(asked.plan, world)
+        if command == "draw":
+            return events_text(given, asked.first, asked.end), 0
         told, status = verdict(given)
         return (told + "\n", status) if command == "check" else rate_text(given)
     texts: dict[str, Callable[[], str]] = {
