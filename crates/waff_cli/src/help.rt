@@ -57,10 +57,10 @@ and prints the plan of both.";
 /// What the rules are, and when which is better.
 pub const RULE: &str = "\
 Which ready messages start first: by arrival those that arrived first,
-by longest those on which the longest chain of work hangs, with clients
-that of their own client. Without --rule it is arrival. Longest usually
-gives the shorter plan; where requests arrive over time it may raise the
-greatest latencies";
+by longest those on which the longest chain of work hangs, with
+clients that of their own client. Without --rule it is arrival.
+Longest usually gives the shorter plan; where requests arrive over
+time it may raise the greatest latencies";
 
 /// What the long help of `waff assign` ends with.
 const ASSIGN: &str = with_statuses!(
@@ -233,9 +233,9 @@ A line for each number of workers (without --workers 1, 2, 3, 4, 6, 8, 12, 16,
   mean      the mean latency, from a release to the finish
   p50, p99  a latency that 50 and 99 of 100 messages do not pass
   latency   the greatest latency
-Least and over compare with plans in arrival order: of two messages that exclude
-each other the first one of the trace runs first. With clients they compare with
-plans in any order, and waits and latencies count from the issue."
+Plans in arrival order are what least and over compare with: of two messages
+that exclude each other the first one of the trace runs first. With clients they
+compare with plans in any order; waits and latencies count from the issue."
 );
 
 /// What the long help of `waff where` ends with.
@@ -320,7 +320,7 @@ A line for each hierarchy:
   mean        the mean latency, from a release to the finish
   p50, p99    a latency that 50 and 99 of 100 messages do not pass
   latency     the greatest latency
-Least and over compare with plans in arrival order: of two messages that exclude
-each other the first one of the trace runs first. With clients they compare with
-plans in any order, and waits and latencies count from the issue."
+Least and over are among plans in arrival order, in which of two messages that
+exclude each other the first one of the trace runs first; with clients among
+plans in any order. With clients waits and latencies count from the issue."
 );
