@@ -138,7 +138,7 @@ def of_clients(part: ArgumentParser, kinds: tuple[str, ...], usual: str, has_lan
     part.set_defaults(usual=usual, has_lanes=has_lanes, depth=None, slack=1000, overlaps=overlap_of_clients if has_lanes else never)
     shown_kinds = ",".join("family[:DEPTH]" if it == "family" else it for it in kinds)
     part.add_argument(
-        "--clients", type=kind_of(kinds), metavar=f"{{{shown_kinds}}}", help=f"what a client is, which asks for one thing after another ({usual})"
+        "--clients", type=kind_of(kinds), metavar=f"{{{shown_kinds}}}", help=f"what a client is: it asks one thing after another ({usual})"
     )
     part.add_argument(
         "--trace-version", choices=["2", "3"],
